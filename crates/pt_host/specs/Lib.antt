@@ -1,0 +1,9 @@
+pub mod Words
+pub mod Flags
+pub mod Errno
+pub mod Call
+pub mod Reply
+pub mod Seat
+pub mod Tree
+pub mod LawfulStep
+pub mod Promises

@@ -1,0 +1,25 @@
+//! What a host is asked and what it answers: descriptors, statuses, seats, calls and replies, and the trait `Host`
+//! whose laws every host keeps.
+#![tactic(auto)]
+
+mod bytes;
+mod flags;
+mod handle;
+mod host;
+mod ids;
+mod op;
+mod reply;
+mod seat;
+mod stat;
+#[cfg(test)]
+mod tests;
+
+pub use bytes::Bytes;
+pub use flags::{Caps, OpenFlags};
+pub use handle::{CFileHandle, FileHandle, HandleBytes};
+pub use host::Host;
+pub use ids::{Errno, Fd, Inode, MountId, ObjIds, Time};
+pub use op::{HostOp, KeptHostOp};
+pub use reply::{HostReply, HostValue};
+pub use seat::{Groups, HostSeat};
+pub use stat::{Stat, StatExt};

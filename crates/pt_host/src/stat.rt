@@ -1,0 +1,21 @@
+use crate::ids::{ObjIds, Time};
+
+/// The status of an object, as `statx(2)` tells it with its mount id.
+#[derive(Clone, Copy, Debug, PartialEq, Eq)]
+pub struct Stat {
+    pub ids: ObjIds,
+    pub mode: u32,
+    pub nlink: u32,
+    pub uid: u32,
+    pub gid: u32,
+    pub rdev: u32,
+    pub size: u64,
+    pub blksize: u32,
+    pub blocks: u64,
+    pub atime: Time,
+    pub mtime: Time,
+    pub ctime: Time,
+}
+
+/// The ported crate's name of a status with its mount id.
+pub type StatExt = Stat;

@@ -1,0 +1,127 @@
+use crate::{
+    Bytes, CFileHandle, Caps, Errno, Fd, FileHandle, Groups, HandleBytes, HostOp, HostReply,
+    HostSeat, HostValue, KeptHostOp, ObjIds, OpenFlags, Stat, Time,
+};
+use std::test::Fail;
+
+fn a_stat() -> Stat {
+    let never = Time { sec: 0, nsec: 0 };
+    let ids = ObjIds {
+        ino: 2,
+        dev: 1,
+        mnt_id: 1,
+    };
+    Stat {
+        ids,
+        mode: 0o100644,
+        nlink: 1,
+        uid: 0,
+        gid: 0,
+        rdev: 0,
+        size: 2,
+        blksize: 4096,
+        blocks: 1,
+        atime: never,
+        mtime: never,
+        ctime: never,
+    }
+}
+
+#[test]
+fn flags_are_those_of_linux(rt: HostRuntime) {
+    assert_eq!(rt; OpenFlags::PATH.0, 2752512);
+    assert!(rt; OpenFlags::PATH.includes(OpenFlags::O_NOFOLLOW));
+    assert!(rt; !OpenFlags(0o200000).includes(OpenFlags::O_TMPFILE));
+    assert!(rt; Caps::ALL.includes(Caps::SETFCAP));
+    assert!(rt; !Caps(5).includes(Caps::DAC_OVERRIDE));
+}
+
+#[test]
+fn calls_are_kept_with_their_bytes(rt: HostRuntime) -> Result<(), Fail> {
+    let flags = OpenFlags::PATH;
+    let op = HostOp::OpenAt {
+        fd: Fd(4),
+        name: b"a",
+        flags,
+        mode: 0,
+    };
+    match op.keep(rt.alloc())? {
+        KeptHostOp::OpenAt {
+            fd,
+            name,
+            flags,
+            mode,
+        } => {
+            assert_eq!(rt; fd, Fd(4));
+            assert_eq!(rt; name.as_slice(), b"a".as_slice());
+            assert_eq!(rt; flags, OpenFlags::PATH);
+            assert_eq!(rt; mode, 0);
+        }
+        _ => return Err(Fail::from("another call")),
+    }
+    match (HostOp::OpenRoot { path: b"/", flags }).keep(rt.alloc())? {
+        KeptHostOp::OpenRoot { path, .. } => assert_eq!(rt; path.as_slice(), b"/".as_slice()),
+        _ => return Err(Fail::from("another call")),
+    }
+    Ok(())
+}
+
+#[test]
+fn replies_are_copied(rt: HostRuntime) -> Result<(), Fail> {
+    let bytes = Bytes::from_slice(rt.alloc(), b"hi")?;
+    match HostReply::Ok(HostValue::Bytes(bytes)).copy(rt.alloc())? {
+        HostReply::Ok(HostValue::Bytes(copy)) => assert_eq!(rt; copy.as_slice(), b"hi".as_slice()),
+        _ => return Err(Fail::from("another reply")),
+    }
+    match HostReply::Ok(HostValue::Stat(a_stat())).copy(rt.alloc())? {
+        HostReply::Ok(HostValue::Stat(stat)) => assert_eq!(rt; stat, a_stat()),
+        _ => return Err(Fail::from("another reply")),
+    }
+    match HostReply::Refused(Errno::ENOENT).copy(rt.alloc())? {
+        HostReply::Refused(errno) => assert_eq!(rt; errno.0, 2),
+        _ => return Err(Fail::from("another reply")),
+    }
+    Ok(())
+}
+
+#[test]
+fn bytes_go_in_and_out(rt: HostRuntime) -> Result<(), Fail> {
+    let bytes = Bytes::from_vec(b"abc".to_vec(rt.alloc())?);
+    assert_eq!(rt; bytes.len(), 3);
+    assert!(rt; Bytes::new(rt.alloc()).is_empty());
+    let copy = bytes.copy(rt.alloc())?;
+    assert_eq!(rt; copy.into_vec().as_slice(), b"abc".as_slice());
+    Ok(())
+}
+
+#[test]
+fn handles_hold_128_bytes(rt: HostRuntime) -> Result<(), Fail> {
+    let most = [7; 128];
+    let bytes = HandleBytes::from_slice(&most).ok_or("it fits")?;
+    let handle = FileHandle {
+        mnt_id: 1,
+        handle: CFileHandle {
+            handle_type: 1,
+            bytes,
+        },
+    };
+    let copy = handle.copy();
+    assert_eq!(rt; copy.mnt_id, 1);
+    assert_eq!(rt; copy.handle.handle_type(), 1);
+    assert_eq!(rt; copy.handle.as_bytes(), most.as_slice());
+    assert!(rt; HandleBytes::from_slice(&[7; 129]).is_none());
+    Ok(())
+}
+
+#[test]
+fn seats_begin_with_one_identity(rt: HostRuntime) {
+    let seat = HostSeat::new(1000, 100, Caps::ALL).copy();
+    assert_eq!(rt; seat.real_uid, 1000);
+    assert_eq!(rt; seat.eff_uid, 1000);
+    assert_eq!(rt; seat.saved_gid, 100);
+    assert_eq!(rt; seat.eff_caps, Caps::ALL);
+    assert_eq!(rt; seat.umask, 0);
+    let mut groups = Groups::new();
+    groups.push(5);
+    assert_eq!(rt; groups.copy().as_slice(), [5].as_slice());
+}
