@@ -1,3 +1,4 @@
 pub mod Change
 pub mod Tables
+pub mod Store
 pub mod Happens

@@ -4,7 +4,10 @@
 mod event;
 mod form;
 mod reply;
+mod row;
+mod store;
 
 pub use event::{Event, ForgetList, KeptEvent};
 pub use form::{Negotiated, RowForm};
 pub use reply::{EventRefusal, EventReply};
+pub use row::{Closing, Row};
