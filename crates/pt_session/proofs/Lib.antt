@@ -1,2 +1,5 @@
 pub mod Lists
 pub mod Stores
+pub mod Forgetting
+pub mod Least
+pub mod Effects

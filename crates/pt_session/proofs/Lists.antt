@@ -67,11 +67,11 @@ pub length_replaces : {A : Type 0} {x y : A} {xs ys : List A} → Replaces x y x
 length_replaces at = refl
 length_replaces (past r) = let h = length_replaces r in omega (arith, h)
 
-takes_left : {A : Type 0} {x : A} {xs ys : List A} (zs : List A) → Takes x xs ys → Takes x (xs ++ zs) (ys ++ zs)
+pub takes_left : {A : Type 0} {x : A} {xs ys : List A} (zs : List A) → Takes x xs ys → Takes x (xs ++ zs) (ys ++ zs)
 takes_left zs here = here
 takes_left zs (there t) = there (takes_left zs t)
 
-takes_last : {A : Type 0} (xs : List A) (x : A) → Takes x (xs ++ x ∷ []) xs
+pub takes_last : {A : Type 0} (xs : List A) (x : A) → Takes x (xs ++ x ∷ []) xs
 takes_last [] x = here
 takes_last (y ∷ xs) x = there (takes_last xs x)
 

@@ -1,4 +1,9 @@
 pub mod Change
 pub mod Tables
 pub mod Store
+pub mod LiveAfter
 pub mod Happens
+pub mod Kept
+pub mod Effect
+pub mod Pending
+pub mod Answers

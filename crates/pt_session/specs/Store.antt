@@ -20,11 +20,13 @@ NoneOf P rows = Each (λ row. P row → ⊥) rows
 abbrev pub IsPinned : ℕ → Row → Type 0
 IsPinned serial row = (row.serial ≡ serial) × (row.pins ≢ 0)
 
--- the same row as time goes on: what it is found by stays, and it may die
+-- the same row as time goes on: what it stands for stays, and it may die
 pub record IsLater (was now : Row) : Type 0 where
   pub serial : now.serial ≡ was.serial
   pub number : now.number ≡ was.number
   pub ids : now.ids ≡ was.ids
+  pub form : now.form ≡ was.form
+  pub mode : now.mode ≡ was.mode
   pub live : now.live ≡ true → was.live ≡ true
 
 -- the first row is the older

@@ -1,7 +1,8 @@
-ghost use Rattle.std.specs.Prelude.{◌≡◌, ◌≢◌, ◌<◌, ◌≤◌, ◌+◌, true, [], ◌∷◌, ◌++◌, length, slice_index_or, slice_set, MatchOption, OnOk, OnErr};
+ghost use Rattle.std.specs.Prelude.{◌≡◌, ◌≢◌, ◌<◌, ◌≤◌, ◌+◌, true, [], ◌∷◌, ◌++◌, ◌↔◌, List, length, slice_index_or, slice_set, MatchOption, OnOk, OnErr, IsTrue};
 ghost use Rattle.std.specs.List.{remove};
 ghost use Rattle.pt_host.specs.Words.{Each, EachTwo, Takes, Replaces};
-ghost use Rattle.pt_session.specs.Tables.{closing_of, HasNumber, HasIds};
+ghost use Rattle.pt_session.specs.LiveAfter.{IsAbove, IsLiveAbove, IsLiveAfter};
+ghost use Rattle.pt_session.specs.Tables.{Row, closing_of, HasNumber, HasIds};
 ghost use Rattle.pt_session.specs.Store.{IsAmong, NoneOf, IsPinned, IsLater, IsOlder};
 
 use crate::row::{Closing, Row};
@@ -85,6 +86,51 @@ fn place_of(rows: &[Row], row: &Row) -> usize
     0
 }
 
+/// Whether a number is above the given one, if one is given.
+fn is_above(above: Option<u64>, number: u64) -> bool
+    ensures { IsTrue result ↔ IsAbove above number }
+{
+    match above {
+        None => true,
+        Some(below) => below < number,
+    }
+}
+
+fn is_live_above(above: Option<u64>, row: &Row) -> bool
+    ensures { IsTrue result ↔ IsLiveAbove above row.now }
+{
+    row.live && is_above(above, row.number)
+}
+
+/// The least live number so far, when this row is looked at too.
+fn lesser(least: Option<(u64, u64)>, above: Option<u64>, row: &Row) -> Option<(u64, u64)>
+    ensures { (rows : List Row) → IsLiveAfter rows above least → IsLiveAfter (rows ++ row.now ∷ []) above result }
+{
+    if !is_live_above(above, row) {
+        return least;
+    }
+    match least {
+        None => Some((row.number, row.count)),
+        Some(found) => {
+            if row.number < found.0 {
+                return Some((row.number, row.count));
+            }
+            Some(found)
+        }
+    }
+}
+
+/// The least live number of these rows above the given one, or the least of all, with its count.
+fn least_live_after(rows: &[Row], above: Option<u64>) -> Option<(u64, u64)>
+    ensures { IsLiveAfter rows.now above result }
+{
+    let mut least = None;
+    for row in rows {
+        least = lesser(least, above, row);
+    }
+    least
+}
+
 impl RowStore {
     pub fn new(alloc: Global) -> RowStore
         ensures rows { result.rows ≡ [] }
@@ -157,5 +203,12 @@ impl RowStore {
         ensures { MatchOption result (self.old.closing ≡ [] × self.new ≡ self.old) (λ closing. self.old.closing ≡ closing ∷ self.new.closing × self.new.rows ≡ self.old.rows) }
     {
         self.closing.pop_front()
+    }
+
+    /// The least live number above the given one, or the least of all, with its count.
+    pub fn live_after(&self, above: Option<u64>) -> Option<(u64, u64)>
+        ensures { IsLiveAfter self.now.rows above result }
+    {
+        least_live_after(&self.rows, above)
     }
 }
