@@ -3,3 +3,4 @@ pub mod Stores
 pub mod Forgetting
 pub mod Least
 pub mod Effects
+pub mod Replies

@@ -7,3 +7,4 @@ pub mod Kept
 pub mod Effect
 pub mod Pending
 pub mod Answers
+pub mod Laws
