@@ -2,3 +2,12 @@
 #![tactic(auto)]
 
 mod names;
+mod node;
+mod opening;
+mod path;
+mod permission;
+mod slots;
+mod spec;
+mod store;
+
+pub use spec::{SpecError, TreeLine, TreeSpec};
