@@ -7,3 +7,6 @@ pub mod Tree
 pub mod Requests
 pub mod Pattern
 pub mod Made
+pub mod Room
+pub mod Next
+pub mod Left

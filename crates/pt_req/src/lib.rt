@@ -3,10 +3,12 @@
 
 mod act;
 mod finish;
+mod frame;
 mod hold;
 mod plan;
 
 pub use act::{Act, ActReply, KeptAct, Want};
 pub use finish::Finish;
+pub use frame::{Body, Framed, Mode, Next, Tail, Then};
 pub use hold::{Hold, Holds, Taken};
 pub use plan::{Config, Plan};
