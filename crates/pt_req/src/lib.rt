@@ -2,12 +2,14 @@
 #![tactic(auto)]
 
 mod act;
+mod begun;
 mod finish;
 mod frame;
 mod hold;
 mod plan;
 
 pub use act::{Act, ActReply, KeptAct, Want};
+pub use begun::Session;
 pub use finish::Finish;
 pub use frame::{Body, Framed, Mode, Next, Tail, Then};
 pub use hold::{Hold, Holds, Taken};
