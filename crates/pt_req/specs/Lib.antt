@@ -10,3 +10,5 @@ pub mod Made
 pub mod Room
 pub mod Next
 pub mod Left
+pub mod Parts
+pub mod Bodies
