@@ -1,12 +1,14 @@
 -- What is left of a job in its frame.
 use Rattle.std.specs.Prelude.{ℕ, zero, suc, ◌+◌, ◌*◌, ◌^◌, Bool, true, false, List, [], ◌∷◌, Option, Some, None, length}
+use Rattle.pt_host.specs.declared.ids.Errno.{Errno}
 use Rattle.pt_iface.specs.declared.answer.Answer.{Answer}
 use Rattle.pt_iface.specs.declared.answer.Answer.TheVariants as answer
-use Rattle.pt_req.specs.Held.{under, front, behind}
+use Rattle.pt_req.specs.Held.{under, front, behind, is_scope}
 use Rattle.pt_req.specs.Grammar.{Grammar, End}
 use Rattle.pt_req.specs.Frame.{close_first, leave, shut}
 use Rattle.pt_req.specs.Tree.{Tree, Gives, framed}
 use Rattle.pt_req.specs.Room.{held_passing}
+use Rattle.pt_req.specs.declared.finish.Finish.{Finish}
 use Rattle.pt_req.specs.declared.finish.Finish.TheVariants as finish
 use Rattle.pt_req.specs.declared.hold.Hold.{Hold}
 use Rattle.pt_req.specs.declared.hold.Taken.{Taken}
@@ -54,6 +56,25 @@ is_over _ _ = false
 abbrev pub is_all_over : Taken → ℕ → Mode → List Hold → Bool
 is_all_over taken.Nothing zero at holds = is_over at holds
 is_all_over _ _ at holds = false
+
+-- what the first step that was to end a scope and was refused was answered
+abbrev pub loss_in : Finish → Option Errno
+loss_in (finish.Lost errno) = Some errno
+loss_in _ = None
+
+abbrev pub lost_in : Mode → Option Errno
+lost_in (mode.Leave last) = loss_in last
+lost_in _ = None
+
+-- the hold that is given back next is a scope
+abbrev pub is_last_scope : Mode → List Hold → Bool
+is_last_scope mode.Body holds = false
+is_last_scope at [] = false
+is_last_scope at (one ∷ holds) = is_scope one
+
+abbrev pub is_giving_scope : Taken → ℕ → Mode → List Hold → Bool
+is_giving_scope taken.Nothing zero at holds = is_last_scope at holds
+is_giving_scope _ _ at holds = false
 
 -- so many holds a bracket is still to end with
 abbrev pub mode_shuts : Mode → ℕ

@@ -12,3 +12,5 @@ pub mod Next
 pub mod Left
 pub mod Parts
 pub mod Bodies
+pub mod Job
+pub mod Calm

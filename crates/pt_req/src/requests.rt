@@ -4,6 +4,6 @@ mod lookup;
 mod root;
 
 pub use any::RequestBody;
-pub use forget::Forget;
-pub use lookup::Lookup;
+pub use forget::{Forget, ForgetAt};
+pub use lookup::{Lookup, LookupAt};
 pub use root::Root;

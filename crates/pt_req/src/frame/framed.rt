@@ -1,4 +1,4 @@
-ghost use Rattle.std.specs.Prelude.{◌≡◌, ◌⊎◌, ◌+◌, ◌*◌, ◌<◌, ◌≤◌, ℕ, [], true, false, Some, None, length};
+ghost use Rattle.std.specs.Prelude.{◌≡◌, ◌⊎◌, ◌+◌, ◌*◌, ◌<◌, ◌≤◌, ℕ, [], true, false, Some, None, length, IfSome};
 ghost use Rattle.pt_req.specs.Frame.{closings};
 ghost use Rattle.pt_req.specs.Grammar.{IsChosen, after, told_closings, told_inserted};
 ghost use Rattle.pt_req.specs.Left.{mode_left, mode_holds, mode_counts, body_counts, mode_shuts, is_over};
@@ -6,7 +6,7 @@ ghost use Rattle.pt_req.specs.Left.{mode_left, mode_holds, mode_counts, body_cou
 use crate::act::{Act, ActReply, Want};
 use crate::finish::Finish;
 use crate::frame::body::Body;
-use crate::frame::giving::{closings_in, giving, is_scope, refusal, taken_in};
+use crate::frame::giving::{closings_in, giving, is_scope, loss_in, refusal, taken_in};
 use crate::frame::holding::hold;
 use crate::frame::mode::{Mode, all_back, entered, hold_given};
 use crate::hold::{Holds, Taken};
@@ -71,7 +71,8 @@ impl<B: Body> Framed<B> {
     ghost use Rattle.pt_req.specs.Frame.{cut, BelongsCut};
     ghost use Rattle.pt_req.specs.Grammar.{Grammar, End, Wants, owed_by, is_end, Belongs};
     ghost use Rattle.pt_req.specs.Tree.{framed};
-    ghost use Rattle.pt_req.specs.Left.{left_of, is_all_over, bound_left, measure_left};
+    ghost use Rattle.pt_req.specs.Left.{left_of, is_all_over, lost_in, is_giving_scope, bound_left, measure_left};
+    ghost use Rattle.pt_req.specs.declared.finish.Finish.TheVariants.{Lost};
 
     pub fn start(body: B) -> Self
         requires room { B.room body ≤ 16 }
@@ -176,6 +177,38 @@ impl<B: Body> Framed<B> {
     {
         all_back(&self.mode, &mut self.holds);
         self.mode = Mode::Leave(Finish::Answer(Answer::Cut));
+    }
+
+    /// What the first step that was to end a scope and was refused was answered, in a job that was not cut.
+    pub fn lost(&self) -> Option<Errno>
+        ensures lost { result ≡ lost_in self.now.mode }
+        ensures ends { IfSome result (λ errno. (plan : Plan) (steps : List Step) (end : Finish) →
+            Belongs (left_of self.now.taken self.now.closings self.now.mode (B.left self.now.body plan) self.now.holds) steps end → end ≡ Lost errno) }
+    {
+        match &self.mode {
+            Mode::Leave(last) => loss_in(last),
+            _ => None,
+        }
+    }
+
+    /// Whether the wanted step ends a scope.
+    pub fn restoring(&self) -> bool
+        ensures { result ≡ is_giving_scope self.now.taken self.now.closings self.now.mode self.now.holds }
+    {
+        match self.taken {
+            Taken::Nothing => {}
+            _ => return false,
+        }
+        if self.closings > 0 {
+            return false;
+        }
+        match &self.mode {
+            Mode::Body => false,
+            _ => match self.holds.last() {
+                Some(hold) => is_scope(hold),
+                None => false,
+            },
+        }
     }
 
     pub fn finish(self) -> Finish

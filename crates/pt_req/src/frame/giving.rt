@@ -10,6 +10,7 @@ ghost use Rattle.pt_session.specs.declared.event.KeptEvent.TheVariants as change
 ghost use Rattle.pt_session.specs.declared.reply.EventReply.TheVariants as event;
 ghost use Rattle.pt_req.specs.Deed.{deed_of};
 ghost use Rattle.pt_req.specs.Held.{giving, closings_in, event_refusal, refusal, is_scope, lost_by, restored, passes_with, taken_in};
+ghost use Rattle.pt_req.specs.Left.{loss_in};
 ghost use Rattle.pt_req.specs.declared.finish.Finish.TheVariants as finish;
 
 use crate::act::{Act, ActReply};
@@ -106,6 +107,16 @@ pub fn restored(last: Finish, fault: Option<Errno>) -> Finish
         (Finish::Lost(first), Some(_)) => Finish::Lost(first),
         (Finish::Answer(Answer::Cut), Some(_)) => Finish::Answer(Answer::Cut),
         (Finish::Answer(_), Some(errno)) => Finish::Lost(errno),
+    }
+}
+
+/// What the first step that was to end a scope and was refused was answered.
+pub fn loss_in(last: &Finish) -> Option<Errno>
+    ensures { result ≡ loss_in last.now }
+{
+    match last {
+        Finish::Lost(errno) => Some(*errno),
+        Finish::Answer(_) => None,
     }
 }
 
