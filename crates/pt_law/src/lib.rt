@@ -1,0 +1,2 @@
+//! What holds of every request's steps, and of every run of such jobs.
+#![tactic(auto)]
