@@ -116,17 +116,17 @@ branch (Refuses told) holds steps end b = at_leaf (Refuses told) (refusal told) 
 branch (Asks deed next) holds [] end b = absurd b
 branch (Asks deed next) holds (step ∷ steps) end b = elim b.1 [
   | inl up ↦
-    let k = pass_closings (closings_in deed step.reply) (held deed step.reply holds) (leave (held deed step.reply holds) (finish.Answer answer.NoMemory)) steps end up in
-    elim (end_leave (held deed step.reply holds) (finish.Answer answer.NoMemory) k.0 end k.2) [
-      | inl e ↦ inl (given_up (finish.Answer answer.NoMemory) end e tt)
-      | inr g ↦ inl g
-    ]
+      let k = pass_closings (closings_in deed step.reply) (held deed step.reply holds) (leave (held deed step.reply holds) (finish.Answer answer.NoMemory)) steps end up in
+      elim (end_leave (held deed step.reply holds) (finish.Answer answer.NoMemory) k.0 end k.2) [
+        | inl e ↦ inl (given_up (finish.Answer answer.NoMemory) end e tt)
+        | inr g ↦ inl g
+      ]
   | inr on ↦
-    let k = pass_closings (closings_in deed step.reply) (held deed step.reply holds) (framed (next step.reply) (held deed step.reply holds)) steps end on in
-    elim (branch (next step.reply) (held deed step.reply holds) k.0 end k.2) [
-      | inl g ↦ inl g
-      | inr r ↦ inr (step ∷ r.0, r.1, keep (k.1 r.0 r.2), r.3, (b.0, r.4))
-    ]
+      let k = pass_closings (closings_in deed step.reply) (held deed step.reply holds) (framed (next step.reply) (held deed step.reply holds)) steps end on in
+      elim (branch (next step.reply) (held deed step.reply holds) k.0 end k.2) [
+        | inl g ↦ inl g
+        | inr r ↦ inr (step ∷ r.0, r.1, keep (k.1 r.0 r.2), r.3, (b.0, r.4))
+      ]
 ]
 branch (Shuts passes count rest) holds steps end b = elim (end_shut (front passes holds) count (behind passes holds) (framed rest) steps end b) [
   | inl g ↦ inl g

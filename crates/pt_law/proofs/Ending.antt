@@ -1,7 +1,6 @@
 -- What belongs to a sound grammar keeps the discipline, and its refusal has a cause.
-use Rattle.std.proofs.Common.{◌≡◌, ◌⊎◌, inl, inr, List, [], ◌∷◌, sym, subst}
+use Rattle.std.proofs.Common.{◌⊎◌, inl, inr, List, [], ◌∷◌, sym, subst}
 use Rattle.pt_host.specs.declared.ids.Errno.{Errno}
-use Rattle.pt_iface.specs.declared.answer.Answer.{Answer}
 use Rattle.pt_iface.specs.declared.request.Request.{Request}
 use Rattle.pt_req.specs.Deed.{Step}
 use Rattle.pt_req.specs.Grammar.{Grammar, End, Do, May, Belongs}

@@ -4,3 +4,6 @@ pub mod Sounds
 pub mod Ending
 pub mod Cutting
 pub mod Branches
+pub mod Parts
+pub mod Requests
+pub mod Opened

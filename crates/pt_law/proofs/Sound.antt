@@ -1,11 +1,10 @@
 -- A grammar that keeps the discipline, and whose refusals have a cause.
-use Rattle.std.proofs.Common.{◌≡◌, ◌⊎◌, ℕ, List, [], ◌∷◌, ◌++◌}
+use Rattle.std.proofs.Common.{◌≡◌, ℕ, List, ◌∷◌, ◌++◌}
 use Rattle.pt_host.specs.declared.ids.Errno.{Errno}
 use Rattle.pt_iface.specs.declared.request.Request.{Request}
 use Rattle.pt_req.specs.Deed.{Step, IsStepOf}
 use Rattle.pt_req.specs.Held.{brought}
 use Rattle.pt_req.specs.Grammar.{Grammar, End, Do, May, Owed}
-use Rattle.pt_req.specs.declared.finish.Finish.{Finish}
 use Rattle.pt_req.specs.declared.hold.Hold.{Hold}
 use Rattle.pt_law.specs.Discipline.{Job, Notes, Moves, entry_holds}
 use Rattle.pt_law.specs.Told.{StepMayBeTold}

@@ -13,7 +13,7 @@ use Rattle.pt_req.specs.Grammar.{Grammar, End, Owed}
 use Rattle.pt_req.specs.Frame.{closings, give_slot, give_taken, give, leave, or_lost, shut, cut}
 use Rattle.pt_req.specs.Tree.{Tree, Gives, Refuses, Asks, Shuts, framed, answered}
 use Rattle.pt_req.specs.declared.act.ActReply.{ActReply}
-use Rattle.pt_req.specs.declared.act.ActReply.TheVariants.{Event, Host, NoCopy}
+use Rattle.pt_req.specs.declared.act.ActReply.TheVariants.{Event, Host}
 use Rattle.pt_session.specs.declared.reply.EventReply.TheVariants as event
 use Rattle.pt_session.specs.declared.reply.EventRefusal.{EventRefusal}
 use Rattle.pt_session.specs.declared.reply.EventRefusal.TheVariants as refused
@@ -25,7 +25,7 @@ use Rattle.pt_req.specs.declared.hold.Hold.TheVariants as hold
 use Rattle.pt_req.specs.declared.hold.Taken.{Taken}
 use Rattle.pt_req.specs.declared.hold.Taken.TheVariants as taken
 use Rattle.pt_law.specs.Discipline.{Notes, Job, at_job, notes_after, without, entry_holds}
-use Rattle.pt_law.specs.Cause.{SomeCauses, IsCaused, IsCausedEnd}
+use Rattle.pt_law.specs.Cause.{IsCaused, IsCausedEnd}
 use Rattle.pt_law.specs.Fit.{After, Lasts, IsHeld, Fit}
 use Rattle.pt_law.proofs.Sound.{Sound, Owes, Within, Goes, owing_job}
 use Rattle.pt_law.proofs.Moving.{made_moves, never_copied, giving_lasts, gives_back, may_step, told_of, causes_of}
@@ -206,11 +206,11 @@ sound_framed asked (Asks deed next) holds notes path past f w = (
 sound_framed asked (Shuts passes count rest) holds notes path past f w =
     subst (λ (z : List Hold). Sound asked (framed (Shuts passes count rest) holds) (at_job z notes) past) (under_front passes holds)
     (sound_shut asked (front passes holds) count (behind passes holds) (framed rest) notes past (λ later l more v.
-        sound_framed asked rest _ later path more (f later l) (λ errno s. v errno (w errno s))))
+    sound_framed asked rest _ later path more (f later l) (λ errno s. v errno (w errno s))))
 
 -- a job that is cut
 pub sound_cut : (asked : Request) (owed : Owed) (job : Job) (past : List Step) → Owes owed job → Sound asked (cut owed) job past
 sound_cut asked owed job past o = subst (λ (z : Job). Sound asked (cut owed) z past) (λ i. record { holds = sym o.0 i; owed = sym o.1 i; notes = job.notes })
     (sound_taken asked owed.taken owed.closings owed.holds _ job.notes past (λ later l more w.
     sound_closings asked owed.closings owed.holds (leave owed.holds (finish.Answer answer.Cut)) later more (after_any owed.closings _ later (λ last m much v.
-        sound_leave asked owed.holds (finish.Answer answer.Cut) last much refl tt))))
+    sound_leave asked owed.holds (finish.Answer answer.Cut) last much refl tt))))

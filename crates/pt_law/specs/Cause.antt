@@ -1,5 +1,5 @@
 -- The cause of a refusal: the request itself, or one of its steps.
-use Rattle.std.specs.Prelude.{◌≡◌, ◌⊎◌, true, List, [], ◌∷◌, Option, Some, None}
+use Rattle.std.specs.Prelude.{◌≡◌, ◌⊎◌, true, List, [], ◌∷◌, Option, Some}
 use Rattle.pt_host.specs.Errno.{ebadf, eio, einval, enfile, eoverflow}
 use Rattle.pt_host.specs.declared.ids.Errno.{Errno}
 use Rattle.pt_host.specs.declared.op.KeptHostOp.TheVariants as call

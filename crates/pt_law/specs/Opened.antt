@@ -31,11 +31,15 @@ inserting era fd stat fresh told =
     ∷ made (Changes change.DrawNode) (Event (event.Drawn fresh))
     ∷ made (Changes (change.Insert era fresh (File fd) stat.ids stat.mode)) told ∷ []
 
+-- the insertion gave this number: it was new, or another job's insertion of the same object came first
+abbrev pub InsertionGives : ℕ → ActReply → Type 0
+InsertionGives number told = (told ≡ Event (event.Inserted number)) ⊎ (told ≡ Event (event.Found number))
+
 -- by these steps, the last of which gives it, the number of what is open there was had
 abbrev pub Numbers : ℕ → Fd → Stat → ℕ → List Step → Type 0
 Numbers era fd stat number steps =
     (steps ≡ made (Changes (change.Claim era None stat.ids)) (Event (event.Claimed number)) ∷ [])
-    ⊎ ((fresh : ℕ) × ((steps ≡ inserting era fd stat fresh (Event (event.Inserted number))) ⊎ (steps ≡ inserting era fd stat fresh (Event (event.Found number)))))
+    ⊎ ((fresh : ℕ) × (told : ActReply) × InsertionGives number told × (steps ≡ inserting era fd stat fresh told))
 
 -- The parent was resolved, the name was opened in the directory of its row, the status of what was opened was told, and the number was had; the
 -- entry is that number and that status.
