@@ -1,0 +1,3 @@
+pub mod Discipline
+pub mod World
+pub mod Ledger

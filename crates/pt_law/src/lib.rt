@@ -1,0 +1,2 @@
+//! The laws of requests and of whole runs.
+#![tactic(auto)]
