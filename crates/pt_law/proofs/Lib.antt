@@ -1,2 +1,7 @@
 pub mod Lists
 pub mod Effects
+pub mod Flows
+pub mod Balance
+pub mod Holding
+pub mod Counting
+pub mod Numbers
