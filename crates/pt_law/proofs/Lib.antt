@@ -5,3 +5,4 @@ pub mod Balance
 pub mod Holding
 pub mod Counting
 pub mod Numbers
+pub mod Givings
