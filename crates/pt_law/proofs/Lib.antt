@@ -6,3 +6,4 @@ pub mod Holding
 pub mod Counting
 pub mod Numbers
 pub mod Givings
+pub mod Knowing
