@@ -1,3 +1,4 @@
+pub mod Lists
 pub mod Sound
 pub mod Moving
 pub mod Sounds
@@ -7,3 +8,12 @@ pub mod Branches
 pub mod Parts
 pub mod Requests
 pub mod Opened
+pub mod Settled
+pub mod Effects
+pub mod Flows
+pub mod Balance
+pub mod Holding
+pub mod Counting
+pub mod Numbers
+pub mod Givings
+pub mod Knowing

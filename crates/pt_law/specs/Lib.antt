@@ -3,5 +3,7 @@ pub mod Told
 pub mod Cause
 pub mod Fit
 pub mod Branch
-pub mod Givings
+pub mod Settled
 pub mod Opened
+pub mod World
+pub mod Ledger

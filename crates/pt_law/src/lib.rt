@@ -1,6 +1,6 @@
-//! What holds of every request's steps, and of every run of such jobs.
+//! The laws of requests and of whole runs: contracts of functions that do nothing.
 #![tactic(auto)]
 
-pub fn any_request()
-    ensures { Unit {0} }
-{}
+mod job;
+
+pub use job::{any_request, each_request, request_ends};

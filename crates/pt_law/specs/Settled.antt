@@ -11,21 +11,21 @@ use Rattle.pt_req.specs.declared.finish.Finish.{Finish}
 use Rattle.pt_req.specs.declared.finish.Finish.TheVariants as finish
 
 -- the root's two counts are given to no job
-abbrev pub given_by : ℕ → Option Deed → ActReply → ℕ
-given_by number (Some (Changes (change.Claim era handle ids))) (Event (event.Claimed same)) = is same number
-given_by number (Some (Changes (change.Insert era drawn form ids mode))) (Event (event.Inserted same)) = is same number
-given_by number (Some (Changes (change.Insert era drawn form ids mode))) (Event (event.Found same)) = is same number
-given_by number deed told = 0
+abbrev pub job_given : ℕ → Option Deed → ActReply → ℕ
+job_given number (Some (Changes (change.Claim era handle ids))) (Event (event.Claimed same)) = is same number
+job_given number (Some (Changes (change.Insert era drawn form ids mode))) (Event (event.Inserted same)) = is same number
+job_given number (Some (Changes (change.Insert era drawn form ids mode))) (Event (event.Found same)) = is same number
+job_given number deed told = 0
 
-abbrev pub given_back_by : ℕ → Option Deed → ℕ
-given_back_by number (Some (Changes (change.GiveBack era same))) = is same number
-given_back_by number deed = 0
+abbrev pub job_returned : ℕ → Option Deed → ℕ
+job_returned number (Some (Changes (change.GiveBack era same))) = is same number
+job_returned number deed = 0
 
 abbrev pub all_given : ℕ → List Step → ℕ
-all_given number steps = total (λ step. given_by number step.deed step.reply) steps
+all_given number steps = total (λ step. job_given number step.deed step.reply) steps
 
-abbrev pub all_given_back : ℕ → List Step → ℕ
-all_given_back number steps = total (λ step. given_back_by number step.deed) steps
+abbrev pub all_returned : ℕ → List Step → ℕ
+all_returned number steps = total (λ step. job_returned number step.deed) steps
 
 -- 1 where the answer is an entry of this number
 abbrev pub entry_count : ℕ → Finish → ℕ
