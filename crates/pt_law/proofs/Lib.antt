@@ -7,3 +7,5 @@ pub mod Counting
 pub mod Numbers
 pub mod Givings
 pub mod Knowing
+pub mod Events
+pub mod Calls
