@@ -9,3 +9,4 @@ pub mod Givings
 pub mod Knowing
 pub mod Events
 pub mod Calls
+pub mod Steps
