@@ -10,3 +10,4 @@ pub mod Knowing
 pub mod Events
 pub mod Calls
 pub mod Steps
+pub mod Runs

@@ -1,3 +1,4 @@
 pub mod Discipline
 pub mod World
 pub mod Ledger
+pub mod Laws
