@@ -1,0 +1,12 @@
+//! The program: reads a script of lookups and forgets, runs it over a tree in memory and writes the report.
+#![tactic(auto)]
+
+mod input;
+mod mem;
+mod std_streams;
+mod streams;
+
+pub use input::{InputError, MAX_SCRIPT, read_script};
+pub use mem::{MemSink, MemSource};
+pub use std_streams::{StdSink, StdSource};
+pub use streams::{Failed, Sink, Source};
