@@ -13,3 +13,12 @@ pub enum Answer {
     /// The run ended before the request did, since another job lost its seat.
     Cut,
 }
+
+/// Why a method of the file system gave no answer.
+#[derive(Clone, Copy, Debug, PartialEq, Eq)]
+pub enum Refusal {
+    Errno(Errno),
+    Memory,
+    /// The seat could not be restored: this is what the first restoring call was answered.
+    Lost(Errno),
+}

@@ -5,6 +5,6 @@ mod answer;
 mod entry;
 mod request;
 
-pub use answer::Answer;
+pub use answer::{Answer, Refusal};
 pub use entry::{Attr, Entry, Timeout};
 pub use request::{Context, Request};

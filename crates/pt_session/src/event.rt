@@ -195,3 +195,58 @@ impl<'a> Event<'a> {
         }
     }
 }
+
+impl KeptEvent {
+    /// The same event, whose list is lent.
+    pub fn lend(&self) -> Event<'_>
+        ensures { change_of result ≡ self.now }
+    {
+        match self {
+            KeptEvent::Begin => Event::Begin,
+            KeptEvent::Resolve { number } => Event::Resolve { number: *number },
+            KeptEvent::Unpin { row } => Event::Unpin { row: *row },
+            KeptEvent::Claim { era, handle, ids } => Event::Claim {
+                era: *era,
+                handle: handle.as_ref(),
+                ids: *ids,
+            },
+            KeptEvent::TakeFd => Event::TakeFd,
+            KeptEvent::GiveFd => Event::GiveFd,
+            KeptEvent::DrawNode => Event::DrawNode,
+            KeptEvent::Insert {
+                era,
+                number,
+                form,
+                ids,
+                mode,
+            } => Event::Insert {
+                era: *era,
+                number: *number,
+                form,
+                ids: *ids,
+                mode: *mode,
+            },
+            KeptEvent::InsertRoot {
+                era,
+                form,
+                ids,
+                mode,
+                negotiated,
+            } => Event::InsertRoot {
+                era: *era,
+                form,
+                ids: *ids,
+                mode: *mode,
+                negotiated: *negotiated,
+            },
+            KeptEvent::Forget { list } => Event::Forget {
+                list: list.as_slice(),
+            },
+            KeptEvent::GiveBack { era, number } => Event::GiveBack {
+                era: *era,
+                number: *number,
+            },
+            KeptEvent::TakeClosing => Event::TakeClosing,
+        }
+    }
+}
