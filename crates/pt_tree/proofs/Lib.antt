@@ -1,0 +1,4 @@
+pub mod NameOrder
+pub mod Places
+pub mod SlotTable
+pub mod PathParts

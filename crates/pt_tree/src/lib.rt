@@ -1,0 +1,13 @@
+//! A directory tree in memory that answers the calls of a host.
+#![tactic(auto)]
+
+mod names;
+mod node;
+mod opening;
+mod path;
+mod permission;
+mod slots;
+mod spec;
+mod store;
+
+pub use spec::{SpecError, TreeLine, TreeSpec};
