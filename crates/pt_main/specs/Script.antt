@@ -47,24 +47,18 @@ with_line begun line = if may_stand begun line && keeps_tree begun line then Som
 abbrev pub with_text : Begun → List ℕ → Option Begun
 with_text begun text = option_and_then (with_line begun) (line_of text)
 
--- the bytes behind the last line feed: a script has none, and where there are some they are judged as a line that ended too early
-abbrev pub last_of : ℕ → Begun → List ℕ → Result Begun ℕ
-last_of number begun [] = if begun.ended then Ok begun else Err number
-last_of number begun (byte ∷ bytes) = Err (too_early (with_text begun (byte ∷ bytes)))
-  where
-    too_early : Option Begun → ℕ
-    too_early None = number
-    too_early (Some after) = number + 1
-
 abbrev pub going_on : ℕ → Option Begun → (Begun → Result Begun ℕ) → Result Begun ℕ
 going_on number None next = Err number
 going_on number (Some begun) next = next begun
 
--- the script whose lines from this number on these are, or the number of the first line up to which there is none
+-- The script whose lines these are from this number on, or the number of the first line up to which there is none.
+-- A text that is empty and the last one stands behind the last line feed, and is no line. Any other last text is judged
+-- as a line, and then the script ended too early.
 abbrev pub script_from : ℕ → Begun → List (List ℕ) → Result Begun ℕ
 script_from number begun [] = Err number
-script_from number begun (text ∷ []) = last_of number begun text
-script_from number begun (text ∷ next ∷ more) = going_on number (with_text begun text) (λ after. script_from (number + 1) after (next ∷ more))
+script_from number begun (text ∷ more) =
+    if is_empty text && is_empty more then (if begun.ended then Ok begun else Err number)
+    else going_on number (with_text begun text) (λ after. script_from (number + 1) after more)
 
 abbrev pub script_of : List ℕ → Result Begun ℕ
 script_of bytes = script_from 1 nothing (lines_of bytes)

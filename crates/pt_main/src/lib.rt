@@ -5,6 +5,7 @@ mod fields;
 mod input;
 mod line;
 mod mem;
+mod scan;
 mod std_streams;
 mod streams;
 
