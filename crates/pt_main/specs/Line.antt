@@ -7,7 +7,7 @@ use Rattle.pt_iface.specs.declared.request.Request.TheVariants.{Root, Lookup, Fo
 use Rattle.pt_tree.specs.declared.spec.TreeLine.{TreeLine}
 use Rattle.pt_tree.specs.declared.spec.TreeLine.TheVariants.{Mount, File}
 use Rattle.pt_text.specs.Words.{words_of}
-use Rattle.pt_main.specs.Fields.{◌>>=◌, Field, number_in, small_in, bytes_in, switch_in, at_end}
+use Rattle.pt_main.specs.Fields.{◌>>=◌, number_in, small_in, bytes_in, switch_in, at_end}
 use Rattle.pt_main.specs.declared.line.ScriptJob.{ScriptJob}
 use Rattle.pt_main.specs.declared.line.Line.{Line}
 use Rattle.pt_main.specs.declared.line.Line.TheVariants.{Tree, Job, End}

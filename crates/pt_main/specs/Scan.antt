@@ -1,5 +1,7 @@
 -- A script read without the rules of trees, which the host judges when it is made.
-use Rattle.std.specs.Prelude.{ℕ, ◌+◌, ◌&&◌, List, [], ◌∷◌, Option, Some, None, if◌then◌else◌, option_and_then}
+use Rattle.std.specs.Prelude.{ℕ, ◌+◌, ◌&&◌, List, [], ◌∷◌, Option, Some, None, Result, Ok, Err, if◌then◌else◌, option_and_then}
+use Rattle.pt_tree.specs.Start.{nodes_of}
+use Rattle.pt_tree.specs.declared.node.Node.{Node}
 use Rattle.pt_text.specs.Words.{lines_of}
 use Rattle.pt_main.specs.Line.{line_of}
 use Rattle.pt_main.specs.Script.{Begun, nothing, is_empty, may_stand, added}
@@ -28,3 +30,12 @@ scan_from number begun (text ∷ more) =
 
 abbrev pub scan_of : List ℕ → Scanned
 scan_of bytes = scan_from 1 nothing (lines_of bytes)
+
+-- the script that was read, judged by the rules of trees too: a line that breaks these stands above any other bad one
+abbrev pub judged_by : Begun → Result (List Node) ℕ → Option ℕ → Result Begun ℕ
+judged_by begun (Err line) bad = Err line
+judged_by begun (Ok nodes) (Some line) = Err line
+judged_by begun (Ok nodes) None = Ok begun
+
+abbrev pub judged : Scanned → Result Begun ℕ
+judged scanned = judged_by scanned.begun (nodes_of scanned.begun.tree) scanned.bad

@@ -79,5 +79,9 @@ pub fn end(words: &Parts<'_>) -> Result<(), LineError>
     ensures bad { result ≡ Err LineError.Bad → words.now ≢ [] }
     ensures no_memory { result ≡ Err LineError.Memory → ⊥ }
 {
-    if words.is_empty() { Ok(()) } else { Err(LineError::Bad) }
+    if words.is_empty() {
+        Ok(())
+    } else {
+        Err(LineError::Bad)
+    }
 }
