@@ -1,4 +1,2 @@
 pub mod NameOrder
-pub mod Places
-pub mod SlotTable
 pub mod PathParts

@@ -7,7 +7,7 @@ use Rattle.std.proofs.lemmas.List.Quantifiers.{position-Some}
 use Rattle.pt_tree.specs.Calls.{parts, step_from, walk, then_on}
 use Rattle.pt_host.specs.declared.ids.Errno.{Errno}
 use Rattle.pt_tree.specs.declared.node.Node.{Node}
-use Rattle.pt_tree.proofs.Places.{no_place, place_is}
+use Rattle.pt_tree.specs.Laws.Places.{no_place, place_is}
 
 abbrev pub is_slash : ℕ → Bool
 is_slash byte = byte == 47

@@ -1,5 +1,5 @@
 -- The table of the calls: what each is answered and what it leaves.
-use Rattle.std.specs.Prelude.{ℕ, ◌==◌, nat_lt, not, List, [], ◌∷◌, length, Option, Some, None, Result, Ok, Err, ok_or, slice_get, slice_set, if◌then◌else◌}
+use Rattle.std.specs.Prelude.{ℕ, ◌==◌, nat_lt, not, Bool, List, [], ◌∷◌, length, Option, Some, None, Result, Ok, Err, ok_or, slice_get, slice_set, if◌then◌else◌}
 use Rattle.std.specs.List.{slice_split}
 use Rattle.pt_host.specs.Call.{Call}
 use Rattle.pt_host.specs.Flags.{includes, o_creat}
@@ -87,12 +87,15 @@ open_walked state seat flags (Ok object) = opening state seat flags object
 open_walked state seat flags (Err errno) = refused state errno
 
 -- what every call on a name in a directory is refused for
-abbrev pub name_refusal : HostSeat → Node → List ℕ → Option Errno
-name_refusal seat dir name = first_refusal (
+abbrev pub name_checks : HostSeat → Node → List ℕ → List (Bool × Errno)
+name_checks seat dir name =
     (not (is_directory dir), enotdir)
     ∷ (nat_lt 255 (length name), enametoolong)
     ∷ (not (may seat dir Search), eacces)
-    ∷ [])
+    ∷ []
+
+abbrev pub name_refusal : HostSeat → Node → List ℕ → Option Errno
+name_refusal seat dir name = first_refusal (name_checks seat dir name)
 
 abbrev pub ok_unless : Option Errno → Result ℕ Errno → Result ℕ Errno
 ok_unless None otherwise = otherwise

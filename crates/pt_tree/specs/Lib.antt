@@ -9,3 +9,4 @@ pub mod Sound
 pub mod Does
 pub mod Start
 pub mod StoreState
+pub mod Laws

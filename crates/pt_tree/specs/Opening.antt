@@ -24,18 +24,28 @@ wants_read flags = (flags % 4 == 0) || (flags % 4 == 2)
 abbrev pub wants_write : ℕ → Bool
 wants_write flags = (flags % 4 == 1) || (flags % 4 == 2)
 
--- the refusal of an opening of this object
-abbrev pub opening_refusal : HostSeat → Node → ℕ → Option Errno
-opening_refusal seat node flags =
-    let misses_directory = includes flags o_directory && not (is_directory node) in
-    if includes flags o_path then first_refusal ((misses_directory, enotdir) ∷ []) else first_refusal (
+abbrev pub misses_directory : Node → ℕ → Bool
+misses_directory node flags = includes flags o_directory && not (is_directory node)
+
+-- what an opening by `O_PATH` is refused for
+abbrev pub path_checks : Node → ℕ → List (Bool × Errno)
+path_checks node flags = (misses_directory node flags, enotdir) ∷ []
+
+-- what any other opening is refused for, in this order
+abbrev pub open_checks : HostSeat → Node → ℕ → List (Bool × Errno)
+open_checks seat node flags =
     (includes flags o_tmpfile, eopnotsupp)
     ∷ (flags % 4 == 3, einval)
-    ∷ (misses_directory, enotdir)
+    ∷ (misses_directory node flags, enotdir)
     ∷ (is_directory node && (wants_write flags || includes flags o_trunc), eisdir)
     ∷ (wants_read flags && not (may seat node Read), eacces)
     ∷ (wants_write flags && not (may seat node Write), eacces)
-    ∷ [])
+    ∷ []
+
+-- the refusal of an opening of this object
+abbrev pub opening_refusal : HostSeat → Node → ℕ → Option Errno
+opening_refusal seat node flags =
+    if includes flags o_path then first_refusal (path_checks node flags) else first_refusal (open_checks seat node flags)
 
 -- without the set-user-id bit, and without the set-group-id bit where the group may execute
 abbrev pub without_set_user : ℕ → ℕ

@@ -14,6 +14,7 @@ pub record IsNumbered (place : ℕ) (node : Node) : Type 0 where
 
 pub record IsSound (state : State) : Type 0 where
   pub timely : state.calls < 2 ^ 63
+  pub few : length state.nodes < 2 ^ 63
   pub numbered : (place : ℕ) (node : Node) → slice_get state.nodes place ≡ Some node → IsNumbered place node
   pub named : (dir : ℕ) (name : List ℕ) (object : ℕ) → name_at state.nodes dir name ≡ Some object → object < length state.nodes
   pub opened : (fd : ℕ) (file : OpenFile) → open_at state.slots fd ≡ Some file → file.object < length state.nodes

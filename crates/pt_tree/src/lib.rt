@@ -1,6 +1,7 @@
 //! A directory tree in memory that answers the calls of a host.
 #![tactic(auto)]
 
+mod host;
 mod names;
 mod node;
 mod opening;
@@ -10,4 +11,5 @@ mod slots;
 mod spec;
 mod store;
 
+pub use host::TreeHost;
 pub use spec::{SpecError, TreeLine, TreeSpec};

@@ -1,5 +1,5 @@
 use Rattle.std.proofs.Common.{arith, sym}
-use Rattle.pt_tree.proofs.SlotTable.{no_free_slot, least_free-le-length}
+use Rattle.pt_tree.specs.Laws.SlotTable.{no_free_slot, least_free-le-length}
 use Rattle.pt_tree.proofs.slots.least_free_place.Goals as goal
 
 pub returns-in-None-clause-least : goal.returns-in-None-clause-least
