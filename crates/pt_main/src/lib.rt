@@ -14,5 +14,5 @@ pub use input::{InputError, MAX_SCRIPT, read_script};
 pub use line::{Line, ScriptJob};
 pub use mem::{MemSink, MemSource};
 pub use std_streams::{StdSink, StdSource};
-pub use texts::Text;
 pub use streams::{Failed, Sink, Source};
+pub use texts::Text;

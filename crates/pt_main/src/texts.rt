@@ -1,7 +1,9 @@
 ghost use Rattle.std.specs.Prelude.{◌≡◌, ◌++◌, ℕ, List, OnOk};
 
+mod answer;
 mod host;
 mod plain;
+mod session;
 
 use std::alloc::AllocError;
 

@@ -56,12 +56,19 @@ impl Text for bool {
     }
 }
 
+/// Appends bytes as a word.
+pub fn push_bytes(out: &mut Vec<u8>, bytes: &[u8]) -> Result<(), AllocError>
+    ensures { OnOk result (out.new.items ≡ out.old.items ++ bytes_text bytes.now) }
+{
+    push_text(out, b" ")?;
+    push_byte_word(out, bytes)
+}
+
 impl Text for Bytes {
     ghost text = { bytes_text };
 
     fn write(&self, out: &mut Vec<u8>) -> Result<(), AllocError> {
-        push_text(out, b" ")?;
-        push_byte_word(out, self.as_slice())
+        push_bytes(out, self.as_slice())
     }
 }
 
