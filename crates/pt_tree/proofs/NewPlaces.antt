@@ -1,6 +1,5 @@
 -- The place that a path leads to, part by part.
-use Rattle.std.proofs.Common.{◌≡◌, ◌∷◌, [], ◌==◌, ℕ, Bool, true, false, List, Some, None, Option, option_and_then, slice_get, ap, ◌∙◌, sym, cond, length, arith, ◌+◌, ◌<◌, refl}
-use Rattle.std.specs.List.{slice_split, count_by}
+use Rattle.std.proofs.Common.{◌≡◌, ◌∷◌, [], ◌==◌, ℕ, true, false, List, Some, None, option_and_then, slice_get, ap, ◌∙◌, cond, length, arith, ◌<◌, refl}
 use Rattle.std.proofs.lemmas.List.Splits.{length-slice_split}
 use Rattle.pt_tree.specs.Calls.{parts}
 use Rattle.pt_tree.specs.Node.{name_at}

@@ -5,7 +5,19 @@ ghost use Rattle.pt_tree.specs.declared.node.Node.{Node};
 ghost use Rattle.pt_tree.specs.State.{tree_of};
 ghost use Rattle.pt_tree.specs.Slots.{no_files};
 ghost use Rattle.pt_tree.specs.Start.{
-    AddsIf, add_line, alone, first_line, IsCause, new_file, nodes_of, NoneOpen, root_of, StartsAs, with_entry, with_file, with_name,
+  AddsIf,
+  add_line,
+  alone,
+  first_line,
+  IsCause,
+  new_file,
+  nodes_of,
+  NoneOpen,
+  root_of,
+  StartsAs,
+  with_entry,
+  with_file,
+  with_name,
 };
 
 use crate::host::TreeHost;
@@ -81,7 +93,12 @@ impl Content {
 }
 
 /// The directory at this place gets one name more.
-fn add_entry(nodes: &mut Vec<Node>, at: usize, name: Vec<u8>, object: usize) -> Result<(), AllocError>
+fn add_entry(
+    nodes: &mut Vec<Node>,
+    at: usize,
+    name: Vec<u8>,
+    object: usize,
+) -> Result<(), AllocError>
     requires { at < length nodes.old.items }
     ensures { OnOk result (
         (dir : Node) × (slice_get nodes.old.items at ≡ Some dir) × (nodes.new.items ≡ with_entry nodes.old.items at name.items object dir)) }
@@ -121,7 +138,13 @@ fn add_line(alloc: Global, nodes: &mut Vec<Node>, line: &TreeLine) -> Result<boo
 {
     match line {
         TreeLine::Mount { .. } => Ok(false),
-        TreeLine::File { path, mode, uid, gid, bytes } => {
+        TreeLine::File {
+            path,
+            mode,
+            uid,
+            gid,
+            bytes,
+        } => {
             if *mode >= 4096 || bytes.len() > FILE_MAX {
                 return Ok(false);
             }
@@ -144,7 +167,12 @@ fn first_line(alloc: Global, line: &TreeLine) -> Option<Node>
     ensures { alone result ≡ first_line line.now }
 {
     match line {
-        TreeLine::Mount { id, dev, path, handles } => {
+        TreeLine::Mount {
+            id,
+            dev,
+            path,
+            handles,
+        } => {
             if *id > 0 && *dev > 0 && is_root(path.as_slice()) {
                 Some(root_of(alloc, *id, *dev, *handles))
             } else {
@@ -175,4 +203,25 @@ fn nodes_of(alloc: Global, lines: &[TreeLine]) -> Result<Vec<Node>, SpecError>
         }
     }
     Ok(nodes)
+}
+
+impl TreeHost {
+    /// A host that holds the tree which the lines describe, with no file open and no call answered.
+    pub fn from_spec(alloc: Global, spec: &TreeSpec) -> Result<TreeHost, SpecError>
+        requires { length spec.now < 2 ^ 32 }
+        ensures ok { IfOk result (λ host. StartsAs spec.now host) }
+        ensures well_formed { IfOk result (λ host. IsWellFormed (tree_of host)) }
+        ensures none_open { IfOk result (λ host. NoneOpen (tree_of host)) }
+        ensures err { IfErr result (λ error. IsCause spec.now error) }
+    {
+        let nodes = nodes_of(alloc, spec.as_slice())?;
+        let files = Descriptors::new(alloc)?;
+        let store = Store {
+            alloc,
+            nodes,
+            files,
+            calls: 0,
+        };
+        Ok(TreeHost { store })
+    }
 }
