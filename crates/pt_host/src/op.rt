@@ -82,3 +82,30 @@ impl<'a> HostOp<'a> {
         }
     }
 }
+
+impl KeptHostOp {
+    /// The same call, whose bytes are lent.
+    pub fn lend(&self) -> HostOp<'_>
+        ensures { call_of result ≡ self.now }
+    {
+        match self {
+            KeptHostOp::OpenRoot { path, flags } => HostOp::OpenRoot {
+                path: path.as_slice(),
+                flags: *flags,
+            },
+            KeptHostOp::OpenAt {
+                fd,
+                name,
+                flags,
+                mode,
+            } => HostOp::OpenAt {
+                fd: *fd,
+                name: name.as_slice(),
+                flags: *flags,
+                mode: *mode,
+            },
+            KeptHostOp::Stat { fd } => HostOp::Stat { fd: *fd },
+            KeptHostOp::Close { fd } => HostOp::Close { fd: *fd },
+        }
+    }
+}

@@ -1,0 +1,9 @@
+pub mod Plan
+pub mod Deed
+pub mod Held
+pub mod Grammar
+pub mod Frame
+pub mod Tree
+pub mod Requests
+pub mod Pattern
+pub mod Made

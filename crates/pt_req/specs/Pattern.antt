@@ -1,0 +1,31 @@
+-- Which step lists and answers belong to a request.
+use Rattle.std.specs.Prelude.{ℕ, List, []}
+use Rattle.pt_host.specs.declared.seat.HostSeat.{HostSeat}
+use Rattle.pt_iface.specs.declared.answer.Answer.{Answer}
+use Rattle.pt_iface.specs.declared.request.Context.{Context}
+use Rattle.pt_iface.specs.declared.request.Request.{Request}
+use Rattle.pt_iface.specs.declared.request.Request.TheVariants as request
+use Rattle.pt_req.specs.Deed.{Step}
+use Rattle.pt_req.specs.Grammar.{Grammar, Belongs}
+use Rattle.pt_req.specs.Tree.{framed}
+use Rattle.pt_req.specs.Requests.{tree_of}
+use Rattle.pt_req.specs.declared.finish.Finish.TheVariants as finish
+use Rattle.pt_req.specs.declared.plan.Plan.{Plan}
+
+-- what a request's job may do from its start on
+abbrev pub grammar_of : Plan → Request → Grammar
+grammar_of plan asked = framed (tree_of plan asked) []
+
+-- No request of today heeds its seat or who asks.
+abbrev pub Pattern : Plan → HostSeat → Context → Request → List Step → Answer → Type 0
+Pattern plan seat who asked steps answer = Belongs (grammar_of plan asked) steps (finish.Answer answer)
+
+-- a bound on a request's steps; each closing takes at most three more
+abbrev pub bound_of : Request → ℕ
+bound_of request.Root = 48
+bound_of (request.Lookup parent name) = 48
+bound_of (request.Forget inode count) = 8
+
+-- so many rows a request inserts at most
+abbrev pub most_inserted : ℕ
+most_inserted = 4

@@ -1,0 +1,14 @@
+-- The defaults of the configuration.
+use Rattle.std.specs.Prelude.{◌≡◌, ◌-◌, ◌^◌, [], ◌∷◌}
+use Rattle.pt_iface.specs.declared.entry.Timeout.{Timeout}
+use Rattle.pt_req.specs.declared.plan.Config.{Config}
+
+abbrev pub five_seconds : Timeout
+five_seconds = record { secs = 5; nanos = 0 }
+
+pub record IsDefault (config : Config) : Type 0 where
+  pub entry_timeout : config.entry_timeout ≡ five_seconds
+  pub attr_timeout : config.attr_timeout ≡ five_seconds
+  -- a slash
+  pub root_dir : config.root_dir ≡ 47 ∷ []
+  pub guest_fd_limit : config.guest_fd_limit ≡ 2 ^ 64 - 1

@@ -1,0 +1,179 @@
+-- The requests, by their parts. After virtiofsd's passthrough file system: `open_root_node`, `do_lookup`, `forget`.
+use Rattle.std.specs.Prelude.{ℕ, Bool, true, ◌&&◌, ◌||◌, not, ◌==◌, if◌then◌else◌, List, [], ◌∷◌, None, Option}
+use Rattle.std.specs.List.{list_any}
+use Rattle.pt_host.specs.Errno.{einval}
+use Rattle.pt_host.specs.Flags.{path_flags}
+use Rattle.pt_host.specs.Tree.{kind_of}
+use Rattle.pt_host.specs.declared.ids.Fd.{Fd}
+use Rattle.pt_host.specs.declared.ids.ObjIds.{ObjIds}
+use Rattle.pt_host.specs.declared.stat.Stat.{Stat}
+use Rattle.pt_host.specs.declared.flags.OpenFlags.{OpenFlags}
+use Rattle.pt_host.specs.declared.op.KeptHostOp.TheVariants as call
+use Rattle.pt_host.specs.declared.reply.HostReply.TheVariants as host
+use Rattle.pt_host.specs.declared.reply.HostValue.TheVariants as value
+use Rattle.pt_session.specs.declared.form.RowForm.{RowForm}
+use Rattle.pt_session.specs.declared.form.RowForm.TheVariants.{File}
+use Rattle.pt_session.specs.declared.form.Negotiated.{Negotiated}
+use Rattle.pt_session.specs.declared.event.KeptEvent.TheVariants as change
+use Rattle.pt_session.specs.declared.reply.EventReply.TheVariants as event
+use Rattle.pt_iface.specs.declared.answer.Answer.TheVariants as answer
+use Rattle.pt_iface.specs.declared.entry.Attr.{Attr}
+use Rattle.pt_iface.specs.declared.entry.Entry.{Entry}
+use Rattle.pt_iface.specs.declared.request.Request.{Request}
+use Rattle.pt_iface.specs.declared.request.Request.TheVariants as request
+use Rattle.pt_req.specs.Deed.{Calls, Changes}
+use Rattle.pt_req.specs.Held.{fd_of}
+use Rattle.pt_req.specs.Tree.{Tree, Gives, Refuses, Asks, Shuts}
+use Rattle.pt_req.specs.declared.act.ActReply.{ActReply}
+use Rattle.pt_req.specs.declared.act.ActReply.TheVariants.{Event, Host}
+use Rattle.pt_req.specs.declared.plan.Plan.{Plan}
+
+-- how a request goes on by a reply: one that is not the awaited one is answered as a refusal
+
+abbrev pub on_began : (ℕ → Negotiated → Tree) → ActReply → Tree
+on_began next (Event (event.Began era agreed)) = next era agreed
+on_began next told = Refuses told
+
+abbrev pub on_resolved : (RowForm → ObjIds → Tree) → ActReply → Tree
+on_resolved next (Event (event.Resolved row form ids mode)) = next form ids
+on_resolved next told = Refuses told
+
+abbrev pub on_fd : (Fd → Tree) → ActReply → Tree
+on_fd next (Host (host.Ok (value.Fd fd))) = next fd
+on_fd next told = Refuses told
+
+abbrev pub on_stat : (Stat → Tree) → ActReply → Tree
+on_stat next (Host (host.Ok (value.Stat stat))) = next stat
+on_stat next told = Refuses told
+
+abbrev pub on_claim : (ℕ → Tree) → Tree → ActReply → Tree
+on_claim next absent (Event (event.Claimed number)) = next number
+on_claim next absent (Event event.Absent) = absent
+on_claim next absent told = Refuses told
+
+abbrev pub on_taken : Tree → ActReply → Tree
+on_taken next (Event event.Taken) = next
+on_taken next told = Refuses told
+
+abbrev pub on_drawn : (ℕ → Tree) → ActReply → Tree
+on_drawn next (Event (event.Drawn number)) = next number
+on_drawn next told = Refuses told
+
+abbrev pub on_inserted : (ℕ → Tree) → (ℕ → Tree) → ActReply → Tree
+on_inserted next found (Event (event.Inserted number)) = next number
+on_inserted next found (Event (event.Found number)) = found number
+on_inserted next found told = Refuses told
+
+abbrev pub on_root : Tree → ActReply → Tree
+on_root next (Event (event.Inserted number)) = next
+on_root next told = Refuses told
+
+abbrev pub on_done : Tree → ActReply → Tree
+on_done next (Event (event.Done closings)) = next
+on_done next told = Refuses told
+
+-- the flags of every opening that only stands for its object
+abbrev pub path : OpenFlags
+path = record { 0 = path_flags }
+
+-- what a request is told of its session at its first step
+pub record Session : Type 0 where
+  pub era : ℕ
+  pub agreed : Negotiated
+
+abbrev pub begun : (Session → Tree) → Tree
+begun next = Asks (Changes change.Begin) (on_began (λ era agreed. next (record { era = era; agreed = agreed })))
+
+-- The shared directory is opened and numbered 1; what is agreed on is said, or left.
+abbrev pub root_open : Plan → Session → Option Negotiated → Tree → Tree
+root_open plan session agreed next =
+    Asks (Calls (call.OpenRoot plan.config.root_dir path)) (on_fd (λ fd.
+    Asks (Calls (call.Stat fd)) (on_stat (λ stat.
+    Asks (Changes change.TakeFd) (on_taken (
+    Asks (Changes (change.InsertRoot session.era (File fd) stat.ids stat.mode agreed)) (on_root next)))))))
+
+-- a name that is no name of an entry: empty, a dot, two dots, or one with a slash or a NUL
+abbrev pub is_bad_byte : ℕ → Bool
+is_bad_byte byte = (byte == 47) || (byte == 0)
+
+abbrev pub is_bad_name : List ℕ → Bool
+is_bad_name [] = true
+is_bad_name (first ∷ []) = (first == 46) || is_bad_byte first
+is_bad_name (first ∷ second ∷ []) = ((first == 46) && (second == 46)) || is_bad_byte first || is_bad_byte second
+is_bad_name name = list_any is_bad_byte name
+
+abbrev pub named : List ℕ → Tree → Tree
+named name next = if is_bad_name name then Gives (answer.Refused einval) else next
+
+-- the flag of a directory on another device or mount than its parent, where the guest is told of mounts
+abbrev pub mount_flag : Negotiated → ObjIds → Stat → ℕ
+mount_flag agreed parent stat =
+    if agreed.announce_submounts && (kind_of stat.mode == 4) && not ((stat.ids.dev == parent.dev) && (stat.ids.mnt_id == parent.mnt_id)) then 1 else 0
+
+abbrev pub attr_of : Stat → ℕ → Attr
+attr_of stat flags = record {
+  ino = stat.ids.ino;
+  size = stat.size;
+  blocks = stat.blocks;
+  atime = stat.atime;
+  mtime = stat.mtime;
+  ctime = stat.ctime;
+  mode = stat.mode;
+  nlink = stat.nlink;
+  uid = stat.uid;
+  gid = stat.gid;
+  rdev = stat.rdev;
+  blksize = stat.blksize;
+  flags = flags;
+}
+
+abbrev pub entry_of : Plan → Negotiated → ObjIds → Stat → ℕ → Entry
+entry_of plan agreed parent stat number = record {
+  inode = number;
+  generation = 0;
+  attr = attr_of stat (mount_flag agreed parent stat);
+  attr_timeout = plan.config.attr_timeout;
+  entry_timeout = plan.config.entry_timeout;
+}
+
+-- what was opened gets a number: its row's, where the object has one, or a new one; the bracket ends with the pin and the descriptor, with the
+-- pin alone where the table took the descriptor and its slot, or with all three where another was faster, and the count passes
+abbrev pub inserted : Session → Fd → Stat → (ℕ → Tree) → ℕ → Tree
+inserted session fd stat next fresh =
+    Asks (Changes (change.Insert session.era fresh (File fd) stat.ids stat.mode)) (on_inserted (λ number. Shuts true 1 (next number)) (λ number. Shuts true 3 (next number)))
+
+abbrev pub numbered : Session → Fd → Stat → (ℕ → Tree) → Tree
+numbered session fd stat next =
+    Asks (Changes (change.Claim session.era None stat.ids)) (on_claim (λ number. Shuts true 2 (next number)) (
+    Asks (Changes change.TakeFd) (on_taken (
+    Asks (Changes change.DrawNode) (on_drawn (inserted session fd stat next))))))
+
+abbrev pub told_of : Plan → Session → ObjIds → Fd → (Entry → Tree) → Tree
+told_of plan session parent fd next =
+    Asks (Calls (call.Stat fd)) (on_stat (λ stat. numbered session fd stat (λ number. next (entry_of plan session.agreed parent stat number))))
+
+abbrev pub opened_in : Plan → Session → ObjIds → Fd → List ℕ → (Entry → Tree) → Tree
+opened_in plan session parent dir name next = Asks (Calls (call.OpenAt dir name path 0)) (on_fd (λ fd. told_of plan session parent fd next))
+
+-- a name in a numbered directory becomes an entry
+abbrev pub look_up : Plan → Session → ℕ → List ℕ → (Entry → Tree) → Tree
+look_up plan session parent name next =
+    Asks (Changes (change.Resolve parent)) (on_resolved (λ form ids. opened_in plan session ids (fd_of form) name next))
+
+abbrev pub answers_entry : Entry → Tree
+answers_entry entry = Gives (answer.Entry entry)
+
+abbrev pub root : Plan → Tree
+root plan = begun (λ session. root_open plan session None (Gives answer.Done))
+
+abbrev pub lookup : Plan → ℕ → List ℕ → Tree
+lookup plan parent name = begun (λ session. named name (look_up plan session parent name answers_entry))
+
+abbrev pub forget : ℕ → ℕ → Tree
+forget inode count = begun (λ session. Asks (Changes (change.Forget ((inode, count) ∷ []))) (on_done (Gives answer.NoReply)))
+
+-- what a request does, its frame aside
+abbrev pub tree_of : Plan → Request → Tree
+tree_of plan request.Root = root plan
+tree_of plan (request.Lookup parent name) = lookup plan parent name
+tree_of plan (request.Forget inode count) = forget inode count

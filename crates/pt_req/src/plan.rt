@@ -1,0 +1,45 @@
+ghost use Rattle.std.specs.Prelude.{◌≡◌, IfOk, OnErr, ◌∷◌, []};
+ghost use Rattle.pt_req.specs.Plan.{IsDefault};
+
+use pt_host::Bytes;
+use pt_iface::{Refusal, Timeout};
+use std::alloc::Global;
+
+/// What the file system is set up with, by virtiofsd's names. A switch comes with the requests that heed it.
+#[derive(Debug, Drop)]
+pub struct Config {
+    /// How long the guest may keep a name that it looked up.
+    pub entry_timeout: Timeout,
+    /// How long the guest may keep an object's attributes.
+    pub attr_timeout: Timeout,
+    /// The path of the shared directory on the host.
+    pub root_dir: Bytes,
+    /// How many of the host's descriptors may be open for the guest at once.
+    pub guest_fd_limit: u64,
+}
+
+impl Config {
+    /// The defaults: timeouts of five seconds, the host's root, no limit of descriptors. Its one refusal is want of memory.
+    pub fn new(alloc: Global) -> Result<Config, Refusal>
+        ensures ok { IfOk result IsDefault }
+        ensures err { OnErr result (result ≡ Err Refusal.Memory) }
+    {
+        let root_dir = match Bytes::from_slice(alloc, b"/") {
+            Ok(bytes) => bytes,
+            Err(_) => return Err(Refusal::Memory),
+        };
+        let timeout = Timeout { secs: 5, nanos: 0 };
+        Ok(Config {
+            entry_timeout: timeout,
+            attr_timeout: timeout,
+            root_dir,
+            guest_fd_limit: u64::MAX,
+        })
+    }
+}
+
+/// The checked configuration, which every job is given.
+#[derive(Debug, Drop)]
+pub struct Plan {
+    pub config: Config,
+}

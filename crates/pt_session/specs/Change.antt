@@ -1,0 +1,29 @@
+-- An event as plain data: what it changes, and not where its list lies.
+use Rattle.std.specs.Option.{option_copied}
+use Rattle.pt_session.specs.declared.event.Event.{Event}
+use Rattle.pt_session.specs.declared.event.Event.TheVariants as borrowed
+use Rattle.pt_session.specs.declared.event.KeptEvent.{KeptEvent}
+use Rattle.pt_session.specs.declared.event.KeptEvent.TheVariants as change
+
+-- the event that owns its list is seen as such data
+abbrev pub Change : Type 0
+Change = KeptEvent
+
+abbrev pub change_of : Event → Change
+change_of borrowed.Begin = change.Begin
+change_of (borrowed.Resolve number) = change.Resolve number
+change_of (borrowed.Unpin row) = change.Unpin row
+change_of (borrowed.Claim era handle ids) = change.Claim era (option_copied handle) ids
+change_of borrowed.TakeFd = change.TakeFd
+change_of borrowed.GiveFd = change.GiveFd
+change_of borrowed.DrawNode = change.DrawNode
+change_of (borrowed.Insert era number form ids mode) = change.Insert era number form.now ids mode
+change_of (borrowed.InsertRoot era form ids mode negotiated) = change.InsertRoot era form.now ids mode negotiated
+change_of (borrowed.Forget list) = change.Forget list.now
+change_of (borrowed.GiveBack era number) = change.GiveBack era number
+change_of borrowed.TakeClosing = change.TakeClosing
+
+-- it has a list to copy
+abbrev pub HoldsList : Change → Type 0
+HoldsList (change.Forget list) = Unit {0}
+HoldsList _ = ⊥

@@ -1,0 +1,84 @@
+-- The session's tables as lists, and when they fit together.
+use Rattle.std.specs.Prelude.{◌≡◌, ◌≢◌, ◌<◌, ◌≤◌, ℕ, Bool, true, false, List, []}
+use Rattle.pt_host.specs.Words.{Each, EachTwo}
+use Rattle.pt_host.specs.declared.ids.Fd.{Fd}
+use Rattle.pt_host.specs.declared.ids.ObjIds.{ObjIds}
+use Rattle.pt_session.specs.declared.form.RowForm.{RowForm}
+use Rattle.pt_session.specs.declared.form.RowForm.TheVariants.{File}
+use Rattle.pt_session.specs.declared.form.Negotiated.{Negotiated}
+
+-- A number's row. A live row has a count; one that is not live stays until its last pin is given back.
+pub record Row : Type 0 where
+  pub serial : ℕ
+  pub number : ℕ
+  pub form : RowForm
+  pub ids : ObjIds
+  pub mode : ℕ
+  pub count : ℕ
+  pub pins : ℕ
+  pub live : Bool
+
+-- a descriptor that is to be closed, and whether a slot goes back with it
+pub record Closing : Type 0 where
+  pub fd : Fd
+  pub slot : Bool
+
+-- The newest row stands first; the closing list is first in, first out.
+pub record Tables : Type 0 where
+  pub era : ℕ
+  pub next_number : ℕ
+  pub next_row : ℕ
+  pub slots : ℕ
+  pub limit : ℕ
+  pub negotiated : Negotiated
+  pub rows : List Row
+  pub closing : List Closing
+
+-- nothing was agreed on
+abbrev pub nothing_agreed : Negotiated
+nothing_agreed = record { writeback = false; announce_submounts = false; posix_acl = false; sup_group = false }
+
+-- the tables of a new session
+abbrev pub empty_tables : ℕ → Tables
+empty_tables limit = record {
+  era = 0;
+  next_number = 2;
+  next_row = 0;
+  slots = limit;
+  limit = limit;
+  negotiated = nothing_agreed;
+  rows = [];
+  closing = [];
+}
+
+-- what is to be closed when the row ends
+abbrev pub closing_of : Row → Closing
+closing_of row = closing_by row.form
+  where
+    closing_by : RowForm → Closing
+    closing_by (File fd) = record { fd = fd; slot = true }
+
+-- the row is live, and has this number
+abbrev pub HasNumber : ℕ → Row → Type 0
+HasNumber number row = (row.live ≡ true) × (row.number ≡ number)
+
+-- the row is live, and stands for the object of these ids
+abbrev pub HasIds : ObjIds → Row → Type 0
+HasIds ids row = (row.live ≡ true) × (row.ids ≡ ids)
+
+-- a row that is alone in what it stands for: serials differ, and so do the numbers and the objects of two that are live
+pub record AreApart (row other : Row) : Type 0 where
+  pub serials : row.serial ≢ other.serial
+  pub numbers : row.live ≡ true → other.live ≡ true → row.number ≢ other.number
+  pub objects : row.live ≡ true → other.live ≡ true → row.ids ≢ other.ids
+
+pub record IsSoundRow (next_row : ℕ) (row : Row) : Type 0 where
+  pub drawn : row.serial < next_row
+  pub counted : row.live ≡ true → 1 ≤ row.count
+  pub pinned : row.live ≡ false → 1 ≤ row.pins
+
+-- the tables fit together
+pub record Agree (tables : Tables) : Type 0 where
+  pub sound : Each (IsSoundRow tables.next_row) tables.rows
+  pub apart : EachTwo AreApart tables.rows
+  pub slots : tables.slots ≤ tables.limit

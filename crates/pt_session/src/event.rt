@@ -1,0 +1,252 @@
+ghost use Rattle.std.specs.Prelude.{◌≡◌, IfOk, OnErr};
+ghost use Rattle.std.specs.Option.{option_copied};
+ghost use Rattle.pt_session.specs.Change.{change_of, HoldsList};
+
+use crate::form::{Negotiated, RowForm};
+use pt_host::{FileHandle, ObjIds};
+use std::alloc::{AllocError, Global};
+use std::marker::Model;
+
+/// Numbers with the counts that are taken back of them.
+#[derive(Debug, Drop)]
+pub struct ForgetList {
+    pairs: Vec<(u64, u64)>,
+}
+
+impl Model for ForgetList {
+    ghost use Rattle.std.specs.Prelude.{List, ℕ};
+
+    ghost Value = { List (ℕ × ℕ) };
+
+    ghost view = { λ list. list.pairs.items };
+}
+
+impl ForgetList {
+    pub fn from_vec(pairs: Vec<(u64, u64)>) -> Self
+        ensures { result ≡ pairs.items }
+    {
+        ForgetList { pairs }
+    }
+
+    pub fn as_slice(&self) -> &[(u64, u64)]
+        ensures { result.now ≡ self.now }
+    {
+        self.pairs.as_slice()
+    }
+}
+
+/// One change of the tables. A number is the guest's, a row is named by its serial.
+#[derive(Clone, Copy)]
+pub enum Event<'a> {
+    /// A request begins.
+    Begin,
+    /// Pins the row of a live number.
+    Resolve {
+        number: u64,
+    },
+    Unpin {
+        row: u64,
+    },
+    /// Gives the number of a live row of this object once more.
+    Claim {
+        era: u64,
+        handle: Option<&'a FileHandle>,
+        ids: ObjIds,
+    },
+    /// Takes a descriptor slot.
+    TakeFd,
+    GiveFd,
+    /// Draws a number that was never given.
+    DrawNode,
+    Insert {
+        era: u64,
+        number: u64,
+        form: &'a RowForm,
+        ids: ObjIds,
+        mode: u32,
+    },
+    /// Inserts number 1, and says what was agreed on, or leaves it.
+    InsertRoot {
+        era: u64,
+        form: &'a RowForm,
+        ids: ObjIds,
+        mode: u32,
+        negotiated: Option<Negotiated>,
+    },
+    Forget {
+        list: &'a [(u64, u64)],
+    },
+    /// Takes back one of what this request was given.
+    GiveBack {
+        era: u64,
+        number: u64,
+    },
+    /// Takes the first descriptor that is to be closed.
+    TakeClosing,
+}
+
+/// An event that owns its list.
+#[derive(Debug, Drop)]
+pub enum KeptEvent {
+    Begin,
+    Resolve {
+        number: u64,
+    },
+    Unpin {
+        row: u64,
+    },
+    Claim {
+        era: u64,
+        handle: Option<FileHandle>,
+        ids: ObjIds,
+    },
+    TakeFd,
+    GiveFd,
+    DrawNode,
+    Insert {
+        era: u64,
+        number: u64,
+        form: RowForm,
+        ids: ObjIds,
+        mode: u32,
+    },
+    InsertRoot {
+        era: u64,
+        form: RowForm,
+        ids: ObjIds,
+        mode: u32,
+        negotiated: Option<Negotiated>,
+    },
+    Forget {
+        list: ForgetList,
+    },
+    GiveBack {
+        era: u64,
+        number: u64,
+    },
+    TakeClosing,
+}
+
+fn kept_handle(handle: Option<&FileHandle>) -> Option<FileHandle>
+    ensures { result ≡ option_copied handle.entry }
+{
+    match handle {
+        None => None,
+        Some(handle) => Some(handle.copy()),
+    }
+}
+
+impl<'a> Event<'a> {
+    /// The same event with a list of its own. Only a list takes memory.
+    pub fn keep(&self, alloc: Global) -> Result<KeptEvent, AllocError>
+        ensures ok { IfOk result (λ kept. kept ≡ change_of self.now) }
+        ensures err { OnErr result (HoldsList (change_of self.now)) }
+    {
+        match *self {
+            Event::Begin => Ok(KeptEvent::Begin),
+            Event::Resolve { number } => Ok(KeptEvent::Resolve { number }),
+            Event::Unpin { row } => Ok(KeptEvent::Unpin { row }),
+            Event::Claim { era, handle, ids } => {
+                let handle = kept_handle(handle);
+                Ok(KeptEvent::Claim { era, handle, ids })
+            }
+            Event::TakeFd => Ok(KeptEvent::TakeFd),
+            Event::GiveFd => Ok(KeptEvent::GiveFd),
+            Event::DrawNode => Ok(KeptEvent::DrawNode),
+            Event::Insert {
+                era,
+                number,
+                form,
+                ids,
+                mode,
+            } => {
+                let form = form.copy();
+                Ok(KeptEvent::Insert {
+                    era,
+                    number,
+                    form,
+                    ids,
+                    mode,
+                })
+            }
+            Event::InsertRoot {
+                era,
+                form,
+                ids,
+                mode,
+                negotiated,
+            } => {
+                let form = form.copy();
+                Ok(KeptEvent::InsertRoot {
+                    era,
+                    form,
+                    ids,
+                    mode,
+                    negotiated,
+                })
+            }
+            Event::Forget { list } => {
+                let pairs = list.to_vec(alloc)?;
+                let list = ForgetList::from_vec(pairs);
+                Ok(KeptEvent::Forget { list })
+            }
+            Event::GiveBack { era, number } => Ok(KeptEvent::GiveBack { era, number }),
+            Event::TakeClosing => Ok(KeptEvent::TakeClosing),
+        }
+    }
+}
+
+impl KeptEvent {
+    /// The same event, whose list is lent.
+    pub fn lend(&self) -> Event<'_>
+        ensures { change_of result ≡ self.now }
+    {
+        match self {
+            KeptEvent::Begin => Event::Begin,
+            KeptEvent::Resolve { number } => Event::Resolve { number: *number },
+            KeptEvent::Unpin { row } => Event::Unpin { row: *row },
+            KeptEvent::Claim { era, handle, ids } => Event::Claim {
+                era: *era,
+                handle: handle.as_ref(),
+                ids: *ids,
+            },
+            KeptEvent::TakeFd => Event::TakeFd,
+            KeptEvent::GiveFd => Event::GiveFd,
+            KeptEvent::DrawNode => Event::DrawNode,
+            KeptEvent::Insert {
+                era,
+                number,
+                form,
+                ids,
+                mode,
+            } => Event::Insert {
+                era: *era,
+                number: *number,
+                form,
+                ids: *ids,
+                mode: *mode,
+            },
+            KeptEvent::InsertRoot {
+                era,
+                form,
+                ids,
+                mode,
+                negotiated,
+            } => Event::InsertRoot {
+                era: *era,
+                form,
+                ids: *ids,
+                mode: *mode,
+                negotiated: *negotiated,
+            },
+            KeptEvent::Forget { list } => Event::Forget {
+                list: list.as_slice(),
+            },
+            KeptEvent::GiveBack { era, number } => Event::GiveBack {
+                era: *era,
+                number: *number,
+            },
+            KeptEvent::TakeClosing => Event::TakeClosing,
+        }
+    }
+}
