@@ -1,8 +1,10 @@
 -- The tree that lines describe.
-use Rattle.std.specs.Prelude.{ℕ, ◌≡◌, ◌+◌, ◌==◌, nat_lt, nat_le, ◌&&◌, not, Bool, false, List, [], ◌∷◌, ◌++◌, length, pos, Option, Some, None, option_and_then, is_none, ⊤, Result, Ok, Err, slice_get, slice_set, if◌then◌else◌}
+use Rattle.std.specs.Prelude.{ℕ, ◌≡◌, ◌+◌, ◌==◌, nat_lt, nat_le, ◌&&◌, ◌||◌, not, Bool, true, false, List, [], ◌∷◌, ◌++◌, length, pos, Option, Some, None, option_map, option_and_then, is_none, ⊤, Result, Ok, Err, slice_get, slice_set, if◌then◌else◌}
+use Rattle.std.specs.Borrow.{Bor}
 use Rattle.std.specs.List.{list_any}
 use Rattle.std.specs.Str.{bytes_eq}
 use Rattle.pt_host.specs.declared.ids.Time.{Time}
+use Rattle.pt_host.specs.Tree.{Tree}
 use Rattle.pt_tree.specs.Names.{found, named}
 use Rattle.pt_tree.specs.Node.{is_directory, names_in, name_at}
 use Rattle.pt_tree.specs.Slots.{no_files}
@@ -19,7 +21,7 @@ use Rattle.pt_tree.specs.declared.spec.SpecError.TheVariants.{NotATree, Memory}
 -- a part of a path that may stand as a name
 abbrev pub is_good_name : List ℕ → Bool
 is_good_name name =
-    not (bytes_eq name []) && not (bytes_eq name (46 ∷ [])) && not (bytes_eq name (46 ∷ 46 ∷ []))
+    not (bytes_eq name []) && not (bytes_eq name (46 ∷ []) || bytes_eq name (46 ∷ 46 ∷ []))
     && not (list_any (λ byte. byte == 0) name) && nat_le (length name) 255
 
 -- a directory that does not have the name yet
@@ -65,10 +67,14 @@ abbrev pub with_name : List ℕ → ℕ → Content → Content
 with_name name object (Directory names) = Directory (named name object names)
 with_name name object (Regular bytes) = Regular bytes
 
+-- the directory at this place with one name more
+abbrev pub with_entry : List Node → ℕ → List ℕ → ℕ → Node → List Node
+with_entry nodes at name object dir = slice_set nodes at (record dir { content = with_name name object dir.content })
+
 abbrev pub with_file : List Node → ℕ → List ℕ → ℕ → ℕ → ℕ → List ℕ → Option Node → Option (List Node)
 with_file nodes at name permissions uid gid bytes None = None
 with_file nodes at name permissions uid gid bytes (Some dir) = Some (
-    slice_set nodes at (record dir { content = with_name name (length nodes) dir.content })
+    with_entry nodes at name (length nodes) dir
     ++ new_file dir (length nodes + 1) permissions uid gid bytes ∷ [])
 
 -- the objects with those of one more line, where it keeps the rules
@@ -98,7 +104,7 @@ root_of id dev handles = record {
 abbrev pub first_line : TreeLine → Option (List Node)
 first_line (Mount id dev path handles) =
     if nat_lt 0 id && nat_lt 0 dev && bytes_eq path (47 ∷ []) then Some (root_of id dev handles ∷ []) else None
-first_line other = None
+first_line (File path mode uid gid bytes) = None
 
 -- what follows a line: the rest, or the number of the line that is none of a tree
 abbrev pub going_on : Option (List Node) → ℕ → (List Node → Result (List Node) ℕ) → Result (List Node) ℕ
@@ -126,3 +132,19 @@ StartsAs lines state = (nodes : List Node) × (nodes_of lines ≡ Ok nodes) × (
 abbrev pub IsCause : List TreeLine → SpecError → Type 0
 IsCause lines (NotATree line) = nodes_of lines ≡ Err line
 IsCause lines Memory = ⊤
+
+-- a place as code has it, its name behind a reference
+abbrev pub seen_place : ℕ × Bor (List ℕ) → ℕ × List ℕ
+seen_place place = (place.0, place.1.now)
+
+-- no descriptor is open
+abbrev pub NoneOpen : Tree → Type 0
+NoneOpen tree = (fd : ℕ) → tree.opened fd ≡ None
+
+abbrev pub alone : Option Node → Option (List Node)
+alone node = option_map (λ root. root ∷ []) node
+
+-- one line more was added, or it could not be
+abbrev pub AddsIf : Bool → Option (List Node) → List Node → Type 0
+AddsIf true told after = told ≡ Some after
+AddsIf false told after = told ≡ None

@@ -11,7 +11,7 @@ use std::marker::Model;
 /// A host that holds a directory tree in memory.
 #[derive(Drop)]
 pub struct TreeHost {
-    store: Store,
+    pub(crate) store: Store,
 }
 
 impl Model for TreeHost {

@@ -3,12 +3,14 @@
 
 mod host;
 mod names;
+mod new_place;
 mod node;
 mod opening;
 mod path;
 mod permission;
 mod slots;
 mod spec;
+mod start;
 mod store;
 
 pub use host::TreeHost;

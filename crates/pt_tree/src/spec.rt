@@ -1,6 +1,8 @@
 ghost use Rattle.std.specs.Prelude.{◌≡◌};
+ghost use Rattle.pt_tree.specs.declared.spec.SpecError.TheVariants.{Memory};
 
 use pt_host::Bytes;
+use std::alloc::AllocError;
 use std::marker::Model;
 
 /// One line of the description of a tree.
@@ -30,6 +32,14 @@ pub enum SpecError {
     /// The first line, from 1, up to which the lines describe no tree. It is 1 where there is none.
     NotATree(u32),
     Memory,
+}
+
+impl From<AllocError> for SpecError {
+    ghost from_gives = { λ _ error. error ≡ Memory };
+
+    fn from(_error: AllocError) -> SpecError {
+        SpecError::Memory
+    }
 }
 
 /// The description of a tree, a list of lines.
