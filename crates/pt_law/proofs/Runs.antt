@@ -8,7 +8,7 @@ use Rattle.pt_law.specs.Discipline.{Job, Moves, Disciplined}
 use Rattle.pt_law.specs.World.{Turn, World, Goes, Runs, TablesRun, steps_of}
 use Rattle.pt_law.specs.Ledger.{inserted, inserted_if}
 use Rattle.pt_law.proofs.Lists.{set_at_same, set_at_other, at_each}
-use Rattle.pt_law.proofs.Steps.{Tabled, Inv, IsHonestStep, recount, keeps, keeps_tabled, honest_step, turned}
+use Rattle.pt_law.proofs.Steps.{Tabled, Inv, HasFlows, recount, keeps, keeps_tabled, has_flows, turned}
 
 pub steps_same : (s : Turn) (ss : List Turn) → steps_of s.job (s ∷ ss) ≡ s.step ∷ steps_of s.job ss
 steps_same s ss = grind arith
@@ -55,7 +55,7 @@ after_step bound js ends s ss mid d mine j l = ⊎_elim same other (cases_eq j s
 
 -- the tables alone
 pub tables_keep : (bound : ℕ) (had : ℕ → ℕ) (turns : List Turn) (t last : Tables) (js ends : ℕ → Job) → TablesRun t turns last → Each (λ s. s.job < bound) turns → Tabled bound had t js → Sorted bound js turns ends →
-    Each (λ s. IsHonestStep s.step.deed s.step.reply) turns × (now : ℕ → Job) × Tabled bound (λ n. had n + inserted n turns) last now × ((j : ℕ) → j < bound → now j ≡ ends j)
+    Each (λ s. HasFlows s.step.deed s.step.reply) turns × (now : ℕ → Job) × Tabled bound (λ n. had n + inserted n turns) last now × ((j : ℕ) → j < bound → now j ≡ ends j)
 tables_keep bound had [] t last js ends r lt v d = (tt, js, rw r (recount bound had (λ n. had n + 0) t js (λ n. omega arith) v), (λ j l. sym (d j l)))
 tables_keep bound had (s ∷ ss) t last js ends r lt v d =
     let mine = rw (steps_same s ss) at (d s.job lt.0) in
@@ -63,7 +63,7 @@ tables_keep bound had (s ∷ ss) t last js ends r lt v d =
     let had' = (λ (n : ℕ). had n + inserted_if n s.step.deed s.step.reply) in
     let rest = tables_keep bound had' ss r.0 last (set_at s.job mine.0 js) ends r.2 lt.1 step (after_step bound js ends s ss mine.0 d mine.2) in
     (
-      (honest_step bound had t js s.job s.step.deed s.step.reply r.0 mine.0 lt.0 v r.1 mine.1, rest.0),
+      (has_flows bound had t js s.job s.step.deed s.step.reply r.0 mine.0 lt.0 v r.1 mine.1, rest.0),
       rest.1,
       recount bound (λ n. had' n + inserted n ss) (λ n. had n + inserted n (s ∷ ss)) last rest.1 (λ n. omega arith) rest.2,
       rest.3,

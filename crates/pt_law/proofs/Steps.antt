@@ -16,7 +16,9 @@ use Rattle.pt_host.specs.declared.reply.HostValue.TheVariants as value
 use Rattle.pt_session.specs.Change.{Change}
 use Rattle.pt_session.specs.Tables.{Row, Tables, Agree}
 use Rattle.pt_session.specs.Happens.{Happens}
+use Rattle.pt_session.specs.declared.event.KeptEvent.TheVariants as change
 use Rattle.pt_session.specs.declared.reply.EventReply.{EventReply}
+use Rattle.pt_session.specs.declared.reply.EventReply.TheVariants as event
 use Rattle.pt_req.specs.Deed.{Deed, Calls, Changes, Step}
 use Rattle.pt_req.specs.Made.{Made}
 use Rattle.pt_req.specs.declared.act.ActReply.{ActReply}
@@ -24,8 +26,8 @@ use Rattle.pt_req.specs.declared.act.ActReply.TheVariants.{Event, Host, NoCopy}
 use Rattle.pt_req.specs.declared.hold.Hold.{Hold}
 use Rattle.pt_law.specs.Discipline.{Job, Moves, MovesIf, MovesBy}
 use Rattle.pt_law.specs.World.{World, Past, Turn, Turns, Goes, IsLawful, settled_if, settled_by}
-use Rattle.pt_law.specs.Ledger.{open_count, kept_fds, held_by, fd_held, row_fd, closing_fd, some_count, inserted_if, inserted_as}
-use Rattle.pt_law.proofs.Flows.{fd_ended, IsHonest}
+use Rattle.pt_law.specs.Ledger.{open_count, kept_fds, held_by, fd_held, row_fd, closing_fd, some_count, slot_taken, slot_given, inserted_if, inserted_as}
+use Rattle.pt_law.proofs.Flows.{fd_ended, slot_in, slot_out, IsHonest, unmade}
 use Rattle.pt_law.proofs.Lists.{total_takes, sum_to_set, is_same, set_at_same, set_at_other, at_each}
 use Rattle.pt_law.proofs.Effects.{agrees}
 use Rattle.pt_law.proofs.Balance.{moved}
@@ -70,23 +72,38 @@ recount bound had had' t js e v = record {
 
 pub keeps_tabled : (bound : ℕ) (had : ℕ → ℕ) (t : Tables) (js : ℕ → Job) (j : ℕ) (deed : Option Deed) (told : ActReply) (t' : Tables) (after : Job) → j < bound → Tabled bound had t js → Turns t deed told t' →
     MovesIf (js j) deed told after → Tabled bound (λ n. had n + inserted_if n deed told) t' (set_at j after js)
-keeps_tabled bound had t js j None told t' after lt v g m = rw (g, set_self js j after m) (recount bound had (λ n. had n + 0) t js (λ n. omega arith) v)
+keeps_tabled bound had t js j None told t' after lt v g m = rw (unmade t told t' g, set_self js j after m) (recount bound had (λ n. had n + 0) t js (λ n. omega arith) v)
 keeps_tabled bound had t js j (Some deed) told t' after lt v g m = record {
   agree = agree_step t (Some deed) told t' g v.agree;
   books = keeps_books bound t js j deed told t' after lt v.agree v.books g m;
   numbers = keeps_numbers bound had t js j deed told t' after lt v.agree v.numbers g m;
 }
 
-abbrev pub IsHonestStep : Option Deed → ActReply → Type 0
-IsHonestStep None told = Unit {0}
-IsHonestStep (Some deed) told = IsHonest deed told
+-- the slots that a step moves are told by its reply
+abbrev pub HasFlows : Option Deed → ActReply → Type 0
+HasFlows None told = slot_taken told ≡ 0
+HasFlows (Some deed) told = (slot_in deed told ≡ slot_given deed told) × (slot_out deed told ≡ slot_taken told)
 
-pub honest_step : (bound : ℕ) (had : ℕ → ℕ) (t : Tables) (js : ℕ → Job) (j : ℕ) (deed : Option Deed) (told : ActReply) (t' : Tables) (after : Job) → j < bound → Tabled bound had t js → Turns t deed told t' →
-    MovesIf (js j) deed told after → IsHonestStep deed told
-honest_step bound had t js j None told t' after lt v g m = tt
-honest_step bound had t js j (Some (Calls a)) told t' after lt v g m = tt
-honest_step bound had t js j (Some (Changes e)) (Event r) t' after lt v g m = honest bound t js j e r t' after lt v.books g m
-honest_step bound had t js j (Some (Changes e)) told t' after lt v g m = absurd g
+event_flows : (t : Tables) (e : Change) (r : EventReply) (t' : Tables) → Happens t e r t' → IsHonest (Changes e) (Event r) → HasFlows (Some (Changes e)) (Event r)
+event_flows t change.TakeFd event.Taken t' h a = (refl, refl)
+event_flows t change.GiveFd event.Given t' h a = (refl, refl)
+event_flows t change.GiveFd (event.Refused why) t' h a = absurd a
+event_flows t (change.Insert era number form ids mode) (event.Inserted given) t' h a = (refl, refl)
+event_flows t (change.InsertRoot era form ids mode negotiated) (event.Inserted given) t' h a = (refl, refl)
+event_flows t change.TakeClosing (event.Closing fd slot) t' h a = (refl, refl)
+event_flows t change.GiveFd _ t' h a = absurd h
+event_flows t _ event.Taken t' h a = absurd h
+event_flows t _ event.Given t' h a = absurd h
+event_flows t _ (event.Closing fd slot) t' h a = absurd h
+event_flows t _ _ t' h a = (refl, refl)
+
+pub has_flows : (bound : ℕ) (had : ℕ → ℕ) (t : Tables) (js : ℕ → Job) (j : ℕ) (deed : Option Deed) (told : ActReply) (t' : Tables) (after : Job) → j < bound → Tabled bound had t js → Turns t deed told t' →
+    MovesIf (js j) deed told after → HasFlows deed told
+has_flows bound had t js j (Some (Changes e)) (Event r) t' after lt v g m = event_flows t e r t' g (honest bound t js j e r t' after lt v.books g m)
+has_flows bound had t js j (Some (Calls a)) (Host r) t' after lt v g m = (refl, refl)
+has_flows bound had t js j (Some (Calls a)) NoCopy t' after lt v g m = (refl, refl)
+has_flows bound had t js j None NoCopy t' after lt v g m = refl
+has_flows bound had t js j _ _ t' after lt v g m = absurd g
 
 -- what a made step does to the tables
 pub turned : (tree tree' : Tree) (seat seat' : HostSeat) (t t' : Tables) (deed : Option Deed) (told : ActReply) → Made IsLawful deed told tree seat t tree' seat' t' → Turns t deed told t'
