@@ -29,7 +29,7 @@ use Rattle.pt_law.proofs.Numbers.{drawn_by}
 use Rattle.pt_law.proofs.Givings.{count_in, live_count, in_live, only_taken, agree_step, counts_run}
 use Rattle.pt_law.proofs.Knowing.{Shows, RowOpen, Knowing, one_ids}
 use Rattle.pt_law.proofs.Steps.{Tabled, Inv, HasFlows, recount}
-use Rattle.pt_law.proofs.Runs.{steps_same, steps_append, disciplined_split, choose, tables_keep, runs_keep, tables_run}
+use Rattle.pt_law.proofs.Interleaving.{steps_same, steps_append, disciplined_split, choose, tables_keep, runs_keep, tables_run}
 
 -- before the first step
 pub held_nobody : (bound : ℕ) (w : Hold → ℕ) (js : ℕ → Job) → ((j : ℕ) → j < bound → total w (js j).holds ≡ 0) → held_by bound w js ≡ 0

@@ -10,5 +10,5 @@ pub mod Knowing
 pub mod Events
 pub mod Calls
 pub mod Steps
-pub mod Runs
+pub mod Interleaving
 pub mod Laws
