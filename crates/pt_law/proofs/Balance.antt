@@ -1,9 +1,9 @@
 -- What each event moves in and out of the tables.
-use Rattle.std.proofs.Common.{◌≡◌, ◌≢◌, ◌⊎◌, ⊎_elim, inl, inr, ℕ, zero, suc, ◌+◌, ◌-◌, ◌*◌, ◌<◌, ◌≤◌, List, [], ◌∷◌, ◌++◌, length, Bool, true, false, refl, sym, ap, subst, ◌∙◌, arith, Option, Some, None, length-append}
-use Rattle.pt_host.specs.Words.{is, total, Takes, Replaces}
+use Rattle.std.proofs.Common.{◌≡◌, inl, inr, ℕ, suc, ◌+◌, ◌*◌, List, [], ◌∷◌, length, refl, ap, ◌∙◌, arith, Option, Some, None, length-append}
+use Rattle.pt_host.specs.Words.{is, total}
 use Rattle.pt_session.specs.Change.{Change}
-use Rattle.pt_session.specs.Tables.{Row, Closing, Tables, closing_of}
-use Rattle.pt_session.specs.Happens.{Happens, Changes, Ends, Dies, ForgetsOne, ForgetsAll, Unpins, GivesAgain, new_row, with_row, agreed}
+use Rattle.pt_session.specs.Tables.{Row, Tables, closing_of}
+use Rattle.pt_session.specs.Happens.{Happens, Changes, Ends, Dies, ForgetsOne, ForgetsAll, Unpins, new_row, with_row, agreed}
 use Rattle.pt_session.specs.declared.form.RowForm.{RowForm}
 use Rattle.pt_session.specs.declared.form.RowForm.TheVariants.{File}
 use Rattle.pt_session.specs.declared.form.Negotiated.{Negotiated}
@@ -17,7 +17,7 @@ use Rattle.pt_req.specs.declared.act.ActReply.{ActReply}
 use Rattle.pt_req.specs.declared.act.ActReply.TheVariants.{Event}
 use Rattle.pt_law.specs.Ledger.{row_slot, closing_slot, form_slot, kept_slots, row_fd, closing_fd, kept_fds}
 use Rattle.pt_law.proofs.Flows.{fd_in, fd_out, slot_in, slot_out, pin_made, pin_ended, closing_ended, row_pins, IsHonest}
-use Rattle.pt_law.proofs.Lists.{total_takes, total_replaces, total_push, length_takes, length_replaces}
+use Rattle.pt_law.proofs.Lists.{total_takes, total_replaces, total_push}
 
 pub closing_slot_of : (row : Row) → closing_slot (closing_of row) ≡ row_slot row
 closing_slot_of row = go row.form

@@ -1,21 +1,20 @@
 -- Each step keeps slots, pins and closings in balance.
-use Rattle.std.proofs.Common.{◌≡◌, ◌≢◌, ◌⊎◌, ⊎_elim, inl, inr, ℕ, zero, suc, ◌+◌, ◌-◌, ◌*◌, ◌<◌, ◌≤◌, List, [], ◌∷◌, ◌++◌, length, Bool, true, false, refl, sym, ap, subst, ◌∙◌, arith, Option, Some, None}
+use Rattle.std.proofs.Common.{◌≡◌, ◌≢◌, ⊎_elim, ℕ, ◌+◌, ◌*◌, ◌<◌, ◌≤◌, List, [], ◌∷◌, length, refl, ap, arith, Some}
 use Rattle.std.proofs.lemmas.Bool.{cases_eq}
-use Rattle.pt_host.specs.Words.{is, total, Each, Takes, set_at, sum_to}
-use Rattle.pt_host.specs.declared.op.KeptHostOp.TheVariants as call
+use Rattle.pt_host.specs.Words.{is, total, Each, set_at, sum_to}
 use Rattle.pt_session.specs.Change.{Change}
 use Rattle.pt_session.specs.Tables.{Row, Tables, Agree}
 use Rattle.pt_session.specs.Happens.{Happens}
 use Rattle.pt_session.specs.declared.event.KeptEvent.TheVariants as change
-use Rattle.pt_session.specs.declared.reply.EventRefusal.TheVariants.{NotLive, Overtaken, NoSlot, Last, Live, Memory}
+use Rattle.pt_session.specs.declared.reply.EventRefusal.TheVariants.{NotLive}
 use Rattle.pt_session.specs.declared.reply.EventReply.{EventReply}
 use Rattle.pt_session.specs.declared.reply.EventReply.TheVariants as event
 use Rattle.pt_req.specs.Deed.{Deed, Calls, Changes}
 use Rattle.pt_req.specs.Held.{closings_in}
 use Rattle.pt_req.specs.declared.act.ActReply.{ActReply}
-use Rattle.pt_req.specs.declared.act.ActReply.TheVariants.{Event, Host, NoCopy}
+use Rattle.pt_req.specs.declared.act.ActReply.TheVariants.{Event}
 use Rattle.pt_req.specs.declared.hold.Hold.{Hold}
-use Rattle.pt_law.specs.Discipline.{Job, MovesBy, owed_after}
+use Rattle.pt_law.specs.Discipline.{Job, MovesBy}
 use Rattle.pt_law.specs.World.{Turns}
 use Rattle.pt_law.specs.Ledger.{held_by, kept_slots}
 use Rattle.pt_law.proofs.Flows.{slot_held, pin_held, row_pins, closing_ended, IsHonest, called}
@@ -39,6 +38,7 @@ unpinned serial (r ∷ rs) h = let k = unpinned serial rs h.1 in let a : row_pin
   where
     same : r.serial ≡ serial → row_pins serial r ≡ 0
     same e = ⊎_elim (λ (z : r.pins ≡ 0). let y = ap (λ p. is r.serial serial * p) z in omega (arith, y)) (λ (z : r.pins ≢ 0). absurd (h.0 (e, z))) (cases_eq r.pins 0)
+
     other : r.serial ≢ serial → row_pins serial r ≡ 0
     other e = let y = ap (λ i. i * r.pins) (is_apart r.serial serial e) in omega (arith, y)
 

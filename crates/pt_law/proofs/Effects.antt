@@ -1,10 +1,10 @@
 -- What an event does to the tables, its reply aside. What each kind of effect keeps, each event keeps.
-use Rattle.std.proofs.Common.{◌≡◌, ◌≢◌, ◌⊎◌, ⊎_elim, inl, inr, ℕ, zero, suc, ◌+◌, ◌-◌, ◌<◌, ◌≤◌, List, [], ◌∷◌, ◌++◌, Bool, true, false, refl, sym, ap, subst, ◌∙◌, arith, Option, Some, None}
-use Rattle.pt_host.specs.Words.{Each, EachTwo, Takes, Replaces}
+use Rattle.std.proofs.Common.{◌≡◌, ◌≢◌, ⊎_elim, inl, inr, ℕ, ◌+◌, ◌-◌, ◌≤◌, List, [], ◌∷◌, ◌++◌, true, false, refl, sym, ◌∙◌, arith, Option, Some, None}
+use Rattle.pt_host.specs.Words.{Each, Takes, Replaces}
 use Rattle.pt_host.specs.declared.ids.ObjIds.{ObjIds}
 use Rattle.pt_session.specs.Change.{Change}
 use Rattle.pt_session.specs.Tables.{Row, Closing, Tables, closing_of, HasNumber, HasIds, AreApart, IsSoundRow, Agree}
-use Rattle.pt_session.specs.Happens.{Happens, Changes, Ends, Dies, ForgetsOne, ForgetsAll, Unpins, GivesAgain, IsFree, NoRow, new_row, with_row, agreed}
+use Rattle.pt_session.specs.Happens.{Happens, Changes, Ends, Dies, ForgetsOne, ForgetsAll, Unpins, GivesAgain, IsFree, new_row, with_row, agreed}
 use Rattle.pt_session.specs.declared.form.RowForm.{RowForm}
 use Rattle.pt_session.specs.declared.form.Negotiated.{Negotiated}
 use Rattle.pt_session.specs.declared.event.KeptEvent.TheVariants as change
@@ -85,16 +85,16 @@ pub agree_changes : (t : Tables) {row later : Row} {rows : List Row} → Agree t
 agree_changes t a c l = record {
   sound = each_replaces (IsSoundRow t.next_row) c l.sound a.sound;
   apart = two_replaces AreApart c
-    (λ z h. record {
-      serials = λ e. h.serials (sym l.serial ∙ e);
-      numbers = λ x y e. h.numbers (l.live x) y (sym l.number ∙ e);
-      objects = λ x y e. h.objects (l.live x) y (sym l.ids ∙ e);
-    })
-    (λ z h. record {
-      serials = λ e. h.serials (e ∙ l.serial);
-      numbers = λ x y e. h.numbers x (l.live y) (e ∙ l.number);
-      objects = λ x y e. h.objects x (l.live y) (e ∙ l.ids);
-    }) a.apart;
+      (λ z h. record {
+        serials = λ e. h.serials (sym l.serial ∙ e);
+        numbers = λ x y e. h.numbers (l.live x) y (sym l.number ∙ e);
+        objects = λ x y e. h.objects (l.live x) y (sym l.ids ∙ e);
+      })
+      (λ z h. record {
+        serials = λ e. h.serials (e ∙ l.serial);
+        numbers = λ x y e. h.numbers x (l.live y) (e ∙ l.number);
+        objects = λ x y e. h.objects x (l.live y) (e ∙ l.ids);
+      }) a.apart;
   slots = a.slots;
 }
 
@@ -212,8 +212,7 @@ stays_kept (ended row rows c e) = rw e (record { era = refl; limit = refl; numbe
 stays_kept (shut closing e) = rw e (record { era = refl; limit = refl; numbers = omega arith; rows = omega arith }, refl)
 stays_kept (both k l) =
     let a = stays_kept k in
-    let b = stays_kept l in
-    (
+    let b = stays_kept l in (
       record {
         era = b.0.era ∙ a.0.era;
         limit = b.0.limit ∙ a.0.limit;

@@ -1,6 +1,6 @@
 -- What each deed moves between tables, jobs and host, by its reply.
-use Rattle.std.proofs.Common.{◌≡◌, ℕ, ◌+◌, ◌*◌, List, Option, Some, None, refl}
-use Rattle.pt_host.specs.Words.{is, total}
+use Rattle.std.proofs.Common.{◌≡◌, ℕ, ◌*◌, Some, None}
+use Rattle.pt_host.specs.Words.{is}
 use Rattle.pt_host.specs.Call.{Call}
 use Rattle.pt_host.specs.declared.op.KeptHostOp.TheVariants as call
 use Rattle.pt_host.specs.declared.reply.HostReply.TheVariants as host
@@ -8,14 +8,14 @@ use Rattle.pt_host.specs.declared.reply.HostValue.TheVariants as value
 use Rattle.pt_session.specs.Tables.{Row, Tables}
 use Rattle.pt_session.specs.declared.event.KeptEvent.TheVariants as change
 use Rattle.pt_session.specs.declared.reply.EventReply.TheVariants as event
-use Rattle.pt_req.specs.Deed.{Deed, Calls, Changes, Step}
-use Rattle.pt_req.specs.Held.{fd_of, closings_in}
+use Rattle.pt_req.specs.Deed.{Deed, Calls, Changes}
+use Rattle.pt_req.specs.Held.{fd_of}
 use Rattle.pt_req.specs.declared.act.ActReply.{ActReply}
 use Rattle.pt_req.specs.declared.act.ActReply.TheVariants.{Event, Host, NoCopy}
 use Rattle.pt_req.specs.declared.hold.Hold.{Hold}
 use Rattle.pt_req.specs.declared.hold.Hold.TheVariants as hold
 use Rattle.pt_law.specs.World.{Turns}
-use Rattle.pt_law.specs.Ledger.{one_if, form_slot, slot_taken, slot_given}
+use Rattle.pt_law.specs.Ledger.{one_if, form_slot}
 
 -- descriptors: from a job to the tables, from the tables to a job, opened, closed
 

@@ -1,11 +1,10 @@
 -- A number's count is what was given less what was taken.
-use Rattle.std.proofs.Common.{◌≡◌, ◌≢◌, ◌⊎◌, ⊎_elim, inl, inr, ℕ, zero, suc, ◌+◌, ◌-◌, ◌*◌, ◌<◌, ◌≤◌, List, [], ◌∷◌, ◌++◌, length, Bool, true, false, cond, refl, sym, ap, subst, ◌∙◌, arith, Option, Some, None}
+use Rattle.std.proofs.Common.{◌≡◌, ◌≢◌, ⊎_elim, inl, inr, ℕ, ◌+◌, ◌-◌, ◌*◌, ◌<◌, ◌≤◌, List, [], ◌∷◌, true, false, cond, refl, sym, ap, subst, ◌∙◌, arith, Option, Some, None}
 use Rattle.std.proofs.lemmas.Bool.{cases_eq, cases_Bool}
 use Rattle.pt_host.specs.Words.{is, total, Each, EachTwo, Takes, Takes.{here, there}, Replaces, Replaces.{at, past}}
 use Rattle.pt_session.specs.Change.{Change}
-use Rattle.pt_session.specs.Tables.{Row, Tables, HasNumber, AreApart, IsSoundRow, Agree}
-use Rattle.pt_session.specs.Happens.{Happens, Changes, Dies, ForgetsOne, ForgetsAll, Unpins, GivesAgain, NoRow, IsRow, new_row, with_row, agreed}
-use Rattle.pt_session.specs.declared.form.RowForm.{RowForm}
+use Rattle.pt_session.specs.Tables.{Row, Tables, HasNumber, AreApart, Agree}
+use Rattle.pt_session.specs.Happens.{Happens, Changes, Dies, ForgetsOne, ForgetsAll, Unpins, NoRow, new_row, with_row, agreed}
 use Rattle.pt_session.specs.declared.form.Negotiated.{Negotiated}
 use Rattle.pt_session.specs.declared.event.KeptEvent.TheVariants as change
 use Rattle.pt_session.specs.declared.reply.EventRefusal.TheVariants.{NotLive, Overtaken, NoSlot, Last, Live, Memory}
@@ -95,25 +94,26 @@ same_is m n e = subst (λ i. is m i ≡ 1) e (is_same m)
 falls : (n m k : ℕ) (t : Tables) (r : Row) (after : Tables) → HasNumber m r → k < r.count → Changes t r (record r { count = r.count - k }) after → live_count n after ≡ live_count n t - is m n * k
 falls n m k t r after h l c = rw c.2 (⊎_elim
     (λ (e : m ≡ n).
-        let a = total_replaces (count_in n) c.1 in
-        let b = in_live n r h.0 in
-        let d = in_live n (record r { count = r.count - k }) h.0 in
-        let f = one r.count e in
-        let g = one (r.count - k) e in
-        let i = ap (λ i. i * k) (same_is m n e) in
-        omega (arith, a, b, d, f, g, i))
+    let a = total_replaces (count_in n) c.1 in
+    let b = in_live n r h.0 in
+    let d = in_live n (record r { count = r.count - k }) h.0 in
+    let f = one r.count e in
+    let g = one (r.count - k) e in
+    let i = ap (λ i. i * k) (same_is m n e) in
+    omega (arith, a, b, d, f, g, i))
     (λ (e : m ≢ n).
-        let a = total_replaces (count_in n) c.1 in
-        let b = in_live n r h.0 in
-        let d = in_live n (record r { count = r.count - k }) h.0 in
-        let f = none r.count e in
-        let g = none (r.count - k) e in
-        let i = ap (λ i. i * k) (is_apart m n e) in
-        omega (arith, a, b, d, f, g, i))
+    let a = total_replaces (count_in n) c.1 in
+    let b = in_live n r h.0 in
+    let d = in_live n (record r { count = r.count - k }) h.0 in
+    let f = none r.count e in
+    let g = none (r.count - k) e in
+    let i = ap (λ i. i * k) (is_apart m n e) in
+    omega (arith, a, b, d, f, g, i))
     (cases_eq m n))
   where
     one : (x : ℕ) → m ≡ n → is r.number n * x ≡ x
     one x e = let a : is r.number n ≡ 1 = numbered n m r h.1 ∙ same_is m n e in let b = ap (λ i. i * x) a in omega (arith, b)
+
     none : (x : ℕ) → m ≢ n → is r.number n * x ≡ 0
     none x e = let a : is r.number n ≡ 0 = numbered n m r h.1 ∙ is_apart m n e in let b = ap (λ i. i * x) a in omega (arith, b)
 
@@ -121,16 +121,16 @@ falls n m k t r after h l c = rw c.2 (⊎_elim
 goes : (n m k : ℕ) (t : Tables) (r : Row) (left : ℕ) → HasNumber m r → r.count ≤ k → live_count n t ≡ count_in n r + left → (m ≡ n → left ≡ 0) → left ≡ live_count n t - is m n * k
 goes n m k t r left h l e z = ⊎_elim
     (λ (q : m ≡ n).
-        let a = z q in
-        let b = in_live n r h.0 in
-        let c = ap (λ i. i * r.count) (numbered n m r h.1 ∙ same_is m n q) in
-        let d = ap (λ i. i * k) (same_is m n q) in
-        omega (arith, e, a, b, c, d, l))
+    let a = z q in
+    let b = in_live n r h.0 in
+    let c = ap (λ i. i * r.count) (numbered n m r h.1 ∙ same_is m n q) in
+    let d = ap (λ i. i * k) (same_is m n q) in
+    omega (arith, e, a, b, c, d, l))
     (λ (q : m ≢ n).
-        let b = in_live n r h.0 in
-        let c = ap (λ i. i * r.count) (numbered n m r h.1 ∙ is_apart m n q) in
-        let d = ap (λ i. i * k) (is_apart m n q) in
-        omega (arith, e, b, c, d))
+    let b = in_live n r h.0 in
+    let c = ap (λ i. i * r.count) (numbered n m r h.1 ∙ is_apart m n q) in
+    let d = ap (λ i. i * k) (is_apart m n q) in
+    omega (arith, e, b, c, d))
     (cases_eq m n)
 
 dies : (n m k : ℕ) (t : Tables) (r : Row) (c : ℕ) (after : Tables) → Agree t → HasNumber m r → r.count ≤ k → Dies t r c after → live_count n after ≡ live_count n t - is m n * k
@@ -138,7 +138,7 @@ dies n m k t r c after a h l (inl d) = let e = d.2 in
     rw e.2 (goes n m k t r (total (count_in n) e.0) h l (total_takes (count_in n) e.1) (λ q. subst (λ i. total (count_in i) e.0 ≡ 0) q (only_taken m e.1 h a.apart)))
 dies n m k t r c after a h l (inr d) = let e = d.2 in
     rw e.2 (goes n m k t r (total (count_in n) e.0) h l (let x = total_replaces (count_in n) e.1 in omega (arith, x))
-        (λ q. subst (λ i. total (count_in i) e.0 ≡ 0) q (let x = only m e.1 h a.apart in let y = total_replaces (count_in m) e.1 in omega (arith, x, y))))
+    (λ q. subst (λ i. total (count_in i) e.0 ≡ 0) q (let x = only m e.1 h a.apart in let y = total_replaces (count_in m) e.1 in omega (arith, x, y))))
 
 counts_one : (n m k : ℕ) (t : Tables) (c : ℕ) (after : Tables) → Agree t → ForgetsOne t m k c after → live_count n after ≡ live_count n t - is m n * k
 counts_one n m k t c after a (inl h) = ap (live_count n) h.2 ∙ nothing n m t k h.0

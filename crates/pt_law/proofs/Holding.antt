@@ -1,11 +1,11 @@
 -- What each deed moves in a job's holds and in the host.
-use Rattle.std.proofs.Common.{◌≡◌, ◌≢◌, ◌⊎◌, ⊎_elim, inl, inr, ℕ, zero, suc, ◌+◌, ◌-◌, ◌*◌, ◌<◌, ◌≤◌, List, [], ◌∷◌, ◌++◌, length, Bool, true, false, refl, sym, ap, subst, ◌∙◌, arith, Option, Some, None}
+use Rattle.std.proofs.Common.{◌≡◌, ◌≢◌, ⊎_elim, ℕ, ◌+◌, ◌*◌, ◌<◌, List, ◌++◌, Bool, true, false, refl, sym, ap, subst, arith, Option, Some, None}
 use Rattle.std.proofs.lemmas.Bool.{cases_eq}
-use Rattle.pt_host.specs.Words.{is, total, Takes, Replaces, set_at}
+use Rattle.pt_host.specs.Words.{is, total, Takes, set_at}
 use Rattle.pt_host.specs.Call.{Call}
 use Rattle.pt_host.specs.Flags.{includes, o_path}
 use Rattle.pt_host.specs.Tree.{Tree, Opened}
-use Rattle.pt_host.specs.LawfulStep.{Changes as TreeChanges, Opens, opened_on, closed_at}
+use Rattle.pt_host.specs.LawfulStep.{Changes as TreeChanges, Opens, closed_at}
 use Rattle.pt_host.specs.declared.ids.Fd.{Fd}
 use Rattle.pt_host.specs.declared.flags.OpenFlags.{OpenFlags}
 use Rattle.pt_host.specs.declared.op.KeptHostOp.TheVariants as call
@@ -17,13 +17,12 @@ use Rattle.pt_session.specs.declared.form.RowForm.TheVariants.{File}
 use Rattle.pt_session.specs.declared.event.KeptEvent.TheVariants as change
 use Rattle.pt_session.specs.declared.reply.EventReply.TheVariants as event
 use Rattle.pt_req.specs.Deed.{Deed, Calls, Changes}
-use Rattle.pt_req.specs.Held.{fd_of, taken_in, brought}
+use Rattle.pt_req.specs.Held.{taken_in, brought}
 use Rattle.pt_req.specs.declared.act.ActReply.{ActReply}
-use Rattle.pt_req.specs.declared.act.ActReply.TheVariants.{Event, Host, NoCopy}
+use Rattle.pt_req.specs.declared.act.ActReply.TheVariants.{Event, Host}
 use Rattle.pt_req.specs.declared.hold.Hold.{Hold}
-use Rattle.pt_req.specs.declared.hold.Hold.TheVariants as hold
 use Rattle.pt_law.specs.Discipline.{Shifts}
-use Rattle.pt_law.specs.Ledger.{one_if, form_slot, fd_held, open_count, some_count}
+use Rattle.pt_law.specs.Ledger.{form_slot, fd_held, open_count, some_count}
 use Rattle.pt_law.proofs.Flows.{fd_in, fd_out, fd_made, fd_ended, slot_in, slot_out, pin_made, pin_ended, pin_held, slot_held}
 use Rattle.pt_law.proofs.Lists.{total_takes, total_replaces, is_same, is_apart, set_at_same, set_at_other}
 
@@ -120,6 +119,7 @@ sets opened f x fd = ⊎_elim same other (cases_eq f fd)
     same : f ≡ fd → some_count (set_at f x opened fd) + is f fd * some_count (opened f) ≡ some_count (opened fd) + is f fd * some_count x
     same e = subst (λ g. some_count (set_at f x opened g) + is f g * some_count (opened f) ≡ some_count (opened g) + is f g * some_count x) e
         (omega (arith, ap some_count (set_at_same opened f x), ap (λ i. i * some_count (opened f)) (is_same f), ap (λ i. i * some_count x) (is_same f)))
+
     other : f ≢ fd → some_count (set_at f x opened fd) + is f fd * some_count (opened f) ≡ some_count (opened fd) + is f fd * some_count x
     other e = omega (arith, ap some_count (set_at_other opened f x fd (λ k. e (sym k))), ap (λ i. i * some_count (opened f)) (is_apart f fd e), ap (λ i. i * some_count x) (is_apart f fd e))
 

@@ -1,18 +1,18 @@
 -- What is open on what: of the rows, and of what each job holds.
-use Rattle.std.proofs.Common.{◌≡◌, ◌≢◌, ◌⊎◌, ⊎_elim, inl, inr, ℕ, zero, suc, ◌+◌, ◌-◌, ◌*◌, ◌<◌, ◌≤◌, List, [], ◌∷◌, ◌++◌, length, Bool, true, false, refl, sym, ap, subst, ◌∙◌, arith, Option, Some, None}
+use Rattle.std.proofs.Common.{◌≡◌, ◌≢◌, ⊎_elim, ℕ, ◌<◌, ◌≤◌, List, true, false, refl, sym, ap, ◌∙◌, arith, Option, Some, None}
 use Rattle.std.proofs.lemmas.Bool.{cases_eq}
-use Rattle.pt_host.specs.Words.{is, total, Each, Takes, Replaces, set_at}
+use Rattle.pt_host.specs.Words.{is, total, Each, set_at}
 use Rattle.pt_host.specs.Tree.{Tree, Object, Opened, IsObject, IsOpenOn}
 use Rattle.pt_host.specs.declared.ids.Fd.{Fd}
 use Rattle.pt_host.specs.declared.ids.ObjIds.{ObjIds}
-use Rattle.pt_session.specs.Tables.{Row, Tables}
+use Rattle.pt_session.specs.Tables.{Row}
 use Rattle.pt_req.specs.Held.{fd_of}
 use Rattle.pt_req.specs.declared.hold.Hold.{Hold}
 use Rattle.pt_req.specs.declared.hold.Hold.TheVariants as hold
-use Rattle.pt_law.specs.Discipline.{Job, Notes, unless}
+use Rattle.pt_law.specs.Discipline.{Job, unless}
 use Rattle.pt_law.specs.World.{Past}
 use Rattle.pt_law.specs.Ledger.{fd_held, row_fd}
-use Rattle.pt_law.proofs.Lists.{total_takes, none_weighs, is_none, is_apart, is_same, set_at_same, set_at_other, each_takes, each_taken, each_map, each_put, each_both}
+use Rattle.pt_law.proofs.Lists.{none_weighs, is_none, set_at_other, each_map, each_both}
 use Rattle.pt_law.proofs.Effects.{Later}
 
 -- the descriptor is open on this object, which has these ids
@@ -143,8 +143,10 @@ unless_apart f (Some n) fd e = ⊎_elim
     number : ℕ → Option Fd → ℕ
     number k None = k
     number k (Some z) = z.0
+
     gone : (f n : Fd) → n.0 ≡ f.0 → unless f (Some n) ≡ None
     gone f n q = grind arith
+
     left : (f n : Fd) → n.0 ≢ f.0 → unless f (Some n) ≡ Some n
     left f n q = grind arith
 

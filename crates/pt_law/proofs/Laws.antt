@@ -1,12 +1,10 @@
 -- What holds of every run whose jobs keep the discipline.
-use Rattle.std.proofs.Common.{◌≡◌, ◌≢◌, ◌⊎◌, ⊎_elim, inl, inr, ℕ, zero, suc, ◌+◌, ◌-◌, ◌*◌, ◌<◌, ◌≤◌, List, [], ◌∷◌, ◌++◌, length, Bool, true, false, cond, eqb, refl, sym, ap, subst, ◌∙◌, arith, Option, Some, None}
+use Rattle.std.proofs.Common.{◌≡◌, ◌≢◌, ⊎_elim, ℕ, ◌+◌, ◌*◌, ◌<◌, ◌≤◌, List, [], ◌∷◌, ◌++◌, length, Bool, true, false, cond, eqb, refl, sym, ap, subst, ◌∙◌, arith, Option, Some, None}
 use Rattle.std.proofs.lemmas.Bool.{cases_eq, cases_Bool}
-use Rattle.pt_host.specs.Words.{is, total, Each, EachTwo, Takes, Takes.{here, there}, sum_to}
-use Rattle.pt_host.specs.Tree.{Tree, Opened, IsOpenOn, IsWellFormed}
-use Rattle.pt_host.specs.declared.ids.Fd.{Fd}
-use Rattle.pt_host.specs.declared.ids.ObjIds.{ObjIds}
-use Rattle.pt_session.specs.Tables.{Row, Closing, Tables, Agree, AreApart, IsSoundRow, HasNumber, empty_tables}
-use Rattle.pt_session.specs.Happens.{IsRow, NoRow}
+use Rattle.pt_host.specs.Words.{is, total, Each, Takes, Takes.{here, there}, sum_to}
+use Rattle.pt_host.specs.Tree.{Tree, IsWellFormed}
+use Rattle.pt_session.specs.Tables.{Row, Tables, Agree, AreApart, IsSoundRow, HasNumber, empty_tables}
+use Rattle.pt_session.specs.Happens.{IsRow}
 use Rattle.pt_req.specs.Deed.{Deed, Calls, Changes, Step}
 use Rattle.pt_req.specs.Held.{fd_of}
 use Rattle.pt_req.specs.declared.finish.Finish.{Finish}
@@ -14,22 +12,20 @@ use Rattle.pt_req.specs.declared.finish.Finish.TheVariants as finish
 use Rattle.pt_iface.specs.declared.answer.Answer.TheVariants as answer
 use Rattle.pt_req.specs.declared.hold.Hold.{Hold}
 use Rattle.pt_req.specs.declared.hold.Hold.TheVariants as hold
-use Rattle.pt_law.specs.Discipline.{Job, Notes, idle, at_job, Moves, Disciplined, Ends, entry_holds}
-use Rattle.pt_law.specs.World.{World, Past, Turn, Turns, Runs, TablesRun, steps_of, no_past}
-use Rattle.pt_law.specs.Ledger.{kept_slots, row_slot, closing_slot, slot_taken, slot_given_by, carried, kept_fds, row_fd, closing_fd, fd_held, held_by, open_count, some_count, given, inserted}
-use Rattle.pt_law.specs.Laws.{AreDisciplined, AreEnded, Starts, IsLive, AreDistinct, HasObject, IsCounted, SlotsAddUp, AreKept, IsAtRest, LeavesRows}
+use Rattle.pt_law.specs.Discipline.{Job, idle, at_job, Moves, Disciplined, entry_holds}
+use Rattle.pt_law.specs.World.{World, Turn, Turns, Runs, TablesRun, steps_of, no_past}
+use Rattle.pt_law.specs.Ledger.{closing_slot, slot_taken, slot_given_by, carried, closing_fd, fd_held, held_by, open_count, given, inserted}
+use Rattle.pt_law.specs.Laws.{AreDisciplined, AreEnded, Starts, AreDistinct, HasObject, IsCounted, SlotsAddUp, AreKept, IsAtRest, LeavesRows}
 use Rattle.pt_req.specs.declared.act.ActReply.{ActReply}
 use Rattle.pt_req.specs.declared.act.ActReply.TheVariants.{Event}
 use Rattle.pt_law.proofs.Flows.{slot_held, pin_held, row_pins, called, unmade}
 use Rattle.pt_law.proofs.Lists.{total_takes, each_front, each_taken, each_both, sum_to_same, sum_to_zero, two_of, is_same, is_apart}
 use Rattle.pt_law.proofs.Effects.{Stays, stays}
-use Rattle.pt_law.proofs.Holding.{Handed, handed}
-use Rattle.pt_law.proofs.Counting.{Books}
-use Rattle.pt_law.proofs.Numbers.{drawn_by}
+use Rattle.pt_law.proofs.Holding.{handed}
 use Rattle.pt_law.proofs.Givings.{count_in, live_count, in_live, only_taken, agree_step, counts_run}
-use Rattle.pt_law.proofs.Knowing.{Shows, RowOpen, Knowing, one_ids}
+use Rattle.pt_law.proofs.Knowing.{Shows, RowOpen, one_ids}
 use Rattle.pt_law.proofs.Steps.{Tabled, Inv, HasFlows, recount}
-use Rattle.pt_law.proofs.Interleaving.{steps_same, steps_append, disciplined_split, choose, tables_keep, runs_keep, tables_run}
+use Rattle.pt_law.proofs.Interleaving.{steps_append, disciplined_split, choose, tables_keep, runs_keep}
 
 -- before the first step
 pub held_nobody : (bound : ℕ) (w : Hold → ℕ) (js : ℕ → Job) → ((j : ℕ) → j < bound → total w (js j).holds ≡ 0) → held_by bound w js ≡ 0
@@ -171,9 +167,9 @@ found n (row ∷ rows) h = ⊎_elim
     here_is : count_in n row ≢ 0 → HasNumber n row
     here_is z = ⊎_elim
         (λ (l : row.live ≡ true). ⊎_elim
-            (λ (e : row.number ≡ n). (l, e))
-            (λ (e : row.number ≢ n). absurd (z (let a = in_live n row l in let b = ap (λ i. i * row.count) (is_apart row.number n e) in omega (arith, a, b))))
-            (cases_eq row.number n))
+        (λ (e : row.number ≡ n). (l, e))
+        (λ (e : row.number ≢ n). absurd (z (let a = in_live n row l in let b = ap (λ i. i * row.count) (is_apart row.number n e) in omega (arith, a, b))))
+        (cases_eq row.number n))
         (λ (l : row.live ≡ false). absurd (z (ap (λ b. cond b (is row.number n * row.count) 0) l)))
         (cases_Bool row.live)
 
@@ -217,8 +213,7 @@ pub distinct_law : (limit bound : ℕ) (turns more : List Turn) (start now : Wor
 distinct_law limit bound turns more start now s a r n m x y ne =
     let v = reach limit bound turns more start now s a r in
     let p = shown bound _ _ now v.0 x.0 v.1 x.1 in
-    let q = shown bound _ _ now v.0 y.0 v.1 y.1 in
-    (
+    let q = shown bound _ _ now v.0 y.0 v.1 y.1 in (
       p.object,
       q.object,
       ap now.past.numbers (sym x.2.1) ∙ p.numbered x.2.0,

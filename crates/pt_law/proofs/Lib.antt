@@ -1,4 +1,14 @@
 pub mod Lists
+pub mod Sound
+pub mod Moving
+pub mod Sounds
+pub mod Ending
+pub mod Cutting
+pub mod Branches
+pub mod Parts
+pub mod Requests
+pub mod Opened
+pub mod Settled
 pub mod Effects
 pub mod Flows
 pub mod Balance

@@ -1,5 +1,5 @@
 -- Counts and lists.
-use Rattle.std.proofs.Common.{⊎_elim, inl, inr, ◌≡◌, ◌≢◌, ◌⊎◌, ℕ, zero, suc, ◌+◌, ◌<◌, ◌≤◌, List, [], ◌∷◌, ◌++◌, Bool, true, false, cond, eqb, length, refl, sym, ap, subst, ◌∙◌, arith}
+use Rattle.std.proofs.Common.{⊎_elim, inl, inr, ◌≡◌, ◌≢◌, ◌⊎◌, ℕ, zero, suc, ◌+◌, ◌<◌, ◌≤◌, List, [], ◌∷◌, ◌++◌, length, refl, sym, ap, subst, arith}
 use Rattle.std.proofs.lemmas.Bool.{cases_eq}
 use Rattle.pt_host.specs.Words.{is, total, Each, EachTwo, Takes, Takes.{here, there}, Replaces, Replaces.{at, past}, set_at, sum_to}
 
@@ -110,6 +110,7 @@ sum_to_set w f k v (suc n) h = ⊎_elim same (other (sum_to_set w f k v n)) (cas
         let b : w (f n) ≡ w (f k) = ap (λ i. w (f i)) e in
         let c = sum_to_set_past w f k v n (omega arith) in
         omega (arith, ap w a, b, c)
+
     other : (k < n → sum_to n (λ i. w (set_at k v f i)) + w (f k) ≡ sum_to n (λ i. w (f i)) + w v) → n ≢ k → sum_to (suc n) (λ i. w (set_at k v f i)) + w (f k) ≡ sum_to (suc n) (λ i. w (f i)) + w v
     other ih e =
         let a : set_at k v f n ≡ f n = set_at_other f k v n e in
@@ -122,6 +123,7 @@ le_sum_to f (suc n) k h = ⊎_elim (same f n k) (other f n k h (le_sum_to f n k)
   where
     same : (f : ℕ → ℕ) (n k : ℕ) → n ≡ k → f k ≤ f n + sum_to n f
     same f n k e = omega (arith, ap f e)
+
     other : (f : ℕ → ℕ) (n k : ℕ) → k < suc n → (k < n → f k ≤ sum_to n f) → n ≢ k → f k ≤ f n + sum_to n f
     other f n k h ih e = let k = ih (omega arith) in omega (arith, k)
 

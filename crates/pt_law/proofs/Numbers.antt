@@ -1,23 +1,22 @@
 -- No number but 1 is inserted twice.
-use Rattle.std.proofs.Common.{◌≡◌, ◌≢◌, ◌⊎◌, ⊎_elim, inl, inr, ℕ, zero, suc, ◌+◌, ◌-◌, ◌*◌, ◌<◌, ◌≤◌, List, [], ◌∷◌, Bool, true, false, refl, sym, ap, subst, ◌∙◌, arith, Option, Some, None}
+use Rattle.std.proofs.Common.{◌≡◌, ◌≢◌, ⊎_elim, ℕ, ◌+◌, ◌<◌, ◌≤◌, Bool, true, false, refl, sym, ap, ◌∙◌, arith, Option, Some, None}
 use Rattle.std.proofs.lemmas.Bool.{cases_eq}
-use Rattle.pt_host.specs.Words.{is, total, set_at, sum_to}
+use Rattle.pt_host.specs.Words.{is, set_at, sum_to}
 use Rattle.pt_host.specs.declared.ids.Fd.{Fd}
 use Rattle.pt_host.specs.declared.op.KeptHostOp.TheVariants as call
 use Rattle.pt_host.specs.declared.reply.HostReply.TheVariants as host
 use Rattle.pt_host.specs.declared.reply.HostValue.TheVariants as value
 use Rattle.pt_session.specs.Tables.{Tables, Agree}
-use Rattle.pt_session.specs.Happens.{Happens}
 use Rattle.pt_session.specs.declared.event.KeptEvent.TheVariants as change
 use Rattle.pt_session.specs.declared.reply.EventReply.TheVariants as event
 use Rattle.pt_req.specs.Deed.{Deed, Calls, Changes}
 use Rattle.pt_req.specs.declared.act.ActReply.{ActReply}
-use Rattle.pt_req.specs.declared.act.ActReply.TheVariants.{Event, Host, NoCopy}
-use Rattle.pt_law.specs.Discipline.{Job, Notes, notes_after, with_root, MovesBy}
+use Rattle.pt_req.specs.declared.act.ActReply.TheVariants.{Event, Host}
+use Rattle.pt_law.specs.Discipline.{Job, Notes, with_root, MovesBy}
 use Rattle.pt_law.specs.World.{Turns}
 use Rattle.pt_law.specs.Ledger.{inserted_as}
 use Rattle.pt_law.proofs.Flows.{called}
-use Rattle.pt_law.proofs.Lists.{is_apart, is_at, is_same, is_within, sum_to_set}
+use Rattle.pt_law.proofs.Lists.{is_apart, is_within, sum_to_set}
 use Rattle.pt_law.proofs.Effects.{stays}
 
 -- 1 where this is the number that was drawn and not inserted

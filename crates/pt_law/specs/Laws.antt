@@ -1,5 +1,5 @@
 -- What holds of every run whose jobs keep the discipline, after every step and at the end.
-use Rattle.std.specs.Prelude.{◌≡◌, ◌≢◌, ◌<◌, ◌≤◌, ℕ, ◌+◌, true, List, [], ◌++◌, Option, None, Some}
+use Rattle.std.specs.Prelude.{◌≡◌, ◌≢◌, ◌<◌, ◌≤◌, ℕ, ◌+◌, true, List, [], Option, Some}
 use Rattle.pt_host.specs.Words.{total, sum_to, Each}
 use Rattle.pt_host.specs.Tree.{Tree, IsOpenOn, IsWellFormed}
 use Rattle.pt_host.specs.declared.op.KeptHostOp.TheVariants as call

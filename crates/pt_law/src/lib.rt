@@ -1,6 +1,8 @@
-//! The laws of requests and of whole runs.
+//! The laws of requests and of whole runs: contracts of functions that do nothing.
 #![tactic(auto)]
 
+mod job;
 mod runs;
 
+pub use job::{any_request, each_request, request_ends};
 pub use runs::every_run;
