@@ -3,4 +3,7 @@
 
 mod job;
 
-pub use job::{any_request, each_request, request_ends};
+pub use job::{any_request, each_request, request_ends, steps_told};
+
+#[cfg(test)]
+mod tests;
