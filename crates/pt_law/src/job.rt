@@ -21,7 +21,7 @@ ghost use Rattle.pt_law.specs.Discipline.{idle, blank, Ends};
 ghost use Rattle.pt_law.specs.Told.{StepMayBeTold, AllMayBeTold};
 ghost use Rattle.pt_law.specs.Cause.{HasCause, IsCausedEnd};
 ghost use Rattle.pt_law.specs.Fit.{Fit};
-ghost use Rattle.pt_law.specs.Branch.{AreSome, IsGivenUp, IsOfBranch};
+ghost use Rattle.pt_law.specs.Branch.{AreOwn, IsGivenUp, IsOfBranch};
 ghost use Rattle.pt_law.specs.Settled.{all_given, all_returned, entry_count};
 ghost use Rattle.pt_law.specs.Opened.{IsLookedUp};
 
@@ -53,7 +53,7 @@ pub fn request_ends()
         Ends idle steps end × (end ≡ finish.Answer answer.Cut) }
     ensures opened { (plan : Plan) (parent : ℕ) (name : List ℕ) (entry : Entry) (steps : List Step) →
         Belongs (grammar_of plan (request.Lookup parent name)) steps (finish.Answer (answer.Entry entry)) →
-        ((path : List Step) × AreSome path steps × IsLookedUp plan parent name entry path) }
+        ((path : List Step) × AreOwn path steps × IsLookedUp plan parent name entry path) }
 {}
 
 /// What is made of any host and of the tables is told such replies as may come.
