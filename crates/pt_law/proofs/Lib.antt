@@ -9,6 +9,8 @@ pub mod Parts
 pub mod Requests
 pub mod Opened
 pub mod Settled
+pub mod Told
+pub mod ExampleJob
 pub mod Effects
 pub mod Flows
 pub mod Balance
