@@ -24,3 +24,4 @@ pub mod Calls
 pub mod Steps
 pub mod Interleaving
 pub mod Laws
+pub mod Pinned
