@@ -88,15 +88,21 @@ each_brought P taken.Slot holds s f h = (s, h)
 each_brought P (taken.Fd fd true) holds s f h = (f fd, (s, h))
 each_brought P (taken.Fd fd false) holds s f h = (f fd, h)
 
-holds_event : (P : Hold → Type 0) (holds : List Hold) (e : Change) (r : EventReply) (after : List Hold) → Shifts holds (Changes e) (Event r) after → P hold.Slot → ((era n : ℕ) → P (hold.Count era n)) → ((fd : Fd) → P (hold.Fd fd None)) →
+-- the event gives a number of this era
+abbrev pub IsOfEra : Change → ℕ → Type 0
+IsOfEra (change.Claim era handle ids) own = own ≡ era
+IsOfEra (change.Insert era number form ids mode) own = own ≡ era
+IsOfEra e own = ⊥
+
+pub holds_event : (P : Hold → Type 0) (holds : List Hold) (e : Change) (r : EventReply) (after : List Hold) → Shifts holds (Changes e) (Event r) after → P hold.Slot → ((era n : ℕ) → IsOfEra e era → P (hold.Count era n)) → ((fd : Fd) → P (hold.Fd fd None)) →
     ((number row mode : ℕ) (form : RowForm) (ids : ObjIds) → e ≡ change.Resolve number → r ≡ event.Resolved row form ids mode → P (hold.Pin row (fd_of form))) → Each P holds → Each P after
 holds_event P holds (change.Resolve number) (event.Resolved row form ids mode) after m s c f p h = each_put P m (p number row mode form ids refl refl) h
 holds_event P holds (change.Unpin row) r after m s c f p h = each_takes P m.1 h
-holds_event P holds (change.Claim era handle ids) (event.Claimed number) after m s c f p h = each_put P m (c era number) h
+holds_event P holds (change.Claim era handle ids) (event.Claimed number) after m s c f p h = each_put P m (c era number refl) h
 holds_event P holds change.TakeFd event.Taken after m s c f p h = each_put P m s h
 holds_event P holds change.GiveFd r after m s c f p h = each_takes P m h
-holds_event P holds (change.Insert era number form ids mode) (event.Inserted given) after m s c f p h = each_put P m.4 (c era given) (each_takes P m.3 (each_takes P m.2 h))
-holds_event P holds (change.Insert era number form ids mode) (event.Found given) after m s c f p h = each_put P m (c era given) h
+holds_event P holds (change.Insert era number form ids mode) (event.Inserted given) after m s c f p h = each_put P m.4 (c era given refl) (each_takes P m.3 (each_takes P m.2 h))
+holds_event P holds (change.Insert era number form ids mode) (event.Found given) after m s c f p h = each_put P m (c era given refl) h
 holds_event P holds (change.InsertRoot era form ids mode negotiated) (event.Inserted given) after m s c f p h = each_takes P m.2 (each_takes P m.1 h)
 holds_event P holds (change.GiveBack era number) r after m s c f p h = each_takes P m h
 holds_event P holds change.TakeClosing r after m s c f p h = rw m (each_brought P (taken_in (Event r)) holds s f h)
@@ -187,8 +193,8 @@ knows_event tree past t j job after e r t' a h m rows k =
     let later = settled_by past j (Changes e) (Event r) t.next_row tree in
     let g = grows tree past t j e r t' a h in
     record {
-      told = holds_event (ToldRight tree) job.holds e r after.holds m.0 tt (λ era n. tt) (λ fd. tt) (λ number row mode form ids x y. tt) k.told;
-      pins = holds_event (PinRight t'.next_row later.fds) job.holds e r after.holds m.0 tt (λ era n. tt) (λ fd. tt)
+      told = holds_event (ToldRight tree) job.holds e r after.holds m.0 tt (λ era n own. tt) (λ fd. tt) (λ number row mode form ids x y. tt) k.told;
+      pins = holds_event (PinRight t'.next_row later.fds) job.holds e r after.holds m.0 tt (λ era n own. tt) (λ fd. tt)
           (λ number row mode form ids x y. pin_grows past later t.next_row t'.next_row (hold.Pin row (fd_of form)) g (resolved_pin tree past t number row mode form ids t' a (rw (x, y) at h) rows))
           (pins_grow past later t.next_row t'.next_row job.holds g k.pins);
       latest = noted_event tree job after e r job.notes.latest after.notes.latest (past.latest j) (later.latest j) m.0 (ap (λ f. f j) g.latest)

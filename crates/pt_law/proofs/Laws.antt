@@ -39,6 +39,7 @@ begins_tabled limit bound =
       agree = record { sound = tt; apart = tt; slots = omega arith };
       books = record { slots = let a = none slot_held in omega (arith, a); pins = λ s. let a = none (pin_held s) in omega (arith, a); closings = omega (arith, still) };
       numbers = record { once = λ n ne. omega (arith, still); fresh = λ n l. omega (arith, still); second = omega arith };
+      dated = λ j l. record { noted = λ own e. absurd (cc); counts = tt };
     }
 
 begins_at : (limit bound : ℕ) (tree : Tree) → IsWellFormed tree → Inv bound (λ fd. open_count fd tree) (λ n. 0) (record { tree = tree; tables = empty_tables limit; past = no_past }) (λ j. idle)

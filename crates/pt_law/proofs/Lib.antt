@@ -20,6 +20,7 @@ pub mod Numbers
 pub mod Givings
 pub mod Knowing
 pub mod Events
+pub mod Eras
 pub mod Calls
 pub mod Steps
 pub mod Interleaving

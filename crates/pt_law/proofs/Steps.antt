@@ -32,6 +32,7 @@ use Rattle.pt_law.proofs.Balance.{moved}
 use Rattle.pt_law.proofs.Holding.{handed, in_tree}
 use Rattle.pt_law.proofs.Counting.{Books, keeps_books, honest, part}
 use Rattle.pt_law.proofs.Numbers.{Numbers, keeps_numbers}
+use Rattle.pt_law.proofs.Eras.{Dated, keeps_eras}
 use Rattle.pt_law.proofs.Knowing.{Knowing}
 use Rattle.pt_law.proofs.Events.{grows, rows_event, knows_event, knows_other}
 use Rattle.pt_law.proofs.Calls.{Right, keeps_call}
@@ -42,6 +43,7 @@ pub record Tabled (bound : ℕ) (had : ℕ → ℕ) (t : Tables) (js : ℕ → J
   pub agree : Agree t
   pub books : Books bound t js
   pub numbers : Numbers bound had t js
+  pub dated : (j : ℕ) → j < bound → Dated t.era (js j)
 
 -- and of a host that tells its tree; `base` says what was open before the first step
 pub record Inv (bound : ℕ) (base had : ℕ → ℕ) (w : World) (js : ℕ → Job) : Type 0 where
@@ -66,6 +68,7 @@ recount bound had had' t js e v = record {
     fresh = λ n l. let a = v.numbers.fresh n l in let b = e n in omega (arith, a, b);
     second = v.numbers.second;
   };
+  dated = v.dated;
 }
 
 pub keeps_tabled : (bound : ℕ) (had : ℕ → ℕ) (t : Tables) (js : ℕ → Job) (j : ℕ) (deed : Option Deed) (told : ActReply) (t' : Tables) (after : Job) → j < bound → Tabled bound had t js → Turns t deed told t' →
@@ -75,6 +78,7 @@ keeps_tabled bound had t js j (Some deed) told t' after lt v g m = record {
   agree = agree_step t (Some deed) told t' g v.agree;
   books = keeps_books bound t js j deed told t' after lt v.agree v.books g m;
   numbers = keeps_numbers bound had t js j deed told t' after lt v.agree v.numbers g m;
+  dated = keeps_eras bound t js j deed told t' after lt v.agree v.dated g m;
 }
 
 -- the slots that a step moves are told by its reply
