@@ -26,3 +26,4 @@ pub mod Steps
 pub mod Interleaving
 pub mod Laws
 pub mod Pinned
+pub mod Next
