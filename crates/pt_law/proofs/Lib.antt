@@ -27,3 +27,5 @@ pub mod Interleaving
 pub mod Laws
 pub mod Pinned
 pub mod Next
+pub mod Straight
+pub mod Cuts

@@ -168,7 +168,7 @@ good_name true next entry [] a = absurd cc
 good_name true next entry (step ∷ steps) a = absurd a
 good_name false next entry steps a = a
 
-looked_up : (plan : Plan) (parent : ℕ) (name : List ℕ) (entry : Entry) (steps : List Step) → Along (lookup plan parent name) steps (answer.Entry entry) → IsLookedUp plan parent name entry steps
+pub looked_up : (plan : Plan) (parent : ℕ) (name : List ℕ) (entry : Entry) (steps : List Step) → Along (lookup plan parent name) steps (answer.Entry entry) → IsLookedUp plan parent name entry steps
 looked_up plan parent name entry [] a = absurd a
 looked_up plan parent name entry (begin ∷ []) a =
     let b = after_began (Changes change.Begin) begin.deed begin.reply _ entry [] a.0 a.1 in
