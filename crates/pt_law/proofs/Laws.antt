@@ -84,7 +84,7 @@ reach limit bound turns more start now s a r =
     let v = runs_keep bound (λ fd. open_count fd start.tree) (λ n. 0) turns start now (λ j. idle) ends.0 r (each_front (λ s. s.job < bound) turns more a.owners) (begins limit bound start s) (λ j l. (ends.1 j l).0) in
     (v.0, v.1, (λ j l. subst (Between (steps_of j turns) (steps_of j more)) (sym (v.2 j l)) (ends.1 j l)))
 
-step_stays : (t : Tables) (deed : Option Deed) (told : ActReply) (t' : Tables) → Agree t → Turns t deed told t' → Stays t t'
+pub step_stays : (t : Tables) (deed : Option Deed) (told : ActReply) (t' : Tables) → Agree t → Turns t deed told t' → Stays t t'
 step_stays t None told t' a g = rw (unmade t told t' g) (record { era = refl; limit = refl; numbers = omega arith; rows = omega arith })
 step_stays t (Some (Calls asked)) told t' a g = rw (called t asked told t' g) (record { era = refl; limit = refl; numbers = omega arith; rows = omega arith })
 step_stays t (Some (Changes asked)) (Event r) t' a g = stays t asked r t' a g

@@ -29,3 +29,4 @@ pub mod Pinned
 pub mod Next
 pub mod Straight
 pub mod Cuts
+pub mod Entries
