@@ -19,3 +19,7 @@ pub mod Counting
 pub mod Numbers
 pub mod Givings
 pub mod Knowing
+pub mod Events
+pub mod Calls
+pub mod Steps
+pub mod Runs

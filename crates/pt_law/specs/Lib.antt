@@ -7,3 +7,4 @@ pub mod Settled
 pub mod Opened
 pub mod World
 pub mod Ledger
+pub mod Laws

@@ -1,0 +1,8 @@
+use Rattle.std.proofs.Common.{ap}
+use Rattle.pt_session.specs.Tables.{HasIds}
+use Rattle.pt_session.specs.Store.{Stored}
+use Rattle.pt_session.proofs.Stores.{found_seen}
+use Rattle.pt_session.proofs.store.RowStore.object.Goals as goal
+
+pub returns : goal.returns
+returns c = found_seen (HasIds c.args.ids) _ _ _ _ c.deref.ensures.value (ap (λ (stored : Stored). stored.rows) c.self.view_is) c.object_among.ensures
