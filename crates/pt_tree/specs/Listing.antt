@@ -39,7 +39,7 @@ abbrev pub lines_below : ℕ → List Node → List ℕ → ℕ → List ℕ
 lines_below zero nodes path dir = []
 lines_below (suc depth) nodes path dir =
     flat_map (λ entry. line_at (path ++ 47 ∷ entry.0) (slice_get nodes entry.1) ++ lines_below depth nodes (path ++ 47 ∷ entry.0) entry.1)
-      (names_at (slice_get nodes dir))
+    (names_at (slice_get nodes dir))
 
 -- nothing lies deeper than there are objects
 abbrev pub listing_of : State → List ℕ
