@@ -1,0 +1,137 @@
+-- Each answer is that of a branch of the tree, or the job gave up.
+use Rattle.std.proofs.Common.{◌≡◌, ◌⊎◌, inl, inr, ℕ, zero, suc, List, [], ◌∷◌, length, Bool, true, false, Option, Some, None, refl, sym, subst, ◌∙◌}
+use Rattle.pt_host.specs.declared.ids.Errno.{Errno}
+use Rattle.pt_iface.specs.declared.answer.Answer.{Answer}
+use Rattle.pt_iface.specs.declared.answer.Answer.TheVariants as answer
+use Rattle.pt_req.specs.Deed.{Step}
+use Rattle.pt_req.specs.Held.{held, giving, closings_in, taken_in, lost_by, restored, refusal, passes_with, front, behind, under}
+use Rattle.pt_req.specs.Grammar.{Grammar, End, Belongs}
+use Rattle.pt_req.specs.Frame.{closings, give_taken, give, leave, or_lost, shut}
+use Rattle.pt_req.specs.Tree.{Tree, Gives, Refuses, Asks, Shuts, framed, answered}
+use Rattle.pt_req.specs.declared.finish.Finish.{Finish}
+use Rattle.pt_req.specs.declared.finish.Finish.TheVariants as finish
+use Rattle.pt_req.specs.declared.hold.Hold.{Hold}
+use Rattle.pt_req.specs.declared.hold.Taken.{Taken}
+use Rattle.pt_req.specs.declared.hold.Taken.TheVariants as taken
+use Rattle.pt_law.specs.Branch.{Along, AreSome, AreSome.{none, keep, skip}, IsGivenUp, IsOfBranch}
+
+-- the last of the steps belong to the rest
+abbrev Reached : Grammar → List Step → Finish → Type 0
+Reached rest steps end = (later : List Step) × ((path : List Step) → AreSome path later → AreSome path steps) × Belongs rest later end
+
+pass_taken : (brings : Taken) (count : ℕ) (holds : List Hold) (rest : Grammar) (steps : List Step) (end : Finish) →
+    Belongs (give_taken brings count holds rest) steps end → Reached rest steps end
+pass_taken taken.Nothing count holds rest steps end b = (steps, (λ path s. s), b)
+pass_taken taken.Slot count holds rest [] end b = absurd b
+pass_taken taken.Slot count holds rest (step ∷ steps) end b = (steps, (λ path s. skip s), b.1)
+pass_taken (taken.Fd fd true) count holds rest [] end b = absurd b
+pass_taken (taken.Fd fd true) count holds rest (step ∷ []) end b = absurd b.1
+pass_taken (taken.Fd fd true) count holds rest (step ∷ other ∷ steps) end b = (steps, (λ path s. skip (skip s)), b.1.1)
+pass_taken (taken.Fd fd false) count holds rest [] end b = absurd b
+pass_taken (taken.Fd fd false) count holds rest (step ∷ steps) end b = (steps, (λ path s. skip s), b.1)
+
+pass_closings : (count : ℕ) (holds : List Hold) (rest : Grammar) (steps : List Step) (end : Finish) → Belongs (closings count holds rest) steps end → Reached rest steps end
+pass_closings zero holds rest steps end b = (steps, (λ path s. s), b)
+pass_closings (suc count) holds rest [] end b = absurd b
+pass_closings (suc count) holds rest (step ∷ steps) end b =
+    let k = pass_taken (taken_in step.reply) count holds (closings count holds rest) steps end b.1 in
+    let m = pass_closings count holds rest k.0 end k.2 in
+    (m.0, (λ path s. skip (k.1 path (m.1 path s))), m.2)
+
+pass_give : (one : Hold) (holds left : List Hold) (next : Option Errno → Grammar) (steps : List Step) (end : Finish) →
+    Belongs (give one holds left next) steps end → (fault : Option Errno) × Reached (next fault) steps end
+pass_give one holds left next [] end b = absurd b
+pass_give one holds left next (step ∷ steps) end b =
+    let fault = lost_by one step.reply in
+    let k = pass_closings (closings_in (giving one) step.reply) left (next fault) steps end b.1 in
+    (fault, (k.0, (λ path s. skip (k.1 path s)), k.2))
+
+given_up : (last end : Finish) → end ≡ last → IsGivenUp last → IsGivenUp end
+given_up last end e g = subst IsGivenUp (sym e) g
+
+restored_is : (last : Finish) (fault : Option Errno) → (restored last fault ≡ last) ⊎ IsGivenUp (restored last fault)
+restored_is last None = inl refl
+restored_is (finish.Lost first) (Some errno) = inl refl
+restored_is (finish.Answer answer.Cut) (Some errno) = inl refl
+restored_is (finish.Answer told) (Some errno) = inr tt
+
+end_leave : (holds : List Hold) (last : Finish) (steps : List Step) (end : Finish) → Belongs (leave holds last) steps end → (end ≡ last) ⊎ IsGivenUp end
+end_leave [] last [] end b = inl b
+end_leave [] last (step ∷ steps) end b = absurd b
+end_leave (one ∷ holds) last steps end b =
+    let k = pass_give one (one ∷ holds) holds (λ fault. leave holds (restored last fault)) steps end b in
+    elim (end_leave holds (restored last k.0) k.1.0 end k.1.2) [
+      | inl e ↦ elim (restored_is last k.0) [
+        | inl same ↦ inl (e ∙ same)
+        | inr g ↦ inr (given_up (restored last k.0) end e g)
+      ]
+      | inr g ↦ inr g
+    ]
+
+end_shut : (passing : Option Hold) (count : ℕ) (holds : List Hold) (next : List Hold → Grammar) (steps : List Step) (end : Finish) →
+    Belongs (shut passing count holds next) steps end → IsGivenUp end ⊎ ((left : List Hold) × Reached (next left) steps end)
+end_shut passing zero holds next steps end b = inr (under passing holds, (steps, (λ path s. s), b))
+end_shut passing (suc count) [] next steps end b = inr (under passing [], (steps, (λ path s. s), b))
+end_shut passing (suc count) (one ∷ holds) next steps end b =
+    let k = pass_give one (under passing (one ∷ holds)) (under passing holds) (λ fault. or_lost fault (under passing holds) (shut passing count holds next)) steps end b in
+    go k.0 k.1.0 k.1.1 k.1.2 (end_shut passing count holds next k.1.0 end)
+  where
+    go : (fault : Option Errno) (later : List Step) → ((path : List Step) → AreSome path later → AreSome path steps) →
+        Belongs (or_lost fault (under passing holds) (shut passing count holds next)) later end →
+        (Belongs (shut passing count holds next) later end → IsGivenUp end ⊎ ((left : List Hold) × Reached (next left) later end)) →
+        IsGivenUp end ⊎ ((left : List Hold) × Reached (next left) steps end)
+    go None later w r f = elim (f r) [
+      | inl g ↦ inl g
+      | inr more ↦ inr (more.0, (more.1.0, (λ path s. w path (more.1.1 path s)), more.1.2))
+    ]
+    go (Some errno) later w r f = elim (end_leave (under passing holds) (finish.Lost errno) later end r) [
+      | inl e ↦ inl (given_up (finish.Lost errno) end e tt)
+      | inr g ↦ inl g
+    ]
+
+at_end : (last : Finish) (steps : List Step) (end : Finish) → Belongs (End last) steps end → end ≡ last
+at_end last [] end b = b
+at_end last (step ∷ steps) end b = absurd b
+
+end_answered : (passes : Bool) (holds : List Hold) (last : Finish) (steps : List Step) (end : Finish) → Belongs (answered passes holds last) steps end → (end ≡ last) ⊎ IsGivenUp end
+end_answered true [] last steps end b = end_leave [] last steps end b
+end_answered true (one ∷ holds) last steps end b = elim (end_shut (Some one) (length holds) holds (λ left. End last) steps end b) [
+  | inl g ↦ inr g
+  | inr k ↦ inl (at_end last k.1.0 end k.1.2)
+]
+end_answered false holds last steps end b = end_leave holds last steps end b
+
+none_of : (steps : List Step) → AreSome [] steps
+none_of [] = none
+none_of (step ∷ steps) = skip (none_of steps)
+
+-- an end is the answer of a leaf, or the job gave up
+at_leaf : (tree : Tree) (last : Answer) (steps : List Step) (end : Finish) → Along tree [] last → (end ≡ finish.Answer last) ⊎ IsGivenUp end → IsGivenUp end ⊎ IsOfBranch tree end steps
+at_leaf tree last steps end a (inl e) = inr ([], last, none_of steps, e, a)
+at_leaf tree last steps end a (inr g) = inl g
+
+pub branch : (tree : Tree) (holds : List Hold) (steps : List Step) (end : Finish) → Belongs (framed tree holds) steps end → IsGivenUp end ⊎ IsOfBranch tree end steps
+branch (Gives last) holds steps end b = at_leaf (Gives last) last steps end refl (end_answered (passes_with (finish.Answer last)) holds (finish.Answer last) steps end b)
+branch (Refuses told) holds steps end b = at_leaf (Refuses told) (refusal told) steps end refl (end_leave holds (finish.Answer (refusal told)) steps end b)
+branch (Asks deed next) holds [] end b = absurd b
+branch (Asks deed next) holds (step ∷ steps) end b = elim b.1 [
+  | inl up ↦
+      let k = pass_closings (closings_in deed step.reply) (held deed step.reply holds) (leave (held deed step.reply holds) (finish.Answer answer.NoMemory)) steps end up in
+      elim (end_leave (held deed step.reply holds) (finish.Answer answer.NoMemory) k.0 end k.2) [
+        | inl e ↦ inl (given_up (finish.Answer answer.NoMemory) end e tt)
+        | inr g ↦ inl g
+      ]
+  | inr on ↦
+      let k = pass_closings (closings_in deed step.reply) (held deed step.reply holds) (framed (next step.reply) (held deed step.reply holds)) steps end on in
+      elim (branch (next step.reply) (held deed step.reply holds) k.0 end k.2) [
+        | inl g ↦ inl g
+        | inr r ↦ inr (step ∷ r.0, r.1, keep (k.1 r.0 r.2), r.3, (b.0, r.4))
+      ]
+]
+branch (Shuts passes count rest) holds steps end b = elim (end_shut (front passes holds) count (behind passes holds) (framed rest) steps end b) [
+  | inl g ↦ inl g
+  | inr k ↦ elim (branch rest k.0 k.1.0 end k.1.2) [
+    | inl g ↦ inl g
+    | inr r ↦ inr (r.0, r.1, k.1.1 r.0 r.2, r.3, r.4)
+  ]
+]

@@ -1,0 +1,95 @@
+-- Each step keeps slots, pins and closings in balance.
+use Rattle.std.proofs.Common.{◌≡◌, ◌≢◌, ⊎_elim, ℕ, ◌+◌, ◌*◌, ◌<◌, ◌≤◌, List, [], ◌∷◌, length, refl, ap, arith, Some}
+use Rattle.std.proofs.lemmas.Bool.{cases_eq}
+use Rattle.pt_host.specs.Words.{is, total, Each, set_at, sum_to}
+use Rattle.pt_session.specs.Change.{Change}
+use Rattle.pt_session.specs.Tables.{Row, Tables, Agree}
+use Rattle.pt_session.specs.Happens.{Happens}
+use Rattle.pt_session.specs.declared.event.KeptEvent.TheVariants as change
+use Rattle.pt_session.specs.declared.reply.EventRefusal.TheVariants.{NotLive}
+use Rattle.pt_session.specs.declared.reply.EventReply.{EventReply}
+use Rattle.pt_session.specs.declared.reply.EventReply.TheVariants as event
+use Rattle.pt_req.specs.Deed.{Deed, Calls, Changes}
+use Rattle.pt_req.specs.Held.{closings_in}
+use Rattle.pt_req.specs.declared.act.ActReply.{ActReply}
+use Rattle.pt_req.specs.declared.act.ActReply.TheVariants.{Event}
+use Rattle.pt_req.specs.declared.hold.Hold.{Hold}
+use Rattle.pt_law.specs.Discipline.{Job, MovesBy}
+use Rattle.pt_law.specs.World.{Turns}
+use Rattle.pt_law.specs.Ledger.{held_by, kept_slots}
+use Rattle.pt_law.proofs.Flows.{slot_held, pin_held, row_pins, closing_ended, IsHonest}
+use Rattle.pt_law.proofs.Lists.{total_takes, le_sum_to, sum_to_set, is_same, is_apart}
+use Rattle.pt_law.proofs.Effects.{stays}
+use Rattle.pt_law.proofs.Balance.{moved}
+use Rattle.pt_law.proofs.Holding.{handed}
+
+-- what is there is what tables and jobs have
+pub record Books (bound : ℕ) (t : Tables) (js : ℕ → Job) : Type 0 where
+  pub slots : kept_slots t + held_by bound slot_held js ≡ t.limit
+  pub pins : (serial : ℕ) → total (row_pins serial) t.rows ≡ held_by bound (pin_held serial) js
+  pub closings : length t.closing ≡ sum_to bound (λ j. (js j).owed)
+
+pub part : (w : Hold → ℕ) (js : ℕ → Job) (bound j : ℕ) → j < bound → total w (js j).holds ≤ held_by bound w js
+part w js bound j h = le_sum_to (λ i. total w (js i).holds) bound j h
+
+unpinned : (serial : ℕ) (rows : List Row) → Each (λ r. (r.serial ≡ serial) × (r.pins ≢ 0) → ⊥) rows → total (row_pins serial) rows ≡ 0
+unpinned serial [] h = refl
+unpinned serial (r ∷ rs) h = let k = unpinned serial rs h.1 in let a : row_pins serial r ≡ 0 = ⊎_elim same other (cases_eq r.serial serial) in omega (arith, k, a)
+  where
+    same : r.serial ≡ serial → row_pins serial r ≡ 0
+    same e = ⊎_elim (λ (z : r.pins ≡ 0). let y = ap (λ p. is r.serial serial * p) z in omega (arith, y)) (λ (z : r.pins ≢ 0). absurd (h.0 (e, z))) (cases_eq r.pins 0)
+
+    other : r.serial ≢ serial → row_pins serial r ≡ 0
+    other e = let y = ap (λ i. i * r.pins) (is_apart r.serial serial e) in omega (arith, y)
+
+-- what a job holds can be given back
+pub honest : (bound : ℕ) (t : Tables) (js : ℕ → Job) (j : ℕ) (e : Change) (r : EventReply) (t' : Tables) (after : Job) → j < bound → Books bound t js → Happens t e r t' →
+    MovesBy (js j) (Changes e) (Event r) after → IsHonest (Changes e) (Event r)
+honest bound t js j (change.Unpin row) (event.Refused NotLive) t' after lt b h m =
+    let u = unpinned row t.rows h.0 in
+    let p = b.pins row in
+    let q = part (pin_held row) js bound j lt in
+    let k = total_takes (pin_held row) m.0.1 in
+    let s = is_same row in
+    absurd (omega (arith, u, p, q, k, s))
+honest bound t js j (change.Unpin row) (event.Refused _) t' after lt b h m = absurd h
+honest bound t js j change.GiveFd (event.Refused NotLive) t' after lt b h m =
+    let p = b.slots in
+    let q = part slot_held js bound j lt in
+    let k = total_takes slot_held m.0 in
+    absurd (omega (arith, p, q, k, h.0))
+honest bound t js j change.GiveFd (event.Refused _) t' after lt b h m = absurd h
+honest bound t js j change.TakeClosing (event.Refused NotLive) t' after lt b h m =
+    let p = b.closings in
+    let q = le_sum_to (λ i. (js i).owed) bound j lt in
+    let e = ap length h.0 in
+    absurd (omega (arith, p, q, e, m.1))
+honest bound t js j change.TakeClosing (event.Refused _) t' after lt b h m = absurd h
+honest bound t js j _ _ t' after lt b h m = tt
+
+-- closings that come to be owed, and those that are taken
+owed_flow : (job : Job) (deed : Deed) (told : ActReply) (after : Job) → MovesBy job deed told after → after.owed + closing_ended deed told ≡ job.owed + closings_in deed told
+owed_flow job (Changes change.TakeClosing) told after m = omega (arith, m.1, m.2)
+owed_flow job deed told after m = let e = m.2 in omega (arith, e)
+
+pub keeps_books : (bound : ℕ) (t : Tables) (js : ℕ → Job) (j : ℕ) (deed : Deed) (told : ActReply) (t' : Tables) (after : Job) → j < bound → Agree t → Books bound t js → Turns t (Some deed) told t' →
+    MovesBy (js j) deed told after → Books bound t' (set_at j after js)
+keeps_books bound t js j (Calls a) told t' after lt agree b g m =
+    let f = handed (js j).holds (Calls a) told after.holds m.0 in
+    let o = owed_flow (js j) (Calls a) told after m in
+    rw g (record {
+      slots = let x = b.slots in let y = f.slots in let z = sum_to_set (λ (k : Job). total slot_held k.holds) js j after bound lt in omega (arith, x, y, z);
+      pins = λ s. let x = b.pins s in let y = f.pins s in let z = sum_to_set (λ (k : Job). total (pin_held s) k.holds) js j after bound lt in omega (arith, x, y, z);
+      closings = let x = b.closings in let z = sum_to_set (λ (k : Job). k.owed) js j after bound lt in omega (arith, x, o, z);
+    })
+keeps_books bound t js j (Changes e) (Event r) t' after lt agree b g m =
+    let f = handed (js j).holds (Changes e) (Event r) after.holds m.0 in
+    let o = owed_flow (js j) (Changes e) (Event r) after m in
+    let v = moved t e r t' g (honest bound t js j e r t' after lt b g m) in
+    let l = (stays t e r t' agree g).limit in
+    record {
+      slots = let x = b.slots in let y = f.slots in let u = v.slots in let z = sum_to_set (λ (k : Job). total slot_held k.holds) js j after bound lt in omega (arith, x, y, z, u, l);
+      pins = λ s. let x = b.pins s in let y = f.pins s in let u = v.pins s in let z = sum_to_set (λ (k : Job). total (pin_held s) k.holds) js j after bound lt in omega (arith, x, y, z, u);
+      closings = let x = b.closings in let u = v.closings in let z = sum_to_set (λ (k : Job). k.owed) js j after bound lt in omega (arith, x, o, z, u);
+    }
+keeps_books bound t js j (Changes e) told t' after lt agree b g m = absurd g

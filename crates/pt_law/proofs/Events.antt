@@ -1,0 +1,212 @@
+-- Events keep what is known of open descriptors.
+use Rattle.std.proofs.Common.{◌≡◌, ◌≢◌, ◌⊎◌, ⊎_elim, inl, inr, ℕ, zero, suc, ◌+◌, ◌-◌, ◌*◌, ◌<◌, ◌≤◌, List, [], ◌∷◌, ◌++◌, length, Bool, true, false, refl, sym, ap, subst, ◌∙◌, arith, Option, Some, None}
+use Rattle.std.proofs.lemmas.Bool.{cases_eq}
+use Rattle.pt_host.specs.Words.{is, total, Each, Takes, Replaces, set_at}
+use Rattle.pt_host.specs.Tree.{Tree, IsOpenOn}
+use Rattle.pt_host.specs.declared.ids.Fd.{Fd}
+use Rattle.pt_host.specs.declared.ids.ObjIds.{ObjIds}
+use Rattle.pt_session.specs.Change.{Change}
+use Rattle.pt_session.specs.Tables.{Row, Tables, HasNumber, IsSoundRow, Agree}
+use Rattle.pt_session.specs.Happens.{Happens, IsFree, new_row, with_row, agreed}
+use Rattle.pt_session.specs.declared.form.RowForm.{RowForm}
+use Rattle.pt_session.specs.declared.form.Negotiated.{Negotiated}
+use Rattle.pt_session.specs.declared.event.KeptEvent.TheVariants as change
+use Rattle.pt_session.specs.declared.reply.EventReply.{EventReply}
+use Rattle.pt_session.specs.declared.reply.EventReply.TheVariants as event
+use Rattle.pt_req.specs.Deed.{Deed, Calls, Changes}
+use Rattle.pt_req.specs.Held.{fd_of, taken_in, brought}
+use Rattle.pt_req.specs.declared.act.ActReply.{ActReply}
+use Rattle.pt_req.specs.declared.act.ActReply.TheVariants.{Event, Host, NoCopy}
+use Rattle.pt_req.specs.declared.hold.Hold.{Hold}
+use Rattle.pt_req.specs.declared.hold.Hold.TheVariants as hold
+use Rattle.pt_req.specs.declared.hold.Taken.{Taken}
+use Rattle.pt_req.specs.declared.hold.Taken.TheVariants as taken
+use Rattle.pt_law.specs.Discipline.{Job, Notes, notes_after, Shifts, MovesBy, IsTold, unless}
+use Rattle.pt_law.specs.World.{World, Past, settled, settled_by}
+use Rattle.pt_law.specs.Ledger.{fd_held}
+use Rattle.pt_law.proofs.Flows.{fd_in, fd_ended, fd_out, fd_made}
+use Rattle.pt_law.proofs.Lists.{total_takes, is_same, is_apart, set_at_same, set_at_other, each_replaced, each_takes, each_taken, each_map, each_put}
+use Rattle.pt_law.proofs.Effects.{kept, rows_kept, stays_kept}
+use Rattle.pt_law.proofs.Holding.{handed}
+use Rattle.pt_law.proofs.Knowing.{Shows, RowShows, RowOpen, ToldRight, PinRight, NotedOpen, NotedRight, Knowing, one_object, row_later, unless_apart}
+
+-- what `Stat` told of a noted descriptor is told of the object that its opening answered
+pub told_noted : (tree : Tree) (fd : Fd) (ids : ObjIds) (was : Option ℕ) (holds : List Hold) → Each (ToldRight tree) holds → IsTold holds fd ids → NotedOpen tree fd was holds →
+    (object : ℕ) × Shows tree fd object ids × (was ≡ Some object)
+told_noted tree fd ids was holds told t n =
+    let a = each_taken (ToldRight tree) t.1 told in
+    (a.0, a.1, n.judged ∙ ap Some (one_object tree fd n.object a.0 n.open_on a.1.open_on))
+
+-- a row comes
+row_other : (tree : Tree) (past : Past) (next number given : ℕ) (fd : Fd) (o : Option ℕ) (row : Row) → given ≡ number → IsSoundRow next row → (HasNumber number row → ⊥) → RowOpen tree past row →
+    RowOpen tree (settled past given next fd o) row
+row_other tree past next number given fd o row e s free h =
+    let apart : row.serial ≢ next = (λ k. let d = s.drawn in absurd (omega (arith, d, k))) in
+    record {
+      object = h.object;
+      shows = h.shows;
+      numbered = λ l. set_at_other past.numbers given o row.number (λ k. free (l, k ∙ e)) ∙ h.numbered l;
+      placed = set_at_other past.objects next o row.serial apart ∙ h.placed;
+      kept_by = set_at_other past.fds next (Some fd) row.serial apart ∙ h.kept_by;
+    }
+
+rows_other : (tree : Tree) (past : Past) (next number given : ℕ) (fd : Fd) (o : Option ℕ) (rows : List Row) → given ≡ number → Each (IsSoundRow next) rows → Each (λ row. HasNumber number row → ⊥) rows →
+    Each (RowOpen tree past) rows → Each (RowOpen tree (settled past given next fd o)) rows
+rows_other tree past next number given fd o [] e s free h = tt
+rows_other tree past next number given fd o (row ∷ rows) e s free h = (row_other tree past next number given fd o row e s.0 free.0 h.0, rows_other tree past next number given fd o rows e s.1 free.1 h.1)
+
+row_comes : (tree : Tree) (past : Past) (t : Tables) (number given : ℕ) (form : RowForm) (ids : ObjIds) (mode count : ℕ) (o : Option ℕ) → Agree t → given ≡ number → IsFree t number ids →
+    (object : ℕ) × Shows tree (fd_of form) object ids × (o ≡ Some object) → Each (RowOpen tree past) t.rows →
+    Each (RowOpen tree (settled past given t.next_row (fd_of form) o)) (with_row t (new_row t number form ids mode count)).rows
+row_comes tree past t number given form ids mode count o a e free h rows = (
+  record {
+    object = h.0;
+    shows = h.1;
+    numbered = λ l. ap (set_at given o past.numbers) (sym e) ∙ set_at_same past.numbers given o ∙ h.2;
+    placed = set_at_same past.objects t.next_row o ∙ h.2;
+    kept_by = set_at_same past.fds t.next_row (Some (fd_of form));
+  },
+  rows_other tree past t.next_row number given (fd_of form) o t.rows e a.sound free.1 rows,
+)
+
+agreed_rows : (P : Row → Type 0) (negotiated : Option Negotiated) (t : Tables) → Each P t.rows → Each P (agreed negotiated t).rows
+agreed_rows P None t h = h
+agreed_rows P (Some n) t h = h
+
+pub rows_event : (tree : Tree) (past : Past) (t : Tables) (j : ℕ) (job after : Job) (e : Change) (r : EventReply) (t' : Tables) → Agree t → Happens t e r t' → MovesBy job (Changes e) (Event r) after →
+    Knowing tree t.next_row past j job → Each (RowOpen tree past) t.rows → Each (RowOpen tree (settled_by past j (Changes e) (Event r) t.next_row tree)) t'.rows
+rows_event tree past t j job after (change.Insert era number form ids mode) (event.Inserted given) t' a h m k rows =
+    let fit = m.1 in
+    rw h.4 (row_comes tree past t number given form ids mode 1 (past.latest j) a h.3 h.1 (told_noted tree (fd_of form) ids (past.latest j) job.holds k.told fit.3 (k.latest (fd_of form) fit.1)) rows)
+rows_event tree past t j job after (change.InsertRoot era form ids mode negotiated) (event.Inserted given) t' a h m k rows =
+    let fit = m.1 in
+    rw h.4 (agreed_rows (RowOpen tree (settled past given t.next_row (fd_of form) (past.roots j))) negotiated (with_row t (new_row t 1 form ids mode 2))
+        (row_comes tree past t 1 given form ids mode 2 (past.roots j) a h.3 h.1 (told_noted tree (fd_of form) ids (past.roots j) job.holds k.told fit.2 (k.root (fd_of form) fit.1)) rows))
+rows_event tree past t j job after e r t' a h m k rows = rows_kept (RowOpen tree past) (row_later tree past) (kept t e r t' a tt h) rows
+
+-- what is held of slots, counts, new descriptors and new pins, and of what was held before, is held after
+each_brought : (P : Hold → Type 0) (b : Taken) (holds : List Hold) → P hold.Slot → ((fd : Fd) → P (hold.Fd fd None)) → Each P holds → Each P (brought b ++ holds)
+each_brought P taken.Nothing holds s f h = h
+each_brought P taken.Slot holds s f h = (s, h)
+each_brought P (taken.Fd fd true) holds s f h = (f fd, (s, h))
+each_brought P (taken.Fd fd false) holds s f h = (f fd, h)
+
+holds_event : (P : Hold → Type 0) (holds : List Hold) (e : Change) (r : EventReply) (after : List Hold) → Shifts holds (Changes e) (Event r) after → P hold.Slot → ((era n : ℕ) → P (hold.Count era n)) → ((fd : Fd) → P (hold.Fd fd None)) →
+    ((number row mode : ℕ) (form : RowForm) (ids : ObjIds) → e ≡ change.Resolve number → r ≡ event.Resolved row form ids mode → P (hold.Pin row (fd_of form))) → Each P holds → Each P after
+holds_event P holds (change.Resolve number) (event.Resolved row form ids mode) after m s c f p h = each_put P m (p number row mode form ids refl refl) h
+holds_event P holds (change.Unpin row) r after m s c f p h = each_takes P m.1 h
+holds_event P holds (change.Claim era handle ids) (event.Claimed number) after m s c f p h = each_put P m (c era number) h
+holds_event P holds change.TakeFd event.Taken after m s c f p h = each_put P m s h
+holds_event P holds change.GiveFd r after m s c f p h = each_takes P m h
+holds_event P holds (change.Insert era number form ids mode) (event.Inserted given) after m s c f p h = each_put P m.4 (c era given) (each_takes P m.3 (each_takes P m.2 h))
+holds_event P holds (change.Insert era number form ids mode) (event.Found given) after m s c f p h = each_put P m (c era given) h
+holds_event P holds (change.InsertRoot era form ids mode negotiated) (event.Inserted given) after m s c f p h = each_takes P m.2 (each_takes P m.1 h)
+holds_event P holds (change.GiveBack era number) r after m s c f p h = each_takes P m h
+holds_event P holds change.TakeClosing r after m s c f p h = rw m (each_brought P (taken_in (Event r)) holds s f h)
+holds_event P holds e r after m s c f p h = rw m h
+
+-- what is settled of rows that were there stays
+pub record Grows (past later : Past) (next next' : ℕ) : Type 0 where
+  pub latest : later.latest ≡ past.latest
+  pub roots : later.roots ≡ past.roots
+  pub fds : (row : ℕ) → row < next → later.fds row ≡ past.fds row
+  pub objects : (row : ℕ) → row < next → later.objects row ≡ past.objects row
+  pub rows : next ≤ next'
+
+grows_settled : (past : Past) (given next next' : ℕ) (fd : Fd) (o : Option ℕ) → next ≤ next' → Grows past (settled past given next fd o) next next'
+grows_settled past given next next' fd o l = record {
+  latest = refl;
+  roots = refl;
+  fds = λ row k. set_at_other past.fds next (Some fd) row (λ e. absurd (omega (arith, e, k)));
+  objects = λ row k. set_at_other past.objects next o row (λ e. absurd (omega (arith, e, k)));
+  rows = l;
+}
+
+next_agreed : (negotiated : Option Negotiated) (t : Tables) (row : Row) → t.next_row ≤ (agreed negotiated (with_row t row)).next_row
+next_agreed None t row = omega arith
+next_agreed (Some n) t row = omega arith
+
+pub grows : (tree : Tree) (past : Past) (t : Tables) (j : ℕ) (e : Change) (r : EventReply) (t' : Tables) → Agree t → Happens t e r t' → Grows past (settled_by past j (Changes e) (Event r) t.next_row tree) t.next_row t'.next_row
+grows tree past t j (change.Insert era number form ids mode) (event.Inserted given) t' a h =
+    grows_settled past given t.next_row t'.next_row (fd_of form) (past.latest j) (rw h.4 (omega arith))
+grows tree past t j (change.InsertRoot era form ids mode negotiated) (event.Inserted given) t' a h =
+    grows_settled past given t.next_row t'.next_row (fd_of form) (past.roots j) (rw h.4 (next_agreed negotiated t (new_row t 1 form ids mode 2)))
+grows tree past t j e r t' a h = let l = (stays_kept (kept t e r t' a tt h)).0.rows in record { latest = refl; roots = refl; fds = λ row k. refl; objects = λ row k. refl; rows = l }
+
+pub pin_grows : (past later : Past) (next next' : ℕ) (one : Hold) → Grows past later next next' → PinRight next past.fds one → PinRight next' later.fds one
+pin_grows past later next next' (hold.Pin row fd) g p = (let a = g.rows in let b = p.0 in omega (arith, a, b), g.fds row p.0 ∙ p.1)
+pin_grows past later next next' (hold.Fd fd told) g p = tt
+pin_grows past later next next' hold.Slot g p = tt
+pin_grows past later next next' (hold.Count era n) g p = tt
+
+pub pins_grow : (past later : Past) (next next' : ℕ) (holds : List Hold) → Grows past later next next' → Each (PinRight next past.fds) holds → Each (PinRight next' later.fds) holds
+pins_grow past later next next' holds g = each_map (PinRight next past.fds) (PinRight next' later.fds) holds (λ one. pin_grows past later next next' one g)
+
+-- an event notes no descriptor, and one that stays noted is not handed to the tables
+event_latest : (notes : Notes) (e : Change) (r : EventReply) (fd : Fd) → (notes_after notes (Changes e) (Event r)).latest ≡ Some fd → (notes.latest ≡ Some fd) × (fd_in fd.0 (Changes e) (Event r) ≡ 0)
+event_latest notes (change.Insert era number form ids mode) (event.Inserted given) fd e = let a = unless_apart (fd_of form) notes.latest fd e in (a.0, is_apart (fd_of form).0 fd.0 a.1)
+event_latest notes (change.InsertRoot era form ids mode negotiated) (event.Inserted given) fd e = let a = unless_apart (fd_of form) notes.latest fd e in (a.0, is_apart (fd_of form).0 fd.0 a.1)
+event_latest notes change.Begin (event.Began era negotiated) fd e = (e, refl)
+event_latest notes change.DrawNode (event.Drawn number) fd e = (e, refl)
+event_latest notes _ _ fd e = (e, refl)
+
+event_root : (notes : Notes) (e : Change) (r : EventReply) (fd : Fd) → (notes_after notes (Changes e) (Event r)).root ≡ Some fd → (notes.root ≡ Some fd) × (fd_in fd.0 (Changes e) (Event r) ≡ 0)
+event_root notes (change.Insert era number form ids mode) (event.Inserted given) fd e = let a = unless_apart (fd_of form) notes.root fd e in (a.0, is_apart (fd_of form).0 fd.0 a.1)
+event_root notes (change.InsertRoot era form ids mode negotiated) (event.Inserted given) fd e = let a = unless_apart (fd_of form) notes.root fd e in (a.0, is_apart (fd_of form).0 fd.0 a.1)
+event_root notes change.Begin (event.Began era negotiated) fd e = (e, refl)
+event_root notes change.DrawNode (event.Drawn number) fd e = (e, refl)
+event_root notes _ _ fd e = (e, refl)
+
+event_rooted : (notes : Notes) (e : Change) (r : EventReply) → (notes_after notes (Changes e) (Event r)).rooted ≡ notes.rooted
+event_rooted notes (change.Insert era number form ids mode) (event.Inserted given) = refl
+event_rooted notes (change.InsertRoot era form ids mode negotiated) (event.Inserted given) = refl
+event_rooted notes change.Begin (event.Began era negotiated) = refl
+event_rooted notes change.DrawNode (event.Drawn number) = refl
+event_rooted notes _ _ = refl
+
+noted_event : (tree : Tree) (job after : Job) (e : Change) (r : EventReply) (noted noted' : Option Fd) (was was' : Option ℕ) → Shifts job.holds (Changes e) (Event r) after.holds → was' ≡ was →
+    ((fd : Fd) → noted' ≡ Some fd → (noted ≡ Some fd) × (fd_in fd.0 (Changes e) (Event r) ≡ 0)) → NotedRight tree noted was job.holds → NotedRight tree noted' was' after.holds
+noted_event tree job after e r noted noted' was was' m w f h fd q =
+    let g = f fd q in
+    let a = h fd g.0 in
+    record {
+      held = let b = a.held in let c = (handed job.holds (Changes e) (Event r) after.holds m).fds fd.0 in let d = g.1 in omega (arith, b, c, d);
+      object = a.object;
+      open_on = a.open_on;
+      judged = w ∙ a.judged;
+    }
+
+resolved_pin : (tree : Tree) (past : Past) (t : Tables) (number row mode : ℕ) (form : RowForm) (ids : ObjIds) (t' : Tables) → Agree t → Happens t (change.Resolve number) (event.Resolved row form ids mode) t' →
+    Each (RowOpen tree past) t.rows → PinRight t.next_row past.fds (hold.Pin row (fd_of form))
+resolved_pin tree past t number row mode form ids t' a h rows =
+    let o = each_replaced (RowOpen tree past) h.7.1 rows in
+    let s = each_replaced (IsSoundRow t.next_row) h.7.1 a.sound in
+    (let d = s.drawn in let e = h.2 in omega (arith, d, e), ap past.fds (sym h.2) ∙ o.kept_by ∙ ap (λ f. Some (fd_of f)) h.3)
+
+-- what the job that made the event knows
+pub knows_event : (tree : Tree) (past : Past) (t : Tables) (j : ℕ) (job after : Job) (e : Change) (r : EventReply) (t' : Tables) → Agree t → Happens t e r t' → MovesBy job (Changes e) (Event r) after →
+    Each (RowOpen tree past) t.rows → Knowing tree t.next_row past j job → Knowing tree t'.next_row (settled_by past j (Changes e) (Event r) t.next_row tree) j after
+knows_event tree past t j job after e r t' a h m rows k =
+    let later = settled_by past j (Changes e) (Event r) t.next_row tree in
+    let g = grows tree past t j e r t' a h in
+    record {
+      told = holds_event (ToldRight tree) job.holds e r after.holds m.0 tt (λ era n. tt) (λ fd. tt) (λ number row mode form ids x y. tt) k.told;
+      pins = holds_event (PinRight t'.next_row later.fds) job.holds e r after.holds m.0 tt (λ era n. tt) (λ fd. tt)
+          (λ number row mode form ids x y. pin_grows past later t.next_row t'.next_row (hold.Pin row (fd_of form)) g (resolved_pin tree past t number row mode form ids t' a (rw (x, y) at h) rows))
+          (pins_grow past later t.next_row t'.next_row job.holds g k.pins);
+      latest = noted_event tree job after e r job.notes.latest after.notes.latest (past.latest j) (later.latest j) m.0 (ap (λ f. f j) g.latest)
+          (λ fd q. event_latest job.notes e r fd (sym (ap (λ (n : Notes). n.latest) m.3) ∙ q)) k.latest;
+      root = noted_event tree job after e r job.notes.root after.notes.root (past.roots j) (later.roots j) m.0 (ap (λ f. f j) g.roots)
+          (λ fd q. event_root job.notes e r fd (sym (ap (λ (n : Notes). n.root) m.3) ∙ q)) k.root;
+      unrooted = λ q. ap (λ f. f j) g.roots ∙ k.unrooted (sym (event_rooted job.notes e r) ∙ sym (ap (λ (n : Notes). n.rooted) m.3) ∙ q);
+    }
+
+-- and what another job knows
+pub knows_other : (tree : Tree) (past later : Past) (next next' i : ℕ) (job : Job) → Grows past later next next' → Knowing tree next past i job → Knowing tree next' later i job
+knows_other tree past later next next' i job g k = record {
+  told = k.told;
+  pins = pins_grow past later next next' job.holds g k.pins;
+  latest = λ fd e. let a = k.latest fd e in record { held = a.held; object = a.object; open_on = a.open_on; judged = ap (λ f. f i) g.latest ∙ a.judged };
+  root = λ fd e. let a = k.root fd e in record { held = a.held; object = a.object; open_on = a.open_on; judged = ap (λ f. f i) g.roots ∙ a.judged };
+  unrooted = λ e. ap (λ f. f i) g.roots ∙ k.unrooted e;
+}

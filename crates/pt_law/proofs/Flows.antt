@@ -1,0 +1,85 @@
+-- What each deed moves between tables, jobs and host, by its reply.
+use Rattle.std.proofs.Common.{ℕ, ◌*◌}
+use Rattle.pt_host.specs.Words.{is}
+use Rattle.pt_host.specs.declared.op.KeptHostOp.TheVariants as call
+use Rattle.pt_host.specs.declared.reply.HostReply.TheVariants as host
+use Rattle.pt_host.specs.declared.reply.HostValue.TheVariants as value
+use Rattle.pt_session.specs.Tables.{Row}
+use Rattle.pt_session.specs.declared.event.KeptEvent.TheVariants as change
+use Rattle.pt_session.specs.declared.reply.EventReply.TheVariants as event
+use Rattle.pt_req.specs.Deed.{Deed, Calls, Changes}
+use Rattle.pt_req.specs.Held.{fd_of}
+use Rattle.pt_req.specs.declared.act.ActReply.{ActReply}
+use Rattle.pt_req.specs.declared.act.ActReply.TheVariants.{Event, Host}
+use Rattle.pt_req.specs.declared.hold.Hold.{Hold}
+use Rattle.pt_req.specs.declared.hold.Hold.TheVariants as hold
+use Rattle.pt_law.specs.Ledger.{one_if, form_slot}
+
+-- descriptors: from a job to the tables, from the tables to a job, opened, closed
+
+abbrev pub fd_in : ℕ → Deed → ActReply → ℕ
+fd_in fd (Changes (change.Insert era number form ids mode)) (Event (event.Inserted given)) = is (fd_of form).0 fd
+fd_in fd (Changes (change.InsertRoot era form ids mode agreed)) (Event (event.Inserted given)) = is (fd_of form).0 fd
+fd_in fd deed told = 0
+
+abbrev pub fd_out : ℕ → Deed → ActReply → ℕ
+fd_out fd (Changes change.TakeClosing) (Event (event.Closing same slot)) = is same.0 fd
+fd_out fd deed told = 0
+
+abbrev pub fd_made : ℕ → Deed → ActReply → ℕ
+fd_made fd (Calls (call.OpenRoot path flags)) (Host (host.Ok (value.Fd new))) = is new.0 fd
+fd_made fd (Calls (call.OpenAt dir name flags mode)) (Host (host.Ok (value.Fd new))) = is new.0 fd
+fd_made fd deed told = 0
+
+abbrev pub fd_ended : ℕ → Deed → ActReply → ℕ
+fd_ended fd (Calls (call.Close same)) told = is same.0 fd
+fd_ended fd deed told = 0
+
+-- slots, from a job to the tables and back
+
+abbrev pub slot_in : Deed → ActReply → ℕ
+slot_in (Changes change.GiveFd) told = 1
+slot_in (Changes (change.Insert era number form ids mode)) (Event (event.Inserted given)) = form_slot form
+slot_in (Changes (change.InsertRoot era form ids mode agreed)) (Event (event.Inserted given)) = form_slot form
+slot_in deed told = 0
+
+abbrev pub slot_out : Deed → ActReply → ℕ
+slot_out (Changes change.TakeFd) (Event event.Taken) = 1
+slot_out (Changes change.TakeClosing) (Event (event.Closing fd slot)) = one_if slot
+slot_out deed told = 0
+
+-- pins, made and ended
+
+abbrev pub pin_made : ℕ → Deed → ActReply → ℕ
+pin_made serial (Changes (change.Resolve number)) (Event (event.Resolved row form ids mode)) = is row serial
+pin_made serial deed told = 0
+
+abbrev pub pin_ended : ℕ → Deed → ActReply → ℕ
+pin_ended serial (Changes (change.Unpin row)) told = is row serial
+pin_ended serial deed told = 0
+
+-- closings that are taken; those that come to be owed are `closings_in`
+abbrev pub closing_ended : Deed → ActReply → ℕ
+closing_ended (Changes change.TakeClosing) told = 1
+closing_ended deed told = 0
+
+-- what holds weigh
+
+abbrev pub pin_held : ℕ → Hold → ℕ
+pin_held serial (hold.Pin row fd) = is row serial
+pin_held serial _ = 0
+
+abbrev pub slot_held : Hold → ℕ
+slot_held hold.Slot = 1
+slot_held _ = 0
+
+-- what the tables have
+abbrev pub row_pins : ℕ → Row → ℕ
+row_pins serial row = is row.serial serial * row.pins
+
+-- no giving back was refused
+abbrev pub IsHonest : Deed → ActReply → Type 0
+IsHonest (Changes (change.Unpin row)) (Event (event.Refused why)) = ⊥
+IsHonest (Changes change.GiveFd) (Event (event.Refused why)) = ⊥
+IsHonest (Changes change.TakeClosing) (Event (event.Refused why)) = ⊥
+IsHonest deed told = Unit {0}

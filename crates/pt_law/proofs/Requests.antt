@@ -1,0 +1,97 @@
+-- Each request is fit: its parts, for whatever follows, and it whole.
+use Rattle.std.proofs.Common.{◌≡◌, inl, ℕ, List, [], ◌∷◌, Bool, true, false, Option, Some, None, refl, ap, ◌∙◌, if◌then◌else◌}
+use Rattle.pt_host.specs.Words.{Takes.{here}}
+use Rattle.pt_host.specs.declared.ids.Fd.{Fd}
+use Rattle.pt_host.specs.declared.ids.ObjIds.{ObjIds}
+use Rattle.pt_host.specs.declared.stat.Stat.{Stat}
+use Rattle.pt_session.specs.declared.form.RowForm.TheVariants.{File}
+use Rattle.pt_session.specs.declared.form.Negotiated.{Negotiated}
+use Rattle.pt_iface.specs.declared.entry.Entry.{Entry}
+use Rattle.pt_iface.specs.declared.request.Request.{Request}
+use Rattle.pt_iface.specs.declared.request.Request.TheVariants as request
+use Rattle.pt_req.specs.Deed.{Step}
+use Rattle.pt_req.specs.Held.{fd_of}
+use Rattle.pt_req.specs.Tree.{Tree}
+use Rattle.pt_req.specs.Requests.{Session, path, is_bad_name, entry_of, inserted, numbered, told_of, opened_in, look_up, root_open, answers_entry, root, lookup, forget, tree_of}
+use Rattle.pt_req.specs.declared.hold.Hold.{Hold}
+use Rattle.pt_req.specs.declared.hold.Hold.TheVariants as hold
+use Rattle.pt_req.specs.declared.plan.Plan.{Plan}
+use Rattle.pt_law.specs.Discipline.{Notes, blank, with_root}
+use Rattle.pt_law.specs.Fit.{Fit, Lasts}
+use Rattle.pt_law.proofs.Parts.{ask_begin, ask_resolve, ask_open_root, ask_open_at, ask_stat, ask_claim, ask_slot, ask_number, ask_insert, ask_insert_root, ask_forget, ask_own}
+
+-- what follows a number that was had: its count is the last hold
+abbrev Numbered : Request → ℕ → (ℕ → Tree) → List Hold → Notes → Type 0
+Numbered asked era next holds notes = (number : ℕ) (later : Notes) (path : List Step) → Lasts notes later → Fit asked (next number) (hold.Count era number ∷ holds) later path
+
+fit_inserted : (asked : Request) (session : Session) (fd : Fd) (stat : Stat) (next : ℕ → Tree) (fresh row : ℕ) (dir : Fd) (holds : List Hold) (notes : Notes) (path : List Step) →
+    notes.era ≡ Some session.era → notes.latest ≡ Some fd → notes.drawn ≡ Some fresh → Numbered asked session.era next holds notes →
+    Fit asked (inserted session fd stat next fresh) (hold.Fd fd (Some stat.ids) ∷ hold.Slot ∷ hold.Pin row dir ∷ holds) notes path
+fit_inserted asked session fd stat next fresh row dir holds notes path e l d f =
+    ask_insert asked session.era fresh (File fd) stat.ids stat.mode _ _ (hold.Pin row dir ∷ holds) notes path e l d
+    (λ number path later m. f number later path m)
+    (λ number path later m. f number later path m)
+
+fit_numbered : (asked : Request) (session : Session) (fd : Fd) (stat : Stat) (next : ℕ → Tree) (row : ℕ) (dir : Fd) (holds : List Hold) (notes : Notes) (path : List Step) →
+    notes.era ≡ Some session.era → notes.latest ≡ Some fd → Numbered asked session.era next holds notes →
+    Fit asked (numbered session fd stat next) (hold.Fd fd (Some stat.ids) ∷ hold.Pin row dir ∷ holds) notes path
+fit_numbered asked session fd stat next row dir holds notes path e l f =
+    ask_claim asked session.era fd stat.ids _ _ (hold.Pin row dir ∷ holds) notes path e l
+    (λ number path later m. f number later path m)
+    (λ path. ask_slot asked _ (hold.Fd fd (Some stat.ids)) (hold.Pin row dir ∷ holds) notes path
+    (λ path. ask_number asked (inserted session fd stat next) (hold.Fd fd (Some stat.ids) ∷ hold.Slot ∷ hold.Pin row dir ∷ holds) notes path
+    (λ fresh path. fit_inserted asked session fd stat next fresh row dir holds (record notes { drawn = Some fresh }) path e l refl f)))
+
+-- what follows an entry that was had
+abbrev pub Entered : Request → Session → (Entry → Tree) → List Hold → Notes → Type 0
+Entered asked session next holds notes =
+    (entry : Entry) (later : Notes) (path : List Step) → Lasts notes later → Fit asked (next entry) (hold.Count session.era entry.inode ∷ holds) later path
+
+fit_opened : (asked : Request) (plan : Plan) (session : Session) (parent : ObjIds) (row : ℕ) (dir : Fd) (name : List ℕ) (next : Entry → Tree) (holds : List Hold) (notes : Notes) (path : List Step) →
+    notes.era ≡ Some session.era → Entered asked session next holds notes →
+    Fit asked (opened_in plan session parent dir name next) (hold.Pin row dir ∷ holds) notes path
+fit_opened asked plan session parent row dir name next holds notes steps e f =
+    ask_open_at asked dir name path 0 (λ fd. told_of plan session parent fd next) (hold.Pin row dir ∷ holds) notes steps (hold.Pin row dir, holds, here, refl)
+    (λ fd steps. ask_stat asked fd None _ (hold.Pin row dir ∷ holds) (record notes { latest = Some fd }) steps
+    (λ stat steps. fit_numbered asked session fd stat (λ number. next (entry_of plan session.agreed parent stat number)) row dir holds (record notes { latest = Some fd }) steps e refl
+    (λ number later steps m. f (entry_of plan session.agreed parent stat number) later steps m)))
+
+pub fit_look_up : (asked : Request) (plan : Plan) (session : Session) (parent : ℕ) (name : List ℕ) (next : Entry → Tree) (holds : List Hold) (notes : Notes) (path : List Step) →
+    notes.era ≡ Some session.era → Entered asked session next holds notes → Fit asked (look_up plan session parent name next) holds notes path
+fit_look_up asked plan session parent name next holds notes path e f =
+    ask_resolve asked parent (λ form ids. opened_in plan session ids (fd_of form) name next) holds notes path
+    (λ row form ids path. fit_opened asked plan session ids row (fd_of form) name next holds notes path e f)
+
+-- the first root that is opened
+first_root : (fd : Fd) (notes : Notes) → notes.rooted ≡ false → (with_root fd notes).root ≡ Some fd
+first_root fd notes r = ap (λ (b : Bool). (if b then notes else record notes { root = Some fd; rooted = true }).root) r
+
+root_lasts : (rooted : Bool) (fd : Fd) (notes : Notes) → (if rooted then notes else record notes { root = Some fd; rooted = true }).era ≡ notes.era
+root_lasts true fd notes = refl
+root_lasts false fd notes = refl
+
+pub fit_root_open : (asked : Request) (plan : Plan) (session : Session) (agreed : Option Negotiated) (next : Tree) (holds : List Hold) (notes : Notes) (path : List Step) →
+    notes.era ≡ Some session.era → notes.rooted ≡ false → ((later : Notes) (path : List Step) → Lasts notes later → Fit asked next holds later path) →
+    Fit asked (root_open plan session agreed next) holds notes path
+fit_root_open asked plan session agreed next holds notes steps e r f =
+    ask_open_root asked plan.config.root_dir path _ holds notes steps
+    (λ fd steps. ask_stat asked fd None _ holds (with_root fd notes) steps
+    (λ stat steps. ask_slot asked _ (hold.Fd fd (Some stat.ids)) holds (with_root fd notes) steps
+    (λ steps. ask_insert_root asked session.era (File fd) stat.ids stat.mode agreed next holds (with_root fd notes) steps
+    (root_lasts notes.rooted fd notes ∙ e) (first_root fd notes r) (λ steps. f _ steps (root_lasts notes.rooted fd notes)))))
+
+fit_root : (asked : Request) (plan : Plan) → Fit asked (root plan) [] blank []
+fit_root asked plan = ask_begin asked _ [] blank [] (λ era agreed path. fit_root_open asked plan (record { era = era; agreed = agreed }) None _ [] _ path refl refl (λ later path l. (tt, tt)))
+
+fit_lookup : (plan : Plan) (parent : ℕ) (name : List ℕ) → Fit (request.Lookup parent name) (lookup plan parent name) [] blank []
+fit_lookup plan parent name = ask_begin (request.Lookup parent name) _ [] blank [] (λ era agreed path.
+    ask_own (request.Lookup parent name) (is_bad_name name) _ [] _ path (λ bad. inl (bad, refl))
+    (fit_look_up (request.Lookup parent name) plan (record { era = era; agreed = agreed }) parent name answers_entry [] _ path refl (λ entry later path l. (refl, tt))))
+
+fit_forget : (asked : Request) (inode count : ℕ) → Fit asked (forget inode count) [] blank []
+fit_forget asked inode count = ask_begin asked _ [] blank [] (λ era agreed path. ask_forget asked ((inode, count) ∷ []) _ [] _ path (λ later path l. (tt, tt)))
+
+pub fit_request : (plan : Plan) (asked : Request) → Fit asked (tree_of plan asked) [] blank []
+fit_request plan request.Root = fit_root request.Root plan
+fit_request plan (request.Lookup parent name) = fit_lookup plan parent name
+fit_request plan (request.Forget inode count) = fit_forget (request.Forget inode count) inode count

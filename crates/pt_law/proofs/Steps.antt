@@ -1,0 +1,192 @@
+-- What holds before and after each step, whatever the other jobs do.
+use Rattle.std.proofs.Common.{◌≡◌, ◌≢◌, ◌⊎◌, ⊎_elim, inl, inr, ℕ, zero, suc, ◌+◌, ◌-◌, ◌*◌, ◌<◌, ◌≤◌, List, [], ◌∷◌, ◌++◌, length, Bool, true, false, refl, sym, ap, subst, ◌∙◌, arith, Option, Some, None}
+use Rattle.std.proofs.lemmas.Bool.{cases_eq}
+use Rattle.pt_host.specs.Words.{is, total, Each, Takes, set_at, sum_to}
+use Rattle.pt_host.specs.Call.{Call}
+use Rattle.pt_host.specs.Reply.{ReplyHoldsBytes}
+use Rattle.pt_host.specs.Promises.{FitsCall, IsAllowed}
+use Rattle.pt_host.specs.Tree.{Tree, IsWellFormed}
+use Rattle.pt_host.specs.LawfulStep.{LawfulStep, Changes as TreeChanges, closed_at}
+use Rattle.pt_host.specs.declared.ids.Fd.{Fd}
+use Rattle.pt_host.specs.declared.seat.HostSeat.{HostSeat}
+use Rattle.pt_host.specs.declared.op.KeptHostOp.TheVariants as call
+use Rattle.pt_host.specs.declared.reply.HostReply.{HostReply}
+use Rattle.pt_host.specs.declared.reply.HostReply.TheVariants as host
+use Rattle.pt_host.specs.declared.reply.HostValue.TheVariants as value
+use Rattle.pt_session.specs.Change.{Change}
+use Rattle.pt_session.specs.Tables.{Row, Tables, Agree}
+use Rattle.pt_session.specs.Happens.{Happens}
+use Rattle.pt_session.specs.declared.reply.EventReply.{EventReply}
+use Rattle.pt_req.specs.Deed.{Deed, Calls, Changes, Step}
+use Rattle.pt_req.specs.Made.{Made}
+use Rattle.pt_req.specs.declared.act.ActReply.{ActReply}
+use Rattle.pt_req.specs.declared.act.ActReply.TheVariants.{Event, Host, NoCopy}
+use Rattle.pt_req.specs.declared.hold.Hold.{Hold}
+use Rattle.pt_law.specs.Discipline.{Job, Moves, MovesIf, MovesBy}
+use Rattle.pt_law.specs.World.{World, Past, Turn, Turns, Goes, IsLawful, settled_if, settled_by}
+use Rattle.pt_law.specs.Ledger.{open_count, kept_fds, held_by, fd_held, row_fd, closing_fd, some_count, inserted_if, inserted_as}
+use Rattle.pt_law.proofs.Flows.{fd_ended, IsHonest}
+use Rattle.pt_law.proofs.Lists.{total_takes, sum_to_set, is_same, set_at_same, set_at_other, at_each}
+use Rattle.pt_law.proofs.Effects.{agrees}
+use Rattle.pt_law.proofs.Balance.{moved}
+use Rattle.pt_law.proofs.Holding.{handed, in_tree}
+use Rattle.pt_law.proofs.Counting.{Books, keeps_books, honest, part}
+use Rattle.pt_law.proofs.Numbers.{Numbers, keeps_numbers}
+use Rattle.pt_law.proofs.Knowing.{Knowing}
+use Rattle.pt_law.proofs.Events.{grows, rows_event, knows_event, knows_other}
+use Rattle.pt_law.proofs.Calls.{Right, keeps_call}
+use Rattle.pt_law.proofs.Givings.{agree_step}
+
+-- what holds of the tables, whatever host there is; `had` says how often each number was inserted
+pub record Tabled (bound : ℕ) (had : ℕ → ℕ) (t : Tables) (js : ℕ → Job) : Type 0 where
+  pub agree : Agree t
+  pub books : Books bound t js
+  pub numbers : Numbers bound had t js
+
+-- and of a host that tells its tree; `base` says what was open before the first step
+pub record Inv (bound : ℕ) (base had : ℕ → ℕ) (w : World) (js : ℕ → Job) : Type 0 where
+  pub tabled : Tabled bound had w.tables js
+  pub well : IsWellFormed w.tree
+  pub fds : (fd : ℕ) → open_count fd w.tree ≡ kept_fds fd w.tables + held_by bound (fd_held fd) js + base fd
+  pub right : Right bound w.tree w.tables.next_row w.past w.tables.rows js
+
+pub set_self : {X : Type 0} (f : ℕ → X) (j : ℕ) (x : X) → x ≡ f j → set_at j x f ≡ f
+set_self f j x e = λ i k. at k i
+  where
+    at : (k : ℕ) → set_at j x f k ≡ f k
+    at k = ⊎_elim (λ (q : k ≡ j). ap (set_at j x f) q ∙ set_at_same f j x ∙ e ∙ ap f (sym q)) (λ (q : k ≢ j). set_at_other f j x k q) (cases_eq k j)
+
+-- another count of insertions that is the same
+pub recount : (bound : ℕ) (had had' : ℕ → ℕ) (t : Tables) (js : ℕ → Job) → ((n : ℕ) → had' n ≡ had n) → Tabled bound had t js → Tabled bound had' t js
+recount bound had had' t js e v = record {
+  agree = v.agree;
+  books = v.books;
+  numbers = record {
+    once = λ n ne. let a = v.numbers.once n ne in let b = e n in omega (arith, a, b);
+    fresh = λ n l. let a = v.numbers.fresh n l in let b = e n in omega (arith, a, b);
+    second = v.numbers.second;
+  };
+}
+
+pub keeps_tabled : (bound : ℕ) (had : ℕ → ℕ) (t : Tables) (js : ℕ → Job) (j : ℕ) (deed : Option Deed) (told : ActReply) (t' : Tables) (after : Job) → j < bound → Tabled bound had t js → Turns t deed told t' →
+    MovesIf (js j) deed told after → Tabled bound (λ n. had n + inserted_if n deed told) t' (set_at j after js)
+keeps_tabled bound had t js j None told t' after lt v g m = rw (g, set_self js j after m) (recount bound had (λ n. had n + 0) t js (λ n. omega arith) v)
+keeps_tabled bound had t js j (Some deed) told t' after lt v g m = record {
+  agree = agree_step t (Some deed) told t' g v.agree;
+  books = keeps_books bound t js j deed told t' after lt v.agree v.books g m;
+  numbers = keeps_numbers bound had t js j deed told t' after lt v.agree v.numbers g m;
+}
+
+abbrev pub IsHonestStep : Option Deed → ActReply → Type 0
+IsHonestStep None told = Unit {0}
+IsHonestStep (Some deed) told = IsHonest deed told
+
+pub honest_step : (bound : ℕ) (had : ℕ → ℕ) (t : Tables) (js : ℕ → Job) (j : ℕ) (deed : Option Deed) (told : ActReply) (t' : Tables) (after : Job) → j < bound → Tabled bound had t js → Turns t deed told t' →
+    MovesIf (js j) deed told after → IsHonestStep deed told
+honest_step bound had t js j None told t' after lt v g m = tt
+honest_step bound had t js j (Some (Calls a)) told t' after lt v g m = tt
+honest_step bound had t js j (Some (Changes e)) (Event r) t' after lt v g m = honest bound t js j e r t' after lt v.books g m
+honest_step bound had t js j (Some (Changes e)) told t' after lt v g m = absurd g
+
+-- what a made step does to the tables
+pub turned : (tree tree' : Tree) (seat seat' : HostSeat) (t t' : Tables) (deed : Option Deed) (told : ActReply) → Made IsLawful deed told tree seat t tree' seat' t' → Turns t deed told t'
+turned tree tree' seat seat' t t' (Some (Changes e)) (Event r) h = h.0
+turned tree tree' seat seat' t t' (Some (Calls a)) (Host r) h = h.1
+turned tree tree' seat seat' t t' (Some (Calls a)) NoCopy h = h.1
+turned tree tree' seat seat' t t' None NoCopy h = h.2
+turned tree tree' seat seat' t t' _ _ h = absurd h
+
+-- no call of these tells bytes, so each reply could be copied
+no_bytes : (a : Call) (r : HostReply) (before after : ℕ) → ReplyHoldsBytes r → IsAllowed before a r after → ⊥
+no_bytes (call.OpenRoot path flags) (host.Ok (value.Bytes bytes)) before after h f = f
+no_bytes (call.OpenAt dir name flags mode) (host.Ok (value.Bytes bytes)) before after h f = f
+no_bytes (call.Stat fd) (host.Ok (value.Bytes bytes)) before after h f = f
+no_bytes (call.Close fd) (host.Ok (value.Bytes bytes)) before after h f = f
+no_bytes _ _ before after h f = absurd h
+
+at_most_one : (fd : ℕ) (tree : Tree) → open_count fd tree ≤ 1
+at_most_one fd tree = go (tree.opened fd)
+  where
+    go : {A : Type 0} (x : Option A) → some_count x ≤ 1
+    go None = omega arith
+    go (Some x) = omega arith
+
+-- what is closed was held
+closed_held : (job : Job) (a : Call) (told : ActReply) (after : Job) → MovesBy job (Calls a) told after → (f : ℕ) → 0 < fd_ended f (Calls a) told → 0 < total (fd_held f) job.holds
+closed_held job (call.OpenRoot path flags) told after m f l = absurd (omega arith)
+closed_held job (call.OpenAt dir name flags mode) told after m f l = absurd (omega arith)
+closed_held job (call.Stat fd) told after m f l = absurd (omega arith)
+closed_held job (call.Close fd) told after m f l = let a = total_takes (fd_held f) m.0.1 in omega (arith, a, l)
+
+keeps_event : (bound : ℕ) (base had : ℕ → ℕ) (w : World) (js : ℕ → Job) (j : ℕ) (e : Change) (r : EventReply) (t' : Tables) (after : Job) → j < bound → Inv bound base had w js → Happens w.tables e r t' →
+    MovesBy (js j) (Changes e) (Event r) after →
+    Inv bound base (λ n. had n + inserted_as n (Changes e) (Event r)) (record { tree = w.tree; tables = t'; past = settled_by w.past j (Changes e) (Event r) w.tables.next_row w.tree }) (set_at j after js)
+keeps_event bound base had w js j e r t' after lt v h m =
+    let a = v.tabled.agree in
+    let later = settled_by w.past j (Changes e) (Event r) w.tables.next_row w.tree in
+    let g = grows w.tree w.past w.tables j e r t' a h in
+    record {
+      tabled = keeps_tabled bound had w.tables js j (Some (Changes e)) (Event r) t' after lt v.tabled h m;
+      well = v.well;
+      fds = λ fd.
+          let x = v.fds fd in
+          let y = (handed (js j).holds (Changes e) (Event r) after.holds m.0).fds fd in
+          let z = (moved w.tables e r t' h (honest bound w.tables js j e r t' after lt v.tabled.books h m)).fds fd in
+          let s = sum_to_set (λ (k : Job). total (fd_held fd) k.holds) js j after bound lt in
+          omega (arith, x, y, z, s);
+      right = record {
+        shown = rows_event w.tree w.past w.tables j (js j) after e r t' a h m (v.right.knows j lt) v.right.shown;
+        knows = λ i less. at_each (Knowing w.tree t'.next_row later) js j after i
+            (knows_event w.tree w.past w.tables j (js j) after e r t' a h m v.right.shown (v.right.knows j lt))
+            (λ _. knows_other w.tree w.past later w.tables.next_row t'.next_row i (js i) g (v.right.knows i less));
+      };
+    }
+
+keeps_host : (bound : ℕ) (base had : ℕ → ℕ) (w : World) (js : ℕ → Job) (j : ℕ) (a : Call) (r : HostReply) (seat seat' : HostSeat) (tree' : Tree) (after : Job) → j < bound → Inv bound base had w js →
+    LawfulStep w.tree seat a r tree' seat' → MovesBy (js j) (Calls a) (Host r) after →
+    Inv bound base (λ n. had n + inserted_as n (Calls a) (Host r)) (record { tree = tree'; tables = w.tables; past = settled_by w.past j (Calls a) (Host r) w.tables.next_row tree' }) (set_at j after js)
+keeps_host bound base had w js j a r seat seat' tree' after lt v l m =
+    let opened = in_tree w.tree a r tree' l.changes (λ f q. let x = closed_held (js j) a (Host r) after m f q in let y = v.fds f in let z = part (fd_held f) js bound j lt in let u = at_most_one f w.tree in omega (arith, x, y, z, u)) in
+    let fds : (fd : ℕ) → open_count fd tree' ≡ kept_fds fd w.tables + held_by bound (fd_held fd) (set_at j after js) + base fd = (λ fd.
+        let x = v.fds fd in
+        let y = (handed (js j).holds (Calls a) (Host r) after.holds m.0).fds fd in
+        let z = opened fd in
+        let s = sum_to_set (λ (k : Job). total (fd_held fd) k.holds) js j after bound lt in
+        omega (arith, x, y, z, s)) in
+    record {
+      tabled = keeps_tabled bound had w.tables js j (Some (Calls a)) (Host r) w.tables after lt v.tabled refl m;
+      well = l.well_formed v.well;
+      fds = fds;
+      right = keeps_call bound w.tree w.tables.next_row w.past w.tables.rows js j after a r tree' lt v.right l.changes m
+          (λ f e.
+              let n : open_count f.0 tree' ≡ 0 = closed_none w.tree tree' a f r e l.changes in
+              let x = fds f.0 in
+              (omega (arith, n, x), (λ i less. let y = part (fd_held f.0) (set_at j after js) bound i less in omega (arith, n, x, y))));
+    }
+  where
+    closed_none : (tree tree' : Tree) (a : Call) (f : Fd) (r : HostReply) → a ≡ call.Close f → TreeChanges tree a r tree' → open_count f.0 tree' ≡ 0
+    closed_none tree tree' a f r e h = let l : TreeChanges tree (call.Close f) r tree' = subst (λ c. TreeChanges tree c r tree') e h in none tree tree' f r l
+      where
+        none : (tree tree' : Tree) (f : Fd) (r : HostReply) → TreeChanges tree (call.Close f) r tree' → open_count f.0 tree' ≡ 0
+        none tree tree' f r l = rw l (ap some_count (set_at_same tree.opened f.0 None))
+
+keeps_by : (bound : ℕ) (base had : ℕ → ℕ) (w : World) (js : ℕ → Job) (j : ℕ) (deed : Option Deed) (told : ActReply) (seat seat' : HostSeat) (next : World) (after : Job) → j < bound → Inv bound base had w js →
+    Made IsLawful deed told w.tree seat w.tables next.tree seat' next.tables → next.past ≡ settled_if w.past j deed told w.tables.next_row next.tree → MovesIf (js j) deed told after →
+    Inv bound base (λ n. had n + inserted_if n deed told) next (set_at j after js)
+keeps_by bound base had w js j None NoCopy seat seat' next after lt v g p m =
+    let same : next ≡ w = λ i. record { tree = g.0 i; tables = g.2 i; past = p i } in
+    rw (same, set_self js j after m) (record { tabled = recount bound had (λ n. had n + 0) w.tables js (λ n. omega arith) v.tabled; well = v.well; fds = v.fds; right = v.right })
+keeps_by bound base had w js j (Some (Changes e)) (Event r) seat seat' next after lt v g p m =
+    let past : next.past ≡ settled_by w.past j (Changes e) (Event r) w.tables.next_row w.tree = p ∙ ap (settled_by w.past j (Changes e) (Event r) w.tables.next_row) g.1 in
+    let same : next ≡ record { tree = w.tree; tables = next.tables; past = settled_by w.past j (Changes e) (Event r) w.tables.next_row w.tree } = λ i. record { tree = g.1 i; tables = next.tables; past = past i } in
+    rw same (keeps_event bound base had w js j e r next.tables after lt v g.0 m)
+keeps_by bound base had w js j (Some (Calls a)) (Host r) seat seat' next after lt v g p m =
+    let same : next ≡ record { tree = next.tree; tables = w.tables; past = settled_by w.past j (Calls a) (Host r) w.tables.next_row next.tree } = λ i. record { tree = next.tree; tables = g.1 i; past = p i } in
+    rw same (keeps_host bound base had w js j a r seat seat' next.tree after lt v g.0.0 m)
+keeps_by bound base had w js j (Some (Calls a)) NoCopy seat seat' next after lt v g p m = let l = g.0.2 in absurd (no_bytes a g.0.0 l.1 l.2 g.0.1 l.3.allowed)
+keeps_by bound base had w js j _ _ seat seat' next after lt v g p m = absurd g
+
+-- Each step keeps what holds.
+pub keeps : (bound : ℕ) (base had : ℕ → ℕ) (w : World) (js : ℕ → Job) (turn : Turn) (next : World) (after : Job) → turn.job < bound → Inv bound base had w js → Goes w turn next →
+    Moves (js turn.job) turn.step after → Inv bound base (λ n. had n + inserted_if n turn.step.deed turn.step.reply) next (set_at turn.job after js)
+keeps bound base had w js turn next after lt v g m = keeps_by bound base had w js turn.job turn.step.deed turn.step.reply g.seat g.seat_after next after lt v g.made g.past m

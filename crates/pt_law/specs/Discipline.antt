@@ -1,0 +1,149 @@
+-- What a job holds, owes and knows between its steps, whichever request it serves.
+use Rattle.std.specs.Prelude.{◌≡◌, ℕ, ◌+◌, ◌-◌, ◌<◌, ◌==◌, Bool, true, false, if◌then◌else◌, List, [], ◌∷◌, ◌++◌, Option, None, Some}
+use Rattle.pt_host.specs.Words.{Takes, Replaces}
+use Rattle.pt_host.specs.declared.ids.Fd.{Fd}
+use Rattle.pt_host.specs.declared.ids.ObjIds.{ObjIds}
+use Rattle.pt_host.specs.declared.op.KeptHostOp.TheVariants as call
+use Rattle.pt_host.specs.declared.reply.HostReply.TheVariants as host
+use Rattle.pt_host.specs.declared.reply.HostValue.TheVariants as value
+use Rattle.pt_session.specs.declared.event.KeptEvent.TheVariants as change
+use Rattle.pt_session.specs.declared.reply.EventReply.TheVariants as event
+use Rattle.pt_iface.specs.declared.answer.Answer.TheVariants as answer
+use Rattle.pt_req.specs.Deed.{Deed, Calls, Changes, Step}
+use Rattle.pt_req.specs.Held.{fd_of, closings_in, taken_in, brought}
+use Rattle.pt_req.specs.declared.act.ActReply.{ActReply}
+use Rattle.pt_req.specs.declared.act.ActReply.TheVariants.{Event, Host}
+use Rattle.pt_req.specs.declared.finish.Finish.{Finish}
+use Rattle.pt_req.specs.declared.finish.Finish.TheVariants as finish
+use Rattle.pt_req.specs.declared.hold.Hold.{Hold}
+use Rattle.pt_req.specs.declared.hold.Hold.TheVariants as hold
+
+abbrev pub Names : Hold → Fd → Type 0
+Names (hold.Pin row same) fd = same ≡ fd
+Names (hold.Fd same told) fd = same ≡ fd
+Names _ fd = ⊥
+
+-- the job may name this descriptor: it holds it, or a pin on the row that keeps it
+abbrev pub Knows : List Hold → Fd → Type 0
+Knows holds fd = (one : Hold) × (rest : List Hold) × Takes one holds rest × Names one fd
+
+-- the second list is the first with one more
+abbrev pub Gains : Hold → List Hold → List Hold → Type 0
+Gains one holds after = Takes one after holds
+
+-- What is held before and after a deed, by its reply; the order is of no account. What gives a hold back ends it, whatever it is told.
+abbrev pub Shifts : List Hold → Deed → ActReply → List Hold → Type 0
+Shifts holds (Calls (call.OpenRoot path flags)) (Host (host.Ok (value.Fd fd))) after = Gains (hold.Fd fd None) holds after
+Shifts holds (Calls (call.OpenAt dir name flags mode)) (Host (host.Ok (value.Fd fd))) after = Knows holds dir × Gains (hold.Fd fd None) holds after
+Shifts holds (Calls (call.OpenAt dir name flags mode)) told after = Knows holds dir × (after ≡ holds)
+Shifts holds (Calls (call.Stat fd)) (Host (host.Ok (value.Stat stat))) after = (was : Option ObjIds) × Replaces (hold.Fd fd was) (hold.Fd fd (Some stat.ids)) holds after
+Shifts holds (Calls (call.Stat fd)) told after = Knows holds fd × (after ≡ holds)
+Shifts holds (Calls (call.Close fd)) told after = (was : Option ObjIds) × Takes (hold.Fd fd was) holds after
+Shifts holds (Changes (change.Resolve number)) (Event (event.Resolved row form ids mode)) after = Gains (hold.Pin row (fd_of form)) holds after
+Shifts holds (Changes (change.Unpin row)) told after = (fd : Fd) × Takes (hold.Pin row fd) holds after
+Shifts holds (Changes (change.Claim era handle ids)) (Event (event.Claimed number)) after = Gains (hold.Count era number) holds after
+Shifts holds (Changes change.TakeFd) (Event event.Taken) after = Gains hold.Slot holds after
+Shifts holds (Changes change.GiveFd) told after = Takes hold.Slot holds after
+Shifts holds (Changes (change.Insert era number form ids mode)) (Event (event.Inserted given)) after =
+    (mid : List Hold) × (rest : List Hold) × Takes (hold.Fd (fd_of form) (Some ids)) holds mid × Takes hold.Slot mid rest × Gains (hold.Count era given) rest after
+Shifts holds (Changes (change.Insert era number form ids mode)) (Event (event.Found given)) after = Gains (hold.Count era given) holds after
+Shifts holds (Changes (change.InsertRoot era form ids mode agreed)) (Event (event.Inserted given)) after =
+    (mid : List Hold) × Takes (hold.Fd (fd_of form) (Some ids)) holds mid × Takes hold.Slot mid after
+Shifts holds (Changes (change.GiveBack era number)) told after = Takes (hold.Count era number) holds after
+Shifts holds (Changes change.TakeClosing) told after = after ≡ brought (taken_in told) ++ holds
+Shifts holds deed told after = after ≡ holds
+
+-- What a job knows by its steps. A descriptor is noted while it is neither closed nor handed to the tables, and a number while it is not inserted.
+pub record Notes : Type 0 where
+  -- the era in which it began
+  pub era : Option ℕ
+  -- what its latest `OpenAt` answered
+  pub latest : Option Fd
+  -- what its first `OpenRoot` answered, and whether one was answered yet
+  pub root : Option Fd
+  pub rooted : Bool
+  -- the number that it drew last
+  pub drawn : Option ℕ
+
+abbrev pub blank : Notes
+blank = record { era = None; latest = None; root = None; rooted = false; drawn = None }
+
+-- unless it is this one
+abbrev pub unless : Fd → Option Fd → Option Fd
+unless fd None = None
+unless fd (Some noted) = if noted.0 == fd.0 then None else Some noted
+
+-- this descriptor is noted no more
+abbrev pub without : Fd → Notes → Notes
+without fd notes = record notes { latest = unless fd notes.latest; root = unless fd notes.root }
+
+-- the first opening of a root stays the first
+abbrev pub with_root : Fd → Notes → Notes
+with_root fd notes = if notes.rooted then notes else record notes { root = Some fd; rooted = true }
+
+abbrev pub notes_after : Notes → Deed → ActReply → Notes
+notes_after notes (Changes change.Begin) (Event (event.Began era agreed)) = record notes { era = Some era }
+notes_after notes (Calls (call.OpenRoot path flags)) (Host (host.Ok (value.Fd fd))) = with_root fd notes
+notes_after notes (Calls (call.OpenAt dir name flags mode)) (Host (host.Ok (value.Fd fd))) = record notes { latest = Some fd }
+notes_after notes (Calls (call.Close fd)) told = without fd notes
+notes_after notes (Changes change.DrawNode) (Event (event.Drawn number)) = record notes { drawn = Some number }
+notes_after notes (Changes (change.Insert era number form ids mode)) (Event (event.Inserted given)) = record (without (fd_of form) notes) { drawn = None }
+notes_after notes (Changes (change.InsertRoot era form ids mode agreed)) (Event (event.Inserted given)) = without (fd_of form) notes
+notes_after notes _ _ = notes
+
+pub record Job : Type 0 where
+  pub holds : List Hold
+  -- so many closings are still to be made
+  pub owed : ℕ
+  pub notes : Notes
+
+abbrev pub at_job : List Hold → Notes → Job
+at_job holds notes = record { holds = holds; owed = 0; notes = notes }
+
+-- a job before its first step
+abbrev pub idle : Job
+idle = at_job [] blank
+
+abbrev pub owed_after : ℕ → Deed → ActReply → ℕ
+owed_after owed (Changes change.TakeClosing) told = owed - 1
+owed_after owed deed told = owed + closings_in deed told
+
+-- the descriptor is held, and `Stat` told these ids of it
+abbrev pub IsTold : List Hold → Fd → ObjIds → Type 0
+IsTold holds fd ids = (rest : List Hold) × Takes (hold.Fd fd (Some ids)) holds rest
+
+-- Whether the job may make this deed, what it holds aside. A number is asked or inserted only for what was opened last, in the era of the job; an
+-- inserted one was drawn; number 1 is only for the first root that was opened; and a closing is taken only where one is owed.
+abbrev pub Fits : Job → Deed → Type 0
+Fits job (Changes (change.Claim era handle ids)) = (fd : Fd) × (job.notes.era ≡ Some era) × (job.notes.latest ≡ Some fd) × IsTold job.holds fd ids
+Fits job (Changes (change.Insert era number form ids mode)) =
+    (job.notes.era ≡ Some era) × (job.notes.latest ≡ Some (fd_of form)) × (job.notes.drawn ≡ Some number) × IsTold job.holds (fd_of form) ids
+Fits job (Changes (change.InsertRoot era form ids mode agreed)) =
+    (job.notes.era ≡ Some era) × (job.notes.root ≡ Some (fd_of form)) × IsTold job.holds (fd_of form) ids
+Fits job (Changes change.TakeClosing) = 0 < job.owed
+Fits job deed = Unit {0}
+
+abbrev pub MovesBy : Job → Deed → ActReply → Job → Type 0
+MovesBy job deed told after =
+    Shifts job.holds deed told after.holds × Fits job deed × (after.owed ≡ owed_after job.owed deed told) × (after.notes ≡ notes_after job.notes deed told)
+
+-- a step that was not made moves nothing
+abbrev pub MovesIf : Job → Option Deed → ActReply → Job → Type 0
+MovesIf job None told after = after ≡ job
+MovesIf job (Some deed) told after = MovesBy job deed told after
+
+abbrev pub Moves : Job → Step → Job → Type 0
+Moves job step after = MovesIf job step.deed step.reply after
+
+abbrev pub Disciplined : Job → List Step → Job → Type 0
+Disciplined job [] after = after ≡ job
+Disciplined job (step ∷ steps) after = (mid : Job) × Moves job step mid × Disciplined mid steps after
+
+-- what is held at the end: an answered number's count, which the asker has then
+abbrev pub entry_holds : ℕ → Finish → List Hold
+entry_holds era (finish.Answer (answer.Entry entry)) = hold.Count era entry.inode ∷ []
+entry_holds era end = []
+
+-- by these steps the job comes to its end: it holds what passes with the answer, and owes nothing
+abbrev pub Ends : Job → List Step → Finish → Type 0
+Ends job steps end = (era : ℕ) × (last : Notes) × Disciplined job steps (at_job (entry_holds era end) last)

@@ -1,0 +1,81 @@
+-- What holds of every run whose jobs keep the discipline, after every step and at the end.
+use Rattle.std.specs.Prelude.{◌≡◌, ◌≢◌, ◌<◌, ◌≤◌, ℕ, ◌+◌, true, List, [], ◌++◌, Option, None, Some}
+use Rattle.pt_host.specs.Words.{total, sum_to, Each}
+use Rattle.pt_host.specs.Tree.{Tree, IsOpenOn, IsWellFormed}
+use Rattle.pt_host.specs.declared.op.KeptHostOp.TheVariants as call
+use Rattle.pt_session.specs.Tables.{Row, Tables, empty_tables, HasNumber}
+use Rattle.pt_session.specs.Happens.{IsRow, NoRow}
+use Rattle.pt_req.specs.Deed.{Deed, Calls}
+use Rattle.pt_req.specs.Held.{fd_of}
+use Rattle.pt_req.specs.declared.finish.Finish.{Finish}
+use Rattle.pt_law.specs.Discipline.{Job, idle, Disciplined, Ends}
+use Rattle.pt_law.specs.World.{Turn, World, steps_of, no_past}
+use Rattle.pt_law.specs.Ledger.{kept_slots, row_slot, carried, kept_fds, row_fd, fd_held, held_by, open_count}
+
+-- each step is one of the jobs' below the bound, and each of these keeps the discipline
+pub record AreDisciplined (bound : ℕ) (turns : List Turn) : Type 0 where
+  pub owners : Each (λ turn. turn.job < bound) turns
+  pub jobs : (job : ℕ) → job < bound → (last : Job) × Disciplined idle (steps_of job turns) last
+
+-- and has come to its end
+pub record AreEnded (bound : ℕ) (turns : List Turn) : Type 0 where
+  pub owners : Each (λ turn. turn.job < bound) turns
+  pub jobs : (job : ℕ) → job < bound → (end : Finish) × Ends idle (steps_of job turns) end
+
+-- a new session on a host that may have descriptors open
+pub record Starts (limit : ℕ) (world : World) : Type 0 where
+  pub tables : world.tables ≡ empty_tables limit
+  pub well_formed : IsWellFormed world.tree
+  pub past : world.past ≡ no_past
+
+-- the number has a live row
+abbrev pub IsLive : Tables → ℕ → Type 0
+IsLive tables number = (row : Row) × IsRow tables row × HasNumber number row
+
+-- the number was inserted last for this object
+abbrev pub ObjectOf : World → ℕ → ℕ → Type 0
+ObjectOf world number object = world.past.numbers number ≡ Some object
+
+-- two live numbers that differ have objects that differ
+abbrev pub AreDistinct : World → Type 0
+AreDistinct world = (number other : ℕ) → IsLive world.tables number → IsLive world.tables other → number ≢ other →
+    (object : ℕ) × (another : ℕ) × ObjectOf world number object × ObjectOf world other another × (object ≢ another)
+
+-- a live row has an open descriptor of its number's object
+abbrev pub HasObject : World → Row → Type 0
+HasObject world row = (object : ℕ) × ObjectOf world row.number object × IsOpenOn world.tree (fd_of row.form) object
+
+-- a number is live exactly where something was given and not taken back, and so much is its count
+pub record IsCounted (tables : Tables) (number : ℕ) (amount : ℕ) : Type 0 where
+  pub live : 0 < amount → (row : Row) × IsRow tables row × HasNumber number row × (row.count ≡ amount)
+  pub gone : amount ≡ 0 → NoRow tables (HasNumber number)
+
+-- slots left, those of rows and of the closing list, and those that jobs carry, are the limit
+abbrev pub SlotsAddUp : ℕ → ℕ → List Turn → Tables → Type 0
+SlotsAddUp limit bound turns tables = kept_slots tables + sum_to bound (λ job. carried (steps_of job turns)) ≡ limit
+
+-- Where each open descriptor is: it was open at the start, or stands once in the tables or is held once by a job.
+pub record AreKept (start : World) (bound : ℕ) (turns : List Turn) (now : World) : Type 0 where
+  -- one that stands in the tables stands there once, and is open
+  pub once : (fd : ℕ) → kept_fds fd now.tables ≤ open_count fd now.tree
+  pub jobs : ℕ → Job
+  pub held : (job : ℕ) → job < bound → Disciplined idle (steps_of job turns) (jobs job)
+  pub all : (fd : ℕ) → open_count fd now.tree ≡ kept_fds fd now.tables + held_by bound (fd_held fd) jobs + open_count fd start.tree
+
+-- a call names only what is open
+abbrev pub NamesOpen : Tree → Option Deed → Type 0
+NamesOpen tree (Some (Calls (call.OpenAt fd name flags mode))) = (object : ℕ) × IsOpenOn tree fd object
+NamesOpen tree (Some (Calls (call.Stat fd))) = (object : ℕ) × IsOpenOn tree fd object
+NamesOpen tree (Some (Calls (call.Close fd))) = (object : ℕ) × IsOpenOn tree fd object
+NamesOpen tree deed = Unit {0}
+
+-- at the end no row is pinned, nothing is to be closed, nothing is carried, and slots left are the limit less those of the rows
+pub record IsAtRest (limit bound : ℕ) (turns : List Turn) (tables : Tables) : Type 0 where
+  pub rows : Each (λ row. (row.live ≡ true) × (row.pins ≡ 0)) tables.rows
+  pub closing : tables.closing ≡ []
+  pub carried : (job : ℕ) → job < bound → carried (steps_of job turns) ≡ 0
+  pub slots : tables.slots + total row_slot tables.rows ≡ limit
+
+-- and open are those that were at the start, those of the rows, and no other
+abbrev pub LeavesRows : World → World → Type 0
+LeavesRows start end = (fd : ℕ) → open_count fd end.tree ≡ total (row_fd fd) end.tables.rows + open_count fd start.tree

@@ -1,0 +1,128 @@
+-- Who has what: tables, jobs and host; and what was given of each number.
+use Rattle.std.specs.Prelude.{ℕ, ◌+◌, ◌-◌, ◌*◌, Bool, true, false, List, [], ◌∷◌, Option, None, Some}
+use Rattle.pt_host.specs.Words.{is, total, sum_to}
+use Rattle.pt_host.specs.Tree.{Tree}
+use Rattle.pt_session.specs.Tables.{Row, Closing, Tables}
+use Rattle.pt_session.specs.declared.form.RowForm.{RowForm}
+use Rattle.pt_session.specs.declared.form.RowForm.TheVariants.{File}
+use Rattle.pt_session.specs.declared.event.KeptEvent.TheVariants as change
+use Rattle.pt_session.specs.declared.reply.EventReply.TheVariants as event
+use Rattle.pt_req.specs.Deed.{Deed, Changes, Step}
+use Rattle.pt_req.specs.Held.{fd_of}
+use Rattle.pt_req.specs.declared.act.ActReply.{ActReply}
+use Rattle.pt_req.specs.declared.act.ActReply.TheVariants.{Event}
+use Rattle.pt_req.specs.declared.hold.Hold.{Hold}
+use Rattle.pt_req.specs.declared.hold.Hold.TheVariants as hold
+use Rattle.pt_law.specs.Discipline.{Job}
+use Rattle.pt_law.specs.World.{Turn}
+
+abbrev pub one_if : Bool → ℕ
+one_if true = 1
+one_if false = 0
+
+-- Slots. A row that keeps a descriptor has one, and so has an entry of the closing list that says so.
+
+abbrev pub form_slot : RowForm → ℕ
+form_slot (File fd) = 1
+
+abbrev pub row_slot : Row → ℕ
+row_slot row = form_slot row.form
+
+abbrev pub closing_slot : Closing → ℕ
+closing_slot closing = one_if closing.slot
+
+-- those that are left, those of the rows, live or not, and those of the closing list
+abbrev pub kept_slots : Tables → ℕ
+kept_slots tables = tables.slots + total row_slot tables.rows + total closing_slot tables.closing
+
+-- what a reply brings a job
+abbrev pub slot_taken : ActReply → ℕ
+slot_taken (Event event.Taken) = 1
+slot_taken (Event (event.Closing fd slot)) = one_if slot
+slot_taken _ = 0
+
+-- what a job gives back or puts into the tables
+abbrev pub slot_given : Deed → ActReply → ℕ
+slot_given (Changes (change.Insert era number form ids mode)) (Event (event.Inserted given)) = form_slot form
+slot_given (Changes (change.InsertRoot era form ids mode agreed)) (Event (event.Inserted given)) = form_slot form
+slot_given _ (Event event.Given) = 1
+slot_given _ _ = 0
+
+abbrev pub slot_given_by : Option Deed → ActReply → ℕ
+slot_given_by None told = 0
+slot_given_by (Some deed) told = slot_given deed told
+
+-- what a job carries, by its replies alone
+abbrev pub carried : List Step → ℕ
+carried steps = total (λ step. slot_taken step.reply) steps - total (λ step. slot_given_by step.deed step.reply) steps
+
+-- Descriptors.
+
+abbrev pub row_fd : ℕ → Row → ℕ
+row_fd fd row = is (fd_of row.form).0 fd
+
+abbrev pub closing_fd : ℕ → Closing → ℕ
+closing_fd fd closing = is closing.fd.0 fd
+
+-- at how many places of the tables the descriptor stands
+abbrev pub kept_fds : ℕ → Tables → ℕ
+kept_fds fd tables = total (row_fd fd) tables.rows + total (closing_fd fd) tables.closing
+
+abbrev pub fd_held : ℕ → Hold → ℕ
+fd_held fd (hold.Fd same told) = is same.0 fd
+fd_held fd _ = 0
+
+-- what the jobs below a bound hold together
+abbrev pub held_by : ℕ → (Hold → ℕ) → (ℕ → Job) → ℕ
+held_by bound weight jobs = sum_to bound (λ job. total weight (jobs job).holds)
+
+abbrev pub some_count : {A : Type 0} → Option A → ℕ
+some_count None = 0
+some_count (Some one) = 1
+
+-- 1 where the descriptor is open, else 0
+abbrev pub open_count : ℕ → Tree → ℕ
+open_count fd tree = some_count (tree.opened fd)
+
+-- Givings and takings of a number.
+
+-- the pairs in order, each taking the lesser of what it asks and what is there
+abbrev pub forgotten : ℕ → ℕ → List (ℕ × ℕ) → ℕ
+forgotten number had [] = had
+forgotten number had (pair ∷ pairs) = forgotten number (had - is pair.0 number * pair.1) pairs
+
+abbrev pub given_by : ℕ → ℕ → Deed → ActReply → ℕ
+given_by number had (Changes (change.InsertRoot era form ids mode agreed)) (Event (event.Inserted given)) = had + is given number * 2
+given_by number had (Changes (change.Insert era drawn form ids mode)) (Event (event.Inserted given)) = had + is given number
+given_by number had (Changes (change.Insert era drawn form ids mode)) (Event (event.Found given)) = had + is given number
+given_by number had (Changes (change.Claim era handle ids)) (Event (event.Claimed given)) = had + is given number
+given_by number had (Changes (change.Forget list)) (Event (event.Done closings)) = forgotten number had list
+given_by number had (Changes (change.GiveBack era given)) (Event (event.Done closings)) = had - is given number
+given_by number had deed told = had
+
+abbrev pub given_if : ℕ → ℕ → Option Deed → ActReply → ℕ
+given_if number had None told = had
+given_if number had (Some deed) told = given_by number had deed told
+
+abbrev pub given_after : ℕ → ℕ → List Turn → ℕ
+given_after number had [] = had
+given_after number had (turn ∷ turns) = given_after number (given_if number had turn.step.deed turn.step.reply) turns
+
+-- what was given of a number and not taken back
+abbrev pub given : ℕ → List Turn → ℕ
+given number turns = given_after number 0 turns
+
+-- Insertions.
+
+abbrev pub inserted_as : ℕ → Deed → ActReply → ℕ
+inserted_as number (Changes (change.InsertRoot era form ids mode agreed)) (Event (event.Inserted given)) = is given number
+inserted_as number (Changes (change.Insert era drawn form ids mode)) (Event (event.Inserted given)) = is given number
+inserted_as number deed told = 0
+
+abbrev pub inserted_if : ℕ → Option Deed → ActReply → ℕ
+inserted_if number None told = 0
+inserted_if number (Some deed) told = inserted_as number deed told
+
+-- how often the number was inserted
+abbrev pub inserted : ℕ → List Turn → ℕ
+inserted number turns = total (λ turn. inserted_if number turn.step.deed turn.step.reply) turns

@@ -1,0 +1,10 @@
+pub mod Discipline
+pub mod Told
+pub mod Cause
+pub mod Fit
+pub mod Branch
+pub mod Settled
+pub mod Opened
+pub mod World
+pub mod Ledger
+pub mod Laws

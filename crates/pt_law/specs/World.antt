@@ -1,0 +1,106 @@
+-- Runs: the steps of all jobs in the order in which they were made, and where they lead.
+use Rattle.std.specs.Prelude.{◌≡◌, ℕ, ◌==◌, if◌then◌else◌, List, [], ◌∷◌, Option, None, Some}
+use Rattle.pt_host.specs.Words.{set_at}
+use Rattle.pt_host.specs.Tree.{Tree, Opened}
+use Rattle.pt_host.specs.LawfulStep.{LawfulStep}
+use Rattle.pt_host.specs.Promises.{IsPromised}
+use Rattle.pt_host.specs.declared.ids.Fd.{Fd}
+use Rattle.pt_host.specs.declared.seat.HostSeat.{HostSeat}
+use Rattle.pt_host.specs.declared.op.KeptHostOp.TheVariants as call
+use Rattle.pt_host.specs.declared.reply.HostReply.TheVariants as host
+use Rattle.pt_host.specs.declared.reply.HostValue.TheVariants as value
+use Rattle.pt_session.specs.Tables.{Tables}
+use Rattle.pt_session.specs.Happens.{Happens}
+use Rattle.pt_session.specs.declared.event.KeptEvent.TheVariants as change
+use Rattle.pt_session.specs.declared.reply.EventReply.TheVariants as event
+use Rattle.pt_req.specs.Deed.{Deed, Calls, Changes, Step}
+use Rattle.pt_req.specs.Held.{fd_of}
+use Rattle.pt_req.specs.Made.{Does, Made}
+use Rattle.pt_req.specs.declared.act.ActReply.{ActReply}
+use Rattle.pt_req.specs.declared.act.ActReply.TheVariants.{Event, Host}
+
+-- a step of a run, and the job that made it
+pub record Turn : Type 0 where
+  pub job : ℕ
+  pub step : Step
+
+-- what one job did
+abbrev pub steps_of : ℕ → List Turn → List Step
+steps_of job [] = []
+steps_of job (turn ∷ turns) = if turn.job == job then turn.step ∷ steps_of job turns else steps_of job turns
+
+-- What the steps so far have settled, judged by the tree and not by ids. A row is known by its serial, which never comes back.
+pub record Past : Type 0 where
+  -- the object of each number
+  pub numbers : ℕ → Option ℕ
+  -- the object and the descriptor of each row
+  pub objects : ℕ → Option ℕ
+  pub fds : ℕ → Option Fd
+  -- the object that each job's latest `OpenAt` answered, and the one that its first `OpenRoot` answered
+  pub latest : ℕ → Option ℕ
+  pub roots : ℕ → Option ℕ
+
+-- before the first step
+abbrev pub no_past : Past
+no_past = record { numbers = λ number. None; objects = λ row. None; fds = λ row. None; latest = λ job. None; roots = λ job. None }
+
+abbrev pub object_of : Option Opened → Option ℕ
+object_of None = None
+object_of (Some opened) = Some opened.object
+
+-- the first, where there is one
+abbrev pub first_of : Option ℕ → Option ℕ → Option ℕ
+first_of None later = later
+first_of (Some object) later = Some object
+
+-- The number is inserted for this object, with this descriptor.
+abbrev pub settled : Past → ℕ → ℕ → Fd → Option ℕ → Past
+settled past number row fd object =
+    record past { numbers = set_at number object past.numbers; objects = set_at row object past.objects; fds = set_at row (Some fd) past.fds }
+
+-- `Insert` sets its number's object to what the job's latest `OpenAt` answered, `InsertRoot` to what its first `OpenRoot` answered.
+abbrev pub settled_by : Past → ℕ → Deed → ActReply → ℕ → Tree → Past
+settled_by past job (Changes (change.Insert era number form ids mode)) (Event (event.Inserted given)) row tree =
+    settled past given row (fd_of form) (past.latest job)
+settled_by past job (Changes (change.InsertRoot era form ids mode agreed)) (Event (event.Inserted given)) row tree =
+    settled past given row (fd_of form) (past.roots job)
+settled_by past job (Calls (call.OpenAt dir name flags mode)) (Host (host.Ok (value.Fd fd))) row tree =
+    record past { latest = set_at job (object_of (tree.opened fd.0)) past.latest }
+settled_by past job (Calls (call.OpenRoot path flags)) (Host (host.Ok (value.Fd fd))) row tree =
+    record past { roots = set_at job (first_of (past.roots job) (object_of (tree.opened fd.0))) past.roots }
+settled_by past job _ _ row tree = past
+
+abbrev pub settled_if : Past → ℕ → Option Deed → ActReply → ℕ → Tree → Past
+settled_if past job None told row tree = past
+settled_if past job (Some deed) told row tree = settled_by past job deed told row tree
+
+-- where a run has come to: the host's tree, the tables, and what is settled
+pub record World : Type 0 where
+  pub tree : Tree
+  pub tables : Tables
+  pub past : Past
+
+-- a host that is its tree: it does what is lawful, and what every host promises
+abbrev pub IsLawful : Does Tree
+IsLawful tree seat asked told after seat' = LawfulStep tree seat asked told after seat' × (before : ℕ) × (later : ℕ) × IsPromised before seat asked told later seat'
+
+-- the step leads from this world to that
+pub record Goes (world : World) (turn : Turn) (after : World) : Type 0 where
+  pub seat : HostSeat
+  pub seat_after : HostSeat
+  pub made : Made IsLawful turn.step.deed turn.step.reply world.tree seat world.tables after.tree seat_after after.tables
+  pub past : after.past ≡ settled_if world.past turn.job turn.step.deed turn.step.reply world.tables.next_row after.tree
+
+abbrev pub Runs : World → List Turn → World → Type 0
+Runs world [] after = after ≡ world
+Runs world (turn ∷ turns) after = (mid : World) × Goes world turn mid × Runs mid turns after
+
+-- What a step does to the tables, whatever host there is: an event happens, and nothing else changes them.
+abbrev pub Turns : Tables → Option Deed → ActReply → Tables → Type 0
+Turns tables (Some (Changes asked)) (Event told) after = Happens tables asked told after
+Turns tables (Some (Changes asked)) told after = ⊥
+Turns tables deed told after = after ≡ tables
+
+abbrev pub TablesRun : Tables → List Turn → Tables → Type 0
+TablesRun tables [] after = after ≡ tables
+TablesRun tables (turn ∷ turns) after = (mid : Tables) × Turns tables turn.step.deed turn.step.reply mid × TablesRun mid turns after

@@ -1,0 +1,51 @@
+ghost use Rattle.std.specs.Prelude.{◌≡◌, ◌⊎◌, ◌+◌, ℕ, List, []};
+ghost use Rattle.pt_host.specs.declared.ids.Errno.{Errno};
+ghost use Rattle.pt_iface.specs.declared.answer.Answer.TheVariants as answer;
+ghost use Rattle.pt_iface.specs.declared.entry.Entry.{Entry};
+ghost use Rattle.pt_iface.specs.declared.request.Request.{Request};
+ghost use Rattle.pt_iface.specs.declared.request.Request.TheVariants as request;
+ghost use Rattle.pt_req.specs.Deed.{Step};
+ghost use Rattle.pt_req.specs.Grammar.{Belongs};
+ghost use Rattle.pt_req.specs.Frame.{BelongsCut};
+ghost use Rattle.pt_req.specs.Tree.{Tree, framed};
+ghost use Rattle.pt_req.specs.Requests.{tree_of};
+ghost use Rattle.pt_req.specs.Pattern.{grammar_of};
+ghost use Rattle.pt_req.specs.declared.finish.Finish.{Finish};
+ghost use Rattle.pt_req.specs.declared.finish.Finish.TheVariants as finish;
+ghost use Rattle.pt_req.specs.declared.plan.Plan.{Plan};
+ghost use Rattle.pt_law.specs.Discipline.{idle, blank, Ends};
+ghost use Rattle.pt_law.specs.Told.{AllMayBeTold};
+ghost use Rattle.pt_law.specs.Cause.{HasCause, IsCausedEnd};
+ghost use Rattle.pt_law.specs.Fit.{Fit};
+ghost use Rattle.pt_law.specs.Branch.{AreSome, IsGivenUp, IsOfBranch};
+ghost use Rattle.pt_law.specs.Settled.{all_given, all_returned, entry_count};
+ghost use Rattle.pt_law.specs.Opened.{IsLookedUp};
+
+/// Whatever a request is, where its tree is fit its steps keep the discipline, whole or cut, and a refusal has its cause. An answer is that of a
+/// branch of the tree, or the job gave up; and what a job was given it gave back, or its answer has it.
+pub fn any_request()
+    ensures whole { (asked : Request) (tree : Tree) (steps : List Step) (end : Finish) → Fit asked tree [] blank [] → AllMayBeTold steps →
+        Belongs (framed tree []) steps end → Ends idle steps end × IsCausedEnd asked steps end }
+    ensures cut { (asked : Request) (tree : Tree) (steps : List Step) (end : Finish) → Fit asked tree [] blank [] → AllMayBeTold steps →
+        BelongsCut (framed tree []) steps end → Ends idle steps end × (end ≡ finish.Answer answer.Cut) }
+    ensures branch { (tree : Tree) (steps : List Step) (end : Finish) → Belongs (framed tree []) steps end → IsGivenUp end ⊎ IsOfBranch tree end steps }
+    ensures settled { (number : ℕ) (steps : List Step) (end : Finish) → Ends idle steps end →
+        all_given number steps ≡ all_returned number steps + entry_count number end }
+{}
+
+/// Every request's tree is fit.
+pub fn each_request()
+    ensures { (plan : Plan) (asked : Request) → Fit asked (tree_of plan asked) [] blank [] }
+{}
+
+/// What holds of the steps of every request that there is, where their replies are such as may come.
+pub fn request_ends()
+    ensures ends { (plan : Plan) (asked : Request) (steps : List Step) (end : Finish) → AllMayBeTold steps → Belongs (grammar_of plan asked) steps end → Ends idle steps end }
+    ensures causes { (plan : Plan) (asked : Request) (steps : List Step) (errno : Errno) → AllMayBeTold steps →
+        Belongs (grammar_of plan asked) steps (finish.Answer (answer.Refused errno)) → HasCause asked steps errno }
+    ensures cut { (plan : Plan) (asked : Request) (steps : List Step) (end : Finish) → AllMayBeTold steps → BelongsCut (grammar_of plan asked) steps end →
+        Ends idle steps end × (end ≡ finish.Answer answer.Cut) }
+    ensures opened { (plan : Plan) (parent : ℕ) (name : List ℕ) (entry : Entry) (steps : List Step) →
+        Belongs (grammar_of plan (request.Lookup parent name)) steps (finish.Answer (answer.Entry entry)) →
+        ((path : List Step) × AreSome path steps × IsLookedUp plan parent name entry path) }
+{}

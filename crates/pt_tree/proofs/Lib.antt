@@ -1,0 +1,4 @@
+pub mod NameOrder
+pub mod PathParts
+pub mod NewPlaces
+pub mod StartNodes
