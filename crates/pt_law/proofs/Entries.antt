@@ -177,6 +177,25 @@ open_at bound base had w js j row mode dir name flags new next directory lt v t 
     let now : object_of (next.tree.opened new.0) ≡ Some l.0 = ap (λ (z : Tree). object_of (z.opened new.0)) l.3.adds ∙ ap object_of (set_at_same w.tree.opened new.0 (Some (record { object = l.0; path_only = includes flags.0 o_path }))) in
     (l.0, ap (λ z. w.tree.names z name) (sym here) ∙ leads.2, ap (λ (z : Past). z.latest j) g.past ∙ set_at_same w.past.latest j (object_of (next.tree.opened new.0)) ∙ now)
 
+-- what the job did up to its step
+own_to : (j : ℕ) (before between : List Turn) (step : Step) (first : List Step) → steps_of j before ≡ first → steps_of j between ≡ [] → steps_of j (before ++ turn_of j step ∷ between) ≡ first ++ step ∷ []
+own_to j before between step first e f = steps_append j before (turn_of j step ∷ between) ∙ ap₂ (λ x y. x ++ y) e (steps_at j (turn_of j step) between refl ∙ ap (λ z. step ∷ z) f)
+
+-- what is settled of a row stays
+row_stays : (w : World) (s : Turn) (next : World) (turns : List Turn) (last : World) (row object : ℕ) → Agree w.tables → Goes w s next → Runs next turns last → row < w.tables.next_row →
+    w.past.objects row ≡ Some object → last.past.objects row ≡ Some object
+row_stays w s next turns last row object a g r l e = let k = objects_step w s next row a g l in objects_stay turns next last row k.2 r k.1 ∙ k.0 ∙ e
+
+-- the number stands for this object, which has these ids
+abbrev Names : World → ℕ → ObjIds → ℕ → Type 0
+Names next number ids object = (next.past.numbers number ≡ Some object) × (what : Object) × IsObject next.tree object what × (what.ids ≡ ids)
+
+names_opened : (w next : World) (j number : ℕ) (ids : ObjIds) (was : Option ℕ) (object : ℕ) → StandsFor w next j number ids → w.past.latest j ≡ was → was ≡ Some object → Names next number ids object
+names_opened w next j number ids was object s e f = subst (Names next number ids) (same s.0 s.2) (s.1, s.3, s.4, s.5)
+  where
+    same : (o : ℕ) → w.past.latest j ≡ Some o → o ≡ object
+    same o l = cc
+
 -- the same run, cut behind the steps between
 regroup : (turns before between rest : List Turn) (a : Turn) → turns ≡ before ++ a ∷ (between ++ rest) → turns ≡ (before ++ a ∷ between) ++ rest
 regroup turns before between rest a e = e ∙ sym (append_assoc before (a ∷ between) rest)
@@ -219,10 +238,9 @@ facts limit bound turns start end j parent row mode how form its ids name flags 
     let run1 : Runs start front1 c.w2 = runs_append c.before (turn_of j a ∷ c.between) start c.w0 c.w2 c.r0 (c.w1, c.g0, c.r1) in
     let cut1 : turns ≡ front1 ++ end1 = regroup turns c.before c.between end1 (turn_of j a) c.in_turn in
     let v1 = reach limit bound front1 end1 start c.w2 s (subst (AreDisciplined bound) cut1 d) run1 in
-    let own1 : steps_of j front1 ≡ first ++ a ∷ [] = steps_append j c.before (turn_of j a ∷ c.between) ∙ ap₂ (λ x y. x ++ y) c.own0 (steps_at j (turn_of j a) c.between refl ∙ ap (λ z. a ∷ z) c.own1) in
+    let own1 = own_to j c.before c.between a first c.own0 c.own1 in
     let pinned = last_move first a idle (v1.0 j) (subst (λ z. Disciplined idle z (v1.0 j)) own1 (v1.2 j lt).0) in
-    let s1 = objects_step c.w0 (turn_of j a) c.w1 row v0.1.tabled.agree c.g0 directory.3 in
-    let kept : c.w2.past.objects row ≡ Some directory.0 = objects_stay c.between c.w1 c.w2 row s1.2 c.r1 s1.1 ∙ s1.0 ∙ directory.2 in
+    let kept = row_stays c.w0 (turn_of j a) c.w1 c.between c.w2 row directory.0 v0.1.tabled.agree c.g0 c.r1 directory.3 directory.2 in
     let o = open_at bound _ _ c.w2 v1.0 j row how (fd_of form) name flags new c.w3 directory.0 lt v1.1 pinned.1.0 kept c.g1 in
     let front2 : List Turn = front1 ++ (turn_of j b ∷ c.later) in
     let run2 : Runs start front2 c.w4 = runs_append front1 (turn_of j b ∷ c.later) start c.w2 c.w4 run1 (c.w3, c.g1, c.r2) in
@@ -230,7 +248,7 @@ facts limit bound turns start end j parent row mode how form its ids name flags 
     let move = own_next j give c.behind (v2.0 j) (v2.2 j lt).1 (v2.2 j lt).2 in
     let last = gives_latest bound _ _ c.w4 v2.0 (turn_of j give) c.w5 move.0 number ids lt v2.1 c.g2 move.1 gave in
     let still = latest_stays j c.later c.w3 c.w4 c.r2 (subst (Each (λ (step : Step). OpensNone step.deed)) (sym c.own2) quiet) in
-    let same : last.0 ≡ o.0 = (let x = last.2 in let y = still ∙ o.2 in cc) in
+    let names = names_opened c.w4 c.w5 j number ids (c.w3.past.latest j) o.0 last still o.2 in
     record {
       before = c.before;
       between = c.between;
@@ -248,10 +266,10 @@ facts limit bound turns start end j parent row mode how form its ids name flags 
       object = o.0;
       parent_is = directory.1;
       name_is = o.1;
-      number_is = last.1 ∙ ap Some same;
-      what = last.3;
-      is_object = subst (λ z. IsObject c.w5.tree z last.3) same last.4;
-      same_ids = last.5;
+      number_is = names.0;
+      what = names.1;
+      is_object = names.2;
+      same_ids = names.3;
     }
 
 -- the steps of an entry behind its opening: the last one gives the number, and none before it opens a name
