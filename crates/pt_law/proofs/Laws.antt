@@ -253,7 +253,7 @@ entry_weighs : (w : Hold → ℕ) → ((era n : ℕ) → w (hold.Count era n) �
 entry_weighs w z era (finish.Answer (answer.Entry entry)) = let a = z era entry.inode in omega (arith, a)
 entry_weighs w z era _ = refl
 
-ended_jobs : (bound : ℕ) (turns : List Turn) → AreEnded bound turns → AreDisciplined bound turns
+pub ended_jobs : (bound : ℕ) (turns : List Turn) → AreEnded bound turns → AreDisciplined bound turns
 ended_jobs bound turns a = record { owners = a.owners; jobs = λ j l. let e = a.jobs j l in let f = e.1 in (at_job (entry_holds f.0 e.0) f.1, f.2) }
 
 -- a job at its end holds nothing that weighs, and owes nothing

@@ -30,3 +30,4 @@ pub mod Next
 pub mod Straight
 pub mod Cuts
 pub mod Entries
+pub mod Hosts

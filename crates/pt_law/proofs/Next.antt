@@ -1,15 +1,14 @@
 -- What holds of the next step of a run.
-use Rattle.std.proofs.Common.{◌≡◌, ◌≢◌, ℕ, ◌+◌, ◌<◌, List, [], ◌∷◌, ◌++◌, refl, sym, ap, subst, ◌∙◌, Option, Some, None}
+use Rattle.std.proofs.Common.{ℕ, ◌+◌, ◌<◌, List, [], ◌∷◌, ◌++◌, subst, Option, Some, None}
 use Rattle.pt_host.specs.Words.{Each}
-use Rattle.pt_host.specs.Call.{Call}
 use Rattle.pt_session.specs.Change.{Change}
 use Rattle.pt_session.specs.Tables.{Tables, empty_tables}
 use Rattle.pt_session.specs.Happens.{Happens}
 use Rattle.pt_session.specs.declared.event.KeptEvent.TheVariants as change
-use Rattle.pt_session.specs.declared.reply.EventRefusal.TheVariants.{NotLive, Overtaken, NoSlot, Last, Live, Memory}
+use Rattle.pt_session.specs.declared.reply.EventRefusal.TheVariants.{Overtaken}
 use Rattle.pt_session.specs.declared.reply.EventReply.{EventReply}
 use Rattle.pt_session.specs.declared.reply.EventReply.TheVariants as event
-use Rattle.pt_req.specs.Deed.{Deed, Calls, Changes, Step}
+use Rattle.pt_req.specs.Deed.{Deed, Calls, Changes}
 use Rattle.pt_req.specs.declared.act.ActReply.{ActReply}
 use Rattle.pt_req.specs.declared.act.ActReply.TheVariants.{Event, Host, NoCopy}
 use Rattle.pt_law.specs.Discipline.{Job, Moves, MovesIf, Disciplined}
@@ -19,7 +18,7 @@ use Rattle.pt_law.specs.Laws.{AreDisciplined, Starts, NamesOpen, IsHonoured}
 use Rattle.pt_law.proofs.Flows.{IsHonest}
 use Rattle.pt_law.proofs.Counting.{honest}
 use Rattle.pt_law.proofs.Eras.{in_time}
-use Rattle.pt_law.proofs.Steps.{Tabled, Inv}
+use Rattle.pt_law.proofs.Steps.{Tabled}
 use Rattle.pt_law.proofs.Interleaving.{steps_same}
 use Rattle.pt_law.proofs.Laws.{reach, reach_tables}
 use Rattle.pt_law.proofs.Pinned.{names_open}

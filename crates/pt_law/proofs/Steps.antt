@@ -20,7 +20,7 @@ use Rattle.pt_session.specs.declared.event.KeptEvent.TheVariants as change
 use Rattle.pt_session.specs.declared.reply.EventReply.{EventReply}
 use Rattle.pt_session.specs.declared.reply.EventReply.TheVariants as event
 use Rattle.pt_req.specs.Deed.{Deed, Calls, Changes}
-use Rattle.pt_req.specs.Made.{Made}
+use Rattle.pt_req.specs.Made.{Does, Made}
 use Rattle.pt_req.specs.declared.act.ActReply.{ActReply}
 use Rattle.pt_req.specs.declared.act.ActReply.TheVariants.{Event, Host, NoCopy}
 use Rattle.pt_law.specs.Discipline.{Job, Moves, MovesIf, MovesBy}
@@ -108,12 +108,12 @@ has_flows bound had t js j None NoCopy t' after lt v g m = refl
 has_flows bound had t js j _ _ t' after lt v g m = absurd g
 
 -- what a made step does to the tables
-pub turned : (tree tree' : Tree) (seat seat' : HostSeat) (t t' : Tables) (deed : Option Deed) (told : ActReply) → Made IsLawful deed told tree seat t tree' seat' t' → Turns t deed told t'
-turned tree tree' seat seat' t t' (Some (Changes e)) (Event r) h = h.0
-turned tree tree' seat seat' t t' (Some (Calls a)) (Host r) h = h.1
-turned tree tree' seat seat' t t' (Some (Calls a)) NoCopy h = h.1
-turned tree tree' seat seat' t t' None NoCopy h = h.2
-turned tree tree' seat seat' t t' _ _ h = absurd h
+pub turned : {H : Type 0} (does : Does H) (deed : Option Deed) (told : ActReply) (from : H) (seat : HostSeat) (t : Tables) (to : H) (seat' : HostSeat) (t' : Tables) → Made does deed told from seat t to seat' t' → Turns t deed told t'
+turned does (Some (Changes e)) (Event r) from seat t to seat' t' h = h.0
+turned does (Some (Calls a)) (Host r) from seat t to seat' t' h = h.1
+turned does (Some (Calls a)) NoCopy from seat t to seat' t' h = h.1
+turned does None NoCopy from seat t to seat' t' h = h.2
+turned does _ _ from seat t to seat' t' h = absurd h
 
 -- no call of these tells bytes, so each reply could be copied
 no_bytes : (a : Call) (r : HostReply) (before after : ℕ) → ReplyHoldsBytes r → IsAllowed before a r after → ⊥

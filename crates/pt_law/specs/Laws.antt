@@ -9,10 +9,14 @@ use Rattle.pt_session.specs.declared.event.KeptEvent.TheVariants as change
 use Rattle.pt_session.specs.declared.reply.EventRefusal.TheVariants.{Overtaken}
 use Rattle.pt_session.specs.declared.reply.EventReply.TheVariants as event
 use Rattle.pt_req.specs.Deed.{Deed, Calls, Changes}
+use Rattle.pt_req.specs.Grammar.{Belongs}
 use Rattle.pt_req.specs.Held.{fd_of}
+use Rattle.pt_req.specs.Pattern.{grammar_of}
 use Rattle.pt_req.specs.declared.act.ActReply.{ActReply}
 use Rattle.pt_req.specs.declared.act.ActReply.TheVariants.{Event}
 use Rattle.pt_req.specs.declared.finish.Finish.{Finish}
+use Rattle.pt_req.specs.declared.plan.Plan.{Plan}
+use Rattle.pt_iface.specs.declared.request.Request.{Request}
 use Rattle.pt_law.specs.Discipline.{Job, idle, Disciplined, Ends}
 use Rattle.pt_law.specs.World.{Turn, World, steps_of, no_past}
 use Rattle.pt_law.specs.Ledger.{kept_slots, row_slot, carried, kept_fds, row_fd, fd_held, held_by, open_count}
@@ -26,6 +30,11 @@ pub record AreDisciplined (bound : ℕ) (turns : List Turn) : Type 0 where
 pub record AreEnded (bound : ℕ) (turns : List Turn) : Type 0 where
   pub owners : Each (λ turn. turn.job < bound) turns
   pub jobs : (job : ℕ) → job < bound → (end : Finish) × Ends idle (steps_of job turns) end
+
+-- each job's steps and end belong to what it asked
+pub record AreAnswered (plan : Plan) (bound : ℕ) (asked : ℕ → Request) (ends : ℕ → Finish) (turns : List Turn) : Type 0 where
+  pub owners : Each (λ turn. turn.job < bound) turns
+  pub jobs : (job : ℕ) → job < bound → Belongs (grammar_of plan (asked job)) (steps_of job turns) (ends job)
 
 -- a new session on a host that may have descriptors open
 pub record Starts (limit : ℕ) (world : World) : Type 0 where
