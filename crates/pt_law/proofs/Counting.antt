@@ -17,7 +17,7 @@ use Rattle.pt_req.specs.declared.hold.Hold.{Hold}
 use Rattle.pt_law.specs.Discipline.{Job, MovesBy}
 use Rattle.pt_law.specs.World.{Turns}
 use Rattle.pt_law.specs.Ledger.{held_by, kept_slots}
-use Rattle.pt_law.proofs.Flows.{slot_held, pin_held, row_pins, closing_ended, IsHonest}
+use Rattle.pt_law.proofs.Flows.{slot_held, pin_held, row_pins, closing_ended, IsHonest, called}
 use Rattle.pt_law.proofs.Lists.{total_takes, le_sum_to, sum_to_set, is_same, is_apart}
 use Rattle.pt_law.proofs.Effects.{stays}
 use Rattle.pt_law.proofs.Balance.{moved}
@@ -77,7 +77,7 @@ pub keeps_books : (bound : ℕ) (t : Tables) (js : ℕ → Job) (j : ℕ) (deed 
 keeps_books bound t js j (Calls a) told t' after lt agree b g m =
     let f = handed (js j).holds (Calls a) told after.holds m.0 in
     let o = owed_flow (js j) (Calls a) told after m in
-    rw g (record {
+    rw (called t a told t' g) (record {
       slots = let x = b.slots in let y = f.slots in let z = sum_to_set (λ (k : Job). total slot_held k.holds) js j after bound lt in omega (arith, x, y, z);
       pins = λ s. let x = b.pins s in let y = f.pins s in let z = sum_to_set (λ (k : Job). total (pin_held s) k.holds) js j after bound lt in omega (arith, x, y, z);
       closings = let x = b.closings in let z = sum_to_set (λ (k : Job). k.owed) js j after bound lt in omega (arith, x, o, z);

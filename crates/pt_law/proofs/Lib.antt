@@ -9,6 +9,8 @@ pub mod Parts
 pub mod Requests
 pub mod Opened
 pub mod Settled
+pub mod Told
+pub mod ExampleJob
 pub mod Effects
 pub mod Flows
 pub mod Balance
@@ -18,6 +20,13 @@ pub mod Numbers
 pub mod Givings
 pub mod Knowing
 pub mod Events
+pub mod Eras
 pub mod Calls
 pub mod Steps
-pub mod Runs
+pub mod Interleaving
+pub mod Laws
+pub mod Pinned
+pub mod Next
+pub mod Straight
+pub mod Cuts
+pub mod Entries

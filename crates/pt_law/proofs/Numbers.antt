@@ -15,6 +15,7 @@ use Rattle.pt_req.specs.declared.act.ActReply.TheVariants.{Event, Host}
 use Rattle.pt_law.specs.Discipline.{Job, Notes, with_root, MovesBy}
 use Rattle.pt_law.specs.World.{Turns}
 use Rattle.pt_law.specs.Ledger.{inserted_as}
+use Rattle.pt_law.proofs.Flows.{called}
 use Rattle.pt_law.proofs.Lists.{is_apart, is_within, sum_to_set}
 use Rattle.pt_law.proofs.Effects.{stays}
 
@@ -66,7 +67,7 @@ drawn_flow job t (Changes change.Begin) (Event (event.Began era agreed)) t' afte
 drawn_flow job t deed told t' after g m n ne = let a = ap (λ (z : Notes). is_drawn n z.drawn) m.3 in omega (arith, a)
 
 next_later : (t : Tables) (deed : Deed) (told : ActReply) (t' : Tables) → Agree t → Turns t (Some deed) told t' → t.next_number ≤ t'.next_number
-next_later t (Calls a) told t' agree g = rw g (omega arith)
+next_later t (Calls a) told t' agree g = rw (called t a told t' g) (omega arith)
 next_later t (Changes e) (Event r) t' agree g = (stays t e r t' agree g).numbers
 next_later t (Changes e) told t' agree g = absurd g
 

@@ -1,12 +1,17 @@
 -- What holds of every run whose jobs keep the discipline, after every step and at the end.
-use Rattle.std.specs.Prelude.{◌≡◌, ◌≢◌, ◌<◌, ◌≤◌, ℕ, ◌+◌, true, List, [], ◌++◌, Option, None, Some}
+use Rattle.std.specs.Prelude.{◌≡◌, ◌≢◌, ◌<◌, ◌≤◌, ℕ, ◌+◌, true, List, [], Option, Some}
 use Rattle.pt_host.specs.Words.{total, sum_to, Each}
 use Rattle.pt_host.specs.Tree.{Tree, IsOpenOn, IsWellFormed}
 use Rattle.pt_host.specs.declared.op.KeptHostOp.TheVariants as call
 use Rattle.pt_session.specs.Tables.{Row, Tables, empty_tables, HasNumber}
 use Rattle.pt_session.specs.Happens.{IsRow, NoRow}
-use Rattle.pt_req.specs.Deed.{Deed, Calls}
+use Rattle.pt_session.specs.declared.event.KeptEvent.TheVariants as change
+use Rattle.pt_session.specs.declared.reply.EventRefusal.TheVariants.{Overtaken}
+use Rattle.pt_session.specs.declared.reply.EventReply.TheVariants as event
+use Rattle.pt_req.specs.Deed.{Deed, Calls, Changes}
 use Rattle.pt_req.specs.Held.{fd_of}
+use Rattle.pt_req.specs.declared.act.ActReply.{ActReply}
+use Rattle.pt_req.specs.declared.act.ActReply.TheVariants.{Event}
 use Rattle.pt_req.specs.declared.finish.Finish.{Finish}
 use Rattle.pt_law.specs.Discipline.{Job, idle, Disciplined, Ends}
 use Rattle.pt_law.specs.World.{Turn, World, steps_of, no_past}
@@ -68,6 +73,14 @@ NamesOpen tree (Some (Calls (call.OpenAt fd name flags mode))) = (object : ℕ) 
 NamesOpen tree (Some (Calls (call.Stat fd))) = (object : ℕ) × IsOpenOn tree fd object
 NamesOpen tree (Some (Calls (call.Close fd))) = (object : ℕ) × IsOpenOn tree fd object
 NamesOpen tree deed = Unit {0}
+
+-- Giving back a pin or a slot that is held is never refused, nor is the taking of a closing that is owed, and no event is overtaken.
+abbrev pub IsHonoured : Option Deed → ActReply → Type 0
+IsHonoured deed (Event (event.Refused Overtaken)) = ⊥
+IsHonoured (Some (Changes (change.Unpin row))) (Event (event.Refused why)) = ⊥
+IsHonoured (Some (Changes change.GiveFd)) (Event (event.Refused why)) = ⊥
+IsHonoured (Some (Changes change.TakeClosing)) (Event (event.Refused why)) = ⊥
+IsHonoured deed told = Unit {0}
 
 -- at the end no row is pinned, nothing is to be closed, nothing is carried, and slots left are the limit less those of the rows
 pub record IsAtRest (limit bound : ℕ) (turns : List Turn) (tables : Tables) : Type 0 where

@@ -17,7 +17,7 @@ use Rattle.pt_req.specs.Deed.{Deed, Calls, Changes, Step}
 use Rattle.pt_req.specs.Held.{fd_of}
 use Rattle.pt_req.specs.Made.{Does, Made}
 use Rattle.pt_req.specs.declared.act.ActReply.{ActReply}
-use Rattle.pt_req.specs.declared.act.ActReply.TheVariants.{Event, Host}
+use Rattle.pt_req.specs.declared.act.ActReply.TheVariants.{Event, Host, NoCopy}
 
 -- a step of a run, and the job that made it
 pub record Turn : Type 0 where
@@ -98,8 +98,10 @@ Runs world (turn ∷ turns) after = (mid : World) × Goes world turn mid × Runs
 -- What a step does to the tables, whatever host there is: an event happens, and nothing else changes them.
 abbrev pub Turns : Tables → Option Deed → ActReply → Tables → Type 0
 Turns tables (Some (Changes asked)) (Event told) after = Happens tables asked told after
-Turns tables (Some (Changes asked)) told after = ⊥
-Turns tables deed told after = after ≡ tables
+Turns tables (Some (Calls asked)) (Host told) after = after ≡ tables
+Turns tables (Some (Calls asked)) NoCopy after = after ≡ tables
+Turns tables None NoCopy after = after ≡ tables
+Turns tables deed told after = ⊥
 
 abbrev pub TablesRun : Tables → List Turn → Tables → Type 0
 TablesRun tables [] after = after ≡ tables

@@ -2,3 +2,4 @@ pub mod NameOrder
 pub mod PathParts
 pub mod NewPlaces
 pub mod StartNodes
+pub mod TreeLines

@@ -10,3 +10,4 @@ pub mod Does
 pub mod Start
 pub mod StoreState
 pub mod Laws
+pub mod Listing

@@ -2,6 +2,7 @@
 #![tactic(auto)]
 
 mod host;
+mod listing;
 mod names;
 mod new_place;
 mod node;
