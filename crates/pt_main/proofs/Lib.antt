@@ -2,3 +2,4 @@ pub mod StreamLemmas
 pub mod LinesLemmas
 pub mod Scripts
 pub mod Outputs
+pub mod Lives

@@ -1,7 +1,7 @@
-use Rattle.std.proofs.Common.{◌≡◌, ℕ, List, ◌++◌, length, take, drop, Option, Some, None, refl, ap, sym, subst, ◌∙◌, append_assoc}
+use Rattle.std.proofs.Common.{ℕ, List, ◌++◌, take, drop, Option, Some, None, ap, sym, subst, ◌∙◌, append_assoc}
 use Rattle.std.proofs.lemmas.List.{take-append-drop}
 use Rattle.pt_main.specs.Streams.{IsPushed}
-use Rattle.pt_main.specs.Output.{IsWritten, IsFrontWritten, IsBuffered}
+use Rattle.pt_main.specs.Output.{IsWritten, IsBuffered}
 
 written_pushed : (before now after : Option (List ℕ)) (done rest : List ℕ) (count : ℕ) → IsWritten before done now → IsPushed now rest count after → IsWritten before (done ++ take count rest) after
 written_pushed None now after done rest count was pushed = let p = subst (λ (o : Option (List ℕ)). IsPushed o rest count after) was pushed in p

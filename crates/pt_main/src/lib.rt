@@ -6,6 +6,7 @@ mod input;
 mod line;
 mod mem;
 mod output;
+mod report;
 mod scan;
 mod script;
 mod std_streams;

@@ -1,4 +1,4 @@
-use Rattle.std.proofs.Common.{◌≡◌, ◌≤◌, ◌++◌, List, ℕ, length}
+use Rattle.std.proofs.Common.{◌≤◌, length}
 use Rattle.pt_main.specs.Output.{IsBuffered}
 use Rattle.pt_main.proofs.output.push_all.Given as goal
 
