@@ -1,9 +1,9 @@
-use Rattle.std.proofs.Common.{◌≡◌, ◌≤◌, ◌*◌, ap, length, vec_capacity, arith}
+use Rattle.std.proofs.Common.{◌≡◌, ◌≤◌, ap, length, vec_capacity, arith}
 use Rattle.pt_session.specs.Pending.{pending_in}
 use Rattle.pt_fs.specs.Work.{room_of}
 use Rattle.pt_fs.proofs.Ended.{started_length}
 use Rattle.pt_fs.proofs.Works.{started_bounds}
-use Rattle.pt_fs.proofs.Whole.{Whole, runs_whole, order_whole, answers_whole, bounded_whole}
+use Rattle.pt_fs.proofs.Whole.{runs_whole, order_whole, answers_whole, bounded_whole}
 use Rattle.pt_fs.proofs.run.drive.Goals as goal
 
 pub run_all-requires : goal.run_all-requires
