@@ -5,8 +5,6 @@ use pt_host::{
 use std::alloc::{AllocError, Global};
 use std::test::Fail;
 
-const READ: OpenFlags = OpenFlags(0);
-
 fn mount(alloc: Global, id: u64, dev: u64, path: &[u8]) -> Result<TreeLine, AllocError> {
     let path = Bytes::from_slice(alloc, path)?;
     Ok(TreeLine::Mount {
@@ -72,11 +70,34 @@ fn at(fd: u32, name: &[u8], flags: u32) -> HostOp<'_> {
     }
 }
 
-fn status(host: &mut TreeHost, seat: &mut HostSeat, fd: u32) -> Result<Stat, Fail> {
+/// Whether the calls are answered so, one after another.
+fn answers(
+    host: &mut TreeHost,
+    seat: &mut HostSeat,
+    table: &[(HostOp<'_>, i64)],
+) -> Result<bool, Fail> {
+    for (op, expected) in table {
+        if opened(host, seat, *op)? != *expected {
+            return Ok(false);
+        }
+    }
+    Ok(true)
+}
+
+fn has_status(
+    host: &mut TreeHost,
+    seat: &mut HostSeat,
+    fd: u32,
+    expected: &Stat,
+) -> Result<bool, Fail> {
     match host.call(seat, &HostOp::Stat { fd: Fd(fd) }) {
-        HostReply::Ok(HostValue::Stat(stat)) => Ok(stat),
+        HostReply::Ok(HostValue::Stat(stat)) => Ok(stat == *expected),
         _ => Err(Fail::from("another reply")),
     }
+}
+
+fn close(fd: u32) -> HostOp<'static> {
+    HostOp::Close { fd: Fd(fd) }
 }
 
 fn stat_of(ino: u64, mode: u32, nlink: u32, size: u64, blocks: u64) -> Stat {
@@ -102,36 +123,49 @@ fn stat_of(ino: u64, mode: u32, nlink: u32, size: u64, blocks: u64) -> Stat {
 }
 
 #[test]
-fn objects_are_opened_and_told(rt: HostRuntime) -> Result<(), Fail> {
+fn objects_are_told(rt: HostRuntime) -> Result<(), Fail> {
     let mut host = host_of(rt.alloc(), &worked_tree(rt.alloc())?)?;
     let mut seat = HostSeat::new(0, 0, Caps::ALL);
     let path = OpenFlags::PATH.0;
-    assert_eq!(rt; opened(&mut host, &mut seat, root_of(b"/", path))?, 3);
-    assert_eq!(rt; opened(&mut host, &mut seat, root_of(b"/", path))?, 4);
-    assert_eq!(rt;
-        status(&mut host, &mut seat, 4)?,
-        stat_of(1, 16877, 2, 0, 0)
-    );
-    assert_eq!(rt; opened(&mut host, &mut seat, at(4, b"a", path))?, 5);
-    assert_eq!(rt;
-        status(&mut host, &mut seat, 5)?,
-        stat_of(2, 33188, 1, 2, 1)
-    );
-    assert_eq!(rt;
-        opened(&mut host, &mut seat, HostOp::Close { fd: Fd(4) })?,
-        0
-    );
-    assert_eq!(rt;
-        opened(&mut host, &mut seat, HostOp::Close { fd: Fd(4) })?,
-        -9
-    );
-    assert_eq!(rt; opened(&mut host, &mut seat, root_of(b"//a/", READ.0))?, 4);
-    // The ninth call empties the file at second 8.
-    assert_eq!(rt; opened(&mut host, &mut seat, root_of(b"/a", 0o1002))?, 6);
-    let stat = status(&mut host, &mut seat, 5)?;
-    assert_eq!(rt; stat.size, 0);
-    assert_eq!(rt; stat.mtime.sec, 8);
-    assert_eq!(rt; stat.atime.sec, 0);
+    let table = [(root_of(b"/", path), 3), (at(3, b"a", path), 4)];
+    assert!(rt; answers(&mut host, &mut seat, &table)?);
+    assert!(rt; has_status(&mut host, &mut seat, 3, &stat_of(1, 16877, 2, 0, 0))?);
+    assert!(rt; has_status(&mut host, &mut seat, 4, &stat_of(2, 33188, 1, 2, 1))?);
+    Ok(())
+}
+
+#[test]
+fn the_least_descriptor_is_taken(rt: HostRuntime) -> Result<(), Fail> {
+    let mut host = host_of(rt.alloc(), &worked_tree(rt.alloc())?)?;
+    let mut seat = HostSeat::new(0, 0, Caps::ALL);
+    let table = [
+        (root_of(b"/", 0), 3),
+        (root_of(b"/", 0), 4),
+        (root_of(b"/", 0), 5),
+        (close(4), 0),
+        (close(3), 0),
+        (close(4), -9),
+        (root_of(b"//a/", 0), 3),
+        (root_of(b"/a", 2), 4),
+        (root_of(b"/a", 2), 6),
+    ];
+    assert!(rt; answers(&mut host, &mut seat, &table)?);
+    Ok(())
+}
+
+#[test]
+fn a_file_is_emptied_at_its_time(rt: HostRuntime) -> Result<(), Fail> {
+    let mut host = host_of(rt.alloc(), &worked_tree(rt.alloc())?)?;
+    let mut seat = HostSeat::new(0, 0, Caps::ALL);
+    let table = [(root_of(b"/", 0), 3), (root_of(b"/a", 0o1000), 4)];
+    assert!(rt; answers(&mut host, &mut seat, &table)?);
+    let now = Time { sec: 1, nsec: 0 };
+    let expected = Stat {
+        mtime: now,
+        ctime: now,
+        ..stat_of(2, 33188, 1, 0, 0)
+    };
+    assert!(rt; has_status(&mut host, &mut seat, 4, &expected)?);
     Ok(())
 }
 
@@ -142,7 +176,6 @@ fn openings_are_refused(rt: HostRuntime) -> Result<(), Fail> {
     let table = [
         (root_of(b"", 0), -2),
         (root_of(b"a", 0), -2),
-        (root_of(b"/b", 0), -2),
         (root_of(b"/.", 0), -2),
         (root_of(b"/a/b", 0), -20),
         (root_of(b"/", 0o20200000), -95),
@@ -151,38 +184,54 @@ fn openings_are_refused(rt: HostRuntime) -> Result<(), Fail> {
         (root_of(b"/a", 0o200000), -20),
         (root_of(b"/", 1), -21),
         (root_of(b"/", 0o1000), -21),
+    ];
+    assert!(rt; answers(&mut host, &mut seat, &table)?);
+    Ok(())
+}
+
+#[test]
+fn names_are_refused(rt: HostRuntime) -> Result<(), Fail> {
+    let mut host = host_of(rt.alloc(), &worked_tree(rt.alloc())?)?;
+    let mut seat = HostSeat::new(0, 0, Caps::ALL);
+    let long = [b'n'; 256];
+    let table = [
         (at(3, b"a", 0), -9),
         (root_of(b"/", 0), 3),
         (root_of(b"/a", 0), 4),
         (at(3, b"b", 0), -2),
         (at(4, b"b", 0), -20),
         (at(3, b"a", 0o100), -95),
-        (at(3, &[b'n'; 256], 0), -36),
-        (at(3, &[b'n'; 255], 0), -2),
+        (at(3, &long, 0), -36),
         (at(3, b"a", 2), 5),
     ];
-    for (op, expected) in table {
-        assert_eq!(rt; opened(&mut host, &mut seat, op)?, expected);
-    }
+    assert!(rt; answers(&mut host, &mut seat, &table)?);
     Ok(())
+}
+
+/// Whether the file of mode 0o640, of user and group 0, is opened by this seat to these ends with these answers.
+fn may_open(alloc: Global, mut seat: HostSeat, reading: i64, writing: i64) -> Result<bool, Fail> {
+    let root = mount(alloc, 1, 1, b"/")?;
+    let a = file(alloc, b"/a", 0o640, b"hi")?;
+    let spec = TreeSpec::from_vec(vec![in alloc; root, a]?);
+    let mut host = host_of(alloc, &spec)?;
+    let table = [(root_of(b"/a", 0), reading), (root_of(b"/a", 1), writing)];
+    answers(&mut host, &mut seat, &table)
 }
 
 #[test]
 fn permissions_are_asked(rt: HostRuntime) -> Result<(), Fail> {
-    let root = mount(rt.alloc(), 1, 1, b"/")?;
-    let a = file(rt.alloc(), b"/a", 0o640, b"hi")?;
-    let spec = TreeSpec::from_vec(vec![in rt.alloc(); root, a]?);
-    let mut host = host_of(rt.alloc(), &spec)?;
-    let mut other = HostSeat::new(1000, 1000, Caps(0));
-    let mut member = HostSeat::new(1000, 0, Caps(0));
-    let mut reader = HostSeat::new(1000, 1000, Caps::DAC_READ_SEARCH);
-    let mut master = HostSeat::new(1000, 1000, Caps::DAC_OVERRIDE);
-    assert_eq!(rt; opened(&mut host, &mut other, root_of(b"/a", 0))?, -13);
-    assert_eq!(rt; opened(&mut host, &mut member, root_of(b"/a", 0))?, 3);
-    assert_eq!(rt; opened(&mut host, &mut member, root_of(b"/a", 2))?, -13);
-    assert_eq!(rt; opened(&mut host, &mut reader, root_of(b"/a", 0))?, 4);
-    assert_eq!(rt; opened(&mut host, &mut reader, root_of(b"/a", 1))?, -13);
-    assert_eq!(rt; opened(&mut host, &mut master, root_of(b"/a", 2))?, 5);
+    let alloc = rt.alloc();
+    assert!(rt; may_open(alloc, HostSeat::new(1000, 1000, Caps(0)), -13, -13)?);
+    assert!(rt; may_open(alloc, HostSeat::new(1000, 0, Caps(0)), 3, -13)?);
+    assert!(rt;
+        may_open(
+            alloc,
+            HostSeat::new(1000, 1000, Caps::DAC_READ_SEARCH),
+            3,
+            -13
+        )?
+    );
+    assert!(rt; may_open(alloc, HostSeat::new(1000, 1000, Caps::DAC_OVERRIDE), 3, 4)?);
     Ok(())
 }
 
