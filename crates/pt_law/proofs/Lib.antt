@@ -31,3 +31,4 @@ pub mod Straight
 pub mod Cuts
 pub mod Entries
 pub mod Hosts
+pub mod ExampleRace
