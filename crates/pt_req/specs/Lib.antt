@@ -7,3 +7,10 @@ pub mod Tree
 pub mod Requests
 pub mod Pattern
 pub mod Made
+pub mod Room
+pub mod Next
+pub mod Left
+pub mod Parts
+pub mod Bodies
+pub mod Job
+pub mod Calm

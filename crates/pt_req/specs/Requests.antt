@@ -26,6 +26,7 @@ use Rattle.pt_req.specs.Held.{fd_of}
 use Rattle.pt_req.specs.Tree.{Tree, Gives, Refuses, Asks, Shuts}
 use Rattle.pt_req.specs.declared.act.ActReply.{ActReply}
 use Rattle.pt_req.specs.declared.act.ActReply.TheVariants.{Event, Host}
+use Rattle.pt_req.specs.declared.begun.Session.{Session}
 use Rattle.pt_req.specs.declared.plan.Plan.{Plan}
 
 -- how a request goes on by a reply: one that is not the awaited one is answered as a refusal
@@ -75,11 +76,6 @@ on_done next told = Refuses told
 -- the flags of every opening that only stands for its object
 abbrev pub path : OpenFlags
 path = record { 0 = path_flags }
-
--- what a request is told of its session at its first step
-pub record Session : Type 0 where
-  pub era : ℕ
-  pub agreed : Negotiated
 
 abbrev pub begun : (Session → Tree) → Tree
 begun next = Asks (Changes change.Begin) (on_began (λ era agreed. next (record { era = era; agreed = agreed })))

@@ -2,11 +2,21 @@
 #![tactic(auto)]
 
 mod act;
+mod begun;
 mod finish;
+mod frame;
 mod hold;
+mod job;
+mod laws;
+mod parts;
 mod plan;
+mod requests;
+#[cfg(test)]
+mod tests;
 
 pub use act::{Act, ActReply, KeptAct, Want};
 pub use finish::Finish;
 pub use hold::{Hold, Holds, Taken};
+pub use job::JobState;
+pub use laws::{calm, cut_says_no_more};
 pub use plan::{Config, Plan};

@@ -1,3 +1,11 @@
 pub mod Change
 pub mod Tables
+pub mod Store
+pub mod LiveAfter
+pub mod Index
 pub mod Happens
+pub mod Kept
+pub mod Effect
+pub mod Pending
+pub mod Answers
+pub mod Laws

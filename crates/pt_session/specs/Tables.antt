@@ -1,27 +1,12 @@
 -- The session's tables as lists, and when they fit together.
-use Rattle.std.specs.Prelude.{◌≡◌, ◌≢◌, ◌<◌, ◌≤◌, ℕ, Bool, true, false, List, []}
+use Rattle.std.specs.Prelude.{◌≡◌, ◌≢◌, ◌<◌, ◌≤◌, ℕ, true, false, List, []}
 use Rattle.pt_host.specs.Words.{Each, EachTwo}
-use Rattle.pt_host.specs.declared.ids.Fd.{Fd}
 use Rattle.pt_host.specs.declared.ids.ObjIds.{ObjIds}
 use Rattle.pt_session.specs.declared.form.RowForm.{RowForm}
 use Rattle.pt_session.specs.declared.form.RowForm.TheVariants.{File}
 use Rattle.pt_session.specs.declared.form.Negotiated.{Negotiated}
-
--- A number's row. A live row has a count; one that is not live stays until its last pin is given back.
-pub record Row : Type 0 where
-  pub serial : ℕ
-  pub number : ℕ
-  pub form : RowForm
-  pub ids : ObjIds
-  pub mode : ℕ
-  pub count : ℕ
-  pub pins : ℕ
-  pub live : Bool
-
--- a descriptor that is to be closed, and whether a slot goes back with it
-pub record Closing : Type 0 where
-  pub fd : Fd
-  pub slot : Bool
+pub use Rattle.pt_session.specs.declared.row.Row.{Row}
+pub use Rattle.pt_session.specs.declared.row.Closing.{Closing}
 
 -- The newest row stands first; the closing list is first in, first out.
 pub record Tables : Type 0 where

@@ -2,9 +2,26 @@
 #![tactic(auto)]
 
 mod event;
+mod events;
 mod form;
+mod giving;
+mod index;
+mod laws;
 mod reply;
+mod row;
+mod session;
+mod store;
+mod tables;
+mod taking;
+#[cfg(test)]
+mod tests;
 
 pub use event::{Event, ForgetList, KeptEvent};
 pub use form::{Negotiated, RowForm};
+pub use laws::{
+    closings_are_paid, events_are_answered, events_have_effects, events_keep_agreement,
+    refusals_change_nothing,
+};
 pub use reply::{EventRefusal, EventReply};
+pub use row::{Closing, Row};
+pub use session::Session;

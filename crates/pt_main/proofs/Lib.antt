@@ -1,0 +1,4 @@
+pub mod StreamLemmas
+pub mod LinesLemmas
+pub mod Scripts
+pub mod Outputs

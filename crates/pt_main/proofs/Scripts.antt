@@ -1,0 +1,238 @@
+-- What is read of a script without the rules of trees, judged by them afterwards, is the script.
+use Rattle.std.proofs.Common.{◌≡◌, ◌⊎◌, ℕ, suc, ◌+◌, Bool, true, false, cond, not, ◌&&◌, List, [], ◌∷◌, ◌++◌, length, Option, Some, None, Result, Ok, Err, refl, ap, sym, ◌∙◌, inl, inr, arith, length-append}
+use Rattle.std.specs.Prelude.{is_ok, option_and_then}
+use Rattle.pt_tree.specs.Start.{nodes_of, add_lines, add_line, first_line, going_on as tree_on}
+use Rattle.pt_tree.specs.declared.node.Node.{Node}
+use Rattle.pt_tree.specs.declared.spec.TreeLine.{TreeLine}
+use Rattle.pt_main.specs.Script.{Begun, is_empty, may_stand, added, keeps_tree, with_line, going_on, script_from, script_of, nothing}
+use Rattle.pt_main.specs.Scan.{Scanned, with_allowed, scanning_on, scan_from, scan_of, judged, judged_by}
+use Rattle.pt_main.specs.Line.{line_of}
+use Rattle.pt_main.specs.declared.line.ScriptJob.{ScriptJob}
+use Rattle.pt_main.specs.declared.line.Line.{Line}
+use Rattle.pt_main.specs.declared.line.Line.TheVariants.{Tree, Job, End}
+use Rattle.pt_text.specs.Words.{lines_of}
+use Rattle.pt_tree.specs.Start.{StartsAs}
+use Rattle.pt_tree.specs.State.{State}
+use Rattle.pt_main.specs.Scan.{IsScriptOf}
+use Rattle.pt_main.specs.Parse.{IsBadLine, IsBadTree}
+use Rattle.pt_main.specs.declared.script.ParseError.{ParseError}
+use Rattle.pt_main.specs.declared.script.ParseError.TheVariants.{BadScript, Memory}
+
+-- lines that broke the rules break them with one more
+add_lines-broken : (line : ℕ) (xs : List TreeLine) (y : TreeLine) (nodes : List Node) (n : ℕ) → add_lines line xs nodes ≡ Err n → add_lines line (xs ++ y ∷ []) nodes ≡ Err n
+add_lines-broken line [] y nodes n is = cc
+add_lines-broken line (x ∷ xs) y nodes n is = go (λ m. add_lines-broken (line + 1) xs y m n) (add_line nodes x) is
+  where
+    go : ((m : List Node) → add_lines (line + 1) xs m ≡ Err n → add_lines (line + 1) (xs ++ y ∷ []) m ≡ Err n) →
+        (o : Option (List Node)) → tree_on o line (add_lines (line + 1) xs) ≡ Err n → tree_on o line (add_lines (line + 1) (xs ++ y ∷ [])) ≡ Err n
+    go below None e = e
+    go below (Some m) e = below m e
+
+nodes_of-broken : (xs : List TreeLine) (y : TreeLine) (n : ℕ) → is_empty xs ≡ false → nodes_of xs ≡ Err n → nodes_of (xs ++ y ∷ []) ≡ Err n
+nodes_of-broken [] y n some is = cc
+nodes_of-broken (x ∷ xs) y n some is = go (first_line x) is
+  where
+    go : (o : Option (List Node)) → tree_on o 1 (add_lines 2 xs) ≡ Err n → tree_on o 1 (add_lines 2 (xs ++ y ∷ [])) ≡ Err n
+    go None e = e
+    go (Some m) e = add_lines-broken 2 xs y m n e
+
+-- one more line is the first to break them, or breaks none
+add_lines-more : (line : ℕ) (xs : List TreeLine) (y : TreeLine) (nodes m : List Node) (n : ℕ) → add_lines line xs nodes ≡ Ok m → add_lines line (xs ++ y ∷ []) nodes ≡ Err n → n ≡ line + length xs
+add_lines-more line [] y nodes m n ok bad = go (add_line nodes y) bad
+  where
+    go : (o : Option (List Node)) → tree_on o line (add_lines (line + 1) []) ≡ Err n → n ≡ line + 0
+    go None e = let same : line ≡ n = cc in omega arith
+    go (Some m) e = cc
+add_lines-more line (x ∷ xs) y nodes m n ok bad = go (λ k. add_lines-more (line + 1) xs y k m n) (add_line nodes x) ok bad
+  where
+    go : ((k : List Node) → add_lines (line + 1) xs k ≡ Ok m → add_lines (line + 1) (xs ++ y ∷ []) k ≡ Err n → n ≡ line + 1 + length xs) →
+        (o : Option (List Node)) → tree_on o line (add_lines (line + 1) xs) ≡ Ok m → tree_on o line (add_lines (line + 1) (xs ++ y ∷ [])) ≡ Err n → n ≡ line + suc (length xs)
+    go below None e f = cc
+    go below (Some k) e f = let same : n ≡ line + 1 + length xs = below k e f in omega arith
+
+nodes_of-more : (xs : List TreeLine) (y : TreeLine) (m : List Node) (n : ℕ) → nodes_of xs ≡ Ok m → nodes_of (xs ++ y ∷ []) ≡ Err n → n ≡ length xs + 1
+nodes_of-more [] y m n ok bad = cc
+nodes_of-more (x ∷ xs) y m n ok bad = go (first_line x) ok bad
+  where
+    go : (o : Option (List Node)) → tree_on o 1 (add_lines 2 xs) ≡ Ok m → tree_on o 1 (add_lines 2 (xs ++ y ∷ [])) ≡ Err n → n ≡ suc (length xs) + 1
+    go None e f = cc
+    go (Some k) e f = let same : n ≡ 2 + length xs = add_lines-more 2 xs y k m n e f in omega arith
+
+nodes_of-first : (y : TreeLine) (n : ℕ) → nodes_of (y ∷ []) ≡ Err n → n ≡ 1
+nodes_of-first y n bad = go (first_line y) bad
+  where
+    go : (o : Option (List Node)) → tree_on o 1 (add_lines 2 []) ≡ Err n → n ≡ 1
+    go None e = cc
+    go (Some m) e = cc
+
+-- what is begun keeps the rules, and this is the number of the next line
+record IsSound (number : ℕ) (begun : Begun) : Type 0 where
+  tree : ((begun.tree ≡ []) × (number ≡ 1) × (begun.ended ≡ false)) ⊎ (is_ok (nodes_of begun.tree) ≡ true)
+  next : begun.ended ≡ false → is_empty begun.jobs ≡ true → number ≡ length begun.tree + 1
+
+tree_either : (number : ℕ) (begun : Begun) → IsSound number begun → ((nodes_of begun.tree ≡ Err number) × (begun.ended ≡ false)) ⊎ (is_ok (nodes_of begun.tree) ≡ true)
+tree_either number begun sound = go sound.tree
+  where
+    go : ((begun.tree ≡ []) × (number ≡ 1) × (begun.ended ≡ false)) ⊎ (is_ok (nodes_of begun.tree) ≡ true) →
+        ((nodes_of begun.tree ≡ Err number) × (begun.ended ≡ false)) ⊎ (is_ok (nodes_of begun.tree) ≡ true)
+    go (inl e) = inl (ap nodes_of e.0 ∙ ap Err (sym e.1), e.2)
+    go (inr t) = inr t
+
+judged_by-bad : (begun : Begun) (o : Result (List Node) ℕ) (ended : Bool) (number : ℕ) → ((o ≡ Err number) × (ended ≡ false)) ⊎ (is_ok o ≡ true) → judged_by begun o (Some number) ≡ Err number
+judged_by-bad begun (Err k) ended number (inl e) = ap {B = Result Begun ℕ} Err (cc (e.0))
+judged_by-bad begun (Err k) ended number (inr t) = cc
+judged_by-bad begun (Ok nodes) ended number (inl e) = cc (e.0)
+judged_by-bad begun (Ok nodes) ended number (inr t) = refl
+
+judged_by-ended : (begun : Begun) (o : Result (List Node) ℕ) (ended : Bool) (number : ℕ) → ((o ≡ Err number) × (ended ≡ false)) ⊎ (is_ok o ≡ true) →
+    judged_by begun o (cond ended None (Some number)) ≡ cond ended (Ok begun) (Err number)
+judged_by-ended begun o false number either = judged_by-bad begun o false number either
+judged_by-ended begun o true number (inl e) = cc (e.1)
+judged_by-ended begun (Err k) true number (inr t) = cc
+judged_by-ended begun (Ok nodes) true number (inr t) = refl
+
+is_empty-push : (xs : List TreeLine) (y : TreeLine) → is_empty (xs ++ y ∷ []) ≡ false
+is_empty-push [] y = refl
+is_empty-push (x ∷ xs) y = refl
+
+-- a tree that breaks the rules breaks them whatever follows
+scan_from-broken : (texts : List (List ℕ)) (number : ℕ) (begun : Begun) (n : ℕ) → is_empty begun.tree ≡ false → nodes_of begun.tree ≡ Err n →
+    nodes_of (scan_from number begun texts).begun.tree ≡ Err n
+scan_from-broken [] number begun n some is = is
+scan_from-broken (text ∷ more) number begun n some is =
+    go (λ after. scan_from-broken more (number + 1) after n) (is_empty text && is_empty more) (line_of text)
+  where
+    at : ((after : Begun) → is_empty after.tree ≡ false → nodes_of after.tree ≡ Err n → nodes_of (scan_from (number + 1) after more).begun.tree ≡ Err n) → (may : Bool) (line : Line) →
+        nodes_of (scanning_on number begun (cond may (Some (added begun line)) None) (λ after. scan_from (number + 1) after more)).begun.tree ≡ Err n
+    at below false line = is
+    at below true (Tree y) = below (added begun (Tree y)) (is_empty-push begun.tree y) (nodes_of-broken begun.tree y n some is)
+    at below true (Job job) = below (added begun (Job job)) some is
+    at below true End = below (added begun End) some is
+
+    go : ((after : Begun) → is_empty after.tree ≡ false → nodes_of after.tree ≡ Err n → nodes_of (scan_from (number + 1) after more).begun.tree ≡ Err n) → (last : Bool) (line : Option Line) →
+        nodes_of (cond last (record { begun = begun; bad = cond begun.ended None (Some number) })
+        (scanning_on number begun (option_and_then (with_allowed begun) line) (λ after. scan_from (number + 1) after more))).begun.tree ≡ Err n
+    go below true line = is
+    go below false None = is
+    go below false (Some line) = at below (may_stand begun line) line
+
+and_true : (a b : Bool) → (a && b) ≡ true → (a ≡ true) × (b ≡ true)
+and_true true b both = (refl, both)
+and_true false b both = cc
+
+not_true : (a : Bool) → not a ≡ true → a ≡ false
+not_true true is = cc
+not_true false is = refl
+
+judged-broken : (scanned : Scanned) (n : ℕ) → nodes_of scanned.begun.tree ≡ Err n → judged scanned ≡ Err n
+judged-broken scanned n is = ap (λ (o : Result (List Node) ℕ). judged_by scanned.begun o scanned.bad) is
+
+-- a line of a tree is the first to break the rules at its own number
+broken_at : (number : ℕ) (begun : Begun) (y : TreeLine) (n : ℕ) → IsSound number begun → may_stand begun (Tree y) ≡ true → nodes_of (begun.tree ++ y ∷ []) ≡ Err n → n ≡ number
+broken_at number begun y n sound may bad = go (nodes_of begun.tree) refl sound.tree
+  where
+    next : number ≡ length begun.tree + 1
+    next = let both = and_true (not begun.ended) (is_empty begun.jobs) may in sound.next (not_true begun.ended both.0) both.1
+
+    go : (o : Result (List Node) ℕ) → nodes_of begun.tree ≡ o → ((begun.tree ≡ []) × (number ≡ 1) × (begun.ended ≡ false)) ⊎ (is_ok (nodes_of begun.tree) ≡ true) → n ≡ number
+    go o e (inl first) = let one : n ≡ 1 = nodes_of-first y n (sym (ap (λ (xs : List TreeLine). nodes_of (xs ++ y ∷ [])) first.0) ∙ bad) in one ∙ sym first.1
+    go (Ok m) e (inr t) = nodes_of-more begun.tree y m n e bad ∙ sym next
+    go (Err k) e (inr t) = cc (ap is_ok e)
+
+-- what a line that breaks no rule leaves is sound
+sound_tree : (number : ℕ) (begun : Begun) (y : TreeLine) → IsSound number begun → may_stand begun (Tree y) ≡ true → is_ok (nodes_of (begun.tree ++ y ∷ [])) ≡ true →
+    IsSound (number + 1) (added begun (Tree y))
+sound_tree number begun y sound may ok = record {
+  tree = inr ok;
+  next = λ going none. let h : number ≡ length begun.tree + 1 = sound.next going none in omega (arith, length-append begun.tree (y ∷ []));
+}
+
+has_tree : (number : ℕ) (begun : Begun) → IsSound number begun → not (is_empty begun.tree) ≡ true → is_ok (nodes_of begun.tree) ≡ true
+has_tree number begun sound some = go sound.tree
+  where
+    go : ((begun.tree ≡ []) × (number ≡ 1) × (begun.ended ≡ false)) ⊎ (is_ok (nodes_of begun.tree) ≡ true) → is_ok (nodes_of begun.tree) ≡ true
+    go (inl first) = cc (sym (ap (λ (xs : List TreeLine). not (is_empty xs)) first.0) ∙ some)
+    go (inr t) = t
+
+is_empty-jobs : (jobs : List ScriptJob) (job : ScriptJob) → is_empty (jobs ++ job ∷ []) ≡ true → ⊥
+is_empty-jobs [] job e = cc
+is_empty-jobs (x ∷ xs) job e = cc
+
+sound_job : (number : ℕ) (begun : Begun) (job : ScriptJob) → IsSound number begun → may_stand begun (Job job) ≡ true → IsSound (number + 1) (added begun (Job job))
+sound_job number begun job sound may =
+    let both = and_true (not begun.ended) _ may in
+    let more = and_true (not (is_empty begun.tree)) _ both.1 in
+    record { tree = inr (has_tree number begun sound more.0); next = λ going none. absurd (is_empty-jobs begun.jobs job none) }
+
+sound_end : (number : ℕ) (begun : Begun) → IsSound number begun → may_stand begun End ≡ true → IsSound (number + 1) (added begun End)
+sound_end number begun sound may =
+    let both = and_true (not begun.ended) _ may in
+    record { tree = inr (has_tree number begun sound both.1); next = λ going none. cc }
+
+-- the script that is read is the one that stands there
+scan_from-judged : (texts : List (List ℕ)) (number : ℕ) (begun : Begun) → IsSound number begun → judged (scan_from number begun texts) ≡ script_from number begun texts
+scan_from-judged [] number begun sound = judged_by-bad begun (nodes_of begun.tree) begun.ended number (tree_either number begun sound)
+scan_from-judged (text ∷ more) number begun sound = go (λ after. scan_from-judged more (number + 1) after) (is_empty text && is_empty more) (line_of text)
+  where
+    tree_at : ((after : Begun) → IsSound (number + 1) after → judged (scan_from (number + 1) after more) ≡ script_from (number + 1) after more) → (y : TreeLine) → may_stand begun (Tree y) ≡ true →
+        (o : Result (List Node) ℕ) → nodes_of (begun.tree ++ y ∷ []) ≡ o →
+        judged (scan_from (number + 1) (added begun (Tree y)) more) ≡ going_on number (cond (is_ok o) (Some (added begun (Tree y))) None) (λ after. script_from (number + 1) after more)
+    tree_at below y may (Ok m) e = below (added begun (Tree y)) (sound_tree number begun y sound may (ap is_ok e))
+    tree_at below y may (Err n) e =
+        judged-broken (scan_from (number + 1) (added begun (Tree y)) more) n (scan_from-broken more (number + 1) (added begun (Tree y)) n (is_empty-push begun.tree y) e)
+        ∙ ap Err (broken_at number begun y n sound may e)
+
+    at : ((after : Begun) → IsSound (number + 1) after → judged (scan_from (number + 1) after more) ≡ script_from (number + 1) after more) → (may : Bool) (line : Line) → may_stand begun line ≡ may →
+        judged (scanning_on number begun (cond may (Some (added begun line)) None) (λ after. scan_from (number + 1) after more))
+        ≡ going_on number (cond (may && keeps_tree begun line) (Some (added begun line)) None) (λ after. script_from (number + 1) after more)
+    at below false line e = judged_by-bad begun (nodes_of begun.tree) begun.ended number (tree_either number begun sound)
+    at below true (Tree y) e = tree_at below y e (nodes_of (begun.tree ++ y ∷ [])) refl
+    at below true (Job job) e = below (added begun (Job job)) (sound_job number begun job sound e)
+    at below true End e = below (added begun End) (sound_end number begun sound e)
+
+    go : ((after : Begun) → IsSound (number + 1) after → judged (scan_from (number + 1) after more) ≡ script_from (number + 1) after more) → (last : Bool) (line : Option Line) →
+        judged (cond last (record { begun = begun; bad = cond begun.ended None (Some number) })
+        (scanning_on number begun (option_and_then (with_allowed begun) line) (λ after. scan_from (number + 1) after more)))
+        ≡ cond last (cond begun.ended (Ok begun) (Err number)) (going_on number (option_and_then (with_line begun) line) (λ after. script_from (number + 1) after more))
+    go below true line = judged_by-ended begun (nodes_of begun.tree) begun.ended number (tree_either number begun sound)
+    go below false None = judged_by-bad begun (nodes_of begun.tree) begun.ended number (tree_either number begun sound)
+    go below false (Some line) = at below (may_stand begun line) line refl
+
+pub scan_of-judged : (bytes : List ℕ) → judged (scan_of bytes) ≡ script_of bytes
+scan_of-judged bytes = scan_from-judged (lines_of bytes) 1 nothing (record { tree = inl (refl, refl, refl); next = λ going none. refl })
+
+-- the tree's lines break the rules
+pub script_of-tree : (bytes : List ℕ) (begun : Begun) (bad : Option ℕ) (n : ℕ) → record { begun = begun; bad = bad } ≡ scan_of bytes → nodes_of begun.tree ≡ Err n → script_of bytes ≡ Err n
+script_of-tree bytes begun bad n read broken =
+    sym (scan_of-judged bytes) ∙ ap judged (sym read) ∙ ap (λ (o : Result (List Node) ℕ). judged_by begun o bad) broken
+
+-- another line is bad
+pub script_of-bad : (bytes : List ℕ) (begun : Begun) (line : ℕ) (nodes : List Node) → record { begun = begun; bad = Some line } ≡ scan_of bytes → nodes_of begun.tree ≡ Ok nodes →
+    script_of bytes ≡ Err line
+script_of-bad bytes begun line nodes read keeps =
+    sym (scan_of-judged bytes) ∙ ap judged (sym read) ∙ ap (λ (o : Result (List Node) ℕ). judged_by begun o (Some line)) keeps
+
+-- no line is bad
+pub script_of-good : (bytes : List ℕ) (begun : Begun) (nodes : List Node) → record { begun = begun; bad = None } ≡ scan_of bytes → nodes_of begun.tree ≡ Ok nodes → script_of bytes ≡ Ok begun
+script_of-good bytes begun nodes read keeps =
+    sym (scan_of-judged bytes) ∙ ap judged (sym read) ∙ ap (λ (o : Result (List Node) ℕ). judged_by begun o None) keeps
+
+-- a bad line of the tree is one of the script
+pub IsBadLine-tree : (bytes : List ℕ) (begun : Begun) (bad : Option ℕ) (lines : List TreeLine) (error : ParseError) → record { begun = begun; bad = bad } ≡ scan_of bytes → lines ≡ begun.tree →
+    IsBadTree lines error → IsBadLine bytes error
+IsBadLine-tree bytes begun bad lines (BadScript line) read same broken = script_of-tree bytes begun bad line read (ap nodes_of (sym same) ∙ broken)
+IsBadLine-tree bytes begun bad lines Memory read same broken = tt
+
+pub IsBadLine-line : (bytes : List ℕ) (begun : Begun) (bad : Option ℕ) (lines : List TreeLine) (line : ℕ) (host : State) → record { begun = begun; bad = bad } ≡ scan_of bytes → bad ≡ Some line →
+    lines ≡ begun.tree → StartsAs lines host → script_of bytes ≡ Err line
+IsBadLine-line bytes begun bad lines line host read is same starts =
+    script_of-bad bytes begun line starts.0 (ap (λ (o : Option ℕ). record { begun = begun; bad = o }) (sym is) ∙ read) (ap nodes_of (sym same) ∙ starts.1)
+
+pub IsScriptOf-read : (bytes : List ℕ) (begun : Begun) (bad : Option ℕ) (lines : List TreeLine) (jobs : List ScriptJob) (host : State) → record { begun = begun; bad = bad } ≡ scan_of bytes → bad ≡ None →
+    lines ≡ begun.tree → StartsAs lines host → jobs ≡ begun.jobs → IsScriptOf bytes host jobs
+IsScriptOf-read bytes begun bad lines jobs host read is same starts same_jobs = (
+  begun,
+  script_of-good bytes begun starts.0 (ap (λ (o : Option ℕ). record { begun = begun; bad = o }) (sym is) ∙ read) (ap nodes_of (sym same) ∙ starts.1),
+  rw (← same) starts,
+  same_jobs,
+)

@@ -1,0 +1,47 @@
+-- A script read without the rules of trees, which the host judges when it is made.
+use Rattle.std.specs.Prelude.{◌≡◌, ℕ, ◌+◌, ◌&&◌, List, [], ◌∷◌, Option, Some, None, Result, Ok, Err, if◌then◌else◌, option_and_then}
+use Rattle.pt_tree.specs.Start.{nodes_of, StartsAs}
+use Rattle.pt_tree.specs.State.{State}
+use Rattle.pt_main.specs.declared.line.ScriptJob.{ScriptJob}
+use Rattle.pt_tree.specs.declared.node.Node.{Node}
+use Rattle.pt_text.specs.Words.{lines_of}
+use Rattle.pt_main.specs.Line.{line_of}
+use Rattle.pt_main.specs.Script.{Begun, nothing, is_empty, may_stand, added, script_of}
+use Rattle.pt_main.specs.declared.line.Line.{Line}
+
+-- the lines up to the first bad one, and its number, or none where they are a script
+pub record Scanned : Type 0 where
+  pub begun : Begun
+  pub bad : Option ℕ
+
+abbrev pub with_allowed : Begun → Line → Option Begun
+with_allowed begun line = if may_stand begun line then Some (added begun line) else None
+
+abbrev pub allowed : Begun → List ℕ → Option Begun
+allowed begun text = option_and_then (with_allowed begun) (line_of text)
+
+abbrev pub scanning_on : ℕ → Begun → Option Begun → (Begun → Scanned) → Scanned
+scanning_on number begun None next = record { begun = begun; bad = Some number }
+scanning_on number begun (Some after) next = next after
+
+abbrev pub scan_from : ℕ → Begun → List (List ℕ) → Scanned
+scan_from number begun [] = record { begun = begun; bad = Some number }
+scan_from number begun (text ∷ more) =
+    if is_empty text && is_empty more then record { begun = begun; bad = if begun.ended then None else Some number }
+    else scanning_on number begun (allowed begun text) (λ after. scan_from (number + 1) after more)
+
+abbrev pub scan_of : List ℕ → Scanned
+scan_of bytes = scan_from 1 nothing (lines_of bytes)
+
+-- the script that was read, judged by the rules of trees too: a line that breaks these stands above any other bad one
+abbrev pub judged_by : Begun → Result (List Node) ℕ → Option ℕ → Result Begun ℕ
+judged_by begun (Err line) bad = Err line
+judged_by begun (Ok nodes) (Some line) = Err line
+judged_by begun (Ok nodes) None = Ok begun
+
+abbrev pub judged : Scanned → Result Begun ℕ
+judged scanned = judged_by scanned.begun (nodes_of scanned.begun.tree) scanned.bad
+
+-- a host and jobs that are those of the script that these bytes are
+abbrev pub IsScriptOf : List ℕ → State → List ScriptJob → Type 0
+IsScriptOf bytes host jobs = (begun : Begun) × (script_of bytes ≡ Ok begun) × StartsAs begun.tree host × (jobs ≡ begun.jobs)

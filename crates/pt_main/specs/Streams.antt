@@ -1,0 +1,43 @@
+-- What one reading and one writing do, where the bytes are told.
+use Rattle.std.specs.Prelude.{◌≡◌, ◌<◌, ℕ, List, [], ◌++◌, length, take, Option, Some, None}
+
+-- so many bytes came from the front of what was left, and none only at its end
+abbrev pub IsPulled : Option (List ℕ) → List ℕ → ℕ → Option (List ℕ) → Type 0
+IsPulled None buf count after = after ≡ None
+IsPulled (Some left) buf count after =
+    (rest : List ℕ) × (after ≡ Some rest) × (left ≡ take count buf ++ rest) × (count ≡ 0 → 0 < length buf → left ≡ [])
+
+-- so many bytes of the piece stand behind what was written
+abbrev pub IsPushed : Option (List ℕ) → List ℕ → ℕ → Option (List ℕ) → Type 0
+IsPushed None piece count after = after ≡ None
+IsPushed (Some written) piece count after = after ≡ Some (written ++ take count piece)
+
+-- a source in memory: what is left, and its faults
+pub record MemLeft : Type 0 where
+  pub left : List ℕ
+  pub faults : ℕ
+
+-- a sink in memory
+pub record MemWritten : Type 0 where
+  pub written : List ℕ
+  pub faults : ℕ
+
+-- these bytes came from the front of the whole, and this is left
+abbrev pub IsTaken : Option (List ℕ) → List ℕ → Option (List ℕ) → Type 0
+IsTaken None bytes left = left ≡ None
+IsTaken (Some whole) bytes left = (rest : List ℕ) × (left ≡ Some rest) × (whole ≡ bytes ++ rest)
+
+-- nothing is left, where that is told
+abbrev pub IsAtEnd : Option (List ℕ) → Type 0
+IsAtEnd None = Unit {0}
+IsAtEnd (Some left) = left ≡ []
+
+-- these bytes are all that was left
+abbrev pub IsAll : Option (List ℕ) → List ℕ → Type 0
+IsAll None bytes = Unit {0}
+IsAll (Some left) bytes = left ≡ bytes
+
+-- more than so many bytes were left
+abbrev pub IsLonger : ℕ → Option (List ℕ) → Type 0
+IsLonger limit None = Unit {0}
+IsLonger limit (Some left) = limit < length left

@@ -1,0 +1,87 @@
+ghost use Rattle.std.specs.Prelude.{◌≡◌, IfOk, OnOk, Some, None, ◌≢◌, ◌∷◌, []};
+ghost use Rattle.std.specs.Str.{bytes_eq};
+ghost use Rattle.pt_main.specs.Fields.{number_in, small_in, bytes_in, switch_in, switch_of};
+
+use pt_host::Bytes;
+use pt_text::{Parts, read_byte_word, read_number};
+use std::alloc::Global;
+
+/// Why a text is no line, or was not read as one.
+#[derive(Clone, Copy, Debug, PartialEq, Eq)]
+pub enum LineError {
+    Bad,
+    Memory,
+}
+
+pub fn next_word<'a>(words: &mut Parts<'a>) -> Result<&'a [u8], LineError>
+    ensures ok { IfOk result (λ word. words.old ≡ word.now ∷ words.new) }
+    ensures bad { result ≡ Err LineError.Bad → words.old ≡ [] }
+    ensures no_memory { result ≡ Err LineError.Memory → ⊥ }
+{
+    match words.next() {
+        Some(word) => Ok(word),
+        None => Err(LineError::Bad),
+    }
+}
+
+/// A number of 64 bits.
+pub fn next_number(words: &mut Parts<'_>) -> Result<u64, LineError>
+    ensures ok { IfOk result (λ value. number_in words.old ≡ Some (record { value = value; rest = words.new })) }
+    ensures bad { result ≡ Err LineError.Bad → number_in words.old ≡ None }
+{
+    let word = next_word(words)?;
+    read_number(word).ok_or(LineError::Bad)
+}
+
+/// A number of 32 bits.
+pub fn next_small(words: &mut Parts<'_>) -> Result<u32, LineError>
+    ensures ok { IfOk result (λ value. small_in words.old ≡ Some (record { value = value; rest = words.new })) }
+    ensures bad { result ≡ Err LineError.Bad → small_in words.old ≡ None }
+{
+    let word = next_word(words)?;
+    match read_number(word) {
+        Some(number) if number <= 0xffff_ffff => Ok(number as u32),
+        _ => Err(LineError::Bad),
+    }
+}
+
+/// Bytes as a word.
+pub fn next_bytes(alloc: Global, words: &mut Parts<'_>) -> Result<Bytes, LineError>
+    ensures ok { IfOk result (λ value. bytes_in words.old ≡ Some (record { value = value; rest = words.new })) }
+    ensures bad { result ≡ Err LineError.Bad → bytes_in words.old ≡ None }
+{
+    let word = next_word(words)?;
+    match read_byte_word(alloc, word) {
+        Ok(Some(bytes)) => Ok(Bytes::from_vec(bytes)),
+        Ok(None) => Err(LineError::Bad),
+        Err(_) => Err(LineError::Memory),
+    }
+}
+
+/// A switch, `0` or `1`.
+pub fn next_switch(words: &mut Parts<'_>) -> Result<bool, LineError>
+    ensures ok { IfOk result (λ value. switch_in words.old ≡ Some (record { value = value; rest = words.new })) }
+    ensures bad { result ≡ Err LineError.Bad → switch_in words.old ≡ None }
+{
+    let word = next_word(words)?;
+    if word == b"0".as_slice() {
+        Ok(false)
+    } else if word == b"1".as_slice() {
+        Ok(true)
+    } else {
+        Err(LineError::Bad)
+    }
+}
+
+/// Nothing more.
+pub fn end(words: &Parts<'_>) -> Result<(), LineError>
+    ensures ok { OnOk result (words.now ≡ []) }
+    ensures bad { result ≡ Err LineError.Bad → words.now ≢ [] }
+    ensures no_memory { result ≡ Err LineError.Memory → ⊥ }
+{
+    if words.is_empty() {
+        Ok(())
+    } else {
+        Err(LineError::Bad)
+    }
+}

@@ -1,0 +1,131 @@
+ghost use Rattle.std.specs.Prelude.{◌≡◌, ◌≤◌, ◌+◌, IfOk, OnOk, OnErr, Some, None, true, false, length};
+ghost use Rattle.pt_main.specs.Script.{may_stand, added, nothing};
+ghost use Rattle.pt_main.specs.Scan.{allowed, scan_of};
+
+use crate::fields::LineError;
+use crate::input::MAX_SCRIPT;
+use crate::line::{Line, ScriptJob, read_line};
+use pt_text::Parts;
+use pt_tree::{TreeLine, TreeSpec};
+use std::alloc::{AllocError, Global};
+use std::marker::Model;
+
+/// How many jobs a script has at most.
+pub const MAX_JOBS: usize = 65_536;
+
+/// A script as far as its lines go.
+#[derive(Drop)]
+pub struct Lines {
+    tree: Vec<TreeLine>,
+    jobs: Vec<ScriptJob>,
+    ended: bool,
+}
+
+impl Model for Lines {
+    ghost use Rattle.pt_main.specs.Script.{Begun};
+
+    ghost Value = { Begun };
+
+    ghost view = { λ lines. record { tree = lines.tree.items; jobs = lines.jobs.items; ended = lines.ended } };
+}
+
+impl Lines {
+    pub fn new(alloc: Global) -> Self
+        ensures { result ≡ nothing }
+    {
+        Lines {
+            tree: Vec::new(alloc),
+            jobs: Vec::new(alloc),
+            ended: false,
+        }
+    }
+
+    pub fn is_ended(&self) -> bool
+        ensures { result ≡ self.now.ended }
+    {
+        self.ended
+    }
+
+    /// Whether the line may stand behind these, the rules of trees aside.
+    pub fn may_take(&self, line: &Line) -> bool
+        ensures { result ≡ may_stand self.now line.now }
+    {
+        match line {
+            Line::Tree(_) => !self.ended && self.jobs.is_empty(),
+            Line::Job(_) => !self.ended && !self.tree.is_empty() && self.jobs.len() < MAX_JOBS,
+            Line::End => !self.ended && !self.tree.is_empty(),
+        }
+    }
+
+    /// Puts a line behind these.
+    pub fn add(&mut self, line: Line) -> Result<(), AllocError>
+        ensures ok { OnOk result (self.new ≡ added self.old line) }
+        ensures err { OnErr result (self.new ≡ self.old) }
+    {
+        match line {
+            Line::Tree(line) => self.tree.push(line)?,
+            Line::Job(job) => self.jobs.push(job)?,
+            Line::End => self.ended = true,
+        }
+        Ok(())
+    }
+
+    /// The lines of the tree, and the jobs, which takes no memory.
+    pub fn into_parts(self) -> (TreeSpec, Vec<ScriptJob>)
+        ensures tree { result.0 ≡ self.tree }
+        ensures jobs { result.1.items ≡ self.jobs }
+    {
+        (TreeSpec::from_vec(self.tree), self.jobs)
+    }
+
+    // Puts the line that a text is behind these, and tells whether it is one and may stand there.
+    fn take_text(&mut self, alloc: Global, text: &[u8]) -> Result<bool, AllocError>
+        ensures taken { result ≡ Ok true → allowed self.old text.now ≡ Some self.new }
+        ensures bad { result ≡ Ok false → allowed self.old text.now ≡ None }
+        ensures unchanged { result ≡ Ok false → self.new ≡ self.old }
+        ensures err { OnErr result (self.new ≡ self.old) }
+        ensures few { length self.new.tree ≤ length self.old.tree + 1 }
+    {
+        let line = match read_line(alloc, text) {
+            Ok(line) => line,
+            Err(LineError::Bad) => return Ok(false),
+            Err(LineError::Memory) => return Err(AllocError),
+        };
+        if !self.may_take(&line) {
+            return Ok(false);
+        }
+        self.add(line)?;
+        Ok(true)
+    }
+}
+
+/// The lines of a script, and the number of the first bad one, the rules of trees aside.
+#[derive(Drop)]
+pub struct Scan {
+    pub lines: Lines,
+    pub bad: Option<u32>,
+}
+
+/// Reads the lines of a script up to the first bad one.
+pub fn scan_lines(alloc: Global, bytes: &[u8]) -> Result<Scan, AllocError>
+    requires { length bytes.now ≤ MAX_SCRIPT }
+    ensures scanned { IfOk result (λ scan. record { begun = scan.lines; bad = scan.bad } ≡ scan_of bytes.now) }
+    ensures few { IfOk result (λ scan. length scan.lines.tree ≤ length bytes.now + 1) }
+{
+    let mut lines = Lines::new(alloc);
+    let mut parts = Parts::lines(bytes);
+    let mut number = 1;
+    while let Some(text) = parts.next() {
+        if text.is_empty() && parts.is_empty() {
+            let bad = if lines.is_ended() { None } else { Some(number) };
+            return Ok(Scan { lines, bad });
+        }
+        if !lines.take_text(alloc, text)? {
+            let bad = Some(number);
+            return Ok(Scan { lines, bad });
+        }
+        number += 1;
+    }
+    let bad = Some(number);
+    Ok(Scan { lines, bad })
+}

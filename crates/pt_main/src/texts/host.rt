@@ -1,0 +1,146 @@
+ghost use Rattle.pt_main.specs.HostTexts.{errno_text, fd_text, flags_text, ids_text, time_text, stat_text, call_text, value_text, host_reply_text};
+
+use crate::texts::Text;
+use crate::texts::plain::push_word;
+use pt_host::{Errno, Fd, HostReply, HostValue, KeptHostOp, ObjIds, OpenFlags, Stat, Time};
+use std::alloc::AllocError;
+
+impl Text for Errno {
+    ghost text = { errno_text };
+
+    fn write(&self, out: &mut Vec<u8>) -> Result<(), AllocError> {
+        self.0.write(out)
+    }
+}
+
+impl Text for Fd {
+    ghost text = { fd_text };
+
+    fn write(&self, out: &mut Vec<u8>) -> Result<(), AllocError> {
+        self.0.write(out)
+    }
+}
+
+impl Text for OpenFlags {
+    ghost text = { flags_text };
+
+    fn write(&self, out: &mut Vec<u8>) -> Result<(), AllocError> {
+        self.0.write(out)
+    }
+}
+
+impl Text for ObjIds {
+    ghost text = { ids_text };
+
+    fn write(&self, out: &mut Vec<u8>) -> Result<(), AllocError> {
+        self.ino.write(out)?;
+        self.dev.write(out)?;
+        self.mnt_id.write(out)
+    }
+}
+
+impl Text for Time {
+    ghost text = { time_text };
+
+    fn write(&self, out: &mut Vec<u8>) -> Result<(), AllocError> {
+        self.sec.write(out)?;
+        self.nsec.write(out)
+    }
+}
+
+impl Text for Stat {
+    ghost text = { stat_text };
+
+    fn write(&self, out: &mut Vec<u8>) -> Result<(), AllocError> {
+        self.ids.write(out)?;
+        self.mode.write(out)?;
+        self.nlink.write(out)?;
+        self.uid.write(out)?;
+        self.gid.write(out)?;
+        self.rdev.write(out)?;
+        self.size.write(out)?;
+        self.blksize.write(out)?;
+        self.blocks.write(out)?;
+        self.atime.write(out)?;
+        self.mtime.write(out)?;
+        self.ctime.write(out)
+    }
+}
+
+impl Text for KeptHostOp {
+    ghost text = { call_text };
+
+    fn write(&self, out: &mut Vec<u8>) -> Result<(), AllocError> {
+        match self {
+            KeptHostOp::OpenRoot { path, flags } => {
+                push_word(out, b"OpenRoot")?;
+                path.write(out)?;
+                flags.write(out)
+            }
+            KeptHostOp::OpenAt {
+                fd,
+                name,
+                flags,
+                mode,
+            } => {
+                push_word(out, b"OpenAt")?;
+                fd.write(out)?;
+                name.write(out)?;
+                flags.write(out)?;
+                mode.write(out)
+            }
+            KeptHostOp::Stat { fd } => {
+                push_word(out, b"Stat")?;
+                fd.write(out)
+            }
+            KeptHostOp::Close { fd } => {
+                push_word(out, b"Close")?;
+                fd.write(out)
+            }
+        }
+    }
+}
+
+impl Text for HostValue {
+    ghost text = { value_text };
+
+    fn write(&self, out: &mut Vec<u8>) -> Result<(), AllocError> {
+        match self {
+            HostValue::Unit => push_word(out, b"Unit"),
+            HostValue::Fd(fd) => {
+                push_word(out, b"Fd")?;
+                fd.write(out)
+            }
+            HostValue::Stat(stat) => {
+                push_word(out, b"Stat")?;
+                stat.write(out)
+            }
+            HostValue::Bytes(bytes) => {
+                push_word(out, b"Bytes")?;
+                bytes.write(out)
+            }
+        }
+    }
+}
+
+impl Text for HostReply {
+    ghost text = { host_reply_text };
+
+    fn write(&self, out: &mut Vec<u8>) -> Result<(), AllocError> {
+        match self {
+            HostReply::Ok(value) => {
+                push_word(out, b"Ok")?;
+                value.write(out)
+            }
+            HostReply::Refused(errno) => {
+                push_word(out, b"Refused")?;
+                errno.write(out)
+            }
+            HostReply::Fault(errno) => {
+                push_word(out, b"Fault")?;
+                errno.write(out)
+            }
+            HostReply::NoMemory => push_word(out, b"NoMemory"),
+        }
+    }
+}

@@ -1,0 +1,87 @@
+ghost use Rattle.std.specs.Prelude.{◌≡◌, ◌++◌, OnOk};
+ghost use Rattle.pt_main.specs.Texts.{word, number_text, signed_text, bytes_text, switch_text, option_text};
+
+use crate::texts::Text;
+use pt_host::Bytes;
+use pt_text::{push_byte_word, push_decimal, push_signed, push_text};
+use std::alloc::AllocError;
+
+/// Appends a word.
+pub fn push_word(out: &mut Vec<u8>, text: &[u8]) -> Result<(), AllocError>
+    ensures { OnOk result (out.new.items ≡ out.old.items ++ word text.now) }
+{
+    push_text(out, b" ")?;
+    push_text(out, text)
+}
+
+impl Text for u64 {
+    ghost text = { number_text };
+
+    fn write(&self, out: &mut Vec<u8>) -> Result<(), AllocError> {
+        push_text(out, b" ")?;
+        push_decimal(out, *self)
+    }
+}
+
+impl Text for u32 {
+    ghost text = { number_text };
+
+    fn write(&self, out: &mut Vec<u8>) -> Result<(), AllocError> {
+        u64::from(*self).write(out)
+    }
+}
+
+impl Text for i64 {
+    ghost text = { signed_text };
+
+    fn write(&self, out: &mut Vec<u8>) -> Result<(), AllocError> {
+        push_text(out, b" ")?;
+        push_signed(out, *self)
+    }
+}
+
+impl Text for i32 {
+    ghost text = { signed_text };
+
+    fn write(&self, out: &mut Vec<u8>) -> Result<(), AllocError> {
+        i64::from(*self).write(out)
+    }
+}
+
+impl Text for bool {
+    ghost text = { switch_text };
+
+    fn write(&self, out: &mut Vec<u8>) -> Result<(), AllocError> {
+        push_word(out, if *self { b"1" } else { b"0" })
+    }
+}
+
+/// Appends bytes as a word.
+pub fn push_bytes(out: &mut Vec<u8>, bytes: &[u8]) -> Result<(), AllocError>
+    ensures { OnOk result (out.new.items ≡ out.old.items ++ bytes_text bytes.now) }
+{
+    push_text(out, b" ")?;
+    push_byte_word(out, bytes)
+}
+
+impl Text for Bytes {
+    ghost text = { bytes_text };
+
+    fn write(&self, out: &mut Vec<u8>) -> Result<(), AllocError> {
+        push_bytes(out, self.as_slice())
+    }
+}
+
+impl<T: Text> Text for Option<T> {
+    ghost text = { option_text T.text };
+
+    fn write(&self, out: &mut Vec<u8>) -> Result<(), AllocError> {
+        match self {
+            None => push_word(out, b"-"),
+            Some(value) => {
+                push_word(out, b"+")?;
+                value.write(out)
+            }
+        }
+    }
+}

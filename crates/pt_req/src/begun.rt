@@ -1,0 +1,8 @@
+use pt_session::Negotiated;
+
+/// What a request is told of its session at its first step.
+#[derive(Clone, Copy, Debug, PartialEq, Eq)]
+pub struct Session {
+    pub era: u64,
+    pub agreed: Negotiated,
+}

@@ -1,0 +1,5 @@
+use Rattle.pt_session.proofs.Replies.{pays}
+use Rattle.pt_session.proofs.laws.closings_are_paid.Goals as goal
+
+pub returns : goal.returns
+returns c = pays

@@ -1,0 +1,5 @@
+use Rattle.pt_session.proofs.Effects.{effects}
+use Rattle.pt_session.proofs.laws.events_have_effects.Goals as goal
+
+pub returns : goal.returns
+returns c = effects

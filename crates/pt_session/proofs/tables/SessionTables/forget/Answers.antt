@@ -1,0 +1,12 @@
+use Rattle.std.proofs.Common.{arith}
+use Rattle.pt_session.proofs.Forgetting.{forgets_on, forgets_whole}
+use Rattle.pt_session.proofs.tables.SessionTables.forget.Goals as goal
+
+pub loop-pair-preserved : goal.loop-pair-preserved
+loop-pair-preserved c = record {
+  whole = forgets_on _ _ _ _ c.loop-pair.pair-index (0, 0) _ _ c.loop-pair-test.true c.loop-pair.invariant.whole c.forget_one-closings.ensures.tables;
+  bound = omega arith;
+}
+
+pub returns : goal.returns
+returns c = forgets_whole _ _ _ c.loop-pair.pair-index _ c.loop-pair-test.false c.loop-pair.invariant.whole

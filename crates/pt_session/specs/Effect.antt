@@ -1,0 +1,29 @@
+-- The few ways in which an event changes the tables.
+use Rattle.std.specs.Prelude.{◌≡◌, ◌≤◌, ℕ, true, List, [], ◌∷◌, ◌++◌}
+use Rattle.pt_host.specs.Words.{Takes, Replaces}
+use Rattle.pt_session.specs.declared.form.Negotiated.{Negotiated}
+use Rattle.pt_session.specs.Tables.{Row, Closing, Tables, closing_of, IsSoundRow}
+use Rattle.pt_session.specs.Store.{IsLater}
+use Rattle.pt_session.specs.Happens.{IsFree, with_row}
+
+-- the row that an insertion makes
+pub record IsNewRow (tables : Tables) (row : Row) : Type 0 where
+  pub serial : row.serial ≡ tables.next_row
+  pub live : row.live ≡ true
+  pub count : 1 ≤ row.count
+  pub pins : row.pins ≡ 0
+  pub free : IsFree tables row.number row.ids
+
+-- one step: nothing, another count of slots or numbers, a row that changes, ends or is added, or a closing that is taken
+pub data Effect (tables after : Tables) : Type 0 where
+  nothing : after ≡ tables → Effect tables after
+  counted : (slots next_number : ℕ) → (tables.slots ≤ tables.limit → slots ≤ tables.limit) → tables.next_number ≤ next_number → after ≡ record tables { slots = slots; next_number = next_number } → Effect tables after
+  changed : (was now : Row) (rows : List Row) → Replaces was now tables.rows rows → IsLater was now → (IsSoundRow tables.next_row was → IsSoundRow tables.next_row now) → after ≡ record tables { rows = rows } → Effect tables after
+  ended : (row : Row) (rows : List Row) → Takes row tables.rows rows → after ≡ record tables { rows = rows; closing = tables.closing ++ closing_of row ∷ [] } → Effect tables after
+  added : (row : Row) (negotiated : Negotiated) → IsNewRow tables row → after ≡ record (with_row tables row) { negotiated = negotiated } → Effect tables after
+  shut : (first : Closing) (closing : List Closing) → tables.closing ≡ first ∷ closing → after ≡ record tables { closing = closing } → Effect tables after
+
+-- some steps, one after another
+pub data Effects : Tables → Tables → Type 0 where
+  none : {tables : Tables} → Effects tables tables
+  more : {tables mid after : Tables} → Effect tables mid → Effects mid after → Effects tables after

@@ -1,0 +1,65 @@
+//! Which part of the tables an event is for.
+ghost use Rattle.pt_session.specs.Change.{change_of};
+ghost use Rattle.pt_session.specs.Tables.{Agree};
+ghost use Rattle.pt_session.specs.Happens.{Happens};
+ghost use Rattle.pt_session.specs.Kept.{tables_of};
+
+use crate::event::Event;
+use crate::giving::NewRow;
+use crate::reply::EventReply;
+use crate::tables::SessionTables;
+
+impl SessionTables {
+    pub fn event(&mut self, event: &Event<'_>) -> EventReply
+        requires { Agree (tables_of self.old) }
+        ensures { Happens (tables_of self.old) (change_of event.now) result (tables_of self.new) }
+    {
+        match *event {
+            Event::Begin => EventReply::Began {
+                era: self.era,
+                negotiated: self.negotiated,
+            },
+            Event::Resolve { number } => self.resolve(number),
+            Event::Unpin { row } => self.unpin(row),
+            Event::Claim { era, handle, ids } => self.claim(era, handle, ids),
+            Event::TakeFd => self.take_fd(),
+            Event::GiveFd => self.give_fd(),
+            Event::DrawNode => self.draw_node(),
+            Event::Insert {
+                era,
+                number,
+                form,
+                ids,
+                mode,
+            } => {
+                let new = NewRow {
+                    number,
+                    form,
+                    ids,
+                    mode,
+                    count: 1,
+                };
+                self.insert(era, &new)
+            }
+            Event::InsertRoot {
+                era,
+                form,
+                ids,
+                mode,
+                negotiated,
+            } => {
+                let new = NewRow {
+                    number: 1,
+                    form,
+                    ids,
+                    mode,
+                    count: 2,
+                };
+                self.insert_root(era, &new, negotiated)
+            }
+            Event::Forget { list } => self.forget(list),
+            Event::GiveBack { era, number } => self.give_back(era, number),
+            Event::TakeClosing => self.take_closing(),
+        }
+    }
+}

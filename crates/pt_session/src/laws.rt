@@ -1,0 +1,25 @@
+//! What holds of every event of the case table, as functions that do nothing.
+ghost use Rattle.pt_session.specs.Laws.{EventsKeepAgreement, NewTablesAgree, RefusalsChangeNothing, EventsAreAnswered, ClosingsArePaid, EventsHaveEffects};
+
+/// An event leads from tables that agree to tables that agree, and new ones do.
+pub fn events_keep_agreement()
+    ensures kept { EventsKeepAgreement }
+    ensures new { NewTablesAgree }
+{}
+
+pub fn refusals_change_nothing()
+    ensures { RefusalsChangeNothing }
+{}
+
+pub fn events_are_answered()
+    ensures { EventsAreAnswered }
+{}
+
+/// No event puts more descriptors on the closing list than there are rows for.
+pub fn closings_are_paid()
+    ensures { ClosingsArePaid }
+{}
+
+pub fn events_have_effects()
+    ensures { EventsHaveEffects }
+{}

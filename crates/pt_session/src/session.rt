@@ -1,0 +1,62 @@
+ghost use Rattle.std.specs.Prelude.{◌≡◌};
+ghost use Rattle.pt_session.specs.Change.{change_of};
+ghost use Rattle.pt_session.specs.Tables.{Agree, empty_tables};
+ghost use Rattle.pt_session.specs.Happens.{Happens};
+ghost use Rattle.pt_session.specs.LiveAfter.{IsLiveAfter};
+
+use crate::event::Event;
+use crate::reply::EventReply;
+use crate::tables::SessionTables;
+use std::alloc::Global;
+use std::marker::Model;
+
+/// What the daemon knows of the numbers that it gave to the guest, changed by one event at a time.
+#[derive(Drop)]
+pub struct Session {
+    tables: SessionTables,
+}
+
+impl Model for Session {
+    ghost use Rattle.pt_session.specs.Tables.{Tables, Agree};
+    ghost use Rattle.pt_session.specs.Kept.{tables_of};
+
+    ghost Value = { Tables };
+
+    ghost view = { λ session. tables_of session.tables };
+
+    ghost invariant = { λ session. Agree (tables_of session.tables) };
+}
+
+impl Session {
+    /// A session without rows, with so many descriptor slots. It takes no memory yet.
+    pub fn new(alloc: Global, limit: u64) -> Session
+        ensures tables { result ≡ empty_tables limit }
+        ensures agree { Agree result }
+    {
+        Session {
+            tables: SessionTables::new(alloc, limit),
+        }
+    }
+
+    /// One event. Only an event that inserts a row takes memory.
+    pub fn event(&mut self, event: &Event<'_>) -> EventReply
+        ensures happens { Happens self.old (change_of event.now) result self.new }
+        ensures agree { Agree self.new }
+    {
+        self.tables.event(event)
+    }
+
+    /// How many descriptor slots are left.
+    pub fn slots_left(&self) -> u64
+        ensures { result ≡ self.now.slots }
+    {
+        self.tables.slots
+    }
+
+    /// The least live number above the given one, or the least of all, with its count.
+    pub fn live_after(&self, above: Option<u64>) -> Option<(u64, u64)>
+        ensures { IsLiveAfter self.now.rows above result }
+    {
+        self.tables.store.live_after(above)
+    }
+}

@@ -1,0 +1,75 @@
+ghost use Rattle.std.specs.Prelude.{◌≡◌, ◌∷◌, [], ◌↔◌, ◌==◌, IsTrue, IfNone, IfSome, position};
+ghost use Rattle.pt_text.specs.Words.{words_of, lines_of, parts_of, parts_left};
+
+use std::marker::Model;
+
+/// The parts of a text that are still to be read, in order.
+#[derive(Drop)]
+pub struct Parts<'a> {
+    separator: u8,
+    rest: Option<&'a [u8]>,
+}
+
+impl<'a> Model for Parts<'a> {
+    ghost use Rattle.std.specs.Prelude.{List, ℕ};
+    ghost use Rattle.pt_text.specs.Words.{parts_left};
+
+    ghost Value = { List (List ℕ) };
+
+    ghost view = { λ parts. parts_left parts.separator parts.rest };
+}
+
+impl<'a> Parts<'a> {
+    /// The words of a line.
+    pub fn words(line: &'a [u8]) -> Self
+        ensures { result ≡ words_of line.now }
+    {
+        Parts {
+            separator: b' ',
+            rest: Some(line),
+        }
+    }
+
+    /// The lines of a text.
+    pub fn lines(text: &'a [u8]) -> Self
+        ensures { result ≡ lines_of text.now }
+    {
+        Parts {
+            separator: b'\n',
+            rest: Some(text),
+        }
+    }
+
+    /// Takes the next part.
+    pub fn next(&mut self) -> Option<&'a [u8]>
+        ensures some { IfSome result (λ part. self.old ≡ part.now ∷ self.new) }
+        ensures none { IfNone result (self.old ≡ []) }
+        ensures none_left { IfNone result (self.new ≡ []) }
+    {
+        let text = self.rest?;
+        let (part, rest) = first_part(text, self.separator);
+        self.rest = rest;
+        Some(part)
+    }
+
+    pub fn is_empty(&self) -> bool
+        ensures { IsTrue result ↔ (self.now ≡ []) }
+    {
+        self.rest.is_none()
+    }
+}
+
+fn first_part(text: &[u8], separator: u8) -> (&[u8], Option<&[u8]>)
+    ensures { parts_of separator text.now ≡ result.0.now ∷ parts_left separator result.1 }
+{
+    match place_of(text, separator) {
+        Some(place) => (&text[..place], Some(&text[place + 1..])),
+        None => (text, None),
+    }
+}
+
+fn place_of(text: &[u8], separator: u8) -> Option<usize>
+    ensures { result ≡ position (λ b. b == separator) text.now }
+{
+    text.iter().position(|b| *b == separator)
+}

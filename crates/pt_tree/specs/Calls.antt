@@ -1,0 +1,131 @@
+-- The table of the calls: what each is answered and what it leaves.
+use Rattle.std.specs.Prelude.{ℕ, ◌==◌, nat_lt, not, Bool, List, [], ◌∷◌, length, Option, Some, None, Result, Ok, Err, ok_or, slice_get, slice_set, if◌then◌else◌}
+use Rattle.std.specs.List.{slice_split}
+use Rattle.pt_host.specs.Call.{Call}
+use Rattle.pt_host.specs.Flags.{includes, o_creat}
+use Rattle.pt_host.specs.Errno.{ebadf, eacces, eio, enoent, enotdir, enametoolong, eopnotsupp}
+use Rattle.pt_host.specs.declared.ids.Errno.{Errno}
+use Rattle.pt_host.specs.declared.flags.OpenFlags.{OpenFlags}
+use Rattle.pt_host.specs.declared.seat.HostSeat.{HostSeat}
+use Rattle.pt_host.specs.declared.op.KeptHostOp.TheVariants as call
+use Rattle.pt_host.specs.declared.reply.HostReply.{HostReply}
+use Rattle.pt_host.specs.declared.reply.HostReply.TheVariants as reply
+use Rattle.pt_host.specs.declared.reply.HostValue.{HostValue}
+use Rattle.pt_host.specs.declared.reply.HostValue.TheVariants as value
+use Rattle.pt_tree.specs.Names.{found}
+use Rattle.pt_tree.specs.Node.{is_directory, names_in, status_of}
+use Rattle.pt_tree.specs.Permission.{may}
+use Rattle.pt_tree.specs.Slots.{open_at, least_free, put_at, closed}
+use Rattle.pt_tree.specs.State.{State, time_of}
+use Rattle.pt_tree.specs.Opening.{first_refusal, opening_refusal, after_opening}
+use Rattle.pt_tree.specs.declared.node.Node.{Node}
+use Rattle.pt_tree.specs.declared.slots.OpenFile.{OpenFile}
+use Rattle.pt_tree.specs.declared.slots.Slot.TheVariants.{Open}
+use Rattle.pt_tree.specs.declared.permission.Right.TheVariants.{Search}
+
+-- a reply and the state that the call leaves, before it is counted
+abbrev pub Answered : Type 0
+Answered = HostReply × State
+
+abbrev pub refused : State → Errno → Answered
+refused state errno = (reply.Refused errno, state)
+
+abbrev pub tells : State → HostValue → Answered
+tells state told = (reply.Ok told, state)
+
+-- refused where there is an error, else as said
+abbrev pub unless : State → Option Errno → Answered → Answered
+unless state None otherwise = otherwise
+unless state (Some errno) otherwise = refused state errno
+
+-- the state with the object opened at the least free number
+abbrev pub with_opened : State → HostSeat → OpenFlags → ℕ → Node → State
+with_opened state seat flags object node = record state {
+  nodes = slice_set state.nodes object (after_opening seat (time_of state) flags.0 node);
+  slots = put_at (least_free state.slots) (Open (record { object = object; flags = flags })) state.slots;
+}
+
+-- the opening of an object; one that is not there is a failure of the host, which never comes
+abbrev pub opening_of : State → HostSeat → OpenFlags → ℕ → Option Node → Answered
+opening_of state seat flags object None = refused state eio
+opening_of state seat flags object (Some node) = unless state (opening_refusal seat node flags.0)
+    (tells (with_opened state seat flags object node) (value.Fd (record { 0 = least_free state.slots })))
+
+abbrev pub opening : State → HostSeat → OpenFlags → ℕ → Answered
+opening state seat flags object = opening_of state seat flags object (slice_get state.nodes object)
+
+-- one part of a path, from the object at this place; an empty part leads nowhere else
+abbrev pub step_from : ℕ → List ℕ → Option Node → Result ℕ Errno
+step_from at [] found_node = Ok at
+step_from at name None = Err eio
+step_from at name (Some node) = if is_directory node then ok_or (found name (names_in node.content)) enoent else Err enotdir
+
+-- on from where the part led, unless it is refused
+abbrev pub then_on : Result ℕ Errno → (ℕ → Result ℕ Errno) → Result ℕ Errno
+then_on (Ok at) rest = rest at
+then_on (Err errno) rest = Err errno
+
+abbrev pub walk : List Node → ℕ → List (List ℕ) → Result ℕ Errno
+walk nodes at [] = Ok at
+walk nodes at (part ∷ more) = then_on (step_from at part (slice_get nodes at)) (λ next. walk nodes next more)
+
+abbrev pub parts : List ℕ → List (List ℕ)
+parts path = slice_split (λ byte. byte == 47) path
+
+-- the parts of what stands after a slash, where there is one
+abbrev pub parts_after : Option (List ℕ) → List (List ℕ)
+parts_after None = []
+parts_after (Some path) = parts path
+
+-- a path that begins with a slash is walked from the root
+abbrev pub walk_root : List Node → List ℕ → Result ℕ Errno
+walk_root nodes [] = Err enoent
+walk_root nodes (first ∷ path) = if first == 47 then walk nodes 0 (parts path) else Err enoent
+
+abbrev pub open_walked : State → HostSeat → OpenFlags → Result ℕ Errno → Answered
+open_walked state seat flags (Ok object) = opening state seat flags object
+open_walked state seat flags (Err errno) = refused state errno
+
+-- what every call on a name in a directory is refused for
+abbrev pub name_checks : HostSeat → Node → List ℕ → List (Bool × Errno)
+name_checks seat dir name =
+    (not (is_directory dir), enotdir)
+    ∷ (nat_lt 255 (length name), enametoolong)
+    ∷ (not (may seat dir Search), eacces)
+    ∷ []
+
+abbrev pub name_refusal : HostSeat → Node → List ℕ → Option Errno
+name_refusal seat dir name = first_refusal (name_checks seat dir name)
+
+abbrev pub ok_unless : Option Errno → Result ℕ Errno → Result ℕ Errno
+ok_unless None otherwise = otherwise
+ok_unless (Some errno) otherwise = Err errno
+
+-- the object that the name leads to; making one is not offered
+abbrev pub find_in : HostSeat → List ℕ → ℕ → Option Node → Result ℕ Errno
+find_in seat name flags None = Err eio
+find_in seat name flags (Some dir) = ok_unless (name_refusal seat dir name)
+    (if includes flags o_creat then Err eopnotsupp else ok_or (found name (names_in dir.content)) enoent)
+
+abbrev pub find_name : List Node → HostSeat → List ℕ → ℕ → Option OpenFile → Result ℕ Errno
+find_name nodes seat name flags None = Err ebadf
+find_name nodes seat name flags (Some dir) = find_in seat name flags (slice_get nodes dir.object)
+
+abbrev pub tell_node : State → Option Node → Answered
+tell_node state None = refused state eio
+tell_node state (Some node) = tells state (value.Stat (status_of node))
+
+abbrev pub tell_status : State → Option OpenFile → Answered
+tell_status state None = refused state ebadf
+tell_status state (Some file) = tell_node state (slice_get state.nodes file.object)
+
+abbrev pub close_file : State → ℕ → Option OpenFile → Answered
+close_file state fd None = refused state ebadf
+close_file state fd (Some file) = tells (record state { slots = closed fd state.slots }) value.Unit
+
+abbrev pub answer : State → HostSeat → Call → Answered
+answer state seat (call.OpenRoot path flags) = open_walked state seat flags (walk_root state.nodes path)
+answer state seat (call.OpenAt fd name flags mode) =
+    open_walked state seat flags (find_name state.nodes seat name flags.0 (open_at state.slots fd.0))
+answer state seat (call.Stat fd) = tell_status state (open_at state.slots fd.0)
+answer state seat (call.Close fd) = close_file state fd.0 (open_at state.slots fd.0)

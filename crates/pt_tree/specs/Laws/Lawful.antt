@@ -1,0 +1,371 @@
+-- Every step is lawful.
+use Rattle.std.proofs.Common.{◌≡◌, ◌≢◌, ◌<◌, ◌+◌, ◌⊎◌, inl, inr, ℕ, suc, Bool, true, false, not, ◌&&◌, cond, eqb, List, [], ◌∷◌, Option, Some, None, Result, Ok, Err, ok_or, slice_get, slice_set, option_map, option_and_then, subst, refl, ap, sym, ◌∙◌, arith, pos, ◌*◌, ◌/◌}
+use Rattle.std.proofs.lemmas.List.{length-map}
+use Rattle.std.proofs.lemmas.Option.{same_Some, slice_get_within, slice_get-map}
+use Rattle.std.proofs.lemmas.Bool.Decides.{eqb_tells}
+use Rattle.pt_host.specs.Call.{Call}
+use Rattle.pt_host.specs.Words.{set_at}
+use Rattle.pt_host.specs.Flags.{includes, o_creat, o_path, o_tmpfile}
+use Rattle.pt_host.specs.Errno.{errno_of, enoent, eopnotsupp, eio}
+use Rattle.pt_host.specs.Tree.{Tree, Object, Opened, IsOpenOn}
+use Rattle.pt_host.specs.LawfulStep.{LawfulStep, Changes, MayRefuse, Opens, opened_on, closed_at}
+use Rattle.pt_host.specs.declared.ids.Errno.{Errno}
+use Rattle.pt_host.specs.declared.ids.Fd.{Fd}
+use Rattle.pt_host.specs.declared.flags.OpenFlags.{OpenFlags}
+use Rattle.pt_host.specs.declared.seat.HostSeat.{HostSeat}
+use Rattle.pt_host.specs.declared.op.KeptHostOp.TheVariants as call
+use Rattle.pt_host.specs.declared.reply.HostReply.{HostReply}
+use Rattle.pt_host.specs.declared.reply.HostReply.TheVariants as reply
+use Rattle.pt_host.specs.declared.reply.HostValue.TheVariants as value
+use Rattle.pt_tree.specs.Names.{found}
+use Rattle.pt_tree.specs.Node.{name_at, names_in, object_of, kind_number}
+use Rattle.pt_tree.specs.Slots.{open_at, file_of, least_free, put_at, closed_where}
+use Rattle.pt_tree.specs.State.{State, tree_of, opened_as, time_of}
+use Rattle.pt_tree.specs.Opening.{first_refusal, path_checks, open_checks, opening_refusal, after_opening}
+use Rattle.pt_tree.specs.Calls.{tells, unless, with_opened, opening_of, open_walked, find_in, find_name, name_refusal, name_checks, ok_unless, tell_node, tell_status, close_file, walk_root}
+use Rattle.pt_tree.specs.Does.{AnswersCall, Does}
+use Rattle.pt_tree.specs.Sound.{IsSound}
+use Rattle.pt_tree.specs.declared.node.Node.{Node}
+use Rattle.pt_tree.specs.declared.slots.OpenFile.{OpenFile}
+use Rattle.pt_tree.specs.declared.slots.Slot.{Slot}
+use Rattle.pt_tree.specs.declared.slots.Slot.TheVariants.{Reserved, Free, Open}
+use Rattle.pt_tree.specs.Laws.SlotTable.{least_free-le-length}
+use Rattle.pt_tree.specs.Laws.Updates.{map-set_same, get-put_here, get-put_apart, get-set_here, get-set_apart}
+use Rattle.pt_tree.specs.Laws.Keeping.{keeps_opening}
+use Rattle.pt_tree.specs.Laws.Soundness.{same_names, sound-answers, open_slot}
+use Rattle.pt_tree.specs.Laws.WellFormed.{well_formed, file_of_open}
+
+same_function : {A B : Type 0} (f g : A → B) → ((x : A) → f x ≡ g x) → f ≡ g
+same_function f g h = λ k x. h x k
+
+abbrev tree_with : List Object → (ℕ → List ℕ → Option ℕ) → (ℕ → Option Opened) → Tree
+tree_with objects names opened = record { objects = objects; names = names; opened = opened }
+
+same_tree : (objects other : List Object) (names leads : ℕ → List ℕ → Option ℕ) (opened open_on : ℕ → Option Opened) →
+    objects ≡ other → names ≡ leads → opened ≡ open_on → tree_with objects names opened ≡ tree_with other leads open_on
+same_tree objects other names leads opened open_on e f g =
+    ap (λ o. tree_with o names opened) e ∙ ap (λ n. tree_with other n opened) f ∙ ap (λ d. tree_with other leads d) g
+
+one_more : (n : ℕ) → 1 + n ≡ suc n
+one_more n = omega arith
+
+-- the least free number is not open
+pub least_free-closed : (slots : List Slot) → open_at slots (least_free slots) ≡ None
+least_free-closed [] = refl
+least_free-closed (Reserved ∷ slots) = ap (λ k. open_at (Reserved ∷ slots) k) (one_more (least_free slots)) ∙ least_free-closed slots
+least_free-closed (Free ∷ slots) = refl
+least_free-closed (Open file ∷ slots) = ap (λ k. open_at (Open file ∷ slots) k) (one_more (least_free slots)) ∙ least_free-closed slots
+
+pub opened-put : (file : OpenFile) (slots : List Slot) (fd : ℕ) →
+    option_map opened_as (open_at (put_at (least_free slots) (Open file) slots) fd)
+    ≡ set_at (least_free slots) (Some (opened_as file)) (λ k. option_map opened_as (open_at slots k)) fd
+unfolding set_at
+opened-put file slots fd = elim (eqb_tells fd (least_free slots)) [
+  | inl same ↦ ap (λ k. option_map opened_as (open_at (put_at (least_free slots) (Open file) slots) k)) same.1
+      ∙ ap (λ slot. option_map opened_as (file_of slot)) (get-put_here (least_free slots) (Open file) slots (least_free-le-length slots))
+      ∙ sym (ap (λ b. cond b (Some (opened_as file)) (option_map opened_as (open_at slots fd))) same.0)
+  | inr apart ↦ ap (λ slot. option_map opened_as (file_of slot)) (get-put_apart (least_free slots) (Open file) slots fd apart.1)
+      ∙ sym (ap (λ b. cond b (Some (opened_as file)) (option_map opened_as (open_at slots fd))) apart.0)
+]
+
+pub tree-with_opened : (state : State) (seat : HostSeat) (flags : OpenFlags) (object : ℕ) (node : Node) → slice_get state.nodes object ≡ Some node →
+    tree_of (with_opened state seat flags object node) ≡ opened_on (tree_of state) object flags (record { 0 = least_free state.slots })
+tree-with_opened state seat flags object node is =
+    let after = after_opening seat (time_of state) flags.0 node in
+    let keeps = keeps_opening seat (time_of state) flags.0 node in
+    same_tree _ _ _ _ _ _
+    (map-set_same object_of state.nodes object node after is keeps.object)
+    (same_function (name_at (slice_set state.nodes object after)) (name_at state.nodes)
+    (λ dir. same_function (name_at (slice_set state.nodes object after) dir) (name_at state.nodes dir) (λ name. same_names state.nodes object node after is keeps dir name)))
+    (same_function _ _ (λ fd. opened-put (record { object = object; flags = flags }) state.slots fd))
+
+-- errors of different numbers are different
+pub errnos_apart : (m n : ℕ) → eqb m n ≡ false → errno_of m ≢ errno_of n
+errnos_apart m n apart same =
+    let e : errno_of m ≡ errno_of n = same in
+    let numbers : pos m ≡ pos n = ap (λ errno. errno.0) e in
+    let equal : m ≡ n = cc in
+    apart_from m n apart equal
+  where
+    apart_from : (m n : ℕ) → eqb m n ≡ false → m ≡ n → ⊥
+    apart_from m n apart equal = elim (eqb_tells m n) [ inl same ↦ (let e : true ≡ false = sym same.0 ∙ apart in cc) | inr differ ↦ differ.1 equal ]
+
+-- no test of these refuses with ENOENT
+abbrev pub NoneMissing : List (Bool × Errno) → Type 0
+NoneMissing [] = Unit {0}
+NoneMissing (check ∷ checks) = (check.1 ≢ enoent) × NoneMissing checks
+
+other_first : (b : Bool) (here : Errno) (rest : Option Errno) (errno : Errno) → here ≢ enoent → (rest ≡ Some errno → errno ≢ enoent) →
+    cond b (Some here) rest ≡ Some errno → errno ≢ enoent
+other_first true here rest errno apart later is = λ e. apart (same_Some here errno is ∙ e)
+other_first false here rest errno apart later is = later is
+
+pub refused_otherwise : (checks : List (Bool × Errno)) (errno : Errno) → NoneMissing checks → first_refusal checks ≡ Some errno → errno ≢ enoent
+refused_otherwise [] errno none is = λ e. cc
+refused_otherwise (check ∷ checks) errno none is =
+    other_first check.0 check.1 (first_refusal checks) errno none.0 (λ later. refused_otherwise checks errno none.1 later) is
+
+either : (b : Bool) (one other : Option Errno) (errno : Errno) → (one ≡ Some errno → errno ≢ enoent) → (other ≡ Some errno → errno ≢ enoent) →
+    cond b one other ≡ Some errno → errno ≢ enoent
+either true one other errno first second is = first is
+either false one other errno first second is = second is
+
+pub opening_refused : (seat : HostSeat) (node : Node) (flags : ℕ) (errno : Errno) → opening_refusal seat node flags ≡ Some errno → errno ≢ enoent
+opening_refused seat node flags errno is =
+    let for_path : NoneMissing (path_checks node flags) = (errnos_apart 20 2 refl, tt) in
+    let for_other : NoneMissing (open_checks seat node flags) = (
+      errnos_apart 95 2 refl,
+      (
+        errnos_apart 22 2 refl,
+        (
+          errnos_apart 20 2 refl,
+          (errnos_apart 21 2 refl, (errnos_apart 13 2 refl, (errnos_apart 13 2 refl, tt))),
+        ),
+      ),
+    ) in
+    either (includes flags o_path) (first_refusal (path_checks node flags)) (first_refusal (open_checks seat node flags)) errno
+    (refused_otherwise (path_checks node flags) errno for_path)
+    (refused_otherwise (open_checks seat node flags) errno for_other)
+    is
+
+allowed_where : (path tmpfile : Bool) (one rest : Option Errno) (errno : Errno) → cond path one (cond tmpfile (Some errno) rest) ≡ None →
+    (tmpfile && not path) ≡ false
+allowed_where true true one rest errno is = refl
+allowed_where true false one rest errno is = refl
+allowed_where false true one rest errno is = cc
+allowed_where false false one rest errno is = refl
+
+pub opening_allowed : (seat : HostSeat) (node : Node) (flags : ℕ) → opening_refusal seat node flags ≡ None → (includes flags o_tmpfile && not (includes flags o_path)) ≡ false
+opening_allowed seat node flags is = allowed_where (includes flags o_path) (includes flags o_tmpfile) _ _ eopnotsupp is
+
+-- refused, with another error than that the name is not there
+abbrev pub Refuses : State → HostReply → State → Type 0
+Refuses before given after = (errno : Errno) × (given ≡ reply.Refused errno) × (errno ≢ enoent) × (after ≡ before)
+
+abbrev pub HasOpened : State → OpenFlags → ℕ → HostReply → State → Type 0
+HasOpened before flags object given after = (fd : Fd) × (given ≡ reply.Ok (value.Fd fd)) × Opens (tree_of before) object flags fd (tree_of after)
+
+opened_unless : (before : State) (seat : HostSeat) (flags : OpenFlags) (object : ℕ) (node : Node) (errno : Option Errno) (given : HostReply) (after : State) →
+    opening_refusal seat node flags.0 ≡ errno → slice_get before.nodes object ≡ Some node →
+    (given, after) ≡ unless before errno (tells (with_opened before seat flags object node) (value.Fd (record { 0 = least_free before.slots }))) →
+    Refuses before given after ⊎ HasOpened before flags object given after
+opened_unless before seat flags object node (Some errno) given after refusal is told =
+    inl (errno, ap (λ both. both.0) told, opening_refused seat node flags.0 errno refusal, ap (λ both. both.1) told)
+opened_unless before seat flags object node None given after refusal is told =
+    inr (
+      record { 0 = least_free before.slots },
+      ap (λ both. both.0) told,
+      record {
+        listed = subst (λ n. object < n) (sym (length-map before.nodes object_of)) (slice_get_within before.nodes object node is);
+        fresh = ap (option_map opened_as) (least_free-closed before.slots);
+        allowed = opening_allowed seat node flags.0 refusal;
+        adds = ap tree_of (ap (λ both. both.1) told) ∙ tree-with_opened before seat flags object node is;
+      },
+    )
+
+opened_cases : (before : State) (seat : HostSeat) (flags : OpenFlags) (object : ℕ) (node : Option Node) (given : HostReply) (after : State) →
+    slice_get before.nodes object ≡ node → (given, after) ≡ opening_of before seat flags object node →
+    Refuses before given after ⊎ HasOpened before flags object given after
+opened_cases before seat flags object None given after is told =
+    inl (eio, ap (λ both. both.0) told, errnos_apart 5 2 refl, ap (λ both. both.1) told)
+opened_cases before seat flags object (Some node) given after is told =
+    opened_unless before seat flags object node (opening_refusal seat node flags.0) given after refl is told
+
+-- where a walk led nowhere it is refused so
+abbrev pub LedNowhere : State → Result ℕ Errno → HostReply → State → Type 0
+LedNowhere before led given after = (errno : Errno) × (led ≡ Err errno) × (given ≡ reply.Refused errno) × (after ≡ before)
+
+abbrev pub LedTo : State → OpenFlags → Result ℕ Errno → HostReply → State → Type 0
+LedTo before flags led given after = (object : ℕ) × (led ≡ Ok object) × (Refuses before given after ⊎ HasOpened before flags object given after)
+
+pub walked_cases : (before : State) (seat : HostSeat) (flags : OpenFlags) (led : Result ℕ Errno) (given : HostReply) (after : State) →
+    (given, after) ≡ open_walked before seat flags led → LedNowhere before led given after ⊎ LedTo before flags led given after
+walked_cases before seat flags (Err errno) given after told = inl (errno, refl, ap (λ both. both.0) told, ap (λ both. both.1) told)
+walked_cases before seat flags (Ok object) given after told =
+    inr (object, refl, opened_cases before seat flags object (slice_get before.nodes object) given after refl told)
+
+abbrev failed : Errno → Result ℕ Errno
+failed errno = Err errno
+
+same_error : (errno other : Errno) → failed errno ≡ failed other → errno ≡ other
+same_error errno other is = cc
+
+found_where : (refusal : Option Errno) (creates : Bool) (held : Option ℕ) (object : ℕ) →
+    ok_unless refusal (cond creates (Err eopnotsupp) (ok_or held enoent)) ≡ Ok object → (held ≡ Some object) × (creates ≡ false)
+found_where (Some errno) creates held object is = cc
+found_where None true held object is = cc
+found_where None false None object is = cc
+found_where None false (Some other) object is = (let e : other ≡ object = cc in ap (λ o. Some o) e, refl)
+
+found_in : (seat : HostSeat) (name : List ℕ) (flags object : ℕ) (dir : Option Node) → find_in seat name flags dir ≡ Ok object →
+    (option_and_then (λ node. found name (names_in node.content)) dir ≡ Some object) × (includes flags o_creat ≡ false)
+found_in seat name flags object None is = cc
+found_in seat name flags object (Some dir) is = found_where (name_refusal seat dir name) (includes flags o_creat) (found name (names_in dir.content)) object is
+
+pub found_name : (nodes : List Node) (seat : HostSeat) (name : List ℕ) (flags object : ℕ) (file : Option OpenFile) →
+    find_name nodes seat name flags file ≡ Ok object →
+    (dir : OpenFile) × (file ≡ Some dir) × (name_at nodes dir.object name ≡ Some object) × (includes flags o_creat ≡ false)
+found_name nodes seat name flags object None is = cc
+found_name nodes seat name flags object (Some dir) is =
+    let held = found_in seat name flags object (slice_get nodes dir.object) is in
+    (dir, refl, held.0, held.1)
+
+missing_where : (checks : List (Bool × Errno)) (refusal : Option Errno) (creates : Bool) (held : Option ℕ) → NoneMissing checks →
+    first_refusal checks ≡ refusal → ok_unless refusal (cond creates (Err eopnotsupp) (ok_or held enoent)) ≡ Err enoent → held ≡ None
+missing_where checks (Some errno) creates held none first is = absurd (refused_otherwise checks errno none first (same_error errno enoent is))
+missing_where checks None true held none first is = absurd (errnos_apart 95 2 refl (same_error eopnotsupp enoent is))
+missing_where checks None false None none first is = refl
+missing_where checks None false (Some other) none first is = cc
+
+missing_in : (seat : HostSeat) (name : List ℕ) (flags : ℕ) (dir : Option Node) → find_in seat name flags dir ≡ Err enoent →
+    option_and_then (λ node. found name (names_in node.content)) dir ≡ None
+missing_in seat name flags None is = refl
+missing_in seat name flags (Some dir) is =
+    let none : NoneMissing (name_checks seat dir name) = (errnos_apart 20 2 refl, (errnos_apart 36 2 refl, (errnos_apart 13 2 refl, tt))) in
+    missing_where (name_checks seat dir name) (name_refusal seat dir name) (includes flags o_creat) (found name (names_in dir.content)) none refl is
+
+pub missing_name : (nodes : List Node) (seat : HostSeat) (name : List ℕ) (flags : ℕ) (file : Option OpenFile) →
+    find_name nodes seat name flags file ≡ Err enoent → (dir : OpenFile) → file ≡ Some dir → name_at nodes dir.object name ≡ None
+missing_name nodes seat name flags None is dir held = cc
+missing_name nodes seat name flags (Some other) is dir held =
+    let same : other ≡ dir = same_Some other dir held in
+    subst (λ (file : OpenFile). name_at nodes file.object name ≡ None) same (missing_in seat name flags (slice_get nodes other.object) is)
+
+-- ---- what each call changes
+
+pub root_changes : (before : State) (seat : HostSeat) (path : List ℕ) (flags : OpenFlags) (given : HostReply) (after : State) →
+    AnswersCall before seat (call.OpenRoot path flags) given after → Changes (tree_of before) (call.OpenRoot path flags) given (tree_of after)
+root_changes before seat path flags given after (inr none) =
+    subst (λ reply. Changes (tree_of before) (call.OpenRoot path flags) reply (tree_of after)) (sym none.0) (ap tree_of none.1)
+root_changes before seat path flags given after (inl told) = elim (walked_cases before seat flags (walk_root before.nodes path) given after told) [
+  | inl (errno, led, is, same) ↦ subst (λ reply. Changes (tree_of before) (call.OpenRoot path flags) reply (tree_of after)) (sym is) (tt, ap tree_of same)
+  | inr (object, led, inl (errno, is, other, same)) ↦
+      subst (λ reply. Changes (tree_of before) (call.OpenRoot path flags) reply (tree_of after)) (sym is) (tt, ap tree_of same)
+  | inr (object, led, inr (fd, is, opens)) ↦
+      subst (λ reply. Changes (tree_of before) (call.OpenRoot path flags) reply (tree_of after)) (sym is) (object, opens)
+]
+
+-- the descriptor's own object
+pub open_there : (state : State) (fd : Fd) (file : OpenFile) → open_at state.slots fd.0 ≡ Some file → IsOpenOn (tree_of state) fd file.object
+open_there state fd file is = (opened_as file, ap (option_map opened_as) is, refl)
+
+pub same_open : (state : State) (fd : Fd) (dir : ℕ) → IsOpenOn (tree_of state) fd dir → (file : OpenFile) × (open_at state.slots fd.0 ≡ Some file) × (file.object ≡ dir)
+same_open state fd dir (open_as, is, object) =
+    let held = file_of_open state fd.0 open_as is in
+    (held.0, held.1, ap (λ (o : Opened). o.object) held.2 ∙ object)
+
+at_refused : (before : State) (seat : HostSeat) (fd : Fd) (name : List ℕ) (flags : OpenFlags) (mode : ℕ) (errno : Errno) →
+    find_name before.nodes seat name flags.0 (open_at before.slots fd.0) ≡ Err errno → MayRefuse (tree_of before) (call.OpenAt fd name flags mode) errno
+at_refused before seat fd name flags mode errno led keeps is dir on =
+    let held = same_open before fd dir on in
+    let e : find_name before.nodes seat name flags.0 (open_at before.slots fd.0) ≡ Err enoent = led ∙ ap (λ number. Err number) is in
+    subst (λ place. name_at before.nodes place name ≡ None) held.2
+    (missing_name before.nodes seat name flags.0 (open_at before.slots fd.0) e held.0 held.1)
+
+at_opened : (before : State) (seat : HostSeat) (fd : Fd) (name : List ℕ) (flags : OpenFlags) (mode object : ℕ) (new : Fd) (after : State) →
+    find_name before.nodes seat name flags.0 (open_at before.slots fd.0) ≡ Ok object → Opens (tree_of before) object flags new (tree_of after) →
+    Changes (tree_of before) (call.OpenAt fd name flags mode) (reply.Ok (value.Fd new)) (tree_of after)
+at_opened before seat fd name flags mode object new after led opens =
+    let there = found_name before.nodes seat name flags.0 object (open_at before.slots fd.0) led in
+    (object, there.3, (there.0.object, open_there before fd there.0 there.1, there.2), opens)
+
+pub at_changes : (before : State) (seat : HostSeat) (fd : Fd) (name : List ℕ) (flags : OpenFlags) (mode : ℕ) (given : HostReply) (after : State) →
+    AnswersCall before seat (call.OpenAt fd name flags mode) given after → Changes (tree_of before) (call.OpenAt fd name flags mode) given (tree_of after)
+at_changes before seat fd name flags mode given after (inr none) =
+    subst (λ reply. Changes (tree_of before) (call.OpenAt fd name flags mode) reply (tree_of after)) (sym none.0) (ap tree_of none.1)
+at_changes before seat fd name flags mode given after (inl told) =
+    elim (walked_cases before seat flags (find_name before.nodes seat name flags.0 (open_at before.slots fd.0)) given after told) [
+      | inl (errno, led, is, same) ↦ subst (λ reply. Changes (tree_of before) (call.OpenAt fd name flags mode) reply (tree_of after)) (sym is)
+          (at_refused before seat fd name flags mode errno led, ap tree_of same)
+      | inr (object, led, inl (errno, is, other, same)) ↦
+          subst (λ reply. Changes (tree_of before) (call.OpenAt fd name flags mode) reply (tree_of after)) (sym is)
+          ((λ keeps missing dir on. absurd (other missing)), ap tree_of same)
+      | inr (object, led, inr (new, is, opens)) ↦
+          subst (λ reply. Changes (tree_of before) (call.OpenAt fd name flags mode) reply (tree_of after)) (sym is)
+          (at_opened before seat fd name flags mode object new after led opens)
+    ]
+
+kind_from : (kind permissions : ℕ) → permissions < 4096 → (4096 * kind + permissions) / 4096 ≡ kind
+kind_from kind permissions small = omega arith
+
+told_node : (before : State) (fd : Fd) (file : OpenFile) (node : Option Node) (given : HostReply) (after : State) → IsSound before →
+    open_at before.slots fd.0 ≡ Some file → slice_get before.nodes file.object ≡ node → (given, after) ≡ tell_node before node →
+    Changes (tree_of before) (call.Stat fd) given (tree_of after)
+told_node before fd file None given after sound on is told =
+    subst (λ reply. Changes (tree_of before) (call.Stat fd) reply (tree_of after)) (sym (ap (λ both. both.0) told)) (tt, ap tree_of (ap (λ both. both.1) told))
+told_node before fd file (Some node) given after sound on is told =
+    subst (λ reply. Changes (tree_of before) (call.Stat fd) reply (tree_of after)) (sym (ap (λ both. both.0) told)) (
+      file.object,
+      object_of node,
+      open_there before fd file on,
+      slice_get-map object_of before.nodes file.object ∙ ap (option_map object_of) is,
+      record { ids = refl; kind = kind_from (kind_number node.content) node.permissions (sound.numbered file.object node is).permissions },
+      ap tree_of (ap (λ both. both.1) told),
+    )
+
+told_status : (before : State) (fd : Fd) (file : Option OpenFile) (given : HostReply) (after : State) → IsSound before →
+    open_at before.slots fd.0 ≡ file → (given, after) ≡ tell_status before file → Changes (tree_of before) (call.Stat fd) given (tree_of after)
+told_status before fd None given after sound on told =
+    subst (λ reply. Changes (tree_of before) (call.Stat fd) reply (tree_of after)) (sym (ap (λ both. both.0) told)) (tt, ap tree_of (ap (λ both. both.1) told))
+told_status before fd (Some file) given after sound on told =
+    told_node before fd file (slice_get before.nodes file.object) given after sound on refl told
+
+none_opened : (o : Option OpenFile) → o ≡ None → option_map opened_as o ≡ None
+none_opened o is = ap (option_map opened_as) is
+
+pub opened-closed : (file : Option OpenFile) (fd : ℕ) (slots : List Slot) (k : ℕ) → open_at slots fd ≡ file →
+    option_map opened_as (open_at (closed_where file fd slots) k) ≡ set_at fd None (λ j. option_map opened_as (open_at slots j)) k
+unfolding set_at
+opened-closed None fd slots k is = elim (eqb_tells k fd) [
+  | inl same ↦ ap (λ j. option_map opened_as (open_at slots j)) same.1 ∙ none_opened (open_at slots fd) is
+      ∙ sym (ap (λ b. cond b None (option_map opened_as (open_at slots k))) same.0)
+  | inr apart ↦ sym (ap (λ b. cond b None (option_map opened_as (open_at slots k))) apart.0)
+]
+opened-closed (Some file) fd slots k is =
+    let within = slice_get_within slots fd (Open file) (open_slot (slice_get slots fd) file is) in
+    elim (eqb_tells k fd) [
+      | inl same ↦ ap (λ j. option_map opened_as (open_at (slice_set slots fd Free) j)) same.1
+          ∙ ap (λ slot. option_map opened_as (file_of slot)) (get-set_here slots fd Free within)
+          ∙ sym (ap (λ b. cond b None (option_map opened_as (open_at slots k))) same.0)
+      | inr apart ↦ ap (λ slot. option_map opened_as (file_of slot)) (get-set_apart slots fd Free k apart.1)
+          ∙ sym (ap (λ b. cond b None (option_map opened_as (open_at slots k))) apart.0)
+    ]
+
+closed_tree : (before : State) (fd : Fd) (file : Option OpenFile) → open_at before.slots fd.0 ≡ file →
+    tree_of (record before { slots = closed_where file fd.0 before.slots }) ≡ closed_at (tree_of before) fd
+closed_tree before fd file is =
+    same_tree _ _ _ _ _ _ refl refl (same_function _ _ (λ k. opened-closed file fd.0 before.slots k is))
+
+told_closed : (before : State) (fd : Fd) (file : Option OpenFile) (given : HostReply) (after : State) →
+    open_at before.slots fd.0 ≡ file → (given, after) ≡ close_file before fd.0 file → tree_of after ≡ closed_at (tree_of before) fd
+told_closed before fd None given after is told = ap tree_of (ap (λ both. both.1) told) ∙ closed_tree before fd None is
+told_closed before fd (Some file) given after is told =
+    ap tree_of (ap (λ both. both.1) told)
+    ∙ ap (λ held. tree_of (record before { slots = closed_where held fd.0 before.slots })) is ∙ closed_tree before fd (Some file) is
+
+pub changes : (before : State) (seat : HostSeat) (asked : Call) (given : HostReply) (after : State) → IsSound before →
+    AnswersCall before seat asked given after → Changes (tree_of before) asked given (tree_of after)
+changes before seat (call.OpenRoot path flags) given after sound answers = root_changes before seat path flags given after answers
+changes before seat (call.OpenAt fd name flags mode) given after sound answers = at_changes before seat fd name flags mode given after answers
+changes before seat (call.Stat fd) given after sound answers = told_status before fd (open_at before.slots fd.0) given after sound refl answers
+changes before seat (call.Close fd) given after sound answers = told_closed before fd (open_at before.slots fd.0) given after refl answers
+
+pub lawful_step : (before : State) (seat : HostSeat) (asked : Call) (given : HostReply) (after : State) (seat_after : HostSeat) →
+    Does before seat asked given after seat_after → LawfulStep (tree_of before) seat asked given (tree_of after) seat_after
+lawful_step before seat asked given after seat_after does = record {
+  changes = subst (λ state. Changes (tree_of before) asked given (tree_of state)) (sym does.answers.2)
+      (changes before seat asked given does.answers.0 does.sound does.answers.1);
+  same_seat = does.same_seat;
+  well_formed = λ was. well_formed after (sound-answers before seat asked given after does.answers does.sound);
+}
+
+-- the law of a host that tells its tree
+pub does_lawful : (host : State) (seat : HostSeat) (asked : Call) (given : HostReply) (after : State) (seat_after : HostSeat) →
+    Does host seat asked given after seat_after → (before : Tree) → Some (tree_of host) ≡ Some before →
+    (later : Tree) × (Some (tree_of after) ≡ Some later) × LawfulStep before seat asked given later seat_after
+does_lawful host seat asked given after seat_after does before told = (
+  tree_of after,
+  refl,
+  subst (λ tree. LawfulStep tree seat asked given (tree_of after) seat_after) (same_Some (tree_of host) before told)
+      (lawful_step host seat asked given after seat_after does),
+)

@@ -1,0 +1,55 @@
+-- What every host keeps.
+use Rattle.std.proofs.Common.{inl, inr, ℕ, Option, Some, None, subst, ap, sym, arith, slice_get}
+use Rattle.pt_host.specs.Call.{Call}
+use Rattle.pt_host.specs.Promises.{IsPromised, IsAllowed}
+use Rattle.pt_host.specs.declared.ids.Fd.{Fd}
+use Rattle.pt_host.specs.declared.seat.HostSeat.{HostSeat}
+use Rattle.pt_host.specs.declared.op.KeptHostOp.TheVariants as call
+use Rattle.pt_host.specs.declared.reply.HostReply.{HostReply}
+use Rattle.pt_tree.specs.Slots.{open_at}
+use Rattle.pt_tree.specs.State.{State}
+use Rattle.pt_tree.specs.Calls.{tell_node, tell_status, close_file, walk_root, find_name}
+use Rattle.pt_tree.specs.Does.{AnswersCall, Does}
+use Rattle.pt_tree.specs.declared.node.Node.{Node}
+use Rattle.pt_tree.specs.declared.slots.OpenFile.{OpenFile}
+use Rattle.pt_tree.specs.Laws.Lawful.{walked_cases}
+
+allowed_status_node : (before : State) (fd : Fd) (node : Option Node) → IsAllowed 0 (call.Stat fd) (tell_node before node).0 0
+allowed_status_node before fd None = tt
+allowed_status_node before fd (Some node) = tt
+
+allowed_status : (before : State) (fd : Fd) (file : Option OpenFile) → IsAllowed 0 (call.Stat fd) (tell_status before file).0 0
+allowed_status before fd None = tt
+allowed_status before fd (Some file) = allowed_status_node before fd (slice_get before.nodes file.object)
+
+allowed_close : (before : State) (fd : Fd) (number : ℕ) (file : Option OpenFile) → IsAllowed 0 (call.Close fd) (close_file before number file).0 0
+allowed_close before fd number None = tt
+allowed_close before fd number (Some file) = tt
+
+pub allowed : (before : State) (seat : HostSeat) (asked : Call) (given : HostReply) (after : State) →
+    AnswersCall before seat asked given after → IsAllowed 0 asked given 0
+allowed before seat (call.OpenRoot path flags) given after (inr none) = subst (λ told. IsAllowed 0 (call.OpenRoot path flags) told 0) (sym none.0) tt
+allowed before seat (call.OpenRoot path flags) given after (inl told) = elim (walked_cases before seat flags (walk_root before.nodes path) given after told) [
+  | inl (errno, led, is, same) ↦ subst (λ told. IsAllowed 0 (call.OpenRoot path flags) told 0) (sym is) tt
+  | inr (object, led, inl (errno, is, other, same)) ↦ subst (λ told. IsAllowed 0 (call.OpenRoot path flags) told 0) (sym is) tt
+  | inr (object, led, inr (fd, is, opens)) ↦ subst (λ told. IsAllowed 0 (call.OpenRoot path flags) told 0) (sym is) tt
+]
+allowed before seat (call.OpenAt fd name flags mode) given after (inr none) = subst (λ told. IsAllowed 0 (call.OpenAt fd name flags mode) told 0) (sym none.0) tt
+allowed before seat (call.OpenAt fd name flags mode) given after (inl told) =
+    elim (walked_cases before seat flags (find_name before.nodes seat name flags.0 (open_at before.slots fd.0)) given after told) [
+      | inl (errno, led, is, same) ↦ subst (λ told. IsAllowed 0 (call.OpenAt fd name flags mode) told 0) (sym is) tt
+      | inr (object, led, inl (errno, is, other, same)) ↦ subst (λ told. IsAllowed 0 (call.OpenAt fd name flags mode) told 0) (sym is) tt
+      | inr (object, led, inr (new, is, opens)) ↦ subst (λ told. IsAllowed 0 (call.OpenAt fd name flags mode) told 0) (sym is) tt
+    ]
+allowed before seat (call.Stat fd) given after answers =
+    subst (λ told. IsAllowed 0 (call.Stat fd) told 0) (sym (ap (λ both. both.0) answers)) (allowed_status before fd (open_at before.slots fd.0))
+allowed before seat (call.Close fd) given after answers =
+    subst (λ told. IsAllowed 0 (call.Close fd) told 0) (sym (ap (λ both. both.0) answers)) (allowed_close before fd fd.0 (open_at before.slots fd.0))
+
+pub does_promised : (host : State) (seat : HostSeat) (asked : Call) (given : HostReply) (after : State) (seat_after : HostSeat) →
+    Does host seat asked given after seat_after → IsPromised 0 seat asked given 0 seat_after
+does_promised host seat asked given after seat_after does = record {
+  never_falls = omega arith;
+  allowed = allowed host seat asked given does.answers.0 does.answers.1;
+  same_seat = does.same_seat;
+}

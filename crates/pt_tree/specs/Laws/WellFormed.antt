@@ -1,0 +1,75 @@
+-- A sound state tells a well-formed tree.
+use Rattle.std.proofs.Common.{◌≡◌, ◌<◌, ◌^◌, ℕ, Bool, true, false, cond, length, Option, Some, None, slice_get, option_map, option_and_then, subst, refl, ap, sym, ◌∙◌, arith, take}
+use Rattle.std.proofs.lemmas.List.{length-map}
+use Rattle.std.proofs.lemmas.Option.{same_Some, slice_get_within, slice_get-map}
+use Rattle.std.proofs.lemmas.Nat.{from_le_bytes-to_le_bytes_8}
+use Rattle.std.specs.Int.{to_le_bytes, from_le_bytes, w64}
+use Rattle.pt_host.specs.Tree.{Object, Opened, IsObject, IsWellFormed}
+use Rattle.pt_host.specs.declared.handle.CFileHandle.{CFileHandle}
+use Rattle.pt_tree.specs.Names.{found}
+use Rattle.pt_tree.specs.Node.{names_in, object_of, handle_of}
+use Rattle.pt_tree.specs.Slots.{open_at}
+use Rattle.pt_tree.specs.State.{State, tree_of, opened_as}
+use Rattle.pt_tree.specs.Sound.{IsSound}
+use Rattle.pt_tree.specs.declared.node.Node.{Node}
+use Rattle.pt_tree.specs.declared.slots.OpenFile.{OpenFile}
+
+pub map_some : {A B : Type 0} (f : A → B) (o : Option A) (b : B) → option_map f o ≡ Some b → (a : A) × (o ≡ Some a) × (f a ≡ b)
+map_some f None b is = cc
+map_some f (Some a) b is = (a, refl, same_Some (f a) b is)
+
+pub and_then_some : {A B : Type 0} (f : A → Option B) (o : Option A) (b : B) → option_and_then f o ≡ Some b → (a : A) × (o ≡ Some a) × (f a ≡ Some b)
+and_then_some f None b is = cc
+and_then_some f (Some a) b is = (a, refl, is)
+
+-- the node that stands there for the object
+pub node_of : (state : State) (place : ℕ) (what : Object) → IsObject (tree_of state) place what → (node : Node) × (slice_get state.nodes place ≡ Some node) × (object_of node ≡ what)
+node_of state place what is = map_some object_of (slice_get state.nodes place) what (sym (slice_get-map object_of state.nodes place) ∙ is)
+
+pub file_of_open : (state : State) (fd : ℕ) (open_as : Opened) → (tree_of state).opened fd ≡ Some open_as → (file : OpenFile) × (open_at state.slots fd ≡ Some file) × (opened_as file ≡ open_as)
+file_of_open state fd open_as is = map_some opened_as (open_at state.slots fd) open_as is
+
+pub same_place : (state : State) (object another : ℕ) (node that : Node) → IsSound state → slice_get state.nodes object ≡ Some node →
+    slice_get state.nodes another ≡ Some that → node.ids.ino ≡ that.ids.ino → object ≡ another
+same_place state object another node that sound is other same =
+    omega (arith, (sound.numbered object node is).ino, (sound.numbered another that other).ino)
+
+handle_where : (b : Bool) (told handle : CFileHandle) → cond b (Some told) None ≡ Some handle → told ≡ handle
+handle_where b told handle = elim b as (λ v. cond v (Some told) None ≡ Some handle → told ≡ handle) [ true ↦ same_Some told handle | false ↦ (λ h. cc) ]
+
+small_number : (state : State) (place : ℕ) (node : Node) → IsSound state → slice_get state.nodes place ≡ Some node → node.ids.ino < 2 ^ 64
+small_number state place node sound is =
+    let within = slice_get_within state.nodes place node is in
+    omega (arith, within, sound.few, (sound.numbered place node is).ino)
+
+same_number : (m n : ℕ) → m < 2 ^ 64 → n < 2 ^ 64 → to_le_bytes w64 m ≡ to_le_bytes w64 n → m ≡ n
+same_number m n small less same = sym (from_le_bytes-to_le_bytes_8 m small) ∙ ap (from_le_bytes w64) same ∙ from_le_bytes-to_le_bytes_8 n less
+
+pub same_handle : (state : State) (object another : ℕ) (what that : Object) (handle : CFileHandle) → IsSound state → IsObject (tree_of state) object what →
+    IsObject (tree_of state) another that → what.handle ≡ Some handle → that.handle ≡ Some handle → object ≡ another
+same_handle state object another what that handle sound is other told also =
+    let one = node_of state object what is in
+    let two = node_of state another that other in
+    let first : handle_of one.0 ≡ handle = handle_where one.0.has_handle (handle_of one.0) handle (ap (λ o. o.handle) one.2 ∙ told) in
+    let second : handle_of two.0 ≡ handle = handle_where two.0.has_handle (handle_of two.0) handle (ap (λ o. o.handle) two.2 ∙ also) in
+    let bytes : to_le_bytes w64 one.0.ids.ino ≡ to_le_bytes w64 two.0.ids.ino = ap (λ h. take 8 h.bytes) (first ∙ sym second) in
+    same_place state object another one.0 two.0 sound one.1 two.1
+    (same_number one.0.ids.ino two.0.ids.ino (small_number state object one.0 sound one.1) (small_number state another two.0 sound two.1) bytes)
+
+pub well_formed : (state : State) → IsSound state → IsWellFormed (tree_of state)
+well_formed state sound = record {
+  named = λ dir name object is.
+      let at = and_then_some (λ node. found name (names_in node.content)) (slice_get state.nodes dir) object is in
+      let within = slice_get_within state.nodes dir at.0 at.1 in
+      let named = sound.named dir name object is in
+      (subst (λ n. dir < n) (sym (length-map state.nodes object_of)) within, subst (λ n. object < n) (sym (length-map state.nodes object_of)) named);
+  opened = λ fd open_as is.
+      let file = file_of_open state fd open_as is in
+      subst (λ n. open_as.object < n) (sym (length-map state.nodes object_of))
+      (subst (λ (o : Opened). o.object < length state.nodes) file.2 (sound.opened fd file.0 file.1));
+  apart = λ fd other object another what that on also is too same.
+      let one = node_of state object what is in
+      let two = node_of state another that too in
+      same_place state object another one.0 two.0 sound one.1 two.1 (ap (λ ids. ids.ino) (ap (λ o. o.ids) one.2 ∙ same ∙ sym (ap (λ o. o.ids) two.2)));
+  handles = λ object another what that handle is too told also. same_handle state object another what that handle sound is too told also;
+}

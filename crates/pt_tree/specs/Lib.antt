@@ -1,0 +1,13 @@
+pub mod Names
+pub mod Slots
+pub mod Node
+pub mod Permission
+pub mod State
+pub mod Opening
+pub mod Calls
+pub mod Sound
+pub mod Does
+pub mod Start
+pub mod StoreState
+pub mod Laws
+pub mod Listing

@@ -1,0 +1,46 @@
+ghost use Rattle.std.specs.Prelude.{◌≡◌, [], OnOk, OnErr};
+ghost use Rattle.pt_tree.specs.Names.{found, named};
+
+use std::alloc::{AllocError, Global};
+use std::collections::BTreeMap;
+use std::marker::Model;
+
+/// The names of a directory, each with the object that it leads to.
+#[derive(Drop)]
+pub struct Names {
+    pub(crate) kept: BTreeMap<Vec<u8>, usize>,
+}
+
+impl Model for Names {
+    ghost use Rattle.std.specs.Prelude.{List, ℕ, map};
+
+    ghost Value = { List (List ℕ × ℕ) };
+
+    ghost view = { λ names. map (λ entry. (entry.0.items, entry.1)) names.kept.entries };
+}
+
+impl Names {
+    pub fn new(alloc: Global) -> Names
+        ensures { result ≡ [] }
+    {
+        Names {
+            kept: BTreeMap::new(alloc),
+        }
+    }
+
+    /// The object that the name leads to.
+    pub fn get(&self, name: &[u8]) -> Option<usize>
+        ensures { result ≡ found name.now self.now }
+    {
+        self.kept.get(name).copied()
+    }
+
+    /// One more name, or the name led elsewhere.
+    pub fn insert(&mut self, name: Vec<u8>, object: usize) -> Result<(), AllocError>
+        ensures ok { OnOk result (self.new ≡ named name.items object self.old) }
+        ensures err { OnErr result (self.new ≡ self.old) }
+    {
+        self.kept.insert(name, object)?;
+        Ok(())
+    }
+}

@@ -1,0 +1,80 @@
+ghost use Rattle.std.specs.Prelude.{◌≡◌};
+ghost use Rattle.pt_tree.specs.declared.spec.SpecError.TheVariants.{Memory};
+
+use pt_host::Bytes;
+use std::alloc::AllocError;
+use std::marker::Model;
+
+/// One line of the description of a tree.
+#[derive(Debug, Drop)]
+pub enum TreeLine {
+    /// A mount with its id and device, and whether its objects have file handles. One mount is built, that of `/`, and
+    /// it stands first.
+    Mount {
+        id: u64,
+        dev: u64,
+        path: Bytes,
+        handles: bool,
+    },
+    /// A regular file: its path from the root, its permissions, its owner and what it holds, at most 1,048,576 bytes.
+    File {
+        path: Bytes,
+        mode: u32,
+        uid: u32,
+        gid: u32,
+        bytes: Bytes,
+    },
+}
+
+/// Why lines make no host.
+#[derive(Debug, Drop)]
+pub enum SpecError {
+    /// The first line, from 1, up to which the lines describe no tree. It is 1 where there is none.
+    NotATree(u32),
+    Memory,
+}
+
+impl From<AllocError> for SpecError {
+    ghost from_gives = { λ _ error. error ≡ Memory };
+
+    fn from(_error: AllocError) -> SpecError {
+        SpecError::Memory
+    }
+}
+
+/// The description of a tree, a list of lines.
+#[derive(Debug, Drop)]
+pub struct TreeSpec {
+    lines: Vec<TreeLine>,
+}
+
+impl Model for TreeSpec {
+    ghost use Rattle.std.specs.Prelude.{List};
+    ghost use Rattle.pt_tree.specs.declared.spec.TreeLine.{TreeLine};
+
+    ghost Value = { List TreeLine };
+
+    ghost view = { λ spec. spec.lines.items };
+}
+
+impl TreeSpec {
+    /// The vector's lines, which takes no memory.
+    pub fn from_vec(lines: Vec<TreeLine>) -> TreeSpec
+        ensures { result ≡ lines.items }
+    {
+        TreeSpec { lines }
+    }
+
+    pub fn as_slice(&self) -> &[TreeLine]
+        ensures { result.now ≡ self.now }
+    {
+        self.lines.as_slice()
+    }
+
+    /// The vector of the lines, which takes no memory.
+    pub fn into_vec(self) -> Vec<TreeLine>
+        ensures { result.items ≡ self }
+    {
+        self.lines
+    }
+}

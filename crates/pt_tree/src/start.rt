@@ -1,0 +1,227 @@
+ghost use Rattle.std.specs.Prelude.{◌≡◌, ◌<◌, ◌+◌, ◌^◌, ◌∷◌, ◌++◌, [], Ok, Some, None, IfOk, IfErr, OnOk, length, slice_get};
+ghost use Rattle.std.specs.Str.{bytes_eq};
+ghost use Rattle.pt_host.specs.Tree.{IsWellFormed};
+ghost use Rattle.pt_tree.specs.declared.node.Node.{Node};
+ghost use Rattle.pt_tree.specs.State.{tree_of};
+ghost use Rattle.pt_tree.specs.Slots.{no_files};
+ghost use Rattle.pt_tree.specs.Start.{
+  AddsIf,
+  add_line,
+  alone,
+  first_line,
+  IsCause,
+  new_file,
+  nodes_of,
+  NoneOpen,
+  root_of,
+  StartsAs,
+  with_entry,
+  with_file,
+  with_name,
+};
+
+use crate::host::TreeHost;
+use crate::names::Names;
+use crate::new_place::place_of;
+use crate::node::{Content, Node};
+use crate::slots::Descriptors;
+use crate::spec::{SpecError, TreeLine, TreeSpec};
+use crate::store::Store;
+use pt_host::{Bytes, ObjIds, Time};
+use std::alloc::{AllocError, Global};
+
+/// The most bytes that a file holds.
+const FILE_MAX: usize = 1_048_576;
+
+const NEVER: Time = Time { sec: 0, nsec: 0 };
+
+/// The directory that a tree begins with.
+fn root_of(alloc: Global, id: u64, dev: u64, handles: bool) -> Node
+    ensures { result ≡ root_of id dev handles }
+{
+    Node {
+        ids: ObjIds {
+            ino: 1,
+            dev,
+            mnt_id: id,
+        },
+        serial: 1,
+        has_handle: handles,
+        permissions: 0o755,
+        nlink: 2,
+        uid: 0,
+        gid: 0,
+        atime: NEVER,
+        mtime: NEVER,
+        ctime: NEVER,
+        content: Content::Directory(Names::new(alloc)),
+    }
+}
+
+/// A regular file in this directory.
+fn new_file(dir: &Node, number: u64, permissions: u32, uid: u32, gid: u32, bytes: Bytes) -> Node
+    ensures { result ≡ new_file dir.now number permissions uid gid bytes }
+{
+    Node {
+        ids: ObjIds {
+            ino: number,
+            dev: dir.ids.dev,
+            mnt_id: dir.ids.mnt_id,
+        },
+        serial: number,
+        has_handle: dir.has_handle,
+        permissions,
+        nlink: 1,
+        uid,
+        gid,
+        atime: NEVER,
+        mtime: NEVER,
+        ctime: NEVER,
+        content: Content::Regular(bytes),
+    }
+}
+
+impl Content {
+    fn add_name(&mut self, name: Vec<u8>, object: usize) -> Result<(), AllocError>
+        ensures { OnOk result (self.new ≡ with_name name.items object self.old) }
+    {
+        match self {
+            Content::Directory(names) => names.insert(name, object),
+            Content::Regular(_) => Ok(()),
+        }
+    }
+}
+
+/// The directory at this place gets one name more.
+fn add_entry(
+    nodes: &mut Vec<Node>,
+    at: usize,
+    name: Vec<u8>,
+    object: usize,
+) -> Result<(), AllocError>
+    requires { at < length nodes.old.items }
+    ensures { OnOk result (
+        (dir : Node) × (slice_get nodes.old.items at ≡ Some dir) × (nodes.new.items ≡ with_entry nodes.old.items at name.items object dir)) }
+{
+    nodes[at].content.add_name(name, object)
+}
+
+/// A file with this name in the directory at this place; false where none is there.
+fn add_file(
+    alloc: Global,
+    nodes: &mut Vec<Node>,
+    at: usize,
+    name: &[u8],
+    permissions: u32,
+    uid: u32,
+    gid: u32,
+    bytes: &Bytes,
+) -> Result<bool, AllocError>
+    ensures { IfOk result (λ added. AddsIf added
+        (with_file nodes.old.items at name.now permissions uid gid bytes.now (slice_get nodes.old.items at)) nodes.new.items) }
+{
+    let object = nodes.len();
+    let Some(dir) = nodes.get(at) else {
+        return Ok(false);
+    };
+    let bytes = bytes.copy(alloc)?;
+    let file = new_file(dir, object as u64 + 1, permissions, uid, gid, bytes);
+    let name = name.to_vec(alloc)?;
+    add_entry(nodes, at, name, object)?;
+    nodes.push(file)?;
+    Ok(true)
+}
+
+/// One line more; false where it breaks the rules.
+fn add_line(alloc: Global, nodes: &mut Vec<Node>, line: &TreeLine) -> Result<bool, AllocError>
+    ensures { IfOk result (λ added. AddsIf added (add_line nodes.old.items line.now) nodes.new.items) }
+{
+    match line {
+        TreeLine::Mount { .. } => Ok(false),
+        TreeLine::File {
+            path,
+            mode,
+            uid,
+            gid,
+            bytes,
+        } => {
+            if *mode >= 4096 || bytes.len() > FILE_MAX {
+                return Ok(false);
+            }
+            match place_of(nodes, path.as_slice()) {
+                None => Ok(false),
+                Some((dir, name)) => add_file(alloc, nodes, dir, name, *mode, *uid, *gid, bytes),
+            }
+        }
+    }
+}
+
+fn is_root(path: &[u8]) -> bool
+    ensures { result ≡ bytes_eq path.now (47 ∷ []) }
+{
+    path == b"/".as_slice()
+}
+
+/// The root of the tree, where the line mounts it.
+fn first_line(alloc: Global, line: &TreeLine) -> Option<Node>
+    ensures { alone result ≡ first_line line.now }
+{
+    match line {
+        TreeLine::Mount {
+            id,
+            dev,
+            path,
+            handles,
+        } => {
+            if *id > 0 && *dev > 0 && is_root(path.as_slice()) {
+                Some(root_of(alloc, *id, *dev, *handles))
+            } else {
+                None
+            }
+        }
+        TreeLine::File { .. } => None,
+    }
+}
+
+/// The objects that the lines describe.
+fn nodes_of(alloc: Global, lines: &[TreeLine]) -> Result<Vec<Node>, SpecError>
+    requires { length lines.now < 2 ^ 32 }
+    ensures ok { IfOk result (λ nodes. nodes_of lines.now ≡ Ok nodes.items) }
+    ensures err { IfErr result (λ error. IsCause lines.now error) }
+{
+    let Some((first, rest)) = lines.split_first() else {
+        return Err(SpecError::NotATree(1));
+    };
+    let Some(root) = first_line(alloc, first) else {
+        return Err(SpecError::NotATree(1));
+    };
+    let mut nodes = Vec::new(alloc);
+    nodes.push(root).map_err(AllocError::from)?;
+    for (place, line) in rest.iter().enumerate() {
+        if !add_line(alloc, &mut nodes, line)? {
+            return Err(SpecError::NotATree(place as u32 + 2));
+        }
+    }
+    Ok(nodes)
+}
+
+impl TreeHost {
+    /// A host that holds the tree which the lines describe, with no file open and no call answered.
+    pub fn from_spec(alloc: Global, spec: &TreeSpec) -> Result<TreeHost, SpecError>
+        requires { length spec.now < 2 ^ 32 }
+        ensures ok { IfOk result (λ host. StartsAs spec.now host) }
+        ensures well_formed { IfOk result (λ host. IsWellFormed (tree_of host)) }
+        ensures none_open { IfOk result (λ host. NoneOpen (tree_of host)) }
+        ensures err { IfErr result (λ error. IsCause spec.now error) }
+    {
+        let nodes = nodes_of(alloc, spec.as_slice())?;
+        let files = Descriptors::new(alloc)?;
+        let store = Store {
+            alloc,
+            nodes,
+            files,
+            calls: 0,
+        };
+        Ok(TreeHost { store })
+    }
+}

@@ -1,0 +1,178 @@
+ghost use Rattle.std.specs.Prelude.{◌≡◌, ◌<◌, ◌^◌};
+ghost use Rattle.pt_host.specs.Call.{call_of};
+ghost use Rattle.pt_tree.specs.StoreState.{state_of};
+ghost use Rattle.pt_tree.specs.State.{time_of, counted};
+ghost use Rattle.pt_tree.specs.Sound.{IsSound};
+ghost use Rattle.pt_tree.specs.Does.{Answers, AnswersAs, AnswersCall};
+ghost use Rattle.pt_tree.specs.Slots.{open_at};
+ghost use Rattle.pt_tree.specs.Calls.{
+  close_file,
+  name_refusal,
+  find_name,
+  open_walked,
+  opening,
+  tell_status,
+  walk_root,
+};
+
+use crate::node::Node;
+use crate::opening::{apply_opening, opening_refusal};
+use crate::path::walk_root;
+use crate::permission::{Right, may};
+use crate::slots::{Descriptors, OpenFile};
+use pt_host::{Errno, Fd, HostOp, HostReply, HostSeat, HostValue, OpenFlags, Time};
+use std::alloc::Global;
+
+/// The longest name of a file.
+pub const NAME_MAX: usize = 255;
+
+/// What a tree host keeps.
+#[derive(Drop)]
+pub struct Store {
+    pub alloc: Global,
+    /// The objects in the order of their making, the root first.
+    pub nodes: Vec<Node>,
+    pub files: Descriptors,
+    /// How many calls were answered.
+    pub calls: u64,
+}
+
+fn name_refusal(seat: &HostSeat, dir: &Node, name: &[u8]) -> Option<Errno>
+    ensures { result ≡ name_refusal seat.now dir.now name.now }
+{
+    if !dir.is_directory() {
+        Some(Errno::ENOTDIR)
+    } else if name.len() > NAME_MAX {
+        Some(Errno::ENAMETOOLONG)
+    } else if !may(seat, dir, Right::Search) {
+        Some(Errno::EACCES)
+    } else {
+        None
+    }
+}
+
+impl Store {
+    fn now(&self) -> Time
+        requires { IsSound (state_of self.now) }
+        ensures { result ≡ time_of (state_of self.now) }
+    {
+        Time {
+            sec: self.calls as i64,
+            nsec: 0,
+        }
+    }
+
+    fn open(&mut self, seat: &HostSeat, flags: OpenFlags, object: usize) -> HostReply
+        requires { IsSound (state_of self.old) }
+        ensures { AnswersAs (opening (state_of self.old) seat.now flags object) (state_of self.old) result (state_of self.new) }
+    {
+        let Some(node) = self.nodes.get(object) else {
+            return HostReply::Refused(Errno::EIO);
+        };
+        if let Some(errno) = opening_refusal(seat, node, flags) {
+            return HostReply::Refused(errno);
+        }
+        let now = self.now();
+        match self.files.open(OpenFile { object, flags }) {
+            Ok(fd) => {
+                apply_opening(self.alloc, seat, now, flags, &mut self.nodes[object]);
+                HostReply::Ok(HostValue::Fd(fd))
+            }
+            Err(_) => HostReply::NoMemory,
+        }
+    }
+
+    fn open_found(
+        &mut self,
+        seat: &HostSeat,
+        flags: OpenFlags,
+        found: Result<usize, Errno>,
+    ) -> HostReply
+        requires { IsSound (state_of self.old) }
+        ensures { AnswersAs (open_walked (state_of self.old) seat.now flags found) (state_of self.old) result (state_of self.new) }
+    {
+        match found {
+            Ok(object) => self.open(seat, flags, object),
+            Err(errno) => HostReply::Refused(errno),
+        }
+    }
+
+    /// The object that a name leads to from a descriptor's directory.
+    fn find(&self, seat: &HostSeat, fd: Fd, name: &[u8], flags: OpenFlags) -> Result<usize, Errno>
+        ensures { result ≡ find_name self.now.nodes.items seat.now name.now flags.0 (open_at self.now.files fd.0) }
+    {
+        let dir = self.files.get(fd).ok_or(Errno::EBADF)?;
+        let dir = self.nodes.get(dir.object).ok_or(Errno::EIO)?;
+        if let Some(errno) = name_refusal(seat, dir, name) {
+            return Err(errno);
+        }
+        if flags.includes(OpenFlags::O_CREAT) {
+            return Err(Errno::EOPNOTSUPP);
+        }
+        dir.content.lookup(name).ok_or(Errno::ENOENT)
+    }
+
+    fn stat(&self, fd: Fd) -> HostReply
+        requires { IsSound (state_of self.now) }
+        ensures { (result, state_of self.now) ≡ tell_status (state_of self.now) (open_at self.now.files fd.0) }
+    {
+        let Some(file) = self.files.get(fd) else {
+            return HostReply::Refused(Errno::EBADF);
+        };
+        match self.nodes.get(file.object) {
+            Some(node) => HostReply::Ok(HostValue::Stat(node.status())),
+            None => HostReply::Refused(Errno::EIO),
+        }
+    }
+
+    fn close(&mut self, fd: Fd) -> HostReply
+        ensures { (result, state_of self.new) ≡ close_file (state_of self.old) fd.0 (open_at self.old.files fd.0) }
+    {
+        if self.files.get(fd).is_none() {
+            return HostReply::Refused(Errno::EBADF);
+        }
+        self.files.close(fd);
+        HostReply::Ok(HostValue::Unit)
+    }
+
+    /// Answers a call, which is not counted yet.
+    fn answer(&mut self, seat: &HostSeat, op: &HostOp<'_>) -> HostReply
+        requires { IsSound (state_of self.old) }
+        ensures { AnswersCall (state_of self.old) seat.now (call_of op.now) result (state_of self.new) }
+    {
+        match *op {
+            HostOp::OpenRoot { path, flags } => {
+                let found = walk_root(&self.nodes, path);
+                self.open_found(seat, flags, found)
+            }
+            HostOp::OpenAt {
+                fd,
+                name,
+                flags,
+                ..
+            } => {
+                let found = self.find(seat, fd, name, flags);
+                self.open_found(seat, flags, found)
+            }
+            HostOp::Stat { fd } => self.stat(fd),
+            HostOp::Close { fd } => self.close(fd),
+        }
+    }
+
+    /// Counts the call, up to where a time in seconds ends.
+    fn count(&mut self)
+        ensures { state_of self.new ≡ counted (state_of self.old) }
+    {
+        self.calls = self.calls.saturating_add(1).min(i64::MAX as u64);
+    }
+
+    /// Answers a call and counts it.
+    pub fn call(&mut self, seat: &HostSeat, op: &HostOp<'_>) -> HostReply
+        requires { IsSound (state_of self.old) }
+        ensures { Answers (state_of self.old) seat.now (call_of op.now) result (state_of self.new) }
+    {
+        let reply = self.answer(seat, op);
+        self.count();
+        reply
+    }
+}
