@@ -1,12 +1,12 @@
 -- What holds before and after each step, whatever the other jobs do.
-use Rattle.std.proofs.Common.{◌≡◌, ◌≢◌, ◌⊎◌, ⊎_elim, inl, inr, ℕ, zero, suc, ◌+◌, ◌-◌, ◌*◌, ◌<◌, ◌≤◌, List, [], ◌∷◌, ◌++◌, length, Bool, true, false, refl, sym, ap, subst, ◌∙◌, arith, Option, Some, None}
+use Rattle.std.proofs.Common.{◌≡◌, ◌≢◌, ⊎_elim, ℕ, ◌+◌, ◌<◌, ◌≤◌, refl, sym, ap, subst, ◌∙◌, arith, Option, Some, None}
 use Rattle.std.proofs.lemmas.Bool.{cases_eq}
-use Rattle.pt_host.specs.Words.{is, total, Each, Takes, set_at, sum_to}
+use Rattle.pt_host.specs.Words.{total, set_at}
 use Rattle.pt_host.specs.Call.{Call}
 use Rattle.pt_host.specs.Reply.{ReplyHoldsBytes}
-use Rattle.pt_host.specs.Promises.{FitsCall, IsAllowed}
+use Rattle.pt_host.specs.Promises.{IsAllowed}
 use Rattle.pt_host.specs.Tree.{Tree, IsWellFormed}
-use Rattle.pt_host.specs.LawfulStep.{LawfulStep, Changes as TreeChanges, closed_at}
+use Rattle.pt_host.specs.LawfulStep.{LawfulStep, Changes as TreeChanges}
 use Rattle.pt_host.specs.declared.ids.Fd.{Fd}
 use Rattle.pt_host.specs.declared.seat.HostSeat.{HostSeat}
 use Rattle.pt_host.specs.declared.op.KeptHostOp.TheVariants as call
@@ -14,20 +14,18 @@ use Rattle.pt_host.specs.declared.reply.HostReply.{HostReply}
 use Rattle.pt_host.specs.declared.reply.HostReply.TheVariants as host
 use Rattle.pt_host.specs.declared.reply.HostValue.TheVariants as value
 use Rattle.pt_session.specs.Change.{Change}
-use Rattle.pt_session.specs.Tables.{Row, Tables, Agree}
+use Rattle.pt_session.specs.Tables.{Tables, Agree}
 use Rattle.pt_session.specs.Happens.{Happens}
 use Rattle.pt_session.specs.declared.reply.EventReply.{EventReply}
-use Rattle.pt_req.specs.Deed.{Deed, Calls, Changes, Step}
+use Rattle.pt_req.specs.Deed.{Deed, Calls, Changes}
 use Rattle.pt_req.specs.Made.{Made}
 use Rattle.pt_req.specs.declared.act.ActReply.{ActReply}
 use Rattle.pt_req.specs.declared.act.ActReply.TheVariants.{Event, Host, NoCopy}
-use Rattle.pt_req.specs.declared.hold.Hold.{Hold}
 use Rattle.pt_law.specs.Discipline.{Job, Moves, MovesIf, MovesBy}
-use Rattle.pt_law.specs.World.{World, Past, Turn, Turns, Goes, IsLawful, settled_if, settled_by}
-use Rattle.pt_law.specs.Ledger.{open_count, kept_fds, held_by, fd_held, row_fd, closing_fd, some_count, inserted_if, inserted_as}
+use Rattle.pt_law.specs.World.{World, Turn, Turns, Goes, IsLawful, settled_if, settled_by}
+use Rattle.pt_law.specs.Ledger.{open_count, kept_fds, held_by, fd_held, some_count, inserted_if, inserted_as}
 use Rattle.pt_law.proofs.Flows.{fd_ended, IsHonest}
-use Rattle.pt_law.proofs.Lists.{total_takes, sum_to_set, is_same, set_at_same, set_at_other, at_each}
-use Rattle.pt_law.proofs.Effects.{agrees}
+use Rattle.pt_law.proofs.Lists.{total_takes, sum_to_set, set_at_same, set_at_other, at_each}
 use Rattle.pt_law.proofs.Balance.{moved}
 use Rattle.pt_law.proofs.Holding.{handed, in_tree}
 use Rattle.pt_law.proofs.Counting.{Books, keeps_books, honest, part}
@@ -148,20 +146,20 @@ keeps_host : (bound : ℕ) (base had : ℕ → ℕ) (w : World) (js : ℕ → Jo
 keeps_host bound base had w js j a r seat seat' tree' after lt v l m =
     let opened = in_tree w.tree a r tree' l.changes (λ f q. let x = closed_held (js j) a (Host r) after m f q in let y = v.fds f in let z = part (fd_held f) js bound j lt in let u = at_most_one f w.tree in omega (arith, x, y, z, u)) in
     let fds : (fd : ℕ) → open_count fd tree' ≡ kept_fds fd w.tables + held_by bound (fd_held fd) (set_at j after js) + base fd = (λ fd.
-        let x = v.fds fd in
-        let y = (handed (js j).holds (Calls a) (Host r) after.holds m.0).fds fd in
-        let z = opened fd in
-        let s = sum_to_set (λ (k : Job). total (fd_held fd) k.holds) js j after bound lt in
-        omega (arith, x, y, z, s)) in
+    let x = v.fds fd in
+    let y = (handed (js j).holds (Calls a) (Host r) after.holds m.0).fds fd in
+    let z = opened fd in
+    let s = sum_to_set (λ (k : Job). total (fd_held fd) k.holds) js j after bound lt in
+    omega (arith, x, y, z, s)) in
     record {
       tabled = keeps_tabled bound had w.tables js j (Some (Calls a)) (Host r) w.tables after lt v.tabled refl m;
       well = l.well_formed v.well;
       fds = fds;
       right = keeps_call bound w.tree w.tables.next_row w.past w.tables.rows js j after a r tree' lt v.right l.changes m
           (λ f e.
-              let n : open_count f.0 tree' ≡ 0 = closed_none w.tree tree' a f r e l.changes in
-              let x = fds f.0 in
-              (omega (arith, n, x), (λ i less. let y = part (fd_held f.0) (set_at j after js) bound i less in omega (arith, n, x, y))));
+          let n : open_count f.0 tree' ≡ 0 = closed_none w.tree tree' a f r e l.changes in
+          let x = fds f.0 in
+          (omega (arith, n, x), (λ i less. let y = part (fd_held f.0) (set_at j after js) bound i less in omega (arith, n, x, y))));
     }
   where
     closed_none : (tree tree' : Tree) (a : Call) (f : Fd) (r : HostReply) → a ≡ call.Close f → TreeChanges tree a r tree' → open_count f.0 tree' ≡ 0
