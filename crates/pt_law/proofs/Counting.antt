@@ -3,7 +3,8 @@ use Rattle.std.proofs.Common.{◌≡◌, ◌≢◌, ⊎_elim, ℕ, ◌+◌, ◌*
 use Rattle.std.proofs.lemmas.Bool.{cases_eq}
 use Rattle.pt_host.specs.Words.{is, total, Each, set_at, sum_to}
 use Rattle.pt_session.specs.Change.{Change}
-use Rattle.pt_session.specs.Tables.{Row, Tables, Agree}
+use Rattle.pt_session.specs.Tables.{Tables, Agree}
+use Rattle.pt_session.specs.declared.row.Row.{Row}
 use Rattle.pt_session.specs.Happens.{Happens}
 use Rattle.pt_session.specs.declared.event.KeptEvent.TheVariants as change
 use Rattle.pt_session.specs.declared.reply.EventRefusal.TheVariants.{NotLive}

@@ -3,7 +3,6 @@ pub mod Sound
 pub mod Moving
 pub mod Sounds
 pub mod Ending
-pub mod Cutting
 pub mod Branches
 pub mod Parts
 pub mod Requests

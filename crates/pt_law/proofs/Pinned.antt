@@ -8,7 +8,7 @@ use Rattle.pt_host.specs.declared.ids.ObjIds.{ObjIds}
 use Rattle.pt_host.specs.declared.op.KeptHostOp.TheVariants as call
 use Rattle.pt_host.specs.declared.reply.HostReply.TheVariants as host
 use Rattle.pt_host.specs.declared.reply.HostValue.TheVariants as value
-use Rattle.pt_session.specs.Tables.{Row}
+use Rattle.pt_session.specs.declared.row.Row.{Row}
 use Rattle.pt_req.specs.Deed.{Deed, Calls}
 use Rattle.pt_req.specs.Held.{fd_of}
 use Rattle.pt_req.specs.declared.act.ActReply.{ActReply}

@@ -2,7 +2,9 @@
 use Rattle.std.specs.Prelude.{ℕ, ◌+◌, ◌-◌, ◌*◌, Bool, true, false, List, [], ◌∷◌, Option, None, Some}
 use Rattle.pt_host.specs.Words.{is, total, sum_to}
 use Rattle.pt_host.specs.Tree.{Tree}
-use Rattle.pt_session.specs.Tables.{Row, Closing, Tables}
+use Rattle.pt_session.specs.Tables.{Tables}
+use Rattle.pt_session.specs.declared.row.Row.{Row}
+use Rattle.pt_session.specs.declared.row.Closing.{Closing}
 use Rattle.pt_session.specs.declared.form.RowForm.{RowForm}
 use Rattle.pt_session.specs.declared.form.RowForm.TheVariants.{File}
 use Rattle.pt_session.specs.declared.event.KeptEvent.TheVariants as change

@@ -2,7 +2,8 @@
 //! The parts that speak of no object hold over any host; those that do, over one that tells its tree.
 
 ghost use Rattle.std.specs.Prelude.{◌≡◌, ◌≢◌, ◌<◌, ◌≤◌, ℕ, List, ◌++◌, ◌∷◌, true, Some};
-ghost use Rattle.pt_session.specs.Tables.{Row, Tables, Agree, empty_tables};
+ghost use Rattle.pt_session.specs.Tables.{Tables, Agree, empty_tables};
+ghost use Rattle.pt_session.specs.declared.row.Row.{Row};
 ghost use Rattle.pt_session.specs.Happens.{IsRow};
 ghost use Rattle.pt_iface.specs.declared.answer.Answer.TheVariants as answer;
 ghost use Rattle.pt_iface.specs.declared.entry.Entry.{Entry};
