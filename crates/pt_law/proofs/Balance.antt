@@ -121,11 +121,6 @@ again : (t : Tables) (row : Row) (after : Tables) (deed : Deed) (told : ActReply
     ((fd : ℕ) → fd_out fd deed told ≡ fd_in fd deed told) → slot_out deed told ≡ slot_in deed told → ((serial : ℕ) → pin_ended serial deed told ≡ pin_made serial deed told) → Moved t after deed told
 again t row after deed told h = moved_by t after 0 deed told (recounts t row _ after refl refl refl h)
 
--- a row's pins change
-repins : (t : Tables) (row : Row) (pins : ℕ) (after : Tables) → Changes t row (record row { pins = pins }) after → (serial : ℕ) →
-    total (row_pins serial) after.rows + is row.serial serial * row.pins ≡ total (row_pins serial) t.rows + is row.serial serial * pins
-repins t row pins after h serial = rw h.2 (let a = total_replaces (row_pins serial) h.1 in omega (arith, a))
-
 unpinned : (t : Tables) (serial n : ℕ) (after : Tables) → Unpins t serial n after → Moved t after (Asks (change.Unpin serial)) (Event (reply.Done n))
 unpinned t serial n after (row, pins, s, p, inl h) =
     let m = shuts t row after h.3 in

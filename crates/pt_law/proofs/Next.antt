@@ -12,7 +12,7 @@ use Rattle.pt_req.specs.Deed.{Deed, Calls, Changes}
 use Rattle.pt_req.specs.declared.act.ActReply.{ActReply}
 use Rattle.pt_req.specs.declared.act.ActReply.TheVariants.{Event, Host, NoCopy}
 use Rattle.pt_law.specs.Discipline.{Job, Moves, MovesIf, Disciplined}
-use Rattle.pt_law.specs.World.{World, Turn, Turns, Runs, TablesRun, steps_of}
+use Rattle.pt_law.specs.World.{World, Turn, TablesGo, Runs, TablesRun, steps_of}
 use Rattle.pt_law.specs.Ledger.{open_count, inserted}
 use Rattle.pt_law.specs.Laws.{AreDisciplined, Starts, NamesOpen, IsHonoured}
 use Rattle.pt_law.proofs.Flows.{IsHonest}
@@ -47,7 +47,7 @@ honoured_event bound had t js j change.GiveFd (event.Refused why) t' after lt v 
 honoured_event bound had t js j change.TakeClosing (event.Refused why) t' after lt v h m a = a
 honoured_event bound had t js j e r t' after lt v h m a = tt
 
-honoured : (bound : ℕ) (had : ℕ → ℕ) (t : Tables) (js : ℕ → Job) (j : ℕ) (deed : Option Deed) (told : ActReply) (t' : Tables) (after : Job) → j < bound → Tabled bound had t js → Turns t deed told t' →
+honoured : (bound : ℕ) (had : ℕ → ℕ) (t : Tables) (js : ℕ → Job) (j : ℕ) (deed : Option Deed) (told : ActReply) (t' : Tables) (after : Job) → j < bound → Tabled bound had t js → TablesGo t deed told t' →
     MovesIf (js j) deed told after → IsHonoured deed told
 honoured bound had t js j (Some (Changes e)) (Event r) t' after lt v g m = honoured_event bound had t js j e r t' after lt v g m (honest bound t js j e r t' after lt v.books g m)
 honoured bound had t js j (Some (Calls a)) (Host r) t' after lt v g m = tt
@@ -56,7 +56,7 @@ honoured bound had t js j None NoCopy t' after lt v g m = tt
 honoured bound had t js j _ _ t' after lt v g m = absurd g
 
 pub honoured_law : (limit bound : ℕ) (turns : List Turn) (turn : Turn) (more : List Turn) (now next : Tables) → AreDisciplined bound (turns ++ turn ∷ more) → TablesRun (empty_tables limit) turns now →
-    Turns now turn.step.deed turn.step.reply next → IsHonoured turn.step.deed turn.step.reply
+    TablesGo now turn.step.deed turn.step.reply next → IsHonoured turn.step.deed turn.step.reply
 honoured_law limit bound turns turn more now next a r g =
     let v = reach_tables limit bound turns (turn ∷ more) now a r in
     let lt = owner_of bound turns turn more a.owners in

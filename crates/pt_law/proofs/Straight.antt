@@ -17,8 +17,8 @@ use Rattle.pt_req.specs.Held.{held, closings_in, fd_of}
 use Rattle.pt_req.specs.Grammar.{Grammar, Belongs}
 use Rattle.pt_req.specs.Frame.{closings, leave}
 use Rattle.pt_req.specs.Pattern.{grammar_of}
-use Rattle.pt_req.specs.Requests.{is_bad_name, on_began, on_resolved, on_fd, on_stat, on_claim, on_taken, on_drawn, on_inserted, entry_of, inserted, numbered, told_of, opened_in, look_up, answers_entry, lookup}
 use Rattle.pt_req.specs.declared.begun.Session.{Session}
+use Rattle.pt_req.specs.Requests.{is_bad_name, on_began, on_resolved, on_fd, on_stat, on_claim, on_taken, on_drawn, on_inserted, entry_of, inserted, numbered, told_of, opened_in, look_up, answers_entry, lookup}
 use Rattle.pt_req.specs.Tree.{Tree, Gives, Refuses, Asks, Shuts, framed}
 use Rattle.pt_req.specs.declared.act.ActReply.{ActReply}
 use Rattle.pt_req.specs.declared.act.ActReply.TheVariants.{Event, Host, NoCopy}

@@ -20,7 +20,7 @@ use Rattle.pt_req.specs.declared.plan.Plan.{Plan}
 use Rattle.pt_iface.specs.declared.request.Request.{Request}
 use Rattle.pt_law.specs.Discipline.{Job, idle, Disciplined, Ends}
 use Rattle.pt_law.specs.World.{Turn, World, steps_of, no_past}
-use Rattle.pt_law.specs.Ledger.{kept_slots, row_slot, carried, kept_fds, row_fd, fd_held, held_by, open_count}
+use Rattle.pt_law.specs.Ledger.{kept_slots, row_slot, slots_taken, slots_given, carried, kept_fds, row_fd, fd_held, held_by, open_count}
 
 -- each step is one of the jobs' below the bound, and each of these keeps the discipline
 pub record AreDisciplined (bound : ℕ) (turns : List Turn) : Type 0 where
@@ -66,8 +66,10 @@ pub record IsCounted (tables : Tables) (number : ℕ) (amount : ℕ) : Type 0 wh
   pub gone : amount ≡ 0 → NoRow tables (HasNumber number)
 
 -- slots left, those of rows and of the closing list, and those that jobs carry, are the limit
-abbrev pub SlotsAddUp : ℕ → ℕ → List Turn → Tables → Type 0
-SlotsAddUp limit bound turns tables = kept_slots tables + sum_to bound (λ job. carried (steps_of job turns)) ≡ limit
+pub record SlotsAddUp (limit bound : ℕ) (turns : List Turn) (tables : Tables) : Type 0 where
+  pub sum : kept_slots tables + sum_to bound (λ job. carried (steps_of job turns)) ≡ limit
+  -- no job gave more than it had taken
+  pub taken : (job : ℕ) → job < bound → slots_given (steps_of job turns) ≤ slots_taken (steps_of job turns)
 
 -- Where each open descriptor is: it was open at the start, or stands once in the tables or is held once by a job.
 pub record AreKept (start : World) (bound : ℕ) (turns : List Turn) (now : World) : Type 0 where

@@ -54,9 +54,15 @@ abbrev pub slot_given_by : Option Deed → ActReply → ℕ
 slot_given_by None told = 0
 slot_given_by (Some deed) told = slot_given deed told
 
+abbrev pub slots_taken : List Step → ℕ
+slots_taken steps = total (λ step. slot_taken step.reply) steps
+
+abbrev pub slots_given : List Step → ℕ
+slots_given steps = total (λ step. slot_given_by step.deed step.reply) steps
+
 -- what a job carries, by its replies alone
 abbrev pub carried : List Step → ℕ
-carried steps = total (λ step. slot_taken step.reply) steps - total (λ step. slot_given_by step.deed step.reply) steps
+carried steps = slots_taken steps - slots_given steps
 
 -- Descriptors.
 

@@ -103,13 +103,13 @@ HostRuns {H} does (turn ∷ turns) host tables host' tables' =
     × HostRuns does turns host1 tables1 host' tables'
 
 -- What a step does to the tables, whatever host there is: an event happens, and nothing else changes them.
-abbrev pub Turns : Tables → Option Deed → ActReply → Tables → Type 0
-Turns tables (Some (Changes asked)) (Event told) after = Happens tables asked told after
-Turns tables (Some (Calls asked)) (Host told) after = after ≡ tables
-Turns tables (Some (Calls asked)) NoCopy after = after ≡ tables
-Turns tables None NoCopy after = after ≡ tables
-Turns tables deed told after = ⊥
+abbrev pub TablesGo : Tables → Option Deed → ActReply → Tables → Type 0
+TablesGo tables (Some (Changes asked)) (Event told) after = Happens tables asked told after
+TablesGo tables (Some (Calls asked)) (Host told) after = after ≡ tables
+TablesGo tables (Some (Calls asked)) NoCopy after = after ≡ tables
+TablesGo tables None NoCopy after = after ≡ tables
+TablesGo tables deed told after = ⊥
 
 abbrev pub TablesRun : Tables → List Turn → Tables → Type 0
 TablesRun tables [] after = after ≡ tables
-TablesRun tables (turn ∷ turns) after = (mid : Tables) × Turns tables turn.step.deed turn.step.reply mid × TablesRun mid turns after
+TablesRun tables (turn ∷ turns) after = (mid : Tables) × TablesGo tables turn.step.deed turn.step.reply mid × TablesRun mid turns after

@@ -15,7 +15,7 @@ ghost use Rattle.pt_req.specs.declared.finish.Finish.{Finish};
 ghost use Rattle.pt_req.specs.declared.finish.Finish.TheVariants as finish;
 ghost use Rattle.pt_req.specs.declared.plan.Plan.{Plan};
 ghost use Rattle.pt_law.specs.Told.{AllMayBeTold};
-ghost use Rattle.pt_law.specs.World.{World, Turn, Runs, HostRuns, Turns, TablesRun, steps_of};
+ghost use Rattle.pt_law.specs.World.{World, Turn, Runs, HostRuns, TablesGo, TablesRun, steps_of};
 ghost use Rattle.pt_law.specs.Ledger.{given, inserted};
 ghost use Rattle.pt_law.specs.Laws.{AreDisciplined, AreEnded, AreAnswered, Starts, AreDistinct, HasObject, IsCounted, SlotsAddUp, AreKept, NamesOpen, IsHonoured, IsAtRest, LeavesRows};
 ghost use Rattle.pt_law.specs.Entered.{IsEntered};
@@ -24,6 +24,7 @@ use pt_host::Host;
 
 /// What holds of the tables in every run, whatever host there is. `turns` are the steps so far, `more` those that are still to come.
 pub fn every_run()
+    ensures cut { (turns more : List Turn) (start end : Tables) → TablesRun start (turns ++ more) end → ((now : Tables) × TablesRun start turns now × TablesRun now more end) }
     ensures agree { (limit : ℕ) (turns : List Turn) (now : Tables) → TablesRun (empty_tables limit) turns now → Agree now }
     ensures era { (limit : ℕ) (turns : List Turn) (now : Tables) → TablesRun (empty_tables limit) turns now → now.era ≡ 0 }
     ensures counts { (limit : ℕ) (turns : List Turn) (now : Tables) (number : ℕ) → TablesRun (empty_tables limit) turns now → IsCounted now number (given number turns) }
@@ -32,7 +33,7 @@ pub fn every_run()
     ensures slots { (limit bound : ℕ) (turns more : List Turn) (now : Tables) →
         AreDisciplined bound (turns ++ more) → TablesRun (empty_tables limit) turns now → SlotsAddUp limit bound turns now }
     ensures honoured { (limit bound : ℕ) (turns : List Turn) (turn : Turn) (more : List Turn) (now next : Tables) →
-        AreDisciplined bound (turns ++ turn ∷ more) → TablesRun (empty_tables limit) turns now → Turns now turn.step.deed turn.step.reply next → IsHonoured turn.step.deed turn.step.reply }
+        AreDisciplined bound (turns ++ turn ∷ more) → TablesRun (empty_tables limit) turns now → TablesGo now turn.step.deed turn.step.reply next → IsHonoured turn.step.deed turn.step.reply }
     ensures disciplined { (bound : ℕ) (turns : List Turn) → AreEnded bound turns → AreDisciplined bound turns }
     ensures rest { (limit bound : ℕ) (turns : List Turn) (now : Tables) →
         AreEnded bound turns → TablesRun (empty_tables limit) turns now → IsAtRest limit bound turns now }
@@ -41,6 +42,9 @@ pub fn every_run()
 /// What holds of objects and descriptors in every run over a host that tells its tree.
 pub fn every_told_run()
     ensures tables { (turns : List Turn) (start now : World) → Runs start turns now → TablesRun start.tables turns now.tables }
+    ensures cut { (turns more : List Turn) (start end : World) → Runs start (turns ++ more) end → ((now : World) × Runs start turns now × Runs now more end) }
+    ensures ended { (plan : Plan) (bound : ℕ) (asked : ℕ → Request) (ends : ℕ → Finish) (turns : List Turn) (start end : World) →
+        Runs start turns end → AreAnswered plan bound asked ends turns → AreEnded bound turns }
     ensures distinct { (limit bound : ℕ) (turns more : List Turn) (start now : World) →
         Starts limit start → AreDisciplined bound (turns ++ more) → Runs start turns now → AreDistinct now }
     ensures objects { (limit bound : ℕ) (turns more : List Turn) (start now : World) (row : Row) →

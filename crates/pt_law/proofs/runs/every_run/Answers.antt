@@ -1,4 +1,5 @@
 use Rattle.pt_law.proofs.runs.every_run.Goals as goal
+use Rattle.pt_law.proofs.Interleaving.{tables_split}
 use Rattle.pt_law.proofs.Laws.{agree_law, era_stays, counts_law, once_law, slots_law, rest_law, ended_jobs}
 use Rattle.pt_law.proofs.Next.{honoured_law}
 
@@ -25,3 +26,6 @@ returns-clause-disciplined c = ended_jobs
 
 pub returns-clause-rest : goal.returns-clause-rest
 returns-clause-rest c = rest_law
+
+pub returns-clause-cut : goal.returns-clause-cut
+returns-clause-cut c = tables_split

@@ -1,6 +1,8 @@
 use Rattle.pt_law.proofs.runs.every_told_run.Goals as goal
 use Rattle.pt_law.proofs.Interleaving.{tables_run}
+use Rattle.pt_law.proofs.Cuts.{runs_split}
 use Rattle.pt_law.proofs.Laws.{distinct_law, object_law, kept_law, leaves_law}
+use Rattle.pt_law.proofs.Hosts.{run_ended}
 use Rattle.pt_law.proofs.Next.{named_law}
 use Rattle.pt_law.proofs.Entries.{entered_law}
 
@@ -24,3 +26,9 @@ returns-clause-entries c = entered_law
 
 pub returns-clause-rest : goal.returns-clause-rest
 returns-clause-rest c = leaves_law
+
+pub returns-clause-ended : goal.returns-clause-ended
+returns-clause-ended c = run_ended
+
+pub returns-clause-cut : goal.returns-clause-cut
+returns-clause-cut c = runs_split
