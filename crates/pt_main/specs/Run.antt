@@ -62,19 +62,17 @@ pub record IsOpened (before : State) (fs : FileSystem) (after : State) : Type 0 
   pub plan : IsDefault fs.plan.config
   pub tables : fs.tables ≡ empty_tables fs.plan.config.guest_fd_limit
 
--- The jobs of a script run over a host that holds its tree: the trace leads from the new file system to these tables and this host, the jobs
--- run one after another, and each is answered by the pattern of its request.
-pub record IsRun (begun : Begun) (trace : List TraceStep) (answers : List Answer) (tables : Tables) (host : State) : Type 0 where
-  pub start : State
-  pub starts : StartsAs begun.tree start
+-- The jobs of a script run over this host: the trace leads from the new file system to these tables and that host, the jobs run whole, one
+-- after another, and each is answered by the pattern of its request.
+pub record IsRunFrom (start : State) (lines : List ScriptJob) (trace : List TraceStep) (answers : List Answer) (tables : Tables) (host : State) : Type 0 where
   pub fs : FileSystem
   pub opened_host : State
   pub opened : IsOpened start fs opened_host
   pub seats : List HostSeat
-  pub steps : Runs Does trace opened_host (map job_seat (map job_of begun.jobs)) fs.tables host seats tables
-  pub order : IsInOrder [] (length (map job_of begun.jobs)) trace
-  pub answers_each : AnswersEach fs.plan (map job_of begun.jobs) trace answers
-  pub bounded : IsBounded (map job_of begun.jobs) trace
+  pub steps : Runs Does trace opened_host (map job_seat (map job_of lines)) fs.tables host seats tables
+  pub order : IsInOrder [] (length (map job_of lines)) trace
+  pub answers_each : AnswersEach fs.plan (map job_of lines) trace answers
+  pub bounded : IsBounded (map job_of lines) trace
 
 -- the report of a run: its steps, answers, live numbers, slots and objects
 abbrev pub report_of : List TraceStep → List Answer → List (ℕ × ℕ) → Tables → State → List ℕ
@@ -89,7 +87,9 @@ pub record IsReportOf (bytes report : List ℕ) : Type 0 where
   pub answers : List Answer
   pub tables : Tables
   pub host : State
-  pub run : IsRun begun trace answers tables host
+  pub start : State
+  pub starts : StartsAs begun.tree start
+  pub run : IsRunFrom start begun.jobs trace answers tables host
   pub lives : List (ℕ × ℕ)
   pub live : LivesAbove tables.rows None lives
   pub text : report ≡ report_of trace answers lives tables host

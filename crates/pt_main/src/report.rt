@@ -9,12 +9,7 @@ use pt_session::Session;
 use pt_text::push_text;
 use std::alloc::AllocError;
 
-fn push_step(
-    out: &mut Vec<u8>,
-    job: u32,
-    act: &KeptAct,
-    reply: &ActReply,
-) -> Result<(), AllocError>
+fn push_step(out: &mut Vec<u8>, job: u32, act: &KeptAct, reply: &ActReply) -> Result<(), AllocError>
     ensures { OnOk result (out.new.items ≡ out.old.items ++ step_line job act.now reply.now) }
 {
     push_text(out, b"step")?;
