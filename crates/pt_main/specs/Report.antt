@@ -5,6 +5,7 @@ use Rattle.pt_session.specs.LiveAfter.{IsLiveAfter}
 use Rattle.pt_iface.specs.declared.answer.Answer.{Answer}
 use Rattle.pt_req.specs.declared.act.KeptAct.{KeptAct}
 use Rattle.pt_req.specs.declared.act.ActReply.{ActReply}
+use Rattle.pt_fs.specs.declared.trace.TraceStep.{TraceStep}
 use Rattle.pt_main.specs.Texts.{number_text}
 use Rattle.pt_main.specs.SessionTexts.{act_text, act_reply_text, pair_text}
 use Rattle.pt_main.specs.AnswerTexts.{answer_text}
@@ -16,6 +17,10 @@ ended text = text ++ 10 ∷ []
 -- `step JOB ACT = REPLY`
 abbrev pub step_line : ℕ → KeptAct → ActReply → List ℕ
 step_line job act reply = ended (codes "step" ++ number_text job ++ act_text act ++ codes " =" ++ act_reply_text reply)
+
+abbrev pub step_lines : List TraceStep → List ℕ
+step_lines [] = []
+step_lines (step ∷ steps) = step_line step.job step.act step.reply ++ step_lines steps
 
 -- `answer JOB ANSWER`
 abbrev pub answer_line : ℕ → Answer → List ℕ

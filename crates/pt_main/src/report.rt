@@ -1,20 +1,15 @@
 ghost use Rattle.std.specs.Prelude.{◌≡◌, ◌++◌, ℕ, List, None, OnOk};
-ghost use Rattle.pt_main.specs.Report.{step_line, answer_line, answer_lines, live_line, live_lines, LivesAbove, slots_line};
+ghost use Rattle.pt_main.specs.Report.{step_line, step_lines, answer_line, answer_lines, live_line, live_lines, LivesAbove, slots_line};
 
 use crate::texts::Text;
+use pt_fs::TraceStep;
 use pt_iface::Answer;
 use pt_req::{ActReply, KeptAct};
 use pt_session::Session;
 use pt_text::push_text;
 use std::alloc::AllocError;
 
-/// Appends the line of a step. After an `Err` part of it may stand there, as after each of these calls.
-pub fn push_step(
-    out: &mut Vec<u8>,
-    job: u32,
-    act: &KeptAct,
-    reply: &ActReply,
-) -> Result<(), AllocError>
+fn push_step(out: &mut Vec<u8>, job: u32, act: &KeptAct, reply: &ActReply) -> Result<(), AllocError>
     ensures { OnOk result (out.new.items ≡ out.old.items ++ step_line job act.now reply.now) }
 {
     push_text(out, b"step")?;
@@ -23,6 +18,16 @@ pub fn push_step(
     push_text(out, b" =")?;
     reply.write(out)?;
     push_text(out, b"\n")
+}
+
+/// Appends the lines of the steps. After an `Err` part of them may stand there, as after each of these calls.
+pub fn push_steps(out: &mut Vec<u8>, trace: &[TraceStep]) -> Result<(), AllocError>
+    ensures { OnOk result (out.new.items ≡ out.old.items ++ step_lines trace.now) }
+{
+    for step in trace {
+        push_step(out, step.job, &step.act, &step.reply)?;
+    }
+    Ok(())
 }
 
 fn push_answer(out: &mut Vec<u8>, job: u64, answer: &Answer) -> Result<(), AllocError>

@@ -84,7 +84,7 @@ impl Lines {
         ensures bad { result ≡ Ok false → allowed self.old text.now ≡ None }
         ensures unchanged { result ≡ Ok false → self.new ≡ self.old }
         ensures err { OnErr result (self.new ≡ self.old) }
-        ensures few { length self.new.tree ≤ length self.old.tree + 1 }
+        ensures few { length self.new.tree + length self.new.jobs ≤ length self.old.tree + length self.old.jobs + 1 }
     {
         let line = match read_line(alloc, text) {
             Ok(line) => line,
@@ -110,7 +110,7 @@ pub struct Scan {
 pub fn scan_lines(alloc: Global, bytes: &[u8]) -> Result<Scan, AllocError>
     requires { length bytes.now ≤ MAX_SCRIPT }
     ensures scanned { IfOk result (λ scan. record { begun = scan.lines; bad = scan.bad } ≡ scan_of bytes.now) }
-    ensures few { IfOk result (λ scan. length scan.lines.tree ≤ length bytes.now + 1) }
+    ensures few { IfOk result (λ scan. length scan.lines.tree + length scan.lines.jobs ≤ length bytes.now + 1) }
 {
     let mut lines = Lines::new(alloc);
     let mut parts = Parts::lines(bytes);

@@ -1,4 +1,4 @@
-ghost use Rattle.std.specs.Prelude.{◌≡◌, ◌≤◌, ◌<◌, ◌^◌, IfOk, IfErr, length};
+ghost use Rattle.std.specs.Prelude.{◌≡◌, ◌≤◌, ◌<◌, ◌+◌, ◌^◌, IfOk, IfErr, length};
 ghost use Rattle.pt_tree.specs.Start.{StartsAs};
 ghost use Rattle.pt_main.specs.Parse.{IsBadLine, IsBadTree};
 ghost use Rattle.pt_main.specs.Scan.{IsScriptOf};
@@ -29,6 +29,7 @@ pub fn parse(alloc: Global, bytes: &[u8]) -> Result<Script, ParseError>
     requires { length bytes.now ≤ MAX_SCRIPT }
     ensures ok { IfOk result (λ script. IsScriptOf bytes.now script.host script.jobs.items) }
     ensures bad { IfErr result (λ error. IsBadLine bytes.now error) }
+    ensures few { IfOk result (λ script. length script.jobs.items ≤ length bytes.now + 1) }
 {
     let Ok(scan) = scan_lines(alloc, bytes) else {
         return Err(ParseError::Memory);

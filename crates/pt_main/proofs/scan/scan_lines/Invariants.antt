@@ -6,7 +6,7 @@ abbrev pub invariant-loop-text : goal.invariant-loop-text
 invariant-loop-text l = record {
   same : scan_from l.number l.lines l.parts ≡ scan_of l.bytes;
   within : l.number + length l.parts ≤ length l.bytes + 2;
-  few : length l.lines.tree < l.number;
+  few : length l.lines.tree + length l.lines.jobs < l.number;
 }
 
 abbrev pub decreases-loop-text : goal.decreases-loop-text
