@@ -3,3 +3,4 @@ pub mod LinesLemmas
 pub mod Scripts
 pub mod Outputs
 pub mod Lives
+pub mod CommandWords

@@ -1,5 +1,5 @@
 -- A run of a script, and its report.
-use Rattle.std.specs.Prelude.{◌≡◌, ℕ, List, [], ◌++◌, Option, Some, None, Result, Ok, Err, length, map, codes}
+use Rattle.std.specs.Prelude.{◌≡◌, ℕ, List, [], ◌∷◌, ◌++◌, Option, Some, None, Result, Ok, Err, length, map, codes}
 use Rattle.pt_host.specs.declared.flags.Caps.{Caps}
 use Rattle.pt_host.specs.declared.ids.Errno.{Errno}
 use Rattle.pt_host.specs.declared.reply.HostReply.{HostReply}
@@ -24,6 +24,7 @@ use Rattle.pt_fs.specs.declared.job.Job.{Job}
 use Rattle.pt_fs.specs.declared.job.Job.TheVariants as job
 use Rattle.pt_fs.specs.declared.trace.TraceStep.{TraceStep}
 use Rattle.pt_main.specs.Script.{Begun, script_of}
+use Rattle.pt_main.specs.Streams.{IsAll}
 use Rattle.pt_main.specs.Report.{step_lines, answer_lines, live_lines, slots_line, LivesAbove}
 use Rattle.pt_main.specs.declared.line.ScriptJob.{ScriptJob}
 use Rattle.pt_main.specs.declared.status.Status.{Status}
@@ -113,3 +114,15 @@ IsNoReport bytes (status.BadScript line) = script_of bytes ≡ Err line
 IsNoReport bytes (status.BadConfig errno) = (begun : Begun) × (script_of bytes ≡ Ok begun) × (start : State) × StartsAs begun.tree start × IsRefused start errno
 IsNoReport bytes status.NoMemory = Unit {0}
 IsNoReport bytes other = ⊥
+
+-- the one word of the command line is `script`
+abbrev pub IsScriptWord : List (List ℕ) → Type 0
+IsScriptWord words = words ≡ codes "script" ∷ []
+
+-- this is the report of a script that was read from here
+abbrev pub IsReportFrom : Option (List ℕ) → List ℕ → Type 0
+IsReportFrom left report = (bytes : List ℕ) × IsAll left bytes × IsReportOf bytes report
+
+-- what was read from here shows no report, and this is why
+abbrev pub IsNoReportFrom : Option (List ℕ) → Status → Type 0
+IsNoReportFrom left why = (bytes : List ℕ) × IsAll left bytes × IsNoReport bytes why

@@ -1,4 +1,4 @@
-use Rattle.pt_main.proofs.run.run_jobs.Goals as goal
+use Rattle.pt_main.proofs.make_report.run_jobs.Goals as goal
 
 pub returns-in-Ok-drive-clause-ok : goal.returns-in-Ok-drive-clause-ok
 returns-in-Ok-drive-clause-ok c = record {
