@@ -4,11 +4,11 @@
 mod fields;
 mod input;
 mod line;
+mod make_report;
 mod mem;
 mod output;
 mod program;
 mod report;
-mod make_report;
 mod scan;
 mod script;
 mod status;
