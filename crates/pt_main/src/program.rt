@@ -6,8 +6,8 @@ ghost use Rattle.pt_main.specs.Output.{IsWritten, IsFrontWritten};
 ghost use Rattle.pt_main.specs.Run.{IsReportOf, IsNoReport, IsScriptWord, IsReportFrom, IsNoReportFrom};
 
 use crate::input::{InputError, MAX_SCRIPT, read_script};
-use crate::output::push_all;
 use crate::make_report::report_of_script;
+use crate::output::push_all;
 use crate::status::Status;
 use crate::streams::{Sink, Source};
 use std::alloc::Global;
