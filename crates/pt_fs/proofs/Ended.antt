@@ -1,13 +1,13 @@
 -- How the jobs begin and end.
-use Rattle.std.proofs.Common.{◌≡◌, ℕ, zero, suc, ◌+◌, ◌*◌, ◌≤◌, ◌<◌, List, [], ◌∷◌, ◌++◌, ◌∙◌, Some, refl, ap, sym, subst, map, length, slice_get, append_assoc, append-nil, true, false, inl, inr, arith}
-use Rattle.std.proofs.lemmas.Option.{same_Some, slice_get_cases}
+use Rattle.std.proofs.Common.{◌≡◌, ℕ, zero, suc, ◌<◌, List, [], ◌∷◌, ◌++◌, ◌∙◌, Some, refl, ap, sym, subst, map, length, slice_get, append_assoc, append-nil, true, false, arith}
+use Rattle.std.proofs.lemmas.Option.{same_Some}
 use Rattle.pt_iface.specs.declared.answer.Answer.{Answer}
 use Rattle.pt_iface.specs.declared.request.Request.{Request}
 use Rattle.pt_iface.specs.declared.request.Request.TheVariants as request
 use Rattle.pt_req.specs.Deed.{Step}
-use Rattle.pt_req.specs.Grammar.{Grammar, Belongs, End}
-use Rattle.pt_req.specs.Job.{owes, steps_bound}
-use Rattle.pt_req.specs.Pattern.{grammar_of, bound_of}
+use Rattle.pt_req.specs.Grammar.{Grammar, Belongs}
+use Rattle.pt_req.specs.Job.{owes}
+use Rattle.pt_req.specs.Pattern.{grammar_of}
 use Rattle.pt_req.specs.declared.finish.Finish.{Finish}
 use Rattle.pt_req.specs.declared.finish.Finish.TheVariants as finish
 use Rattle.pt_req.specs.declared.plan.Plan.{Plan}
@@ -17,7 +17,7 @@ use Rattle.pt_fs.specs.Jobs.{job_seat, request_of}
 use Rattle.pt_fs.specs.Order.{rest_of, owner, count_of, total, Fits, Owns}
 use Rattle.pt_fs.specs.Owing.{Owing, run_seat}
 use Rattle.pt_fs.specs.Took.{IsFinishedAt}
-use Rattle.pt_fs.specs.Trace.{AnswersEach, IsBounded, steps_by, closings_told}
+use Rattle.pt_fs.specs.Trace.{AnswersEach, IsBounded, steps_by}
 use Rattle.pt_fs.specs.declared.job.Job.{Job}
 use Rattle.pt_fs.specs.declared.running.Running.{Running}
 use Rattle.pt_fs.specs.declared.trace.TraceStep.{TraceStep}

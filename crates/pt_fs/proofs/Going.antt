@@ -4,8 +4,8 @@ use Rattle.std.proofs.lemmas.Bool.{cases_eq}
 use Rattle.std.proofs.lemmas.List.{length-set, map-set}
 use Rattle.std.proofs.lemmas.Option.{same_Some, slice_get-map, get_or_from_slice_get}
 use Rattle.pt_session.specs.Tables.{Tables}
-use Rattle.pt_req.specs.Deed.{Step, kept_deed_of}
-use Rattle.pt_req.specs.Grammar.{Belongs, Grammar, is_end}
+use Rattle.pt_req.specs.Deed.{Step}
+use Rattle.pt_req.specs.Grammar.{Belongs, is_end}
 use Rattle.pt_req.specs.Job.{owes, is_finished, steps_bound}
 use Rattle.pt_req.specs.Made.{Does}
 use Rattle.pt_req.specs.Pattern.{grammar_of, bound_of}

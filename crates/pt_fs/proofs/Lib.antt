@@ -6,3 +6,4 @@ pub mod Works
 pub mod Going
 pub mod Ended
 pub mod Whole
+pub mod Laws

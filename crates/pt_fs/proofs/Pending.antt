@@ -1,5 +1,5 @@
 -- Each closing that a job is told is paid by a row.
-use Rattle.std.proofs.Common.{◌≡◌, ℕ, ◌+◌, ◌≤◌, refl, arith}
+use Rattle.std.proofs.Common.{◌≡◌, ◌+◌, ◌≤◌, refl, arith}
 use Rattle.pt_session.specs.Change.{Change}
 use Rattle.pt_session.specs.Happens.{Happens}
 use Rattle.pt_session.specs.Pending.{pending_in, put_by, added_by}

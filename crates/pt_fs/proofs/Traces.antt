@@ -1,11 +1,11 @@
-use Rattle.std.proofs.Common.{◌≡◌, ◌≢◌, ℕ, ◌+◌, ◌==◌, List, [], ◌∷◌, ◌++◌, ◌∙◌, refl, ap, suc, true, false, cond, length, append_assoc, append-nil, eq-eqb, arith}
+use Rattle.std.proofs.Common.{◌≡◌, ◌≢◌, ℕ, ◌+◌, ◌==◌, List, [], ◌∷◌, ◌++◌, ◌∙◌, refl, ap, suc, true, false, cond, length, append-nil, eq-eqb, arith}
 use Rattle.std.proofs.lemmas.Bool.{ne_eqb}
 use Rattle.pt_host.specs.declared.seat.HostSeat.{HostSeat}
 use Rattle.pt_session.specs.Tables.{Tables}
 use Rattle.pt_req.specs.Deed.{Step}
 use Rattle.pt_req.specs.Made.{Does}
 use Rattle.pt_fs.specs.Order.{count_of}
-use Rattle.pt_fs.specs.Trace.{Runs, steps_by, step_of, closings_told, told_by}
+use Rattle.pt_fs.specs.Trace.{Runs, steps_by, step_of, closings_told}
 use Rattle.pt_fs.specs.declared.trace.TraceStep.{TraceStep}
 
 -- two traces that meet are one

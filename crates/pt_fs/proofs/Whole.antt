@@ -8,7 +8,7 @@ use Rattle.pt_req.specs.declared.plan.Plan.{Plan}
 use Rattle.pt_fs.specs.Each.{EachStarted, EachAnswered}
 use Rattle.pt_fs.specs.Goes.{Goes}
 use Rattle.pt_fs.specs.Jobs.{job_seat}
-use Rattle.pt_fs.specs.Order.{order, rest_of, owner, count_of, IsInOrder}
+use Rattle.pt_fs.specs.Order.{order, rest_of, IsInOrder}
 use Rattle.pt_fs.specs.Owing.{Owing, run_seat}
 use Rattle.pt_fs.specs.Took.{IsFinishedAt}
 use Rattle.pt_fs.specs.Trace.{Runs, AnswersEach, IsBounded}

@@ -1,5 +1,5 @@
 -- The work that is left falls with each step.
-use Rattle.std.proofs.Common.{◌≡◌, ℕ, zero, suc, ◌+◌, ◌*◌, ◌≤◌, List, [], ◌∷◌, Option, Some, None, refl, ap, length, slice_get, slice_set, arith}
+use Rattle.std.proofs.Common.{◌≡◌, ℕ, zero, suc, ◌+◌, ◌*◌, ◌≤◌, List, [], ◌∷◌, Option, Some, None, ap, slice_get, slice_set, arith}
 use Rattle.std.proofs.lemmas.Option.{same_Some}
 use Rattle.pt_host.specs.declared.seat.HostSeat.{HostSeat}
 use Rattle.pt_session.specs.Pending.{pending_in}
@@ -7,13 +7,11 @@ use Rattle.pt_session.specs.Tables.{Tables}
 use Rattle.pt_req.specs.Deed.{Deed, Changes, Calls}
 use Rattle.pt_req.specs.Job.{steps_bound, inserts_left}
 use Rattle.pt_req.specs.Made.{Does, Made}
-use Rattle.pt_req.specs.Pattern.{bound_of, most_inserted}
 use Rattle.pt_req.specs.declared.act.ActReply.{ActReply}
 use Rattle.pt_req.specs.declared.act.ActReply.TheVariants.{Event, Host, NoCopy}
 use Rattle.pt_req.specs.declared.plan.Plan.{Plan}
 use Rattle.pt_fs.specs.Advances.{inserted_in}
 use Rattle.pt_fs.specs.Each.{EachStarted}
-use Rattle.pt_fs.specs.Jobs.{request_of}
 use Rattle.pt_fs.specs.Trace.{told_by}
 use Rattle.pt_fs.specs.Work.{work, bounds_in, room_of}
 use Rattle.pt_fs.specs.declared.job.Job.{Job}

@@ -8,3 +8,4 @@ pub mod Took
 pub mod Goes
 pub mod Each
 pub mod Work
+pub mod Keeps

@@ -10,6 +10,8 @@ mod run;
 mod running;
 mod schedule;
 mod step;
+#[cfg(test)]
+mod tests;
 mod trace;
 
 pub use fs::SteppedFs;

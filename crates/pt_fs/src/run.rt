@@ -2,7 +2,9 @@ ghost use Rattle.std.specs.Prelude.{◌≤◌, vec_capacity, ◌≡◌, ◌<◌,
 ghost use Rattle.pt_session.specs.Tables.{empty_tables};
 ghost use Rattle.pt_fs.specs.Each.{EachStarted};
 ghost use Rattle.pt_fs.specs.Jobs.{job_seat};
+ghost use Rattle.pt_fs.specs.Keeps.{turns_of, AfterEach, AfterEachTold, LeadsOn, KeepsObjects, KeepsCounts, InsertsOnce, OfEachJob, GivesBack, IsCausedIn, IsNamedIn, NamesOpenOnes, LeavesOpen};
 ghost use Rattle.pt_fs.specs.Order.{IsInOrder};
+ghost use Rattle.pt_law.specs.Laws.{SlotsAddUp, IsAtRest, AreKept};
 ghost use Rattle.pt_fs.specs.Trace.{Runs, AnswersEach, IsBounded};
 ghost use Rattle.pt_fs.specs.Work.{room_of as room};
 
@@ -56,6 +58,35 @@ pub fn drive<H: Host, F: SteppedFs>(
 
     // Each job keeps its bound.
     ensures bounded { IfOk result (λ driven. IsBounded jobs.items driven.trace.items) }
+
+    // Each refusal has its cause, in what was asked or at a step of its job.
+    ensures causes { IfOk result (λ driven. OfEachJob jobs.items driven.answers.items (IsCausedIn driven.trace.items)) }
+
+    // What a job was given and what it held it gave back, but for the number that its answer has.
+    ensures gives_back { IfOk result (λ driven. OfEachJob jobs.items driven.answers.items (GivesBack driven.trace.items)) }
+
+    // After every step a number is live exactly where something was given of it and not taken back, and so much is its count.
+    ensures counts { IfOk result (λ driven. AfterEach (F.tables fs) driven.trace.items KeepsCounts) }
+
+    // No number but the root's is inserted twice.
+    ensures once { IfOk result (λ driven. InsertsOnce driven.trace.items) }
+
+    // After every step slots left, those of rows and closings, and those that jobs carry are the limit; at the end nothing is pinned or carried.
+    ensures slots { IfOk result (λ driven. AfterEach (F.tables fs) driven.trace.items (SlotsAddUp (F.tables fs).limit (length jobs.items))) }
+    ensures at_rest { IfOk result (λ driven. IsAtRest (F.tables fs).limit (length jobs.items) (turns_of driven.trace.items) (F.tables driven.fs)) }
+
+    // Where the host tells its tree: the steps lead that tree to the one told at the end, and after every step live numbers that differ have
+    // objects that differ, and a live row has an open descriptor of its number's object.
+    ensures told { IfOk result (λ driven. LeadsOn (H.tree host.old) (F.tables fs) driven.trace.items (H.tree host.new) (F.tables driven.fs)) }
+    ensures distinct { IfOk result (λ driven. AfterEachTold (H.tree host.old) (F.tables fs) driven.trace.items (λ start so_far now. KeepsObjects now)) }
+
+    // An entry names the object that its name had in the directory that its parent stood for.
+    ensures entries { IfOk result (λ driven. OfEachJob jobs.items driven.answers.items (IsNamedIn (F.plan_of fs) (H.tree host.old) (F.tables fs) driven.trace.items)) }
+
+    // Each call names only open descriptors; each open one stands in one place; at the end those of the rows are left, and those from before.
+    ensures names_open { IfOk result (λ driven. NamesOpenOnes (H.tree host.old) (F.tables fs) driven.trace.items) }
+    ensures descriptors { IfOk result (λ driven. AfterEachTold (H.tree host.old) (F.tables fs) driven.trace.items (λ start so_far now. AreKept start (length jobs.items) so_far now)) }
+    ensures leaves_open { IfOk result (λ driven. LeavesOpen (H.tree host.old) (F.tables fs) driven.trace.items) }
 
     // The configuration stays.
     ensures plan { IfOk result (λ driven. F.plan_of driven.fs ≡ F.plan_of fs) }

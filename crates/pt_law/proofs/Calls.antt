@@ -12,7 +12,7 @@ use Rattle.pt_host.specs.declared.op.KeptHostOp.TheVariants as call
 use Rattle.pt_host.specs.declared.reply.HostReply.{HostReply}
 use Rattle.pt_host.specs.declared.reply.HostReply.TheVariants as host
 use Rattle.pt_host.specs.declared.reply.HostValue.TheVariants as value
-use Rattle.pt_session.specs.Tables.{Row}
+use Rattle.pt_session.specs.declared.row.Row.{Row}
 use Rattle.pt_req.specs.Deed.{Calls}
 use Rattle.pt_req.specs.declared.act.ActReply.TheVariants.{Host}
 use Rattle.pt_req.specs.declared.hold.Hold.{Hold}

@@ -1,11 +1,9 @@
 -- A run cut at steps of one job.
-use Rattle.std.proofs.Common.{◌≡◌, ◌≢◌, ◌⊎◌, ⊎_elim, inl, inr, ℕ, zero, suc, ◌+◌, ◌<◌, List, [], ◌∷◌, ◌++◌, Bool, true, false, refl, sym, ap, ap₂, subst, ◌∙◌, arith, Option, Some, None}
+use Rattle.std.proofs.Common.{◌≡◌, ◌≢◌, ⊎_elim, ℕ, List, [], ◌∷◌, ◌++◌, refl, sym, ap, ap₂, subst, ◌∙◌, arith}
 use Rattle.std.proofs.lemmas.Bool.{cases_eq}
-use Rattle.pt_host.specs.Words.{Each}
 use Rattle.pt_req.specs.Deed.{Step}
 use Rattle.pt_law.specs.World.{World, Turn, Goes, Runs, steps_of}
 use Rattle.pt_law.specs.Entered.{turn_of}
-use Rattle.pt_law.proofs.Interleaving.{steps_append}
 
 -- where a step of a job stands in a run
 abbrev pub Located : ℕ → List Turn → List Step → Step → List Step → Type 0
@@ -17,24 +15,30 @@ steps_at j s ss e = grind arith
 pub steps_past : (j : ℕ) (s : Turn) (ss : List Turn) → s.job ≢ j → steps_of j (s ∷ ss) ≡ steps_of j ss
 steps_past j s ss e = grind arith
 
+same_turn : (s : Turn) (j : ℕ) (step : Step) → s.job ≡ j → s.step ≡ step → s ≡ turn_of j step
+same_turn s j step e f = λ i. record { job = e i; step = f i }
+
+heads : (a b : Step) (one two : List Step) → a ∷ one ≡ b ∷ two → (a ≡ b) × (one ≡ two)
+heads a b one two e = (cc, cc)
+
+-- the step is the first of those that are left, or stands behind it
+located_first : (j : ℕ) (s : Turn) (ss : List Turn) (step : Step) (two : List Step) → s.job ≡ j → (s.step ≡ step) × (steps_of j ss ≡ two) → Located j (s ∷ ss) [] step two
+located_first j s ss step two k h = ([], ss, ap (λ z. z ∷ ss) (same_turn s j step k h.0), refl, h.1)
+
+located_later : (j : ℕ) (s : Turn) (ss : List Turn) (first : Step) (one : List Step) (step : Step) (two : List Step) → s.job ≡ j → s.step ≡ first → Located j ss one step two → Located j (s ∷ ss) (first ∷ one) step two
+located_later j s ss first one step two k h l = (s ∷ l.0, l.1, ap (λ z. s ∷ z) l.2, steps_at j s l.0 k ∙ ap₂ (λ y z. y ∷ z) h l.3, l.4)
+
 pub located : (j : ℕ) (turns : List Turn) (one : List Step) (step : Step) (two : List Step) → steps_of j turns ≡ one ++ step ∷ two → Located j turns one step two
 located j [] [] step two e = absurd (cc)
 located j [] (b ∷ one) step two e = absurd (cc)
 located j (s ∷ ss) one step two e = ⊎_elim (mine one e (λ o. located j ss o step two)) (other (located j ss one step two)) (cases_eq s.job j)
   where
     mine : (one : List Step) → steps_of j (s ∷ ss) ≡ one ++ step ∷ two → ((o : List Step) → steps_of j ss ≡ o ++ step ∷ two → Located j ss o step two) → s.job ≡ j → Located j (s ∷ ss) one step two
-    mine [] e r k =
-        let x = steps_at j s ss k in
-        let first : s.step ≡ step = cc in
-        let rest : steps_of j ss ≡ two = cc in
-        let same : s ≡ turn_of j step = λ i. record { job = k i; step = first i } in
-        ([], ss, ap (λ z. z ∷ ss) same, refl, rest)
+    mine [] e r k = located_first j s ss step two k (heads s.step step (steps_of j ss) two (sym (steps_at j s ss k) ∙ e))
     mine (b ∷ one) e r k =
-        let x = steps_at j s ss k in
-        let first : s.step ≡ b = cc in
-        let rest : steps_of j ss ≡ one ++ step ∷ two = cc in
-        let l = r one rest in
-        (s ∷ l.0, l.1, ap (λ z. s ∷ z) l.2, steps_at j s l.0 k ∙ ap₂ (λ y z. y ∷ z) first l.3, l.4)
+        let h = heads s.step b (steps_of j ss) (one ++ step ∷ two) (sym (steps_at j s ss k) ∙ e) in
+        located_later j s ss b one step two k h.0 (r one h.1)
+
     other : (steps_of j ss ≡ one ++ step ∷ two → Located j ss one step two) → s.job ≢ j → Located j (s ∷ ss) one step two
     other r k = let l = r (sym (steps_past j s ss k) ∙ e) in (s ∷ l.0, l.1, ap (λ z. s ∷ z) l.2, steps_past j s l.0 k ∙ l.3, l.4)
 

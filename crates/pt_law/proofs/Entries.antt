@@ -1,16 +1,16 @@
 -- An entry names what its name led to.
-use Rattle.std.proofs.Common.{◌≡◌, ◌≢◌, ◌⊎◌, ⊎_elim, inl, inr, ℕ, zero, suc, ◌+◌, ◌<◌, ◌≤◌, List, [], ◌∷◌, ◌++◌, Bool, true, false, refl, sym, ap, ap₂, subst, ◌∙◌, arith, Option, Some, None, append_assoc}
+use Rattle.std.proofs.Common.{◌≡◌, ◌≢◌, ◌⊎◌, ⊎_elim, inl, inr, ℕ, ◌<◌, List, [], ◌∷◌, ◌++◌, refl, sym, ap, ap₂, subst, ◌∙◌, arith, Option, Some, None, append_assoc}
 use Rattle.std.proofs.lemmas.Bool.{cases_eq}
-use Rattle.pt_host.specs.Words.{Each, Takes, set_at}
+use Rattle.pt_host.specs.Words.{Each, Takes}
 use Rattle.pt_host.specs.Flags.{includes, o_path}
-use Rattle.pt_host.specs.Tree.{Tree, Opened, Object, IsObject, IsOpenOn, IsWellFormed}
+use Rattle.pt_host.specs.Tree.{Tree, Object, IsObject, IsWellFormed}
 use Rattle.pt_host.specs.declared.ids.Fd.{Fd}
 use Rattle.pt_host.specs.declared.ids.ObjIds.{ObjIds}
 use Rattle.pt_host.specs.declared.flags.OpenFlags.{OpenFlags}
 use Rattle.pt_host.specs.declared.op.KeptHostOp.TheVariants as call
 use Rattle.pt_host.specs.declared.reply.HostReply.TheVariants as host
 use Rattle.pt_host.specs.declared.reply.HostValue.TheVariants as value
-use Rattle.pt_session.specs.Tables.{Row, Tables, Agree, HasIds, IsSoundRow}
+use Rattle.pt_session.specs.Tables.{Tables, Agree, IsSoundRow}
 use Rattle.pt_session.specs.Happens.{GivesAgain}
 use Rattle.pt_session.specs.declared.form.RowForm.{RowForm}
 use Rattle.pt_session.specs.declared.form.RowForm.TheVariants.{File}
@@ -25,24 +25,23 @@ use Rattle.pt_req.specs.Held.{fd_of}
 use Rattle.pt_req.specs.Pattern.{grammar_of}
 use Rattle.pt_req.specs.Requests.{path}
 use Rattle.pt_req.specs.declared.act.ActReply.{ActReply}
-use Rattle.pt_req.specs.declared.act.ActReply.TheVariants.{Event, Host, NoCopy}
+use Rattle.pt_req.specs.declared.act.ActReply.TheVariants.{Event, Host}
 use Rattle.pt_req.specs.declared.finish.Finish.TheVariants as finish
 use Rattle.pt_req.specs.declared.hold.Hold.{Hold}
 use Rattle.pt_req.specs.declared.hold.Hold.TheVariants as hold
 use Rattle.pt_req.specs.declared.plan.Plan.{Plan}
 use Rattle.pt_law.specs.Discipline.{Job, idle, IsTold, Moves, MovesIf, Disciplined}
-use Rattle.pt_law.specs.World.{World, Past, Turn, Goes, Runs, steps_of, settled_if, object_of}
-use Rattle.pt_law.specs.Ledger.{open_count, inserted}
+use Rattle.pt_law.specs.World.{World, Past, Turn, Goes, IsLawful, Runs, steps_of, settled_if, object_of}
 use Rattle.pt_law.specs.Laws.{AreDisciplined, Starts, ObjectOf}
 use Rattle.pt_law.specs.Opened.{made, inserting, InsertionGives, IsLookedUp}
 use Rattle.pt_law.specs.Entered.{GivesBy, turn_of, IsEntered}
 use Rattle.pt_law.proofs.Lists.{each_replaced, set_at_same, set_at_other}
 use Rattle.pt_law.proofs.Givings.{agree_step}
-use Rattle.pt_law.proofs.Knowing.{Shows, RowOpen, Knowing, one_object}
+use Rattle.pt_law.proofs.Knowing.{RowOpen, Knowing, one_object}
 use Rattle.pt_law.proofs.Events.{told_noted}
 use Rattle.pt_law.proofs.Steps.{Inv, turned}
 use Rattle.pt_law.proofs.Interleaving.{steps_append, disciplined_split}
-use Rattle.pt_law.proofs.Laws.{Between, reach, step_stays}
+use Rattle.pt_law.proofs.Laws.{reach, step_stays}
 use Rattle.pt_law.proofs.Pinned.{pinned_open}
 use Rattle.pt_law.proofs.Cuts.{Cut, cut, runs_append, steps_at, steps_past}
 use Rattle.pt_law.proofs.Straight.{entry_steps}
@@ -53,14 +52,13 @@ settled_objects past j None told next tree row l = refl
 settled_objects past j (Some (Changes (change.Insert era number form ids mode))) (Event (event.Inserted given)) next tree row l = set_at_other past.objects next (past.latest j) row (λ e. absurd (omega (arith, e, l)))
 settled_objects past j (Some (Changes (change.InsertRoot era form ids mode agreed))) (Event (event.Inserted given)) next tree row l = set_at_other past.objects next (past.roots j) row (λ e. absurd (omega (arith, e, l)))
 settled_objects past j (Some (Calls (call.OpenAt dir name flags mode))) (Host (host.Ok (value.Fd fd))) next tree row l = refl
-settled_objects past j (Some (Calls (call.OpenRoot path flags))) (Host (host.Ok (value.Fd fd))) next tree row l = refl
+settled_objects past j (Some (Calls (call.OpenRoot place flags))) (Host (host.Ok (value.Fd fd))) next tree row l = refl
 settled_objects past j (Some _) _ next tree row l = refl
 
 objects_step : (w : World) (s : Turn) (next : World) (row : ℕ) → Agree w.tables → Goes w s next → row < w.tables.next_row → (next.past.objects row ≡ w.past.objects row) × (row < next.tables.next_row) × Agree next.tables
 objects_step w s next row a g l =
-    let t = turned w.tree next.tree g.seat g.seat_after w.tables next.tables s.step.deed s.step.reply g.made in
-    let later = (step_stays w.tables s.step.deed s.step.reply next.tables a t).rows in
-    (
+    let t = turned IsLawful s.step.deed s.step.reply w.tree g.seat w.tables next.tree g.seat_after next.tables g.made in
+    let later = (step_stays w.tables s.step.deed s.step.reply next.tables a t).rows in (
       ap (λ (p : Past). p.objects row) g.past ∙ settled_objects w.past s.job s.step.deed s.step.reply w.tables.next_row next.tree row l,
       omega (arith, l, later),
       agree_step w.tables s.step.deed s.step.reply next.tables t a,
@@ -80,7 +78,7 @@ settled_latest past j i (Some (Calls (call.OpenAt dir name flags mode))) (Host (
 settled_latest past j i (Some (Calls (call.OpenAt dir name flags mode))) (Host (host.Ok (value.Fd fd))) next tree (inr q) = absurd q
 settled_latest past j i (Some (Changes (change.Insert era number form ids mode))) (Event (event.Inserted given)) next tree q = refl
 settled_latest past j i (Some (Changes (change.InsertRoot era form ids mode agreed))) (Event (event.Inserted given)) next tree q = refl
-settled_latest past j i (Some (Calls (call.OpenRoot path flags))) (Host (host.Ok (value.Fd fd))) next tree q = refl
+settled_latest past j i (Some (Calls (call.OpenRoot place flags))) (Host (host.Ok (value.Fd fd))) next tree q = refl
 settled_latest past j i None told next tree q = refl
 settled_latest past j i (Some _) _ next tree q = refl
 
@@ -94,6 +92,7 @@ latest_stays j (s ∷ ss) w last r q = ⊎_elim (mine (latest_stays j ss r.0 las
   where
     mine : (Each (λ (step : Step). OpensNone step.deed) (steps_of j ss) → last.past.latest j ≡ r.0.past.latest j) → s.job ≡ j → last.past.latest j ≡ w.past.latest j
     mine ih e = let k = rw (steps_at j s ss e) at q in ih k.1 ∙ latest_step w j s r.0 r.1 (inr k.0)
+
     other : (Each (λ (step : Step). OpensNone step.deed) (steps_of j ss) → last.past.latest j ≡ r.0.past.latest j) → s.job ≢ j → last.past.latest j ≡ w.past.latest j
     other ih e = ih (rw (steps_past j s ss e) at q) ∙ latest_step w j s r.0 r.1 (inl e)
 
@@ -120,21 +119,21 @@ gives_latest bound base had w js s next after number ids lt v g m b = go s.step.
   where
     k : Knowing w.tree w.tables.next_row w.past s.job (js s.job)
     k = v.right.knows s.job lt
+
     go : (deed : Option Deed) (told : ActReply) → MovesIf (js s.job) deed told after → GivesBy number ids deed told → Goes w (record { job = s.job; step = record { deed = deed; reply = told } }) next → StandsFor w next s.job number ids
     go (Some (Changes (change.Claim era handle asked))) (Event (event.Claimed given)) m b g =
         let fit = m.1 in
         let h = g.made.0 in
         moved_on w next s.job number ids g.made.1 g.past (again w s.job (js s.job) fit.0 ids number next.tables v.well k v.right.shown fit.2
-            (subst (IsTold (js s.job).holds fit.0) b.1 fit.3) (subst (λ i. GivesAgain w.tables i number next.tables) b.1 (subst (λ n. GivesAgain w.tables asked n next.tables) b.0 h.1)))
+        (subst (IsTold (js s.job).holds fit.0) b.1 fit.3) (subst (λ i. GivesAgain w.tables i number next.tables) b.1 (subst (λ n. GivesAgain w.tables asked n next.tables) b.0 h.1)))
     go (Some (Changes (change.Insert era drawn form asked mode))) (Event (event.Found given)) m b g =
         let fit = m.1 in
         let h = g.made.0 in
         moved_on w next s.job number ids g.made.1 g.past (again w s.job (js s.job) (fd_of form) ids number next.tables v.well k v.right.shown fit.1
-            (subst (IsTold (js s.job).holds (fd_of form)) b.1 fit.3) (subst (λ i. GivesAgain w.tables i number next.tables) b.1 (subst (λ n. GivesAgain w.tables asked n next.tables) b.0 h.1)))
+        (subst (IsTold (js s.job).holds (fd_of form)) b.1 fit.3) (subst (λ i. GivesAgain w.tables i number next.tables) b.1 (subst (λ n. GivesAgain w.tables asked n next.tables) b.0 h.1)))
     go (Some (Changes (change.Insert era drawn form asked mode))) (Event (event.Inserted given)) m b g =
         let fit = m.1 in
-        let a = told_noted w.tree (fd_of form) asked (w.past.latest s.job) (js s.job).holds k.told fit.3 (k.latest (fd_of form) fit.1) in
-        (
+        let a = told_noted w.tree (fd_of form) asked (w.past.latest s.job) (js s.job).holds k.told fit.3 (k.latest (fd_of form) fit.1) in (
           a.0,
           subst (λ n. next.past.numbers n ≡ Some a.0) b.0 (ap (λ (z : Past). z.numbers given) g.past ∙ set_at_same w.past.numbers given (w.past.latest s.job) ∙ a.2),
           a.2,
@@ -178,6 +177,29 @@ open_at bound base had w js j row mode dir name flags new next directory lt v t 
     let now : object_of (next.tree.opened new.0) ≡ Some l.0 = ap (λ (z : Tree). object_of (z.opened new.0)) l.3.adds ∙ ap object_of (set_at_same w.tree.opened new.0 (Some (record { object = l.0; path_only = includes flags.0 o_path }))) in
     (l.0, ap (λ z. w.tree.names z name) (sym here) ∙ leads.2, ap (λ (z : Past). z.latest j) g.past ∙ set_at_same w.past.latest j (object_of (next.tree.opened new.0)) ∙ now)
 
+-- what the job did up to its step
+own_to : (j : ℕ) (before between : List Turn) (step : Step) (first : List Step) → steps_of j before ≡ first → steps_of j between ≡ [] → steps_of j (before ++ turn_of j step ∷ between) ≡ first ++ step ∷ []
+own_to j before between step first e f = steps_append j before (turn_of j step ∷ between) ∙ ap₂ (λ x y. x ++ y) e (steps_at j (turn_of j step) between refl ∙ ap (λ z. step ∷ z) f)
+
+-- what is settled of a row stays
+row_stays : (w : World) (s : Turn) (next : World) (turns : List Turn) (last : World) (row object : ℕ) → Agree w.tables → Goes w s next → Runs next turns last → row < w.tables.next_row →
+    w.past.objects row ≡ Some object → last.past.objects row ≡ Some object
+row_stays w s next turns last row object a g r l e = let k = objects_step w s next row a g l in objects_stay turns next last row k.2 r k.1 ∙ k.0 ∙ e
+
+-- the number stands for this object, which has these ids
+abbrev Names : World → ℕ → ObjIds → ℕ → Type 0
+Names next number ids object = (next.past.numbers number ≡ Some object) × (what : Object) × IsObject next.tree object what × (what.ids ≡ ids)
+
+names_opened : (w next : World) (j number : ℕ) (ids : ObjIds) (was : Option ℕ) (object : ℕ) → StandsFor w next j number ids → w.past.latest j ≡ was → was ≡ Some object → Names next number ids object
+names_opened w next j number ids was object s e f = subst (Names next number ids) (same s.0 s.2) (s.1, s.3, s.4, s.5)
+  where
+    same : (o : ℕ) → w.past.latest j ≡ Some o → o ≡ object
+    same o l = cc
+
+-- the same run, cut behind the steps between
+regroup : (turns before between rest : List Turn) (a : Turn) → turns ≡ before ++ a ∷ (between ++ rest) → turns ≡ (before ++ a ∷ between) ++ rest
+regroup turns before between rest a e = e ∙ sym (append_assoc before (a ∷ between) rest)
+
 -- what the run says of the three steps
 record Facts (start end : World) (turns : List Turn) (j parent : ℕ) (name : List ℕ) (number : ℕ) (ids : ObjIds) (a b c : Step) : Type 0 where
   before : List Turn
@@ -214,20 +236,19 @@ facts limit bound turns start end j parent row mode how form its ids name flags 
     let directory = resolve_at bound _ _ c.w0 v0.0 j parent row mode form its c.w1 v0.1 c.g0 in
     let front1 : List Turn = c.before ++ (turn_of j a ∷ c.between) in
     let run1 : Runs start front1 c.w2 = runs_append c.before (turn_of j a ∷ c.between) start c.w0 c.w2 c.r0 (c.w1, c.g0, c.r1) in
-    let cut1 : turns ≡ front1 ++ end1 = c.in_turn ∙ sym (append_assoc c.before (turn_of j a ∷ c.between) end1) in
+    let cut1 : turns ≡ front1 ++ end1 = regroup turns c.before c.between end1 (turn_of j a) c.in_turn in
     let v1 = reach limit bound front1 end1 start c.w2 s (subst (AreDisciplined bound) cut1 d) run1 in
-    let own1 : steps_of j front1 ≡ first ++ a ∷ [] = steps_append j c.before (turn_of j a ∷ c.between) ∙ ap₂ (λ x y. x ++ y) c.own0 (steps_at j (turn_of j a) c.between refl ∙ ap (λ z. a ∷ z) c.own1) in
+    let own1 = own_to j c.before c.between a first c.own0 c.own1 in
     let pinned = last_move first a idle (v1.0 j) (subst (λ z. Disciplined idle z (v1.0 j)) own1 (v1.2 j lt).0) in
-    let s1 = objects_step c.w0 (turn_of j a) c.w1 row v0.1.tabled.agree c.g0 directory.3 in
-    let kept : c.w2.past.objects row ≡ Some directory.0 = objects_stay c.between c.w1 c.w2 row s1.2 c.r1 s1.1 ∙ s1.0 ∙ directory.2 in
+    let kept = row_stays c.w0 (turn_of j a) c.w1 c.between c.w2 row directory.0 v0.1.tabled.agree c.g0 c.r1 directory.3 directory.2 in
     let o = open_at bound _ _ c.w2 v1.0 j row how (fd_of form) name flags new c.w3 directory.0 lt v1.1 pinned.1.0 kept c.g1 in
     let front2 : List Turn = front1 ++ (turn_of j b ∷ c.later) in
     let run2 : Runs start front2 c.w4 = runs_append front1 (turn_of j b ∷ c.later) start c.w2 c.w4 run1 (c.w3, c.g1, c.r2) in
-    let v2 = reach limit bound front2 end2 start c.w4 s (subst (AreDisciplined bound) (cut1 ∙ sym (append_assoc front1 (turn_of j b ∷ c.later) end2)) d) run2 in
+    let v2 = reach limit bound front2 end2 start c.w4 s (subst (AreDisciplined bound) (regroup turns front1 c.later end2 (turn_of j b) cut1) d) run2 in
     let move = own_next j give c.behind (v2.0 j) (v2.2 j lt).1 (v2.2 j lt).2 in
     let last = gives_latest bound _ _ c.w4 v2.0 (turn_of j give) c.w5 move.0 number ids lt v2.1 c.g2 move.1 gave in
     let still = latest_stays j c.later c.w3 c.w4 c.r2 (subst (Each (λ (step : Step). OpensNone step.deed)) (sym c.own2) quiet) in
-    let same : last.0 ≡ o.0 = (let x = last.2 in let y = still ∙ o.2 in cc) in
+    let names = names_opened c.w4 c.w5 j number ids (c.w3.past.latest j) o.0 last still o.2 in
     record {
       before = c.before;
       between = c.between;
@@ -245,10 +266,10 @@ facts limit bound turns start end j parent row mode how form its ids name flags 
       object = o.0;
       parent_is = directory.1;
       name_is = o.1;
-      number_is = last.1 ∙ ap Some same;
-      what = last.3;
-      is_object = subst (λ z. IsObject c.w5.tree z last.3) same last.4;
-      same_ids = last.5;
+      number_is = names.0;
+      what = names.1;
+      is_object = names.2;
+      same_ids = names.3;
     }
 
 -- the steps of an entry behind its opening: the last one gives the number, and none before it opens a name
@@ -264,6 +285,7 @@ giving_of plan parent name entry own l = ⊎_elim claimed others l.numbered
   where
     stat : Step
     stat = made (Calls (call.Stat l.fd)) (Host (host.Ok (value.Stat l.stat)))
+
     claimed : l.giving ≡ made (Changes (change.Claim l.era None l.stat.ids)) (Event (event.Claimed entry.inode)) ∷ [] → Giving entry.inode l.stat.ids (stat ∷ l.giving)
     claimed e = record {
       middle = made (Calls (call.Stat l.fd)) (Host (host.Ok (value.Stat l.stat))) ∷ [];
@@ -272,9 +294,11 @@ giving_of plan parent name entry own l = ⊎_elim claimed others l.numbered
       gives = (refl, refl);
       are = ap (λ z. stat ∷ z) e;
     }
+
     given : (fresh : ℕ) (told : ActReply) → InsertionGives entry.inode told → GivesBy entry.inode l.stat.ids (Some (Changes (change.Insert l.era fresh (File l.fd) l.stat.ids l.stat.mode))) told
     given fresh told (inl e) = subst (λ t. GivesBy entry.inode l.stat.ids (Some (Changes (change.Insert l.era fresh (File l.fd) l.stat.ids l.stat.mode))) t) (sym e) (refl, refl)
     given fresh told (inr e) = subst (λ t. GivesBy entry.inode l.stat.ids (Some (Changes (change.Insert l.era fresh (File l.fd) l.stat.ids l.stat.mode))) t) (sym e) (refl, refl)
+
     others : (fresh : ℕ) × (told : ActReply) × InsertionGives entry.inode told × (l.giving ≡ inserting l.era l.fd l.stat fresh told) → Giving entry.inode l.stat.ids (stat ∷ l.giving)
     others h = record {
       middle = made (Calls (call.Stat l.fd)) (Host (host.Ok (value.Stat l.stat))) ∷ made (Changes (change.Claim l.era None l.stat.ids)) (Event event.Absent) ∷ made (Changes change.TakeFd) (Event event.Taken)
@@ -295,7 +319,7 @@ entered_law limit bound plan turns start end j parent name entry s d r lt b =
     let a = resolving parent l.row l.form l.ids l.mode in
     let o = opening_at (fd_of l.form) name path 0 l.fd in
     let all : steps_of j turns ≡ (begin ∷ []) ++ a ∷ (o ∷ (g.middle ++ g.give ∷ e.1)) =
-        e.2 ∙ ap (λ z. z ++ e.1) (l.in_turn ∙ ap (λ z. begin ∷ a ∷ o ∷ z) g.are) ∙ ap (λ z. begin ∷ a ∷ o ∷ z) (append_assoc g.middle (g.give ∷ []) e.1) in
+    e.2 ∙ ap (λ z. z ++ e.1) (l.in_turn ∙ ap (λ z. begin ∷ a ∷ o ∷ z) g.are) ∙ ap (λ z. begin ∷ a ∷ o ∷ z) (append_assoc g.middle (g.give ∷ []) e.1) in
     let f = facts limit bound turns start end j parent l.row l.mode 0 l.form l.ids l.stat.ids name path l.fd entry.inode (begin ∷ []) g.give g.middle s d lt g.gives g.quiet (cut start end turns j (begin ∷ []) a o g.give g.middle e.1 r all) in
     record {
       own = e.0;

@@ -1,6 +1,5 @@
 -- The era stays that of the start, so no job is overtaken.
-use Rattle.std.proofs.Common.{◌≡◌, ◌≢◌, ℕ, ◌<◌, List, [], ◌∷◌, Bool, true, false, refl, sym, ap, subst, ◌∙◌, Option, Some, None}
-use Rattle.std.proofs.lemmas.Bool.{cases_eq}
+use Rattle.std.proofs.Common.{◌≡◌, ℕ, ◌<◌, List, Bool, true, false, refl, sym, ap, ◌∙◌, Option, Some, None}
 use Rattle.pt_host.specs.Words.{Each, set_at}
 use Rattle.pt_host.specs.Call.{Call}
 use Rattle.pt_host.specs.declared.ids.Fd.{Fd}
@@ -17,11 +16,11 @@ use Rattle.pt_session.specs.declared.reply.EventReply.{EventReply}
 use Rattle.pt_session.specs.declared.reply.EventReply.TheVariants as event
 use Rattle.pt_req.specs.Deed.{Deed, Calls, Changes}
 use Rattle.pt_req.specs.declared.act.ActReply.{ActReply}
-use Rattle.pt_req.specs.declared.act.ActReply.TheVariants.{Event, Host, NoCopy}
+use Rattle.pt_req.specs.declared.act.ActReply.TheVariants.{Event, Host}
 use Rattle.pt_req.specs.declared.hold.Hold.{Hold}
 use Rattle.pt_req.specs.declared.hold.Hold.TheVariants as hold
 use Rattle.pt_law.specs.Discipline.{Job, Notes, notes_after, with_root, Shifts, MovesBy}
-use Rattle.pt_law.specs.World.{Turns}
+use Rattle.pt_law.specs.World.{TablesGo}
 use Rattle.pt_law.proofs.Flows.{called}
 use Rattle.pt_law.proofs.Lists.{at_each, each_taken, each_takes, each_put, each_replaces}
 use Rattle.pt_law.proofs.Effects.{stays}
@@ -42,7 +41,7 @@ same_era notes own true fd = refl
 same_era notes own false fd = refl
 
 -- a job notes the era that it began in
-era_after : (notes : Notes) (t : Tables) (deed : Deed) (told : ActReply) (t' : Tables) → Turns t (Some deed) told t' → ((own : ℕ) → notes.era ≡ Some own → own ≡ t.era) → (own : ℕ) → (notes_after notes deed told).era ≡ Some own → own ≡ t.era
+era_after : (notes : Notes) (t : Tables) (deed : Deed) (told : ActReply) (t' : Tables) → TablesGo t (Some deed) told t' → ((own : ℕ) → notes.era ≡ Some own → own ≡ t.era) → (own : ℕ) → (notes_after notes deed told).era ≡ Some own → own ≡ t.era
 era_after notes t (Changes change.Begin) (Event (event.Began era agreed)) t' g h own e = let k : era ≡ own = cc in sym k ∙ g.0
 era_after notes t (Calls (call.OpenRoot path flags)) (Host (host.Ok (value.Fd fd))) t' g h own e = h own (sym (same_era notes own notes.rooted fd) ∙ e)
 era_after notes t (Calls (call.OpenAt dir name flags mode)) (Host (host.Ok (value.Fd fd))) t' g h own e = h own e
@@ -67,7 +66,7 @@ own_era job era (change.Claim same handle ids) r after m d own e = e ∙ d.noted
 own_era job era (change.Insert same number form ids mode) r after m d own e = e ∙ d.noted same m.1.0
 own_era job era _ r after m d own e = absurd e
 
-dated_by : (job : Job) (t : Tables) (deed : Deed) (told : ActReply) (t' : Tables) (after : Job) → Turns t (Some deed) told t' → MovesBy job deed told after → Dated t.era job → Dated t.era after
+dated_by : (job : Job) (t : Tables) (deed : Deed) (told : ActReply) (t' : Tables) (after : Job) → TablesGo t (Some deed) told t' → MovesBy job deed told after → Dated t.era job → Dated t.era after
 dated_by job t (Calls a) told t' after g m d = record {
   noted = λ own e. era_after job.notes t (Calls a) told t' g d.noted own (sym (ap (λ (n : Notes). n.era) m.3) ∙ e);
   counts = holds_call (CountOf t.era) job.holds a told after.holds m.0 (λ fd ids. tt) d.counts;
@@ -78,12 +77,12 @@ dated_by job t (Changes e) (Event r) t' after g m d = record {
 }
 dated_by job t (Changes e) told t' after g m d = absurd g
 
-era_of : (t : Tables) (deed : Deed) (told : ActReply) (t' : Tables) → Agree t → Turns t (Some deed) told t' → t'.era ≡ t.era
+era_of : (t : Tables) (deed : Deed) (told : ActReply) (t' : Tables) → Agree t → TablesGo t (Some deed) told t' → t'.era ≡ t.era
 era_of t (Calls a) told t' agree g = ap (λ (z : Tables). z.era) (called t a told t' g)
 era_of t (Changes e) (Event r) t' agree g = (stays t e r t' agree g).era
 era_of t (Changes e) told t' agree g = absurd g
 
-pub keeps_eras : (bound : ℕ) (t : Tables) (js : ℕ → Job) (j : ℕ) (deed : Deed) (told : ActReply) (t' : Tables) (after : Job) → j < bound → Agree t → ((i : ℕ) → i < bound → Dated t.era (js i)) → Turns t (Some deed) told t' →
+pub keeps_eras : (bound : ℕ) (t : Tables) (js : ℕ → Job) (j : ℕ) (deed : Deed) (told : ActReply) (t' : Tables) (after : Job) → j < bound → Agree t → ((i : ℕ) → i < bound → Dated t.era (js i)) → TablesGo t (Some deed) told t' →
     MovesBy (js j) deed told after → (i : ℕ) → i < bound → Dated t'.era (set_at j after js i)
 keeps_eras bound t js j deed told t' after lt agree d g m i less = rw (era_of t deed told t' agree g) (at_each (λ i. Dated t.era) js j after i (dated_by (js j) t deed told t' after g m (d j lt)) (λ _. d i less))
 

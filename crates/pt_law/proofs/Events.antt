@@ -5,7 +5,8 @@ use Rattle.pt_host.specs.Tree.{Tree}
 use Rattle.pt_host.specs.declared.ids.Fd.{Fd}
 use Rattle.pt_host.specs.declared.ids.ObjIds.{ObjIds}
 use Rattle.pt_session.specs.Change.{Change}
-use Rattle.pt_session.specs.Tables.{Row, Tables, HasNumber, IsSoundRow, Agree}
+use Rattle.pt_session.specs.Tables.{Tables, HasNumber, IsSoundRow, Agree}
+use Rattle.pt_session.specs.declared.row.Row.{Row}
 use Rattle.pt_session.specs.Happens.{Happens, IsFree, new_row, with_row, agreed}
 use Rattle.pt_session.specs.declared.form.RowForm.{RowForm}
 use Rattle.pt_session.specs.declared.form.Negotiated.{Negotiated}

@@ -5,7 +5,7 @@ use Rattle.pt_host.specs.Words.{Each, set_at}
 use Rattle.pt_session.specs.Tables.{Tables}
 use Rattle.pt_req.specs.Deed.{Step}
 use Rattle.pt_law.specs.Discipline.{Job, Disciplined}
-use Rattle.pt_law.specs.World.{Turn, World, Runs, TablesRun, steps_of}
+use Rattle.pt_law.specs.World.{Turn, World, IsLawful, Runs, TablesRun, steps_of}
 use Rattle.pt_law.specs.Ledger.{inserted, inserted_if}
 use Rattle.pt_law.proofs.Lists.{set_at_same, set_at_other}
 use Rattle.pt_law.proofs.Steps.{Tabled, Inv, HasFlows, recount, keeps, keeps_tabled, has_flows, turned}
@@ -88,4 +88,8 @@ pub tables_run : (turns : List Turn) (w last : World) → Runs w turns last → 
 tables_run [] w last r = ap (λ (z : World). z.tables) r
 tables_run (s ∷ ss) w last r =
     let g = r.1 in
-    (r.0.tables, turned w.tree r.0.tree g.seat g.seat_after w.tables r.0.tables s.step.deed s.step.reply g.made, tables_run ss r.0 last r.2)
+    (r.0.tables, turned IsLawful s.step.deed s.step.reply w.tree g.seat w.tables r.0.tree g.seat_after r.0.tables g.made, tables_run ss r.0 last r.2)
+
+pub tables_split : (turns more : List Turn) (t last : Tables) → TablesRun t (turns ++ more) last → (mid : Tables) × TablesRun t turns mid × TablesRun mid more last
+tables_split [] more t last r = (t, refl, r)
+tables_split (s ∷ turns) more t last r = let k = tables_split turns more r.0 last r.2 in (k.0, (r.0, r.1, k.1), k.2)

@@ -3,7 +3,8 @@ use Rattle.std.proofs.Common.{◌≡◌, ◌≢◌, ⊎_elim, ℕ, ◌+◌, ◌*
 use Rattle.std.proofs.lemmas.Bool.{cases_eq, cases_Bool}
 use Rattle.pt_host.specs.Words.{is, total, Each, Takes, Takes.{here, there}, sum_to}
 use Rattle.pt_host.specs.Tree.{Tree, IsWellFormed}
-use Rattle.pt_session.specs.Tables.{Row, Tables, Agree, AreApart, IsSoundRow, HasNumber, empty_tables}
+use Rattle.pt_session.specs.Tables.{Tables, Agree, AreApart, IsSoundRow, HasNumber, empty_tables}
+use Rattle.pt_session.specs.declared.row.Row.{Row}
 use Rattle.pt_session.specs.Happens.{IsRow}
 use Rattle.pt_req.specs.Deed.{Deed, Calls, Changes, Step}
 use Rattle.pt_req.specs.Held.{fd_of}
@@ -13,8 +14,8 @@ use Rattle.pt_iface.specs.declared.answer.Answer.TheVariants as answer
 use Rattle.pt_req.specs.declared.hold.Hold.{Hold}
 use Rattle.pt_req.specs.declared.hold.Hold.TheVariants as hold
 use Rattle.pt_law.specs.Discipline.{Job, idle, at_job, Moves, Disciplined, entry_holds}
-use Rattle.pt_law.specs.World.{World, Turn, Turns, Runs, TablesRun, steps_of, no_past}
-use Rattle.pt_law.specs.Ledger.{closing_slot, slot_taken, slot_given_by, carried, closing_fd, fd_held, held_by, open_count, given, inserted}
+use Rattle.pt_law.specs.World.{World, Turn, TablesGo, Runs, TablesRun, steps_of, no_past}
+use Rattle.pt_law.specs.Ledger.{closing_slot, slot_taken, slot_given_by, slots_taken, slots_given, carried, closing_fd, fd_held, held_by, open_count, given, inserted}
 use Rattle.pt_law.specs.Laws.{AreDisciplined, AreEnded, Starts, AreDistinct, HasObject, IsCounted, SlotsAddUp, AreKept, IsAtRest, LeavesRows}
 use Rattle.pt_req.specs.declared.act.ActReply.{ActReply}
 use Rattle.pt_req.specs.declared.act.ActReply.TheVariants.{Event}
@@ -84,7 +85,7 @@ reach limit bound turns more start now s a r =
     let v = runs_keep bound (λ fd. open_count fd start.tree) (λ n. 0) turns start now (λ j. idle) ends.0 r (each_front (λ s. s.job < bound) turns more a.owners) (begins limit bound start s) (λ j l. (ends.1 j l).0) in
     (v.0, v.1, (λ j l. subst (Between (steps_of j turns) (steps_of j more)) (sym (v.2 j l)) (ends.1 j l)))
 
-pub step_stays : (t : Tables) (deed : Option Deed) (told : ActReply) (t' : Tables) → Agree t → Turns t deed told t' → Stays t t'
+pub step_stays : (t : Tables) (deed : Option Deed) (told : ActReply) (t' : Tables) → Agree t → TablesGo t deed told t' → Stays t t'
 step_stays t None told t' a g = rw (unmade t told t' g) (record { era = refl; limit = refl; numbers = omega arith; rows = omega arith })
 step_stays t (Some (Calls asked)) told t' a g = rw (called t asked told t' g) (record { era = refl; limit = refl; numbers = omega arith; rows = omega arith })
 step_stays t (Some (Changes asked)) (Event r) t' a g = stays t asked r t' a g
@@ -120,12 +121,6 @@ flows_of j (s ∷ ss) h = go (eqb s.job j) (flows_of j ss h.1)
     go true r = (h.0, r)
     go false r = r
 
-abbrev taken_all : List Step → ℕ
-taken_all steps = total (λ (step : Step). slot_taken step.reply) steps
-
-abbrev given_all : List Step → ℕ
-given_all steps = total (λ (step : Step). slot_given_by step.deed step.reply) steps
-
 carries_step : (job after : Job) (step : Step) → HasFlows step.deed step.reply → Moves job step after → total slot_held after.holds + slot_given_by step.deed step.reply ≡ total slot_held job.holds + slot_taken step.reply
 carries_step job after step f m = go step.deed f m
   where
@@ -133,7 +128,7 @@ carries_step job after step f m = go step.deed f m
     go None f m = let a = ap (λ (z : Job). total slot_held z.holds) m in omega (arith, a, f)
     go (Some deed) f m = let a = (handed job.holds deed step.reply after.holds m.0).slots in let b = f.0 in let c = f.1 in omega (arith, a, b, c)
 
-carries : (job after : Job) (steps : List Step) → Each (λ (step : Step). HasFlows step.deed step.reply) steps → Disciplined job steps after → total slot_held after.holds + given_all steps ≡ total slot_held job.holds + taken_all steps
+carries : (job after : Job) (steps : List Step) → Each (λ (step : Step). HasFlows step.deed step.reply) steps → Disciplined job steps after → total slot_held after.holds + slots_given steps ≡ total slot_held job.holds + slots_taken steps
 carries job after [] f d = ap (λ (z : Job). total slot_held z.holds + 0) d
 carries job after (s ∷ steps) f d =
     let a = carries_step job d.0 s f.0 d.1 in
@@ -149,7 +144,10 @@ slots_law limit bound turns more now a r =
     let b = v.1.books.slots in
     let l = limit_stays limit turns now r in
     let c = sum_to_same (λ j. total slot_held (v.0 j).holds) (λ j. carried (steps_of j turns)) bound (λ j less. sym (carried_held (v.0 j) (steps_of j turns) (flows_of j turns v.2) (v.3 j less).0)) in
-    omega (arith, b, l, c)
+    record {
+      sum = omega (arith, b, l, c);
+      taken = λ j less. let k = carries idle (v.0 j) (steps_of j turns) (flows_of j turns v.2) (v.3 j less).0 in omega (arith, k);
+    }
 
 pub once_law : (limit bound : ℕ) (turns more : List Turn) (now : Tables) (n : ℕ) → AreDisciplined bound (turns ++ more) → TablesRun (empty_tables limit) turns now → n ≢ 1 → inserted n turns ≤ 1
 once_law limit bound turns more now n a r ne =
@@ -253,7 +251,7 @@ entry_weighs : (w : Hold → ℕ) → ((era n : ℕ) → w (hold.Count era n) �
 entry_weighs w z era (finish.Answer (answer.Entry entry)) = let a = z era entry.inode in omega (arith, a)
 entry_weighs w z era _ = refl
 
-ended_jobs : (bound : ℕ) (turns : List Turn) → AreEnded bound turns → AreDisciplined bound turns
+pub ended_jobs : (bound : ℕ) (turns : List Turn) → AreEnded bound turns → AreDisciplined bound turns
 ended_jobs bound turns a = record { owners = a.owners; jobs = λ j l. let e = a.jobs j l in let f = e.1 in (at_job (entry_holds f.0 e.0) f.1, f.2) }
 
 -- a job at its end holds nothing that weighs, and owes nothing

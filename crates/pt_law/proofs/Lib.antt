@@ -3,7 +3,6 @@ pub mod Sound
 pub mod Moving
 pub mod Sounds
 pub mod Ending
-pub mod Cutting
 pub mod Branches
 pub mod Parts
 pub mod Requests
@@ -30,3 +29,5 @@ pub mod Next
 pub mod Straight
 pub mod Cuts
 pub mod Entries
+pub mod Hosts
+pub mod ExampleRace

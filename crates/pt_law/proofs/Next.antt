@@ -1,25 +1,24 @@
 -- What holds of the next step of a run.
-use Rattle.std.proofs.Common.{◌≡◌, ◌≢◌, ℕ, ◌+◌, ◌<◌, List, [], ◌∷◌, ◌++◌, refl, sym, ap, subst, ◌∙◌, Option, Some, None}
+use Rattle.std.proofs.Common.{ℕ, ◌+◌, ◌<◌, List, [], ◌∷◌, ◌++◌, subst, Option, Some, None}
 use Rattle.pt_host.specs.Words.{Each}
-use Rattle.pt_host.specs.Call.{Call}
 use Rattle.pt_session.specs.Change.{Change}
 use Rattle.pt_session.specs.Tables.{Tables, empty_tables}
 use Rattle.pt_session.specs.Happens.{Happens}
 use Rattle.pt_session.specs.declared.event.KeptEvent.TheVariants as change
-use Rattle.pt_session.specs.declared.reply.EventRefusal.TheVariants.{NotLive, Overtaken, NoSlot, Last, Live, Memory}
+use Rattle.pt_session.specs.declared.reply.EventRefusal.TheVariants.{Overtaken}
 use Rattle.pt_session.specs.declared.reply.EventReply.{EventReply}
 use Rattle.pt_session.specs.declared.reply.EventReply.TheVariants as event
-use Rattle.pt_req.specs.Deed.{Deed, Calls, Changes, Step}
+use Rattle.pt_req.specs.Deed.{Deed, Calls, Changes}
 use Rattle.pt_req.specs.declared.act.ActReply.{ActReply}
 use Rattle.pt_req.specs.declared.act.ActReply.TheVariants.{Event, Host, NoCopy}
 use Rattle.pt_law.specs.Discipline.{Job, Moves, MovesIf, Disciplined}
-use Rattle.pt_law.specs.World.{World, Turn, Turns, Runs, TablesRun, steps_of}
+use Rattle.pt_law.specs.World.{World, Turn, TablesGo, Runs, TablesRun, steps_of}
 use Rattle.pt_law.specs.Ledger.{open_count, inserted}
 use Rattle.pt_law.specs.Laws.{AreDisciplined, Starts, NamesOpen, IsHonoured}
 use Rattle.pt_law.proofs.Flows.{IsHonest}
 use Rattle.pt_law.proofs.Counting.{honest}
 use Rattle.pt_law.proofs.Eras.{in_time}
-use Rattle.pt_law.proofs.Steps.{Tabled, Inv}
+use Rattle.pt_law.proofs.Steps.{Tabled}
 use Rattle.pt_law.proofs.Interleaving.{steps_same}
 use Rattle.pt_law.proofs.Laws.{reach, reach_tables}
 use Rattle.pt_law.proofs.Pinned.{names_open}
@@ -48,7 +47,7 @@ honoured_event bound had t js j change.GiveFd (event.Refused why) t' after lt v 
 honoured_event bound had t js j change.TakeClosing (event.Refused why) t' after lt v h m a = a
 honoured_event bound had t js j e r t' after lt v h m a = tt
 
-honoured : (bound : ℕ) (had : ℕ → ℕ) (t : Tables) (js : ℕ → Job) (j : ℕ) (deed : Option Deed) (told : ActReply) (t' : Tables) (after : Job) → j < bound → Tabled bound had t js → Turns t deed told t' →
+honoured : (bound : ℕ) (had : ℕ → ℕ) (t : Tables) (js : ℕ → Job) (j : ℕ) (deed : Option Deed) (told : ActReply) (t' : Tables) (after : Job) → j < bound → Tabled bound had t js → TablesGo t deed told t' →
     MovesIf (js j) deed told after → IsHonoured deed told
 honoured bound had t js j (Some (Changes e)) (Event r) t' after lt v g m = honoured_event bound had t js j e r t' after lt v g m (honest bound t js j e r t' after lt v.books g m)
 honoured bound had t js j (Some (Calls a)) (Host r) t' after lt v g m = tt
@@ -57,7 +56,7 @@ honoured bound had t js j None NoCopy t' after lt v g m = tt
 honoured bound had t js j _ _ t' after lt v g m = absurd g
 
 pub honoured_law : (limit bound : ℕ) (turns : List Turn) (turn : Turn) (more : List Turn) (now next : Tables) → AreDisciplined bound (turns ++ turn ∷ more) → TablesRun (empty_tables limit) turns now →
-    Turns now turn.step.deed turn.step.reply next → IsHonoured turn.step.deed turn.step.reply
+    TablesGo now turn.step.deed turn.step.reply next → IsHonoured turn.step.deed turn.step.reply
 honoured_law limit bound turns turn more now next a r g =
     let v = reach_tables limit bound turns (turn ∷ more) now a r in
     let lt = owner_of bound turns turn more a.owners in

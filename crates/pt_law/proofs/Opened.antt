@@ -24,11 +24,12 @@ use Rattle.pt_req.specs.Deed.{Deed, Calls, Changes, Step, IsStepOf}
 use Rattle.pt_req.specs.Grammar.{Belongs}
 use Rattle.pt_req.specs.Held.{fd_of, event_refusal, refusal}
 use Rattle.pt_req.specs.Pattern.{grammar_of}
-use Rattle.pt_req.specs.Requests.{Session, path, is_bad_name, on_began, on_resolved, on_fd, on_stat, on_claim, on_taken, on_drawn, on_inserted, entry_of, inserted, numbered, told_of, opened_in, look_up, answers_entry, lookup}
+use Rattle.pt_req.specs.Requests.{path, is_bad_name, on_began, on_resolved, on_fd, on_stat, on_claim, on_taken, on_drawn, on_inserted, entry_of, inserted, numbered, told_of, opened_in, look_up, answers_entry, lookup}
 use Rattle.pt_req.specs.Tree.{Tree, Gives, Refuses, Asks}
 use Rattle.pt_req.specs.declared.act.ActReply.{ActReply}
 use Rattle.pt_req.specs.declared.act.ActReply.TheVariants.{Event, Host}
 use Rattle.pt_req.specs.declared.finish.Finish.TheVariants as finish
+use Rattle.pt_req.specs.declared.begun.Session.{Session}
 use Rattle.pt_req.specs.declared.plan.Plan.{Plan}
 use Rattle.pt_law.specs.Branch.{Along, AreOwn}
 use Rattle.pt_law.specs.Opened.{made, inserting, InsertionGives, Numbers, IsLookedUp}

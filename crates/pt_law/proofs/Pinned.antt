@@ -1,27 +1,26 @@
 -- What a job names is open.
-use Rattle.std.proofs.Common.{◌≡◌, ◌≢◌, ◌⊎◌, ⊎_elim, inl, inr, ℕ, zero, suc, ◌+◌, ◌-◌, ◌*◌, ◌<◌, ◌≤◌, List, [], ◌∷◌, ◌++◌, length, Bool, true, false, refl, sym, ap, subst, ◌∙◌, arith, Option, Some, None}
+use Rattle.std.proofs.Common.{◌≡◌, ◌≢◌, ⊎_elim, ℕ, ◌*◌, ◌<◌, ◌≤◌, List, [], ◌∷◌, refl, sym, ap, subst, ◌∙◌, arith, Option, Some, None}
 use Rattle.std.proofs.lemmas.Bool.{cases_eq}
-use Rattle.pt_host.specs.Words.{is, total, Each, Takes, Takes.{here, there}, Replaces}
-use Rattle.pt_host.specs.Call.{Call}
-use Rattle.pt_host.specs.Tree.{Tree, Opened, IsOpenOn}
+use Rattle.pt_host.specs.Words.{is, total, Takes, Takes.{here, there}, Replaces}
+use Rattle.pt_host.specs.Tree.{Opened, IsOpenOn}
 use Rattle.pt_host.specs.declared.ids.Fd.{Fd}
 use Rattle.pt_host.specs.declared.ids.ObjIds.{ObjIds}
 use Rattle.pt_host.specs.declared.op.KeptHostOp.TheVariants as call
 use Rattle.pt_host.specs.declared.reply.HostReply.TheVariants as host
 use Rattle.pt_host.specs.declared.reply.HostValue.TheVariants as value
-use Rattle.pt_session.specs.Tables.{Row, Tables}
-use Rattle.pt_req.specs.Deed.{Deed, Calls, Changes}
+use Rattle.pt_session.specs.declared.row.Row.{Row}
+use Rattle.pt_req.specs.Deed.{Deed, Calls}
 use Rattle.pt_req.specs.Held.{fd_of}
 use Rattle.pt_req.specs.declared.act.ActReply.{ActReply}
-use Rattle.pt_req.specs.declared.act.ActReply.TheVariants.{Event, Host, NoCopy}
+use Rattle.pt_req.specs.declared.act.ActReply.TheVariants.{Host}
 use Rattle.pt_req.specs.declared.hold.Hold.{Hold}
 use Rattle.pt_req.specs.declared.hold.Hold.TheVariants as hold
-use Rattle.pt_law.specs.Discipline.{Job, Names, Knows, Shifts, Moves, MovesIf}
-use Rattle.pt_law.specs.World.{World, Past, Turn}
-use Rattle.pt_law.specs.Ledger.{fd_held, open_count, some_count}
+use Rattle.pt_law.specs.Discipline.{Job, Names, Knows, MovesIf}
+use Rattle.pt_law.specs.World.{World}
+use Rattle.pt_law.specs.Ledger.{fd_held, some_count}
 use Rattle.pt_law.specs.Laws.{NamesOpen}
 use Rattle.pt_law.proofs.Flows.{pin_held, row_pins}
-use Rattle.pt_law.proofs.Lists.{total_takes, total_replaces, each_taken, is_same, is_apart}
+use Rattle.pt_law.proofs.Lists.{total_takes, each_taken, is_same, is_apart}
 use Rattle.pt_law.proofs.Counting.{part}
 use Rattle.pt_law.proofs.Knowing.{RowOpen, PinRight}
 use Rattle.pt_law.proofs.Steps.{Inv}

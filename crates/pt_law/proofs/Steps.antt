@@ -20,11 +20,11 @@ use Rattle.pt_session.specs.declared.event.KeptEvent.TheVariants as change
 use Rattle.pt_session.specs.declared.reply.EventReply.{EventReply}
 use Rattle.pt_session.specs.declared.reply.EventReply.TheVariants as event
 use Rattle.pt_req.specs.Deed.{Deed, Calls, Changes}
-use Rattle.pt_req.specs.Made.{Made}
+use Rattle.pt_req.specs.Made.{Does, Made}
 use Rattle.pt_req.specs.declared.act.ActReply.{ActReply}
 use Rattle.pt_req.specs.declared.act.ActReply.TheVariants.{Event, Host, NoCopy}
 use Rattle.pt_law.specs.Discipline.{Job, Moves, MovesIf, MovesBy}
-use Rattle.pt_law.specs.World.{World, Turn, Turns, Goes, IsLawful, settled_if, settled_by}
+use Rattle.pt_law.specs.World.{World, Turn, TablesGo, Goes, IsLawful, settled_if, settled_by}
 use Rattle.pt_law.specs.Ledger.{open_count, kept_fds, held_by, fd_held, some_count, slot_taken, slot_given, inserted_if, inserted_as}
 use Rattle.pt_law.proofs.Flows.{fd_ended, slot_in, slot_out, IsHonest, unmade}
 use Rattle.pt_law.proofs.Lists.{total_takes, sum_to_set, set_at_same, set_at_other, at_each}
@@ -71,7 +71,7 @@ recount bound had had' t js e v = record {
   dated = v.dated;
 }
 
-pub keeps_tabled : (bound : ℕ) (had : ℕ → ℕ) (t : Tables) (js : ℕ → Job) (j : ℕ) (deed : Option Deed) (told : ActReply) (t' : Tables) (after : Job) → j < bound → Tabled bound had t js → Turns t deed told t' →
+pub keeps_tabled : (bound : ℕ) (had : ℕ → ℕ) (t : Tables) (js : ℕ → Job) (j : ℕ) (deed : Option Deed) (told : ActReply) (t' : Tables) (after : Job) → j < bound → Tabled bound had t js → TablesGo t deed told t' →
     MovesIf (js j) deed told after → Tabled bound (λ n. had n + inserted_if n deed told) t' (set_at j after js)
 keeps_tabled bound had t js j None told t' after lt v g m = rw (unmade t told t' g, set_self js j after m) (recount bound had (λ n. had n + 0) t js (λ n. omega arith) v)
 keeps_tabled bound had t js j (Some deed) told t' after lt v g m = record {
@@ -99,7 +99,7 @@ event_flows t _ event.Given t' h a = absurd h
 event_flows t _ (event.Closing fd slot) t' h a = absurd h
 event_flows t _ _ t' h a = (refl, refl)
 
-pub has_flows : (bound : ℕ) (had : ℕ → ℕ) (t : Tables) (js : ℕ → Job) (j : ℕ) (deed : Option Deed) (told : ActReply) (t' : Tables) (after : Job) → j < bound → Tabled bound had t js → Turns t deed told t' →
+pub has_flows : (bound : ℕ) (had : ℕ → ℕ) (t : Tables) (js : ℕ → Job) (j : ℕ) (deed : Option Deed) (told : ActReply) (t' : Tables) (after : Job) → j < bound → Tabled bound had t js → TablesGo t deed told t' →
     MovesIf (js j) deed told after → HasFlows deed told
 has_flows bound had t js j (Some (Changes e)) (Event r) t' after lt v g m = event_flows t e r t' g (honest bound t js j e r t' after lt v.books g m)
 has_flows bound had t js j (Some (Calls a)) (Host r) t' after lt v g m = (refl, refl)
@@ -108,12 +108,12 @@ has_flows bound had t js j None NoCopy t' after lt v g m = refl
 has_flows bound had t js j _ _ t' after lt v g m = absurd g
 
 -- what a made step does to the tables
-pub turned : (tree tree' : Tree) (seat seat' : HostSeat) (t t' : Tables) (deed : Option Deed) (told : ActReply) → Made IsLawful deed told tree seat t tree' seat' t' → Turns t deed told t'
-turned tree tree' seat seat' t t' (Some (Changes e)) (Event r) h = h.0
-turned tree tree' seat seat' t t' (Some (Calls a)) (Host r) h = h.1
-turned tree tree' seat seat' t t' (Some (Calls a)) NoCopy h = h.1
-turned tree tree' seat seat' t t' None NoCopy h = h.2
-turned tree tree' seat seat' t t' _ _ h = absurd h
+pub turned : {H : Type 0} (does : Does H) (deed : Option Deed) (told : ActReply) (from : H) (seat : HostSeat) (t : Tables) (to : H) (seat' : HostSeat) (t' : Tables) → Made does deed told from seat t to seat' t' → TablesGo t deed told t'
+turned does (Some (Changes e)) (Event r) from seat t to seat' t' h = h.0
+turned does (Some (Calls a)) (Host r) from seat t to seat' t' h = h.1
+turned does (Some (Calls a)) NoCopy from seat t to seat' t' h = h.1
+turned does None NoCopy from seat t to seat' t' h = h.2
+turned does _ _ from seat t to seat' t' h = absurd h
 
 -- no call of these tells bytes, so each reply could be copied
 no_bytes : (a : Call) (r : HostReply) (before after : ℕ) → ReplyHoldsBytes r → IsAllowed before a r after → ⊥

@@ -1,5 +1,5 @@
 -- A lookup's own steps stand first, and what is given back behind them.
-use Rattle.std.proofs.Common.{◌≡◌, ◌⊎◌, inl, inr, ℕ, zero, suc, List, [], ◌∷◌, ◌++◌, Bool, true, false, Option, Some, None, refl, sym, ap, subst, ◌∙◌, if◌then◌else◌}
+use Rattle.std.proofs.Common.{◌≡◌, ◌⊎◌, inl, inr, ℕ, List, [], ◌∷◌, ◌++◌, Bool, true, false, refl, sym, ap, subst, ◌∙◌, if◌then◌else◌}
 use Rattle.pt_host.specs.Errno.{einval}
 use Rattle.pt_host.specs.declared.ids.Fd.{Fd}
 use Rattle.pt_host.specs.declared.ids.ObjIds.{ObjIds}
@@ -12,12 +12,13 @@ use Rattle.pt_iface.specs.declared.answer.Answer.TheVariants as answer
 use Rattle.pt_iface.specs.declared.entry.Entry.{Entry}
 use Rattle.pt_iface.specs.declared.request.Request.TheVariants as request
 use Rattle.pt_session.specs.declared.event.KeptEvent.TheVariants as change
-use Rattle.pt_req.specs.Deed.{Deed, Changes, Step}
+use Rattle.pt_req.specs.Deed.{Changes, Step}
 use Rattle.pt_req.specs.Held.{held, closings_in, fd_of}
 use Rattle.pt_req.specs.Grammar.{Grammar, Belongs}
 use Rattle.pt_req.specs.Frame.{closings, leave}
 use Rattle.pt_req.specs.Pattern.{grammar_of}
-use Rattle.pt_req.specs.Requests.{Session, is_bad_name, on_began, on_resolved, on_fd, on_stat, on_claim, on_taken, on_drawn, on_inserted, entry_of, inserted, numbered, told_of, opened_in, look_up, answers_entry, lookup}
+use Rattle.pt_req.specs.declared.begun.Session.{Session}
+use Rattle.pt_req.specs.Requests.{is_bad_name, on_began, on_resolved, on_fd, on_stat, on_claim, on_taken, on_drawn, on_inserted, entry_of, inserted, numbered, told_of, opened_in, look_up, answers_entry, lookup}
 use Rattle.pt_req.specs.Tree.{Tree, Gives, Refuses, Asks, Shuts, framed}
 use Rattle.pt_req.specs.declared.act.ActReply.{ActReply}
 use Rattle.pt_req.specs.declared.act.ActReply.TheVariants.{Event, Host, NoCopy}
@@ -85,9 +86,9 @@ straight (Asks deed next) holds (step ∷ steps) end s b = elim b.1 [
   | inl up ↦ inl (lacks (held deed step.reply holds) steps end (no_closings (closings_in deed step.reply) (held deed step.reply holds) (leave (held deed step.reply holds) (finish.Answer answer.NoMemory)) steps end (s.0 step.reply) up))
   | inr on ↦ elim (straight (next step.reply) (held deed step.reply holds) steps end (s.1 step.reply)
       (no_closings (closings_in deed step.reply) (held deed step.reply holds) (framed (next step.reply) (held deed step.reply holds)) steps end (s.0 step.reply) on)) [
-    | inl g ↦ inl g
-    | inr r ↦ inr (step ∷ r.0, r.1, r.2, ap (λ z. step ∷ z) r.3, r.4, (b.0, r.5))
-  ]
+        | inl g ↦ inl g
+        | inr r ↦ inr (step ∷ r.0, r.1, r.2, ap (λ z. step ∷ z) r.3, r.4, (b.0, r.5))
+      ]
 ]
 
 good : (bad : Bool) (next : Tree) → IsStraight next → IsStraight (if bad then Gives (answer.Refused einval) else next)
@@ -101,12 +102,15 @@ straight_numbered session fd stat entry_for = ((λ told. refl), claim)
     insertion number (Event (event.Inserted given)) = tt
     insertion number (Event (event.Found given)) = tt
     insertion number _ = tt
+
     draw : (told : ActReply) → IsStraight (on_drawn (inserted session fd stat (λ number. answers_entry (entry_for number))) told)
     draw (Event (event.Drawn number)) = ((λ told. refl), insertion number)
     draw _ = tt
+
     slot : (told : ActReply) → IsStraight (on_taken (Asks (Changes change.DrawNode) (on_drawn (inserted session fd stat (λ number. answers_entry (entry_for number))))) told)
     slot (Event event.Taken) = ((λ told. refl), draw)
     slot _ = tt
+
     claim : (told : ActReply) → IsStraight (on_claim (λ number. Shuts true 2 (answers_entry (entry_for number))) (Asks (Changes change.TakeFd) (on_taken (Asks (Changes change.DrawNode) (on_drawn (inserted session fd stat (λ number. answers_entry (entry_for number))))))) told)
     claim (Event (event.Claimed number)) = tt
     claim (Event event.Absent) = ((λ told. refl), slot)
@@ -119,12 +123,15 @@ straight_lookup plan parent name = ((λ told. refl), begin)
         IsStraight (on_stat (λ stat. numbered session fd stat (λ number. answers_entry (entry_of plan session.agreed ids stat number))) told)
     told_straight session ids fd (Host (host.Ok (value.Stat stat))) = straight_numbered session fd stat (λ number. entry_of plan session.agreed ids stat number)
     told_straight session ids fd _ = tt
+
     opens : (session : Session) (ids : ObjIds) (told : ActReply) → IsStraight (on_fd (λ fd. told_of plan session ids fd answers_entry) told)
     opens session ids (Host (host.Ok (value.Fd fd))) = ((λ told. refl), told_straight session ids fd)
     opens session ids _ = tt
+
     resolve : (session : Session) (told : ActReply) → IsStraight (on_resolved (λ form ids. opened_in plan session ids (fd_of form) name answers_entry) told)
     resolve session (Event (event.Resolved row form ids mode)) = ((λ told. refl), opens session ids)
     resolve session _ = tt
+
     begin : (told : ActReply) → IsStraight (on_began (λ era agreed. if is_bad_name name then Gives (answer.Refused einval) else look_up plan (record { era = era; agreed = agreed }) parent name answers_entry) told)
     begin (Event (event.Began era agreed)) = good (is_bad_name name) (look_up plan (record { era = era; agreed = agreed }) parent name answers_entry) ((λ told. refl), resolve (record { era = era; agreed = agreed }))
     begin _ = tt

@@ -20,13 +20,13 @@ Promises {H} does faults =
     (from : H) (seat : HostSeat) (asked : Call) (told : HostReply) (to : H) (seat_after : HostSeat) → does from seat asked told to seat_after →
     IsPromised (faults from) seat asked told (faults to) seat_after
 
-call_told : (before after : ℕ) (asked : Call) (told : HostReply) → IsAllowed before asked told after → MayBeTold (Calls asked) (Host told)
+pub call_told : (before after : ℕ) (asked : Call) (told : HostReply) → IsAllowed before asked told after → MayBeTold (Calls asked) (Host told)
 call_told before after asked (host.Ok value) a = a
 call_told before after asked (host.Refused errno) a = tt
 call_told before after asked (host.Fault errno) a = tt
 call_told before after asked host.NoMemory a = a
 
-bytes_told : (before after : ℕ) (asked : Call) (told : HostReply) → ReplyHoldsBytes told → IsAllowed before asked told after → MayTellBytes (Calls asked)
+pub bytes_told : (before after : ℕ) (asked : Call) (told : HostReply) → ReplyHoldsBytes told → IsAllowed before asked told after → MayTellBytes (Calls asked)
 bytes_told before after asked (host.Ok (value.Bytes bytes)) holds a = (bytes, a)
 bytes_told before after asked (host.Ok told) holds a = absurd holds
 bytes_told before after asked told holds a = absurd holds

@@ -5,7 +5,9 @@ ghost use Rattle.pt_host.specs.declared.reply.HostReply.{HostReply};
 ghost use Rattle.pt_host.specs.Errno.{eio};
 ghost use Rattle.pt_host.specs.declared.reply.HostReply.TheVariants as reply;
 
-use crate::{any_request, each_request, request_ends, steps_told};
+use crate::{
+    any_request, each_request, every_host, every_run, every_told_run, request_ends, steps_told,
+};
 use pt_host::{Errno, Host, HostOp, HostReply, HostSeat};
 
 /// A host that refuses every call.
@@ -34,4 +36,7 @@ fn the_laws_hold_with_no_premise() {
     each_request();
     request_ends();
     steps_told::<Refusing>();
+    every_run();
+    every_told_run();
+    every_host::<Refusing>();
 }

@@ -3,3 +3,4 @@ pub mod PathParts
 pub mod NewPlaces
 pub mod StartNodes
 pub mod TreeLines
+pub mod FreeTable

@@ -1,5 +1,6 @@
 pub mod Names
 pub mod Slots
+pub mod FreeNumbers
 pub mod Node
 pub mod Permission
 pub mod State

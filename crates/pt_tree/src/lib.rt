@@ -13,6 +13,8 @@ mod slots;
 mod spec;
 mod start;
 mod store;
+#[cfg(test)]
+mod tests;
 
 pub use host::TreeHost;
 pub use spec::{SpecError, TreeLine, TreeSpec};

@@ -1,4 +1,4 @@
-use Rattle.std.proofs.Common.{◌≡◌, ◌<◌, suc, refl, ◌∷◌, ◌∙◌, length, [], append-nil, append_assoc, sym, ap, arith}
+use Rattle.std.proofs.Common.{◌≡◌, suc, ◌∷◌, ◌∙◌, length, [], append-nil, append_assoc, sym, ap, arith}
 use Rattle.std.proofs.lemmas.List.{length-append}
 use Rattle.std.specs.Vec.Iter.{into_iter_items}
 use Rattle.pt_fs.proofs.Ended.{nothing_left, answered_more, finished_rest}

@@ -1,12 +1,13 @@
 use Rattle.pt_law.proofs.runs.every_run.Goals as goal
-use Rattle.pt_law.proofs.Interleaving.{tables_run}
-use Rattle.pt_law.proofs.Laws.{agree_law, counts_law, once_law, slots_law, rest_law, distinct_law, object_law, kept_law, leaves_law}
-
-pub returns-clause-tables : goal.returns-clause-tables
-returns-clause-tables c = tables_run
+use Rattle.pt_law.proofs.Interleaving.{tables_split}
+use Rattle.pt_law.proofs.Laws.{agree_law, era_stays, counts_law, once_law, slots_law, rest_law, ended_jobs}
+use Rattle.pt_law.proofs.Next.{honoured_law}
 
 pub returns-clause-agree : goal.returns-clause-agree
 returns-clause-agree c = agree_law
+
+pub returns-clause-era : goal.returns-clause-era
+returns-clause-era c = era_stays
 
 pub returns-clause-counts : goal.returns-clause-counts
 returns-clause-counts c = counts_law
@@ -17,17 +18,14 @@ returns-clause-once c = once_law
 pub returns-clause-slots : goal.returns-clause-slots
 returns-clause-slots c = slots_law
 
+pub returns-clause-honoured : goal.returns-clause-honoured
+returns-clause-honoured c = honoured_law
+
+pub returns-clause-disciplined : goal.returns-clause-disciplined
+returns-clause-disciplined c = ended_jobs
+
 pub returns-clause-rest : goal.returns-clause-rest
 returns-clause-rest c = rest_law
 
-pub returns-clause-distinct : goal.returns-clause-distinct
-returns-clause-distinct c = distinct_law
-
-pub returns-clause-objects : goal.returns-clause-objects
-returns-clause-objects c = object_law
-
-pub returns-clause-descriptors : goal.returns-clause-descriptors
-returns-clause-descriptors c = kept_law
-
-pub returns-clause-leaves : goal.returns-clause-leaves
-returns-clause-leaves c = leaves_law
+pub returns-clause-cut : goal.returns-clause-cut
+returns-clause-cut c = tables_split
