@@ -14,6 +14,8 @@ mod script;
 mod status;
 mod std_streams;
 mod streams;
+#[cfg(test)]
+mod tests;
 mod texts;
 
 pub use input::{InputError, MAX_SCRIPT, read_script};
