@@ -4,3 +4,4 @@ pub mod Scripts
 pub mod Outputs
 pub mod Lives
 pub mod CommandWords
+pub mod FirstBads
