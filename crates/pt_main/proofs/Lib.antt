@@ -5,3 +5,4 @@ pub mod Outputs
 pub mod Lives
 pub mod CommandWords
 pub mod FirstBads
+pub mod Opening

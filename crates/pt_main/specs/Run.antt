@@ -1,10 +1,11 @@
 -- A run of a script, and its report.
-use Rattle.std.specs.Prelude.{◌≡◌, ℕ, List, [], ◌∷◌, ◌++◌, Option, None, Result, Ok, Err, length, map, codes}
+use Rattle.std.specs.Prelude.{◌≡◌, ◌≤◌, ℕ, List, [], ◌∷◌, ◌++◌, Option, Some, None, Result, Ok, Err, length, map, codes}
 use Rattle.pt_host.specs.declared.flags.Caps.{Caps}
 use Rattle.pt_host.specs.declared.ids.Errno.{Errno}
 use Rattle.pt_host.specs.declared.reply.HostReply.{HostReply}
 use Rattle.pt_host.specs.declared.seat.HostSeat.{HostSeat}
-use Rattle.pt_tree.specs.State.{State}
+use Rattle.pt_host.specs.Tree.{IsWellFormed}
+use Rattle.pt_tree.specs.State.{State, tree_of}
 use Rattle.pt_tree.specs.Start.{StartsAs}
 use Rattle.pt_tree.specs.Does.{Does}
 use Rattle.pt_tree.specs.Listing.{listing_of}
@@ -18,7 +19,9 @@ use Rattle.pt_iface.specs.declared.request.Request.TheVariants.{Root, Lookup, Fo
 use Rattle.pt_req.specs.Plan.{IsDefault}
 use Rattle.pt_fs.specs.FileSystem.{FileSystem, opens_root, IsMadeBy}
 use Rattle.pt_fs.specs.Jobs.{job_seat}
+use Rattle.pt_fs.specs.Keeps.{turns_of, AfterEach, AfterEachTold, LeadsOn, KeepsObjects, KeepsCounts, InsertsOnce, OfEachJob, GivesBack, IsCausedIn, IsNamedIn, NamesOpenOnes, LeavesOpen}
 use Rattle.pt_fs.specs.Order.{IsInOrder}
+use Rattle.pt_law.specs.Laws.{SlotsAddUp, IsAtRest, AreKept}
 use Rattle.pt_fs.specs.Trace.{Runs, AnswersEach, IsBounded}
 use Rattle.pt_fs.specs.declared.job.Job.{Job}
 use Rattle.pt_fs.specs.declared.job.Job.TheVariants as job
@@ -64,7 +67,7 @@ pub record IsOpened (before : State) (fs : FileSystem) (after : State) : Type 0 
   pub tables : fs.tables ≡ empty_tables fs.plan.config.guest_fd_limit
 
 -- The jobs of a script run over this host: the trace leads from the new file system to these tables and that host, the jobs run whole, one
--- after another, and each is answered by the pattern of its request.
+-- after another, each is answered by the pattern of its request, and each clause of `drive` holds.
 pub record IsRunFrom (start : State) (lines : List ScriptJob) (trace : List TraceStep) (answers : List Answer) (tables : Tables) (host : State) : Type 0 where
   pub fs : FileSystem
   pub opened_host : State
@@ -74,6 +77,20 @@ pub record IsRunFrom (start : State) (lines : List ScriptJob) (trace : List Trac
   pub order : IsInOrder [] (length (map job_of lines)) trace
   pub answers_each : AnswersEach fs.plan (map job_of lines) trace answers
   pub bounded : IsBounded (map job_of lines) trace
+  pub causes : OfEachJob (map job_of lines) answers (IsCausedIn trace)
+  pub gives_back : OfEachJob (map job_of lines) answers (GivesBack trace)
+  pub counts : AfterEach fs.tables trace KeepsCounts
+  pub once : InsertsOnce trace
+  pub slots : AfterEach fs.tables trace (SlotsAddUp fs.tables.limit (length (map job_of lines)))
+  pub at_rest : IsAtRest fs.tables.limit (length (map job_of lines)) (turns_of trace) tables
+  -- the host tells its tree, which is well formed; so what is said of objects holds
+  pub well_formed : IsWellFormed (tree_of opened_host)
+  pub told : LeadsOn (Some (tree_of opened_host)) fs.tables trace (Some (tree_of host)) tables
+  pub distinct : AfterEachTold (Some (tree_of opened_host)) fs.tables trace (λ start so_far now. KeepsObjects now)
+  pub entries : OfEachJob (map job_of lines) answers (IsNamedIn fs.plan (Some (tree_of opened_host)) fs.tables trace)
+  pub names_open : NamesOpenOnes (Some (tree_of opened_host)) fs.tables trace
+  pub descriptors : AfterEachTold (Some (tree_of opened_host)) fs.tables trace (λ start so_far now. AreKept start (length (map job_of lines)) so_far now)
+  pub leaves_open : LeavesOpen (Some (tree_of opened_host)) fs.tables trace
 
 -- the report of a run: its steps, answers, live numbers, slots and objects
 abbrev pub report_of : List TraceStep → List Answer → List (ℕ × ℕ) → Tables → State → List ℕ
@@ -119,10 +136,14 @@ IsNoReport bytes other = ⊥
 abbrev pub IsScriptWord : List (List ℕ) → Type 0
 IsScriptWord words = words ≡ codes "script" ∷ []
 
+-- a script has so many bytes at most
+abbrev pub max_script : ℕ
+max_script = 16777216
+
 -- this is the report of a script that was read from here
 abbrev pub IsReportFrom : Option (List ℕ) → List ℕ → Type 0
-IsReportFrom left report = (bytes : List ℕ) × IsAll left bytes × IsReportOf bytes report
+IsReportFrom left report = (bytes : List ℕ) × IsAll left bytes × (length bytes ≤ max_script) × IsReportOf bytes report
 
 -- what was read from here shows no report, and this is why
 abbrev pub IsNoReportFrom : Option (List ℕ) → Status → Type 0
-IsNoReportFrom left why = (bytes : List ℕ) × IsAll left bytes × IsNoReport bytes why
+IsNoReportFrom left why = (bytes : List ℕ) × IsAll left bytes × (length bytes ≤ max_script) × IsNoReport bytes why

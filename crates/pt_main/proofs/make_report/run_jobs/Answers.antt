@@ -1,3 +1,4 @@
+use Rattle.pt_main.proofs.Opening.{opened_well}
 use Rattle.pt_main.proofs.make_report.run_jobs.Goals as goal
 
 pub returns-in-Ok-drive-clause-ok : goal.returns-in-Ok-drive-clause-ok
@@ -10,4 +11,17 @@ returns-in-Ok-drive-clause-ok c = record {
   order = rw (← c.in-Ok.ensures) c.in-Ok-drive.ensures.order;
   answers_each = rw (← c.in-Ok.ensures) c.in-Ok-drive.ensures.answers;
   bounded = rw (← c.in-Ok.ensures) c.in-Ok-drive.ensures.bounded;
+  causes = rw (← c.in-Ok.ensures) c.in-Ok-drive.ensures.causes;
+  gives_back = rw (← c.in-Ok.ensures) c.in-Ok-drive.ensures.gives_back;
+  counts = c.in-Ok-drive.ensures.counts;
+  once = c.in-Ok-drive.ensures.once;
+  slots = rw (← c.in-Ok.ensures) c.in-Ok-drive.ensures.slots;
+  at_rest = rw (← c.in-Ok.ensures) c.in-Ok-drive.ensures.at_rest;
+  well_formed = opened_well _ _ _ c.in_ok-fs.ensures.ok;
+  told = c.in-Ok-drive.ensures.told;
+  distinct = c.in-Ok-drive.ensures.distinct;
+  entries = rw (← c.in-Ok.ensures) c.in-Ok-drive.ensures.entries;
+  names_open = c.in-Ok-drive.ensures.names_open;
+  descriptors = rw (← c.in-Ok.ensures) c.in-Ok-drive.ensures.descriptors;
+  leaves_open = c.in-Ok-drive.ensures.leaves_open;
 }
