@@ -3,6 +3,7 @@
 
 mod fields;
 mod input;
+mod laws;
 mod line;
 mod make_report;
 mod mem;
@@ -19,6 +20,7 @@ mod tests;
 mod texts;
 
 pub use input::{InputError, MAX_SCRIPT, read_script};
+pub use laws::first_bad_line;
 pub use line::{Line, ScriptJob};
 pub use mem::{MemSink, MemSource};
 pub use program::run;
