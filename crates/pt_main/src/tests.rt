@@ -1,4 +1,4 @@
-ghost use Rattle.std.specs.Prelude.{Some};
+ghost use Rattle.std.specs.Prelude.{None};
 
 use crate::{
     Failed, InputError, MAX_SCRIPT, MemSink, MemSource, ParseError, Sink, Source, Status, parse,
@@ -152,14 +152,14 @@ fn a_source_that_fails_ends_the_run(rt: HostRuntime) -> Result<(), Fail> {
     Ok(())
 }
 
-// A sink that takes twenty bytes at a time.
+// A sink that takes twenty bytes at a time, and tells nothing of them: the test looks at the bytes.
 #[derive(Drop)]
 struct Drops {
     sink: MemSink,
 }
 
 impl Sink for Drops {
-    ghost written = { λ drops. Some drops.sink.written };
+    ghost written = { λ drops. None };
 
     ghost faults = { λ drops. drops.sink.faults };
 
