@@ -17,6 +17,17 @@ pub struct Row {
     pub live: bool,
 }
 
+/// A handle's row, with the number that it was opened for. It is not live once it was released, and stays until its last pin is given back.
+#[derive(Clone, Copy, Debug, PartialEq, Eq)]
+pub struct HandleRow {
+    pub serial: u64,
+    pub handle: u64,
+    pub number: u64,
+    pub fd: Fd,
+    pub pins: u64,
+    pub live: bool,
+}
+
 /// A descriptor that is to be closed, and whether a slot goes back with it.
 #[derive(Clone, Copy, Debug, PartialEq, Eq)]
 pub struct Closing {
