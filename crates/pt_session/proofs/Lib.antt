@@ -1,6 +1,8 @@
 pub mod Lists
+pub mod Orders
+pub mod Indexing
+pub mod Entries
 pub mod Stores
 pub mod Forgetting
-pub mod Least
 pub mod Effects
 pub mod Replies

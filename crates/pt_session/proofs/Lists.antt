@@ -1,17 +1,7 @@
 -- What code over lists of rows gives, and what a list keeps where one element changes or goes.
-use Rattle.std.proofs.Common.{◌≡◌, ℕ, zero, suc, ◌<◌, List, [], ◌∷◌, ◌++◌, length, get_or, set, remove, reverse, refl, sym, subst, arith}
+use Rattle.std.proofs.Common.{◌≡◌, suc, List, [], ◌∷◌, ◌++◌, length, reverse, refl, sym, subst, arith}
 use Rattle.std.proofs.lemmas.Grind.{reverse_onto}
 use Rattle.pt_host.specs.Words.{Each, EachTwo, Takes, Takes.{here, there}, Replaces, Replaces.{at, past}}
-
-pub replaces_at : {A : Type 0} (xs : List A) (i : ℕ) (d y : A) → i < length xs → Replaces (get_or xs i d) y xs (set xs i y)
-replaces_at [] i d y l = absurd (omega arith)
-replaces_at (z ∷ xs) zero d y l = at
-replaces_at (z ∷ xs) (suc i) d y l = past (replaces_at xs i d y (omega arith))
-
-pub takes_at : {A : Type 0} (xs : List A) (i : ℕ) (d : A) → i < length xs → Takes (get_or xs i d) xs (remove xs i)
-takes_at [] i d l = absurd (omega arith)
-takes_at (z ∷ xs) zero d l = here
-takes_at (z ∷ xs) (suc i) d l = there (takes_at xs i d (omega arith))
 
 pub each_taken : {A : Type 0} (P : A → Type 0) {x : A} {xs ys : List A} → Takes x xs ys → Each P xs → P x
 each_taken P here h = h.0
@@ -32,11 +22,6 @@ each_map P Q (x ∷ xs) f h = (f x h.0, each_map P Q xs f h.1)
 pub each_both : {A : Type 0} (P Q R : A → Type 0) (xs : List A) → ((x : A) → P x → Q x → R x) → Each P xs → Each Q xs → Each R xs
 each_both P Q R [] f g h = tt
 each_both P Q R (x ∷ xs) f g h = (f x g.0 h.0, each_both P Q R xs f g.1 h.1)
-
-pub each_at : {A : Type 0} (P : A → Type 0) (xs : List A) (i : ℕ) (d : A) → i < length xs → Each P xs → P (get_or xs i d)
-each_at P [] i d l h = absurd (omega arith)
-each_at P (x ∷ xs) zero d l h = h.0
-each_at P (x ∷ xs) (suc i) d l h = each_at P xs i d (omega arith) h.1
 
 pub each_append : {A : Type 0} (P : A → Type 0) (xs ys : List A) → Each P xs → Each P ys → Each P (xs ++ ys)
 each_append P [] ys h k = k

@@ -1,5 +1,5 @@
 -- Which reply an event has, that a refused event changes nothing, and that each closing is paid by a row.
-use Rattle.std.proofs.Common.{◌≡◌, ◌≢◌, ◌⊎◌, inl, inr, ℕ, zero, suc, ◌+◌, ◌-◌, ◌<◌, ◌≤◌, List, [], ◌∷◌, ◌++◌, Bool, true, false, Option, Some, None, length, refl, sym, ap, subst, arith}
+use Rattle.std.proofs.Common.{◌≡◌, ◌≢◌, ◌⊎◌, inl, inr, ℕ, suc, ◌+◌, ◌-◌, ◌<◌, ◌≤◌, List, [], ◌∷◌, true, false, Option, Some, None, length, ap, arith}
 use Rattle.pt_host.specs.declared.ids.ObjIds.{ObjIds}
 use Rattle.pt_session.specs.Change.{Change}
 use Rattle.pt_session.specs.declared.form.Negotiated.{Negotiated}
@@ -8,14 +8,11 @@ use Rattle.pt_session.specs.declared.reply.EventRefusal.{EventRefusal}
 use Rattle.pt_session.specs.declared.reply.EventRefusal.TheVariants.{NotLive, Overtaken, NoSlot, Last, Live, Memory}
 use Rattle.pt_session.specs.declared.reply.EventReply.{EventReply}
 use Rattle.pt_session.specs.declared.reply.EventReply.TheVariants as reply
-use Rattle.pt_session.specs.Tables.{Row, Tables, Agree, empty_tables}
+use Rattle.pt_session.specs.Tables.{Row, Tables}
 use Rattle.pt_session.specs.Happens.{Happens, Changes, Ends, Dies, ForgetsOne, ForgetsAll, GivesAgain, with_row, agreed}
 use Rattle.pt_session.specs.Answers.{IsReplyFor}
 use Rattle.pt_session.specs.Pending.{pending_in, put_by, added_by}
 use Rattle.pt_session.proofs.Lists.{length_takes, length_replaces}
-
-pub new_tables_agree : (limit : ℕ) → Agree (empty_tables limit)
-new_tables_agree limit = record { sound = tt; apart = tt; slots = omega arith }
 
 pub answered : (tables after : Tables) (asked : Change) (told : EventReply) → Happens tables asked told after → IsReplyFor asked told
 answered tables after change.Begin (reply.Began era negotiated) h = tt

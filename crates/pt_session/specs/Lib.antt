@@ -2,6 +2,7 @@ pub mod Change
 pub mod Tables
 pub mod Store
 pub mod LiveAfter
+pub mod Index
 pub mod Happens
 pub mod Kept
 pub mod Effect

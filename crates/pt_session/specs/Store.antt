@@ -1,6 +1,6 @@
 -- The rows and the closing list, as they are kept together.
-use Rattle.std.specs.Prelude.{◌≡◌, ◌≢◌, ◌<◌, ◌≤◌, ◌+◌, ℕ, true, List, length}
-use Rattle.pt_host.specs.Words.{Each, EachTwo, Takes}
+use Rattle.std.specs.Prelude.{◌≡◌, ◌≢◌, ◌<◌, ℕ, true, false, List}
+use Rattle.pt_host.specs.Words.{Each, Takes}
 use Rattle.pt_session.specs.Tables.{Row, Closing}
 
 -- the rows, newest first, and the closing list
@@ -33,7 +33,6 @@ pub record IsLater (was now : Row) : Type 0 where
 abbrev pub IsOlder : Row → Row → Type 0
 IsOlder row other = row.serial < other.serial
 
--- Each row can still be put on the closing list without memory, and the rows stand by age, oldest first.
-pub record IsSoundStore (rows : List Row) (closing : List Closing) (capacity : ℕ) : Type 0 where
-  pub room : length rows + length closing ≤ capacity
-  pub ordered : EachTwo IsOlder rows
+-- the row that died and stays for its pins
+abbrev pub dead_row : Row → Row
+dead_row row = record row { count = 0; live = false }

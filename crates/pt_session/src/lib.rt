@@ -5,6 +5,7 @@ mod event;
 mod events;
 mod form;
 mod giving;
+mod index;
 mod laws;
 mod reply;
 mod row;

@@ -1,134 +1,68 @@
-ghost use Rattle.std.specs.Prelude.{◌≡◌, ◌≢◌, ◌<◌, ◌≤◌, ◌+◌, true, [], ◌∷◌, ◌++◌, ◌↔◌, List, length, slice_index_or, slice_set, MatchOption, OnOk, OnErr, IsTrue};
-ghost use Rattle.std.specs.List.{remove};
-ghost use Rattle.pt_host.specs.Words.{Each, EachTwo, Takes, Replaces};
-ghost use Rattle.pt_session.specs.LiveAfter.{IsAbove, IsLiveAbove, IsLiveAfter};
-ghost use Rattle.pt_session.specs.Tables.{Row, closing_of, HasNumber, HasIds};
-ghost use Rattle.pt_session.specs.Store.{IsAmong, NoneOf, IsPinned, IsLater, IsOlder};
+ghost use Rattle.std.specs.Prelude.{◌≡◌, ◌<◌, ◌++◌, ◌∷◌, [], true, Some, MatchOption, OnOk, OnErr, IsSome};
+ghost use Rattle.std.specs.Ordering.{nat_cmp};
+ghost use Rattle.std.specs.Map.{set_value};
+ghost use Rattle.std.specs.BTreeMap.{is_at};
+ghost use Rattle.pt_host.specs.Words.{Each, Takes, Replaces};
+ghost use Rattle.pt_session.specs.Tables.{closing_of, HasNumber, HasIds};
+ghost use Rattle.pt_session.specs.Store.{IsAmong, NoneOf, IsPinned, IsLater, dead_row};
+ghost use Rattle.pt_session.specs.Index.{row_at, Puts};
+ghost use Rattle.pt_session.specs.LiveAfter.{IsLiveAfter};
 
+use crate::index::{Numbers, Objects, enter, leave, next_number, object_key};
 use crate::row::{Closing, Row};
 use pt_host::ObjIds;
 use std::alloc::{AllocError, Global};
-use std::collections::VecDeque;
+use std::collections::{BTreeMap, VecDeque};
 use std::marker::Model;
+
+/// By serial, so the oldest row comes first.
+type Rows = BTreeMap<u64, Row>;
 
 /// The rows and what is to be closed.
 #[derive(Drop)]
 pub struct RowStore {
-    /// The oldest row first.
-    rows: Vec<Row>,
+    rows: Rows,
+    numbers: Numbers,
+    objects: Objects,
     /// Has room for the descriptor of each row.
     closing: VecDeque<Closing>,
 }
 
 impl Model for RowStore {
     ghost use Rattle.std.specs.Prelude.{reverse};
+    ghost use Rattle.std.specs.Map.{values_of};
     ghost use Rattle.std.specs.VecDeque.{deque_capacity};
-    ghost use Rattle.pt_session.specs.Store.{Stored, IsSoundStore};
+    ghost use Rattle.pt_session.specs.Store.{Stored};
+    ghost use Rattle.pt_session.specs.Index.{by_number, by_object, IsSoundStore};
 
     ghost Value = { Stored };
 
     ghost view = { λ store. record {
-      rows = reverse store.rows.items;
+      rows = reverse (values_of store.rows.entries);
       closing = store.closing.items;
     } };
 
-    ghost invariant = { λ store. IsSoundStore store.rows.items store.closing.items (deque_capacity store.closing) };
+    ghost invariant = { λ store. IsSoundStore store.rows.entries (by_number store.numbers) (by_object store.objects) store.closing.items (deque_capacity store.closing) };
 }
 
-/// The first of these rows that is live and has this number.
-fn live_among(rows: &[Row], number: u64) -> Option<Row>
-    ensures { MatchOption result (NoneOf (HasNumber number) rows.now) (λ row. HasNumber number row × IsAmong row rows.now) }
+fn row_of(rows: &Rows, serial: u64) -> Option<Row>
+    ensures { result ≡ row_at rows.now.entries serial }
 {
-    for row in rows {
-        if row.live && row.number == number {
-            return Some(row.copy());
-        }
-    }
-    None
-}
-
-/// The first of these rows that is live and stands for this object.
-fn object_among(rows: &[Row], ids: ObjIds) -> Option<Row>
-    ensures { MatchOption result (NoneOf (HasIds ids) rows.now) (λ row. HasIds ids row × IsAmong row rows.now) }
-{
-    for row in rows {
-        if row.live && row.ids == ids {
-            return Some(row.copy());
-        }
-    }
-    None
-}
-
-/// The first of these rows that has this serial and a pin.
-fn pinned_among(rows: &[Row], serial: u64) -> Option<Row>
-    ensures { MatchOption result (NoneOf (IsPinned serial) rows.now) (λ row. IsPinned serial row × IsAmong row rows.now) }
-{
-    for row in rows {
-        if row.serial == serial && row.pins != 0 {
-            return Some(row.copy());
-        }
-    }
-    None
-}
-
-/// The place of a row among the rows by age.
-fn place_of(rows: &[Row], row: &Row) -> usize
-    requires among { IsAmong row.now rows.now }
-    requires ordered { EachTwo IsOlder rows.now }
-    ensures within { result < length rows.now }
-    ensures there { slice_index_or rows.now result row.now ≡ row.now }
-{
-    for (place, other) in rows.iter().enumerate() {
-        if other.serial == row.serial {
-            return place;
-        }
-    }
-    0
-}
-
-/// Whether a number is above the given one, if one is given.
-fn is_above(above: Option<u64>, number: u64) -> bool
-    ensures { IsTrue result ↔ IsAbove above number }
-{
-    match above {
-        None => true,
-        Some(below) => below < number,
+    match rows.get(&serial) {
+        None => None,
+        Some(row) => Some(row.copy()),
     }
 }
 
-fn is_live_above(above: Option<u64>, row: &Row) -> bool
-    ensures { IsTrue result ↔ IsLiveAbove above row.now }
+/// Puts a row in the place of the one that its serial has.
+fn put(rows: &mut Rows, serial: u64, now: Row)
+    requires { IsSome (row_at rows.old.entries serial) }
+    ensures entries { rows.new.entries ≡ set_value (is_at (nat_cmp serial)) rows.old.entries now }
+    ensures puts { Puts serial (Some now) (row_at rows.old.entries) (row_at rows.new.entries) }
 {
-    row.live && is_above(above, row.number)
-}
-
-/// The least live number so far, when this row is looked at too.
-fn lesser(least: Option<(u64, u64)>, above: Option<u64>, row: &Row) -> Option<(u64, u64)>
-    ensures { (rows : List Row) → IsLiveAfter rows above least → IsLiveAfter (rows ++ row.now ∷ []) above result }
-{
-    if !is_live_above(above, row) {
-        return least;
+    if let Some(row) = rows.get_mut(&serial) {
+        *row = now;
     }
-    match least {
-        None => Some((row.number, row.count)),
-        Some(found) => {
-            if row.number < found.0 {
-                return Some((row.number, row.count));
-            }
-            Some(found)
-        }
-    }
-}
-
-/// The least live number of these rows above the given one, or the least of all, with its count.
-fn least_live_after(rows: &[Row], above: Option<u64>) -> Option<(u64, u64)>
-    ensures { IsLiveAfter rows.now above result }
-{
-    let mut least = None;
-    for row in rows {
-        least = lesser(least, above, row);
-    }
-    least
 }
 
 impl RowStore {
@@ -137,7 +71,9 @@ impl RowStore {
         ensures closing { result.closing ≡ [] }
     {
         RowStore {
-            rows: Vec::new(alloc),
+            rows: BTreeMap::new(alloc),
+            numbers: BTreeMap::new(alloc),
+            objects: BTreeMap::new(alloc),
             closing: VecDeque::new(alloc),
         }
     }
@@ -146,32 +82,57 @@ impl RowStore {
     pub fn live(&self, number: u64) -> Option<Row>
         ensures { MatchOption result (NoneOf (HasNumber number) self.now.rows) (λ row. HasNumber number row × IsAmong row self.now.rows) }
     {
-        live_among(&self.rows, number)
+        match self.numbers.get(&number) {
+            None => None,
+            Some(serial) => row_of(&self.rows, *serial),
+        }
     }
 
     /// The live row of this object.
     pub fn object(&self, ids: ObjIds) -> Option<Row>
         ensures { MatchOption result (NoneOf (HasIds ids) self.now.rows) (λ row. HasIds ids row × IsAmong row self.now.rows) }
     {
-        object_among(&self.rows, ids)
+        match self.objects.get(&object_key(ids)) {
+            None => None,
+            Some(serial) => row_of(&self.rows, *serial),
+        }
     }
 
     /// The row of this serial, if it has a pin.
     pub fn pinned(&self, serial: u64) -> Option<Row>
         ensures { MatchOption result (NoneOf (IsPinned serial) self.now.rows) (λ row. IsPinned serial row × IsAmong row self.now.rows) }
     {
-        pinned_among(&self.rows, serial)
+        match row_of(&self.rows, serial) {
+            None => None,
+            Some(row) => {
+                if row.pins == 0 {
+                    return None;
+                }
+                Some(row)
+            }
+        }
     }
 
     /// Puts the row as it is now in its place.
     pub fn replace(&mut self, was: &Row, now: Row)
         requires among { IsAmong was.now self.old.rows }
         requires later { IsLater was.now now }
+        requires lives { now.live ≡ was.now.live }
         ensures rows { Replaces was.now now self.old.rows self.new.rows }
         ensures closing { self.new.closing ≡ self.old.closing }
     {
-        let place = place_of(&self.rows, was);
-        self.rows[place] = now;
+        put(&mut self.rows, was.serial, now);
+    }
+
+    /// Lets a live row die that stays for its pins.
+    pub fn bury(&mut self, row: &Row)
+        requires among { IsAmong row.now self.old.rows }
+        requires live { row.now.live ≡ true }
+        ensures rows { Replaces row.now (dead_row row.now) self.old.rows self.new.rows }
+        ensures closing { self.new.closing ≡ self.old.closing }
+    {
+        put(&mut self.rows, row.serial, row.dead());
+        leave(&mut self.numbers, &mut self.objects, row);
     }
 
     /// Takes the row out, and puts its descriptor on the closing list.
@@ -180,22 +141,31 @@ impl RowStore {
         ensures rows { Takes row.now self.old.rows self.new.rows }
         ensures closing { self.new.closing ≡ self.old.closing ++ closing_of row.now ∷ [] }
     {
-        let place = place_of(&self.rows, row);
-        let row = self.rows.remove(place);
+        let _ = self.rows.remove(&row.serial);
+        leave(&mut self.numbers, &mut self.objects, row);
         self.closing.push_back_reserved(row.closing());
     }
 
     /// Adds a row that is newer than all others, with the room that its closing will want.
     pub fn insert(&mut self, row: Row) -> Result<(), AllocError>
+        requires live { row.live ≡ true }
         requires newest { Each (λ other. other.serial < row.serial) self.old.rows }
+        requires number { NoneOf (HasNumber row.number) self.old.rows }
+        requires object { NoneOf (HasIds row.ids) self.old.rows }
         ensures ok { OnOk result (self.new.rows ≡ row ∷ self.old.rows) }
         ensures err { OnErr result (self.new.rows ≡ self.old.rows) }
         ensures closing { self.new.closing ≡ self.old.closing }
     {
         let rows = self.rows.len() + 1;
         self.closing.reserve(rows)?;
-        self.rows.push(row)?;
-        Ok(())
+        enter(&mut self.numbers, &mut self.objects, &row)?;
+        match self.rows.insert(row.serial, row) {
+            Ok(_) => Ok(()),
+            Err(refused) => {
+                leave(&mut self.numbers, &mut self.objects, &refused.value.1);
+                Err(AllocError)
+            }
+        }
     }
 
     /// Takes the first descriptor that is to be closed.
@@ -209,6 +179,12 @@ impl RowStore {
     pub fn live_after(&self, above: Option<u64>) -> Option<(u64, u64)>
         ensures { IsLiveAfter self.now.rows above result }
     {
-        least_live_after(&self.rows, above)
+        match next_number(&self.numbers, above) {
+            None => None,
+            Some((number, serial)) => match row_of(&self.rows, serial) {
+                None => None,
+                Some(row) => Some((number, row.count)),
+            },
+        }
     }
 }

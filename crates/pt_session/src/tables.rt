@@ -1,4 +1,4 @@
-ghost use Rattle.std.specs.Prelude.{◌≡◌, ◌≢◌};
+ghost use Rattle.std.specs.Prelude.{◌≡◌, ◌≢◌, true};
 ghost use Rattle.pt_session.specs.Tables.{empty_tables};
 ghost use Rattle.pt_session.specs.Store.{IsAmong, IsLater};
 ghost use Rattle.pt_session.specs.Happens.{Happens, Changes, Ends, Dies, agreed};
@@ -42,6 +42,7 @@ impl SessionTables {
     pub fn change(&mut self, was: &Row, now: Row)
         requires among { IsAmong was.now self.old.store.rows }
         requires later { IsLater was.now now }
+        requires lives { now.live ≡ was.now.live }
         ensures { Changes (tables_of self.old) was.now now (tables_of self.new) }
     {
         self.store.replace(was, now);
@@ -57,14 +58,15 @@ impl SessionTables {
 
     /// Lets a live row die, and tells how many descriptors are to be closed for it.
     pub fn kill(&mut self, row: &Row) -> u64
-        requires { IsAmong row.now self.old.store.rows }
+        requires among { IsAmong row.now self.old.store.rows }
+        requires live { row.now.live ≡ true }
         ensures { Dies (tables_of self.old) row.now result (tables_of self.new) }
     {
         if row.pins == 0 {
             self.end(row);
             1
         } else {
-            self.change(row, row.dead());
+            self.store.bury(row);
             0
         }
     }
