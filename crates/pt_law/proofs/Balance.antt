@@ -2,7 +2,8 @@
 use Rattle.std.proofs.Common.{◌≡◌, inl, inr, ℕ, suc, ◌+◌, ◌*◌, List, [], ◌∷◌, length, refl, ap, ◌∙◌, arith, Option, Some, None, length-append}
 use Rattle.pt_host.specs.Words.{is, total}
 use Rattle.pt_session.specs.Change.{Change}
-use Rattle.pt_session.specs.Tables.{Row, Tables, closing_of}
+use Rattle.pt_session.specs.Tables.{Tables, closing_of}
+use Rattle.pt_session.specs.declared.row.Row.{Row}
 use Rattle.pt_session.specs.Happens.{Happens, Changes, Ends, Dies, ForgetsOne, ForgetsAll, Unpins, new_row, with_row, agreed}
 use Rattle.pt_session.specs.declared.form.RowForm.{RowForm}
 use Rattle.pt_session.specs.declared.form.RowForm.TheVariants.{File}
@@ -119,11 +120,6 @@ same t after deed told e = rw e (moved_by t t 0 deed told (sheds_none t))
 again : (t : Tables) (row : Row) (after : Tables) (deed : Deed) (told : ActReply) → Changes t row (record row { count = row.count + 1 }) after → closings_in deed told ≡ 0 → closing_ended deed told ≡ 0 →
     ((fd : ℕ) → fd_out fd deed told ≡ fd_in fd deed told) → slot_out deed told ≡ slot_in deed told → ((serial : ℕ) → pin_ended serial deed told ≡ pin_made serial deed told) → Moved t after deed told
 again t row after deed told h = moved_by t after 0 deed told (recounts t row _ after refl refl refl h)
-
--- a row's pins change
-repins : (t : Tables) (row : Row) (pins : ℕ) (after : Tables) → Changes t row (record row { pins = pins }) after → (serial : ℕ) →
-    total (row_pins serial) after.rows + is row.serial serial * row.pins ≡ total (row_pins serial) t.rows + is row.serial serial * pins
-repins t row pins after h serial = rw h.2 (let a = total_replaces (row_pins serial) h.1 in omega (arith, a))
 
 unpinned : (t : Tables) (serial n : ℕ) (after : Tables) → Unpins t serial n after → Moved t after (Asks (change.Unpin serial)) (Event (reply.Done n))
 unpinned t serial n after (row, pins, s, p, inl h) =

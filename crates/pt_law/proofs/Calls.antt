@@ -1,11 +1,10 @@
 -- Calls of the host keep what is known of open descriptors.
-use Rattle.std.proofs.Common.{◌≡◌, ◌≢◌, ◌⊎◌, ⊎_elim, inl, inr, ℕ, zero, suc, ◌+◌, ◌-◌, ◌*◌, ◌<◌, ◌≤◌, List, [], ◌∷◌, ◌++◌, length, Bool, true, false, refl, sym, ap, subst, ◌∙◌, arith, Option, Some, None}
-use Rattle.std.proofs.lemmas.Bool.{cases_eq}
-use Rattle.pt_host.specs.Words.{is, total, Each, Takes, Replaces, set_at}
+use Rattle.std.proofs.Common.{◌≡◌, ℕ, ◌<◌, ◌≤◌, List, Bool, true, false, refl, sym, ap, subst, ◌∙◌, arith, Option, Some, None}
+use Rattle.pt_host.specs.Words.{total, Each, Takes, set_at}
 use Rattle.pt_host.specs.Call.{Call}
 use Rattle.pt_host.specs.Flags.{includes, o_path}
-use Rattle.pt_host.specs.Tree.{Tree, Opened, IsOpenOn}
-use Rattle.pt_host.specs.LawfulStep.{Changes as TreeChanges, Opens, opened_on, closed_at}
+use Rattle.pt_host.specs.Tree.{Tree, Opened}
+use Rattle.pt_host.specs.LawfulStep.{Changes as TreeChanges, opened_on, closed_at}
 use Rattle.pt_host.specs.declared.ids.Fd.{Fd}
 use Rattle.pt_host.specs.declared.ids.ObjIds.{ObjIds}
 use Rattle.pt_host.specs.declared.flags.OpenFlags.{OpenFlags}
@@ -13,17 +12,16 @@ use Rattle.pt_host.specs.declared.op.KeptHostOp.TheVariants as call
 use Rattle.pt_host.specs.declared.reply.HostReply.{HostReply}
 use Rattle.pt_host.specs.declared.reply.HostReply.TheVariants as host
 use Rattle.pt_host.specs.declared.reply.HostValue.TheVariants as value
-use Rattle.pt_session.specs.Tables.{Row, Tables}
-use Rattle.pt_req.specs.Deed.{Deed, Calls}
-use Rattle.pt_req.specs.declared.act.ActReply.{ActReply}
-use Rattle.pt_req.specs.declared.act.ActReply.TheVariants.{Event, Host, NoCopy}
+use Rattle.pt_session.specs.declared.row.Row.{Row}
+use Rattle.pt_req.specs.Deed.{Calls}
+use Rattle.pt_req.specs.declared.act.ActReply.TheVariants.{Host}
 use Rattle.pt_req.specs.declared.hold.Hold.{Hold}
 use Rattle.pt_req.specs.declared.hold.Hold.TheVariants as hold
-use Rattle.pt_law.specs.Discipline.{Job, Notes, notes_after, with_root, without, unless, MovesBy}
+use Rattle.pt_law.specs.Discipline.{Job, Notes, with_root, without, unless, MovesBy}
 use Rattle.pt_law.specs.World.{Past, settled_by, object_of, first_of}
 use Rattle.pt_law.specs.Ledger.{fd_held, row_fd}
 use Rattle.pt_law.proofs.Lists.{total_takes, total_replaces, is_same, is_apart, set_at_same, set_at_other, at_each, each_replaces, each_takes, each_put}
-use Rattle.pt_law.proofs.Knowing.{Shows, RowShows, RowOpen, ToldRight, PinRight, NotedOpen, NotedRight, Knowing, with_entry, rows_open, told_open, noted_open, rows_closed, told_closed, noted_closed, unless_apart}
+use Rattle.pt_law.proofs.Knowing.{RowOpen, ToldRight, PinRight, NotedOpen, NotedRight, Knowing, with_entry, rows_open, told_open, noted_open, rows_closed, told_closed, noted_closed, unless_apart}
 
 -- what is known of rows and jobs is right
 pub record Right (bound : ℕ) (tree : Tree) (next : ℕ) (past : Past) (rows : List Row) (js : ℕ → Job) : Type 0 where
@@ -106,9 +104,11 @@ opens_at bound tree next past rows js j after object flags new lt h free t n o j
 root_after : (tree : Tree) (object : ℕ) (flags : OpenFlags) (new : Fd) (notes : Notes) (was o : Option ℕ) (holds after : List Hold) → tree.opened new.0 ≡ None → Takes (hold.Fd new None) after holds → o ≡ Some object →
     NotedRight tree notes.root was holds → (notes.rooted ≡ false → was ≡ None) → (b : Bool) → notes.rooted ≡ b →
     NotedRight (opened_on tree object flags new) (with_root new (record notes { rooted = b })).root (first_of was o) after × ((with_root new (record notes { rooted = b })).rooted ≡ true)
-root_after tree object flags new notes was o holds after free t judged h u true e =
-    ((λ fd q. let a = noted_open tree new.0 (Some (record { object = object; path_only = includes flags.0 o_path })) notes.root was holds after free (more_held t) h fd q in
-        record { held = a.held; object = a.object; open_on = a.open_on; judged = ap (λ z. first_of z o) a.judged }), refl)
+root_after tree object flags new notes was o holds after free t judged h u true e = (
+  (λ fd q. let a = noted_open tree new.0 (Some (record { object = object; path_only = includes flags.0 o_path })) notes.root was holds after free (more_held t) h fd q in
+      record { held = a.held; object = a.object; open_on = a.open_on; judged = ap (λ z. first_of z o) a.judged }),
+  refl,
+)
 root_after tree object flags new notes was o holds after free t judged h u false e =
     ((λ fd q. just_opened tree object flags new fd (first_of was o) (cc) t (ap (λ z. first_of z o) (u e) ∙ judged)), refl)
 
@@ -150,23 +150,23 @@ closes bound tree next past rows js j after f told lt h t n z none = record {
   shown = rows_closed tree past f.0 rows z h.shown;
   knows = λ i less. at_each (λ i job. total (fd_held f.0) job.holds ≡ 0 → Knowing (closed_at tree f) next past i job) js j after i
       (λ y.
-          let k = h.knows j lt in
-          record {
-            told = told_closed tree f.0 after.holds y (each_takes (ToldRight tree) t k.told);
-            pins = each_takes (PinRight next past.fds) t k.pins;
-            latest = noted_closed tree f.0 after.notes.latest (past.latest j) after.holds y (left (js j).notes.latest after.notes.latest (past.latest j) (ap (λ (z : Notes). z.latest) n) k.latest);
-            root = noted_closed tree f.0 after.notes.root (past.roots j) after.holds y (left (js j).notes.root after.notes.root (past.roots j) (ap (λ (z : Notes). z.root) n) k.root);
-            unrooted = λ e. k.unrooted (sym (ap (λ (z : Notes). z.rooted) n) ∙ e);
-          })
+      let k = h.knows j lt in
+      record {
+        told = told_closed tree f.0 after.holds y (each_takes (ToldRight tree) t k.told);
+        pins = each_takes (PinRight next past.fds) t k.pins;
+        latest = noted_closed tree f.0 after.notes.latest (past.latest j) after.holds y (left (js j).notes.latest after.notes.latest (past.latest j) (ap (λ (z : Notes). z.latest) n) k.latest);
+        root = noted_closed tree f.0 after.notes.root (past.roots j) after.holds y (left (js j).notes.root after.notes.root (past.roots j) (ap (λ (z : Notes). z.root) n) k.root);
+        unrooted = λ e. k.unrooted (sym (ap (λ (z : Notes). z.rooted) n) ∙ e);
+      })
       (λ other y.
-          let k = h.knows i less in
-          record {
-            told = told_closed tree f.0 (js i).holds y k.told;
-            pins = k.pins;
-            latest = noted_closed tree f.0 (js i).notes.latest (past.latest i) (js i).holds y k.latest;
-            root = noted_closed tree f.0 (js i).notes.root (past.roots i) (js i).holds y k.root;
-            unrooted = k.unrooted;
-          })
+      let k = h.knows i less in
+      record {
+        told = told_closed tree f.0 (js i).holds y k.told;
+        pins = k.pins;
+        latest = noted_closed tree f.0 (js i).notes.latest (past.latest i) (js i).holds y k.latest;
+        root = noted_closed tree f.0 (js i).notes.root (past.roots i) (js i).holds y k.root;
+        unrooted = k.unrooted;
+      })
       (none i less);
 }
   where
@@ -189,9 +189,9 @@ keeps_call bound tree next past rows js j after (call.OpenAt dir name flags mode
     rw o.adds (opens_at bound tree next past rows js j after l.0 flags new lt h o.fresh m.0.1 m.3 (object_of ((opened_on tree l.0 flags new).opened new.0)) (object_opened tree l.0 flags new))
 keeps_call bound tree next past rows js j after (call.Stat f) (host.Ok (value.Stat stat)) tree' lt h l m c =
     rw l.5 (quiet bound tree next past rows js j after lt h m.3
-        (each_replaces (ToldRight tree) m.0.1 (λ _. (l.0, record { open_on = l.2; what = l.1; is_object = l.3; same_ids = sym l.4.ids })) (h.knows j lt).told)
-        (each_replaces (PinRight next past.fds) m.0.1 (λ _. tt) (h.knows j lt).pins)
-        (λ fd. let e = total_replaces (fd_held fd) m.0.1 in omega (arith, e)))
+    (each_replaces (ToldRight tree) m.0.1 (λ _. (l.0, record { open_on = l.2; what = l.1; is_object = l.3; same_ids = sym l.4.ids })) (h.knows j lt).told)
+    (each_replaces (PinRight next past.fds) m.0.1 (λ _. tt) (h.knows j lt).pins)
+    (λ fd. let e = total_replaces (fd_held fd) m.0.1 in omega (arith, e)))
 keeps_call bound tree next past rows js j after (call.Close f) told tree' lt h l m c =
     let e = c f refl in
     rw l (closes bound tree next past rows js j after f m.0.0 lt h m.0.1 m.3 e.0 e.1)

@@ -3,7 +3,8 @@ use Rattle.std.proofs.Common.{◌≡◌, ◌≢◌, ⊎_elim, ℕ, ◌+◌, ◌*
 use Rattle.std.proofs.lemmas.Bool.{cases_eq}
 use Rattle.pt_host.specs.Words.{is, total, Each, set_at, sum_to}
 use Rattle.pt_session.specs.Change.{Change}
-use Rattle.pt_session.specs.Tables.{Row, Tables, Agree}
+use Rattle.pt_session.specs.Tables.{Tables, Agree}
+use Rattle.pt_session.specs.declared.row.Row.{Row}
 use Rattle.pt_session.specs.Happens.{Happens}
 use Rattle.pt_session.specs.declared.event.KeptEvent.TheVariants as change
 use Rattle.pt_session.specs.declared.reply.EventRefusal.TheVariants.{NotLive}
@@ -15,9 +16,9 @@ use Rattle.pt_req.specs.declared.act.ActReply.{ActReply}
 use Rattle.pt_req.specs.declared.act.ActReply.TheVariants.{Event}
 use Rattle.pt_req.specs.declared.hold.Hold.{Hold}
 use Rattle.pt_law.specs.Discipline.{Job, MovesBy}
-use Rattle.pt_law.specs.World.{Turns}
+use Rattle.pt_law.specs.World.{TablesGo}
 use Rattle.pt_law.specs.Ledger.{held_by, kept_slots}
-use Rattle.pt_law.proofs.Flows.{slot_held, pin_held, row_pins, closing_ended, IsHonest}
+use Rattle.pt_law.proofs.Flows.{slot_held, pin_held, row_pins, closing_ended, IsHonest, called}
 use Rattle.pt_law.proofs.Lists.{total_takes, le_sum_to, sum_to_set, is_same, is_apart}
 use Rattle.pt_law.proofs.Effects.{stays}
 use Rattle.pt_law.proofs.Balance.{moved}
@@ -72,12 +73,12 @@ owed_flow : (job : Job) (deed : Deed) (told : ActReply) (after : Job) → MovesB
 owed_flow job (Changes change.TakeClosing) told after m = omega (arith, m.1, m.2)
 owed_flow job deed told after m = let e = m.2 in omega (arith, e)
 
-pub keeps_books : (bound : ℕ) (t : Tables) (js : ℕ → Job) (j : ℕ) (deed : Deed) (told : ActReply) (t' : Tables) (after : Job) → j < bound → Agree t → Books bound t js → Turns t (Some deed) told t' →
+pub keeps_books : (bound : ℕ) (t : Tables) (js : ℕ → Job) (j : ℕ) (deed : Deed) (told : ActReply) (t' : Tables) (after : Job) → j < bound → Agree t → Books bound t js → TablesGo t (Some deed) told t' →
     MovesBy (js j) deed told after → Books bound t' (set_at j after js)
 keeps_books bound t js j (Calls a) told t' after lt agree b g m =
     let f = handed (js j).holds (Calls a) told after.holds m.0 in
     let o = owed_flow (js j) (Calls a) told after m in
-    rw g (record {
+    rw (called t a told t' g) (record {
       slots = let x = b.slots in let y = f.slots in let z = sum_to_set (λ (k : Job). total slot_held k.holds) js j after bound lt in omega (arith, x, y, z);
       pins = λ s. let x = b.pins s in let y = f.pins s in let z = sum_to_set (λ (k : Job). total (pin_held s) k.holds) js j after bound lt in omega (arith, x, y, z);
       closings = let x = b.closings in let z = sum_to_set (λ (k : Job). k.owed) js j after bound lt in omega (arith, x, o, z);

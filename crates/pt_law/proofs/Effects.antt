@@ -3,7 +3,9 @@ use Rattle.std.proofs.Common.{◌≡◌, ◌≢◌, ⊎_elim, inl, inr, ℕ, ◌
 use Rattle.pt_host.specs.Words.{Each, Takes, Replaces}
 use Rattle.pt_host.specs.declared.ids.ObjIds.{ObjIds}
 use Rattle.pt_session.specs.Change.{Change}
-use Rattle.pt_session.specs.Tables.{Row, Closing, Tables, closing_of, HasNumber, HasIds, AreApart, IsSoundRow, Agree}
+use Rattle.pt_session.specs.Tables.{Tables, closing_of, HasNumber, HasIds, AreApart, IsSoundRow, Agree}
+use Rattle.pt_session.specs.declared.row.Row.{Row}
+use Rattle.pt_session.specs.declared.row.Closing.{Closing}
 use Rattle.pt_session.specs.Happens.{Happens, Changes, Ends, Dies, ForgetsOne, ForgetsAll, Unpins, GivesAgain, IsFree, new_row, with_row, agreed}
 use Rattle.pt_session.specs.declared.form.RowForm.{RowForm}
 use Rattle.pt_session.specs.declared.form.Negotiated.{Negotiated}

@@ -1,34 +1,32 @@
 -- Events keep what is known of open descriptors.
-use Rattle.std.proofs.Common.{◌≡◌, ◌≢◌, ◌⊎◌, ⊎_elim, inl, inr, ℕ, zero, suc, ◌+◌, ◌-◌, ◌*◌, ◌<◌, ◌≤◌, List, [], ◌∷◌, ◌++◌, length, Bool, true, false, refl, sym, ap, subst, ◌∙◌, arith, Option, Some, None}
-use Rattle.std.proofs.lemmas.Bool.{cases_eq}
-use Rattle.pt_host.specs.Words.{is, total, Each, Takes, Replaces, set_at}
-use Rattle.pt_host.specs.Tree.{Tree, IsOpenOn}
+use Rattle.std.proofs.Common.{◌≡◌, ◌≢◌, ℕ, ◌<◌, ◌≤◌, List, [], ◌∷◌, ◌++◌, true, false, refl, sym, ap, ◌∙◌, arith, Option, Some, None}
+use Rattle.pt_host.specs.Words.{Each, set_at}
+use Rattle.pt_host.specs.Tree.{Tree}
 use Rattle.pt_host.specs.declared.ids.Fd.{Fd}
 use Rattle.pt_host.specs.declared.ids.ObjIds.{ObjIds}
 use Rattle.pt_session.specs.Change.{Change}
-use Rattle.pt_session.specs.Tables.{Row, Tables, HasNumber, IsSoundRow, Agree}
+use Rattle.pt_session.specs.Tables.{Tables, HasNumber, IsSoundRow, Agree}
+use Rattle.pt_session.specs.declared.row.Row.{Row}
 use Rattle.pt_session.specs.Happens.{Happens, IsFree, new_row, with_row, agreed}
 use Rattle.pt_session.specs.declared.form.RowForm.{RowForm}
 use Rattle.pt_session.specs.declared.form.Negotiated.{Negotiated}
 use Rattle.pt_session.specs.declared.event.KeptEvent.TheVariants as change
 use Rattle.pt_session.specs.declared.reply.EventReply.{EventReply}
 use Rattle.pt_session.specs.declared.reply.EventReply.TheVariants as event
-use Rattle.pt_req.specs.Deed.{Deed, Calls, Changes}
+use Rattle.pt_req.specs.Deed.{Changes}
 use Rattle.pt_req.specs.Held.{fd_of, taken_in, brought}
-use Rattle.pt_req.specs.declared.act.ActReply.{ActReply}
-use Rattle.pt_req.specs.declared.act.ActReply.TheVariants.{Event, Host, NoCopy}
+use Rattle.pt_req.specs.declared.act.ActReply.TheVariants.{Event}
 use Rattle.pt_req.specs.declared.hold.Hold.{Hold}
 use Rattle.pt_req.specs.declared.hold.Hold.TheVariants as hold
 use Rattle.pt_req.specs.declared.hold.Taken.{Taken}
 use Rattle.pt_req.specs.declared.hold.Taken.TheVariants as taken
-use Rattle.pt_law.specs.Discipline.{Job, Notes, notes_after, Shifts, MovesBy, IsTold, unless}
-use Rattle.pt_law.specs.World.{World, Past, settled, settled_by}
-use Rattle.pt_law.specs.Ledger.{fd_held}
-use Rattle.pt_law.proofs.Flows.{fd_in, fd_ended, fd_out, fd_made}
-use Rattle.pt_law.proofs.Lists.{total_takes, is_same, is_apart, set_at_same, set_at_other, each_replaced, each_takes, each_taken, each_map, each_put}
+use Rattle.pt_law.specs.Discipline.{Job, Notes, notes_after, Shifts, MovesBy, IsTold}
+use Rattle.pt_law.specs.World.{Past, settled, settled_by}
+use Rattle.pt_law.proofs.Flows.{fd_in}
+use Rattle.pt_law.proofs.Lists.{is_apart, set_at_same, set_at_other, each_replaced, each_takes, each_taken, each_map, each_put}
 use Rattle.pt_law.proofs.Effects.{kept, rows_kept, stays_kept}
 use Rattle.pt_law.proofs.Holding.{handed}
-use Rattle.pt_law.proofs.Knowing.{Shows, RowShows, RowOpen, ToldRight, PinRight, NotedOpen, NotedRight, Knowing, one_object, row_later, unless_apart}
+use Rattle.pt_law.proofs.Knowing.{Shows, RowOpen, ToldRight, PinRight, NotedOpen, NotedRight, Knowing, one_object, row_later, unless_apart}
 
 -- what `Stat` told of a noted descriptor is told of the object that its opening answered
 pub told_noted : (tree : Tree) (fd : Fd) (ids : ObjIds) (was : Option ℕ) (holds : List Hold) → Each (ToldRight tree) holds → IsTold holds fd ids → NotedOpen tree fd was holds →
@@ -81,7 +79,7 @@ rows_event tree past t j job after (change.Insert era number form ids mode) (eve
 rows_event tree past t j job after (change.InsertRoot era form ids mode negotiated) (event.Inserted given) t' a h m k rows =
     let fit = m.1 in
     rw h.4 (agreed_rows (RowOpen tree (settled past given t.next_row (fd_of form) (past.roots j))) negotiated (with_row t (new_row t 1 form ids mode 2))
-        (row_comes tree past t 1 given form ids mode 2 (past.roots j) a h.3 h.1 (told_noted tree (fd_of form) ids (past.roots j) job.holds k.told fit.2 (k.root (fd_of form) fit.1)) rows))
+    (row_comes tree past t 1 given form ids mode 2 (past.roots j) a h.3 h.1 (told_noted tree (fd_of form) ids (past.roots j) job.holds k.told fit.2 (k.root (fd_of form) fit.1)) rows))
 rows_event tree past t j job after e r t' a h m k rows = rows_kept (RowOpen tree past) (row_later tree past) (kept t e r t' a tt h) rows
 
 -- what is held of slots, counts, new descriptors and new pins, and of what was held before, is held after
@@ -91,15 +89,21 @@ each_brought P taken.Slot holds s f h = (s, h)
 each_brought P (taken.Fd fd true) holds s f h = (f fd, (s, h))
 each_brought P (taken.Fd fd false) holds s f h = (f fd, h)
 
-holds_event : (P : Hold → Type 0) (holds : List Hold) (e : Change) (r : EventReply) (after : List Hold) → Shifts holds (Changes e) (Event r) after → P hold.Slot → ((era n : ℕ) → P (hold.Count era n)) → ((fd : Fd) → P (hold.Fd fd None)) →
+-- the event gives a number of this era
+abbrev pub IsOfEra : Change → ℕ → Type 0
+IsOfEra (change.Claim era handle ids) own = own ≡ era
+IsOfEra (change.Insert era number form ids mode) own = own ≡ era
+IsOfEra e own = ⊥
+
+pub holds_event : (P : Hold → Type 0) (holds : List Hold) (e : Change) (r : EventReply) (after : List Hold) → Shifts holds (Changes e) (Event r) after → P hold.Slot → ((era n : ℕ) → IsOfEra e era → P (hold.Count era n)) → ((fd : Fd) → P (hold.Fd fd None)) →
     ((number row mode : ℕ) (form : RowForm) (ids : ObjIds) → e ≡ change.Resolve number → r ≡ event.Resolved row form ids mode → P (hold.Pin row (fd_of form))) → Each P holds → Each P after
 holds_event P holds (change.Resolve number) (event.Resolved row form ids mode) after m s c f p h = each_put P m (p number row mode form ids refl refl) h
 holds_event P holds (change.Unpin row) r after m s c f p h = each_takes P m.1 h
-holds_event P holds (change.Claim era handle ids) (event.Claimed number) after m s c f p h = each_put P m (c era number) h
+holds_event P holds (change.Claim era handle ids) (event.Claimed number) after m s c f p h = each_put P m (c era number refl) h
 holds_event P holds change.TakeFd event.Taken after m s c f p h = each_put P m s h
 holds_event P holds change.GiveFd r after m s c f p h = each_takes P m h
-holds_event P holds (change.Insert era number form ids mode) (event.Inserted given) after m s c f p h = each_put P m.4 (c era given) (each_takes P m.3 (each_takes P m.2 h))
-holds_event P holds (change.Insert era number form ids mode) (event.Found given) after m s c f p h = each_put P m (c era given) h
+holds_event P holds (change.Insert era number form ids mode) (event.Inserted given) after m s c f p h = each_put P m.4 (c era given refl) (each_takes P m.3 (each_takes P m.2 h))
+holds_event P holds (change.Insert era number form ids mode) (event.Found given) after m s c f p h = each_put P m (c era given refl) h
 holds_event P holds (change.InsertRoot era form ids mode negotiated) (event.Inserted given) after m s c f p h = each_takes P m.2 (each_takes P m.1 h)
 holds_event P holds (change.GiveBack era number) r after m s c f p h = each_takes P m h
 holds_event P holds change.TakeClosing r after m s c f p h = rw m (each_brought P (taken_in (Event r)) holds s f h)
@@ -190,8 +194,8 @@ knows_event tree past t j job after e r t' a h m rows k =
     let later = settled_by past j (Changes e) (Event r) t.next_row tree in
     let g = grows tree past t j e r t' a h in
     record {
-      told = holds_event (ToldRight tree) job.holds e r after.holds m.0 tt (λ era n. tt) (λ fd. tt) (λ number row mode form ids x y. tt) k.told;
-      pins = holds_event (PinRight t'.next_row later.fds) job.holds e r after.holds m.0 tt (λ era n. tt) (λ fd. tt)
+      told = holds_event (ToldRight tree) job.holds e r after.holds m.0 tt (λ era n own. tt) (λ fd. tt) (λ number row mode form ids x y. tt) k.told;
+      pins = holds_event (PinRight t'.next_row later.fds) job.holds e r after.holds m.0 tt (λ era n own. tt) (λ fd. tt)
           (λ number row mode form ids x y. pin_grows past later t.next_row t'.next_row (hold.Pin row (fd_of form)) g (resolved_pin tree past t number row mode form ids t' a (rw (x, y) at h) rows))
           (pins_grow past later t.next_row t'.next_row job.holds g k.pins);
       latest = noted_event tree job after e r job.notes.latest after.notes.latest (past.latest j) (later.latest j) m.0 (ap (λ f. f j) g.latest)

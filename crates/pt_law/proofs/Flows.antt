@@ -1,18 +1,21 @@
 -- What each deed moves between tables, jobs and host, by its reply.
-use Rattle.std.proofs.Common.{ℕ, ◌*◌}
+use Rattle.std.proofs.Common.{◌≡◌, ℕ, ◌*◌, Some, None}
 use Rattle.pt_host.specs.Words.{is}
+use Rattle.pt_host.specs.Call.{Call}
 use Rattle.pt_host.specs.declared.op.KeptHostOp.TheVariants as call
 use Rattle.pt_host.specs.declared.reply.HostReply.TheVariants as host
 use Rattle.pt_host.specs.declared.reply.HostValue.TheVariants as value
-use Rattle.pt_session.specs.Tables.{Row}
+use Rattle.pt_session.specs.Tables.{Tables}
+use Rattle.pt_session.specs.declared.row.Row.{Row}
 use Rattle.pt_session.specs.declared.event.KeptEvent.TheVariants as change
 use Rattle.pt_session.specs.declared.reply.EventReply.TheVariants as event
 use Rattle.pt_req.specs.Deed.{Deed, Calls, Changes}
 use Rattle.pt_req.specs.Held.{fd_of}
 use Rattle.pt_req.specs.declared.act.ActReply.{ActReply}
-use Rattle.pt_req.specs.declared.act.ActReply.TheVariants.{Event, Host}
+use Rattle.pt_req.specs.declared.act.ActReply.TheVariants.{Event, Host, NoCopy}
 use Rattle.pt_req.specs.declared.hold.Hold.{Hold}
 use Rattle.pt_req.specs.declared.hold.Hold.TheVariants as hold
+use Rattle.pt_law.specs.World.{TablesGo}
 use Rattle.pt_law.specs.Ledger.{one_if, form_slot}
 
 -- descriptors: from a job to the tables, from the tables to a job, opened, closed
@@ -83,3 +86,13 @@ IsHonest (Changes (change.Unpin row)) (Event (event.Refused why)) = ⊥
 IsHonest (Changes change.GiveFd) (Event (event.Refused why)) = ⊥
 IsHonest (Changes change.TakeClosing) (Event (event.Refused why)) = ⊥
 IsHonest deed told = Unit {0}
+
+-- a call changes no table, and a step that was not made changes nothing
+pub called : (t : Tables) (a : Call) (told : ActReply) (t' : Tables) → TablesGo t (Some (Calls a)) told t' → t' ≡ t
+called t a (Host r) t' g = g
+called t a NoCopy t' g = g
+called t a told t' g = absurd g
+
+pub unmade : (t : Tables) (told : ActReply) (t' : Tables) → TablesGo t None told t' → t' ≡ t
+unmade t NoCopy t' g = g
+unmade t told t' g = absurd g

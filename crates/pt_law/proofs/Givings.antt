@@ -3,7 +3,8 @@ use Rattle.std.proofs.Common.{◌≡◌, ◌≢◌, ⊎_elim, inl, inr, ℕ, ◌
 use Rattle.std.proofs.lemmas.Bool.{cases_eq, cases_Bool}
 use Rattle.pt_host.specs.Words.{is, total, Each, EachTwo, Takes, Takes.{here, there}, Replaces, Replaces.{at, past}}
 use Rattle.pt_session.specs.Change.{Change}
-use Rattle.pt_session.specs.Tables.{Row, Tables, HasNumber, AreApart, Agree}
+use Rattle.pt_session.specs.Tables.{Tables, HasNumber, AreApart, Agree}
+use Rattle.pt_session.specs.declared.row.Row.{Row}
 use Rattle.pt_session.specs.Happens.{Happens, Changes, Dies, ForgetsOne, ForgetsAll, Unpins, NoRow, new_row, with_row, agreed}
 use Rattle.pt_session.specs.declared.form.Negotiated.{Negotiated}
 use Rattle.pt_session.specs.declared.event.KeptEvent.TheVariants as change
@@ -13,8 +14,9 @@ use Rattle.pt_session.specs.declared.reply.EventReply.TheVariants as event
 use Rattle.pt_req.specs.Deed.{Deed, Changes as Asks, Calls}
 use Rattle.pt_req.specs.declared.act.ActReply.{ActReply}
 use Rattle.pt_req.specs.declared.act.ActReply.TheVariants.{Event}
-use Rattle.pt_law.specs.World.{Turn, Turns, TablesRun}
+use Rattle.pt_law.specs.World.{Turn, TablesGo, TablesRun}
 use Rattle.pt_law.specs.Ledger.{forgotten, given_by, given_if, given_after}
+use Rattle.pt_law.proofs.Flows.{called, unmade}
 use Rattle.pt_law.proofs.Lists.{total_takes, total_replaces, is_same, is_apart}
 use Rattle.pt_law.proofs.Effects.{forgets_one, agree_kept, agrees}
 
@@ -196,15 +198,15 @@ counts_event n t change.TakeClosing (event.Closing fd slot) after a h = ap (live
 counts_event n t change.TakeClosing (event.Refused NotLive) after a h = ap (live_count n) h.1
 counts_event n t _ _ after a h = absurd h
 
-pub counts_step : (n : ℕ) (t : Tables) (deed : Option Deed) (told : ActReply) (after : Tables) → Agree t → Turns t deed told after → live_count n after ≡ given_if n (live_count n t) deed told
-counts_step n t None told after a g = ap (live_count n) g
-counts_step n t (Some (Calls asked)) told after a g = ap (live_count n) g
+pub counts_step : (n : ℕ) (t : Tables) (deed : Option Deed) (told : ActReply) (after : Tables) → Agree t → TablesGo t deed told after → live_count n after ≡ given_if n (live_count n t) deed told
+counts_step n t None told after a g = ap (live_count n) (unmade t told after g)
+counts_step n t (Some (Calls asked)) told after a g = ap (live_count n) (called t asked told after g)
 counts_step n t (Some (Asks asked)) (Event r) after a g = counts_event n t asked r after a g
 counts_step n t (Some (Asks asked)) told after a g = absurd g
 
-pub agree_step : (t : Tables) (deed : Option Deed) (told : ActReply) (after : Tables) → Turns t deed told after → Agree t → Agree after
-agree_step t None told after g a = rw g a
-agree_step t (Some (Calls asked)) told after g a = rw g a
+pub agree_step : (t : Tables) (deed : Option Deed) (told : ActReply) (after : Tables) → TablesGo t deed told after → Agree t → Agree after
+agree_step t None told after g a = rw (unmade t told after g) a
+agree_step t (Some (Calls asked)) told after g a = rw (called t asked told after g) a
 agree_step t (Some (Asks asked)) (Event r) after g a = agrees t asked r after g a
 agree_step t (Some (Asks asked)) told after g a = absurd g
 

@@ -5,7 +5,7 @@ use Rattle.pt_host.specs.Words.{is, total, Each, set_at}
 use Rattle.pt_host.specs.Tree.{Tree, Object, Opened, IsObject, IsOpenOn}
 use Rattle.pt_host.specs.declared.ids.Fd.{Fd}
 use Rattle.pt_host.specs.declared.ids.ObjIds.{ObjIds}
-use Rattle.pt_session.specs.Tables.{Row}
+use Rattle.pt_session.specs.declared.row.Row.{Row}
 use Rattle.pt_req.specs.Held.{fd_of}
 use Rattle.pt_req.specs.declared.hold.Hold.{Hold}
 use Rattle.pt_req.specs.declared.hold.Hold.TheVariants as hold

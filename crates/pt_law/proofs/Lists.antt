@@ -65,10 +65,6 @@ pub is_same : (a : ℕ) → is a a ≡ 1
 unfolding is
 is_same a = grind arith
 
-pub is_at : (a b : ℕ) → a ≡ b → is a b ≡ 1
-unfolding is
-is_at a b e = grind arith
-
 pub is_apart : (a b : ℕ) → a ≢ b → is a b ≡ 0
 unfolding is
 is_apart a b e = grind arith
@@ -76,10 +72,6 @@ is_apart a b e = grind arith
 pub is_within : (a b : ℕ) → is a b ≤ 1
 unfolding is
 is_within a b = grind arith
-
-pub is_one : (a b : ℕ) → 0 < is a b → a ≡ b
-unfolding is
-is_one a b h = grind arith
 
 pub is_none : (a b : ℕ) → is a b ≡ 0 → a ≢ b
 unfolding is

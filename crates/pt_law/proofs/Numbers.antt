@@ -13,8 +13,9 @@ use Rattle.pt_req.specs.Deed.{Deed, Calls, Changes}
 use Rattle.pt_req.specs.declared.act.ActReply.{ActReply}
 use Rattle.pt_req.specs.declared.act.ActReply.TheVariants.{Event, Host}
 use Rattle.pt_law.specs.Discipline.{Job, Notes, with_root, MovesBy}
-use Rattle.pt_law.specs.World.{Turns}
+use Rattle.pt_law.specs.World.{TablesGo}
 use Rattle.pt_law.specs.Ledger.{inserted_as}
+use Rattle.pt_law.proofs.Flows.{called}
 use Rattle.pt_law.proofs.Lists.{is_apart, is_within, sum_to_set}
 use Rattle.pt_law.proofs.Effects.{stays}
 
@@ -45,7 +46,7 @@ root_drawn fd notes = go notes.rooted
     go false = refl
 
 -- a number that comes to be inserted was drawn, or is 1
-drawn_flow : (job : Job) (t : Tables) (deed : Deed) (told : ActReply) (t' : Tables) (after : Job) → Turns t (Some deed) told t' → MovesBy job deed told after → (n : ℕ) → n ≢ 1 →
+drawn_flow : (job : Job) (t : Tables) (deed : Deed) (told : ActReply) (t' : Tables) (after : Job) → TablesGo t (Some deed) told t' → MovesBy job deed told after → (n : ℕ) → n ≢ 1 →
     is_drawn n after.notes.drawn + inserted_as n deed told ≤ is_drawn n job.notes.drawn + draws n deed told
 drawn_flow job t (Changes change.DrawNode) (Event (event.Drawn k)) t' after g m n ne = let a = ap (λ (z : Notes). is_drawn n z.drawn) m.3 in omega (arith, a)
 drawn_flow job t (Changes (change.Insert era number form ids mode)) (Event (event.Inserted given)) t' after g m n ne =
@@ -65,13 +66,13 @@ drawn_flow job t (Calls (call.OpenAt dir name flags mode)) (Host (host.Ok (value
 drawn_flow job t (Changes change.Begin) (Event (event.Began era agreed)) t' after g m n ne = let a = ap (λ (z : Notes). is_drawn n z.drawn) m.3 in omega (arith, a)
 drawn_flow job t deed told t' after g m n ne = let a = ap (λ (z : Notes). is_drawn n z.drawn) m.3 in omega (arith, a)
 
-next_later : (t : Tables) (deed : Deed) (told : ActReply) (t' : Tables) → Agree t → Turns t (Some deed) told t' → t.next_number ≤ t'.next_number
-next_later t (Calls a) told t' agree g = rw g (omega arith)
+next_later : (t : Tables) (deed : Deed) (told : ActReply) (t' : Tables) → Agree t → TablesGo t (Some deed) told t' → t.next_number ≤ t'.next_number
+next_later t (Calls a) told t' agree g = rw (called t a told t' g) (omega arith)
 next_later t (Changes e) (Event r) t' agree g = (stays t e r t' agree g).numbers
 next_later t (Changes e) told t' agree g = absurd g
 
 pub keeps_numbers : (bound : ℕ) (had : ℕ → ℕ) (t : Tables) (js : ℕ → Job) (j : ℕ) (deed : Deed) (told : ActReply) (t' : Tables) (after : Job) → j < bound → Agree t → Numbers bound had t js →
-    Turns t (Some deed) told t' → MovesBy (js j) deed told after → Numbers bound (λ n. had n + inserted_as n deed told) t' (set_at j after js)
+    TablesGo t (Some deed) told t' → MovesBy (js j) deed told after → Numbers bound (λ n. had n + inserted_as n deed told) t' (set_at j after js)
 keeps_numbers bound had t js j (Changes change.DrawNode) (Event (event.Drawn k)) t' after lt agree v g m =
     let later : t'.next_number ≡ t.next_number + 1 = ap (λ (t : Tables). t.next_number) g.2 in
     let z = (λ (n : ℕ). sum_to_set (λ (k : Job). is_drawn n k.notes.drawn) js j after bound lt) in

@@ -24,13 +24,14 @@ use Rattle.pt_req.specs.Deed.{Deed, Calls, Changes, Step, IsStepOf}
 use Rattle.pt_req.specs.Grammar.{Belongs}
 use Rattle.pt_req.specs.Held.{fd_of, event_refusal, refusal}
 use Rattle.pt_req.specs.Pattern.{grammar_of}
-use Rattle.pt_req.specs.Requests.{Session, path, is_bad_name, on_began, on_resolved, on_fd, on_stat, on_claim, on_taken, on_drawn, on_inserted, entry_of, inserted, numbered, told_of, opened_in, look_up, answers_entry, lookup}
+use Rattle.pt_req.specs.Requests.{path, is_bad_name, on_began, on_resolved, on_fd, on_stat, on_claim, on_taken, on_drawn, on_inserted, entry_of, inserted, numbered, told_of, opened_in, look_up, answers_entry, lookup}
 use Rattle.pt_req.specs.Tree.{Tree, Gives, Refuses, Asks}
 use Rattle.pt_req.specs.declared.act.ActReply.{ActReply}
 use Rattle.pt_req.specs.declared.act.ActReply.TheVariants.{Event, Host}
 use Rattle.pt_req.specs.declared.finish.Finish.TheVariants as finish
+use Rattle.pt_req.specs.declared.begun.Session.{Session}
 use Rattle.pt_req.specs.declared.plan.Plan.{Plan}
-use Rattle.pt_law.specs.Branch.{Along, AreSome}
+use Rattle.pt_law.specs.Branch.{Along, AreOwn}
 use Rattle.pt_law.specs.Opened.{made, inserting, InsertionGives, Numbers, IsLookedUp}
 use Rattle.pt_law.proofs.Branches.{branch}
 
@@ -168,7 +169,7 @@ good_name true next entry [] a = absurd cc
 good_name true next entry (step ∷ steps) a = absurd a
 good_name false next entry steps a = a
 
-looked_up : (plan : Plan) (parent : ℕ) (name : List ℕ) (entry : Entry) (steps : List Step) → Along (lookup plan parent name) steps (answer.Entry entry) → IsLookedUp plan parent name entry steps
+pub looked_up : (plan : Plan) (parent : ℕ) (name : List ℕ) (entry : Entry) (steps : List Step) → Along (lookup plan parent name) steps (answer.Entry entry) → IsLookedUp plan parent name entry steps
 looked_up plan parent name entry [] a = absurd a
 looked_up plan parent name entry (begin ∷ []) a =
     let b = after_began (Changes change.Begin) begin.deed begin.reply _ entry [] a.0 a.1 in
@@ -205,7 +206,7 @@ looked_up plan parent name entry (begin ∷ resolve ∷ steps) a =
         }
 
 pub opened : (plan : Plan) (parent : ℕ) (name : List ℕ) (entry : Entry) (steps : List Step) →
-    Belongs (grammar_of plan (request.Lookup parent name)) steps (finish.Answer (answer.Entry entry)) → (path : List Step) × AreSome path steps × IsLookedUp plan parent name entry path
+    Belongs (grammar_of plan (request.Lookup parent name)) steps (finish.Answer (answer.Entry entry)) → (path : List Step) × AreOwn path steps × IsLookedUp plan parent name entry path
 opened plan parent name entry steps b = elim (branch (lookup plan parent name) [] steps (finish.Answer (answer.Entry entry)) b) [
   | inl g ↦ absurd g
   | inr r ↦

@@ -12,9 +12,10 @@ use Rattle.pt_iface.specs.declared.request.Request.TheVariants as request
 use Rattle.pt_req.specs.Deed.{Step}
 use Rattle.pt_req.specs.Held.{fd_of}
 use Rattle.pt_req.specs.Tree.{Tree}
-use Rattle.pt_req.specs.Requests.{Session, path, is_bad_name, entry_of, inserted, numbered, told_of, opened_in, look_up, root_open, answers_entry, root, lookup, forget, tree_of}
+use Rattle.pt_req.specs.Requests.{path, is_bad_name, entry_of, inserted, numbered, told_of, opened_in, look_up, root_open, answers_entry, root, lookup, forget, tree_of}
 use Rattle.pt_req.specs.declared.hold.Hold.{Hold}
 use Rattle.pt_req.specs.declared.hold.Hold.TheVariants as hold
+use Rattle.pt_req.specs.declared.begun.Session.{Session}
 use Rattle.pt_req.specs.declared.plan.Plan.{Plan}
 use Rattle.pt_law.specs.Discipline.{Notes, blank, with_root}
 use Rattle.pt_law.specs.Fit.{Fit, Lasts}

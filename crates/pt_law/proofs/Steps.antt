@@ -1,12 +1,12 @@
 -- What holds before and after each step, whatever the other jobs do.
-use Rattle.std.proofs.Common.{◌≡◌, ◌≢◌, ◌⊎◌, ⊎_elim, inl, inr, ℕ, zero, suc, ◌+◌, ◌-◌, ◌*◌, ◌<◌, ◌≤◌, List, [], ◌∷◌, ◌++◌, length, Bool, true, false, refl, sym, ap, subst, ◌∙◌, arith, Option, Some, None}
+use Rattle.std.proofs.Common.{◌≡◌, ◌≢◌, ⊎_elim, ℕ, ◌+◌, ◌<◌, ◌≤◌, refl, sym, ap, subst, ◌∙◌, arith, Option, Some, None}
 use Rattle.std.proofs.lemmas.Bool.{cases_eq}
-use Rattle.pt_host.specs.Words.{is, total, Each, Takes, set_at, sum_to}
+use Rattle.pt_host.specs.Words.{total, set_at}
 use Rattle.pt_host.specs.Call.{Call}
 use Rattle.pt_host.specs.Reply.{ReplyHoldsBytes}
-use Rattle.pt_host.specs.Promises.{FitsCall, IsAllowed}
+use Rattle.pt_host.specs.Promises.{IsAllowed}
 use Rattle.pt_host.specs.Tree.{Tree, IsWellFormed}
-use Rattle.pt_host.specs.LawfulStep.{LawfulStep, Changes as TreeChanges, closed_at}
+use Rattle.pt_host.specs.LawfulStep.{LawfulStep, Changes as TreeChanges}
 use Rattle.pt_host.specs.declared.ids.Fd.{Fd}
 use Rattle.pt_host.specs.declared.seat.HostSeat.{HostSeat}
 use Rattle.pt_host.specs.declared.op.KeptHostOp.TheVariants as call
@@ -14,24 +14,25 @@ use Rattle.pt_host.specs.declared.reply.HostReply.{HostReply}
 use Rattle.pt_host.specs.declared.reply.HostReply.TheVariants as host
 use Rattle.pt_host.specs.declared.reply.HostValue.TheVariants as value
 use Rattle.pt_session.specs.Change.{Change}
-use Rattle.pt_session.specs.Tables.{Row, Tables, Agree}
+use Rattle.pt_session.specs.Tables.{Tables, Agree}
 use Rattle.pt_session.specs.Happens.{Happens}
+use Rattle.pt_session.specs.declared.event.KeptEvent.TheVariants as change
 use Rattle.pt_session.specs.declared.reply.EventReply.{EventReply}
-use Rattle.pt_req.specs.Deed.{Deed, Calls, Changes, Step}
-use Rattle.pt_req.specs.Made.{Made}
+use Rattle.pt_session.specs.declared.reply.EventReply.TheVariants as event
+use Rattle.pt_req.specs.Deed.{Deed, Calls, Changes}
+use Rattle.pt_req.specs.Made.{Does, Made}
 use Rattle.pt_req.specs.declared.act.ActReply.{ActReply}
 use Rattle.pt_req.specs.declared.act.ActReply.TheVariants.{Event, Host, NoCopy}
-use Rattle.pt_req.specs.declared.hold.Hold.{Hold}
 use Rattle.pt_law.specs.Discipline.{Job, Moves, MovesIf, MovesBy}
-use Rattle.pt_law.specs.World.{World, Past, Turn, Turns, Goes, IsLawful, settled_if, settled_by}
-use Rattle.pt_law.specs.Ledger.{open_count, kept_fds, held_by, fd_held, row_fd, closing_fd, some_count, inserted_if, inserted_as}
-use Rattle.pt_law.proofs.Flows.{fd_ended, IsHonest}
-use Rattle.pt_law.proofs.Lists.{total_takes, sum_to_set, is_same, set_at_same, set_at_other, at_each}
-use Rattle.pt_law.proofs.Effects.{agrees}
+use Rattle.pt_law.specs.World.{World, Turn, TablesGo, Goes, IsLawful, settled_if, settled_by}
+use Rattle.pt_law.specs.Ledger.{open_count, kept_fds, held_by, fd_held, some_count, slot_taken, slot_given, inserted_if, inserted_as}
+use Rattle.pt_law.proofs.Flows.{fd_ended, slot_in, slot_out, IsHonest, unmade}
+use Rattle.pt_law.proofs.Lists.{total_takes, sum_to_set, set_at_same, set_at_other, at_each}
 use Rattle.pt_law.proofs.Balance.{moved}
 use Rattle.pt_law.proofs.Holding.{handed, in_tree}
 use Rattle.pt_law.proofs.Counting.{Books, keeps_books, honest, part}
 use Rattle.pt_law.proofs.Numbers.{Numbers, keeps_numbers}
+use Rattle.pt_law.proofs.Eras.{Dated, keeps_eras}
 use Rattle.pt_law.proofs.Knowing.{Knowing}
 use Rattle.pt_law.proofs.Events.{grows, rows_event, knows_event, knows_other}
 use Rattle.pt_law.proofs.Calls.{Right, keeps_call}
@@ -42,6 +43,7 @@ pub record Tabled (bound : ℕ) (had : ℕ → ℕ) (t : Tables) (js : ℕ → J
   pub agree : Agree t
   pub books : Books bound t js
   pub numbers : Numbers bound had t js
+  pub dated : (j : ℕ) → j < bound → Dated t.era (js j)
 
 -- and of a host that tells its tree; `base` says what was open before the first step
 pub record Inv (bound : ℕ) (base had : ℕ → ℕ) (w : World) (js : ℕ → Job) : Type 0 where
@@ -66,35 +68,52 @@ recount bound had had' t js e v = record {
     fresh = λ n l. let a = v.numbers.fresh n l in let b = e n in omega (arith, a, b);
     second = v.numbers.second;
   };
+  dated = v.dated;
 }
 
-pub keeps_tabled : (bound : ℕ) (had : ℕ → ℕ) (t : Tables) (js : ℕ → Job) (j : ℕ) (deed : Option Deed) (told : ActReply) (t' : Tables) (after : Job) → j < bound → Tabled bound had t js → Turns t deed told t' →
+pub keeps_tabled : (bound : ℕ) (had : ℕ → ℕ) (t : Tables) (js : ℕ → Job) (j : ℕ) (deed : Option Deed) (told : ActReply) (t' : Tables) (after : Job) → j < bound → Tabled bound had t js → TablesGo t deed told t' →
     MovesIf (js j) deed told after → Tabled bound (λ n. had n + inserted_if n deed told) t' (set_at j after js)
-keeps_tabled bound had t js j None told t' after lt v g m = rw (g, set_self js j after m) (recount bound had (λ n. had n + 0) t js (λ n. omega arith) v)
+keeps_tabled bound had t js j None told t' after lt v g m = rw (unmade t told t' g, set_self js j after m) (recount bound had (λ n. had n + 0) t js (λ n. omega arith) v)
 keeps_tabled bound had t js j (Some deed) told t' after lt v g m = record {
   agree = agree_step t (Some deed) told t' g v.agree;
   books = keeps_books bound t js j deed told t' after lt v.agree v.books g m;
   numbers = keeps_numbers bound had t js j deed told t' after lt v.agree v.numbers g m;
+  dated = keeps_eras bound t js j deed told t' after lt v.agree v.dated g m;
 }
 
-abbrev pub IsHonestStep : Option Deed → ActReply → Type 0
-IsHonestStep None told = Unit {0}
-IsHonestStep (Some deed) told = IsHonest deed told
+-- the slots that a step moves are told by its reply
+abbrev pub HasFlows : Option Deed → ActReply → Type 0
+HasFlows None told = slot_taken told ≡ 0
+HasFlows (Some deed) told = (slot_in deed told ≡ slot_given deed told) × (slot_out deed told ≡ slot_taken told)
 
-pub honest_step : (bound : ℕ) (had : ℕ → ℕ) (t : Tables) (js : ℕ → Job) (j : ℕ) (deed : Option Deed) (told : ActReply) (t' : Tables) (after : Job) → j < bound → Tabled bound had t js → Turns t deed told t' →
-    MovesIf (js j) deed told after → IsHonestStep deed told
-honest_step bound had t js j None told t' after lt v g m = tt
-honest_step bound had t js j (Some (Calls a)) told t' after lt v g m = tt
-honest_step bound had t js j (Some (Changes e)) (Event r) t' after lt v g m = honest bound t js j e r t' after lt v.books g m
-honest_step bound had t js j (Some (Changes e)) told t' after lt v g m = absurd g
+event_flows : (t : Tables) (e : Change) (r : EventReply) (t' : Tables) → Happens t e r t' → IsHonest (Changes e) (Event r) → HasFlows (Some (Changes e)) (Event r)
+event_flows t change.TakeFd event.Taken t' h a = (refl, refl)
+event_flows t change.GiveFd event.Given t' h a = (refl, refl)
+event_flows t change.GiveFd (event.Refused why) t' h a = absurd a
+event_flows t (change.Insert era number form ids mode) (event.Inserted given) t' h a = (refl, refl)
+event_flows t (change.InsertRoot era form ids mode negotiated) (event.Inserted given) t' h a = (refl, refl)
+event_flows t change.TakeClosing (event.Closing fd slot) t' h a = (refl, refl)
+event_flows t change.GiveFd _ t' h a = absurd h
+event_flows t _ event.Taken t' h a = absurd h
+event_flows t _ event.Given t' h a = absurd h
+event_flows t _ (event.Closing fd slot) t' h a = absurd h
+event_flows t _ _ t' h a = (refl, refl)
+
+pub has_flows : (bound : ℕ) (had : ℕ → ℕ) (t : Tables) (js : ℕ → Job) (j : ℕ) (deed : Option Deed) (told : ActReply) (t' : Tables) (after : Job) → j < bound → Tabled bound had t js → TablesGo t deed told t' →
+    MovesIf (js j) deed told after → HasFlows deed told
+has_flows bound had t js j (Some (Changes e)) (Event r) t' after lt v g m = event_flows t e r t' g (honest bound t js j e r t' after lt v.books g m)
+has_flows bound had t js j (Some (Calls a)) (Host r) t' after lt v g m = (refl, refl)
+has_flows bound had t js j (Some (Calls a)) NoCopy t' after lt v g m = (refl, refl)
+has_flows bound had t js j None NoCopy t' after lt v g m = refl
+has_flows bound had t js j _ _ t' after lt v g m = absurd g
 
 -- what a made step does to the tables
-pub turned : (tree tree' : Tree) (seat seat' : HostSeat) (t t' : Tables) (deed : Option Deed) (told : ActReply) → Made IsLawful deed told tree seat t tree' seat' t' → Turns t deed told t'
-turned tree tree' seat seat' t t' (Some (Changes e)) (Event r) h = h.0
-turned tree tree' seat seat' t t' (Some (Calls a)) (Host r) h = h.1
-turned tree tree' seat seat' t t' (Some (Calls a)) NoCopy h = h.1
-turned tree tree' seat seat' t t' None NoCopy h = h.2
-turned tree tree' seat seat' t t' _ _ h = absurd h
+pub turned : {H : Type 0} (does : Does H) (deed : Option Deed) (told : ActReply) (from : H) (seat : HostSeat) (t : Tables) (to : H) (seat' : HostSeat) (t' : Tables) → Made does deed told from seat t to seat' t' → TablesGo t deed told t'
+turned does (Some (Changes e)) (Event r) from seat t to seat' t' h = h.0
+turned does (Some (Calls a)) (Host r) from seat t to seat' t' h = h.1
+turned does (Some (Calls a)) NoCopy from seat t to seat' t' h = h.1
+turned does None NoCopy from seat t to seat' t' h = h.2
+turned does _ _ from seat t to seat' t' h = absurd h
 
 -- no call of these tells bytes, so each reply could be copied
 no_bytes : (a : Call) (r : HostReply) (before after : ℕ) → ReplyHoldsBytes r → IsAllowed before a r after → ⊥
@@ -148,20 +167,20 @@ keeps_host : (bound : ℕ) (base had : ℕ → ℕ) (w : World) (js : ℕ → Jo
 keeps_host bound base had w js j a r seat seat' tree' after lt v l m =
     let opened = in_tree w.tree a r tree' l.changes (λ f q. let x = closed_held (js j) a (Host r) after m f q in let y = v.fds f in let z = part (fd_held f) js bound j lt in let u = at_most_one f w.tree in omega (arith, x, y, z, u)) in
     let fds : (fd : ℕ) → open_count fd tree' ≡ kept_fds fd w.tables + held_by bound (fd_held fd) (set_at j after js) + base fd = (λ fd.
-        let x = v.fds fd in
-        let y = (handed (js j).holds (Calls a) (Host r) after.holds m.0).fds fd in
-        let z = opened fd in
-        let s = sum_to_set (λ (k : Job). total (fd_held fd) k.holds) js j after bound lt in
-        omega (arith, x, y, z, s)) in
+    let x = v.fds fd in
+    let y = (handed (js j).holds (Calls a) (Host r) after.holds m.0).fds fd in
+    let z = opened fd in
+    let s = sum_to_set (λ (k : Job). total (fd_held fd) k.holds) js j after bound lt in
+    omega (arith, x, y, z, s)) in
     record {
       tabled = keeps_tabled bound had w.tables js j (Some (Calls a)) (Host r) w.tables after lt v.tabled refl m;
       well = l.well_formed v.well;
       fds = fds;
       right = keeps_call bound w.tree w.tables.next_row w.past w.tables.rows js j after a r tree' lt v.right l.changes m
           (λ f e.
-              let n : open_count f.0 tree' ≡ 0 = closed_none w.tree tree' a f r e l.changes in
-              let x = fds f.0 in
-              (omega (arith, n, x), (λ i less. let y = part (fd_held f.0) (set_at j after js) bound i less in omega (arith, n, x, y))));
+          let n : open_count f.0 tree' ≡ 0 = closed_none w.tree tree' a f r e l.changes in
+          let x = fds f.0 in
+          (omega (arith, n, x), (λ i less. let y = part (fd_held f.0) (set_at j after js) bound i less in omega (arith, n, x, y))));
     }
   where
     closed_none : (tree tree' : Tree) (a : Call) (f : Fd) (r : HostReply) → a ≡ call.Close f → TreeChanges tree a r tree' → open_count f.0 tree' ≡ 0

@@ -1,8 +1,10 @@
 -- A branch of a tree: the steps of the request's own part, from the first to the answer.
-use Rattle.std.specs.Prelude.{◌≡◌, List, [], ◌∷◌}
+use Rattle.std.specs.Prelude.{◌≡◌, List, [], ◌∷◌, Option, Some}
+use Rattle.pt_host.specs.declared.op.KeptHostOp.TheVariants as call
+use Rattle.pt_session.specs.declared.event.KeptEvent.TheVariants as change
 use Rattle.pt_iface.specs.declared.answer.Answer.{Answer}
 use Rattle.pt_iface.specs.declared.answer.Answer.TheVariants as answer
-use Rattle.pt_req.specs.Deed.{Step, IsStepOf}
+use Rattle.pt_req.specs.Deed.{Deed, Calls, Changes, Step, IsStepOf}
 use Rattle.pt_req.specs.Held.{refusal}
 use Rattle.pt_req.specs.Tree.{Tree, Gives, Refuses, Asks, Shuts}
 use Rattle.pt_req.specs.declared.finish.Finish.{Finish}
@@ -16,11 +18,20 @@ Along (Asks deed next) (step ∷ steps) last = IsStepOf deed step.deed step.repl
 Along (Shuts passes count rest) steps last = Along rest steps last
 Along tree steps last = ⊥
 
--- the first are some of the second, in their order
-pub data AreSome : List Step → List Step → Type 0 where
-  none : AreSome [] []
-  keep : {step : Step} {some all : List Step} → AreSome some all → AreSome (step ∷ some) (step ∷ all)
-  skip : {step : Step} {some all : List Step} → AreSome some all → AreSome some (step ∷ all)
+-- it gives a hold back, or takes a closing
+abbrev pub GivesBack : Option Deed → Type 0
+GivesBack (Some (Calls (call.Close fd))) = Unit {0}
+GivesBack (Some (Changes (change.Unpin row))) = Unit {0}
+GivesBack (Some (Changes change.GiveFd)) = Unit {0}
+GivesBack (Some (Changes (change.GiveBack era number))) = Unit {0}
+GivesBack (Some (Changes change.TakeClosing)) = Unit {0}
+GivesBack deed = ⊥
+
+-- the first are the second without some that give back
+pub data AreOwn : List Step → List Step → Type 0 where
+  none : AreOwn [] []
+  keep : {step : Step} {own all : List Step} → AreOwn own all → AreOwn (step ∷ own) (step ∷ all)
+  skip : {step : Step} {own all : List Step} → GivesBack step.deed → AreOwn own all → AreOwn own (step ∷ all)
 
 -- given up for want of memory, or a lost seat
 abbrev pub IsGivenUp : Finish → Type 0
@@ -28,6 +39,6 @@ IsGivenUp (finish.Answer answer.NoMemory) = Unit {0}
 IsGivenUp (finish.Lost errno) = Unit {0}
 IsGivenUp end = ⊥
 
--- the answer is that of a branch, whose steps are some of these
+-- the answer is that of a branch, whose steps are these but for some that give back
 abbrev pub IsOfBranch : Tree → Finish → List Step → Type 0
-IsOfBranch tree end steps = (path : List Step) × (last : Answer) × AreSome path steps × (end ≡ finish.Answer last) × Along tree path last
+IsOfBranch tree end steps = (path : List Step) × (last : Answer) × AreOwn path steps × (end ≡ finish.Answer last) × Along tree path last

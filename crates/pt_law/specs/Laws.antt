@@ -1,16 +1,26 @@
 -- What holds of every run whose jobs keep the discipline, after every step and at the end.
-use Rattle.std.specs.Prelude.{◌≡◌, ◌≢◌, ◌<◌, ◌≤◌, ℕ, ◌+◌, true, List, [], ◌++◌, Option, None, Some}
+use Rattle.std.specs.Prelude.{◌≡◌, ◌≢◌, ◌<◌, ◌≤◌, ℕ, ◌+◌, true, List, [], Option, Some}
 use Rattle.pt_host.specs.Words.{total, sum_to, Each}
 use Rattle.pt_host.specs.Tree.{Tree, IsOpenOn, IsWellFormed}
 use Rattle.pt_host.specs.declared.op.KeptHostOp.TheVariants as call
-use Rattle.pt_session.specs.Tables.{Row, Tables, empty_tables, HasNumber}
+use Rattle.pt_session.specs.Tables.{Tables, empty_tables, HasNumber}
+use Rattle.pt_session.specs.declared.row.Row.{Row}
 use Rattle.pt_session.specs.Happens.{IsRow, NoRow}
-use Rattle.pt_req.specs.Deed.{Deed, Calls}
+use Rattle.pt_session.specs.declared.event.KeptEvent.TheVariants as change
+use Rattle.pt_session.specs.declared.reply.EventRefusal.TheVariants.{Overtaken}
+use Rattle.pt_session.specs.declared.reply.EventReply.TheVariants as event
+use Rattle.pt_req.specs.Deed.{Deed, Calls, Changes}
+use Rattle.pt_req.specs.Grammar.{Belongs}
 use Rattle.pt_req.specs.Held.{fd_of}
+use Rattle.pt_req.specs.Pattern.{grammar_of}
+use Rattle.pt_req.specs.declared.act.ActReply.{ActReply}
+use Rattle.pt_req.specs.declared.act.ActReply.TheVariants.{Event}
 use Rattle.pt_req.specs.declared.finish.Finish.{Finish}
+use Rattle.pt_req.specs.declared.plan.Plan.{Plan}
+use Rattle.pt_iface.specs.declared.request.Request.{Request}
 use Rattle.pt_law.specs.Discipline.{Job, idle, Disciplined, Ends}
 use Rattle.pt_law.specs.World.{Turn, World, steps_of, no_past}
-use Rattle.pt_law.specs.Ledger.{kept_slots, row_slot, carried, kept_fds, row_fd, fd_held, held_by, open_count}
+use Rattle.pt_law.specs.Ledger.{kept_slots, row_slot, slots_taken, slots_given, carried, kept_fds, row_fd, fd_held, held_by, open_count}
 
 -- each step is one of the jobs' below the bound, and each of these keeps the discipline
 pub record AreDisciplined (bound : ℕ) (turns : List Turn) : Type 0 where
@@ -21,6 +31,11 @@ pub record AreDisciplined (bound : ℕ) (turns : List Turn) : Type 0 where
 pub record AreEnded (bound : ℕ) (turns : List Turn) : Type 0 where
   pub owners : Each (λ turn. turn.job < bound) turns
   pub jobs : (job : ℕ) → job < bound → (end : Finish) × Ends idle (steps_of job turns) end
+
+-- each job's steps and end belong to what it asked
+pub record AreAnswered (plan : Plan) (bound : ℕ) (asked : ℕ → Request) (ends : ℕ → Finish) (turns : List Turn) : Type 0 where
+  pub owners : Each (λ turn. turn.job < bound) turns
+  pub jobs : (job : ℕ) → job < bound → Belongs (grammar_of plan (asked job)) (steps_of job turns) (ends job)
 
 -- a new session on a host that may have descriptors open
 pub record Starts (limit : ℕ) (world : World) : Type 0 where
@@ -51,8 +66,10 @@ pub record IsCounted (tables : Tables) (number : ℕ) (amount : ℕ) : Type 0 wh
   pub gone : amount ≡ 0 → NoRow tables (HasNumber number)
 
 -- slots left, those of rows and of the closing list, and those that jobs carry, are the limit
-abbrev pub SlotsAddUp : ℕ → ℕ → List Turn → Tables → Type 0
-SlotsAddUp limit bound turns tables = kept_slots tables + sum_to bound (λ job. carried (steps_of job turns)) ≡ limit
+pub record SlotsAddUp (limit bound : ℕ) (turns : List Turn) (tables : Tables) : Type 0 where
+  pub sum : kept_slots tables + sum_to bound (λ job. carried (steps_of job turns)) ≡ limit
+  -- no job gave more than it had taken
+  pub taken : (job : ℕ) → job < bound → slots_given (steps_of job turns) ≤ slots_taken (steps_of job turns)
 
 -- Where each open descriptor is: it was open at the start, or stands once in the tables or is held once by a job.
 pub record AreKept (start : World) (bound : ℕ) (turns : List Turn) (now : World) : Type 0 where
@@ -68,6 +85,14 @@ NamesOpen tree (Some (Calls (call.OpenAt fd name flags mode))) = (object : ℕ) 
 NamesOpen tree (Some (Calls (call.Stat fd))) = (object : ℕ) × IsOpenOn tree fd object
 NamesOpen tree (Some (Calls (call.Close fd))) = (object : ℕ) × IsOpenOn tree fd object
 NamesOpen tree deed = Unit {0}
+
+-- Giving back a pin or a slot that is held is never refused, nor is the taking of a closing that is owed, and no event is overtaken.
+abbrev pub IsHonoured : Option Deed → ActReply → Type 0
+IsHonoured deed (Event (event.Refused Overtaken)) = ⊥
+IsHonoured (Some (Changes (change.Unpin row))) (Event (event.Refused why)) = ⊥
+IsHonoured (Some (Changes change.GiveFd)) (Event (event.Refused why)) = ⊥
+IsHonoured (Some (Changes change.TakeClosing)) (Event (event.Refused why)) = ⊥
+IsHonoured deed told = Unit {0}
 
 -- at the end no row is pinned, nothing is to be closed, nothing is carried, and slots left are the limit less those of the rows
 pub record IsAtRest (limit bound : ℕ) (turns : List Turn) (tables : Tables) : Type 0 where

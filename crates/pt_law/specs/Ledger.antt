@@ -2,7 +2,9 @@
 use Rattle.std.specs.Prelude.{ℕ, ◌+◌, ◌-◌, ◌*◌, Bool, true, false, List, [], ◌∷◌, Option, None, Some}
 use Rattle.pt_host.specs.Words.{is, total, sum_to}
 use Rattle.pt_host.specs.Tree.{Tree}
-use Rattle.pt_session.specs.Tables.{Row, Closing, Tables}
+use Rattle.pt_session.specs.Tables.{Tables}
+use Rattle.pt_session.specs.declared.row.Row.{Row}
+use Rattle.pt_session.specs.declared.row.Closing.{Closing}
 use Rattle.pt_session.specs.declared.form.RowForm.{RowForm}
 use Rattle.pt_session.specs.declared.form.RowForm.TheVariants.{File}
 use Rattle.pt_session.specs.declared.event.KeptEvent.TheVariants as change
@@ -52,9 +54,15 @@ abbrev pub slot_given_by : Option Deed → ActReply → ℕ
 slot_given_by None told = 0
 slot_given_by (Some deed) told = slot_given deed told
 
+abbrev pub slots_taken : List Step → ℕ
+slots_taken steps = total (λ step. slot_taken step.reply) steps
+
+abbrev pub slots_given : List Step → ℕ
+slots_given steps = total (λ step. slot_given_by step.deed step.reply) steps
+
 -- what a job carries, by its replies alone
 abbrev pub carried : List Step → ℕ
-carried steps = total (λ step. slot_taken step.reply) steps - total (λ step. slot_given_by step.deed step.reply) steps
+carried steps = slots_taken steps - slots_given steps
 
 -- Descriptors.
 

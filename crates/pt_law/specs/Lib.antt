@@ -8,3 +8,4 @@ pub mod Opened
 pub mod World
 pub mod Ledger
 pub mod Laws
+pub mod Entered

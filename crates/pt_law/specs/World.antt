@@ -17,7 +17,7 @@ use Rattle.pt_req.specs.Deed.{Deed, Calls, Changes, Step}
 use Rattle.pt_req.specs.Held.{fd_of}
 use Rattle.pt_req.specs.Made.{Does, Made}
 use Rattle.pt_req.specs.declared.act.ActReply.{ActReply}
-use Rattle.pt_req.specs.declared.act.ActReply.TheVariants.{Event, Host}
+use Rattle.pt_req.specs.declared.act.ActReply.TheVariants.{Event, Host, NoCopy}
 
 -- a step of a run, and the job that made it
 pub record Turn : Type 0 where
@@ -95,12 +95,21 @@ abbrev pub Runs : World → List Turn → World → Type 0
 Runs world [] after = after ≡ world
 Runs world (turn ∷ turns) after = (mid : World) × Goes world turn mid × Runs mid turns after
 
+-- The steps lead from this host and these tables to those, by what the host does; the seats are whatever they are.
+abbrev pub HostRuns : {H : Type 0} → Does H → List Turn → H → Tables → H → Tables → Type 0
+HostRuns does [] host tables host' tables' = (host' ≡ host) × (tables' ≡ tables)
+HostRuns {H} does (turn ∷ turns) host tables host' tables' =
+    (host1 : H) × (tables1 : Tables) × (seat : HostSeat) × (seat1 : HostSeat) × Made does turn.step.deed turn.step.reply host seat tables host1 seat1 tables1
+    × HostRuns does turns host1 tables1 host' tables'
+
 -- What a step does to the tables, whatever host there is: an event happens, and nothing else changes them.
-abbrev pub Turns : Tables → Option Deed → ActReply → Tables → Type 0
-Turns tables (Some (Changes asked)) (Event told) after = Happens tables asked told after
-Turns tables (Some (Changes asked)) told after = ⊥
-Turns tables deed told after = after ≡ tables
+abbrev pub TablesGo : Tables → Option Deed → ActReply → Tables → Type 0
+TablesGo tables (Some (Changes asked)) (Event told) after = Happens tables asked told after
+TablesGo tables (Some (Calls asked)) (Host told) after = after ≡ tables
+TablesGo tables (Some (Calls asked)) NoCopy after = after ≡ tables
+TablesGo tables None NoCopy after = after ≡ tables
+TablesGo tables deed told after = ⊥
 
 abbrev pub TablesRun : Tables → List Turn → Tables → Type 0
 TablesRun tables [] after = after ≡ tables
-TablesRun tables (turn ∷ turns) after = (mid : Tables) × Turns tables turn.step.deed turn.step.reply mid × TablesRun mid turns after
+TablesRun tables (turn ∷ turns) after = (mid : Tables) × TablesGo tables turn.step.deed turn.step.reply mid × TablesRun mid turns after

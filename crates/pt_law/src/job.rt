@@ -1,10 +1,14 @@
-ghost use Rattle.std.specs.Prelude.{◌≡◌, ◌⊎◌, ◌+◌, ℕ, List, []};
+ghost use Rattle.std.specs.Prelude.{◌≡◌, ◌⊎◌, ◌+◌, ℕ, List, [], Option};
 ghost use Rattle.pt_host.specs.declared.ids.Errno.{Errno};
+ghost use Rattle.pt_host.specs.declared.seat.HostSeat.{HostSeat};
+ghost use Rattle.pt_session.specs.Tables.{Tables};
 ghost use Rattle.pt_iface.specs.declared.answer.Answer.TheVariants as answer;
 ghost use Rattle.pt_iface.specs.declared.entry.Entry.{Entry};
 ghost use Rattle.pt_iface.specs.declared.request.Request.{Request};
 ghost use Rattle.pt_iface.specs.declared.request.Request.TheVariants as request;
-ghost use Rattle.pt_req.specs.Deed.{Step};
+ghost use Rattle.pt_req.specs.Deed.{Deed, Step};
+ghost use Rattle.pt_req.specs.Made.{Made, RunsAlone};
+ghost use Rattle.pt_req.specs.declared.act.ActReply.{ActReply};
 ghost use Rattle.pt_req.specs.Grammar.{Belongs};
 ghost use Rattle.pt_req.specs.Frame.{BelongsCut};
 ghost use Rattle.pt_req.specs.Tree.{Tree, framed};
@@ -14,12 +18,14 @@ ghost use Rattle.pt_req.specs.declared.finish.Finish.{Finish};
 ghost use Rattle.pt_req.specs.declared.finish.Finish.TheVariants as finish;
 ghost use Rattle.pt_req.specs.declared.plan.Plan.{Plan};
 ghost use Rattle.pt_law.specs.Discipline.{idle, blank, Ends};
-ghost use Rattle.pt_law.specs.Told.{AllMayBeTold};
+ghost use Rattle.pt_law.specs.Told.{StepMayBeTold, AllMayBeTold};
 ghost use Rattle.pt_law.specs.Cause.{HasCause, IsCausedEnd};
 ghost use Rattle.pt_law.specs.Fit.{Fit};
-ghost use Rattle.pt_law.specs.Branch.{AreSome, IsGivenUp, IsOfBranch};
+ghost use Rattle.pt_law.specs.Branch.{AreOwn, IsGivenUp, IsOfBranch};
 ghost use Rattle.pt_law.specs.Settled.{all_given, all_returned, entry_count};
 ghost use Rattle.pt_law.specs.Opened.{IsLookedUp};
+
+use pt_host::Host;
 
 /// Whatever a request is, where its tree is fit its steps keep the discipline, whole or cut, and a refusal has its cause. An answer is that of a
 /// branch of the tree, or the job gave up; and what a job was given it gave back, or its answer has it.
@@ -47,5 +53,13 @@ pub fn request_ends()
         Ends idle steps end × (end ≡ finish.Answer answer.Cut) }
     ensures opened { (plan : Plan) (parent : ℕ) (name : List ℕ) (entry : Entry) (steps : List Step) →
         Belongs (grammar_of plan (request.Lookup parent name)) steps (finish.Answer (answer.Entry entry)) →
-        ((path : List Step) × AreSome path steps × IsLookedUp plan parent name entry path) }
+        ((path : List Step) × AreOwn path steps × IsLookedUp plan parent name entry path) }
+{}
+
+/// What is made of any host and of the tables is told such replies as may come.
+pub fn steps_told<H: Host>()
+    ensures made { (deed : Option Deed) (told : ActReply) (host : H) (seat : HostSeat) (tables : Tables) (host_after : H) (seat_after : HostSeat) (tables_after : Tables) →
+        Made H.does deed told host seat tables host_after seat_after tables_after → StepMayBeTold deed told }
+    ensures alone { (steps : List Step) (host : H) (seat : HostSeat) (tables : Tables) (host_after : H) (seat_after : HostSeat) (tables_after : Tables) →
+        RunsAlone H.does steps host seat tables host_after seat_after tables_after → AllMayBeTold steps }
 {}

@@ -2,5 +2,10 @@
 #![tactic(auto)]
 
 mod job;
+mod runs;
 
-pub use job::{any_request, each_request, request_ends};
+pub use job::{any_request, each_request, request_ends, steps_told};
+pub use runs::{every_host, every_run, every_told_run};
+
+#[cfg(test)]
+mod tests;

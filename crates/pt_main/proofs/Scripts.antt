@@ -11,6 +11,12 @@ use Rattle.pt_main.specs.declared.line.ScriptJob.{ScriptJob}
 use Rattle.pt_main.specs.declared.line.Line.{Line}
 use Rattle.pt_main.specs.declared.line.Line.TheVariants.{Tree, Job, End}
 use Rattle.pt_text.specs.Words.{lines_of}
+use Rattle.pt_tree.specs.Start.{StartsAs}
+use Rattle.pt_tree.specs.State.{State}
+use Rattle.pt_main.specs.Scan.{IsScriptOf}
+use Rattle.pt_main.specs.Parse.{IsBadLine, IsBadTree}
+use Rattle.pt_main.specs.declared.script.ParseError.{ParseError}
+use Rattle.pt_main.specs.declared.script.ParseError.TheVariants.{BadScript, Memory}
 
 -- lines that broke the rules break them with one more
 add_lines-broken : (line : ℕ) (xs : List TreeLine) (y : TreeLine) (nodes : List Node) (n : ℕ) → add_lines line xs nodes ≡ Err n → add_lines line (xs ++ y ∷ []) nodes ≡ Err n
@@ -194,3 +200,39 @@ scan_from-judged (text ∷ more) number begun sound = go (λ after. scan_from-ju
 
 pub scan_of-judged : (bytes : List ℕ) → judged (scan_of bytes) ≡ script_of bytes
 scan_of-judged bytes = scan_from-judged (lines_of bytes) 1 nothing (record { tree = inl (refl, refl, refl); next = λ going none. refl })
+
+-- the tree's lines break the rules
+pub script_of-tree : (bytes : List ℕ) (begun : Begun) (bad : Option ℕ) (n : ℕ) → record { begun = begun; bad = bad } ≡ scan_of bytes → nodes_of begun.tree ≡ Err n → script_of bytes ≡ Err n
+script_of-tree bytes begun bad n read broken =
+    sym (scan_of-judged bytes) ∙ ap judged (sym read) ∙ ap (λ (o : Result (List Node) ℕ). judged_by begun o bad) broken
+
+-- another line is bad
+pub script_of-bad : (bytes : List ℕ) (begun : Begun) (line : ℕ) (nodes : List Node) → record { begun = begun; bad = Some line } ≡ scan_of bytes → nodes_of begun.tree ≡ Ok nodes →
+    script_of bytes ≡ Err line
+script_of-bad bytes begun line nodes read keeps =
+    sym (scan_of-judged bytes) ∙ ap judged (sym read) ∙ ap (λ (o : Result (List Node) ℕ). judged_by begun o (Some line)) keeps
+
+-- no line is bad
+pub script_of-good : (bytes : List ℕ) (begun : Begun) (nodes : List Node) → record { begun = begun; bad = None } ≡ scan_of bytes → nodes_of begun.tree ≡ Ok nodes → script_of bytes ≡ Ok begun
+script_of-good bytes begun nodes read keeps =
+    sym (scan_of-judged bytes) ∙ ap judged (sym read) ∙ ap (λ (o : Result (List Node) ℕ). judged_by begun o None) keeps
+
+-- a bad line of the tree is one of the script
+pub IsBadLine-tree : (bytes : List ℕ) (begun : Begun) (bad : Option ℕ) (lines : List TreeLine) (error : ParseError) → record { begun = begun; bad = bad } ≡ scan_of bytes → lines ≡ begun.tree →
+    IsBadTree lines error → IsBadLine bytes error
+IsBadLine-tree bytes begun bad lines (BadScript line) read same broken = script_of-tree bytes begun bad line read (ap nodes_of (sym same) ∙ broken)
+IsBadLine-tree bytes begun bad lines Memory read same broken = tt
+
+pub IsBadLine-line : (bytes : List ℕ) (begun : Begun) (bad : Option ℕ) (lines : List TreeLine) (line : ℕ) (host : State) → record { begun = begun; bad = bad } ≡ scan_of bytes → bad ≡ Some line →
+    lines ≡ begun.tree → StartsAs lines host → script_of bytes ≡ Err line
+IsBadLine-line bytes begun bad lines line host read is same starts =
+    script_of-bad bytes begun line starts.0 (ap (λ (o : Option ℕ). record { begun = begun; bad = o }) (sym is) ∙ read) (ap nodes_of (sym same) ∙ starts.1)
+
+pub IsScriptOf-read : (bytes : List ℕ) (begun : Begun) (bad : Option ℕ) (lines : List TreeLine) (jobs : List ScriptJob) (host : State) → record { begun = begun; bad = bad } ≡ scan_of bytes → bad ≡ None →
+    lines ≡ begun.tree → StartsAs lines host → jobs ≡ begun.jobs → IsScriptOf bytes host jobs
+IsScriptOf-read bytes begun bad lines jobs host read is same starts same_jobs = (
+  begun,
+  script_of-good bytes begun starts.0 (ap (λ (o : Option ℕ). record { begun = begun; bad = o }) (sym is) ∙ read) (ap nodes_of (sym same) ∙ starts.1),
+  rw (← same) starts,
+  same_jobs,
+)

@@ -1,10 +1,12 @@
 -- A script read without the rules of trees, which the host judges when it is made.
-use Rattle.std.specs.Prelude.{ℕ, ◌+◌, ◌&&◌, List, [], ◌∷◌, Option, Some, None, Result, Ok, Err, if◌then◌else◌, option_and_then}
-use Rattle.pt_tree.specs.Start.{nodes_of}
+use Rattle.std.specs.Prelude.{◌≡◌, ℕ, ◌+◌, ◌&&◌, List, [], ◌∷◌, Option, Some, None, Result, Ok, Err, if◌then◌else◌, option_and_then}
+use Rattle.pt_tree.specs.Start.{nodes_of, StartsAs}
+use Rattle.pt_tree.specs.State.{State}
+use Rattle.pt_main.specs.declared.line.ScriptJob.{ScriptJob}
 use Rattle.pt_tree.specs.declared.node.Node.{Node}
 use Rattle.pt_text.specs.Words.{lines_of}
 use Rattle.pt_main.specs.Line.{line_of}
-use Rattle.pt_main.specs.Script.{Begun, nothing, is_empty, may_stand, added}
+use Rattle.pt_main.specs.Script.{Begun, nothing, is_empty, may_stand, added, script_of}
 use Rattle.pt_main.specs.declared.line.Line.{Line}
 
 -- the lines up to the first bad one, and its number, or none where they are a script
@@ -39,3 +41,7 @@ judged_by begun (Ok nodes) None = Ok begun
 
 abbrev pub judged : Scanned → Result Begun ℕ
 judged scanned = judged_by scanned.begun (nodes_of scanned.begun.tree) scanned.bad
+
+-- a host and jobs that are those of the script that these bytes are
+abbrev pub IsScriptOf : List ℕ → State → List ScriptJob → Type 0
+IsScriptOf bytes host jobs = (begun : Begun) × (script_of bytes ≡ Ok begun) × StartsAs begun.tree host × (jobs ≡ begun.jobs)

@@ -1,4 +1,4 @@
-ghost use Rattle.std.specs.Prelude.{◌≡◌, ◌≤◌, IfOk, OnOk, OnErr, Some, None, true, false, length};
+ghost use Rattle.std.specs.Prelude.{◌≡◌, ◌≤◌, ◌+◌, IfOk, OnOk, OnErr, Some, None, true, false, length};
 ghost use Rattle.pt_main.specs.Script.{may_stand, added, nothing};
 ghost use Rattle.pt_main.specs.Scan.{allowed, scan_of};
 
@@ -70,12 +70,21 @@ impl Lines {
         Ok(())
     }
 
+    /// The lines of the tree, and the jobs, which takes no memory.
+    pub fn into_parts(self) -> (TreeSpec, Vec<ScriptJob>)
+        ensures tree { result.0 ≡ self.tree }
+        ensures jobs { result.1.items ≡ self.jobs }
+    {
+        (TreeSpec::from_vec(self.tree), self.jobs)
+    }
+
     // Puts the line that a text is behind these, and tells whether it is one and may stand there.
     fn take_text(&mut self, alloc: Global, text: &[u8]) -> Result<bool, AllocError>
         ensures taken { result ≡ Ok true → allowed self.old text.now ≡ Some self.new }
         ensures bad { result ≡ Ok false → allowed self.old text.now ≡ None }
         ensures unchanged { result ≡ Ok false → self.new ≡ self.old }
         ensures err { OnErr result (self.new ≡ self.old) }
+        ensures few { length self.new.tree + length self.new.jobs ≤ length self.old.tree + length self.old.jobs + 1 }
     {
         let line = match read_line(alloc, text) {
             Ok(line) => line,
@@ -100,7 +109,8 @@ pub struct Scan {
 /// Reads the lines of a script up to the first bad one.
 pub fn scan_lines(alloc: Global, bytes: &[u8]) -> Result<Scan, AllocError>
     requires { length bytes.now ≤ MAX_SCRIPT }
-    ensures { IfOk result (λ scan. record { begun = scan.lines; bad = scan.bad } ≡ scan_of bytes.now) }
+    ensures scanned { IfOk result (λ scan. record { begun = scan.lines; bad = scan.bad } ≡ scan_of bytes.now) }
+    ensures few { IfOk result (λ scan. length scan.lines.tree + length scan.lines.jobs ≤ length bytes.now + 1) }
 {
     let mut lines = Lines::new(alloc);
     let mut parts = Parts::lines(bytes);

@@ -1,5 +1,5 @@
 -- How the lists of a grammar end.
-use Rattle.std.proofs.Common.{◌≡◌, ◌⊎◌, inl, inr, ℕ, zero, suc, Bool, true, false, List, [], ◌∷◌, Option, Some, None, refl, sym, subst, length, IfSome}
+use Rattle.std.proofs.Common.{◌≡◌, inl, inr, ℕ, zero, suc, Bool, true, false, List, [], ◌∷◌, Option, Some, None, refl, sym, subst, length, IfSome}
 use Rattle.pt_host.specs.declared.ids.Errno.{Errno}
 use Rattle.pt_host.specs.declared.reply.HostReply.TheVariants as host
 use Rattle.pt_iface.specs.declared.answer.Answer.{Answer}
@@ -7,8 +7,8 @@ use Rattle.pt_iface.specs.declared.answer.Answer.TheVariants as answer
 use Rattle.pt_iface.specs.declared.request.Request.{Request}
 use Rattle.pt_req.specs.Deed.{Step}
 use Rattle.pt_req.specs.Held.{giving, closings_in, taken_in, lost_by, restored, under, passes_with, front, behind, held, refusal}
-use Rattle.pt_req.specs.Grammar.{Grammar, End, Do, May, Belongs, Owed, owed_by}
-use Rattle.pt_req.specs.Frame.{give_slot, give_taken, closings, give, leave, or_lost, shut, close_first, cut, BelongsCut}
+use Rattle.pt_req.specs.Grammar.{Grammar, End, Do, May, Belongs, Owed}
+use Rattle.pt_req.specs.Frame.{give_slot, give_taken, closings, leave, or_lost, shut, close_first, cut, BelongsCut}
 use Rattle.pt_req.specs.Tree.{Tree, Gives, Refuses, Asks, Shuts, answered, framed}
 use Rattle.pt_req.specs.Requests.{tree_of}
 use Rattle.pt_req.specs.Pattern.{grammar_of}

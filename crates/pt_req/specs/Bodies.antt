@@ -1,12 +1,12 @@
 -- What is left of the bodies of requests.
-use Rattle.std.specs.Prelude.{ℕ, List, ◌∷◌, [], None, ◌+◌}
+use Rattle.std.specs.Prelude.{ℕ, List}
 use Rattle.pt_session.specs.declared.event.KeptEvent.TheVariants as change
 use Rattle.pt_iface.specs.declared.answer.Answer.TheVariants as answer
 use Rattle.pt_req.specs.Deed.{Changes}
 use Rattle.pt_req.specs.Tree.{Tree, Gives, Asks}
 use Rattle.pt_req.specs.Requests.{on_done, begun, answers_entry, root, lookup}
 use Rattle.pt_req.specs.Next.{IsAsks}
-use Rattle.pt_req.specs.Parts.{look_up_left, look_up_acts, look_up_room, look_up_inserts, look_up_asks, root_open_left, root_open_acts, root_open_room, root_open_inserts, root_open_asks}
+use Rattle.pt_req.specs.Parts.{look_up_left, look_up_acts, look_up_room, look_up_asks, root_open_left, root_open_acts, root_open_room, root_open_asks}
 use Rattle.pt_req.specs.declared.plan.Plan.{Plan}
 use Rattle.pt_req.specs.declared.requests.root.Root.{Root}
 use Rattle.pt_req.specs.declared.requests.root.Root.TheVariants as at_root

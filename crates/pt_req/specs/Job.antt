@@ -1,7 +1,6 @@
 -- What a job is to do, and how much of it.
-use Rattle.std.specs.Prelude.{ℕ, zero, ◌+◌, Bool, false, length, List, [], ◌∷◌, Option, Some, None}
+use Rattle.std.specs.Prelude.{ℕ, ◌+◌, Bool, length, Option}
 use Rattle.pt_host.specs.declared.ids.Errno.{Errno}
-use Rattle.pt_req.specs.Held.{is_scope}
 use Rattle.pt_req.specs.Grammar.{Grammar}
 use Rattle.pt_req.specs.Left.{left_of, is_all_over, lost_in, is_giving_scope, bound_left, measure_left, mode_counts, body_counts}
 use Rattle.pt_req.specs.Bodies.{request_left, request_acts, request_inserts}

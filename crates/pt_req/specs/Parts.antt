@@ -1,12 +1,12 @@
 -- What is left of the parts of bodies.
-use Rattle.std.specs.Prelude.{ℕ, true, List, Option}
+use Rattle.std.specs.Prelude.{ℕ, true, List}
 use Rattle.pt_host.specs.declared.op.KeptHostOp.TheVariants as call
 use Rattle.pt_session.specs.declared.form.RowForm.TheVariants.{File}
 use Rattle.pt_session.specs.declared.event.KeptEvent.TheVariants as change
 use Rattle.pt_iface.specs.declared.entry.Entry.{Entry}
 use Rattle.pt_req.specs.Deed.{Calls, Changes}
 use Rattle.pt_req.specs.Tree.{Tree, Refuses, Asks, Shuts}
-use Rattle.pt_req.specs.Requests.{on_fd, on_stat, on_taken, on_drawn, on_inserted, on_root, path, root_open, entry_of, inserted, numbered, told_of, opened_in, look_up}
+use Rattle.pt_req.specs.Requests.{on_stat, on_taken, on_drawn, on_inserted, on_root, root_open, entry_of, inserted, numbered, told_of, opened_in, look_up}
 use Rattle.pt_req.specs.Next.{IsAsks}
 use Rattle.pt_req.specs.declared.act.ActReply.{ActReply}
 use Rattle.pt_req.specs.declared.plan.Plan.{Plan}

@@ -43,6 +43,31 @@ fn claim(era: u64, ino: u64) -> Event<'static> {
     }
 }
 
+fn began(negotiated: Negotiated) -> EventReply {
+    EventReply::Began { era: 0, negotiated }
+}
+
+fn closing(fd: u32) -> EventReply {
+    let fd = Fd(fd);
+    EventReply::Closing { fd, slot: true }
+}
+
+fn done(closings: u64) -> EventReply {
+    EventReply::Done { closings }
+}
+
+fn give_back(era: u64, number: u64) -> Event<'static> {
+    Event::GiveBack { era, number }
+}
+
+fn inserted(number: u64) -> EventReply {
+    EventReply::Inserted { number }
+}
+
+fn refused(refusal: EventRefusal) -> EventReply {
+    EventReply::Refused(refusal)
+}
+
 /// Each event has its reply.
 fn play(rt: &impl Abort, session: &mut Session, script: &[(Event<'_>, EventReply)]) {
     for (event, reply) in script {
@@ -52,7 +77,7 @@ fn play(rt: &impl Abort, session: &mut Session, script: &[(Event<'_>, EventReply
 }
 
 #[test]
-fn numbers_are_given_and_taken_back(rt: HostRuntime) {
+fn numbers_are_given(rt: HostRuntime) {
     let mut session = Session::new(rt.alloc(), 8);
     let on = Negotiated {
         writeback: true,
@@ -60,80 +85,50 @@ fn numbers_are_given_and_taken_back(rt: HostRuntime) {
     };
     let top = RowForm::File(Fd(3));
     let file = RowForm::File(Fd(4));
-    let other = RowForm::File(Fd(5));
-    let given = [
-        (
-            Event::Begin,
-            EventReply::Began {
-                era: 0,
-                negotiated: Negotiated::NONE,
-            },
-        ),
-        (root(&top, Some(on)), EventReply::Inserted { number: 1 }),
-        (root(&top, None), EventReply::Refused(EventRefusal::Live)),
-        (
-            Event::Begin,
-            EventReply::Began {
-                era: 0,
-                negotiated: on,
-            },
-        ),
+    let script = [
+        (Event::Begin, began(Negotiated::NONE)),
+        (root(&top, Some(on)), inserted(1)),
+        (root(&top, None), refused(EventRefusal::Live)),
+        (Event::Begin, began(on)),
         (claim(0, 11), EventReply::Absent),
         (Event::DrawNode, EventReply::Drawn { number: 2 }),
-        (insertion(2, &file, 11), EventReply::Inserted { number: 2 }),
-        (insertion(3, &other, 11), EventReply::Found { number: 2 }),
-        (
-            insertion(2, &other, 12),
-            EventReply::Refused(EventRefusal::Live),
-        ),
+        (insertion(2, &file, 11), inserted(2)),
+        (insertion(3, &file, 11), EventReply::Found { number: 2 }),
+        (insertion(2, &file, 12), refused(EventRefusal::Live)),
         (claim(0, 11), EventReply::Claimed { number: 2 }),
-        (claim(1, 11), EventReply::Refused(EventRefusal::Overtaken)),
+        (claim(1, 11), refused(EventRefusal::Overtaken)),
     ];
-    play(&rt, &mut session, &given);
+    play(&rt, &mut session, &script);
     assert_eq!(rt; session.live_after(None), Some((1, 2)));
     assert_eq!(rt; session.live_after(Some(1)), Some((2, 3)));
     assert_eq!(rt; session.live_after(Some(2)), None);
+}
+
+#[test]
+fn numbers_are_taken_back(rt: HostRuntime) {
+    let mut session = Session::new(rt.alloc(), 8);
+    let top = RowForm::File(Fd(3));
+    let file = RowForm::File(Fd(4));
+    let given = [
+        (root(&top, None), inserted(1)),
+        (insertion(2, &file, 11), inserted(2)),
+        (claim(0, 11), EventReply::Claimed { number: 2 }),
+    ];
+    play(&rt, &mut session, &given);
     let taken = [
         (
             Event::Forget {
-                list: &[(2, 2), (9, 1), (1, 1)],
+                list: &[(2, 1), (9, 1), (1, 1)],
             },
-            EventReply::Done { closings: 0 },
+            done(0),
         ),
-        (
-            Event::GiveBack { era: 1, number: 2 },
-            EventReply::Refused(EventRefusal::Overtaken),
-        ),
-        (
-            Event::GiveBack { era: 0, number: 2 },
-            EventReply::Done { closings: 1 },
-        ),
-        (
-            Event::GiveBack { era: 0, number: 2 },
-            EventReply::Refused(EventRefusal::NotLive),
-        ),
-        (
-            Event::Forget { list: &[(1, 9)] },
-            EventReply::Done { closings: 1 },
-        ),
-        (
-            Event::TakeClosing,
-            EventReply::Closing {
-                fd: Fd(4),
-                slot: true,
-            },
-        ),
-        (
-            Event::TakeClosing,
-            EventReply::Closing {
-                fd: Fd(3),
-                slot: true,
-            },
-        ),
-        (
-            Event::TakeClosing,
-            EventReply::Refused(EventRefusal::NotLive),
-        ),
+        (give_back(1, 2), refused(EventRefusal::Overtaken)),
+        (give_back(0, 2), done(1)),
+        (give_back(0, 2), refused(EventRefusal::NotLive)),
+        (Event::Forget { list: &[(1, 9)] }, done(1)),
+        (Event::TakeClosing, closing(4)),
+        (Event::TakeClosing, closing(3)),
+        (Event::TakeClosing, refused(EventRefusal::NotLive)),
     ];
     play(&rt, &mut session, &taken);
     assert_eq!(rt; session.live_after(None), None);
@@ -143,37 +138,21 @@ fn numbers_are_given_and_taken_back(rt: HostRuntime) {
 fn a_pin_keeps_a_row(rt: HostRuntime) {
     let mut session = Session::new(rt.alloc(), 8);
     let top = RowForm::File(Fd(3));
+    let resolved = EventReply::Resolved {
+        row: 0,
+        form: top.copy(),
+        ids: object(10),
+        mode: 0o40755,
+    };
     let script = [
-        (root(&top, None), EventReply::Inserted { number: 1 }),
-        (
-            Event::Unpin { row: 0 },
-            EventReply::Refused(EventRefusal::NotLive),
-        ),
-        (
-            Event::Resolve { number: 1 },
-            EventReply::Resolved {
-                row: 0,
-                form: RowForm::File(Fd(3)),
-                ids: object(10),
-                mode: 0o40755,
-            },
-        ),
-        (
-            Event::Forget { list: &[(1, 2)] },
-            EventReply::Done { closings: 0 },
-        ),
-        (
-            Event::Resolve { number: 1 },
-            EventReply::Refused(EventRefusal::NotLive),
-        ),
-        (Event::Unpin { row: 0 }, EventReply::Done { closings: 1 }),
-        (
-            Event::TakeClosing,
-            EventReply::Closing {
-                fd: Fd(3),
-                slot: true,
-            },
-        ),
+        (root(&top, None), inserted(1)),
+        (Event::Unpin { row: 0 }, refused(EventRefusal::NotLive)),
+        (Event::Resolve { number: 1 }, resolved),
+        (Event::Forget { list: &[(1, 2)] }, done(0)),
+        (Event::Resolve { number: 1 }, refused(EventRefusal::NotLive)),
+        (root(&top, None), inserted(1)),
+        (Event::Unpin { row: 0 }, done(1)),
+        (Event::TakeClosing, closing(3)),
     ];
     play(&rt, &mut session, &script);
 }

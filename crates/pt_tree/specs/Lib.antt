@@ -1,5 +1,6 @@
 pub mod Names
 pub mod Slots
+pub mod FreeNumbers
 pub mod Node
 pub mod Permission
 pub mod State
@@ -10,3 +11,4 @@ pub mod Does
 pub mod Start
 pub mod StoreState
 pub mod Laws
+pub mod Listing

@@ -18,3 +18,7 @@ pub record IsSound (state : State) : Type 0 where
   pub numbered : (place : ℕ) (node : Node) → slice_get state.nodes place ≡ Some node → IsNumbered place node
   pub named : (dir : ℕ) (name : List ℕ) (object : ℕ) → name_at state.nodes dir name ≡ Some object → object < length state.nodes
   pub opened : (fd : ℕ) (file : OpenFile) → open_at state.slots fd ≡ Some file → file.object < length state.nodes
+
+-- permissions have no bits of a kind
+abbrev pub HavePermissions : List Node → Type 0
+HavePermissions nodes = (place : ℕ) (node : Node) → slice_get nodes place ≡ Some node → node.permissions < 4096

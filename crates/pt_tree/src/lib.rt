@@ -2,6 +2,7 @@
 #![tactic(auto)]
 
 mod host;
+mod listing;
 mod names;
 mod new_place;
 mod node;
@@ -12,6 +13,8 @@ mod slots;
 mod spec;
 mod start;
 mod store;
+#[cfg(test)]
+mod tests;
 
 pub use host::TreeHost;
 pub use spec::{SpecError, TreeLine, TreeSpec};

@@ -8,7 +8,7 @@ use std::marker::Model;
 /// The names of a directory, each with the object that it leads to.
 #[derive(Drop)]
 pub struct Names {
-    kept: BTreeMap<Vec<u8>, usize>,
+    pub(crate) kept: BTreeMap<Vec<u8>, usize>,
 }
 
 impl Model for Names {

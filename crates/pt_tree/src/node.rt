@@ -1,5 +1,5 @@
 ghost use Rattle.std.specs.Prelude.{◌≡◌, ◌<◌};
-ghost use Rattle.pt_tree.specs.Node.{is_directory, kind_number, size_of, status_of};
+ghost use Rattle.pt_tree.specs.Node.{is_directory, kind_number, mode_of, size_of, status_of};
 
 use crate::names::Names;
 use pt_host::{Bytes, ObjIds, Stat, Time};
@@ -61,6 +61,14 @@ impl Node {
         }
     }
 
+    /// The mode with the kind.
+    pub fn mode(&self) -> u32
+        requires { self.now.permissions < 4096 }
+        ensures { result ≡ mode_of self.now }
+    {
+        4096 * self.content.kind_number() + self.permissions
+    }
+
     /// The status that `stat(2)` tells.
     pub fn status(&self) -> Stat
         requires { self.now.permissions < 4096 }
@@ -69,7 +77,7 @@ impl Node {
         let size = self.content.size();
         Stat {
             ids: self.ids,
-            mode: 4096 * self.content.kind_number() + self.permissions,
+            mode: self.mode(),
             nlink: self.nlink,
             uid: self.uid,
             gid: self.gid,

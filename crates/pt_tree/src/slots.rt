@@ -4,6 +4,8 @@ ghost use Rattle.pt_tree.specs.declared.slots.Slot.TheVariants.{Open};
 
 use pt_host::{Fd, OpenFlags};
 use std::alloc::{AllocError, Global};
+use std::cmp::Reverse;
+use std::collections::BinaryHeap;
 use std::marker::Model;
 
 /// What a descriptor is open on, and how.
@@ -27,15 +29,22 @@ pub enum Slot {
 #[derive(Drop)]
 pub struct Descriptors {
     slots: Vec<Slot>,
+    /// The free numbers, the least on top, with room for those that are open: so a close takes no memory.
+    free: BinaryHeap<Reverse<usize>>,
 }
 
 impl Model for Descriptors {
     ghost use Rattle.std.specs.Prelude.{List};
+    ghost use Rattle.std.specs.BinaryHeap.{heap_items, heap_capacity};
+    ghost use Rattle.pt_tree.specs.FreeNumbers.{IsTable};
     ghost use Rattle.pt_tree.specs.declared.slots.Slot.{Slot};
 
     ghost Value = { List Slot };
 
     ghost view = { λ descriptors. descriptors.slots.items };
+
+    ghost invariant = { λ descriptors.
+        IsTable descriptors.slots.items (heap_items descriptors.free) (heap_capacity descriptors.free) };
 }
 
 impl Descriptors {
@@ -44,16 +53,16 @@ impl Descriptors {
         ensures { IfOk result (λ descriptors. descriptors ≡ no_files) }
     {
         let slots = vec![in alloc; Slot::Reserved, Slot::Reserved, Slot::Reserved]?;
-        Ok(Descriptors { slots })
+        Ok(Descriptors {
+            slots,
+            free: BinaryHeap::new(alloc),
+        })
     }
 
     pub fn get(&self, fd: Fd) -> Option<OpenFile>
         ensures { result ≡ open_at self.now fd.0 }
     {
-        match self.slots.get(fd.0 as usize) {
-            Some(Slot::Open(file)) => Some(*file),
-            _ => None,
-        }
+        file_at(&self.slots, fd)
     }
 
     /// Opens the least number that is free.
@@ -62,40 +71,41 @@ impl Descriptors {
         ensures ok { IfOk result (λ fd. self.new ≡ put_at fd.0 (Open file) self.old) }
         ensures err { OnErr result (self.new ≡ self.old) }
     {
-        let place = least_free_place(&self.slots);
-        let Ok(fd) = u32::try_from(place) else {
-            return Err(AllocError);
-        };
-        if place == self.slots.len() {
-            self.slots.push(Slot::Open(file))?;
-        } else {
-            self.slots[place] = Slot::Open(file);
+        match self.free.pop() {
+            Some(least) => {
+                let place = least.0;
+                self.slots[place] = Slot::Open(file);
+                Ok(Fd(place as u32))
+            }
+            None => {
+                let place = self.slots.len();
+                let Ok(fd) = u32::try_from(place) else {
+                    return Err(AllocError);
+                };
+                self.free.reserve(place + 1)?;
+                self.slots.push(Slot::Open(file))?;
+                Ok(Fd(fd))
+            }
         }
-        Ok(Fd(fd))
     }
 
     /// The number is free again, where it was open.
     pub fn close(&mut self, fd: Fd)
         ensures { self.new ≡ closed fd.0 self.old }
     {
-        if self.get(fd).is_some() {
-            self.slots[fd.0 as usize] = Slot::Free;
+        if file_at(&self.slots, fd).is_some() {
+            let place = fd.0 as usize;
+            self.slots[place] = Slot::Free;
+            let _ = self.free.push(Reverse(place));
         }
     }
 }
 
-fn least_free_place(slots: &[Slot]) -> usize
-    ensures least { result ≡ least_free slots.now }
-    ensures within { result ≤ length slots.now }
+fn file_at(slots: &[Slot], fd: Fd) -> Option<OpenFile>
+    ensures { result ≡ open_at slots.now fd.0 }
 {
-    match first_free(slots) {
-        Some(place) => place,
-        None => slots.len(),
+    match slots.get(fd.0 as usize) {
+        Some(Slot::Open(file)) => Some(*file),
+        _ => None,
     }
-}
-
-fn first_free(slots: &[Slot]) -> Option<usize>
-    ensures { result ≡ position is_free slots.now }
-{
-    slots.iter().position(|slot| matches!(slot, Slot::Free))
 }

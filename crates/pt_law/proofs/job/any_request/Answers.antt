@@ -1,7 +1,7 @@
 use Rattle.pt_law.proofs.job.any_request.Goals as goal
 use Rattle.std.specs.Prelude.{[]}
 use Rattle.pt_law.proofs.Branches.{branch}
-use Rattle.pt_law.proofs.Cutting.{cut_answers}
+use Rattle.pt_req.proofs.Ending.{is_cut}
 use Rattle.pt_law.proofs.Ending.{fit_ends, fit_ends_cut}
 use Rattle.pt_law.proofs.Settled.{settled}
 use Rattle.pt_req.specs.Tree.{framed}
@@ -10,7 +10,7 @@ pub returns-clause-whole : goal.returns-clause-whole
 returns-clause-whole c = fit_ends
 
 pub returns-clause-cut : goal.returns-clause-cut
-returns-clause-cut c = λ asked tree steps end f t b. (fit_ends_cut asked tree steps end f t b, cut_answers (framed tree []) steps end b)
+returns-clause-cut c = λ asked tree steps end f t b. (fit_ends_cut asked tree steps end f t b, is_cut (framed tree []) steps end b)
 
 pub returns-clause-branch : goal.returns-clause-branch
 returns-clause-branch c = λ tree steps end b. branch tree [] steps end b

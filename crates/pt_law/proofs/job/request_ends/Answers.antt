@@ -1,7 +1,7 @@
 use Rattle.pt_law.proofs.job.request_ends.Goals as goal
 use Rattle.pt_req.specs.Pattern.{grammar_of}
 use Rattle.pt_req.specs.Requests.{tree_of}
-use Rattle.pt_law.proofs.Cutting.{cut_answers}
+use Rattle.pt_req.proofs.Ending.{is_cut}
 use Rattle.pt_law.proofs.Ending.{fit_ends, fit_ends_cut}
 use Rattle.pt_law.proofs.Opened.{opened}
 use Rattle.pt_law.proofs.Requests.{fit_request}
@@ -13,7 +13,7 @@ pub returns-clause-causes : goal.returns-clause-causes
 returns-clause-causes c = λ plan asked steps errno t b. (fit_ends asked (tree_of plan asked) steps _ (fit_request plan asked) t b).1
 
 pub returns-clause-cut : goal.returns-clause-cut
-returns-clause-cut c = λ plan asked steps end t b. (fit_ends_cut asked (tree_of plan asked) steps end (fit_request plan asked) t b, cut_answers (grammar_of plan asked) steps end b)
+returns-clause-cut c = λ plan asked steps end t b. (fit_ends_cut asked (tree_of plan asked) steps end (fit_request plan asked) t b, is_cut (grammar_of plan asked) steps end b)
 
 pub returns-clause-opened : goal.returns-clause-opened
 returns-clause-opened c = opened

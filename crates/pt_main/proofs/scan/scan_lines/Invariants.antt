@@ -1,4 +1,4 @@
-use Rattle.std.proofs.Common.{◌≡◌, ◌≤◌, ◌+◌, length}
+use Rattle.std.proofs.Common.{◌≡◌, ◌≤◌, ◌<◌, ◌+◌, length}
 use Rattle.pt_main.specs.Scan.{scan_from, scan_of}
 use Rattle.pt_main.proofs.scan.scan_lines.Given as goal
 
@@ -6,6 +6,7 @@ abbrev pub invariant-loop-text : goal.invariant-loop-text
 invariant-loop-text l = record {
   same : scan_from l.number l.lines l.parts ≡ scan_of l.bytes;
   within : l.number + length l.parts ≤ length l.bytes + 2;
+  few : length l.lines.tree + length l.lines.jobs < l.number;
 }
 
 abbrev pub decreases-loop-text : goal.decreases-loop-text

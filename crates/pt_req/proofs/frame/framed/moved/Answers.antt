@@ -1,5 +1,4 @@
-use Rattle.std.proofs.Common.{◌≡◌, ◌≤◌, ◌<◌, ◌+◌, ap, length, arith}
-use Rattle.pt_req.specs.Left.{mode_counts, body_counts}
+use Rattle.std.proofs.Common.{◌≤◌, ◌+◌, ap, length, arith}
 use Rattle.pt_req.specs.Room.{adds}
 use Rattle.pt_req.proofs.Framing.{body_went, asks_deed, asks_inserted}
 use Rattle.pt_req.proofs.frame.framed.moved.Goals as goal

@@ -1,14 +1,14 @@
 -- Jobs that each keep the discipline, in any order, keep what holds.
-use Rattle.std.proofs.Common.{◌≡◌, ◌≢◌, ◌⊎◌, ⊎_elim, inl, inr, ℕ, zero, suc, ◌+◌, ◌-◌, ◌*◌, ◌<◌, ◌≤◌, List, [], ◌∷◌, ◌++◌, length, Bool, true, false, cond, eqb, refl, sym, ap, subst, ◌∙◌, arith, Option, Some, None}
+use Rattle.std.proofs.Common.{◌≡◌, ◌≢◌, ◌⊎◌, ⊎_elim, inl, inr, ℕ, ◌+◌, ◌<◌, ◌≤◌, List, [], ◌∷◌, ◌++◌, refl, sym, ap, subst, ◌∙◌, arith}
 use Rattle.std.proofs.lemmas.Bool.{cases_eq, cases_lt}
-use Rattle.pt_host.specs.Words.{is, total, Each, Takes, Replaces, set_at, sum_to}
+use Rattle.pt_host.specs.Words.{Each, set_at}
 use Rattle.pt_session.specs.Tables.{Tables}
 use Rattle.pt_req.specs.Deed.{Step}
-use Rattle.pt_law.specs.Discipline.{Job, Moves, Disciplined}
-use Rattle.pt_law.specs.World.{Turn, World, Goes, Runs, TablesRun, steps_of}
+use Rattle.pt_law.specs.Discipline.{Job, Disciplined}
+use Rattle.pt_law.specs.World.{Turn, World, IsLawful, Runs, TablesRun, steps_of}
 use Rattle.pt_law.specs.Ledger.{inserted, inserted_if}
-use Rattle.pt_law.proofs.Lists.{set_at_same, set_at_other, at_each}
-use Rattle.pt_law.proofs.Steps.{Tabled, Inv, IsHonestStep, recount, keeps, keeps_tabled, honest_step, turned}
+use Rattle.pt_law.proofs.Lists.{set_at_same, set_at_other}
+use Rattle.pt_law.proofs.Steps.{Tabled, Inv, HasFlows, recount, keeps, keeps_tabled, has_flows, turned}
 
 pub steps_same : (s : Turn) (ss : List Turn) → steps_of s.job (s ∷ ss) ≡ s.step ∷ steps_of s.job ss
 steps_same s ss = grind arith
@@ -20,7 +20,7 @@ pub steps_append : (j : ℕ) (ss ts : List Turn) → steps_of j (ss ++ ts) ≡ s
 steps_append j [] ts = refl
 steps_append j (s ∷ ss) ts = let h = steps_append j ss ts in ⊎_elim
     (λ (e : j ≡ s.job). subst (λ i. steps_of i ss ++ steps_of i ts ≡ steps_of i (ss ++ ts) → steps_of i (s ∷ (ss ++ ts)) ≡ steps_of i (s ∷ ss) ++ steps_of i ts) (sym e)
-        (λ k. steps_same s (ss ++ ts) ∙ ap (λ x. s.step ∷ x) (sym k) ∙ ap (λ x. x ++ steps_of s.job ts) (sym (steps_same s ss))) (sym h))
+    (λ k. steps_same s (ss ++ ts) ∙ ap (λ x. s.step ∷ x) (sym k) ∙ ap (λ x. x ++ steps_of s.job ts) (sym (steps_same s ss))) (sym h))
     (λ (e : j ≢ s.job). steps_other j s (ss ++ ts) e ∙ h ∙ ap (λ x. x ++ steps_of j ts) (sym (steps_other j s ss e)))
     (cases_eq j s.job)
 
@@ -50,20 +50,20 @@ after_step bound js ends s ss mid d mine j l = ⊎_elim same other (cases_eq j s
   where
     same : j ≡ s.job → Disciplined (set_at s.job mid js j) (steps_of j ss) (ends j)
     same e = subst (λ i. Disciplined (set_at s.job mid js i) (steps_of i ss) (ends i)) (sym e) (rw (set_at_same js s.job mid) mine)
+
     other : j ≢ s.job → Disciplined (set_at s.job mid js j) (steps_of j ss) (ends j)
     other e = rw (set_at_other js s.job mid j e) (rw (steps_other j s ss e) at (d j l))
 
 -- the tables alone
 pub tables_keep : (bound : ℕ) (had : ℕ → ℕ) (turns : List Turn) (t last : Tables) (js ends : ℕ → Job) → TablesRun t turns last → Each (λ s. s.job < bound) turns → Tabled bound had t js → Sorted bound js turns ends →
-    Each (λ s. IsHonestStep s.step.deed s.step.reply) turns × (now : ℕ → Job) × Tabled bound (λ n. had n + inserted n turns) last now × ((j : ℕ) → j < bound → now j ≡ ends j)
+    Each (λ s. HasFlows s.step.deed s.step.reply) turns × (now : ℕ → Job) × Tabled bound (λ n. had n + inserted n turns) last now × ((j : ℕ) → j < bound → now j ≡ ends j)
 tables_keep bound had [] t last js ends r lt v d = (tt, js, rw r (recount bound had (λ n. had n + 0) t js (λ n. omega arith) v), (λ j l. sym (d j l)))
 tables_keep bound had (s ∷ ss) t last js ends r lt v d =
     let mine = rw (steps_same s ss) at (d s.job lt.0) in
     let step = keeps_tabled bound had t js s.job s.step.deed s.step.reply r.0 mine.0 lt.0 v r.1 mine.1 in
     let had' = (λ (n : ℕ). had n + inserted_if n s.step.deed s.step.reply) in
-    let rest = tables_keep bound had' ss r.0 last (set_at s.job mine.0 js) ends r.2 lt.1 step (after_step bound js ends s ss mine.0 d mine.2) in
-    (
-      (honest_step bound had t js s.job s.step.deed s.step.reply r.0 mine.0 lt.0 v r.1 mine.1, rest.0),
+    let rest = tables_keep bound had' ss r.0 last (set_at s.job mine.0 js) ends r.2 lt.1 step (after_step bound js ends s ss mine.0 d mine.2) in (
+      (has_flows bound had t js s.job s.step.deed s.step.reply r.0 mine.0 lt.0 v r.1 mine.1, rest.0),
       rest.1,
       recount bound (λ n. had' n + inserted n ss) (λ n. had n + inserted n (s ∷ ss)) last rest.1 (λ n. omega arith) rest.2,
       rest.3,
@@ -88,4 +88,8 @@ pub tables_run : (turns : List Turn) (w last : World) → Runs w turns last → 
 tables_run [] w last r = ap (λ (z : World). z.tables) r
 tables_run (s ∷ ss) w last r =
     let g = r.1 in
-    (r.0.tables, turned w.tree r.0.tree g.seat g.seat_after w.tables r.0.tables s.step.deed s.step.reply g.made, tables_run ss r.0 last r.2)
+    (r.0.tables, turned IsLawful s.step.deed s.step.reply w.tree g.seat w.tables r.0.tree g.seat_after r.0.tables g.made, tables_run ss r.0 last r.2)
+
+pub tables_split : (turns more : List Turn) (t last : Tables) → TablesRun t (turns ++ more) last → (mid : Tables) × TablesRun t turns mid × TablesRun mid more last
+tables_split [] more t last r = (t, refl, r)
+tables_split (s ∷ turns) more t last r = let k = tables_split turns more r.0 last r.2 in (k.0, (r.0, r.1, k.1), k.2)

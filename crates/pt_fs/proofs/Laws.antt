@@ -1,0 +1,201 @@
+-- The laws of whole runs, read for a trace.
+use Rattle.std.proofs.Common.{◌≡◌, ◌<◌, ◌++◌, ◌∙◌, ◌==◌, ℕ, List, [], ◌∷◌, Option, Some, None, ap, sym, subst, refl, length, map, arith, cond, eqb, true, false, Bool, append-nil}
+use Rattle.std.proofs.lemmas.Grind.{common_steps}
+use Rattle.std.proofs.Math.ListN.{length-set}
+use Rattle.std.proofs.lemmas.List.{length-map}
+use Rattle.std.proofs.lemmas.Option.{slice_get_within}
+use Rattle.std.specs.Prelude.{slice_get, slice_set}
+use Rattle.pt_host.specs.Words.{Each}
+use Rattle.pt_host.specs.declared.seat.HostSeat.{HostSeat}
+use Rattle.pt_host.specs.Tree.{Tree, IsWellFormed}
+use Rattle.pt_session.specs.Tables.{Tables, empty_tables}
+use Rattle.pt_iface.specs.declared.answer.Answer.{Answer}
+use Rattle.pt_iface.specs.declared.answer.Answer.TheVariants as answer
+use Rattle.pt_iface.specs.declared.request.Request.{Request}
+use Rattle.pt_iface.specs.declared.request.Request.TheVariants as request
+use Rattle.pt_req.specs.Deed.{Step}
+use Rattle.pt_req.specs.Grammar.{Belongs}
+use Rattle.pt_req.specs.Made.{Does}
+use Rattle.pt_req.specs.Pattern.{grammar_of}
+use Rattle.pt_req.specs.Requests.{tree_of}
+use Rattle.pt_req.specs.declared.finish.Finish.{Finish}
+use Rattle.pt_req.specs.declared.finish.Finish.TheVariants as finish
+use Rattle.pt_req.specs.declared.plan.Plan.{Plan}
+use Rattle.pt_law.specs.Told.{AllMayBeTold}
+use Rattle.pt_law.specs.Laws.{AreKept, AreAnswered, AreEnded, AreDisciplined, Starts, SlotsAddUp, IsAtRest}
+use Rattle.pt_law.specs.World.{Turn, World, TablesRun, HostRuns, steps_of, Runs as WorldRuns}
+use Rattle.pt_law.proofs.Told.{Promises}
+use Rattle.pt_law.proofs.Hosts.{Tells, hosts_tables, hosts_told, hosts_ended, hosts_world}
+use Rattle.pt_law.proofs.Laws.{counts_law, once_law, slots_law, rest_law, ended_jobs, distinct_law, object_law, kept_law, leaves_law}
+use Rattle.pt_law.proofs.Next.{named_law}
+use Rattle.pt_law.proofs.Entries.{entered_law}
+use Rattle.pt_law.proofs.Ending.{fit_ends}
+use Rattle.pt_law.proofs.Requests.{fit_request}
+use Rattle.pt_law.proofs.Settled.{settled}
+use Rattle.pt_fs.specs.Jobs.{request_of, job_seat}
+use Rattle.pt_fs.specs.Trace.{Runs, AnswersEach, steps_by, step_of}
+use Rattle.pt_fs.specs.Keeps.{turn_of, turns_of, AfterEach, AfterEachTold, WhereTold, LeadsOn, begins_in, KeepsObjects, KeepsCounts, InsertsOnce, OfEachJob, GivesBack, IsCausedIn, IsNamedIn, NamesOpenOnes, LeavesOpen}
+use Rattle.pt_fs.specs.declared.job.Job.{Job}
+use Rattle.pt_fs.specs.declared.trace.TraceStep.{TraceStep}
+use Rattle.pt_fs.proofs.Ended.{one_for_each, at_below}
+use Rattle.pt_fs.proofs.Whole.{Whole, runs_whole, answers_whole}
+use Rattle.pt_fs.specs.Owing.{run_seat}
+use Rattle.pt_fs.specs.declared.running.Running.{Running}
+
+-- the seats aside, a trace is a run of its host
+pub host_runs : {H : Type 0} (does : Does H) (trace : List TraceStep) (host : H) (seats : List HostSeat) (tables : Tables) (host' : H) (seats' : List HostSeat) (tables' : Tables) →
+    Runs does trace host seats tables host' seats' tables' → HostRuns does (turns_of trace) host tables host' tables'
+host_runs does [] host seats tables host' seats' tables' r = (r.0, r.2)
+host_runs does (step ∷ trace) host seats tables host' seats' tables' r =
+    (r.0, r.2, r.3.0, r.3.1, r.3.4, host_runs does trace r.0 r.1 r.2 host' seats' tables' r.4)
+
+-- each step is one of the jobs'
+pub owners_below : {H : Type 0} (does : Does H) (bound : ℕ) (trace : List TraceStep) (host : H) (seats : List HostSeat) (tables : Tables) (host' : H) (seats' : List HostSeat) (tables' : Tables) →
+    length seats ≡ bound → Runs does trace host seats tables host' seats' tables' → Each (λ turn. turn.job < bound) (turns_of trace)
+owners_below does bound [] host seats tables host' seats' tables' e r = tt
+owners_below does bound (step ∷ trace) host seats tables host' seats' tables' e r =
+    let within = slice_get_within seats step.job r.3.0 r.3.2 in
+    let same : length r.1 ≡ bound = ap length r.3.3 ∙ length-set seats step.job r.3.1 ∙ e in
+    (omega arith, owners_below does bound trace r.0 r.1 r.2 host' seats' tables' same r.4)
+
+-- one job's steps
+pub steps_same : (job : ℕ) (trace : List TraceStep) → steps_of job (turns_of trace) ≡ steps_by job trace
+steps_same job [] = refl
+steps_same job (step ∷ trace) = ap (λ (steps : List Step). cond (eqb step.job job) (step_of step ∷ steps) steps) (steps_same job trace)
+
+asked_by : Option Job → Request
+asked_by None = request.Root
+asked_by (Some job) = request_of job
+
+end_by : Option Answer → Finish
+end_by None = finish.Answer answer.Done
+end_by (Some told) = finish.Answer told
+
+-- a trace, and what is known of it
+pub record Ran {H : Type 0} (does : Does H) (plan : Plan) (limit : ℕ) (jobs : List Job) (host : H) (tables : Tables) (trace : List TraceStep) (answers : List Answer) (host' : H) (tables' : Tables) : Type 0 where
+  pub seats : List HostSeat
+  pub seats' : List HostSeat
+  pub runs : Runs does trace host seats tables host' seats' tables'
+  pub one_each : length seats ≡ length jobs
+  pub answered : AnswersEach plan jobs trace answers
+  pub begins : tables ≡ empty_tables limit
+
+-- what each job asked and how it ended
+asked_at : List Job → ℕ → Request
+unfolding asked_by
+asked_at jobs j = asked_by (slice_get jobs j)
+
+end_at : List Answer → ℕ → Finish
+unfolding end_by
+end_at answers j = end_by (slice_get answers j)
+
+answered_in : (plan : Plan) (jobs : List Job) (trace : List TraceStep) (answers : List Answer) → AnswersEach plan jobs trace answers → Each (λ turn. turn.job < length jobs) (turns_of trace) →
+    AreAnswered plan (length jobs) (asked_at jobs) (end_at answers) (turns_of trace)
+unfolding asked_at asked_by end_at end_by
+answered_in plan jobs trace answers each owners = record {
+  owners = owners;
+  jobs = λ j below.
+      let job = at_below jobs j below in
+      let told = one_for_each jobs answers j job.0 each.one_each job.1 in
+      let in_pattern = each.in_pattern j job.0 told.0 job.1 told.1 in
+      rw (steps_same j trace, job.1, told.1) in_pattern;
+}
+
+ended_of : {H : Type 0} (does : Does H) (faults : H → ℕ) → Promises does faults → (plan : Plan) (limit : ℕ) (jobs : List Job) (host : H) (tables : Tables) (trace : List TraceStep) (answers : List Answer) (host' : H) (tables' : Tables) →
+    Ran does plan limit jobs host tables trace answers host' tables' → AreEnded (length jobs) (turns_of trace)
+ended_of does faults p plan limit jobs host tables trace answers host' tables' ran =
+    let runs = host_runs does trace host ran.seats tables host' ran.seats' tables' ran.runs in
+    let owners = owners_below does (length jobs) trace host ran.seats tables host' ran.seats' tables' ran.one_each ran.runs in
+    hosts_ended does faults p plan (length jobs) (asked_at jobs) (end_at answers) (turns_of trace) host tables host' tables' runs (answered_in plan jobs trace answers ran.answered owners)
+
+turns-append : (trace more : List TraceStep) → turns_of (trace ++ more) ≡ turns_of trace ++ turns_of more
+turns-append trace more = grind (arith, common_steps)
+
+cut_at : (bound : ℕ) (trace so_far rest : List TraceStep) → trace ≡ so_far ++ rest → AreDisciplined bound (turns_of trace) → AreDisciplined bound (turns_of so_far ++ turns_of rest)
+cut_at bound trace so_far rest e d = subst (λ (turns : List Turn). AreDisciplined bound turns) (ap turns_of e ∙ turns-append so_far rest) d
+
+-- the laws that speak of no object, over any host
+pub record Keeps (limit : ℕ) (jobs : List Job) (tables : Tables) (trace : List TraceStep) (answers : List Answer) (tables' : Tables) : Type 0 where
+  pub counts : AfterEach tables trace KeepsCounts
+  pub once : InsertsOnce trace
+  pub slots : AfterEach tables trace (SlotsAddUp limit (length jobs))
+  pub rest : IsAtRest limit (length jobs) (turns_of trace) tables'
+  pub gives_back : OfEachJob jobs answers (GivesBack trace)
+  pub causes : OfEachJob jobs answers (IsCausedIn trace)
+
+caused_by : (trace : List TraceStep) (j : ℕ) (job : Job) (told : Answer) → (plan : Plan) → AllMayBeTold (steps_by j trace) → Belongs (grammar_of plan (request_of job)) (steps_by j trace) (finish.Answer told) → IsCausedIn trace j job told
+caused_by trace j job (answer.Refused errno) plan t b = (fit_ends (request_of job) (tree_of plan (request_of job)) (steps_by j trace) _ (fit_request plan (request_of job)) t b).1
+caused_by trace j job told plan t b = tt
+
+pub keeps : {H : Type 0} (does : Does H) (faults : H → ℕ) → Promises does faults → (plan : Plan) (limit : ℕ) (jobs : List Job) (host : H) (tables : Tables) (trace : List TraceStep) (answers : List Answer) (host' : H) (tables' : Tables) →
+    Ran does plan limit jobs host tables trace answers host' tables' → Keeps limit jobs tables trace answers tables'
+keeps does faults p plan limit jobs host tables trace answers host' tables' ran =
+    let runs = host_runs does trace host ran.seats tables host' ran.seats' tables' ran.runs in
+    let ended = ended_of does faults p plan limit jobs host tables trace answers host' tables' ran in
+    let disciplined = ended_jobs (length jobs) (turns_of trace) ended in
+    let begins = ran.begins in
+    let from_empty = λ (turns : List Turn) (now : Tables) (r : TablesRun tables turns now). subst (λ (t : Tables). TablesRun t turns now) begins r in
+    let whole = from_empty (turns_of trace) tables' (hosts_tables does (turns_of trace) host tables host' tables' runs) in
+    let told = λ (j : ℕ). subst AllMayBeTold (steps_same j trace) (hosts_told does faults p j (turns_of trace) host tables host' tables' runs) in
+    record {
+      counts = λ so_far rest now e r number. counts_law limit (turns_of so_far) now number (from_empty (turns_of so_far) now r);
+      once = λ number other. once_law limit (length jobs) (turns_of trace) [] tables' number (subst (λ (turns : List Turn). AreDisciplined (length jobs) turns) (sym (append-nil (turns_of trace))) disciplined) whole other;
+      slots = λ so_far rest now e r. slots_law limit (length jobs) (turns_of so_far) (turns_of rest) now (cut_at (length jobs) trace so_far rest e disciplined) (from_empty (turns_of so_far) now r);
+      rest = rest_law limit (length jobs) (turns_of trace) tables' ended whole;
+      gives_back = λ j job answer at told_at.
+          let b = ran.answered.in_pattern j job answer at told_at in
+          let ends = (fit_ends (request_of job) (tree_of plan (request_of job)) (steps_by j trace) (finish.Answer answer) (fit_request plan (request_of job)) (told j) b).0 in
+          record { settled = λ number. settled number (steps_by j trace) (finish.Answer answer) ends; ends = ends };
+      causes = λ j job answer at told_at. caused_by trace j job answer plan (told j) (ran.answered.in_pattern j job answer at told_at);
+    }
+
+-- those that speak of objects, over a host that tells its tree
+pub record KeepsTold (plan : Plan) (jobs : List Job) (told : Option Tree) (tables : Tables) (trace : List TraceStep) (answers : List Answer) (told' : Option Tree) (tables' : Tables) : Type 0 where
+  pub leads_on : LeadsOn told tables trace told' tables'
+  pub distinct : AfterEachTold told tables trace (λ start so_far now. KeepsObjects now)
+  pub descriptors : AfterEachTold told tables trace (λ start so_far now. AreKept start (length jobs) so_far now)
+  pub named : NamesOpenOnes told tables trace
+  pub leaves : LeavesOpen told tables trace
+  pub entries : OfEachJob jobs answers (IsNamedIn plan told tables trace)
+
+entered_by : (limit : ℕ) (plan : Plan) (jobs : List Job) (told : Option Tree) (tables : Tables) (trace : List TraceStep) → tables ≡ empty_tables limit → AreDisciplined (length jobs) (turns_of trace) →
+    (j : ℕ) (job : Job) (given : Answer) → j < length jobs → Belongs (grammar_of plan (request_of job)) (steps_of j (turns_of trace)) (finish.Answer given) → IsNamedIn plan told tables trace j job given
+entered_by limit plan jobs told tables trace begins disciplined j job (answer.Entry entry) below b = λ parent name asked tree is well end runs.
+    entered_law limit (length jobs) plan (turns_of trace) (begins_in tree tables) end j parent name entry (record { tables = begins; well_formed = well; past = refl }) disciplined runs below
+    (subst (λ (r : Request). Belongs (grammar_of plan r) (steps_of j (turns_of trace)) (finish.Answer (answer.Entry entry))) asked b)
+entered_by limit plan jobs told tables trace begins disciplined j job given below b = tt
+
+pub keeps_told : {H : Type 0} (does : Does H) (tree : H → Option Tree) (faults : H → ℕ) → Promises does faults → Tells does tree → (plan : Plan) (limit : ℕ) (jobs : List Job) (host : H) (tables : Tables) (trace : List TraceStep) (answers : List Answer) (host' : H) (tables' : Tables) →
+    Ran does plan limit jobs host tables trace answers host' tables' → KeepsTold plan jobs (tree host) tables trace answers (tree host') tables'
+keeps_told does tree faults p tells plan limit jobs host tables trace answers host' tables' ran =
+    let runs = host_runs does trace host ran.seats tables host' ran.seats' tables' ran.runs in
+    let ended = ended_of does faults p plan limit jobs host tables trace answers host' tables' ran in
+    let disciplined = ended_jobs (length jobs) (turns_of trace) ended in
+    let starts = λ (t : Tree) (well : IsWellFormed t). let s : Starts limit (begins_in t tables) = record { tables = ran.begins; well_formed = well; past = refl } in s in
+    record {
+      leads_on = λ t is well. hosts_world does tree faults p tells (turns_of trace) (begins_in t tables) host host' tables' is runs;
+      distinct = λ t is well so_far rest now e r.
+          let d = cut_at (length jobs) trace so_far rest e disciplined in
+          record {
+            distinct = distinct_law limit (length jobs) (turns_of so_far) (turns_of rest) (begins_in t tables) now (starts t well) d r;
+            open_on = λ row at live. object_law limit (length jobs) (turns_of so_far) (turns_of rest) (begins_in t tables) now row (starts t well) d r at live;
+          };
+      descriptors = λ t is well so_far rest now e r. kept_law limit (length jobs) (turns_of so_far) (turns_of rest) (begins_in t tables) now (starts t well) (cut_at (length jobs) trace so_far rest e disciplined) r;
+      named = λ t is well so_far rest step now e r. named_law limit (length jobs) (turns_of so_far) (turn_of step) (turns_of rest) (begins_in t tables) now (starts t well) (cut_at (length jobs) trace so_far (step ∷ rest) e disciplined) r;
+      leaves = λ t is well end r. leaves_law limit (length jobs) (turns_of trace) (begins_in t tables) end (starts t well) ended r;
+      entries = λ j job given at told_at.
+          entered_by limit plan jobs (tree host) tables trace ran.begins disciplined j job given (slice_get_within jobs j job at)
+          (rw (steps_same j trace) (ran.answered.in_pattern j job given at told_at));
+    }
+
+-- what is known of a whole run
+pub ran_whole : {H : Type 0} {does : Does H} {plan : Plan} {schedule : List ℕ} {h h' : H} {jobs : List Job} {running running' : List Running} {tables tables' : Tables} {trace : List TraceStep} {answers : List Answer} (seats : List HostSeat)
+    → Whole does plan schedule h jobs running tables h' running' tables' trace answers → seats ≡ map run_seat running' → ((limit : ℕ) × (tables ≡ empty_tables limit)) → Ran does plan tables.limit jobs h tables trace answers h' tables'
+ran_whole {jobs = jobs} {tables = tables} seats whole ends new = record {
+  seats = map job_seat jobs;
+  seats' = seats;
+  runs = runs_whole seats whole ends;
+  one_each = length-map jobs job_seat;
+  answered = answers_whole whole;
+  begins = new.1 ∙ ap empty_tables (sym (ap (λ (t : Tables). t.limit) new.1));
+}

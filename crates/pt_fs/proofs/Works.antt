@@ -1,0 +1,56 @@
+-- The work that is left falls with each step.
+use Rattle.std.proofs.Common.{◌≡◌, ℕ, zero, suc, ◌+◌, ◌*◌, ◌≤◌, List, [], ◌∷◌, Option, Some, None, ap, slice_get, slice_set, arith}
+use Rattle.std.proofs.lemmas.Option.{same_Some}
+use Rattle.pt_host.specs.declared.seat.HostSeat.{HostSeat}
+use Rattle.pt_session.specs.Pending.{pending_in}
+use Rattle.pt_session.specs.Tables.{Tables}
+use Rattle.pt_req.specs.Deed.{Deed, Changes, Calls}
+use Rattle.pt_req.specs.Job.{steps_bound, inserts_left}
+use Rattle.pt_req.specs.Made.{Does, Made}
+use Rattle.pt_req.specs.declared.act.ActReply.{ActReply}
+use Rattle.pt_req.specs.declared.act.ActReply.TheVariants.{Event, Host, NoCopy}
+use Rattle.pt_req.specs.declared.plan.Plan.{Plan}
+use Rattle.pt_fs.specs.Advances.{inserted_in}
+use Rattle.pt_fs.specs.Each.{EachStarted}
+use Rattle.pt_fs.specs.Trace.{told_by}
+use Rattle.pt_fs.specs.Work.{work, bounds_in, room_of}
+use Rattle.pt_fs.specs.declared.job.Job.{Job}
+use Rattle.pt_fs.specs.declared.running.Running.{Running}
+use Rattle.pt_fs.proofs.Pending.{event_puts}
+
+abbrev pub weight : Running → ℕ
+weight run = steps_bound run.state + 3 * inserts_left run.state
+
+pub bounds-set : (running : List Running) (place : ℕ) (run run' : Running) → slice_get running place ≡ Some run → bounds_in (slice_set running place run') + weight run ≡ bounds_in running + weight run'
+bounds-set [] place run run' there = cc
+bounds-set (first ∷ running) zero run run' there = let e : weight first ≡ weight run = ap (λ (r : Running). weight r) (same_Some first run there) in omega arith
+bounds-set (first ∷ running) (suc place) run run' there = let e = bounds-set running place run run' there in omega arith
+
+-- a step that was made tells no more closings than rows went
+pub made_puts : {H : Type 0} (does : Does H) (kept : Option Deed) (told : ActReply) (host host' : H) (seat seat' : HostSeat) (tables tables' : Tables)
+    → Made does kept told host seat tables host' seat' tables' → pending_in tables' + told_by kept told ≤ pending_in tables + inserted_in kept told
+made_puts does (Some (Changes asked)) (Event told) host host' seat seat' tables tables' made = event_puts tables tables' asked told made.0
+made_puts does (Some (Calls asked)) (Host told) host host' seat seat' tables tables' made = let e = ap pending_in made.1 in omega arith
+made_puts does (Some (Calls asked)) NoCopy host host' seat seat' tables tables' made = let e = ap pending_in made.1 in omega arith
+made_puts does None NoCopy host host' seat seat' tables tables' made = let e = ap pending_in made.2 in omega arith
+made_puts does (Some (Changes asked)) (Host told) host host' seat seat' tables tables' made = absurd made
+made_puts does (Some (Changes asked)) NoCopy host host' seat seat' tables tables' made = absurd made
+made_puts does (Some (Calls asked)) (Event told) host host' seat seat' tables tables' made = absurd made
+made_puts does None (Event told) host host' seat seat' tables tables' made = absurd made
+made_puts does None (Host told) host host' seat seat' tables tables' made = absurd made
+
+-- each step leaves less work
+pub advance_falls : {H : Type 0} (does : Does H) (place : ℕ) (kept : Option Deed) (told : ActReply) (host host' : H) (running : List Running) (run run' : Running) (tables tables' : Tables) (seat' : HostSeat)
+    → slice_get running place ≡ Some run → Made does kept told host run.seat tables host' seat' tables'
+    → steps_bound run'.state + 1 ≤ steps_bound run.state + 3 * told_by kept told → inserts_left run'.state + inserted_in kept told ≤ inserts_left run.state
+    → work (slice_set running place run') tables' + 1 ≤ work running tables
+advance_falls does place kept told host host' running run run' tables tables' seat' there made within inserts =
+    let puts = made_puts does kept told host host' run.seat seat' tables tables' made in
+    let sums = bounds-set running place run run' there in
+    omega arith
+
+pub started_bounds : (plan : Plan) (jobs : List Job) (running : List Running) → EachStarted plan jobs running → bounds_in running ≤ room_of jobs
+started_bounds plan [] [] h = omega arith
+started_bounds plan (job ∷ jobs) (run ∷ running) h = let more = started_bounds plan jobs running h.1 in let bound = h.0.bound in let inserts = h.0.inserts in omega arith
+started_bounds plan [] (run ∷ running) h = absurd h
+started_bounds plan (job ∷ jobs) [] h = absurd h

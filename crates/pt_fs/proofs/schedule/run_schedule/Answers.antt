@@ -1,0 +1,21 @@
+use Rattle.std.proofs.Common.{length, refl, ◌∙◌, drop, get_or, ◌+◌, ◌∷◌}
+use Rattle.std.proofs.lemmas.List.{drop_more}
+use Rattle.pt_fs.specs.Order.{order}
+use Rattle.pt_fs.proofs.Going.{goes_none, goes_on, goes_place}
+use Rattle.pt_fs.proofs.schedule.run_schedule.Goals as goal
+
+pub loop-place-init : goal.loop-place-init
+loop-place-init g c = record { goes = goes_none _ _ _ _ _ _ _; plan = refl; room = c.requires.room }
+
+pub loop-place-preserved : goal.loop-place-preserved
+loop-place-preserved g c =
+    let i = c.loop-place.place-index in
+    let places = c.args.schedule.now in
+    let n = length c.args.running.now in
+    let so_far = rw (drop_more places i 0 c.loop-place-test.true) at c.loop-place.invariant.goes in
+    record {
+      goes = goes_on _ _ _ (order places n) (order (get_or places i 0 ∷ drop (i + 1) places) n) (order (drop (i + 1) places) n) _ _ _ _ _ _ _ _ _ _ _ _ c.loop-place.invariant.plan so_far
+          (goes_place _ _ (get_or places i 0) (drop (i + 1) places) n _ _ _ _ _ _ _ _ c.take_if_unfinished.ensures.goes);
+      plan = c.take_if_unfinished.ensures.plan ∙ c.loop-place.invariant.plan;
+      room = c.take_if_unfinished.ensures.room;
+    }

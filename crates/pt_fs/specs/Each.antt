@@ -1,0 +1,41 @@
+-- How the jobs begin and end.
+use Rattle.std.specs.Prelude.{◌≡◌, ◌≤◌, List, [], ◌∷◌}
+use Rattle.pt_iface.specs.declared.answer.Answer.{Answer}
+use Rattle.pt_iface.specs.declared.answer.Answer.TheVariants as answer
+use Rattle.pt_req.specs.Grammar.{End}
+use Rattle.pt_req.specs.Job.{owes, steps_bound, inserts_left}
+use Rattle.pt_req.specs.Pattern.{grammar_of, bound_of, most_inserted}
+use Rattle.pt_req.specs.declared.finish.Finish.{Finish}
+use Rattle.pt_req.specs.declared.finish.Finish.TheVariants as finish
+use Rattle.pt_req.specs.declared.plan.Plan.{Plan}
+use Rattle.pt_fs.specs.Jobs.{job_seat, request_of}
+use Rattle.pt_fs.specs.declared.job.Job.{Job}
+use Rattle.pt_fs.specs.declared.running.Running.{Running}
+
+-- the job has its seat, and owes all of its request
+pub record IsStarted (plan : Plan) (job : Job) (run : Running) : Type 0 where
+  pub seat : run.seat ≡ job_seat job
+  pub left : owes plan run.state ≡ grammar_of plan (request_of job)
+  pub bound : steps_bound run.state ≤ bound_of (request_of job)
+  pub inserts : inserts_left run.state ≤ most_inserted
+
+abbrev pub EachStarted : Plan → List Job → List Running → Type 0
+EachStarted plan [] [] = Unit {0}
+EachStarted plan (job ∷ jobs) (run ∷ running) = IsStarted plan job run × EachStarted plan jobs running
+EachStarted plan [] (run ∷ running) = ⊥
+EachStarted plan (job ∷ jobs) [] = ⊥
+
+-- a job that lost its seat is cut
+abbrev pub answer_of : Finish → Answer
+answer_of (finish.Answer told) = told
+answer_of (finish.Lost errno) = answer.Cut
+
+-- the job owes its end alone
+abbrev pub EndsAs : Running → Answer → Type 0
+EndsAs run told = (last : Finish) × ((plan : Plan) → owes plan run.state ≡ End last) × (told ≡ answer_of last)
+
+abbrev pub EachAnswered : List Running → List Answer → Type 0
+EachAnswered [] [] = Unit {0}
+EachAnswered (run ∷ running) (told ∷ answers) = EndsAs run told × EachAnswered running answers
+EachAnswered [] (told ∷ answers) = ⊥
+EachAnswered (run ∷ running) [] = ⊥

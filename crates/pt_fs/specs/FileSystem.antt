@@ -1,0 +1,46 @@
+-- A file system as contracts see it, and how it is made.
+use Rattle.std.specs.Prelude.{◌≡◌, ℕ, [], ◌∷◌, Option, Some, Result, Ok, Err}
+use Rattle.pt_host.specs.Call.{Call}
+use Rattle.pt_host.specs.Flags.{path_flags}
+use Rattle.pt_host.specs.LawfulStep.{Opens}
+use Rattle.pt_host.specs.Tree.{Tree}
+use Rattle.pt_host.specs.declared.flags.OpenFlags.{OpenFlags}
+use Rattle.pt_host.specs.declared.ids.Fd.{Fd}
+use Rattle.pt_host.specs.declared.op.KeptHostOp.TheVariants as call
+use Rattle.pt_host.specs.declared.reply.HostReply.{HostReply}
+use Rattle.pt_host.specs.declared.reply.HostReply.TheVariants as reply
+use Rattle.pt_host.specs.declared.reply.HostValue.TheVariants as value
+use Rattle.pt_session.specs.Tables.{Tables}
+use Rattle.pt_iface.specs.declared.answer.Refusal.{Refusal}
+use Rattle.pt_iface.specs.declared.answer.Refusal.TheVariants as refusal
+use Rattle.pt_req.specs.declared.plan.Plan.{Plan}
+
+-- its checked configuration, its tables, and the descriptor of the host's root
+pub record FileSystem : Type 0 where
+  pub plan : Plan
+  pub tables : Tables
+  pub root : Fd
+
+-- the flags of a descriptor that only stands for its object
+abbrev pub path : OpenFlags
+path = record { 0 = path_flags }
+
+-- a slash
+abbrev pub opens_root : Call
+opens_root = call.OpenRoot (47 ∷ []) path
+
+-- what the opening of the host's root was answered makes the file system, or is its refusal
+abbrev pub IsMadeBy : HostReply → Result FileSystem Refusal → Type 0
+IsMadeBy (reply.Ok (value.Fd fd)) (Ok fs) = fs.root ≡ fd
+IsMadeBy (reply.Refused errno) (Err why) = why ≡ refusal.Errno errno
+IsMadeBy (reply.Fault errno) (Err why) = why ≡ refusal.Errno errno
+IsMadeBy reply.NoMemory (Err why) = why ≡ refusal.Memory
+IsMadeBy told made = ⊥
+
+-- where the tree was told it is told, and has one descriptor more
+abbrev pub OpensOne : Option Tree → Fd → Option Tree → Type 0
+OpensOne before fd after = (tree : Tree) → before ≡ Some tree → (later : Tree) × (after ≡ Some later) × (object : ℕ) × Opens tree object path fd later
+
+-- where the tree was told it is told, and is the same
+abbrev pub StaysTold : Option Tree → Option Tree → Type 0
+StaysTold before after = (tree : Tree) → before ≡ Some tree → after ≡ Some tree

@@ -1,0 +1,96 @@
+-- What a run keeps after every step and at its end, in whatever order its jobs took their steps.
+use Rattle.std.specs.Prelude.{◌≡◌, ◌≢◌, ◌<◌, ◌≤◌, ◌+◌, ℕ, true, List, [], ◌∷◌, ◌++◌, Option, Some, length, map, slice_get}
+use Rattle.pt_host.specs.Tree.{Tree, IsWellFormed}
+use Rattle.pt_host.specs.declared.ids.Errno.{Errno}
+use Rattle.pt_session.specs.Tables.{Tables}
+use Rattle.pt_session.specs.Happens.{IsRow}
+use Rattle.pt_session.specs.declared.row.Row.{Row}
+use Rattle.pt_iface.specs.declared.answer.Answer.{Answer}
+use Rattle.pt_iface.specs.declared.answer.Answer.TheVariants as answer
+use Rattle.pt_iface.specs.declared.entry.Entry.{Entry}
+use Rattle.pt_iface.specs.declared.request.Request.TheVariants as request
+use Rattle.pt_req.specs.Deed.{kept_deed_of}
+use Rattle.pt_req.specs.declared.finish.Finish.TheVariants as finish
+use Rattle.pt_req.specs.declared.plan.Plan.{Plan}
+use Rattle.pt_law.specs.Cause.{HasCause}
+use Rattle.pt_law.specs.Discipline.{idle, Ends}
+use Rattle.pt_law.specs.Entered.{IsEntered}
+use Rattle.pt_law.specs.Laws.{AreDistinct, HasObject, IsCounted, SlotsAddUp, AreKept, NamesOpen, IsAtRest, LeavesRows}
+use Rattle.pt_law.specs.Ledger.{given, inserted}
+use Rattle.pt_law.specs.Settled.{all_given, all_returned, entry_count}
+use Rattle.pt_law.specs.World.{Turn, World, TablesRun, no_past, Runs as WorldRuns}
+use Rattle.pt_fs.specs.Jobs.{request_of}
+use Rattle.pt_fs.specs.Trace.{step_of, steps_by}
+use Rattle.pt_fs.specs.declared.job.Job.{Job}
+use Rattle.pt_fs.specs.declared.trace.TraceStep.{TraceStep}
+
+abbrev pub turn_of : TraceStep → Turn
+turn_of step = record { job = step.job; step = step_of step }
+
+abbrev pub turns_of : List TraceStep → List Turn
+turns_of trace = map turn_of trace
+
+-- after every step: of the steps so far and the tables to which they led
+abbrev pub AfterEach : Tables → List TraceStep → (List Turn → Tables → Type 0) → Type 0
+AfterEach tables trace P =
+    (so_far rest : List TraceStep) (now : Tables) → trace ≡ so_far ++ rest → TablesRun tables (turns_of so_far) now → P (turns_of so_far) now
+
+-- the world in which a run begins, where the host tells this tree
+abbrev pub begins_in : Tree → Tables → World
+begins_in tree tables = record { tree = tree; tables = tables; past = no_past }
+
+-- where the host told a tree that is well formed
+abbrev pub WhereTold : Option Tree → Tables → (World → Type 0) → Type 0
+WhereTold told tables P = (tree : Tree) → told ≡ Some tree → IsWellFormed tree → P (begins_in tree tables)
+
+-- after every step: of the steps so far and the world to which they led
+abbrev pub AfterEachTold : Option Tree → Tables → List TraceStep → (World → List Turn → World → Type 0) → Type 0
+AfterEachTold told tables trace P = WhereTold told tables (λ start.
+    (so_far rest : List TraceStep) (now : World) → trace ≡ so_far ++ rest → WorldRuns start (turns_of so_far) now → P start (turns_of so_far) now)
+
+-- the steps lead the tree that the host told to the one that it tells afterwards, and to these tables
+abbrev pub LeadsOn : Option Tree → Tables → List TraceStep → Option Tree → Tables → Type 0
+LeadsOn told tables trace told' tables' = WhereTold told tables (λ start.
+    (end : World) × (told' ≡ Some end.tree) × (end.tables ≡ tables') × WorldRuns start (turns_of trace) end)
+
+-- two live numbers that differ have objects that differ, and a live row has an open descriptor of its number's object
+pub record KeepsObjects (now : World) : Type 0 where
+  pub distinct : AreDistinct now
+  pub open_on : (row : Row) → IsRow now.tables row → row.live ≡ true → HasObject now row
+
+-- every number's count is what was given of it and not taken back
+abbrev pub KeepsCounts : List Turn → Tables → Type 0
+KeepsCounts so_far now = (number : ℕ) → IsCounted now number (given number so_far)
+
+-- no number but the root's is inserted twice
+abbrev pub InsertsOnce : List TraceStep → Type 0
+InsertsOnce trace = (number : ℕ) → number ≢ 1 → inserted number (turns_of trace) ≤ 1
+
+-- of each job and its answer
+abbrev pub OfEachJob : List Job → List Answer → (ℕ → Job → Answer → Type 0) → Type 0
+OfEachJob jobs answers P = (j : ℕ) (job : Job) (told : Answer) → slice_get jobs j ≡ Some job → slice_get answers j ≡ Some told → P j job told
+
+-- What a job was given it gave back, once each, but for the number that its answer has; and it gave back all else that it held.
+pub record GivesBack (trace : List TraceStep) (j : ℕ) (job : Job) (told : Answer) : Type 0 where
+  pub settled : (number : ℕ) → all_given number (steps_by j trace) ≡ all_returned number (steps_by j trace) + entry_count number (finish.Answer told)
+  pub ends : Ends idle (steps_by j trace) (finish.Answer told)
+
+-- a refusal has its cause, in what was asked or at a step of the job
+abbrev pub IsCausedIn : List TraceStep → ℕ → Job → Answer → Type 0
+IsCausedIn trace j job (answer.Refused errno) = HasCause (request_of job) (steps_by j trace) errno
+IsCausedIn trace j job told = Unit {0}
+
+-- an entry names the object that its name had in the directory that its parent stood for
+abbrev pub IsNamedIn : Plan → Option Tree → Tables → List TraceStep → ℕ → Job → Answer → Type 0
+IsNamedIn plan told tables trace j job (answer.Entry entry) = (parent : ℕ) (name : List ℕ) → request_of job ≡ request.Lookup parent name →
+    WhereTold told tables (λ start. (end : World) → WorldRuns start (turns_of trace) end → IsEntered plan start (turns_of trace) end j parent name entry)
+IsNamedIn plan told tables trace j job other = Unit {0}
+
+-- each call names only descriptors that are open at its step
+abbrev pub NamesOpenOnes : Option Tree → Tables → List TraceStep → Type 0
+NamesOpenOnes told tables trace = WhereTold told tables (λ start.
+    (so_far rest : List TraceStep) (step : TraceStep) (now : World) → trace ≡ so_far ++ step ∷ rest → WorldRuns start (turns_of so_far) now → NamesOpen now.tree (kept_deed_of step.act))
+
+-- at the end the open descriptors are those that were open at the start, those of the rows, and no other
+abbrev pub LeavesOpen : Option Tree → Tables → List TraceStep → Type 0
+LeavesOpen told tables trace = WhereTold told tables (λ start. (end : World) → WorldRuns start (turns_of trace) end → LeavesRows start end)

@@ -1,0 +1,51 @@
+-- One step of one of the jobs.
+use Rattle.std.specs.Prelude.{◌+◌, ◌*◌, ◌≤◌, ◌≡◌, ◌<◌, ◌⊎◌, None, ℕ, List, [], ◌∷◌, ◌++◌, Option, Some, true, false, slice_get, slice_set}
+use Rattle.pt_session.specs.Tables.{Tables}
+use Rattle.pt_req.specs.Deed.{kept_deed_of}
+use Rattle.pt_req.specs.Grammar.{is_end}
+use Rattle.pt_req.specs.Job.{owes, steps_left, steps_bound, is_finished}
+use Rattle.pt_req.specs.Made.{Does, Made}
+use Rattle.pt_req.specs.declared.plan.Plan.{Plan}
+use Rattle.pt_fs.specs.Advances.{Advances}
+use Rattle.pt_fs.specs.Trace.{told_by}
+use Rattle.pt_fs.specs.declared.trace.TraceStep.{TraceStep}
+use Rattle.pt_fs.specs.declared.running.Running.{Running}
+
+-- the job of this number has a step to take
+abbrev pub IsUnfinished : Plan → List Running → ℕ → Type 0
+IsUnfinished plan running place =
+    (run : Running) → slice_get running place ≡ Some run → (is_finished run.state ≡ false) × (is_end (owes plan run.state) ≡ false)
+
+-- the job of this number took its next step, which is the last of the trace
+pub record Took {H : Type 0} (does : Does H) (plan : Plan) (place : ℕ) (host : H) (running : List Running) (tables : Tables) (trace : List TraceStep)
+    (host' : H) (running' : List Running) (tables' : Tables) (trace' : List TraceStep) : Type 0 where
+  pub run : Running
+  pub run' : Running
+  pub step : TraceStep
+  pub was : slice_get running place ≡ Some run
+  pub is : running' ≡ slice_set running place run'
+  pub longer : trace' ≡ trace ++ step ∷ []
+  pub owner : step.job ≡ place
+  pub unfinished : is_finished run.state ≡ false
+  pub made : Made does (kept_deed_of step.act) step.reply host run.seat tables host' run'.seat tables'
+  pub advances : Advances (owes plan run.state) (kept_deed_of step.act) step.reply (owes plan run'.state)
+  pub fewer : steps_left run'.state < steps_left run.state
+  pub within : steps_bound run'.state + 1 ≤ steps_bound run.state + 3 * told_by (kept_deed_of step.act) step.reply
+
+-- the job of this number, if there is one, has finished
+abbrev pub IsFinishedAt : List Running → ℕ → Type 0
+IsFinishedAt running place = (run : Running) → slice_get running place ≡ Some run → is_finished run.state ≡ true
+
+-- the job of this number took its next step, or has none and nothing changed
+abbrev pub TookOrStays : {H : Type 0} → Does H → Plan → ℕ → H → List Running → Tables → List TraceStep → H → List Running → Tables → List TraceStep → Type 0
+TookOrStays does plan place host running tables trace host' running' tables' trace' =
+    Took does plan place host running tables trace host' running' tables' trace'
+    ⊎ (IsFinishedAt running place × (host' ≡ host) × (running' ≡ running) × (tables' ≡ tables) × (trace' ≡ trace))
+
+abbrev pub run_steps : Option Running → ℕ
+run_steps None = 0
+run_steps (Some run) = steps_left run.state
+
+-- what falls with each step of the job of this number
+abbrev pub steps_left_at : List Running → ℕ → ℕ
+steps_left_at running place = run_steps (slice_get running place)

@@ -1,0 +1,69 @@
+ghost use Rattle.std.specs.Prelude.{◌≡◌, ◌≤◌, ℕ, [], length, map, IfOk, vec_capacity};
+ghost use Rattle.pt_fs.specs.Each.{IsStarted, EachStarted, EachAnswered, answer_of};
+ghost use Rattle.pt_fs.specs.Owing.{run_seat};
+ghost use Rattle.pt_fs.specs.Took.{IsFinishedAt};
+
+use crate::fs::SteppedFs;
+use crate::job::Job;
+use crate::room::push_within;
+use crate::running::Running;
+use pt_host::HostSeat;
+use pt_iface::{Answer, Context, Request};
+use pt_req::Finish;
+use std::alloc::{AllocError, Global};
+
+/// Starts one job.
+fn start_one<F: SteppedFs>(alloc: Global, fs: &F, job: Job) -> Result<Running, AllocError>
+    ensures { IfOk result (λ run. IsStarted (F.plan_of fs.now) job run) }
+{
+    let (who, seat, request) = match job {
+        Job::Request(who, seat, request) => (who, seat, request),
+        Job::OpenRoot(seat) => (Context { uid: 0, gid: 0 }, seat, Request::Root),
+    };
+    match fs.start(alloc, who, request) {
+        Ok(state) => Ok(Running { seat, state }),
+        Err(_) => Err(AllocError),
+    }
+}
+
+/// Starts each job.
+pub fn start_all<F: SteppedFs>(
+    alloc: Global,
+    fs: &F,
+    jobs: Vec<Job>,
+) -> Result<Vec<Running>, AllocError>
+    ensures { IfOk result (λ running. EachStarted (F.plan_of fs.now) jobs.items running.items) }
+{
+    let mut running = Vec::new(alloc);
+    for job in jobs {
+        let run = start_one(alloc, fs, job)?;
+        running.push(run)?;
+    }
+    Ok(running)
+}
+
+/// A job that lost its seat is answered as one that is cut.
+fn answered(finish: Finish) -> Answer
+    ensures { result ≡ answer_of finish }
+{
+    match finish {
+        Finish::Answer(answer) => answer,
+        Finish::Lost(_) => Answer::Cut,
+    }
+}
+
+/// Each job's answer and seat, where there is room for them.
+pub fn finish_jobs(running: Vec<Running>, answers: &mut Vec<Answer>, seats: &mut Vec<HostSeat>)
+    requires finished { (j : ℕ) → IsFinishedAt running.items j }
+    requires no_answers { answers.old.items ≡ [] }
+    requires no_seats { seats.old.items ≡ [] }
+    requires room_answers { length running.items ≤ vec_capacity answers.old }
+    requires room_seats { length running.items ≤ vec_capacity seats.old }
+    ensures answers { EachAnswered running.items answers.new.items }
+    ensures seats { seats.new.items ≡ map run_seat running.items }
+{
+    for run in running {
+        push_within(answers, answered(run.state.finish()));
+        push_within(seats, run.seat);
+    }
+}

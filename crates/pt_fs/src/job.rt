@@ -1,0 +1,11 @@
+use pt_host::HostSeat;
+use pt_iface::{Context, Request};
+
+/// One job of `drive`.
+#[derive(Debug, Drop)]
+pub enum Job {
+    /// A guest's request, and the seat that it runs under.
+    Request(Context, HostSeat, Request),
+    /// The daemon opens the shared directory.
+    OpenRoot(HostSeat),
+}

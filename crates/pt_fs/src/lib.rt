@@ -1,0 +1,21 @@
+//! The file system that takes its requests step by step, and `drive`, which runs many jobs over one host and one file system in a given order.
+#![tactic(auto)]
+
+mod ends;
+mod fs;
+mod job;
+mod passthrough;
+mod room;
+mod run;
+mod running;
+mod schedule;
+mod step;
+#[cfg(test)]
+mod tests;
+mod trace;
+
+pub use fs::SteppedFs;
+pub use job::Job;
+pub use passthrough::PassthroughFs;
+pub use run::{DriveError, Driven, drive};
+pub use trace::TraceStep;

@@ -1,0 +1,61 @@
+ghost use Rattle.std.specs.Prelude.{◌≡◌, ◌+◌, ◌*◌, ◌<◌, ◌≤◌, ◌^◌, [], ◌∷◌, ◌++◌, length, IfOk, vec_capacity};
+ghost use Rattle.pt_req.specs.Pattern.{bound_of as bound};
+ghost use Rattle.pt_fs.specs.Jobs.{request_of};
+ghost use Rattle.pt_fs.specs.Work.{room_of as room};
+
+use crate::job::Job;
+use pt_iface::Request;
+use std::alloc::{AllocError, Global};
+
+/// An empty vector with room for so many.
+pub fn with_room<T: Drop>(alloc: Global, count: usize) -> Result<Vec<T>, AllocError>
+    ensures empty { IfOk result (λ v. v.items ≡ []) }
+    ensures room { IfOk result (λ v. count ≤ vec_capacity v) }
+{
+    let mut v = Vec::new(alloc);
+    v.reserve(count)?;
+    Ok(v)
+}
+
+/// Appends an item where there is room.
+pub fn push_within<T: Drop>(v: &mut Vec<T>, item: T)
+    requires { length v.old.items < vec_capacity v.old }
+    ensures items { v.new.items ≡ v.old.items ++ item ∷ [] }
+    ensures capacity { vec_capacity v.old ≤ vec_capacity v.new }
+{
+    let _pushed = v.push(item);
+}
+
+/// How many steps a request takes at most, three for each closing aside.
+fn bound_of(request: &Request) -> usize
+    ensures bound { result ≡ bound request.now }
+    ensures small { result ≤ 48 }
+{
+    match request {
+        Request::Root | Request::Lookup { .. } => 48,
+        Request::Forget { .. } => 8,
+    }
+}
+
+/// The same of a job.
+fn bound_of_job(job: &Job) -> usize
+    ensures bound { result ≡ bound (request_of job.now) }
+    ensures small { result ≤ 48 }
+{
+    match job {
+        Job::Request(_, _, request) => bound_of(request),
+        Job::OpenRoot(_) => bound_of(&Request::Root),
+    }
+}
+
+/// The room that these jobs' trace needs at most: each job inserts four rows at most, and the closing of a row takes three steps.
+pub fn room_of(jobs: &[Job]) -> usize
+    requires { length jobs.now < 2 ^ 32 }
+    ensures { result ≡ room jobs.now }
+{
+    let mut room = 0;
+    for job in jobs {
+        room += bound_of_job(job) + 12;
+    }
+    room
+}

@@ -1,0 +1,108 @@
+ghost use Rattle.std.specs.Prelude.{◌+◌, ◌*◌, ◌≤◌, vec_capacity, ◌≡◌, ◌<◌, false, length};
+ghost use Rattle.pt_req.specs.Deed.{kept_deed_of};
+ghost use Rattle.pt_req.specs.Grammar.{is_end};
+ghost use Rattle.pt_req.specs.Job.{owes, steps_left, steps_bound, inserts_left};
+ghost use Rattle.pt_req.specs.Made.{Made};
+ghost use Rattle.pt_fs.specs.Advances.{Advances, IsWanted, IsTold, inserted_in};
+ghost use Rattle.pt_fs.specs.Took.{Took, IsUnfinished};
+ghost use Rattle.pt_fs.specs.Trace.{told_by};
+ghost use Rattle.pt_fs.specs.Work.{work};
+
+use crate::fs::SteppedFs;
+use crate::room::push_within;
+use crate::running::Running;
+use crate::trace::TraceStep;
+use pt_host::{Host, HostSeat};
+use pt_req::{ActReply, KeptAct, Want};
+use std::alloc::Global;
+
+/// What the job is to do next, or word that its bytes could not be copied.
+fn wanted<F: SteppedFs>(alloc: Global, fs: &F, running: &Running) -> KeptAct
+    requires { is_end (owes (F.plan_of fs.now) running.now.state) ≡ false }
+    ensures { IsWanted (owes (F.plan_of fs.now) running.now.state) (kept_deed_of result) }
+{
+    match running.state.want(fs.plan(), &running.seat) {
+        Want::Finished => KeptAct::NoCopy,
+        Want::Step(act) => match act.keep(alloc) {
+            Ok(kept) => kept,
+            Err(_) => KeptAct::NoCopy,
+        },
+    }
+}
+
+/// Makes one act, unless it could not be copied.
+fn make<H: Host, F: SteppedFs>(
+    host: &mut H,
+    fs: &mut F,
+    seat: &mut HostSeat,
+    act: &KeptAct,
+) -> ActReply
+    ensures made { Made H.does (kept_deed_of act.now) result host.old seat.old (F.tables fs.old) host.new seat.new (F.tables fs.new) }
+    ensures plan { F.plan_of fs.new ≡ F.plan_of fs.old }
+{
+    match act {
+        KeptAct::Event(event) => ActReply::Event(fs.event(&event.lend())),
+        KeptAct::Host(op) => ActReply::Host(host.call(seat, &op.lend())),
+        KeptAct::NoCopy => ActReply::NoCopy,
+    }
+}
+
+/// The reply for the trace and for the job; where its bytes cannot be copied, both are told so.
+fn told_twice(alloc: Global, reply: ActReply) -> (ActReply, ActReply)
+    ensures told { IsTold reply result.0 }
+    ensures same { result.1 ≡ result.0 }
+{
+    match reply.copy(alloc) {
+        Ok(copy) => (copy, reply),
+        Err(_) => (ActReply::NoCopy, ActReply::NoCopy),
+    }
+}
+
+/// Takes the next step of a job.
+fn advance<H: Host, F: SteppedFs>(
+    alloc: Global,
+    host: &mut H,
+    fs: &mut F,
+    running: &mut Running,
+) -> (KeptAct, ActReply)
+    requires { is_end (owes (F.plan_of fs.old) running.old.state) ≡ false }
+    ensures made { Made H.does (kept_deed_of result.0) result.1 host.old running.old.seat (F.tables fs.old) host.new running.new.seat (F.tables fs.new) }
+    ensures plan { F.plan_of fs.new ≡ F.plan_of fs.old }
+    ensures advances { Advances (owes (F.plan_of fs.old) running.old.state) (kept_deed_of result.0) result.1 (owes (F.plan_of fs.old) running.new.state) }
+    ensures fewer { steps_left running.new.state < steps_left running.old.state }
+    ensures within { steps_bound running.new.state + 1 ≤ steps_bound running.old.state + 3 * told_by (kept_deed_of result.0) result.1 }
+    ensures inserts { inserts_left running.new.state + inserted_in (kept_deed_of result.0) result.1 ≤ inserts_left running.old.state }
+{
+    let act = wanted(alloc, fs, running);
+    let reply = make(host, fs, &mut running.seat, &act);
+    let (shown, told) = told_twice(alloc, reply);
+    running.state.take(fs.plan(), told, &running.seat);
+    (act, shown)
+}
+
+/// Takes the next step of the job of this number, and writes it down.
+pub fn take_step<H: Host, F: SteppedFs>(
+    alloc: Global,
+    host: &mut H,
+    fs: &mut F,
+    running: &mut [Running],
+    trace: &mut Vec<TraceStep>,
+    place: u32,
+)
+    requires named { place < length running.old }
+    requires unfinished { IsUnfinished (F.plan_of fs.old) running.old place }
+    requires room { length trace.old.items + work running.old (F.tables fs.old) ≤ vec_capacity trace.old }
+    ensures took { Took H.does (F.plan_of fs.old) place host.old running.old (F.tables fs.old) trace.old.items host.new running.new (F.tables fs.new) trace.new.items }
+    ensures plan { F.plan_of fs.new ≡ F.plan_of fs.old }
+    ensures room { length trace.new.items + work running.new (F.tables fs.new) ≤ vec_capacity trace.new }
+{
+    let (act, reply) = advance(alloc, host, fs, &mut running[place as usize]);
+    push_within(
+        trace,
+        TraceStep {
+            job: place,
+            act,
+            reply,
+        },
+    );
+}

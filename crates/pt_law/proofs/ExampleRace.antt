@@ -1,0 +1,324 @@
+-- A run in which all that is said of runs can be met: the shared directory gets number 1, and then two lookups of one name race. Both find no
+-- number, both draw one, and the second to insert finds the number that the first inserted.
+use Rattle.std.proofs.Common.{◌≡◌, ◌≢◌, ⊎_elim, inl, inr, ℕ, zero, suc, ◌<◌, List, [], ◌∷◌, true, refl, sym, ap, subst, ◌∙◌, arith, Option, Some, None, slice_get}
+use Rattle.std.proofs.lemmas.Bool.{cases_eq}
+use Rattle.pt_host.specs.Words.{Each, Replaces.{at, past}, set_at}
+use Rattle.pt_host.specs.Call.{Call}
+use Rattle.pt_host.specs.Flags.{includes, o_path}
+use Rattle.pt_host.specs.Tree.{Tree, Object, Opened, IsWellFormed, kind_of}
+use Rattle.pt_host.specs.LawfulStep.{Changes as TreeChanges}
+use Rattle.pt_host.specs.Promises.{IsAllowed}
+use Rattle.pt_host.specs.declared.ids.Fd.{Fd}
+use Rattle.pt_host.specs.declared.seat.HostSeat.{HostSeat}
+use Rattle.pt_host.specs.declared.stat.Stat.{Stat}
+use Rattle.pt_host.specs.declared.op.KeptHostOp.TheVariants as call
+use Rattle.pt_host.specs.declared.reply.HostReply.{HostReply}
+use Rattle.pt_host.specs.declared.reply.HostReply.TheVariants as host
+use Rattle.pt_host.specs.declared.reply.HostValue.TheVariants as value
+use Rattle.pt_session.specs.Change.{Change}
+use Rattle.pt_session.specs.Happens.{Happens}
+use Rattle.pt_session.specs.Tables.{Tables, empty_tables, nothing_agreed}
+use Rattle.pt_session.specs.declared.row.Row.{Row}
+use Rattle.pt_session.specs.declared.form.RowForm.TheVariants.{File}
+use Rattle.pt_session.specs.declared.event.KeptEvent.TheVariants as change
+use Rattle.pt_session.specs.declared.reply.EventReply.{EventReply}
+use Rattle.pt_session.specs.declared.reply.EventReply.TheVariants as event
+use Rattle.pt_iface.specs.declared.answer.Answer.TheVariants as answer
+use Rattle.pt_iface.specs.declared.request.Request.{Request}
+use Rattle.pt_iface.specs.declared.request.Request.TheVariants as request
+use Rattle.pt_req.specs.Deed.{Calls, Changes}
+use Rattle.pt_req.specs.Grammar.{Belongs}
+use Rattle.pt_req.specs.Pattern.{grammar_of}
+use Rattle.pt_req.specs.Requests.{entry_of, path}
+use Rattle.pt_req.specs.declared.act.ActReply.TheVariants.{Event, Host}
+use Rattle.pt_req.specs.declared.finish.Finish.{Finish}
+use Rattle.pt_req.specs.declared.finish.Finish.TheVariants as finish
+use Rattle.pt_req.specs.declared.plan.Plan.{Plan}
+use Rattle.pt_law.specs.Opened.{made}
+use Rattle.pt_law.specs.Entered.{turn_of}
+use Rattle.pt_law.specs.World.{World, Turn, Runs, steps_of, settled_by, no_past}
+use Rattle.pt_law.specs.Entered.{IsEntered}
+use Rattle.pt_law.specs.Laws.{Starts, AreAnswered, AreEnded}
+use Rattle.pt_law.proofs.Lists.{set_at_same, set_at_other}
+use Rattle.pt_law.proofs.Laws.{ended_jobs}
+use Rattle.pt_law.proofs.Hosts.{run_ended}
+use Rattle.pt_law.proofs.Entries.{entered_law}
+
+abbrev fd : ℕ → Fd
+fd number = record { 0 = number }
+
+-- the letter a
+abbrev name : List ℕ
+name = 97 ∷ []
+
+-- the host: the shared directory is object 0, and each name in it leads to object 1
+
+abbrev object : Stat → Object
+object stat = record { ids = stat.ids; kind = kind_of stat.mode; handle = None }
+
+abbrev names : ℕ → List ℕ → Option ℕ
+names zero child = Some 1
+names (suc dir) child = None
+
+abbrev tree : Stat → Stat → (ℕ → Option Opened) → Tree
+tree root file opened = record { objects = object root ∷ object file ∷ []; names = names; opened = opened }
+
+abbrev IsSmall : (ℕ → Option Opened) → Type 0
+IsSmall opened = (fd : ℕ) (one : Opened) → opened fd ≡ Some one → one.object < 2
+
+small_none : IsSmall (λ fd. None)
+small_none fd one e = absurd (cc)
+
+small_set : (opened : ℕ → Option Opened) (k : ℕ) (x : Option Opened) → ((one : Opened) → x ≡ Some one → one.object < 2) → IsSmall opened → IsSmall (set_at k x opened)
+small_set opened k x new h fd one e = ⊎_elim
+    (λ (q : fd ≡ k). new one (sym (set_at_same opened k x) ∙ ap (set_at k x opened) (sym q) ∙ e))
+    (λ (q : fd ≢ k). h fd one (sym (set_at_other opened k x fd q) ∙ e))
+    (cases_eq fd k)
+
+small_open : (opened : ℕ → Option Opened) (k : ℕ) (new : Opened) → new.object < 2 → IsSmall opened → IsSmall (set_at k (Some new) opened)
+small_open opened k new l = small_set opened k (Some new) (λ one e. same one e)
+  where
+    same : (one : Opened) → Some new ≡ Some one → one.object < 2
+    same one e = let k : new ≡ one = cc in subst (λ (z : Opened). z.object < 2) k l
+
+small_close : (opened : ℕ → Option Opened) (k : ℕ) → IsSmall opened → IsSmall (set_at k None opened)
+small_close opened k = small_set opened k None (λ one e. absurd (cc))
+
+-- the objects have other ids
+same_object : (root file : Stat) → root.ids ≢ file.ids → (n m : ℕ) (what that : Object) → slice_get (object root ∷ object file ∷ []) n ≡ Some what → slice_get (object root ∷ object file ∷ []) m ≡ Some that → what.ids ≡ that.ids → n ≡ m
+same_object root file apart zero zero what that a b e = refl
+same_object root file apart (suc zero) (suc zero) what that a b e = refl
+same_object root file apart zero (suc zero) what that a b e =
+    let x : object root ≡ what = cc in
+    let y : object file ≡ that = cc in
+    absurd (apart (ap (λ (o : Object). o.ids) x ∙ e ∙ ap (λ (o : Object). o.ids) (sym y)))
+same_object root file apart (suc zero) zero what that a b e =
+    let x : object file ≡ what = cc in
+    let y : object root ≡ that = cc in
+    absurd (apart (ap (λ (o : Object). o.ids) y ∙ sym e ∙ ap (λ (o : Object). o.ids) (sym x)))
+same_object root file apart (suc (suc n)) m what that a b e = absurd (cc)
+same_object root file apart n (suc (suc m)) what that a b e = absurd (cc)
+
+no_handle : (root file : Stat) (n : ℕ) (what : Object) → slice_get (object root ∷ object file ∷ []) n ≡ Some what → what.handle ≡ None
+no_handle root file zero what e = let x : object root ≡ what = cc in ap (λ (o : Object). o.handle) (sym x)
+no_handle root file (suc zero) what e = let x : object file ≡ what = cc in ap (λ (o : Object). o.handle) (sym x)
+no_handle root file (suc (suc n)) what e = absurd (cc)
+
+leads : (dir : ℕ) (child : List ℕ) (o : ℕ) → names dir child ≡ Some o → (dir < 2) × (o < 2)
+leads zero child o e = let k : 1 ≡ o = cc in (omega arith, omega (arith, k))
+leads (suc dir) child o e = absurd (cc)
+
+well : (root file : Stat) → root.ids ≢ file.ids → (opened : ℕ → Option Opened) → IsSmall opened → IsWellFormed (tree root file opened)
+well root file apart opened small = record {
+  named = leads;
+  opened = small;
+  apart = λ f g n m what that x y a b e. same_object root file apart n m what that a b e;
+  handles = λ n m what that handle a b e g. let k = no_handle root file n what a in absurd (cc);
+}
+
+-- one step after another, and where they lead
+
+pub record Leads (world : World) (turns : List Turn) : Type 0 where
+  pub last : World
+  pub run : Runs world turns last
+
+abbrev after_event : World → ℕ → Change → EventReply → Tables → World
+after_event world job asked told tables = record {
+  tree = world.tree;
+  tables = tables;
+  past = settled_by world.past job (Changes asked) (Event told) world.tables.next_row world.tree;
+}
+
+abbrev after_call : World → ℕ → Call → HostReply → Tree → World
+after_call world job asked told tree = record {
+  tree = tree;
+  tables = world.tables;
+  past = settled_by world.past job (Calls asked) (Host told) world.tables.next_row tree;
+}
+
+event_then : (seat : HostSeat) (world : World) (job : ℕ) (asked : Change) (told : EventReply) (tables : Tables) (turns : List Turn) → Happens world.tables asked told tables →
+    Leads (after_event world job asked told tables) turns → Leads world (turn_of job (made (Changes asked) (Event told)) ∷ turns)
+event_then seat world job asked told tables turns h rest = record {
+  last = rest.last;
+  run = (after_event world job asked told tables, record { seat = seat; seat_after = seat; made = (h, refl, refl); past = refl }, rest.run);
+}
+
+call_then : (seat : HostSeat) (world : World) (job : ℕ) (asked : Call) (told : HostReply) (tree : Tree) (turns : List Turn) → TreeChanges world.tree asked told tree → IsAllowed 0 asked told 0 → IsWellFormed tree →
+    Leads (after_call world job asked told tree) turns → Leads world (turn_of job (made (Calls asked) (Host told)) ∷ turns)
+call_then seat world job asked told tree turns h allowed well rest = record {
+  last = rest.last;
+  run = (
+    after_call world job asked told tree,
+    record {
+      seat = seat;
+      seat_after = seat;
+      made = ((record { changes = h; same_seat = refl; well_formed = λ _. well }, 0, 0, record { never_falls = omega arith; allowed = allowed; same_seat = refl }), refl);
+      past = refl;
+    },
+    rest.run,
+  );
+}
+
+-- the run
+
+abbrev row : Stat → ℕ → Row
+row root pins = record { serial = 0; number = 1; form = File (fd 3); ids = root.ids; mode = root.mode; count = 2; pins = pins; live = true }
+
+abbrev added : Stat → ℕ → Row
+added file count = record { serial = 1; number = 2; form = File (fd 4); ids = file.ids; mode = file.mode; count = count; pins = 0; live = true }
+
+abbrev tables : ℕ → ℕ → ℕ → List Row → Tables
+tables next_number next_row slots rows = record {
+  era = 0;
+  next_number = next_number;
+  next_row = next_row;
+  slots = slots;
+  limit = 5;
+  negotiated = nothing_agreed;
+  rows = rows;
+  closing = [];
+}
+
+abbrev event_of : ℕ → Change → EventReply → Turn
+event_of job asked told = turn_of job (made (Changes asked) (Event told))
+
+abbrev call_of : ℕ → Call → HostReply → Turn
+call_of job asked told = turn_of job (made (Calls asked) (Host told))
+
+abbrev turns : Plan → Stat → Stat → List Turn
+turns plan root file =
+    event_of 0 change.Begin (event.Began 0 nothing_agreed)
+    ∷ call_of 0 (call.OpenRoot plan.config.root_dir path) (host.Ok (value.Fd (fd 3)))
+    ∷ call_of 0 (call.Stat (fd 3)) (host.Ok (value.Stat root))
+    ∷ event_of 0 change.TakeFd event.Taken
+    ∷ event_of 0 (change.InsertRoot 0 (File (fd 3)) root.ids root.mode None) (event.Inserted 1)
+    ∷ event_of 1 change.Begin (event.Began 0 nothing_agreed)
+    ∷ event_of 2 change.Begin (event.Began 0 nothing_agreed)
+    ∷ event_of 1 (change.Resolve 1) (event.Resolved 0 (File (fd 3)) root.ids root.mode)
+    ∷ event_of 2 (change.Resolve 1) (event.Resolved 0 (File (fd 3)) root.ids root.mode)
+    ∷ call_of 1 (call.OpenAt (fd 3) name path 0) (host.Ok (value.Fd (fd 4)))
+    ∷ call_of 2 (call.OpenAt (fd 3) name path 0) (host.Ok (value.Fd (fd 5)))
+    ∷ call_of 1 (call.Stat (fd 4)) (host.Ok (value.Stat file))
+    ∷ call_of 2 (call.Stat (fd 5)) (host.Ok (value.Stat file))
+    ∷ event_of 1 (change.Claim 0 None file.ids) event.Absent
+    ∷ event_of 2 (change.Claim 0 None file.ids) event.Absent
+    ∷ event_of 1 change.TakeFd event.Taken
+    ∷ event_of 2 change.TakeFd event.Taken
+    ∷ event_of 1 change.DrawNode (event.Drawn 2)
+    ∷ event_of 2 change.DrawNode (event.Drawn 3)
+    ∷ event_of 1 (change.Insert 0 2 (File (fd 4)) file.ids file.mode) (event.Inserted 2)
+    ∷ event_of 2 (change.Insert 0 3 (File (fd 5)) file.ids file.mode) (event.Found 2)
+    ∷ event_of 1 (change.Unpin 0) (event.Done 0)
+    ∷ call_of 2 (call.Close (fd 5)) (host.Ok value.Unit)
+    ∷ event_of 2 change.GiveFd event.Given
+    ∷ event_of 2 (change.Unpin 0) (event.Done 0) ∷ []
+
+-- an entry of what is opened by `path`
+abbrev opened_by : ℕ → Option Opened
+opened_by object = Some (record { object = object; path_only = includes path.0 o_path })
+
+abbrev none : ℕ → Option Opened
+none = λ fd. None
+
+abbrev three : ℕ → Option Opened
+three = set_at 3 (opened_by 0) none
+
+abbrev four : ℕ → Option Opened
+four = set_at 4 (opened_by 1) three
+
+abbrev five : ℕ → Option Opened
+five = set_at 5 (opened_by 1) four
+
+abbrev closed : ℕ → Option Opened
+closed = set_at 5 None five
+
+abbrev start : Stat → Stat → World
+start root file = record { tree = tree root file none; tables = empty_tables 5; past = no_past }
+
+pub starts : (root file : Stat) → root.ids ≢ file.ids → Starts 5 (start root file)
+starts root file apart = record { tables = refl; well_formed = well root file apart none small_none; past = refl }
+
+small_three : IsSmall three
+small_three = small_open none 3 (record { object = 0; path_only = includes path.0 o_path }) (omega arith) small_none
+
+small_four : IsSmall four
+small_four = small_open three 4 (record { object = 1; path_only = includes path.0 o_path }) (omega arith) small_three
+
+small_five : IsSmall five
+small_five = small_open four 5 (record { object = 1; path_only = includes path.0 o_path }) (omega arith) small_four
+
+pub runs : (plan : Plan) (root file : Stat) (seat : HostSeat) → root.ids ≢ file.ids → Leads (start root file) (turns plan root file)
+unfolding set_at
+runs plan root file seat apart =
+    let at_three = well root file apart three small_three in
+    let at_four = well root file apart four small_four in
+    let at_five = well root file apart five small_five in
+    let at_end = well root file apart closed (small_close five 5 small_five) in
+    let slot : 2 < 5 = omega arith in
+    event_then seat _ 0 change.Begin (event.Began 0 nothing_agreed) (empty_tables 5) _ (refl, refl, refl) (
+    call_then seat _ 0 (call.OpenRoot plan.config.root_dir path) (host.Ok (value.Fd (fd 3))) (tree root file three) _ (0, record { listed = omega arith; fresh = refl; allowed = refl; adds = refl }) tt at_three (
+    call_then seat _ 0 (call.Stat (fd 3)) (host.Ok (value.Stat root)) (tree root file three) _ (0, object root, (_, refl, refl), refl, record { ids = refl; kind = refl }, refl) tt at_three (
+    event_then seat _ 0 change.TakeFd event.Taken (tables 2 0 4 []) _ (4, refl, refl) (
+    event_then seat _ 0 (change.InsertRoot 0 (File (fd 3)) root.ids root.mode None) (event.Inserted 1) (tables 2 1 4 (row root 0 ∷ [])) _ (refl, (tt, tt), omega arith, refl, refl) (
+    event_then seat _ 1 change.Begin (event.Began 0 nothing_agreed) (tables 2 1 4 (row root 0 ∷ [])) _ (refl, refl, refl) (
+    event_then seat _ 2 change.Begin (event.Began 0 nothing_agreed) (tables 2 1 4 (row root 0 ∷ [])) _ (refl, refl, refl) (
+    event_then seat _ 1 (change.Resolve 1) (event.Resolved 0 (File (fd 3)) root.ids root.mode) (tables 2 1 4 (row root 1 ∷ [])) _ (row root 0, (refl, refl), refl, refl, refl, refl, omega arith, (row root 1 ∷ [], at, refl)) (
+    event_then seat _ 2 (change.Resolve 1) (event.Resolved 0 (File (fd 3)) root.ids root.mode) (tables 2 1 4 (row root 2 ∷ [])) _ (row root 1, (refl, refl), refl, refl, refl, refl, omega arith, (row root 2 ∷ [], at, refl)) (
+    call_then seat _ 1 (call.OpenAt (fd 3) name path 0) (host.Ok (value.Fd (fd 4))) (tree root file four) _ (1, refl, (0, (_, refl, refl), refl), record { listed = omega arith; fresh = refl; allowed = refl; adds = refl }) tt at_four (
+    call_then seat _ 2 (call.OpenAt (fd 3) name path 0) (host.Ok (value.Fd (fd 5))) (tree root file five) _ (1, refl, (0, (_, refl, refl), refl), record { listed = omega arith; fresh = refl; allowed = refl; adds = refl }) tt at_five (
+    call_then seat _ 1 (call.Stat (fd 4)) (host.Ok (value.Stat file)) (tree root file five) _ (1, object file, (_, refl, refl), refl, record { ids = refl; kind = refl }, refl) tt at_five (
+    call_then seat _ 2 (call.Stat (fd 5)) (host.Ok (value.Stat file)) (tree root file five) _ (1, object file, (_, refl, refl), refl, record { ids = refl; kind = refl }, refl) tt at_five (
+    event_then seat _ 1 (change.Claim 0 None file.ids) event.Absent (tables 2 1 4 (row root 2 ∷ [])) _ (refl, ((λ h. apart h.1), tt), refl) (
+    event_then seat _ 2 (change.Claim 0 None file.ids) event.Absent (tables 2 1 4 (row root 2 ∷ [])) _ (refl, ((λ h. apart h.1), tt), refl) (
+    event_then seat _ 1 change.TakeFd event.Taken (tables 2 1 3 (row root 2 ∷ [])) _ (3, refl, refl) (
+    event_then seat _ 2 change.TakeFd event.Taken (tables 2 1 2 (row root 2 ∷ [])) _ (2, refl, refl) (
+    event_then seat _ 1 change.DrawNode (event.Drawn 2) (tables 3 1 2 (row root 2 ∷ [])) _ (refl, omega arith, refl) (
+    event_then seat _ 2 change.DrawNode (event.Drawn 3) (tables 4 1 2 (row root 2 ∷ [])) _ (refl, omega arith, refl) (
+    event_then seat _ 1 (change.Insert 0 2 (File (fd 4)) file.ids file.mode) (event.Inserted 2) (tables 4 2 2 (added file 1 ∷ row root 2 ∷ [])) _
+    (refl, (((λ h. apart h.1), tt), ((λ h. absurd (omega (arith, h.1))), tt)), omega arith, refl, refl) (
+    event_then seat _ 2 (change.Insert 0 3 (File (fd 5)) file.ids file.mode) (event.Found 2) (tables 4 2 2 (added file 2 ∷ row root 2 ∷ [])) _
+    (refl, (added file 1, (refl, refl), refl, omega arith, (added file 2 ∷ row root 2 ∷ [], at, refl))) (
+    event_then seat _ 1 (change.Unpin 0) (event.Done 0) (tables 4 2 2 (added file 2 ∷ row root 1 ∷ [])) _ (row root 2, 1, refl, refl, inr (inl refl, refl, (added file 2 ∷ row root 1 ∷ [], past at, refl))) (
+    call_then seat _ 2 (call.Close (fd 5)) (host.Ok value.Unit) (tree root file closed) _ refl tt at_end (
+    event_then seat _ 2 change.GiveFd event.Given (tables 4 2 3 (added file 2 ∷ row root 1 ∷ [])) _ (slot, refl) (
+    event_then seat _ 2 (change.Unpin 0) (event.Done 0) (tables 4 2 3 (added file 2 ∷ row root 0 ∷ [])) _ (row root 1, 0, refl, refl, inr (inl refl, refl, (added file 2 ∷ row root 0 ∷ [], past at, refl))) (
+    record { last = _; run = refl })))))))))))))))))))))))))
+
+-- what the jobs asked, and how they ended
+
+abbrev asked : ℕ → Request
+asked zero = request.Root
+asked (suc job) = request.Lookup 1 name
+
+abbrev ends : Plan → Stat → Stat → ℕ → Finish
+ends plan root file zero = finish.Answer answer.Done
+ends plan root file (suc job) = finish.Answer (answer.Entry (entry_of plan nothing_agreed root.ids file 2))
+
+pub answered : (plan : Plan) (root file : Stat) → AreAnswered plan 3 asked (ends plan root file) (turns plan root file)
+answered plan root file = record { owners = owners; jobs = jobs }
+  where
+    owners : Each (λ (turn : Turn). turn.job < 3) (turns plan root file)
+    owners =
+        let a : 0 < 3 = omega arith in
+        let b : 1 < 3 = omega arith in
+        let c : 2 < 3 = omega arith in
+        (a, (a, (a, (a, (a, (b, (c, (b, (c, (b, (c, (b, (c, (b, (c, (b, (c, (b, (c, (b, (c, (b, (c, (c, (c, tt)))))))))))))))))))))))))
+
+    jobs : (job : ℕ) → job < 3 → Belongs (grammar_of plan (asked job)) (steps_of job (turns plan root file)) (ends plan root file job)
+    jobs zero l = (refl, inr (refl, inr (refl, inr (refl, inr (refl, inr refl)))))
+    jobs (suc zero) l = (refl, inr (refl, inr (refl, inr (refl, inr (refl, inr (refl, inr (refl, inr (refl, inr (refl, refl)))))))))
+    jobs (suc (suc zero)) l = (refl, inr (refl, inr (refl, inr (refl, inr (refl, inr (refl, inr (refl, inr (refl, inr (refl, (refl, (refl, refl)))))))))))
+    jobs (suc (suc (suc job))) l = absurd (omega arith)
+
+pub ended : (plan : Plan) (root file : Stat) (seat : HostSeat) → root.ids ≢ file.ids → AreEnded 3 (turns plan root file)
+ended plan root file seat apart =
+    let r = runs plan root file seat apart in
+    run_ended plan 3 asked (ends plan root file) (turns plan root file) (start root file) r.last r.run (answered plan root file)
+
+-- so the laws say of it what they say: the second lookup's number names object 1, which the name led to
+pub entered : (plan : Plan) (root file : Stat) (seat : HostSeat) (apart : root.ids ≢ file.ids) →
+    IsEntered plan (start root file) (turns plan root file) (runs plan root file seat apart).last 2 1 name (entry_of plan nothing_agreed root.ids file 2)
+entered plan root file seat apart =
+    let r = runs plan root file seat apart in
+    entered_law 5 3 plan (turns plan root file) (start root file) r.last 2 1 name (entry_of plan nothing_agreed root.ids file 2) (starts root file apart) (ended_jobs 3 (turns plan root file) (ended plan root file seat apart)) r.run
+    (omega arith) ((answered plan root file).jobs 2 (omega arith))

@@ -1,0 +1,31 @@
+use Rattle.pt_law.proofs.runs.every_run.Goals as goal
+use Rattle.pt_law.proofs.Interleaving.{tables_split}
+use Rattle.pt_law.proofs.Laws.{agree_law, era_stays, counts_law, once_law, slots_law, rest_law, ended_jobs}
+use Rattle.pt_law.proofs.Next.{honoured_law}
+
+pub returns-clause-agree : goal.returns-clause-agree
+returns-clause-agree c = agree_law
+
+pub returns-clause-era : goal.returns-clause-era
+returns-clause-era c = era_stays
+
+pub returns-clause-counts : goal.returns-clause-counts
+returns-clause-counts c = counts_law
+
+pub returns-clause-once : goal.returns-clause-once
+returns-clause-once c = once_law
+
+pub returns-clause-slots : goal.returns-clause-slots
+returns-clause-slots c = slots_law
+
+pub returns-clause-honoured : goal.returns-clause-honoured
+returns-clause-honoured c = honoured_law
+
+pub returns-clause-disciplined : goal.returns-clause-disciplined
+returns-clause-disciplined c = ended_jobs
+
+pub returns-clause-rest : goal.returns-clause-rest
+returns-clause-rest c = rest_law
+
+pub returns-clause-cut : goal.returns-clause-cut
+returns-clause-cut c = tables_split

@@ -1,0 +1,72 @@
+//! Whatever jobs run, in whatever order their steps come: what holds after every step, and at the end.
+//! The parts that speak of no object hold over any host; those that do, over one that tells its tree.
+
+ghost use Rattle.std.specs.Prelude.{◌≡◌, ◌≢◌, ◌<◌, ◌≤◌, ℕ, List, ◌++◌, ◌∷◌, true, Some};
+ghost use Rattle.pt_session.specs.Tables.{Tables, Agree, empty_tables};
+ghost use Rattle.pt_session.specs.declared.row.Row.{Row};
+ghost use Rattle.pt_session.specs.Happens.{IsRow};
+ghost use Rattle.pt_iface.specs.declared.answer.Answer.TheVariants as answer;
+ghost use Rattle.pt_iface.specs.declared.entry.Entry.{Entry};
+ghost use Rattle.pt_iface.specs.declared.request.Request.{Request};
+ghost use Rattle.pt_iface.specs.declared.request.Request.TheVariants as request;
+ghost use Rattle.pt_req.specs.Grammar.{Belongs};
+ghost use Rattle.pt_req.specs.Pattern.{grammar_of};
+ghost use Rattle.pt_req.specs.declared.finish.Finish.{Finish};
+ghost use Rattle.pt_req.specs.declared.finish.Finish.TheVariants as finish;
+ghost use Rattle.pt_req.specs.declared.plan.Plan.{Plan};
+ghost use Rattle.pt_law.specs.Told.{AllMayBeTold};
+ghost use Rattle.pt_law.specs.World.{World, Turn, Runs, HostRuns, TablesGo, TablesRun, steps_of};
+ghost use Rattle.pt_law.specs.Ledger.{given, inserted};
+ghost use Rattle.pt_law.specs.Laws.{AreDisciplined, AreEnded, AreAnswered, Starts, AreDistinct, HasObject, IsCounted, SlotsAddUp, AreKept, NamesOpen, IsHonoured, IsAtRest, LeavesRows};
+ghost use Rattle.pt_law.specs.Entered.{IsEntered};
+
+use pt_host::Host;
+
+/// What holds of the tables in every run, whatever host there is. `turns` are the steps so far, `more` those that are still to come.
+pub fn every_run()
+    ensures cut { (turns more : List Turn) (start end : Tables) → TablesRun start (turns ++ more) end → ((now : Tables) × TablesRun start turns now × TablesRun now more end) }
+    ensures agree { (limit : ℕ) (turns : List Turn) (now : Tables) → TablesRun (empty_tables limit) turns now → Agree now }
+    ensures era { (limit : ℕ) (turns : List Turn) (now : Tables) → TablesRun (empty_tables limit) turns now → now.era ≡ 0 }
+    ensures counts { (limit : ℕ) (turns : List Turn) (now : Tables) (number : ℕ) → TablesRun (empty_tables limit) turns now → IsCounted now number (given number turns) }
+    ensures once { (limit bound : ℕ) (turns more : List Turn) (now : Tables) (number : ℕ) →
+        AreDisciplined bound (turns ++ more) → TablesRun (empty_tables limit) turns now → number ≢ 1 → inserted number turns ≤ 1 }
+    ensures slots { (limit bound : ℕ) (turns more : List Turn) (now : Tables) →
+        AreDisciplined bound (turns ++ more) → TablesRun (empty_tables limit) turns now → SlotsAddUp limit bound turns now }
+    ensures honoured { (limit bound : ℕ) (turns : List Turn) (turn : Turn) (more : List Turn) (now next : Tables) →
+        AreDisciplined bound (turns ++ turn ∷ more) → TablesRun (empty_tables limit) turns now → TablesGo now turn.step.deed turn.step.reply next → IsHonoured turn.step.deed turn.step.reply }
+    ensures disciplined { (bound : ℕ) (turns : List Turn) → AreEnded bound turns → AreDisciplined bound turns }
+    ensures rest { (limit bound : ℕ) (turns : List Turn) (now : Tables) →
+        AreEnded bound turns → TablesRun (empty_tables limit) turns now → IsAtRest limit bound turns now }
+{}
+
+/// What holds of objects and descriptors in every run over a host that tells its tree.
+pub fn every_told_run()
+    ensures tables { (turns : List Turn) (start now : World) → Runs start turns now → TablesRun start.tables turns now.tables }
+    ensures cut { (turns more : List Turn) (start end : World) → Runs start (turns ++ more) end → ((now : World) × Runs start turns now × Runs now more end) }
+    ensures ended { (plan : Plan) (bound : ℕ) (asked : ℕ → Request) (ends : ℕ → Finish) (turns : List Turn) (start end : World) →
+        Runs start turns end → AreAnswered plan bound asked ends turns → AreEnded bound turns }
+    ensures distinct { (limit bound : ℕ) (turns more : List Turn) (start now : World) →
+        Starts limit start → AreDisciplined bound (turns ++ more) → Runs start turns now → AreDistinct now }
+    ensures objects { (limit bound : ℕ) (turns more : List Turn) (start now : World) (row : Row) →
+        Starts limit start → AreDisciplined bound (turns ++ more) → Runs start turns now → IsRow now.tables row → row.live ≡ true → HasObject now row }
+    ensures descriptors { (limit bound : ℕ) (turns more : List Turn) (start now : World) →
+        Starts limit start → AreDisciplined bound (turns ++ more) → Runs start turns now → AreKept start bound turns now }
+    ensures named { (limit bound : ℕ) (turns : List Turn) (turn : Turn) (more : List Turn) (start now : World) →
+        Starts limit start → AreDisciplined bound (turns ++ turn ∷ more) → Runs start turns now → NamesOpen now.tree turn.step.deed }
+    ensures entries { (limit bound : ℕ) (plan : Plan) (turns : List Turn) (start end : World) (job parent : ℕ) (name : List ℕ) (entry : Entry) →
+        Starts limit start → AreDisciplined bound turns → Runs start turns end → job < bound →
+        Belongs (grammar_of plan (request.Lookup parent name)) (steps_of job turns) (finish.Answer (answer.Entry entry)) → IsEntered plan start turns end job parent name entry }
+    ensures rest { (limit bound : ℕ) (turns : List Turn) (start end : World) →
+        Starts limit start → AreEnded bound turns → Runs start turns end → LeavesRows start end }
+{}
+
+/// A run over any host is one of the tables, and where the host tells its tree one of trees and tables; where each job's steps belong to what it
+/// asked, they keep the discipline to their end.
+pub fn every_host<H: Host>()
+    ensures tables { (turns : List Turn) (host after : H) (tables tables_after : Tables) → HostRuns H.does turns host tables after tables_after → TablesRun tables turns tables_after }
+    ensures world { (turns : List Turn) (start : World) (host after : H) (tables_after : Tables) → H.tree host ≡ Some start.tree → HostRuns H.does turns host start.tables after tables_after →
+        ((end : World) × (H.tree after ≡ Some end.tree) × (end.tables ≡ tables_after) × Runs start turns end) }
+    ensures told { (job : ℕ) (turns : List Turn) (host after : H) (tables tables_after : Tables) → HostRuns H.does turns host tables after tables_after → AllMayBeTold (steps_of job turns) }
+    ensures ended { (plan : Plan) (bound : ℕ) (asked : ℕ → Request) (ends : ℕ → Finish) (turns : List Turn) (host after : H) (tables tables_after : Tables) →
+        HostRuns H.does turns host tables after tables_after → AreAnswered plan bound asked ends turns → AreEnded bound turns }
+{}

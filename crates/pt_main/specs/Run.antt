@@ -1,0 +1,149 @@
+-- A run of a script, and its report.
+use Rattle.std.specs.Prelude.{◌≡◌, ◌≤◌, ℕ, List, [], ◌∷◌, ◌++◌, Option, Some, None, Result, Ok, Err, length, map, codes}
+use Rattle.pt_host.specs.declared.flags.Caps.{Caps}
+use Rattle.pt_host.specs.declared.ids.Errno.{Errno}
+use Rattle.pt_host.specs.declared.reply.HostReply.{HostReply}
+use Rattle.pt_host.specs.declared.seat.HostSeat.{HostSeat}
+use Rattle.pt_host.specs.Tree.{IsWellFormed}
+use Rattle.pt_tree.specs.State.{State, tree_of}
+use Rattle.pt_tree.specs.Start.{StartsAs}
+use Rattle.pt_tree.specs.Does.{Does}
+use Rattle.pt_tree.specs.Listing.{listing_of}
+use Rattle.pt_session.specs.Tables.{Tables, empty_tables}
+use Rattle.pt_iface.specs.declared.answer.Answer.{Answer}
+use Rattle.pt_iface.specs.declared.answer.Refusal.{Refusal}
+use Rattle.pt_iface.specs.declared.answer.Refusal.TheVariants as refusal
+use Rattle.pt_iface.specs.declared.request.Context.{Context}
+use Rattle.pt_iface.specs.declared.request.Request.{Request}
+use Rattle.pt_iface.specs.declared.request.Request.TheVariants.{Root, Lookup, Forget}
+use Rattle.pt_req.specs.Plan.{IsDefault}
+use Rattle.pt_fs.specs.FileSystem.{FileSystem, opens_root, IsMadeBy}
+use Rattle.pt_fs.specs.Jobs.{job_seat}
+use Rattle.pt_fs.specs.Keeps.{turns_of, AfterEach, AfterEachTold, LeadsOn, KeepsObjects, KeepsCounts, InsertsOnce, OfEachJob, GivesBack, IsCausedIn, IsNamedIn, NamesOpenOnes, LeavesOpen}
+use Rattle.pt_fs.specs.Order.{IsInOrder}
+use Rattle.pt_law.specs.Laws.{SlotsAddUp, IsAtRest, AreKept}
+use Rattle.pt_fs.specs.Trace.{Runs, AnswersEach, IsBounded}
+use Rattle.pt_fs.specs.declared.job.Job.{Job}
+use Rattle.pt_fs.specs.declared.job.Job.TheVariants as job
+use Rattle.pt_fs.specs.declared.trace.TraceStep.{TraceStep}
+use Rattle.pt_main.specs.Script.{Begun, script_of}
+use Rattle.pt_main.specs.Streams.{IsAll}
+use Rattle.pt_main.specs.Report.{step_lines, answer_lines, live_lines, slots_line, LivesAbove}
+use Rattle.pt_main.specs.declared.line.ScriptJob.{ScriptJob}
+use Rattle.pt_main.specs.declared.status.Status.{Status}
+use Rattle.pt_main.specs.declared.status.Status.TheVariants as status
+
+abbrev pub all_caps : Caps
+all_caps = record { 0 = 511 }
+
+-- the seat of the daemon and of each job: the superuser with all capabilities
+abbrev pub start_seat : HostSeat
+start_seat = record {
+  real_uid = 0;
+  eff_uid = 0;
+  saved_uid = 0;
+  real_gid = 0;
+  eff_gid = 0;
+  saved_gid = 0;
+  groups = [];
+  eff_caps = all_caps;
+  perm_caps = all_caps;
+  umask = 0;
+}
+
+abbrev pub job_for : Context → Request → Job
+job_for who Root = job.OpenRoot start_seat
+job_for who (Lookup parent name) = job.Request who start_seat (Lookup parent name)
+job_for who (Forget inode count) = job.Request who start_seat (Forget inode count)
+
+-- the job of a job's line
+abbrev pub job_of : ScriptJob → Job
+job_of line = job_for line.context line.request
+
+-- the file system is made over this host with the default configuration, by one call
+pub record IsOpened (before : State) (fs : FileSystem) (after : State) : Type 0 where
+  pub call : (reply : HostReply) × Does before start_seat opens_root reply after start_seat × IsMadeBy reply (Ok fs)
+  pub plan : IsDefault fs.plan.config
+  pub tables : fs.tables ≡ empty_tables fs.plan.config.guest_fd_limit
+
+-- The jobs of a script run over this host: the trace leads from the new file system to these tables and that host, the jobs run whole, one
+-- after another, each is answered by the pattern of its request, and each clause of `drive` holds.
+pub record IsRunFrom (start : State) (lines : List ScriptJob) (trace : List TraceStep) (answers : List Answer) (tables : Tables) (host : State) : Type 0 where
+  pub fs : FileSystem
+  pub opened_host : State
+  pub opened : IsOpened start fs opened_host
+  pub seats : List HostSeat
+  pub steps : Runs Does trace opened_host (map job_seat (map job_of lines)) fs.tables host seats tables
+  pub order : IsInOrder [] (length (map job_of lines)) trace
+  pub answers_each : AnswersEach fs.plan (map job_of lines) trace answers
+  pub bounded : IsBounded (map job_of lines) trace
+  pub causes : OfEachJob (map job_of lines) answers (IsCausedIn trace)
+  pub gives_back : OfEachJob (map job_of lines) answers (GivesBack trace)
+  pub counts : AfterEach fs.tables trace KeepsCounts
+  pub once : InsertsOnce trace
+  pub slots : AfterEach fs.tables trace (SlotsAddUp fs.tables.limit (length (map job_of lines)))
+  pub at_rest : IsAtRest fs.tables.limit (length (map job_of lines)) (turns_of trace) tables
+  -- the host tells its tree, which is well formed; so what is said of objects holds
+  pub well_formed : IsWellFormed (tree_of opened_host)
+  pub told : LeadsOn (Some (tree_of opened_host)) fs.tables trace (Some (tree_of host)) tables
+  pub distinct : AfterEachTold (Some (tree_of opened_host)) fs.tables trace (λ start so_far now. KeepsObjects now)
+  pub entries : OfEachJob (map job_of lines) answers (IsNamedIn fs.plan (Some (tree_of opened_host)) fs.tables trace)
+  pub names_open : NamesOpenOnes (Some (tree_of opened_host)) fs.tables trace
+  pub descriptors : AfterEachTold (Some (tree_of opened_host)) fs.tables trace (λ start so_far now. AreKept start (length (map job_of lines)) so_far now)
+  pub leaves_open : LeavesOpen (Some (tree_of opened_host)) fs.tables trace
+
+-- the report of a run: its steps, answers, live numbers, slots and objects
+abbrev pub report_of : List TraceStep → List Answer → List (ℕ × ℕ) → Tables → State → List ℕ
+report_of trace answers lives tables host =
+    step_lines trace ++ answer_lines 0 answers ++ live_lines lives ++ slots_line tables.slots ++ listing_of host ++ codes "end\n"
+
+-- this is the report of one run of the script that the bytes are
+pub record IsReportOf (bytes report : List ℕ) : Type 0 where
+  pub begun : Begun
+  pub script : script_of bytes ≡ Ok begun
+  pub trace : List TraceStep
+  pub answers : List Answer
+  pub tables : Tables
+  pub host : State
+  pub start : State
+  pub starts : StartsAs begun.tree start
+  pub run : IsRunFrom start begun.jobs trace answers tables host
+  pub lives : List (ℕ × ℕ)
+  pub live : LivesAbove tables.rows None lives
+  pub text : report ≡ report_of trace answers lives tables host
+
+-- the making of a file system over this host was refused with this error
+pub record IsRefused (before : State) (errno : Errno) : Type 0 where
+  pub after : State
+  pub fs : Result FileSystem Refusal
+  pub call : (reply : HostReply) × Does before start_seat opens_root reply after start_seat × IsMadeBy reply fs
+  pub refused : fs ≡ Err (refusal.Errno errno)
+
+-- why none was made
+abbrev pub IsNotOpened : State → Status → Type 0
+IsNotOpened before (status.BadConfig errno) = IsRefused before errno
+IsNotOpened before status.NoMemory = Unit {0}
+IsNotOpened before other = ⊥
+
+-- why there is no report of these bytes: they are no script, or no file system was made over its tree
+abbrev pub IsNoReport : List ℕ → Status → Type 0
+IsNoReport bytes (status.BadScript line) = script_of bytes ≡ Err line
+IsNoReport bytes (status.BadConfig errno) = (begun : Begun) × (script_of bytes ≡ Ok begun) × (start : State) × StartsAs begun.tree start × IsRefused start errno
+IsNoReport bytes status.NoMemory = Unit {0}
+IsNoReport bytes other = ⊥
+
+-- the one word of the command line is `script`
+abbrev pub IsScriptWord : List (List ℕ) → Type 0
+IsScriptWord words = words ≡ codes "script" ∷ []
+
+-- a script has so many bytes at most
+abbrev pub max_script : ℕ
+max_script = 16777216
+
+-- this is the report of a script that was read from here
+abbrev pub IsReportFrom : Option (List ℕ) → List ℕ → Type 0
+IsReportFrom left report = (bytes : List ℕ) × IsAll left bytes × (length bytes ≤ max_script) × IsReportOf bytes report
+
+-- what was read from here shows no report, and this is why
+abbrev pub IsNoReportFrom : Option (List ℕ) → Status → Type 0
+IsNoReportFrom left why = (bytes : List ℕ) × IsAll left bytes × (length bytes ≤ max_script) × IsNoReport bytes why

@@ -1,0 +1,136 @@
+ghost use Rattle.std.specs.Prelude.{◌≡◌, ◌≤◌, ◌+◌, ◌<◌, ◌^◌, ◌++◌, List, ℕ, None, IfOk, IfErr, OnOk, map, length};
+ghost use Rattle.pt_tree.specs.Listing.{listing_of};
+ghost use Rattle.pt_main.specs.Report.{LivesAbove, live_lines, slots_line};
+ghost use Rattle.pt_main.specs.Run.{job_of, start_seat, report_of, IsOpened, IsNotOpened, IsRunFrom, IsReportOf, IsNoReport};
+
+use crate::input::MAX_SCRIPT;
+use crate::line::ScriptJob;
+use crate::report::{push_answers, push_lives, push_slots, push_steps};
+use crate::script::{ParseError, parse};
+use crate::status::Status;
+use pt_fs::{Driven, Job, PassthroughFs, SteppedFs, drive};
+use pt_host::{Caps, HostSeat};
+use pt_iface::{Refusal, Request};
+use pt_req::Config;
+use pt_text::push_text;
+use pt_tree::TreeHost;
+use std::alloc::{AllocError, Global};
+
+// The seat of the daemon and of each job.
+fn start_seat() -> HostSeat
+    ensures { result ≡ start_seat }
+{
+    HostSeat::new(0, 0, Caps::ALL)
+}
+
+fn job_of(job: ScriptJob) -> Job
+    ensures { result ≡ job_of job }
+{
+    match job.request {
+        Request::Root => Job::OpenRoot(start_seat()),
+        request => Job::Request(job.context, start_seat(), request),
+    }
+}
+
+fn jobs_of(alloc: Global, jobs: Vec<ScriptJob>) -> Result<Vec<Job>, AllocError>
+    ensures { IfOk result (λ made. made.items ≡ map job_of jobs.items) }
+{
+    jobs.into_iter().map(|job| job_of(job)).collect(alloc)
+}
+
+// The file system over a host, with the default configuration.
+fn open_fs(alloc: Global, host: &mut TreeHost) -> Result<PassthroughFs, Status>
+    ensures ok { IfOk result (λ fs. IsOpened host.old fs host.new) }
+    ensures err { IfErr result (λ status. IsNotOpened host.old status) }
+{
+    let Ok(config) = Config::new(alloc) else {
+        return Err(Status::NoMemory);
+    };
+    match PassthroughFs::new(alloc, config, host, &mut start_seat()) {
+        Ok(fs) => Ok(fs),
+        Err(Refusal::Errno(errno)) => Err(Status::BadConfig(errno)),
+        Err(Refusal::Memory) => Err(Status::NoMemory),
+        // It never comes, since no seat was changed.
+        Err(Refusal::Lost(errno)) => Err(Status::BadConfig(errno)),
+    }
+}
+
+// Appends what the report says of the tables.
+fn push_tables(out: &mut Vec<u8>, fs: &PassthroughFs) -> Result<(), AllocError>
+    ensures { OnOk result ((lives : List (ℕ × ℕ)) × LivesAbove fs.now.tables.rows None lives
+        × (out.new.items ≡ out.old.items ++ live_lines lives ++ slots_line fs.now.tables.slots)) }
+{
+    let session = fs.session();
+    push_lives(out, session)?;
+    push_slots(out, session.slots_left())
+}
+
+// Appends what the report says of the host.
+fn push_objects(alloc: Global, out: &mut Vec<u8>, host: &TreeHost) -> Result<(), AllocError>
+    ensures { OnOk result (out.new.items ≡ out.old.items ++ listing_of host.now) }
+{
+    match host.listing(alloc) {
+        Ok(listing) => push_text(out, listing.as_slice()),
+        Err(_) => Err(AllocError),
+    }
+}
+
+// The report of a run that left this host.
+fn report_on(
+    alloc: Global,
+    driven: &Driven<PassthroughFs>,
+    host: &TreeHost,
+) -> Result<Vec<u8>, AllocError>
+    ensures { IfOk result (λ report. (lives : List (ℕ × ℕ)) × LivesAbove driven.now.fs.tables.rows None lives
+        × (report.items ≡ report_of driven.now.trace.items driven.now.answers.items lives driven.now.fs.tables host.now)) }
+{
+    let mut out = Vec::new(alloc);
+    push_steps(&mut out, driven.trace.as_slice())?;
+    push_answers(&mut out, driven.answers.as_slice())?;
+    push_tables(&mut out, &driven.fs)?;
+    push_objects(alloc, &mut out, host)?;
+    push_text(&mut out, b"end\n")?;
+    Ok(out)
+}
+
+// Runs the jobs over a host that holds the script's tree.
+fn run_jobs(
+    alloc: Global,
+    host: &mut TreeHost,
+    jobs: Vec<ScriptJob>,
+) -> Result<Driven<PassthroughFs>, Status>
+    requires { length jobs.items < 2 ^ 32 }
+    ensures ok { IfOk result (λ driven. IsRunFrom host.old jobs.items driven.trace.items driven.answers.items driven.fs.tables host.new) }
+    ensures err { IfErr result (λ status. IsNotOpened host.old status) }
+{
+    let fs = open_fs(alloc, host)?;
+    let Ok(jobs) = jobs_of(alloc, jobs) else {
+        return Err(Status::NoMemory);
+    };
+    match drive(alloc, fs, host, jobs, &[]) {
+        Ok(driven) => Ok(driven),
+        Err(_) => Err(Status::NoMemory),
+    }
+}
+
+/// The report of the script that these bytes are, run over its tree.
+pub fn report_of_script(alloc: Global, bytes: &[u8]) -> Result<Vec<u8>, Status>
+    requires { length bytes.now ≤ MAX_SCRIPT }
+    ensures ok { IfOk result (λ report. IsReportOf bytes.now report.items) }
+    ensures err { IfErr result (λ status. IsNoReport bytes.now status) }
+{
+    let script = match parse(alloc, bytes) {
+        Ok(script) => script,
+        Err(ParseError::BadScript(line)) => return Err(Status::BadScript(line)),
+        Err(ParseError::Memory) => return Err(Status::NoMemory),
+    };
+    let mut host = script.host;
+    let driven = match run_jobs(alloc, &mut host, script.jobs) {
+        Ok(driven) => driven,
+        Err(status) => return Err(status),
+    };
+    match report_on(alloc, &driven, &host) {
+        Ok(report) => Ok(report),
+        Err(_) => Err(Status::NoMemory),
+    }
+}

@@ -1,0 +1,33 @@
+ghost use Rattle.std.specs.Prelude.{◌≡◌, ◌≤◌, ◌++◌, ◌∷◌, [], List, ℕ, Option, OnOk, OnErr, Err, codes};
+ghost use Rattle.pt_host.specs.Promises.{HasRisen};
+ghost use Rattle.pt_main.specs.Output.{IsWritten, IsFrontWritten, IsBuffered};
+
+use crate::streams::{Failed, Sink};
+use crate::texts::Text;
+use pt_text::push_text;
+use std::alloc::AllocError;
+
+/// Why a text was not written whole.
+#[derive(Clone, Copy, Debug, PartialEq, Eq)]
+pub enum OutputError {
+    Fault,
+    Memory,
+}
+
+// So many bytes are gathered before they are pushed.
+const PIECE: usize = 65_536;
+
+/// Writes all of a piece.
+pub fn push_all<O: Sink>(output: &mut O, piece: &[u8]) -> Result<(), Failed>
+    ensures ok { OnOk result (IsWritten (O.written output.old) piece.now (O.written output.new)) }
+    ensures err { OnErr result (IsFrontWritten (O.written output.old) piece.now (O.written output.new)) }
+    ensures fault { OnErr result (HasRisen (O.faults output.old) (O.faults output.new)) }
+    ensures never_falls { O.faults output.old ≤ O.faults output.new }
+{
+    let mut rest = piece;
+    while !rest.is_empty() {
+        let count = output.push(rest)?;
+        rest = &rest[count..];
+    }
+    Ok(())
+}

@@ -1,0 +1,78 @@
+ghost use Rattle.std.specs.Prelude.{◌≡◌, ◌≢◌, ◌≤◌, ◌↔◌, List, ℕ, IsTrue, length, map, string_bytes};
+ghost use Rattle.pt_host.specs.Promises.{HasRisen};
+ghost use Rattle.pt_host.specs.declared.ids.Errno.{Errno};
+ghost use Rattle.pt_main.specs.Streams.{IsAtEnd, IsLonger};
+ghost use Rattle.pt_main.specs.Output.{IsWritten, IsFrontWritten};
+ghost use Rattle.pt_main.specs.Run.{IsReportOf, IsNoReport, IsScriptWord, IsReportFrom, IsNoReportFrom};
+
+use crate::input::{InputError, MAX_SCRIPT, read_script};
+use crate::make_report::report_of_script;
+use crate::output::push_all;
+use crate::status::Status;
+use crate::streams::{Sink, Source};
+use std::alloc::Global;
+
+fn is_script(words: &[String]) -> bool
+    ensures { IsTrue result ↔ IsScriptWord (map string_bytes words.now) }
+{
+    match words {
+        [word] => word.as_str() == "script",
+        _ => false,
+    }
+}
+
+// Writes the report of the script that these bytes are.
+fn write_report<O: Sink>(alloc: Global, bytes: &[u8], output: &mut O) -> Status
+    requires { length bytes.now ≤ MAX_SCRIPT }
+    ensures done { result ≡ Status.Done → (report : List ℕ) × IsReportOf bytes.now report × IsWritten (O.written output.old) report (O.written output.new) }
+    ensures write_fault { result ≡ Status.WriteFault → (report : List ℕ) × IsReportOf bytes.now report × IsFrontWritten (O.written output.old) report (O.written output.new) }
+    ensures write_fault_rose { result ≡ Status.WriteFault → HasRisen (O.faults output.old) (O.faults output.new) }
+    ensures others { result ≢ Status.Done → result ≢ Status.WriteFault → IsNoReport bytes.now result }
+    ensures nothing_written { result ≢ Status.Done → result ≢ Status.WriteFault → O.written output.new ≡ O.written output.old }
+    ensures never_falls { O.faults output.old ≤ O.faults output.new }
+{
+    let report = match report_of_script(alloc, bytes) {
+        Ok(report) => report,
+        Err(status) => return status,
+    };
+    match push_all(output, report.as_slice()) {
+        Ok(()) => Status::Done,
+        Err(_) => Status::WriteFault,
+    }
+}
+
+/// Reads the script, runs it and writes the report. Want of memory may end it at any time, as `NoMemory`.
+pub fn run<I: Source, O: Sink>(
+    alloc: Global,
+    words: &[String],
+    input: &mut I,
+    output: &mut O,
+) -> Status
+    // The input was read to its end, and the report of one run of the script that it is stands in the output.
+    ensures done { result ≡ Status.Done → (report : List ℕ) × IsReportFrom (I.left input.old) report
+        × IsWritten (O.written output.old) report (O.written output.new) }
+    ensures read_whole { result ≡ Status.Done → IsAtEnd (I.left input.new) }
+
+    ensures usage { (result ≡ Status.Usage) ↔ (IsScriptWord (map string_bytes words.now) → ⊥) }
+    ensures too_long { result ≡ Status.TooLong → IsLonger MAX_SCRIPT (I.left input.old) }
+    ensures bad_script { (line : ℕ) → result ≡ Status.BadScript line → IsNoReportFrom (I.left input.old) (Status.BadScript line) }
+    ensures bad_config { (errno : Errno) → result ≡ Status.BadConfig errno → IsNoReportFrom (I.left input.old) (Status.BadConfig errno) }
+    ensures read_fault { result ≡ Status.ReadFault → HasRisen (I.faults input.old) (I.faults input.new) }
+
+    // A front of the report of one run stands in the output.
+    ensures write_fault { result ≡ Status.WriteFault → (report : List ℕ) × IsReportFrom (I.left input.old) report
+        × IsFrontWritten (O.written output.old) report (O.written output.new) }
+    ensures write_fault_rose { result ≡ Status.WriteFault → HasRisen (O.faults output.old) (O.faults output.new) }
+
+    ensures nothing_written { result ≢ Status.Done → result ≢ Status.WriteFault → O.written output.new ≡ O.written output.old }
+{
+    if !is_script(words) {
+        return Status::Usage;
+    }
+    match read_script(alloc, input) {
+        Ok(bytes) => write_report(alloc, bytes.as_slice(), output),
+        Err(InputError::Fault) => Status::ReadFault,
+        Err(InputError::TooLong) => Status::TooLong,
+        Err(InputError::Memory) => Status::NoMemory,
+    }
+}

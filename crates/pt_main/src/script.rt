@@ -1,0 +1,58 @@
+ghost use Rattle.std.specs.Prelude.{◌≡◌, ◌≤◌, ◌<◌, ◌+◌, ◌^◌, IfOk, IfErr, length};
+ghost use Rattle.pt_tree.specs.Start.{StartsAs};
+ghost use Rattle.pt_main.specs.Parse.{IsBadLine, IsBadTree};
+ghost use Rattle.pt_main.specs.Scan.{IsScriptOf};
+
+use crate::input::MAX_SCRIPT;
+use crate::line::ScriptJob;
+use crate::scan::scan_lines;
+use pt_tree::{SpecError, TreeHost, TreeSpec};
+use std::alloc::Global;
+
+/// A script: the host that holds its tree, and its jobs in order.
+#[derive(Drop)]
+pub struct Script {
+    pub host: TreeHost,
+    pub jobs: Vec<ScriptJob>,
+}
+
+/// Why bytes were not read as a script.
+#[derive(Clone, Copy, Debug, PartialEq, Eq)]
+pub enum ParseError {
+    /// The first line, from 1, up to which the lines begin no script.
+    BadScript(u32),
+    Memory,
+}
+
+/// Reads a script.
+pub fn parse(alloc: Global, bytes: &[u8]) -> Result<Script, ParseError>
+    requires { length bytes.now ≤ MAX_SCRIPT }
+    ensures ok { IfOk result (λ script. IsScriptOf bytes.now script.host script.jobs.items) }
+    ensures bad { IfErr result (λ error. IsBadLine bytes.now error) }
+    ensures few { IfOk result (λ script. length script.jobs.items ≤ length bytes.now + 1) }
+{
+    let Ok(scan) = scan_lines(alloc, bytes) else {
+        return Err(ParseError::Memory);
+    };
+    let (tree, jobs) = scan.lines.into_parts();
+    let host = match host_of(alloc, &tree) {
+        Ok(host) => host,
+        Err(error) => return Err(error),
+    };
+    match scan.bad {
+        Some(line) => Err(ParseError::BadScript(line)),
+        None => Ok(Script { host, jobs }),
+    }
+}
+
+fn host_of(alloc: Global, tree: &TreeSpec) -> Result<TreeHost, ParseError>
+    requires { length tree.now < 2 ^ 32 }
+    ensures ok { IfOk result (λ host. StartsAs tree.now host) }
+    ensures bad { IfErr result (λ error. IsBadTree tree.now error) }
+{
+    match TreeHost::from_spec(alloc, tree) {
+        Ok(host) => Ok(host),
+        Err(SpecError::NotATree(line)) => Err(ParseError::BadScript(line)),
+        Err(SpecError::Memory) => Err(ParseError::Memory),
+    }
+}

@@ -1,0 +1,46 @@
+-- A tree as text: a line for each name from the root on, depth first, the names of a directory in byte order.
+use Rattle.std.specs.Prelude.{ℕ, zero, suc, List, [], ◌∷◌, ◌++◌, length, codes, decimal, Option, Some, None, slice_get}
+use Rattle.std.specs.List.{flat_map}
+use Rattle.pt_text.specs.ByteWord.{byte_word}
+use Rattle.pt_tree.specs.Node.{mode_of, names_in}
+use Rattle.pt_tree.specs.State.{State}
+use Rattle.pt_tree.specs.declared.node.Node.{Node}
+use Rattle.pt_tree.specs.declared.node.Content.{Content}
+use Rattle.pt_tree.specs.declared.node.Content.TheVariants.{Directory, Regular}
+
+abbrev pub number_word : ℕ → List ℕ
+number_word number = 32 ∷ decimal number
+
+-- what a regular file holds
+abbrev pub bytes_in : Content → List ℕ
+bytes_in (Directory names) = []
+bytes_in (Regular bytes) = bytes
+
+-- inode number, device, mount, mode, number of links, owner, group, device of a special file
+abbrev pub numbers_of : Node → List ℕ
+numbers_of node =
+    node.ids.ino ∷ node.ids.dev ∷ node.ids.mnt_id ∷ mode_of node ∷ node.nlink ∷ node.uid ∷ node.gid ∷ 0 ∷ []
+
+-- `obj PATH`, the numbers and what it holds
+abbrev pub object_line : List ℕ → Node → List ℕ
+object_line path node =
+    codes "obj " ++ (byte_word path ++ (flat_map number_word (numbers_of node) ++ (32 ∷ byte_word (bytes_in node.content) ++ 10 ∷ [])))
+
+abbrev pub line_at : List ℕ → Option Node → List ℕ
+line_at path None = []
+line_at path (Some node) = object_line path node
+
+abbrev pub names_at : Option Node → List (List ℕ × ℕ)
+names_at None = []
+names_at (Some node) = names_in node.content
+
+-- the lines of what lies below the directory at this place, down to a depth
+abbrev pub lines_below : ℕ → List Node → List ℕ → ℕ → List ℕ
+lines_below zero nodes path dir = []
+lines_below (suc depth) nodes path dir =
+    flat_map (λ entry. line_at (path ++ 47 ∷ entry.0) (slice_get nodes entry.1) ++ lines_below depth nodes (path ++ 47 ∷ entry.0) entry.1)
+    (names_at (slice_get nodes dir))
+
+-- nothing lies deeper than there are objects
+abbrev pub listing_of : State → List ℕ
+listing_of state = line_at (47 ∷ []) (slice_get state.nodes 0) ++ lines_below (length state.nodes) state.nodes [] 0

@@ -1,0 +1,137 @@
+ghost use Rattle.std.specs.Prelude.{◌≡◌, ◌<◌, ◌++◌, ◌∷◌, [], OnOk, IfOk, IfErr, codes, slice_get, unwrap_or};
+ghost use Rattle.std.specs.List.{flat_map};
+ghost use Rattle.std.specs.Option.{option_copied};
+ghost use Rattle.pt_text.specs.ByteWord.{byte_word};
+ghost use Rattle.pt_tree.specs.Sound.{HavePermissions};
+ghost use Rattle.pt_tree.specs.Node.{mode_of};
+ghost use Rattle.pt_tree.specs.Listing.{bytes_in, line_at, lines_below, listing_of, names_at, number_word, numbers_of, object_line};
+ghost use Rattle.pt_tree.specs.declared.spec.SpecError.TheVariants.{Memory};
+
+use crate::host::TreeHost;
+use crate::names::Names;
+use crate::node::{Content, Node};
+use crate::spec::SpecError;
+use pt_host::Bytes;
+use pt_text::{push_byte_word, push_decimal, push_text};
+use std::alloc::{AllocError, Global};
+
+impl Content {
+    /// What a regular file holds.
+    fn bytes(&self) -> &[u8]
+        ensures { result.now ≡ bytes_in self.now }
+    {
+        match self {
+            Content::Directory(_) => &[],
+            Content::Regular(bytes) => bytes.as_slice(),
+        }
+    }
+}
+
+fn push_numbers(out: &mut Vec<u8>, numbers: &[u64]) -> Result<(), AllocError>
+    ensures { OnOk result (out.new.items ≡ out.old.items ++ flat_map number_word numbers.now) }
+{
+    for number in numbers {
+        push_text(out, b" ")?;
+        push_decimal(out, *number)?;
+    }
+    Ok(())
+}
+
+fn push_object_numbers(out: &mut Vec<u8>, node: &Node) -> Result<(), AllocError>
+    requires { node.now.permissions < 4096 }
+    ensures { OnOk result (out.new.items ≡ out.old.items ++ flat_map number_word (numbers_of node.now)) }
+{
+    let numbers = [
+        node.ids.ino,
+        node.ids.dev,
+        node.ids.mnt_id,
+        u64::from(node.mode()),
+        u64::from(node.nlink),
+        u64::from(node.uid),
+        u64::from(node.gid),
+        0,
+    ];
+    push_numbers(out, &numbers)
+}
+
+fn push_object(out: &mut Vec<u8>, path: &[u8], node: &Node) -> Result<(), AllocError>
+    requires { node.now.permissions < 4096 }
+    ensures { OnOk result (out.new.items ≡ out.old.items ++ object_line path.now node.now) }
+{
+    push_text(out, b"obj ")?;
+    push_byte_word(out, path)?;
+    push_object_numbers(out, node)?;
+    push_text(out, b" ")?;
+    push_byte_word(out, node.content.bytes())?;
+    push_text(out, b"\n")
+}
+
+fn push_line_at(
+    out: &mut Vec<u8>,
+    path: &[u8],
+    nodes: &[Node],
+    object: usize,
+) -> Result<(), AllocError>
+    requires { HavePermissions nodes.now }
+    ensures { OnOk result (out.new.items ≡ out.old.items ++ line_at path.now (slice_get nodes.now object)) }
+{
+    match nodes.get(object) {
+        None => Ok(()),
+        Some(node) => push_object(out, path, node),
+    }
+}
+
+/// The names of the directory at this place.
+fn names_of(nodes: &[Node], dir: usize) -> Option<&Names>
+    ensures { unwrap_or (option_copied result) [] ≡ names_at (slice_get nodes.now dir) }
+{
+    match &nodes.get(dir)?.content {
+        Content::Directory(names) => Some(names),
+        Content::Regular(_) => None,
+    }
+}
+
+/// The lines of what lies below the directory at this place, down to a depth. The path is given back as it was.
+fn push_below(
+    out: &mut Vec<u8>,
+    nodes: &[Node],
+    depth: usize,
+    path: &mut Vec<u8>,
+    dir: usize,
+) -> Result<(), AllocError>
+    requires { HavePermissions nodes.now }
+    ensures lines { OnOk result (out.new.items ≡ out.old.items ++ lines_below depth nodes.now path.old.items dir) }
+    ensures path { OnOk result (path.new.items ≡ path.old.items) }
+{
+    if depth == 0 {
+        return Ok(());
+    }
+    let Some(names) = names_of(nodes, dir) else {
+        return Ok(());
+    };
+    let length = path.len();
+    for (name, object) in names.kept.iter() {
+        path.push(b'/')?;
+        path.extend_from_slice(name)?;
+        push_line_at(out, path, nodes, *object)?;
+        push_below(out, nodes, depth - 1, path, *object)?;
+        path.truncate(length);
+    }
+    Ok(())
+}
+
+impl TreeHost {
+    /// A line for each object: `obj`, its path, inode number, device, mount, mode, number of links, owner, group, device of
+    /// a special file, and what it holds.
+    pub fn listing(&self, alloc: Global) -> Result<Bytes, SpecError>
+        ensures ok { IfOk result (λ bytes. bytes ≡ listing_of self.now) }
+        ensures err { IfErr result (λ error. error ≡ Memory) }
+    {
+        let nodes = self.store.nodes.as_slice();
+        let mut out = Vec::new(alloc);
+        let mut path = Vec::new(alloc);
+        push_line_at(&mut out, b"/", nodes, 0)?;
+        push_below(&mut out, nodes, nodes.len(), &mut path, 0)?;
+        Ok(Bytes::from_vec(out))
+    }
+}
