@@ -178,7 +178,7 @@ fn a_pin_keeps_a_row(rt: HostRuntime) {
     play(&rt, &mut session, &script);
 }
 
-fn handle_of(handle: u64, number: u64, fd: i32) -> Event<'static> {
+fn handle_of(handle: u64, number: u64, fd: u32) -> Event<'static> {
     Event::InsertHandle {
         era: 0,
         handle,
@@ -249,14 +249,11 @@ fn handles_are_pinned_and_released(rt: HostRuntime) {
     assert!(rt; session.adds_up());
 }
 
-fn closing(fd: i32) -> (Event<'static>, EventReply) {
-    (
-        Event::TakeClosing,
-        EventReply::Closing {
-            fd: Fd(fd),
-            slot: true,
-        },
-    )
+fn closed(fd: u32) -> EventReply {
+    EventReply::Closing {
+        fd: Fd(fd),
+        slot: true,
+    }
 }
 
 #[test]
@@ -264,18 +261,21 @@ fn a_clearing_ends_rows_in_order(rt: HostRuntime) {
     let mut session = Session::new(rt.alloc(), 8);
     let top = RowForm::File(Fd(3));
     let file = RowForm::File(Fd(4));
+    let numbers = [
+        (insertion(2, &file, 11), EventReply::Inserted { number: 2 }),
+        (root(&top, None), EventReply::Inserted { number: 1 }),
+    ];
+    play(&rt, &mut session, &numbers);
     let script = [
         (handle_of(9, 1, 7), EventReply::Inserted { number: 9 }),
         (handle_of(8, 1, 6), EventReply::Inserted { number: 8 }),
         (handle_of(5, 2, 5), EventReply::Inserted { number: 5 }),
-        (insertion(2, &file, 11), EventReply::Inserted { number: 2 }),
-        (root(&top, None), EventReply::Inserted { number: 1 }),
         (
             Event::PinHandle {
                 handle: 5,
                 number: 2,
             },
-            EventReply::Pinned { row: 2, fd: Fd(5) },
+            EventReply::Pinned { row: 4, fd: Fd(5) },
         ),
         (
             Event::Clear,
@@ -288,15 +288,15 @@ fn a_clearing_ends_rows_in_order(rt: HostRuntime) {
             handle_of(5, 2, 5),
             EventReply::Refused(EventRefusal::Overtaken),
         ),
-        closing(3),
-        closing(4),
-        closing(6),
-        closing(7),
+        (Event::TakeClosing, closed(3)),
+        (Event::TakeClosing, closed(4)),
+        (Event::TakeClosing, closed(6)),
+        (Event::TakeClosing, closed(7)),
         (
-            Event::UnpinHandle { row: 2 },
+            Event::UnpinHandle { row: 4 },
             EventReply::Done { closings: 1 },
         ),
-        closing(5),
+        (Event::TakeClosing, closed(5)),
     ];
     play(&rt, &mut session, &script);
     assert_eq!(rt; session.handle_after(None), None);
