@@ -4,7 +4,7 @@ use Rattle.pt_host.specs.Words.{Each, Takes, Replaces}
 use Rattle.pt_host.specs.declared.ids.ObjIds.{ObjIds}
 use Rattle.pt_session.specs.Change.{Change}
 use Rattle.pt_host.specs.declared.ids.Fd.{Fd}
-use Rattle.pt_session.specs.Tables.{Row, HandleRow, Closing, Tables, closing_of, closing_of_handle, nothing_agreed, HasNumber, HasIds, IsHandle}
+use Rattle.pt_session.specs.Tables.{Row, HandleRow, Closing, Tables, closing_of, closing_of_handle, nothing_agreed, HasNumber, HasIds, HasHandle, IsHandle}
 use Rattle.pt_session.specs.declared.form.RowForm.{RowForm}
 use Rattle.pt_session.specs.declared.form.Negotiated.{Negotiated}
 use Rattle.pt_session.specs.declared.event.KeptEvent.TheVariants as change
@@ -122,10 +122,6 @@ new_handle tables handle number fd = record {
 
 abbrev pub with_handle : Tables → HandleRow → Tables
 with_handle tables row = record tables { next_row = tables.next_row + 1; handles = row ∷ tables.handles }
-
--- the handle is live, whatever number it was opened for
-abbrev pub HasHandle : ℕ → HandleRow → Type 0
-HasHandle handle row = (row.live ≡ true) × (row.handle ≡ handle)
 
 abbrev pub new_row : Tables → ℕ → RowForm → ObjIds → ℕ → ℕ → Row
 new_row tables number form ids mode count = record {

@@ -1,7 +1,6 @@
 -- The session's tables as lists, and when they fit together.
 use Rattle.std.specs.Prelude.{◌≡◌, ◌≢◌, ◌<◌, ◌≤◌, ℕ, true, false, List, []}
 use Rattle.pt_host.specs.Words.{Each, EachTwo}
-use Rattle.pt_host.specs.declared.ids.Fd.{Fd}
 use Rattle.pt_host.specs.declared.ids.ObjIds.{ObjIds}
 use Rattle.pt_session.specs.declared.form.RowForm.{RowForm}
 use Rattle.pt_session.specs.declared.form.RowForm.TheVariants.{File}
@@ -59,6 +58,10 @@ HasNumber number row = (row.live ≡ true) × (row.number ≡ number)
 -- the row is live, and stands for the object of these ids
 abbrev pub HasIds : ObjIds → Row → Type 0
 HasIds ids row = (row.live ≡ true) × (row.ids ≡ ids)
+
+-- the handle is live, whatever number it was opened for
+abbrev pub HasHandle : ℕ → HandleRow → Type 0
+HasHandle handle row = (row.live ≡ true) × (row.handle ≡ handle)
 
 -- the handle is live, and was opened for this number
 abbrev pub IsHandle : ℕ → ℕ → HandleRow → Type 0

@@ -1,5 +1,5 @@
 ghost use Rattle.std.specs.Prelude.{◌≡◌, false};
-ghost use Rattle.pt_session.specs.Tables.{closing_of};
+ghost use Rattle.pt_session.specs.Tables.{closing_of, closing_of_handle};
 
 use crate::form::RowForm;
 use pt_host::{Fd, ObjIds};
@@ -84,6 +84,34 @@ impl Row {
     {
         match self.form {
             RowForm::File(fd) => Closing { fd, slot: true },
+        }
+    }
+}
+
+impl HandleRow {
+    pub fn with_pins(&self, pins: u64) -> HandleRow
+        ensures { result ≡ record self.now { pins = pins } }
+    {
+        HandleRow { pins, ..*self }
+    }
+
+    /// The row as it stays for its pins once the handle was released.
+    pub fn dead(&self) -> HandleRow
+        ensures { result ≡ record self.now { live = false } }
+    {
+        HandleRow {
+            live: false,
+            ..*self
+        }
+    }
+
+    /// What is to be closed when the row ends.
+    pub fn closing(&self) -> Closing
+        ensures { result ≡ closing_of_handle self.now }
+    {
+        Closing {
+            fd: self.fd,
+            slot: true,
         }
     }
 }
