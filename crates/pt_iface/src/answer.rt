@@ -4,7 +4,7 @@ use crate::flags::{FsOptions, OpenOptions};
 use pt_host::{Bytes, Errno, FsStat};
 
 /// What a request is answered.
-#[derive(Debug, Drop)]
+#[derive(Debug, PartialEq, Eq, Drop)]
 pub enum Answer {
     /// The guest waits for none.
     NoReply,

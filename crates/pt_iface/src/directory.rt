@@ -1,4 +1,8 @@
 ghost use Rattle.std.specs.Prelude.{◌≡◌};
+ghost use Rattle.std.specs.Cmp.Lexicographic.{pointwise, lists_equiv, lists_per};
+ghost use Rattle.pt_iface.specs.contracts.directory.DirEntryPartialEq.TheImpl as entry;
+ghost use Rattle.pt_iface.specs.contracts.directory.DirEntryPartialEq.TheImpl.Laws as partial;
+ghost use Rattle.pt_iface.specs.contracts.directory.DirEntryEq.TheImpl.Laws as whole;
 
 use pt_host::Bytes;
 use std::marker::Model;
@@ -42,4 +46,18 @@ impl DirEntries {
     {
         self.items.as_slice()
     }
+}
+
+impl PartialEq for DirEntries {
+    ghost eq = { pointwise (entry.ghosts).eq };
+
+    ghost laws = { lists_per partial.laws-law };
+
+    fn eq(&self, other: &DirEntries) -> bool {
+        self.items == other.items
+    }
+}
+
+impl Eq for DirEntries {
+    ghost laws = { lists_equiv whole.laws-law };
 }

@@ -1,7 +1,6 @@
 use crate::{
-    Answer, Attr, Context, DirEntries, DirEntry, Entry, Extensions, ForgetList, FsOptions,
-    GetxattrReply, ListxattrReply, OpenOptions, Request, SecContext, SetattrIn, SetattrValid,
-    SetxattrFlags, Timeout, used_len,
+    Answer, Attr, DirEntries, DirEntry, Entry, ForgetList, FsOptions, GetxattrReply,
+    ListxattrReply, OpenOptions, SetattrValid, SetxattrFlags, Timeout, used_len,
 };
 use pt_host::{Bytes, Errno, FsStat, Time};
 use std::alloc::Global;
@@ -117,7 +116,9 @@ fn listings_fill_names_up(rt: HostRuntime) -> Result<(), Fail> {
     entries.push(named(rt.alloc(), 2, b"nine....9")?)?;
     let entries = DirEntries::from_vec(entries);
     assert_eq!(rt; entries.as_slice().len(), 2);
-    assert_eq!(rt; used_len(&Answer::Listing(entries)), 88);
+    let listing = Answer::Listing(entries);
+    assert_eq!(rt; used_len(&listing), 88);
+    assert!(rt; listing != Answer::Listing(DirEntries::from_vec(Vec::new(rt.alloc()))));
     Ok(())
 }
 
