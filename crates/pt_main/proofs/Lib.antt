@@ -4,4 +4,5 @@ pub mod Scripts
 pub mod Outputs
 pub mod Lives
 pub mod CommandWords
+pub mod FirstBads
 pub mod Opening

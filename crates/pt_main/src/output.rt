@@ -3,19 +3,6 @@ ghost use Rattle.pt_host.specs.Promises.{HasRisen};
 ghost use Rattle.pt_main.specs.Output.{IsWritten, IsFrontWritten, IsBuffered};
 
 use crate::streams::{Failed, Sink};
-use crate::texts::Text;
-use pt_text::push_text;
-use std::alloc::AllocError;
-
-/// Why a text was not written whole.
-#[derive(Clone, Copy, Debug, PartialEq, Eq)]
-pub enum OutputError {
-    Fault,
-    Memory,
-}
-
-// So many bytes are gathered before they are pushed.
-const PIECE: usize = 65_536;
 
 /// Writes all of a piece.
 pub fn push_all<O: Sink>(output: &mut O, piece: &[u8]) -> Result<(), Failed>

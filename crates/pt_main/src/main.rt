@@ -1,0 +1,61 @@
+//! The program: reads a script of lookups and forgets, runs it over a tree in memory and writes the report.
+#![tactic(auto)]
+
+mod fields;
+mod input;
+mod laws;
+mod line;
+mod make_report;
+mod mem;
+mod output;
+mod program;
+mod report;
+mod scan;
+mod script;
+mod status;
+mod std_streams;
+mod streams;
+#[cfg(test)]
+mod tests;
+mod texts;
+
+pub use input::{InputError, MAX_SCRIPT, read_script};
+pub use laws::first_bad_line;
+pub use line::{Line, ScriptJob};
+pub use mem::{MemSink, MemSource};
+pub use program::run;
+pub use script::{ParseError, Script, parse};
+pub use status::Status;
+use std::alloc::AllocError;
+use std::process::ExitCode;
+use std::{env, io};
+pub use std_streams::{StdSink, StdSource};
+pub use streams::{Failed, Sink, Source};
+pub use texts::Text;
+
+// The words after the program's name. One that is not UTF-8 is none that the program knows.
+fn command_words(rt: &HostRuntime) -> Result<Vec<String>, Status> {
+    let mut args = match env::args(rt) {
+        Ok(args) => args,
+        Err(error) if error.kind() == io::ErrorKind::OutOfMemory => return Err(Status::NoMemory),
+        Err(_) => return Err(Status::Usage),
+    };
+    args.next();
+    args.collect(rt.alloc())
+        .map_err(|_: AllocError| Status::NoMemory)
+}
+
+fn main(rt: HostRuntime) -> ExitCode {
+    let status = match command_words(&rt) {
+        Ok(words) => {
+            let mut input = StdSource::new(rt.reader());
+            let mut output = StdSink::new(io::writer(&rt));
+            run(rt.alloc(), words.as_slice(), &mut input, &mut output)
+        }
+        Err(status) => status,
+    };
+    if status != Status::Done {
+        let _ = eprintln!(rt; "{status}");
+    }
+    ExitCode::from(status.exit_code())
+}
