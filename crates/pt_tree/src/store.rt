@@ -192,8 +192,8 @@ impl Store {
                 self.open_found(seat, flags, found)
             }
             HostOp::Reopen { fd, flags } => {
-                let found = self.find_open(fd, flags);
-                self.open_found(seat, flags, found)
+                let object = self.find_open(fd, flags);
+                self.open_found(seat, flags, object)
             }
             HostOp::Stat { fd } => self.stat(fd),
             HostOp::ReadAt { fd, offset, size } => self.read(fd, offset, size),
