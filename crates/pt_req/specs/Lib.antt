@@ -4,6 +4,7 @@ pub mod Held
 pub mod Grammar
 pub mod Frame
 pub mod Tree
+pub mod Options
 pub mod Requests
 pub mod Pattern
 pub mod Made

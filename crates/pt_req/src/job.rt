@@ -36,6 +36,7 @@ fn body_of(request: Request) -> RequestBody
             let list = [(inode, count)];
             RequestBody::Forget(Forget { list, at })
         }
+        _ => RequestBody::Root(Root::Begin),
     }
 }
 

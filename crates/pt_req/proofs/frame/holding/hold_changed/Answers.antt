@@ -8,4 +8,4 @@ returns-in-Insert-Inserted-clause-held c =
 pub returns-in-InsertRoot-Inserted-clause-held : goal.returns-in-InsertRoot-Inserted-clause-held
 returns-in-InsertRoot-Inserted-clause-held c =
     let arm = c.in-InsertRoot-Inserted in
-    rw (arm.is-0, arm.is-1) (c.root_taken.ensures.held arm.era-0 0 arm.mode-0 arm.form-0.now arm.ids-0 arm.negotiated-0)
+    rw (arm.is-0, arm.is-1) (c.fd_taken.ensures.root arm.era-0 0 arm.mode-0 arm.form-0.now arm.ids-0 arm.negotiated-0)
