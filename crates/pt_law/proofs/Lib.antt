@@ -19,7 +19,6 @@ pub mod Numbers
 pub mod Givings
 pub mod Knowing
 pub mod Events
-pub mod Eras
 pub mod Calls
 pub mod Steps
 pub mod Interleaving

@@ -32,7 +32,6 @@ use Rattle.pt_law.proofs.Balance.{moved}
 use Rattle.pt_law.proofs.Holding.{handed, in_tree}
 use Rattle.pt_law.proofs.Counting.{Books, keeps_books, honest, part}
 use Rattle.pt_law.proofs.Numbers.{Numbers, keeps_numbers}
-use Rattle.pt_law.proofs.Eras.{Dated, keeps_eras}
 use Rattle.pt_law.proofs.Knowing.{Knowing}
 use Rattle.pt_law.proofs.Events.{grows, rows_event, knows_event, knows_other}
 use Rattle.pt_law.proofs.Calls.{Right, keeps_call}
@@ -43,7 +42,6 @@ pub record Tabled (bound : ℕ) (had : ℕ → ℕ) (t : Tables) (js : ℕ → J
   pub agree : Agree t
   pub books : Books bound t js
   pub numbers : Numbers bound had t js
-  pub dated : (j : ℕ) → j < bound → Dated t.era (js j)
 
 -- and of a host that tells its tree; `base` says what was open before the first step
 pub record Inv (bound : ℕ) (base had : ℕ → ℕ) (w : World) (js : ℕ → Job) : Type 0 where
@@ -68,7 +66,6 @@ recount bound had had' t js e v = record {
     fresh = λ n l. let a = v.numbers.fresh n l in let b = e n in omega (arith, a, b);
     second = v.numbers.second;
   };
-  dated = v.dated;
 }
 
 pub keeps_tabled : (bound : ℕ) (had : ℕ → ℕ) (t : Tables) (js : ℕ → Job) (j : ℕ) (deed : Option Deed) (told : ActReply) (t' : Tables) (after : Job) → j < bound → Tabled bound had t js → TablesGo t deed told t' →
@@ -78,7 +75,6 @@ keeps_tabled bound had t js j (Some deed) told t' after lt v g m = record {
   agree = agree_step t (Some deed) told t' g v.agree;
   books = keeps_books bound t js j deed told t' after lt v.agree v.books g m;
   numbers = keeps_numbers bound had t js j deed told t' after lt v.agree v.numbers g m;
-  dated = keeps_eras bound t js j deed told t' after lt v.agree v.dated g m;
 }
 
 -- the slots that a step moves are told by its reply
@@ -92,6 +88,7 @@ event_flows t change.GiveFd event.Given t' h a = (refl, refl)
 event_flows t change.GiveFd (event.Refused why) t' h a = absurd a
 event_flows t (change.Insert era number form ids mode) (event.Inserted given) t' h a = (refl, refl)
 event_flows t (change.InsertRoot era form ids mode negotiated) (event.Inserted given) t' h a = (refl, refl)
+event_flows t (change.InsertHandle era handle number fd) (event.Inserted given) t' h a = (refl, refl)
 event_flows t change.TakeClosing (event.Closing fd slot) t' h a = (refl, refl)
 event_flows t change.GiveFd _ t' h a = absurd h
 event_flows t _ event.Taken t' h a = absurd h
@@ -119,6 +116,7 @@ turned does _ _ from seat t to seat' t' h = absurd h
 no_bytes : (a : Call) (r : HostReply) (before after : ℕ) → ReplyHoldsBytes r → IsAllowed before a r after → ⊥
 no_bytes (call.OpenRoot path flags) (host.Ok (value.Bytes bytes)) before after h f = f
 no_bytes (call.OpenAt dir name flags mode) (host.Ok (value.Bytes bytes)) before after h f = f
+no_bytes (call.Reopen fd flags) (host.Ok (value.Bytes bytes)) before after h f = f
 no_bytes (call.Stat fd) (host.Ok (value.Bytes bytes)) before after h f = f
 no_bytes (call.Close fd) (host.Ok (value.Bytes bytes)) before after h f = f
 no_bytes _ _ before after h f = absurd h
@@ -134,6 +132,8 @@ at_most_one fd tree = go (tree.opened fd)
 closed_held : (job : Job) (a : Call) (told : ActReply) (after : Job) → MovesBy job (Calls a) told after → (f : ℕ) → 0 < fd_ended f (Calls a) told → 0 < total (fd_held f) job.holds
 closed_held job (call.OpenRoot path flags) told after m f l = absurd (omega arith)
 closed_held job (call.OpenAt dir name flags mode) told after m f l = absurd (omega arith)
+closed_held job (call.Reopen fd flags) told after m f l = absurd (omega arith)
+closed_held job (call.ReadAt fd offset size) told after m f l = absurd (omega arith)
 closed_held job (call.Stat fd) told after m f l = absurd (omega arith)
 closed_held job (call.Close fd) told after m f l = let a = total_takes (fd_held f) m.0.1 in omega (arith, a, l)
 

@@ -26,7 +26,7 @@ use pt_host::Host;
 pub fn every_run()
     ensures cut { (turns more : List Turn) (start end : Tables) → TablesRun start (turns ++ more) end → ((now : Tables) × TablesRun start turns now × TablesRun now more end) }
     ensures agree { (limit : ℕ) (turns : List Turn) (now : Tables) → TablesRun (empty_tables limit) turns now → Agree now }
-    ensures era { (limit : ℕ) (turns : List Turn) (now : Tables) → TablesRun (empty_tables limit) turns now → now.era ≡ 0 }
+    ensures era { (turns : List Turn) (start now : Tables) → TablesRun start turns now → start.era ≤ now.era }
     ensures counts { (limit : ℕ) (turns : List Turn) (now : Tables) (number : ℕ) → TablesRun (empty_tables limit) turns now → IsCounted now number (given number turns) }
     ensures once { (limit bound : ℕ) (turns more : List Turn) (now : Tables) (number : ℕ) →
         AreDisciplined bound (turns ++ more) → TablesRun (empty_tables limit) turns now → number ≢ 1 → inserted number turns ≤ 1 }
