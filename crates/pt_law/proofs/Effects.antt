@@ -6,7 +6,8 @@ use Rattle.pt_session.specs.Change.{Change}
 use Rattle.pt_session.specs.Tables.{Tables, closing_of, Agree}
 use Rattle.pt_session.specs.declared.row.Row.{Row}
 use Rattle.pt_session.specs.declared.row.HandleRow.{HandleRow}
-use Rattle.pt_session.specs.Happens.{Happens, Changes, Ends, Dies, ForgetsOne, ForgetsAll, Unpins, GivesAgain, HandleDies, UnpinsHandle, NumbersDie, NumbersDie.{none as no_number, next as next_number}, HandlesDie, HandlesDie.{none as no_handle, next as next_handle}, Clears}
+use Rattle.pt_session.specs.Happens.{Happens, Changes, Ends, Dies, ForgetsOne, ForgetsAll, Unpins, GivesAgain, ChangesHandle, EndsHandle, HandleDies, UnpinsHandle, NumbersDie, NumbersDie.{none as no_number, next as next_number}, HandlesDie, HandlesDie.{none as no_handle, next as next_handle}, Clears}
+use Rattle.pt_session.specs.Store.{IsLaterHandle}
 use Rattle.pt_session.specs.Effect.{Effect, Effect.{nothing as unchanged, counted, changed as row_changed, ended as row_ended, added, drawn, handle_changed, handle_ended, handle_added, begun, shut}, Effects, Effects.{none, more}}
 use Rattle.pt_session.specs.declared.event.KeptEvent.TheVariants as change
 use Rattle.pt_session.specs.declared.reply.EventRefusal.TheVariants.{NotLive, Overtaken, NoSlot, Last, Live, Memory}
@@ -23,10 +24,13 @@ pub record Later (row later : Row) : Type 0 where
   pub ids : later.ids ≡ row.ids
   pub live : later.live ≡ true → row.live ≡ true
 
--- no row comes: what an event does that inserts none
+-- no row of a number or a handle comes: what an event does that inserts none
 pub data Kept : Tables → Tables → Type 0 where
   nothing : {tables after : Tables} → after ≡ tables → Kept tables after
-  other : {tables after : Tables} → after.rows ≡ tables.rows → Kept tables after
+  other : {tables after : Tables} → after.rows ≡ tables.rows → after.handles ≡ tables.handles → Kept tables after
+  handled : {tables after : Tables} (was now : HandleRow) (handles : List HandleRow) → Replaces was now tables.handles handles → IsLaterHandle was now →
+      after ≡ record tables { handles = handles } → Kept tables after
+  handle_gone : {tables after : Tables} (row : HandleRow) (handles : List HandleRow) → Takes row tables.handles handles → after.rows ≡ tables.rows → after.handles ≡ handles → Kept tables after
   changed : {tables after : Tables} (row later : Row) (rows : List Row) → Replaces row later tables.rows rows → Later row later → after ≡ record tables { rows = rows } → Kept tables after
   ended : {tables after : Tables} (row : Row) (rows : List Row) → Takes row tables.rows rows →
       after ≡ record tables { rows = rows; closing = tables.closing ++ closing_of row ∷ [] } → Kept tables after
@@ -72,13 +76,19 @@ given_again : (t : Tables) (ids : ObjIds) (number : ℕ) (after : Tables) → Gi
 given_again t ids number after h = recounted t h.0 (h.0.count + 1) after h.4
 
 -- handles are no rows of numbers
+handle_ends : (t : Tables) (row : HandleRow) (after : Tables) → EndsHandle t row after → Kept t after
+handle_ends t row after h = handle_gone row h.0 h.1 (ap (λ (z : Tables). z.rows) h.2) (ap (λ (z : Tables). z.handles) h.2)
+
+handle_repinned : (t : Tables) (row : HandleRow) (pins : ℕ) (after : Tables) → ChangesHandle t row (record row { pins = pins }) after → Kept t after
+handle_repinned t row pins after h = handled row _ h.0 h.1 (record { serial = refl; handle = refl; number = refl; fd = refl; live = λ l. l }) h.2
+
 handle_dies : (t : Tables) (row : HandleRow) (n : ℕ) (after : Tables) → HandleDies t row n after → Kept t after
-handle_dies t row n after (inl h) = other (ap (λ (z : Tables). z.rows) h.2.2)
-handle_dies t row n after (inr h) = other (ap (λ (z : Tables). z.rows) h.2.2)
+handle_dies t row n after (inl h) = handle_ends t row after h.2
+handle_dies t row n after (inr h) = handled row _ h.2.0 h.2.1 (record { serial = refl; handle = refl; number = refl; fd = refl; live = λ l. absurd (cc) }) h.2.2
 
 unpins_handle : (t : Tables) (serial n : ℕ) (after : Tables) → UnpinsHandle t serial n after → Kept t after
-unpins_handle t serial n after (row, pins, s, p, inl h) = other (ap (λ (z : Tables). z.rows) h.3.2)
-unpins_handle t serial n after (row, pins, s, p, inr h) = other (ap (λ (z : Tables). z.rows) h.2.2)
+unpins_handle t serial n after (row, pins, s, p, inl h) = handle_ends t row after h.3
+unpins_handle t serial n after (row, pins, s, p, inr h) = handle_repinned t row pins after h.2
 
 numbers_die : (t : Tables) (n : ℕ) (after : Tables) → NumbersDie t n after → Kept t after
 numbers_die t n after (no_number h) = nothing refl
@@ -89,12 +99,13 @@ handles_die t n after (no_handle h) = nothing refl
 handles_die t n after (next_handle {mid = mid} {one = one} {more = rest} row l least d k) = both (handle_dies t row one mid d) (handles_die mid rest after k)
 
 clears : (t : Tables) (era n : ℕ) (after : Tables) → Clears t era n after → Kept t after
-clears t era n after h = both (numbers_die t h.2 h.0 h.4) (both (handles_die h.0 h.3 h.1 h.5) (other (ap (λ (z : Tables). z.rows) h.8)))
+clears t era n after h = both (numbers_die t h.2 h.0 h.4) (both (handles_die h.0 h.3 h.1 h.5) (other (ap (λ (z : Tables). z.rows) h.8) (ap (λ (z : Tables). z.handles) h.8)))
 
--- the event inserts no row of a number
+-- the event inserts no row
 abbrev pub KeepsRows : Change → EventReply → Type 0
 KeepsRows (change.Insert era number form ids mode) (reply.Inserted given) = ⊥
 KeepsRows (change.InsertRoot era form ids mode negotiated) (reply.Inserted given) = ⊥
+KeepsRows (change.InsertHandle era handle number fd) (reply.Inserted given) = ⊥
 KeepsRows asked told = Unit {0}
 
 pub kept : (t : Tables) (e : Change) (r : EventReply) (after : Tables) → KeepsRows e r → Happens t e r after → Kept t after
@@ -109,11 +120,11 @@ kept t (change.Claim era handle ids) (reply.Claimed number) after k h = given_ag
 kept t (change.Claim era handle ids) reply.Absent after k h = nothing h.2
 kept t (change.Claim era handle ids) (reply.Refused Overtaken) after k h = nothing h.1
 kept t (change.Claim era handle ids) (reply.Refused Last) after k h = nothing h.2
-kept t change.TakeFd reply.Taken after k h = other (ap (λ (z : Tables). z.rows) h.2)
+kept t change.TakeFd reply.Taken after k h = other (ap (λ (z : Tables). z.rows) h.2) (ap (λ (z : Tables). z.handles) h.2)
 kept t change.TakeFd (reply.Refused NoSlot) after k h = nothing h.1
-kept t change.GiveFd reply.Given after k h = other (ap (λ (z : Tables). z.rows) h.1)
+kept t change.GiveFd reply.Given after k h = other (ap (λ (z : Tables). z.rows) h.1) (ap (λ (z : Tables). z.handles) h.1)
 kept t change.GiveFd (reply.Refused NotLive) after k h = nothing h.1
-kept t change.DrawNode (reply.Drawn number) after k h = other (ap (λ (z : Tables). z.rows) h.2)
+kept t change.DrawNode (reply.Drawn number) after k h = other (ap (λ (z : Tables). z.rows) h.2) (ap (λ (z : Tables). z.handles) h.2)
 kept t change.DrawNode (reply.Refused Last) after k h = nothing h.1
 kept t (change.Insert era number form ids mode) (reply.Inserted given) after k h = absurd k
 kept t (change.Insert era number form ids mode) (reply.Found given) after k h = given_again t ids given after h.1
@@ -130,16 +141,16 @@ kept t (change.Forget list) (reply.Done closings) after k h = forgets_all t list
 kept t (change.GiveBack era number) (reply.Done closings) after k h = forgets_one t number 1 closings after h.2
 kept t (change.GiveBack era number) (reply.Refused Overtaken) after k h = nothing h.1
 kept t (change.GiveBack era number) (reply.Refused NotLive) after k h = nothing h.2
-kept t change.TakeClosing (reply.Closing fd slot) after k h = other (ap (λ (z : Tables). z.rows) h.2)
+kept t change.TakeClosing (reply.Closing fd slot) after k h = other (ap (λ (z : Tables). z.rows) h.2) (ap (λ (z : Tables). z.handles) h.2)
 kept t change.TakeClosing (reply.Refused NotLive) after k h = nothing h.1
-kept t change.DrawHandle (reply.Drawn handle) after k h = other (ap (λ (z : Tables). z.rows) h.2)
+kept t change.DrawHandle (reply.Drawn handle) after k h = other (ap (λ (z : Tables). z.rows) h.2) (ap (λ (z : Tables). z.handles) h.2)
 kept t change.DrawHandle (reply.Refused Last) after k h = nothing h.1
-kept t (change.InsertHandle era handle number fd) (reply.Inserted given) after k h = other (ap (λ (z : Tables). z.rows) h.4)
+kept t (change.InsertHandle era handle number fd) (reply.Inserted given) after k h = absurd k
 kept t (change.InsertHandle era handle number fd) (reply.Refused Overtaken) after k h = nothing h.1
 kept t (change.InsertHandle era handle number fd) (reply.Refused Live) after k h = nothing h.2
 kept t (change.InsertHandle era handle number fd) (reply.Refused Last) after k h = nothing h.3
 kept t (change.InsertHandle era handle number fd) (reply.Refused Memory) after k h = nothing h.3
-kept t (change.PinHandle handle number) (reply.Pinned serial fd) after k h = other (ap (λ (z : Tables). z.rows) h.5.2)
+kept t (change.PinHandle handle number) (reply.Pinned serial fd) after k h = handle_repinned t h.0 (h.0.pins + 1) after h.5
 kept t (change.PinHandle handle number) (reply.Refused NotLive) after k h = nothing h.1
 kept t (change.PinHandle handle number) (reply.Refused Last) after k h = nothing h.4
 kept t (change.UnpinHandle serial) (reply.Done closings) after k h = unpins_handle t serial closings after h
@@ -197,7 +208,18 @@ stays t e r after h = stays_effects (effects t after e r h)
 -- what holds of each row, and stays with it, holds after
 pub rows_kept : (P : Row → Type 0) {t after : Tables} → ((row later : Row) → Later row later → P row → P later) → Kept t after → Each P t.rows → Each P after.rows
 rows_kept P f (nothing e) h = rw e h
-rows_kept P f (other e) h = rw e h
+rows_kept P f (other e g) h = rw e h
+rows_kept P f (handled was now handles c l e) h = rw e h
+rows_kept P f (handle_gone row handles c e g) h = rw e h
 rows_kept P f (changed row later rows c l e) h = rw e (each_replaces P c (f row later l) h)
 rows_kept P f (ended row rows c e) h = rw e (each_takes P c h)
 rows_kept P f (both k l) h = rows_kept P f l (rows_kept P f k h)
+
+pub handles_kept : (P : HandleRow → Type 0) {t after : Tables} → ((was now : HandleRow) → IsLaterHandle was now → P was → P now) → Kept t after → Each P t.handles → Each P after.handles
+handles_kept P f (nothing e) h = rw e h
+handles_kept P f (other e g) h = rw g h
+handles_kept P f (changed row later rows c l e) h = rw e h
+handles_kept P f (ended row rows c e) h = rw e h
+handles_kept P f (handled was now handles c l e) h = rw e (each_replaces P c (f was now l) h)
+handles_kept P f (handle_gone row handles c e g) h = rw g (each_takes P c h)
+handles_kept P f (both k l) h = handles_kept P f l (handles_kept P f k h)

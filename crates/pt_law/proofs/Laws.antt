@@ -6,7 +6,7 @@ use Rattle.pt_host.specs.Tree.{Tree, IsWellFormed}
 use Rattle.pt_session.specs.Tables.{Tables, Agree, AreApart, IsSoundRow, IsSoundHandle, HasNumber, empty_tables}
 use Rattle.pt_session.specs.declared.row.Row.{Row}
 use Rattle.pt_session.specs.declared.row.HandleRow.{HandleRow}
-use Rattle.pt_session.specs.Happens.{IsRow}
+use Rattle.pt_session.specs.Happens.{IsRow, IsHandleRow}
 use Rattle.pt_req.specs.Deed.{Deed, Calls, Changes, Step}
 use Rattle.pt_req.specs.Held.{fd_of}
 use Rattle.pt_req.specs.declared.finish.Finish.{Finish}
@@ -17,7 +17,7 @@ use Rattle.pt_req.specs.declared.hold.Hold.TheVariants as hold
 use Rattle.pt_law.specs.Discipline.{Job, idle, at_job, Moves, Disciplined, entry_holds}
 use Rattle.pt_law.specs.World.{World, Turn, TablesGo, Runs, TablesRun, steps_of, no_past}
 use Rattle.pt_law.specs.Ledger.{closing_slot, slot_taken, slot_given_by, slots_taken, slots_given, carried, closing_fd, fd_held, held_by, open_count, given, inserted}
-use Rattle.pt_law.specs.Laws.{AreDisciplined, AreEnded, Starts, AreDistinct, HasObject, IsCounted, SlotsAddUp, AreKept, IsAtRest, LeavesRows}
+use Rattle.pt_law.specs.Laws.{Serves, AreDisciplined, AreEnded, Starts, AreDistinct, HasObject, IsCounted, SlotsAddUp, AreKept, IsAtRest, LeavesRows}
 use Rattle.pt_req.specs.declared.act.ActReply.{ActReply}
 use Rattle.pt_req.specs.declared.act.ActReply.TheVariants.{Event}
 use Rattle.pt_law.proofs.Flows.{slot_held, pin_held, handle_pin_held, row_pins, handle_pins, called, unmade}
@@ -25,7 +25,7 @@ use Rattle.pt_law.proofs.Lists.{total_takes, each_front, each_taken, each_both, 
 use Rattle.pt_law.proofs.Effects.{Stays, stays, stays_same, stays_on}
 use Rattle.pt_law.proofs.Holding.{handed}
 use Rattle.pt_law.proofs.Givings.{count_in, live_count, in_live, only_taken, agree_step, counts_run}
-use Rattle.pt_law.proofs.Knowing.{Shows, RowOpen, one_ids}
+use Rattle.pt_law.proofs.Knowing.{Shows, RowOpen, HandleOpen, one_ids}
 use Rattle.pt_law.proofs.Steps.{Tabled, Inv, HasFlows, recount}
 use Rattle.pt_law.proofs.Interleaving.{steps_append, disciplined_split, choose, tables_keep, runs_keep}
 
@@ -53,7 +53,16 @@ begins_at limit bound tree well = record {
   fds = λ fd. let a = held_nobody bound (fd_held fd) (λ j. idle) (λ j l. refl) in omega (arith, a);
   right = record {
     shown = tt;
-    knows = λ j l. record { told = tt; pins = tt; latest = λ fd e. absurd (cc); root = λ fd e. absurd (cc); unrooted = λ e. refl };
+    handled = tt;
+    knows = λ j l. record {
+      told = tt;
+      pins = tt;
+      latest = λ fd e. absurd (cc);
+      root = λ fd e. absurd (cc);
+      unrooted = λ e. refl;
+      resolved = λ was e. absurd (cc);
+      reopened = λ fd e. absurd (cc);
+    };
   };
 }
 
@@ -233,6 +242,13 @@ kept_law limit bound turns more start now s a r =
       held = λ j l. (v.2 j l).0;
       all = v.1.fds;
     }
+
+-- each handle's descriptor is open on the object that its number had when it was resolved for the opening
+pub handles_law : (limit bound : ℕ) (turns more : List Turn) (start now : World) (row : HandleRow) → Starts limit start → AreDisciplined bound (turns ++ more) → Runs start turns now → IsHandleRow now.tables row → Serves now row
+handles_law limit bound turns more start now row s a r h =
+    let v = reach limit bound turns more start now s a r in
+    let o = each_taken (HandleOpen now.tree now.past) h.1 v.1.right.handled in
+    (o.object, o.placed, o.open_on)
 
 -- at the end
 all_unpinned : (rows : List Row) → ((serial : ℕ) → total (row_pins serial) rows ≡ 0) → Each (λ row. row.pins ≡ 0) rows

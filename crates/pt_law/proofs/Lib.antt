@@ -20,6 +20,7 @@ pub mod Givings
 pub mod Knowing
 pub mod Events
 pub mod Calls
+pub mod PinnedRows
 pub mod Steps
 pub mod Interleaving
 pub mod Laws

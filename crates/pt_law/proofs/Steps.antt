@@ -5,7 +5,8 @@ use Rattle.pt_host.specs.Words.{total, set_at}
 use Rattle.pt_host.specs.Call.{Call}
 use Rattle.pt_host.specs.Reply.{ReplyHoldsBytes}
 use Rattle.pt_host.specs.Promises.{IsAllowed}
-use Rattle.pt_host.specs.Tree.{Tree, IsWellFormed}
+use Rattle.pt_host.specs.Tree.{Tree, IsOpenOn, IsWellFormed}
+use Rattle.pt_host.specs.declared.flags.OpenFlags.{OpenFlags}
 use Rattle.pt_host.specs.LawfulStep.{LawfulStep, Changes as TreeChanges}
 use Rattle.pt_host.specs.declared.ids.Fd.{Fd}
 use Rattle.pt_host.specs.declared.seat.HostSeat.{HostSeat}
@@ -32,9 +33,10 @@ use Rattle.pt_law.proofs.Balance.{moved}
 use Rattle.pt_law.proofs.Holding.{handed, in_tree}
 use Rattle.pt_law.proofs.Counting.{Books, keeps_books, honest, part}
 use Rattle.pt_law.proofs.Numbers.{Numbers, keeps_numbers}
-use Rattle.pt_law.proofs.Knowing.{Knowing}
-use Rattle.pt_law.proofs.Events.{grows, rows_event, knows_event, knows_other}
+use Rattle.pt_law.proofs.Knowing.{Knowing, one_object}
+use Rattle.pt_law.proofs.Events.{grows, rows_event, handles_event, knows_event, knows_other, resolved_other}
 use Rattle.pt_law.proofs.Calls.{Right, keeps_call}
+use Rattle.pt_law.proofs.PinnedRows.{pinned_row}
 use Rattle.pt_law.proofs.Givings.{agree_step}
 
 -- what holds of the tables, whatever host there is; `had` says how often each number was inserted
@@ -48,7 +50,7 @@ pub record Inv (bound : ℕ) (base had : ℕ → ℕ) (w : World) (js : ℕ → 
   pub tabled : Tabled bound had w.tables js
   pub well : IsWellFormed w.tree
   pub fds : (fd : ℕ) → open_count fd w.tree ≡ kept_fds fd w.tables + held_by bound (fd_held fd) js + base fd
-  pub right : Right bound w.tree w.tables.next_row w.past w.tables.rows js
+  pub right : Right bound w.tree w.tables.next_row w.past w.tables.rows w.tables.handles js
 
 pub set_self : {X : Type 0} (f : ℕ → X) (j : ℕ) (x : X) → x ≡ f j → set_at j x f ≡ f
 set_self f j x e = λ i k. at k i
@@ -154,10 +156,11 @@ keeps_event bound base had w js j e r t' after lt v h m =
           let s = sum_to_set (λ (k : Job). total (fd_held fd) k.holds) js j after bound lt in
           omega (arith, x, y, z, s);
       right = record {
+        handled = handles_event w.tree w.past w.tables j (js j) after e r t' a h m (v.right.knows j lt) v.right.handled;
         shown = rows_event w.tree w.past w.tables j (js j) after e r t' a h m (v.right.knows j lt) v.right.shown;
         knows = λ i less. at_each (Knowing w.tree t'.next_row later) js j after i
-            (knows_event w.tree w.past w.tables j (js j) after e r t' a h m v.right.shown (v.right.knows j lt))
-            (λ _. knows_other w.tree w.past later w.tables.next_row t'.next_row i (js i) g (v.right.knows i less));
+            (knows_event w.tree w.past w.tables j (js j) after e r t' a h m v.right.shown v.right.handled (v.right.knows j lt))
+            (λ other. knows_other w.tree w.past later w.tables.next_row t'.next_row i (js i) g (resolved_other w.past j e r w.tables.next_row w.tree i other) (v.right.knows i less));
       };
     }
 
@@ -176,13 +179,20 @@ keeps_host bound base had w js j a r seat seat' tree' after lt v l m =
       tabled = keeps_tabled bound had w.tables js j (Some (Calls a)) (Host r) w.tables after lt v.tabled refl m;
       well = l.well_formed v.well;
       fds = fds;
-      right = keeps_call bound w.tree w.tables.next_row w.past w.tables.rows js j after a r tree' lt v.right l.changes m
+      right = keeps_call bound w.tree w.tables.next_row w.past w.tables.rows w.tables.handles js j after a r tree' lt v.right l.changes m
+          (λ f flags object e open. judged f flags object open (subst (λ c. MovesBy (js j) (Calls c) (Host r) after) e m))
           (λ f e.
           let n : open_count f.0 tree' ≡ 0 = closed_none w.tree tree' a f r e l.changes in
           let x = fds f.0 in
-          (omega (arith, n, x), (λ i less. let y = part (fd_held f.0) (set_at j after js) bound i less in omega (arith, n, x, y))));
+          (omega (arith, n, x), omega (arith, n, x), (λ i less. let y = part (fd_held f.0) (set_at j after js) bound i less in omega (arith, n, x, y))));
     }
   where
+    judged : (f : Fd) (flags : OpenFlags) (object : ℕ) → IsOpenOn w.tree f object → MovesBy (js j) (Calls (call.Reopen f flags)) (Host r) after → w.past.resolved j ≡ Some object
+    judged f flags object open m =
+        let fit = m.1 in
+        let p = pinned_row bound w.tree w.tables w.past js j fit.0.row f lt v.tabled.books v.right fit.3 in
+        sym ((v.right.knows j lt).resolved fit.0 fit.2).1 ∙ p.2 ∙ ap Some (one_object w.tree f p.0 object p.1 open)
+
     closed_none : (tree tree' : Tree) (a : Call) (f : Fd) (r : HostReply) → a ≡ call.Close f → TreeChanges tree a r tree' → open_count f.0 tree' ≡ 0
     closed_none tree tree' a f r e h = let l : TreeChanges tree (call.Close f) r tree' = subst (λ c. TreeChanges tree c r tree') e h in none tree tree' f r l
       where

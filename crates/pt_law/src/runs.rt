@@ -4,7 +4,8 @@
 ghost use Rattle.std.specs.Prelude.{◌≡◌, ◌≢◌, ◌<◌, ◌≤◌, ℕ, List, ◌++◌, ◌∷◌, true, Some};
 ghost use Rattle.pt_session.specs.Tables.{Tables, Agree, empty_tables};
 ghost use Rattle.pt_session.specs.declared.row.Row.{Row};
-ghost use Rattle.pt_session.specs.Happens.{IsRow};
+ghost use Rattle.pt_session.specs.declared.row.HandleRow.{HandleRow};
+ghost use Rattle.pt_session.specs.Happens.{IsRow, IsHandleRow};
 ghost use Rattle.pt_iface.specs.declared.answer.Answer.TheVariants as answer;
 ghost use Rattle.pt_iface.specs.declared.entry.Entry.{Entry};
 ghost use Rattle.pt_iface.specs.declared.request.Request.{Request};
@@ -17,7 +18,7 @@ ghost use Rattle.pt_req.specs.declared.plan.Plan.{Plan};
 ghost use Rattle.pt_law.specs.Told.{AllMayBeTold};
 ghost use Rattle.pt_law.specs.World.{World, Turn, Runs, HostRuns, TablesGo, TablesRun, steps_of};
 ghost use Rattle.pt_law.specs.Ledger.{given, inserted};
-ghost use Rattle.pt_law.specs.Laws.{AreDisciplined, AreEnded, AreAnswered, Starts, AreDistinct, HasObject, IsCounted, SlotsAddUp, AreKept, NamesOpen, IsHonoured, IsAtRest, LeavesRows};
+ghost use Rattle.pt_law.specs.Laws.{AreDisciplined, AreEnded, AreAnswered, Starts, AreDistinct, HasObject, Serves, IsCounted, SlotsAddUp, AreKept, NamesOpen, IsHonoured, IsAtRest, LeavesRows};
 ghost use Rattle.pt_law.specs.Entered.{IsEntered};
 
 use pt_host::Host;
@@ -49,6 +50,8 @@ pub fn every_told_run()
         Starts limit start → AreDisciplined bound (turns ++ more) → Runs start turns now → AreDistinct now }
     ensures objects { (limit bound : ℕ) (turns more : List Turn) (start now : World) (row : Row) →
         Starts limit start → AreDisciplined bound (turns ++ more) → Runs start turns now → IsRow now.tables row → row.live ≡ true → HasObject now row }
+    ensures handles { (limit bound : ℕ) (turns more : List Turn) (start now : World) (row : HandleRow) →
+        Starts limit start → AreDisciplined bound (turns ++ more) → Runs start turns now → IsHandleRow now.tables row → Serves now row }
     ensures descriptors { (limit bound : ℕ) (turns more : List Turn) (start now : World) →
         Starts limit start → AreDisciplined bound (turns ++ more) → Runs start turns now → AreKept start bound turns now }
     ensures named { (limit bound : ℕ) (turns : List Turn) (turn : Turn) (more : List Turn) (start now : World) →
