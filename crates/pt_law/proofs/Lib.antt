@@ -24,6 +24,7 @@ pub mod PinnedRows
 pub mod Steps
 pub mod Interleaving
 pub mod Laws
+pub mod Standing
 pub mod Pinned
 pub mod Next
 pub mod Straight
