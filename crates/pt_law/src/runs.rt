@@ -17,8 +17,8 @@ ghost use Rattle.pt_req.specs.declared.finish.Finish.TheVariants as finish;
 ghost use Rattle.pt_req.specs.declared.plan.Plan.{Plan};
 ghost use Rattle.pt_law.specs.Told.{AllMayBeTold};
 ghost use Rattle.pt_law.specs.World.{World, Turn, Runs, HostRuns, TablesGo, TablesRun, steps_of};
-ghost use Rattle.pt_law.specs.Ledger.{given, inserted};
-ghost use Rattle.pt_law.specs.Laws.{AreDisciplined, AreEnded, AreAnswered, Starts, AreDistinct, HasObject, Serves, IsCounted, SlotsAddUp, AreKept, NamesOpen, IsHonoured, IsAtRest, LeavesRows};
+ghost use Rattle.pt_law.specs.Ledger.{given, inserted, standing};
+ghost use Rattle.pt_law.specs.Laws.{AreDisciplined, AreEnded, AreAnswered, Starts, AreDistinct, HasObject, Serves, IsCounted, IsStanding, SlotsAddUp, AreKept, NamesOpen, IsHonoured, IsAtRest, LeavesRows};
 ghost use Rattle.pt_law.specs.Entered.{IsEntered};
 
 use pt_host::Host;
@@ -29,6 +29,7 @@ pub fn every_run()
     ensures agree { (limit : ℕ) (turns : List Turn) (now : Tables) → TablesRun (empty_tables limit) turns now → Agree now }
     ensures era { (turns : List Turn) (start now : Tables) → TablesRun start turns now → start.era ≤ now.era }
     ensures counts { (limit : ℕ) (turns : List Turn) (now : Tables) (number : ℕ) → TablesRun (empty_tables limit) turns now → IsCounted now number (given number turns) }
+    ensures standing { (limit : ℕ) (turns : List Turn) (now : Tables) (handle : ℕ) → TablesRun (empty_tables limit) turns now → IsStanding now handle (standing handle turns) }
     ensures once { (limit bound : ℕ) (turns more : List Turn) (now : Tables) (number : ℕ) →
         AreDisciplined bound (turns ++ more) → TablesRun (empty_tables limit) turns now → number ≢ 1 → inserted number turns ≤ 1 }
     ensures slots { (limit bound : ℕ) (turns more : List Turn) (now : Tables) →
