@@ -9,6 +9,7 @@ use Rattle.pt_main.specs.Line.{line_of}
 use Rattle.pt_main.specs.declared.line.Line.{Line}
 use Rattle.pt_main.specs.declared.line.Line.TheVariants.{Set, Tree, Job, End}
 use Rattle.pt_main.specs.declared.settings.Settings.{Settings}
+use Rattle.pt_main.specs.declared.line.ScriptJob.{ScriptJob}
 
 abbrev fold_on : Option Begun → (Begun → Option Begun) → Option Begun
 fold_on None next = None
@@ -77,10 +78,6 @@ and_true : (a b : Bool) → (a && b) ≡ true → (a ≡ true) × (b ≡ true)
 and_true true b both = (refl, both)
 and_true false b both = cc
 
-not_true : (a : Bool) → not a ≡ true → a ≡ false
-not_true true is = cc
-not_true false is = refl
-
 is_empty-push : (xs : List TreeLine) (y : TreeLine) → is_empty (xs ++ y ∷ []) ≡ false
 is_empty-push [] y = refl
 is_empty-push (x ∷ xs) y = refl
@@ -98,16 +95,16 @@ only_sets begun after text start is = go (line_of text) is
   where
     at : (line : Line) → may_stand begun line ≡ true → OnlySets (added begun line)
     at (Set setting) may = start
-    at (Tree y) may = λ e. cc (sym (is_empty-push begun.tree y) ∙ e)
+    at (Tree y) may = λ e. absurd (cc (sym (is_empty-push begun.tree y) ∙ e))
     at (Job job) may = λ e. absurd (no_clash (is_empty begun.tree) (and_true (not (is_empty begun.tree)) _ (and_true (not begun.ended) _ may).1).0 e)
     at End may = λ e. absurd (no_clash (is_empty begun.tree) (and_true (not begun.ended) _ may).1 e)
 
     stands : (line : Line) (b : Bool) → (may_stand begun line && keeps_tree begun line) ≡ b → cond b (Some (added begun line)) None ≡ Some after → OnlySets after
     stands line true e is = let same : added begun line ≡ after = cc in subst OnlySets same (at line (and_true (may_stand begun line) _ e).0)
-    stands line false e is = cc
+    stands line false e is = let never : ⊥ = cc in absurd never
 
     go : (o : Option Line) → option_and_then (with_line begun) o ≡ Some after → OnlySets after
-    go None e = cc
+    go None e = let never : ⊥ = cc in absurd never
     go (Some line) e = stands line (may_stand begun line && keeps_tree begun line) refl e
 
 fold-only_sets : (texts : List (List ℕ)) (begun after : Begun) → OnlySets begun → fold begun texts ≡ Some after → OnlySets after
@@ -115,7 +112,7 @@ fold-only_sets [] begun after start is = let same : begun ≡ after = cc in subs
 fold-only_sets (text ∷ texts) begun after start is = go (λ b s. fold-only_sets texts b after s) (with_text begun text) refl is
   where
     go : ((b : Begun) → OnlySets b → fold b texts ≡ Some after → OnlySets after) → (o : Option Begun) → with_text begun text ≡ o → fold_on o (λ b. fold b texts) ≡ Some after → OnlySets after
-    go below None e is = cc
+    go below None e is = let never : ⊥ = cc in absurd never
     go below (Some b) e is = below b (only_sets begun b text start e) is
 
 open_end : (a b : Bool) → a ≡ false → b ≡ false → (not a && not b) ≡ true
@@ -123,11 +120,16 @@ open_end false false e f = refl
 open_end true b e f = cc
 open_end false true e f = cc
 
+abbrev begun_of : Settings → List TreeLine → List ScriptJob → Bool → Begun
+begun_of settings tree jobs ended = record { settings = settings; tree = tree; jobs = jobs; ended = ended }
+
 abbrev settings_alone : Settings → Begun
-settings_alone settings = record { settings = settings; tree = []; jobs = []; ended = false }
+settings_alone settings = begun_of settings [] [] false
 
 same_begun : (begun : Begun) → begun.tree ≡ [] → begun.jobs ≡ [] → begun.ended ≡ false → settings_alone begun.settings ≡ begun
-same_begun begun tree jobs ended = cc
+same_begun begun tree jobs ended =
+    ap (λ (lines : List TreeLine). begun_of begun.settings lines [] false) (sym tree) ∙ ap (λ (them : List ScriptJob). begun_of begun.settings begun.tree them false) (sym jobs)
+        ∙ ap (λ (b : Bool). begun_of begun.settings begun.tree begun.jobs b) (sym ended)
 
 empty_is : {A : Type 0} (xs : List A) → is_empty xs ≡ true → xs ≡ []
 empty_is [] e = refl

@@ -27,7 +27,7 @@ pub one_more : (name : List ℕ) (Next : Option ℕ → Option (ℕ × ℕ) → 
 one_more name Next above pair start now after so_far next is = (
   so_far.0 ++ pair ∷ [],
   is ∙ ap (λ (text : List ℕ). text ++ pair_line name pair) so_far.1 ∙ append_assoc start (pair_lines name so_far.0) (pair_line name pair)
-  ∙ ap (λ (text : List ℕ). start ++ text) (sym (pair_lines-push name so_far.0 pair)),
+      ∙ ap (λ (text : List ℕ). start ++ text) (sym (pair_lines-push name so_far.0 pair)),
   λ more rest. subst (λ (pairs : List (ℕ × ℕ)). AllAbove Next None pairs) (sym (append_assoc so_far.0 (pair ∷ []) more)) (so_far.2 (pair ∷ more) (next, rest)),
 )
 

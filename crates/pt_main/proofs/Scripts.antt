@@ -16,10 +16,12 @@ use Rattle.pt_main.specs.declared.settings.Settings.{Settings}
 use Rattle.pt_main.specs.Settings.{may_set, with_setting, set_lines}
 use Rattle.std.specs.Option.{is_none, option_len}
 use Rattle.pt_text.specs.Words.{lines_of}
-use Rattle.pt_tree.specs.Start.{StartsAs}
+use Rattle.pt_tree.specs.Start.{StartsAs, IsCause}
 use Rattle.pt_tree.specs.State.{State}
 use Rattle.pt_main.specs.Scan.{IsScriptOf}
-use Rattle.pt_main.specs.Parse.{IsBadLine, IsBadTree}
+use Rattle.pt_main.specs.Parse.{IsBadLine, IsBadTree, moved, place_of, error_behind}
+use Rattle.pt_tree.specs.declared.spec.SpecError.{SpecError}
+use Rattle.pt_tree.specs.declared.spec.SpecError.TheVariants as tree_error
 use Rattle.pt_main.specs.declared.script.ParseError.{ParseError}
 use Rattle.pt_main.specs.declared.script.ParseError.TheVariants.{BadScript, Memory}
 
@@ -203,10 +205,10 @@ sound_set number begun setting sound may = go sound.tree
 
     go : ((begun.tree ≡ []) × (number ≡ set_lines begun.settings + 1) × (begun.ended ≡ false)) ⊎ (is_ok (nodes_of begun.tree) ≡ true) → IsSound (number + 1) (added begun (Set setting))
     go (inl first) =
-        let next : number + 1 ≡ set_lines (with_setting begun.settings setting) + 1 = ap (λ (n : ℕ). n + 1) (first.1 ∙ sym (one_more begun.settings setting both.1)) in
+        let following : number + 1 ≡ set_lines (with_setting begun.settings setting) + 1 = ap (λ (n : ℕ). n + 1) (first.1 ∙ sym (one_more begun.settings setting both.1)) in
         record {
-          tree = inl (first.0, next, first.2);
-          next = λ going empty. let l : length begun.tree ≡ 0 = ap length none in omega (arith, next);
+          tree = inl (first.0, following, first.2);
+          next = λ going empty. let l : length begun.tree ≡ 0 = ap length none in omega (arith, following);
         }
     go (inr t) = absurd (cc (sym t ∙ ap (λ (xs : List TreeLine). is_ok (nodes_of xs)) none))
 
@@ -269,9 +271,13 @@ script_of-good bytes begun nodes read keeps =
 -- a bad line of the tree is one of the script
 pub IsBadLine-tree : (bytes : List ℕ) (begun : Begun) (bad : Option ℕ) (above : ℕ) (lines : List TreeLine) (error : ParseError) → record { begun = begun; bad = bad } ≡ scan_of bytes →
     above ≡ set_lines begun.settings → lines ≡ begun.tree → IsBadTree above lines error → IsBadLine bytes error
-IsBadLine-tree bytes begun bad above lines (BadScript line) read high same broken =
-    script_of-tree bytes begun bad broken.0 read (ap nodes_of (sym same) ∙ broken.1)
-    ∙ ap Err (ap (λ (n : ℕ). n + broken.0) (sym high) ∙ sym broken.2)
+IsBadLine-tree bytes begun bad above lines (BadScript line) read high same broken = go (nodes_of lines) refl broken
+  where
+    go : (o : Result (List Node) ℕ) → nodes_of lines ≡ o → moved above o ≡ Err line → script_of bytes ≡ Err line
+    go (Ok nodes) e is = cc
+    go (Err k) e is =
+        let at : above + k ≡ line = cc in
+        script_of-tree bytes begun bad k read (ap nodes_of (sym same) ∙ e) ∙ ap Err (ap (λ (n : ℕ). n + k) (sym high) ∙ at)
 IsBadLine-tree bytes begun bad above lines Memory read high same broken = tt
 
 pub IsBadLine-line : (bytes : List ℕ) (begun : Begun) (bad : Option ℕ) (lines : List TreeLine) (line : ℕ) (host : State) → record { begun = begun; bad = bad } ≡ scan_of bytes → bad ≡ Some line →
@@ -298,10 +304,19 @@ add_lines-within line (x ∷ xs) nodes n is = go (λ m. add_lines-within (line +
     go below None e = let same : line ≡ n = cc in omega arith
     go below (Some m) e = let h : n ≤ line + 1 + length xs = below m e in omega arith
 
-pub nodes_of-within : (xs : List TreeLine) (n : ℕ) → nodes_of xs ≡ Err n → n ≤ length xs + 1
+nodes_of-within : (xs : List TreeLine) (n : ℕ) → nodes_of xs ≡ Err n → n ≤ length xs + 1
 nodes_of-within [] n is = let same : 1 ≡ n = cc in omega arith
 nodes_of-within (x ∷ xs) n is = go (first_line x) is
   where
     go : (o : Option (List Node)) → tree_on o 1 (add_lines 2 xs) ≡ Err n → n ≤ suc (length xs) + 1
     go None e = let same : 1 ≡ n = cc in omega arith
     go (Some m) e = let h : n ≤ 2 + length xs = add_lines-within 2 xs m n e in omega arith
+
+-- the error of a tree that is refused
+pub place_of-within : (lines : List TreeLine) (error : SpecError) → IsCause lines error → place_of error ≤ length lines + 1
+place_of-within lines (tree_error.NotATree place) is = nodes_of-within lines place is
+place_of-within lines tree_error.Memory is = omega arith
+
+pub IsBadTree-behind : (above : ℕ) (lines : List TreeLine) (error : SpecError) → IsCause lines error → IsBadTree above lines (error_behind above error)
+IsBadTree-behind above lines (tree_error.NotATree place) is = ap (λ (o : Result (List Node) ℕ). moved above o) is
+IsBadTree-behind above lines tree_error.Memory is = tt

@@ -1,5 +1,5 @@
 -- The fields of a line: each is the front of the words that are left.
-use Rattle.std.specs.Prelude.{ℕ, suc, ◌^◌, Bool, true, false, List, [], ◌∷◌, Option, Some, None, if◌then◌else◌, option_and_then}
+use Rattle.std.specs.Prelude.{ℕ, zero, suc, ◌^◌, Bool, true, false, List, [], ◌∷◌, Option, Some, None, if◌then◌else◌, option_and_then}
 use Rattle.std.specs.Str.{bytes_eq}
 use Rattle.pt_text.specs.Number.{number_of, below}
 use Rattle.pt_text.specs.ByteWord.{bytes_of}
@@ -52,7 +52,7 @@ with_first pair pairs = Some (record pairs { value = pair ∷ pairs.value })
 
 -- so many pairs of numbers
 abbrev pub pairs_in : ℕ → List (List ℕ) → Option (Field (List (ℕ × ℕ)))
-pairs_in 0 words = Some (record { value = []; rest = words })
+pairs_in zero words = Some (record { value = []; rest = words })
 pairs_in (suc count) words = pair_in words >>= (λ pair. pairs_in count pair.rest >>= with_first pair.value)
 
 -- the value, where no word is left

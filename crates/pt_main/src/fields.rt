@@ -1,10 +1,10 @@
-ghost use Rattle.std.specs.Prelude.{◌≡◌, IfOk, OnOk, Some, None, ◌≢◌, ◌∷◌, []};
+ghost use Rattle.std.specs.Prelude.{◌≡◌, IfOk, OnOk, Some, None, ◌≢◌, ◌∷◌, ◌++◌, [], ℕ};
 ghost use Rattle.std.specs.Str.{bytes_eq};
 ghost use Rattle.pt_main.specs.Fields.{number_in, small_in, bytes_in, switch_in, switch_of, pair_in, pairs_in};
 
 use pt_host::Bytes;
 use pt_text::{Parts, read_byte_word, read_number};
-use std::alloc::Global;
+use std::alloc::{AllocError, Global};
 
 /// Why a text is no line, or was not read as one.
 #[derive(Clone, Copy, Debug, PartialEq, Eq)]
@@ -73,13 +73,17 @@ pub fn next_switch(words: &mut Parts<'_>) -> Result<bool, LineError>
     }
 }
 
-fn next_pair(words: &mut Parts<'_>) -> Result<(u64, u64), LineError>
-    ensures ok { IfOk result (λ value. pair_in words.old ≡ Some (record { value = value; rest = words.new })) }
+// Reads a pair of numbers and puts it behind others.
+fn push_pair(pairs: &mut Vec<(u64, u64)>, words: &mut Parts<'_>) -> Result<(), LineError>
+    ensures ok { OnOk result ((pair : ℕ × ℕ) × (pair_in words.old ≡ Some (record { value = pair; rest = words.new }))
+        × (pairs.new.items ≡ pairs.old.items ++ pair ∷ [])) }
     ensures bad { result ≡ Err LineError.Bad → pair_in words.old ≡ None }
 {
     let first = next_number(words)?;
     let second = next_number(words)?;
-    Ok((first, second))
+    pairs
+        .push((first, second))
+        .map_err(|_: AllocError| LineError::Memory)
 }
 
 /// So many pairs of numbers.
@@ -93,12 +97,11 @@ pub fn next_pairs(
 {
     let mut pairs = Vec::new(alloc);
     let mut left = count;
-    while left > 0 {
-        let pair = next_pair(words)?;
-        if pairs.push(pair).is_err() {
-            return Err(LineError::Memory);
+    'pairs: while left > 0 {
+        match push_pair(&mut pairs, words) {
+            Ok(()) => left -= 1,
+            Err(error) => return Err(error),
         }
-        left -= 1;
     }
     Ok(pairs)
 }

@@ -79,11 +79,7 @@ fn next_dir(alloc: Global, words: &mut Parts<'_>) -> Result<TreeLine, LineError>
 }
 
 // The line of a tree that begins with this word.
-fn next_tree_line(
-    alloc: Global,
-    word: &[u8],
-    words: &mut Parts<'_>,
-) -> Result<TreeLine, LineError>
+fn next_tree_line(alloc: Global, word: &[u8], words: &mut Parts<'_>) -> Result<TreeLine, LineError>
     ensures ok { IfOk result (λ line. tree_line_in word.now words.old ≡ Some line) }
     ensures bad { result ≡ Err LineError.Bad → tree_line_in word.now words.old ≡ None }
 {

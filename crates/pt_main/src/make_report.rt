@@ -52,11 +52,7 @@ fn configured(settings: Settings, mut config: Config) -> Config
 }
 
 // The file system over a host, with the default configuration but for what is set.
-fn open_fs(
-    alloc: Global,
-    settings: Settings,
-    host: &mut TreeHost,
-) -> Result<PassthroughFs, Status>
+fn open_fs(alloc: Global, settings: Settings, host: &mut TreeHost) -> Result<PassthroughFs, Status>
     ensures ok { IfOk result (λ fs. IsOpened settings host.old fs host.new) }
     ensures err { IfErr result (λ status. IsNotOpened host.old status) }
 {

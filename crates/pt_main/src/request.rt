@@ -2,7 +2,9 @@ ghost use Rattle.std.specs.Prelude.{◌≡◌, IfOk, Some, None};
 ghost use Rattle.pt_main.specs.Fields.{at_end};
 ghost use Rattle.pt_main.specs.Request.{init_in, lookup_in, forget_in, batch_forget_in, open_in, opendir_in, read_in, release_in, releasedir_in, number_request_in, handle_request_in, request_in};
 
-use crate::fields::{LineError, end, next_bytes, next_number, next_pairs, next_small, next_switch, next_word};
+use crate::fields::{
+    LineError, end, next_bytes, next_number, next_pairs, next_small, next_switch, next_word,
+};
 use pt_iface::{ForgetList, FsOptions, Request};
 use pt_text::Parts;
 use std::alloc::Global;
@@ -112,7 +114,12 @@ fn next_read(words: &mut Parts<'_>) -> Result<Request, LineError>
     let size = next_small(words)?;
     let offset = next_number(words)?;
     end(words)?;
-    Ok(Request::Read { inode, handle, size, offset })
+    Ok(Request::Read {
+        inode,
+        handle,
+        size,
+        offset,
+    })
 }
 
 // A request of a number's life.

@@ -1,6 +1,6 @@
 ghost use Rattle.std.specs.Prelude.{◌≡◌, ◌≤◌, ◌<◌, ◌+◌, ◌^◌, IfOk, IfErr, length};
 ghost use Rattle.pt_tree.specs.Start.{StartsAs};
-ghost use Rattle.pt_main.specs.Parse.{IsBadLine, IsBadTree};
+ghost use Rattle.pt_main.specs.Parse.{IsBadLine, IsBadTree, place_of, error_behind};
 ghost use Rattle.pt_main.specs.Scan.{IsScriptOf};
 
 use crate::input::MAX_SCRIPT;
@@ -44,7 +44,11 @@ pub fn parse(alloc: Global, bytes: &[u8]) -> Result<Script, ParseError>
     };
     match scan.bad {
         Some(line) => Err(ParseError::BadScript(line)),
-        None => Ok(Script { settings, host, jobs }),
+        None => Ok(Script {
+            settings,
+            host,
+            jobs,
+        }),
     }
 }
 
@@ -56,7 +60,16 @@ fn host_of(alloc: Global, above: u32, tree: &TreeSpec) -> Result<TreeHost, Parse
 {
     match TreeHost::from_spec(alloc, tree) {
         Ok(host) => Ok(host),
-        Err(SpecError::NotATree(place)) => Err(ParseError::BadScript(above + place)),
-        Err(SpecError::Memory) => Err(ParseError::Memory),
+        Err(error) => Err(error_behind(above, &error)),
+    }
+}
+
+fn error_behind(above: u32, error: &SpecError) -> ParseError
+    requires { above + place_of error.now < 2 ^ 32 }
+    ensures { result ≡ error_behind above error.now }
+{
+    match error {
+        SpecError::NotATree(place) => ParseError::BadScript(above + *place),
+        SpecError::Memory => ParseError::Memory,
     }
 }

@@ -106,7 +106,11 @@ fn bad_settings_are_named(rt: HostRuntime) -> Result<(), Fail> {
         ("set guest_fd_limit 1\n", "end\n", 2),
         ("set guest_fd_limit 1\n", "set guest_fd_limit 1\n", 2),
         ("set guest_fd_limit 1\n", "mount 1 1 /b 1\nend\n", 2),
-        ("set guest_fd_limit 1\n", "mount 1 1 / 1\nfile /x/y 0o644 0 0 z\nfrob\n", 3),
+        (
+            "set guest_fd_limit 1\n",
+            "mount 1 1 / 1\nfile /x/y 0o644 0 0 z\nfrob\n",
+            3,
+        ),
         ("set guest_fd_limit 1\n", TREE, 4),
         (TREE, "set guest_fd_limit 1\nend\n", 3),
     ];
@@ -127,7 +131,11 @@ fn bad_fields_are_named(rt: HostRuntime) -> Result<(), Fail> {
         (TREE, "job 0 0 batch_forget 1 2\nend\n", 3),
         (TREE, "job 0 0 batch_forget 1 2 3 4\nend\n", 3),
         (TREE, "job 0 0 batch_forget 2 1 1\nend\n", 3),
-        (TREE, "job 0 0 batch_forget 18446744073709551615 1 1\nend\n", 3),
+        (
+            TREE,
+            "job 0 0 batch_forget 18446744073709551615 1 1\nend\n",
+            3,
+        ),
         (TREE, "job 0 0 open 1 2 0\nend\n", 3),
         (TREE, "job 0 0 open 1 0\nend\n", 3),
         (TREE, "job 0 0 opendir 1\nend\n", 3),
@@ -257,7 +265,8 @@ fn assert_report(rt: &HostRuntime, script: &[u8], want: &[u8]) -> Result<(), Fai
 
 #[test]
 fn a_root_that_was_taken_back_is_not_live(rt: HostRuntime) -> Result<(), Fail> {
-    let script = b"mount 1 1 / 1\nfile /a 0o644 0 0 hi\njob 0 0 init 0\njob 0 0 forget 1 2\njob 0 0 lookup 1 a\nend\n";
+    let script =
+        b"mount 1 1 / 1\nfile /a 0o644 0 0 hi\njob 0 0 init 0\njob 0 0 forget 1 2\njob 0 0 lookup 1 a\nend\n";
     let want = b"step 0 Clear = Cleared 1 0\nstep 0 OpenRoot / 2752512 = Ok Fd 4\n\
         step 0 Stat 4 = Ok Stat 1 1 1 16877 2 0 0 0 0 4096 0 0 0 0 0 0 0\nstep 0 TakeFd = Taken\n\
         step 0 InsertRoot 1 File 4 1 1 1 16877 + 0 0 0 0 = Inserted 1\nstep 1 Begin = Began 1 0 0 0 0\n\
@@ -270,7 +279,8 @@ fn a_root_that_was_taken_back_is_not_live(rt: HostRuntime) -> Result<(), Fail> {
 
 #[test]
 fn a_lookup_without_a_slot_draws_no_number(rt: HostRuntime) -> Result<(), Fail> {
-    let script = b"set guest_fd_limit 1\nmount 1 1 / 1\nfile /a 0o644 0 0 hi\njob 0 0 init 0\njob 0 0 lookup 1 a\nend\n";
+    let script =
+        b"set guest_fd_limit 1\nmount 1 1 / 1\nfile /a 0o644 0 0 hi\njob 0 0 init 0\njob 0 0 lookup 1 a\nend\n";
     let want = b"step 0 Clear = Cleared 1 0\nstep 0 OpenRoot / 2752512 = Ok Fd 4\n\
         step 0 Stat 4 = Ok Stat 1 1 1 16877 2 0 0 0 0 4096 0 0 0 0 0 0 0\nstep 0 TakeFd = Taken\n\
         step 0 InsertRoot 1 File 4 1 1 1 16877 + 0 0 0 0 = Inserted 1\nstep 1 Begin = Began 1 0 0 0 0\n\
@@ -284,7 +294,8 @@ fn a_lookup_without_a_slot_draws_no_number(rt: HostRuntime) -> Result<(), Fail> 
 
 #[test]
 fn requests_are_parsed(rt: HostRuntime) -> Result<(), Fail> {
-    let text = b"set guest_fd_limit 7\nmount 1 1 / 1\ndir /d 0o755 0 0\njob 0 0 init 512\njob 0 0 destroy\n\
+    let text =
+        b"set guest_fd_limit 7\nmount 1 1 / 1\ndir /d 0o755 0 0\njob 0 0 init 512\njob 0 0 destroy\n\
         job 0 0 batch_forget 2 3 1 4 2\njob 0 0 open 2 1 0o1\njob 0 0 opendir 3 0\njob 0 0 read 2 0 10 5\n\
         job 0 0 release 2 0\njob 0 0 releasedir 3 1\nend\n";
     let script = match parse(rt.alloc(), text) {
@@ -292,18 +303,64 @@ fn requests_are_parsed(rt: HostRuntime) -> Result<(), Fail> {
         Err(_) => return Err(Fail::from("no script")),
     };
     assert_eq!(rt; script.settings.guest_fd_limit, Some(7));
-    let [init, destroy, forgets, open, opendir, read, release, releasedir] = script.jobs.as_slice()
+    let [
+        init,
+        destroy,
+        forgets,
+        open,
+        opendir,
+        read,
+        release,
+        releasedir,
+    ] = script.jobs.as_slice()
     else {
         return Err(Fail::from("not eight jobs"));
     };
     assert!(rt; matches!(&init.request, Request::Init { capable } if capable.0 == 512));
     assert!(rt; matches!(&destroy.request, Request::Destroy));
-    assert!(rt; matches!(&forgets.request, Request::BatchForget { list } if list.as_slice() == [(3, 1), (4, 2)].as_slice()));
-    assert!(rt; matches!(&open.request, Request::Open { inode: 2, kill: true, flags: 1 }));
+    assert!(rt;
+        matches!(&forgets.request, Request::BatchForget { list } if list.as_slice() == [(3, 1), (4, 2)].as_slice())
+    );
+    assert!(rt;
+        matches!(
+            &open.request,
+            Request::Open {
+                inode: 2,
+                kill: true,
+                flags: 1
+            }
+        )
+    );
     assert!(rt; matches!(&opendir.request, Request::OpenDir { inode: 3, flags: 0 }));
-    assert!(rt; matches!(&read.request, Request::Read { inode: 2, handle: 0, size: 10, offset: 5 }));
-    assert!(rt; matches!(&release.request, Request::Release { inode: 2, handle: 0 }));
-    assert!(rt; matches!(&releasedir.request, Request::ReleaseDir { inode: 3, handle: 1 }));
+    assert!(rt;
+        matches!(
+            &read.request,
+            Request::Read {
+                inode: 2,
+                handle: 0,
+                size: 10,
+                offset: 5
+            }
+        )
+    );
+    assert!(rt;
+        matches!(
+            &release.request,
+            Request::Release {
+                inode: 2,
+                handle: 0
+            }
+        )
+    );
+    assert!(rt;
+        matches!(
+            &releasedir.request,
+            Request::ReleaseDir {
+                inode: 3,
+                handle: 1
+            }
+        )
+    );
     Ok(())
 }
 

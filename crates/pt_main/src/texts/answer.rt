@@ -5,8 +5,8 @@ ghost use Rattle.pt_main.specs.AnswerTexts.{timeout_text, attr_text, entry_text,
 use crate::texts::Text;
 use crate::texts::plain::push_word;
 use pt_iface::{
-    Answer, Attr, DirEntries, DirEntry, Entry, FsOptions, GetxattrReply, ListxattrReply, OpenOptions,
-    Timeout,
+    Answer, Attr, DirEntries, DirEntry, Entry, FsOptions, GetxattrReply, ListxattrReply,
+    OpenOptions, Timeout,
 };
 use std::alloc::AllocError;
 
