@@ -1,4 +1,4 @@
-//! The program: reads a script of lookups and forgets, runs it over a tree in memory and writes the report.
+//! The program: reads a script of requests, runs it over a tree in memory and writes the report.
 #![tactic(auto)]
 
 mod fields;
