@@ -1,10 +1,10 @@
-ghost use Rattle.std.specs.Prelude.{◌≡◌, IfOk, OnOk, Some, None, ◌≢◌, ◌∷◌, ◌++◌, [], ℕ};
+ghost use Rattle.std.specs.Prelude.{◌≡◌, IfOk, OnOk, Some, None, ◌≢◌, ◌∷◌, ◌++◌, []};
 ghost use Rattle.std.specs.Str.{bytes_eq};
 ghost use Rattle.pt_main.specs.Fields.{number_in, small_in, bytes_in, switch_in, switch_of, pair_in, pairs_in};
 
 use pt_host::Bytes;
 use pt_text::{Parts, read_byte_word, read_number};
-use std::alloc::{AllocError, Global};
+use std::alloc::Global;
 
 /// Why a text is no line, or was not read as one.
 #[derive(Clone, Copy, Debug, PartialEq, Eq)]
@@ -73,17 +73,29 @@ pub fn next_switch(words: &mut Parts<'_>) -> Result<bool, LineError>
     }
 }
 
-// Reads a pair of numbers and puts it behind others.
-fn push_pair(pairs: &mut Vec<(u64, u64)>, words: &mut Parts<'_>) -> Result<(), LineError>
-    ensures ok { OnOk result ((pair : ℕ × ℕ) × (pair_in words.old ≡ Some (record { value = pair; rest = words.new }))
-        × (pairs.new.items ≡ pairs.old.items ++ pair ∷ [])) }
+fn next_pair(words: &mut Parts<'_>) -> Result<(u64, u64), LineError>
+    ensures ok { IfOk result (λ pair. pair_in words.old ≡ Some (record { value = pair; rest = words.new })) }
     ensures bad { result ≡ Err LineError.Bad → pair_in words.old ≡ None }
 {
     let first = next_number(words)?;
     let second = next_number(words)?;
-    pairs
-        .push((first, second))
-        .map_err(|_: AllocError| LineError::Memory)
+    Ok((first, second))
+}
+
+// Reads a pair of numbers, and puts it behind others.
+fn push_pair(
+    pairs: &mut Vec<(u64, u64)>,
+    words: &mut Parts<'_>,
+) -> Result<(u64, u64), LineError>
+    ensures ok { IfOk result (λ pair. pair_in words.old ≡ Some (record { value = pair; rest = words.new })) }
+    ensures pushed { IfOk result (λ pair. pairs.new.items ≡ pairs.old.items ++ pair ∷ []) }
+    ensures bad { result ≡ Err LineError.Bad → pair_in words.old ≡ None }
+{
+    let pair = next_pair(words)?;
+    match pairs.push(pair) {
+        Ok(()) => Ok(pair),
+        Err(_) => Err(LineError::Memory),
+    }
 }
 
 /// So many pairs of numbers.
@@ -99,7 +111,7 @@ pub fn next_pairs(
     let mut left = count;
     'pairs: while left > 0 {
         match push_pair(&mut pairs, words) {
-            Ok(()) => left -= 1,
+            Ok(_) => left -= 1,
             Err(error) => return Err(error),
         }
     }

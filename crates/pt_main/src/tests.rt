@@ -255,112 +255,125 @@ fn scripts_are_parsed(rt: HostRuntime) -> Result<(), Fail> {
     Ok(())
 }
 
-// The report of these bytes is this text.
-fn assert_report(rt: &HostRuntime, script: &[u8], want: &[u8]) -> Result<(), Fail> {
-    let (status, output) = run_on(rt, script.to_vec(rt.alloc())?, &[], &[])?;
+// These lines, each ended by a line feed.
+fn text_of(rt: &HostRuntime, lines: &[&str]) -> Result<Vec<u8>, Fail> {
+    let mut text = Vec::new(rt.alloc());
+    for line in lines {
+        text.extend_from_slice(line.as_bytes())?;
+        text.extend_from_slice(b"\n")?;
+    }
+    Ok(text)
+}
+
+// The report of a script is this.
+fn assert_report(rt: &HostRuntime, script: &[&str], want: &[&str]) -> Result<(), Fail> {
+    let want = text_of(rt, want)?;
+    let (status, output) = run_on(rt, text_of(rt, script)?, &[], &[])?;
     assert_eq!(rt; status, Status::Done);
-    assert_eq!(rt; output.as_slice(), want);
+    assert_eq!(rt; output.as_slice(), want.as_slice());
     Ok(())
 }
 
 #[test]
 fn a_root_that_was_taken_back_is_not_live(rt: HostRuntime) -> Result<(), Fail> {
-    let script =
-        b"mount 1 1 / 1\nfile /a 0o644 0 0 hi\njob 0 0 init 0\njob 0 0 forget 1 2\njob 0 0 lookup 1 a\nend\n";
-    let want = b"step 0 Clear = Cleared 1 0\nstep 0 OpenRoot / 2752512 = Ok Fd 4\n\
-        step 0 Stat 4 = Ok Stat 1 1 1 16877 2 0 0 0 0 4096 0 0 0 0 0 0 0\nstep 0 TakeFd = Taken\n\
-        step 0 InsertRoot 1 File 4 1 1 1 16877 + 0 0 0 0 = Inserted 1\nstep 1 Begin = Began 1 0 0 0 0\n\
-        step 1 Forget 1 1 2 = Done 1\nstep 1 TakeClosing = Closing 4 1\nstep 1 Close 4 = Ok Unit\n\
-        step 1 GiveFd = Given\nstep 2 Begin = Began 1 0 0 0 0\nstep 2 Resolve 1 = Refused NotLive\n\
-        answer 0 Inited 3\nanswer 1 NoReply\nanswer 2 Refused 9\nslots 18446744073709551615\n\
-        obj / 1 1 1 16877 2 0 0 0 %-\nobj /a 2 1 1 33188 1 0 0 0 hi\nend\n";
-    assert_report(&rt, script, want)
+    let script = [
+        "mount 1 1 / 1",
+        "file /a 0o644 0 0 hi",
+        "job 0 0 init 0",
+        "job 0 0 forget 1 2",
+        "job 0 0 lookup 1 a",
+        "end",
+    ];
+    let want = [
+        "step 0 Clear = Cleared 1 0",
+        "step 0 OpenRoot / 2752512 = Ok Fd 4",
+        "step 0 Stat 4 = Ok Stat 1 1 1 16877 2 0 0 0 0 4096 0 0 0 0 0 0 0",
+        "step 0 TakeFd = Taken",
+        "step 0 InsertRoot 1 File 4 1 1 1 16877 + 0 0 0 0 = Inserted 1",
+        "step 1 Begin = Began 1 0 0 0 0",
+        "step 1 Forget 1 1 2 = Done 1",
+        "step 1 TakeClosing = Closing 4 1",
+        "step 1 Close 4 = Ok Unit",
+        "step 1 GiveFd = Given",
+        "step 2 Begin = Began 1 0 0 0 0",
+        "step 2 Resolve 1 = Refused NotLive",
+        "answer 0 Inited 3",
+        "answer 1 NoReply",
+        "answer 2 Refused 9",
+        "slots 18446744073709551615",
+        "obj / 1 1 1 16877 2 0 0 0 %-",
+        "obj /a 2 1 1 33188 1 0 0 0 hi",
+        "end",
+    ];
+    assert_report(&rt, &script, &want)
 }
 
 #[test]
 fn a_lookup_without_a_slot_draws_no_number(rt: HostRuntime) -> Result<(), Fail> {
-    let script =
-        b"set guest_fd_limit 1\nmount 1 1 / 1\nfile /a 0o644 0 0 hi\njob 0 0 init 0\njob 0 0 lookup 1 a\nend\n";
-    let want = b"step 0 Clear = Cleared 1 0\nstep 0 OpenRoot / 2752512 = Ok Fd 4\n\
-        step 0 Stat 4 = Ok Stat 1 1 1 16877 2 0 0 0 0 4096 0 0 0 0 0 0 0\nstep 0 TakeFd = Taken\n\
-        step 0 InsertRoot 1 File 4 1 1 1 16877 + 0 0 0 0 = Inserted 1\nstep 1 Begin = Began 1 0 0 0 0\n\
-        step 1 Resolve 1 = Resolved 0 File 4 1 1 1 16877\nstep 1 OpenAt 4 a 2752512 0 = Ok Fd 5\n\
-        step 1 Stat 5 = Ok Stat 2 1 1 33188 1 0 0 0 2 4096 1 0 0 0 0 0 0\nstep 1 Claim 1 - 2 1 1 = Absent\n\
-        step 1 TakeFd = Refused NoSlot\nstep 1 Close 5 = Ok Unit\nstep 1 Unpin 0 = Done 0\n\
-        answer 0 Inited 3\nanswer 1 Refused 23\nlive 1 2\nslots 0\n\
-        obj / 1 1 1 16877 2 0 0 0 %-\nobj /a 2 1 1 33188 1 0 0 0 hi\nend\n";
-    assert_report(&rt, script, want)
+    let script = [
+        "set guest_fd_limit 1",
+        "mount 1 1 / 1",
+        "file /a 0o644 0 0 hi",
+        "job 0 0 init 0",
+        "job 0 0 lookup 1 a",
+        "end",
+    ];
+    let want = [
+        "step 0 Clear = Cleared 1 0",
+        "step 0 OpenRoot / 2752512 = Ok Fd 4",
+        "step 0 Stat 4 = Ok Stat 1 1 1 16877 2 0 0 0 0 4096 0 0 0 0 0 0 0",
+        "step 0 TakeFd = Taken",
+        "step 0 InsertRoot 1 File 4 1 1 1 16877 + 0 0 0 0 = Inserted 1",
+        "step 1 Begin = Began 1 0 0 0 0",
+        "step 1 Resolve 1 = Resolved 0 File 4 1 1 1 16877",
+        "step 1 OpenAt 4 a 2752512 0 = Ok Fd 5",
+        "step 1 Stat 5 = Ok Stat 2 1 1 33188 1 0 0 0 2 4096 1 0 0 0 0 0 0",
+        "step 1 Claim 1 - 2 1 1 = Absent",
+        "step 1 TakeFd = Refused NoSlot",
+        "step 1 Close 5 = Ok Unit",
+        "step 1 Unpin 0 = Done 0",
+        "answer 0 Inited 3",
+        "answer 1 Refused 23",
+        "live 1 2",
+        "slots 0",
+        "obj / 1 1 1 16877 2 0 0 0 %-",
+        "obj /a 2 1 1 33188 1 0 0 0 hi",
+        "end",
+    ];
+    assert_report(&rt, &script, &want)
 }
 
 #[test]
 fn requests_are_parsed(rt: HostRuntime) -> Result<(), Fail> {
-    let text =
-        b"set guest_fd_limit 7\nmount 1 1 / 1\ndir /d 0o755 0 0\njob 0 0 init 512\njob 0 0 destroy\n\
-        job 0 0 batch_forget 2 3 1 4 2\njob 0 0 open 2 1 0o1\njob 0 0 opendir 3 0\njob 0 0 read 2 0 10 5\n\
-        job 0 0 release 2 0\njob 0 0 releasedir 3 1\nend\n";
-    let script = match parse(rt.alloc(), text) {
+    let text = text_of(&rt, &[
+        "set guest_fd_limit 7",
+        "mount 1 1 / 1",
+        "dir /d 0o755 0 0",
+        "job 0 0 init 512",
+        "job 0 0 destroy",
+        "job 0 0 batch_forget 2 3 1 4 2",
+        "job 0 0 open 2 1 0o1",
+        "job 0 0 opendir 3 0",
+        "job 0 0 read 2 0 10 5",
+        "job 0 0 release 2 0",
+        "job 0 0 releasedir 3 1",
+        "end",
+    ])?;
+    let script = match parse(rt.alloc(), text.as_slice()) {
         Ok(script) => script,
         Err(_) => return Err(Fail::from("no script")),
     };
     assert_eq!(rt; script.settings.guest_fd_limit, Some(7));
-    let [
-        init,
-        destroy,
-        forgets,
-        open,
-        opendir,
-        read,
-        release,
-        releasedir,
-    ] = script.jobs.as_slice()
-    else {
-        return Err(Fail::from("not eight jobs"));
-    };
-    assert!(rt; matches!(&init.request, Request::Init { capable } if capable.0 == 512));
-    assert!(rt; matches!(&destroy.request, Request::Destroy));
-    assert!(rt;
-        matches!(&forgets.request, Request::BatchForget { list } if list.as_slice() == [(3, 1), (4, 2)].as_slice())
-    );
-    assert!(rt;
-        matches!(
-            &open.request,
-            Request::Open {
-                inode: 2,
-                kill: true,
-                flags: 1
-            }
-        )
-    );
-    assert!(rt; matches!(&opendir.request, Request::OpenDir { inode: 3, flags: 0 }));
-    assert!(rt;
-        matches!(
-            &read.request,
-            Request::Read {
-                inode: 2,
-                handle: 0,
-                size: 10,
-                offset: 5
-            }
-        )
-    );
-    assert!(rt;
-        matches!(
-            &release.request,
-            Request::Release {
-                inode: 2,
-                handle: 0
-            }
-        )
-    );
-    assert!(rt;
-        matches!(
-            &releasedir.request,
-            Request::ReleaseDir {
-                inode: 3,
-                handle: 1
-            }
-        )
-    );
+    assert_eq!(rt; script.jobs.len(), 8);
+    let jobs = script.jobs.as_slice();
+    assert!(rt; matches!(&jobs[0].request, Request::Init { capable } if capable.0 == 512));
+    assert!(rt; matches!(&jobs[1].request, Request::Destroy));
+    assert!(rt; matches!(&jobs[2].request, Request::BatchForget { list } if list.as_slice() == [(3, 1), (4, 2)].as_slice()));
+    assert!(rt; matches!(&jobs[3].request, Request::Open { inode: 2, kill: true, flags: 1 }));
+    assert!(rt; matches!(&jobs[4].request, Request::OpenDir { inode: 3, flags: 0 }));
+    assert!(rt; matches!(&jobs[5].request, Request::Read { inode: 2, handle: 0, size: 10, offset: 5 }));
+    assert!(rt; matches!(&jobs[6].request, Request::Release { inode: 2, handle: 0 }));
+    assert!(rt; matches!(&jobs[7].request, Request::ReleaseDir { inode: 3, handle: 1 }));
     Ok(())
 }
 
