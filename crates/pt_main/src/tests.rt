@@ -35,12 +35,13 @@ fn empty_run(rt: HostRuntime) -> Result<(), Fail> {
 
 // Each text, which comes in two parts, is refused at this line.
 fn assert_bad(rt: &HostRuntime, table: &[(&str, &str, u32)]) -> Result<(), Fail> {
-    for (head, rest, line) in table {
+    for row in table {
+        let (head, rest, line) = *row;
         let mut bytes = head.as_bytes().to_vec(rt.alloc())?;
         bytes.extend_from_slice(rest.as_bytes())?;
         let (status, output) = run_on(rt, bytes, &[], &[])?;
-        assert_eq!(rt; status, Status::BadScript(*line), "at {head:?} {rest:?}");
-        assert!(rt; output.as_slice().is_empty());
+        assert_eq!(*rt; status, Status::BadScript(line), "at {head:?} {rest:?}");
+        assert!(*rt; output.as_slice().is_empty());
     }
     Ok(())
 }
@@ -269,8 +270,8 @@ fn text_of(rt: &HostRuntime, lines: &[&str]) -> Result<Vec<u8>, Fail> {
 fn assert_report(rt: &HostRuntime, script: &[&str], want: &[&str]) -> Result<(), Fail> {
     let want = text_of(rt, want)?;
     let (status, output) = run_on(rt, text_of(rt, script)?, &[], &[])?;
-    assert_eq!(rt; status, Status::Done);
-    assert_eq!(rt; output.as_slice(), want.as_slice());
+    assert_eq!(*rt; status, Status::Done);
+    assert_eq!(*rt; output.as_slice(), want.as_slice());
     Ok(())
 }
 
@@ -345,21 +346,8 @@ fn a_lookup_without_a_slot_draws_no_number(rt: HostRuntime) -> Result<(), Fail> 
 
 #[test]
 fn requests_are_parsed(rt: HostRuntime) -> Result<(), Fail> {
-    let text = text_of(&rt, &[
-        "set guest_fd_limit 7",
-        "mount 1 1 / 1",
-        "dir /d 0o755 0 0",
-        "job 0 0 init 512",
-        "job 0 0 destroy",
-        "job 0 0 batch_forget 2 3 1 4 2",
-        "job 0 0 open 2 1 0o1",
-        "job 0 0 opendir 3 0",
-        "job 0 0 read 2 0 10 5",
-        "job 0 0 release 2 0",
-        "job 0 0 releasedir 3 1",
-        "end",
-    ])?;
-    let script = match parse(rt.alloc(), text.as_slice()) {
+    let text = b"set guest_fd_limit 7\nmount 1 1 / 1\ndir /d 0o755 0 0\njob 0 0 init 512\njob 0 0 destroy\njob 0 0 batch_forget 2 3 1 4 2\njob 0 0 open 2 1 0o1\njob 0 0 opendir 3 0\njob 0 0 read 2 0 10 5\njob 0 0 release 2 0\njob 0 0 releasedir 3 1\nend\n";
+    let script = match parse(rt.alloc(), text) {
         Ok(script) => script,
         Err(_) => return Err(Fail::from("no script")),
     };
