@@ -83,10 +83,7 @@ fn next_pair(words: &mut Parts<'_>) -> Result<(u64, u64), LineError>
 }
 
 // Reads a pair of numbers, and puts it behind others.
-fn push_pair(
-    pairs: &mut Vec<(u64, u64)>,
-    words: &mut Parts<'_>,
-) -> Result<(u64, u64), LineError>
+fn push_pair(pairs: &mut Vec<(u64, u64)>, words: &mut Parts<'_>) -> Result<(u64, u64), LineError>
     ensures ok { IfOk result (λ pair. pair_in words.old ≡ Some (record { value = pair; rest = words.new })) }
     ensures pushed { IfOk result (λ pair. pairs.new.items ≡ pairs.old.items ++ pair ∷ []) }
     ensures bad { result ≡ Err LineError.Bad → pair_in words.old ≡ None }
