@@ -143,7 +143,7 @@ scan_from-broken (text ∷ more) number begun n some is =
 
 judged-broken : (scanned : Scanned) (begun : Begun) (n : ℕ) → StaysBroken begun n scanned.begun → judged scanned ≡ Err (set_lines begun.settings + n)
 judged-broken scanned begun n is =
-    ap (λ (o : Result (List Node) ℕ). judged_by scanned.begun o scanned.bad) is.0 ∙ ap (λ (s : Settings). Err (set_lines s + n)) is.1
+    ap (λ (o : Result (List Node) ℕ). judged_by scanned.begun o scanned.bad) is.0 ∙ ap {B = Result Begun ℕ} (λ (s : Settings). Err (set_lines s + n)) is.1
 
 -- a line of a tree is the first to break the rules at its own number
 broken_at : (number : ℕ) (begun : Begun) (y : TreeLine) (n : ℕ) → IsSound number begun → may_stand begun (Tree y) ≡ true → nodes_of (begun.tree ++ y ∷ []) ≡ Err n → set_lines begun.settings + n ≡ number

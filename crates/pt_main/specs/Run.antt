@@ -93,10 +93,9 @@ pub record IsRunFrom (settings : Settings) (start : State) (lines : List ScriptJ
   pub descriptors : AfterEachTold (Some (tree_of opened_host)) fs.tables trace (λ start so_far now. AreKept start (length (map job_of lines)) so_far now)
   pub leaves_open : LeavesOpen (Some (tree_of opened_host)) fs.tables trace
 
--- the live numbers and handles of tables, each ascending
-pub record AreLive (tables : Tables) (lives handles : List (ℕ × ℕ)) : Type 0 where
-  pub numbers : LivesAbove tables.rows None lives
-  pub handles_of : HandlesAbove tables.handles None handles
+-- these are the live numbers and handles of tables, each ascending
+abbrev pub AreLive : Tables → List (ℕ × ℕ) → List (ℕ × ℕ) → Type 0
+AreLive tables lives handles = LivesAbove tables.rows None lives × HandlesAbove tables.handles None handles
 
 -- the report of a run: its steps, answers, live numbers and handles, slots and objects
 abbrev pub report_of : List TraceStep → List Answer → List (ℕ × ℕ) → List (ℕ × ℕ) → Tables → State → List ℕ
