@@ -1,3 +1,5 @@
+ghost use Rattle.std.specs.Prelude.{Some};
+
 use crate::{
     Failed, InputError, MAX_SCRIPT, MemSink, MemSource, ParseError, Sink, Source, Status, parse,
     read_script, run,
@@ -88,15 +90,58 @@ fn bad_lines_are_named(rt: HostRuntime) -> Result<(), Fail> {
 }
 
 #[test]
-fn streams_that_fail_end_the_run(rt: HostRuntime) -> Result<(), Fail> {
-    let bytes = b"mount 1 1 / 1\nend\n".to_vec(rt.alloc())?;
-    let (status, output) = run_on(&rt, bytes, &[2], &[])?;
-    assert_eq!(rt; status, Status::ReadFault);
-    assert!(rt; output.as_slice().is_empty());
-    let bytes = b"mount 1 1 / 1\nend\n".to_vec(rt.alloc())?;
-    let (status, output) = run_on(&rt, bytes, &[], &[1])?;
-    assert_eq!(rt; status, Status::WriteFault);
-    assert!(rt; output.as_slice().is_empty());
+fn a_source_that_fails_ends_the_run(rt: HostRuntime) -> Result<(), Fail> {
+    for pull in [1, 2] {
+        let bytes = b"mount 1 1 / 1\nend\n".to_vec(rt.alloc())?;
+        let (status, output) = run_on(&rt, bytes, &[pull], &[])?;
+        assert_eq!(rt; status, Status::ReadFault);
+        assert!(rt; output.as_slice().is_empty());
+    }
+    Ok(())
+}
+
+// A sink that takes twenty bytes at a time.
+#[derive(Drop)]
+struct Drops {
+    sink: MemSink,
+}
+
+impl Sink for Drops {
+    ghost written = { λ drops. Some drops.sink.written };
+
+    ghost faults = { λ drops. drops.sink.faults };
+
+    fn push(&mut self, piece: &[u8]) -> Result<usize, Failed> {
+        if piece.len() > 20 {
+            self.sink.push(&piece[..20])
+        } else {
+            self.sink.push(piece)
+        }
+    }
+}
+
+#[test]
+fn a_sink_that_fails_leaves_a_front(rt: HostRuntime) -> Result<(), Fail> {
+    let whole = b"slots 18446744073709551615\nobj / 1 1 1 16877 2 0 0 0 %-\nend\n";
+    let words = vec![in rt.alloc(); String::from_str(rt.alloc(), "script")?]?;
+    for (push, length) in [(1, 0), (2, 20), (3, 40), (4, 60)] {
+        let bytes = b"mount 1 1 / 1\nend\n".to_vec(rt.alloc())?;
+        let mut input = MemSource::new(bytes, Vec::new(rt.alloc()));
+        let failing = vec![in rt.alloc(); push]?;
+        let mut output = Drops {
+            sink: MemSink::new(rt.alloc(), failing),
+        };
+        let status = run(rt.alloc(), words.as_slice(), &mut input, &mut output);
+        assert_eq!(rt;
+            status,
+            if length < 60 {
+                Status::WriteFault
+            } else {
+                Status::Done
+            }
+        );
+        assert_eq!(rt; output.sink.as_slice(), &whole[..length]);
+    }
     Ok(())
 }
 
