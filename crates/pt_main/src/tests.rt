@@ -1,4 +1,4 @@
-ghost use Rattle.std.specs.Prelude.{Some};
+ghost use Rattle.std.specs.Prelude.{None};
 
 use crate::{
     Failed, InputError, MAX_SCRIPT, MemSink, MemSource, ParseError, Sink, Source, Status, parse,
@@ -42,6 +42,58 @@ fn assert_bad(rt: &HostRuntime, table: &[(&str, &str, u32)]) -> Result<(), Fail>
         let (status, output) = run_on(rt, bytes, &[], &[])?;
         assert_eq!(*rt; status, Status::BadScript(line), "at {head:?} {rest:?}");
         assert!(*rt; output.as_slice().is_empty());
+    }
+    Ok(())
+}
+
+// What the report says behind the steps.
+fn behind_steps(report: &[u8]) -> &[u8] {
+    match report
+        .windows(8)
+        .position(|part| part == b"answer 0".as_slice())
+    {
+        Some(place) => &report[place..],
+        None => &[],
+    }
+}
+
+#[test]
+fn requests_end_as_they_should(rt: HostRuntime) -> Result<(), Fail> {
+    let table = [
+        (
+            "job 0 0 root\njob 0 0 root\nend\n",
+            "answer 0 Done\nanswer 1 Refused 5\nlive 1 2\nslots 18446744073709551614\nobj / ",
+        ),
+        (
+            "job 0 0 lookup 1 a\njob 0 0 root\njob 0 0 lookup 1 b\njob 0 0 lookup 9 a\nend\n",
+            "answer 0 Refused 9\nanswer 1 Done\nanswer 2 Refused 2\nanswer 3 Refused 9\nlive 1 2\nslots 18446744073709551614\nobj / ",
+        ),
+        (
+            "job 0 0 lookup 1 %-\njob 0 0 lookup 1 .\njob 0 0 lookup 1 ..\njob 0 0 lookup 1 a/b\njob 0 0 lookup 1 a%00\nend\n",
+            "answer 0 Refused 22\nanswer 1 Refused 22\nanswer 2 Refused 22\nanswer 3 Refused 22\nanswer 4 Refused 22\nslots 18446744073709551615\nobj / ",
+        ),
+        (
+            "job 0 0 root\njob 0 0 lookup 1 a\njob 0 0 lookup 1 a\nend\n",
+            "answer 0 Done\nanswer 1 Entry 2 0 2 2 1 0 0 0 0 0 0 33188 1 0 0 0 4096 0 5 0 5 0\nanswer 2 Entry 2 0 2 2 1 0 0 0 0 0 0 33188 1 0 0 0 4096 0 5 0 5 0\nlive 1 2\nlive 2 2\nslots 18446744073709551613\nobj / ",
+        ),
+        (
+            "job 0 0 root\njob 0 0 lookup 1 a\njob 0 0 forget 2 0\njob 0 0 forget 9 1\njob 0 0 forget 2 5\njob 0 0 lookup 1 a\nend\n",
+            "answer 0 Done\nanswer 1 Entry 2 0 2 2 1 0 0 0 0 0 0 33188 1 0 0 0 4096 0 5 0 5 0\nanswer 2 NoReply\nanswer 3 NoReply\nanswer 4 NoReply\nanswer 5 Entry 3 0 2 2 1 0 0 0 0 0 0 33188 1 0 0 0 4096 0 5 0 5 0\nlive 1 2\nlive 3 1\nslots 18446744073709551613\nobj / ",
+        ),
+        (
+            "job 0 0 root\njob 0 0 forget 1 2\njob 0 0 lookup 1 a\nend\n",
+            "answer 0 Done\nanswer 1 NoReply\nanswer 2 Refused 9\nslots 18446744073709551615\nobj / ",
+        ),
+    ];
+    for (jobs, want) in table {
+        let mut bytes = TREE.as_bytes().to_vec(rt.alloc())?;
+        bytes.extend_from_slice(jobs.as_bytes())?;
+        let (status, output) = run_on(&rt, bytes, &[], &[])?;
+        assert_eq!(rt; status, Status::Done);
+        assert!(rt;
+            behind_steps(output.as_slice()).starts_with(want.as_bytes()),
+            "at {jobs:?}"
+        );
     }
     Ok(())
 }
@@ -159,14 +211,14 @@ fn a_source_that_fails_ends_the_run(rt: HostRuntime) -> Result<(), Fail> {
     Ok(())
 }
 
-// A sink that takes twenty bytes at a time.
+// A sink that takes twenty bytes at a time, and tells nothing of them: the test looks at the bytes.
 #[derive(Drop)]
 struct Drops {
     sink: MemSink,
 }
 
 impl Sink for Drops {
-    ghost written = { λ drops. Some drops.sink.written };
+    ghost written = { λ drops. None };
 
     ghost faults = { λ drops. drops.sink.faults };
 
