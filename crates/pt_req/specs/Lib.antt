@@ -12,6 +12,7 @@ pub mod Room
 pub mod Next
 pub mod Left
 pub mod Parts
+pub mod Opening
 pub mod Bodies
 pub mod Job
 pub mod Calm
