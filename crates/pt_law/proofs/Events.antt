@@ -74,10 +74,10 @@ agreed_rows P None t h = h
 agreed_rows P (Some n) t h = h
 
 -- a handle's row comes: it takes the next serial
-abbrev placed : Past → ℕ → Fd → Option ℕ → Past
-placed past next fd o = record past { objects = set_at next o past.objects; fds = set_at next (Some fd) past.fds }
+abbrev with_place : Past → ℕ → Fd → Option ℕ → Past
+with_place past next fd o = record past { objects = set_at next o past.objects; fds = set_at next (Some fd) past.fds }
 
-row_place : (tree : Tree) (past : Past) (next : ℕ) (fd : Fd) (o : Option ℕ) (row : Row) → IsSoundRow next row → RowOpen tree past row → RowOpen tree (placed past next fd o) row
+row_place : (tree : Tree) (past : Past) (next : ℕ) (fd : Fd) (o : Option ℕ) (row : Row) → IsSoundRow next row → RowOpen tree past row → RowOpen tree (with_place past next fd o) row
 row_place tree past next fd o row s h =
     let apart : row.serial ≢ next = (λ k. let d = s.drawn in absurd (omega (arith, d, k))) in
     record {
@@ -141,7 +141,7 @@ rows_event tree past t j job after (change.InsertRoot era form ids mode negotiat
     rw h.4 (agreed_rows (RowOpen tree (settled past given t.next_row (fd_of form) (past.roots j))) negotiated (with_row t (new_row t 1 form ids mode 2))
     (row_comes tree past t 1 given form ids mode 2 (past.roots j) a h.3 h.1 (told_noted tree (fd_of form) ids (past.roots j) job.holds k.told fit.2 (k.root (fd_of form) fit.1)) rows))
 rows_event tree past t j job after (change.InsertHandle era handle number fd) (event.Inserted given) t' a h m k rows =
-    rw h.4 (each_both (IsSoundRow t.next_row) (RowOpen tree past) (RowOpen tree (placed past t.next_row fd (past.resolved j))) t.rows (λ row s o. row_place tree past t.next_row fd (past.resolved j) row s o) a.sound rows)
+    rw h.4 (each_both (IsSoundRow t.next_row) (RowOpen tree past) (RowOpen tree (with_place past t.next_row fd (past.resolved j))) t.rows (λ row s o. row_place tree past t.next_row fd (past.resolved j) row s o) a.sound rows)
 rows_event tree past t j job after e r t' a h m k rows = rows_kept (RowOpen tree past) (row_later tree past) (kept t e r t' tt h) rows
 
 -- what is held of slots, counts, new descriptors and new pins, and of what was held before, is held after
