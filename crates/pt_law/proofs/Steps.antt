@@ -185,7 +185,7 @@ keeps_host bound base had w js j a r seat seat' tree' after lt v l m =
       well = l.well_formed v.well;
       fds = fds;
       right = keeps_call bound w.tree w.tables.next_row w.past w.tables.rows w.tables.handles js j after a r tree' lt v.right l.changes m
-          (λ f flags object e open. judged f flags object open (subst (λ c. MovesBy (js j) (Calls c) (Host r) after) e m))
+          (λ f flags object e on. judged f flags object on (subst (λ c. MovesBy (js j) (Calls c) (Host r) after) e m))
           (λ f e.
           let n : open_count f.0 tree' ≡ 0 = closed_none w.tree tree' a f r e l.changes in
           let x = fds f.0 in
@@ -193,10 +193,10 @@ keeps_host bound base had w js j a r seat seat' tree' after lt v l m =
     }
   where
     judged : (f : Fd) (flags : OpenFlags) (object : ℕ) → IsOpenOn w.tree f object → MovesBy (js j) (Calls (call.Reopen f flags)) (Host r) after → w.past.resolved j ≡ Some object
-    judged f flags object open m =
+    judged f flags object on m =
         let fit = m.1 in
         let p = pinned_row bound w.tree w.tables w.past js j fit.0.row f lt v.tabled.books v.right fit.3 in
-        sym ((v.right.knows j lt).resolved fit.0 fit.2).1 ∙ p.2 ∙ ap Some (one_object w.tree f p.0 object p.1 open)
+        sym ((v.right.knows j lt).resolved fit.0 fit.2).1 ∙ p.2 ∙ ap Some (one_object w.tree f p.0 object p.1 on)
 
     closed_none : (tree tree' : Tree) (a : Call) (f : Fd) (r : HostReply) → a ≡ call.Close f → TreeChanges tree a r tree' → open_count f.0 tree' ≡ 0
     closed_none tree tree' a f r e h = let l : TreeChanges tree (call.Close f) r tree' = subst (λ c. TreeChanges tree c r tree') e h in none tree tree' f r l
