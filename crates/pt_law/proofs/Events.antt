@@ -74,10 +74,10 @@ agreed_rows P None t h = h
 agreed_rows P (Some n) t h = h
 
 -- a handle's row comes: it takes the next serial
-abbrev placed : Past → ℕ → Fd → Option ℕ → Past
-placed past next fd o = record past { objects = set_at next o past.objects; fds = set_at next (Some fd) past.fds }
+abbrev with_place : Past → ℕ → Fd → Option ℕ → Past
+with_place past next fd o = record past { objects = set_at next o past.objects; fds = set_at next (Some fd) past.fds }
 
-row_place : (tree : Tree) (past : Past) (next : ℕ) (fd : Fd) (o : Option ℕ) (row : Row) → IsSoundRow next row → RowOpen tree past row → RowOpen tree (placed past next fd o) row
+row_place : (tree : Tree) (past : Past) (next : ℕ) (fd : Fd) (o : Option ℕ) (row : Row) → IsSoundRow next row → RowOpen tree past row → RowOpen tree (with_place past next fd o) row
 row_place tree past next fd o row s h =
     let apart : row.serial ≢ next = (λ k. let d = s.drawn in absurd (omega (arith, d, k))) in
     record {
@@ -129,6 +129,7 @@ handles_event tree past t j job after (change.InsertHandle era handle number fd)
       record { object = n.object; open_on = n.open_on; placed = set_at_same past.objects t.next_row (past.resolved j) ∙ n.judged; kept_by = set_at_same past.fds t.next_row (Some fd) },
       handles_place tree past _ t.next_row fd (past.resolved j) t.handles refl refl a.sound_handles rows,
     )
+handles_event tree past t j job after (change.Resolve number) (event.Resolved serial form ids mode) t' a h m k rows = handles_kept (HandleOpen tree past) (handle_later tree past) (kept t (change.Resolve number) (event.Resolved serial form ids mode) t' tt h) rows
 handles_event tree past t j job after e r t' a h m k rows = handles_kept (HandleOpen tree past) (handle_later tree past) (kept t e r t' tt h) rows
 
 pub rows_event : (tree : Tree) (past : Past) (t : Tables) (j : ℕ) (job after : Job) (e : Change) (r : EventReply) (t' : Tables) → Agree t → Happens t e r t' → MovesBy job (Changes e) (Event r) after →
@@ -141,7 +142,8 @@ rows_event tree past t j job after (change.InsertRoot era form ids mode negotiat
     rw h.4 (agreed_rows (RowOpen tree (settled past given t.next_row (fd_of form) (past.roots j))) negotiated (with_row t (new_row t 1 form ids mode 2))
     (row_comes tree past t 1 given form ids mode 2 (past.roots j) a h.3 h.1 (told_noted tree (fd_of form) ids (past.roots j) job.holds k.told fit.2 (k.root (fd_of form) fit.1)) rows))
 rows_event tree past t j job after (change.InsertHandle era handle number fd) (event.Inserted given) t' a h m k rows =
-    rw h.4 (each_both (IsSoundRow t.next_row) (RowOpen tree past) (RowOpen tree (placed past t.next_row fd (past.resolved j))) t.rows (λ row s o. row_place tree past t.next_row fd (past.resolved j) row s o) a.sound rows)
+    rw h.4 (each_both (IsSoundRow t.next_row) (RowOpen tree past) (RowOpen tree (with_place past t.next_row fd (past.resolved j))) t.rows (λ row s o. row_place tree past t.next_row fd (past.resolved j) row s o) a.sound rows)
+rows_event tree past t j job after (change.Resolve number) (event.Resolved serial form ids mode) t' a h m k rows = rows_kept (RowOpen tree past) (row_later tree past) (kept t (change.Resolve number) (event.Resolved serial form ids mode) t' tt h) rows
 rows_event tree past t j job after e r t' a h m k rows = rows_kept (RowOpen tree past) (row_later tree past) (kept t e r t' tt h) rows
 
 -- what is held of slots, counts, new descriptors and new pins, and of what was held before, is held after
@@ -208,6 +210,7 @@ grows tree past t j (change.InsertHandle era handle number fd) (event.Inserted g
   objects = λ row k. set_at_other past.objects t.next_row (past.resolved j) row (λ e. absurd (omega (arith, e, k)));
   rows = rw h.4 (omega arith);
 }
+grows tree past t j (change.Resolve number) (event.Resolved serial form ids mode) t' a h = let l = (stays t (change.Resolve number) (event.Resolved serial form ids mode) t' h).rows in record { latest = refl; roots = refl; fds = λ row k. refl; objects = λ row k. refl; rows = l }
 grows tree past t j e r t' a h = let l = (stays t e r t' h).rows in record { latest = refl; roots = refl; fds = λ row k. refl; objects = λ row k. refl; rows = l }
 
 pub pin_grows : (past later : Past) (next next' : ℕ) (one : Hold) → Grows past later next next' → PinRight next past.fds one → PinRight next' later.fds one
@@ -329,6 +332,12 @@ event_reopened notes _ _ fd e = (e, refl)
 reopened_event : (tree : Tree) (past : Past) (t : Tables) (j : ℕ) (job after : Job) (e : Change) (r : EventReply) → MovesBy job (Changes e) (Event r) after → NotedRight tree job.notes.reopened (past.resolved j) job.holds →
     NotedRight tree after.notes.reopened ((settled_by past j (Changes e) (Event r) t.next_row tree).resolved j) after.holds
 reopened_event tree past t j job after (change.Resolve number) (event.Resolved row form ids mode) m k = λ fd q. let n = ap (λ (z : Notes). z.reopened) m.3 in absurd (cc)
+reopened_event tree past t j job after (change.Insert era number form ids mode) (event.Inserted given) m k =
+    noted_event tree job after (change.Insert era number form ids mode) (event.Inserted given) job.notes.reopened after.notes.reopened (past.resolved j) _ m.0 refl (λ f q. event_reopened job.notes (change.Insert era number form ids mode) (event.Inserted given) f (sym (ap (λ (n : Notes). n.reopened) m.3) ∙ q)) k
+reopened_event tree past t j job after (change.InsertRoot era form ids mode negotiated) (event.Inserted given) m k =
+    noted_event tree job after (change.InsertRoot era form ids mode negotiated) (event.Inserted given) job.notes.reopened after.notes.reopened (past.resolved j) _ m.0 refl (λ f q. event_reopened job.notes (change.InsertRoot era form ids mode negotiated) (event.Inserted given) f (sym (ap (λ (n : Notes). n.reopened) m.3) ∙ q)) k
+reopened_event tree past t j job after (change.InsertHandle era handle number fd) (event.Inserted given) m k =
+    noted_event tree job after (change.InsertHandle era handle number fd) (event.Inserted given) job.notes.reopened after.notes.reopened (past.resolved j) _ m.0 refl (λ f q. event_reopened job.notes (change.InsertHandle era handle number fd) (event.Inserted given) f (sym (ap (λ (n : Notes). n.reopened) m.3) ∙ q)) k
 reopened_event tree past t j job after e r m k =
     noted_event tree job after e r job.notes.reopened after.notes.reopened (past.resolved j) _ m.0 refl (λ fd q. event_reopened job.notes e r fd (sym (ap (λ (n : Notes). n.reopened) m.3) ∙ q)) k
 
@@ -374,4 +383,7 @@ knows_other tree past later next next' i job g s k = record {
 
 pub resolved_other : (past : Past) (j : ℕ) (e : Change) (r : EventReply) (next : ℕ) (tree : Tree) (i : ℕ) → i ≢ j → (settled_by past j (Changes e) (Event r) next tree).resolved i ≡ past.resolved i
 resolved_other past j (change.Resolve number) (event.Resolved row form ids mode) next tree i other = set_at_other past.resolved j (past.numbers number) i other
+resolved_other past j (change.Insert era number form ids mode) (event.Inserted given) next tree i other = refl
+resolved_other past j (change.InsertRoot era form ids mode negotiated) (event.Inserted given) next tree i other = refl
+resolved_other past j (change.InsertHandle era handle number fd) (event.Inserted given) next tree i other = refl
 resolved_other past j _ _ next tree i other = refl

@@ -114,14 +114,19 @@ turned does (Some (Calls a)) NoCopy from seat t to seat' t' h = h.1
 turned does None NoCopy from seat t to seat' t' h = h.2
 turned does _ _ from seat t to seat' t' h = absurd h
 
--- no call of these tells bytes, so each reply could be copied
-no_bytes : (a : Call) (r : HostReply) (before after : ℕ) → ReplyHoldsBytes r → IsAllowed before a r after → ⊥
-no_bytes (call.OpenRoot path flags) (host.Ok (value.Bytes bytes)) before after h f = f
-no_bytes (call.OpenAt dir name flags mode) (host.Ok (value.Bytes bytes)) before after h f = f
-no_bytes (call.Reopen fd flags) (host.Ok (value.Bytes bytes)) before after h f = f
-no_bytes (call.Stat fd) (host.Ok (value.Bytes bytes)) before after h f = f
-no_bytes (call.Close fd) (host.Ok (value.Bytes bytes)) before after h f = f
-no_bytes _ _ before after h f = absurd h
+-- reading alone tells bytes, so each other reply could be copied
+abbrev Reads : Call → Type 0
+Reads (call.ReadAt fd offset size) = Unit {0}
+Reads a = ⊥
+
+no_bytes : (a : Call) (r : HostReply) (before after : ℕ) → (Reads a → ⊥) → ReplyHoldsBytes r → IsAllowed before a r after → ⊥
+no_bytes (call.OpenRoot path flags) (host.Ok (value.Bytes bytes)) before after n h f = f
+no_bytes (call.OpenAt dir name flags mode) (host.Ok (value.Bytes bytes)) before after n h f = f
+no_bytes (call.Reopen fd flags) (host.Ok (value.Bytes bytes)) before after n h f = f
+no_bytes (call.ReadAt fd offset size) (host.Ok (value.Bytes bytes)) before after n h f = n tt
+no_bytes (call.Stat fd) (host.Ok (value.Bytes bytes)) before after n h f = f
+no_bytes (call.Close fd) (host.Ok (value.Bytes bytes)) before after n h f = f
+no_bytes _ _ before after n h f = absurd h
 
 at_most_one : (fd : ℕ) (tree : Tree) → open_count fd tree ≤ 1
 at_most_one fd tree = go (tree.opened fd)
@@ -180,7 +185,7 @@ keeps_host bound base had w js j a r seat seat' tree' after lt v l m =
       well = l.well_formed v.well;
       fds = fds;
       right = keeps_call bound w.tree w.tables.next_row w.past w.tables.rows w.tables.handles js j after a r tree' lt v.right l.changes m
-          (λ f flags object e open. judged f flags object open (subst (λ c. MovesBy (js j) (Calls c) (Host r) after) e m))
+          (λ f flags object e on. judged f flags object on (subst (λ c. MovesBy (js j) (Calls c) (Host r) after) e m))
           (λ f e.
           let n : open_count f.0 tree' ≡ 0 = closed_none w.tree tree' a f r e l.changes in
           let x = fds f.0 in
@@ -188,16 +193,26 @@ keeps_host bound base had w js j a r seat seat' tree' after lt v l m =
     }
   where
     judged : (f : Fd) (flags : OpenFlags) (object : ℕ) → IsOpenOn w.tree f object → MovesBy (js j) (Calls (call.Reopen f flags)) (Host r) after → w.past.resolved j ≡ Some object
-    judged f flags object open m =
+    judged f flags object on m =
         let fit = m.1 in
         let p = pinned_row bound w.tree w.tables w.past js j fit.0.row f lt v.tabled.books v.right fit.3 in
-        sym ((v.right.knows j lt).resolved fit.0 fit.2).1 ∙ p.2 ∙ ap Some (one_object w.tree f p.0 object p.1 open)
+        sym ((v.right.knows j lt).resolved fit.0 fit.2).1 ∙ p.2 ∙ ap Some (one_object w.tree f p.0 object p.1 on)
 
     closed_none : (tree tree' : Tree) (a : Call) (f : Fd) (r : HostReply) → a ≡ call.Close f → TreeChanges tree a r tree' → open_count f.0 tree' ≡ 0
     closed_none tree tree' a f r e h = let l : TreeChanges tree (call.Close f) r tree' = subst (λ c. TreeChanges tree c r tree') e h in none tree tree' f r l
       where
         none : (tree tree' : Tree) (f : Fd) (r : HostReply) → TreeChanges tree (call.Close f) r tree' → open_count f.0 tree' ≡ 0
         none tree tree' f r l = rw l (ap some_count (set_at_same tree.opened f.0 None))
+
+-- bytes that could not be copied were read, which moves nothing
+keeps_bytes : (bound : ℕ) (base had : ℕ → ℕ) (w : World) (js : ℕ → Job) (j : ℕ) (a : Call) (r : HostReply) (seat seat' : HostSeat) (next : World) (after : Job) (faults later : ℕ) → j < bound → Inv bound base had w js →
+    ReplyHoldsBytes r → IsAllowed faults a r later → LawfulStep w.tree seat a r next.tree seat' → next.tables ≡ w.tables → next.past ≡ settled_by w.past j (Calls a) NoCopy w.tables.next_row next.tree → MovesBy (js j) (Calls a) NoCopy after →
+    Inv bound base (λ n. had n + inserted_as n (Calls a) NoCopy) next (set_at j after js)
+keeps_bytes bound base had w js j (call.ReadAt fd offset size) (host.Ok (value.Bytes bytes)) seat seat' next after faults later lt v h f l t p m =
+    let same : next ≡ record { tree = next.tree; tables = w.tables; past = w.past } = λ i. record { tree = next.tree; tables = t i; past = p i } in
+    rw same (keeps_host bound base had w js j (call.ReadAt fd offset size) (host.Ok (value.Bytes bytes)) seat seat' next.tree after lt v l m)
+keeps_bytes bound base had w js j (call.ReadAt fd offset size) r seat seat' next after faults later lt v h f l t p m = absurd h
+keeps_bytes bound base had w js j a r seat seat' next after faults later lt v h f l t p m = absurd (no_bytes a r faults later (λ no. no) h f)
 
 keeps_by : (bound : ℕ) (base had : ℕ → ℕ) (w : World) (js : ℕ → Job) (j : ℕ) (deed : Option Deed) (told : ActReply) (seat seat' : HostSeat) (next : World) (after : Job) → j < bound → Inv bound base had w js →
     Made IsLawful deed told w.tree seat w.tables next.tree seat' next.tables → next.past ≡ settled_if w.past j deed told w.tables.next_row next.tree → MovesIf (js j) deed told after →
@@ -212,7 +227,9 @@ keeps_by bound base had w js j (Some (Changes e)) (Event r) seat seat' next afte
 keeps_by bound base had w js j (Some (Calls a)) (Host r) seat seat' next after lt v g p m =
     let same : next ≡ record { tree = next.tree; tables = w.tables; past = settled_by w.past j (Calls a) (Host r) w.tables.next_row next.tree } = λ i. record { tree = next.tree; tables = g.1 i; past = p i } in
     rw same (keeps_host bound base had w js j a r seat seat' next.tree after lt v g.0.0 m)
-keeps_by bound base had w js j (Some (Calls a)) NoCopy seat seat' next after lt v g p m = let l = g.0.2 in absurd (no_bytes a g.0.0 l.1 l.2 g.0.1 l.3.allowed)
+keeps_by bound base had w js j (Some (Calls a)) NoCopy seat seat' next after lt v g p m =
+    let l = g.0.2 in
+    keeps_bytes bound base had w js j a g.0.0 seat seat' next after l.1 l.2 lt v g.0.1 l.3.allowed l.0 g.1 p m
 keeps_by bound base had w js j _ _ seat seat' next after lt v g p m = absurd g
 
 -- Each step keeps what holds.
