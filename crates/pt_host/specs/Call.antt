@@ -11,7 +11,9 @@ Call = KeptHostOp
 abbrev pub call_of : HostOp → Call
 call_of (borrowed.OpenRoot path flags) = call.OpenRoot path.now flags
 call_of (borrowed.OpenAt fd name flags mode) = call.OpenAt fd name.now flags mode
+call_of (borrowed.Reopen fd flags) = call.Reopen fd flags
 call_of (borrowed.Stat fd) = call.Stat fd
+call_of (borrowed.ReadAt fd offset size) = call.ReadAt fd offset size
 call_of (borrowed.Close fd) = call.Close fd
 
 -- it has bytes to copy

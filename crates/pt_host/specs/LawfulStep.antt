@@ -46,6 +46,8 @@ abbrev pub Changes : Tree → Call → HostReply → Tree → Type 0
 Changes tree (call.OpenRoot path flags) (reply.Ok (value.Fd fd)) after = (object : ℕ) × Opens tree object flags fd after
 Changes tree (call.OpenAt dir name flags mode) (reply.Ok (value.Fd fd)) after =
     (object : ℕ) × (includes flags.0 o_creat ≡ false) × LeadsTo tree dir name object × Opens tree object flags fd after
+Changes tree (call.Reopen fd flags) (reply.Ok (value.Fd opened)) after = (object : ℕ) × IsOpenOn tree fd object × Opens tree object flags opened after
+Changes tree (call.ReadAt fd offset size) (reply.Ok (value.Bytes bytes)) after = after ≡ tree
 Changes tree (call.Stat fd) (reply.Ok (value.Stat stat)) after =
     (object : ℕ) × (what : Object) × IsOpenOn tree fd object × IsObject tree object what × Tells what stat × (after ≡ tree)
 Changes tree (call.Close fd) told after = after ≡ closed_at tree fd

@@ -12,7 +12,9 @@ use Rattle.pt_host.specs.declared.reply.HostValue.TheVariants as value
 abbrev pub FitsCall : Call → HostValue → Type 0
 FitsCall (call.OpenRoot path flags) (value.Fd fd) = Unit {0}
 FitsCall (call.OpenAt dir name flags mode) (value.Fd fd) = Unit {0}
+FitsCall (call.Reopen fd flags) (value.Fd opened) = Unit {0}
 FitsCall (call.Stat fd) (value.Stat stat) = Unit {0}
+FitsCall (call.ReadAt fd offset size) (value.Bytes bytes) = Unit {0}
 FitsCall (call.Close fd) value.Unit = Unit {0}
 FitsCall _ _ = ⊥
 

@@ -22,4 +22,4 @@ pub use ids::{Errno, Fd, Inode, MountId, ObjIds, Time};
 pub use op::{HostOp, KeptHostOp};
 pub use reply::{HostReply, HostValue};
 pub use seat::{Groups, HostSeat};
-pub use stat::{Stat, StatExt};
+pub use stat::{FsStat, Stat, StatExt};

@@ -21,9 +21,20 @@ pub enum HostOp<'a> {
         flags: OpenFlags,
         mode: u32,
     },
+    /// `open(2)` of what a descriptor is open on, by its link in `/proc`.
+    Reopen {
+        fd: Fd,
+        flags: OpenFlags,
+    },
     /// `statx(2)` of a descriptor.
     Stat {
         fd: Fd,
+    },
+    /// `pread(2)`.
+    ReadAt {
+        fd: Fd,
+        offset: u64,
+        size: u32,
     },
     /// `close(2)`: the descriptor ends whatever is answered.
     Close {
@@ -44,8 +55,17 @@ pub enum KeptHostOp {
         flags: OpenFlags,
         mode: u32,
     },
+    Reopen {
+        fd: Fd,
+        flags: OpenFlags,
+    },
     Stat {
         fd: Fd,
+    },
+    ReadAt {
+        fd: Fd,
+        offset: u64,
+        size: u32,
     },
     Close {
         fd: Fd,
@@ -77,7 +97,9 @@ impl<'a> HostOp<'a> {
                     mode,
                 })
             }
+            HostOp::Reopen { fd, flags } => Ok(KeptHostOp::Reopen { fd, flags }),
             HostOp::Stat { fd } => Ok(KeptHostOp::Stat { fd }),
+            HostOp::ReadAt { fd, offset, size } => Ok(KeptHostOp::ReadAt { fd, offset, size }),
             HostOp::Close { fd } => Ok(KeptHostOp::Close { fd }),
         }
     }
@@ -104,7 +126,16 @@ impl KeptHostOp {
                 flags: *flags,
                 mode: *mode,
             },
+            KeptHostOp::Reopen { fd, flags } => HostOp::Reopen {
+                fd: *fd,
+                flags: *flags,
+            },
             KeptHostOp::Stat { fd } => HostOp::Stat { fd: *fd },
+            KeptHostOp::ReadAt { fd, offset, size } => HostOp::ReadAt {
+                fd: *fd,
+                offset: *offset,
+                size: *size,
+            },
             KeptHostOp::Close { fd } => HostOp::Close { fd: *fd },
         }
     }

@@ -90,6 +90,8 @@ fn bytes_go_in_and_out(rt: HostRuntime) -> Result<(), Fail> {
     assert_eq!(rt; bytes.len(), 3);
     assert!(rt; Bytes::new(rt.alloc()).is_empty());
     let copy = bytes.copy(rt.alloc())?;
+    assert!(rt; copy == bytes);
+    assert!(rt; copy != Bytes::new(rt.alloc()));
     assert_eq!(rt; copy.into_vec().as_slice(), b"abc".as_slice());
     Ok(())
 }

@@ -22,8 +22,13 @@ pub struct Attr {
     pub gid: u32,
     pub rdev: u32,
     pub blksize: u32,
-    /// 1 where the object is the root of a mount that the guest may mount too.
+    /// `SUBMOUNT` where the object is the root of a mount that the guest may mount too, else 0.
     pub flags: u32,
+}
+
+impl Attr {
+    /// `FUSE_ATTR_SUBMOUNT`.
+    pub const SUBMOUNT: u32 = 1;
 }
 
 /// A number that was given to the guest, with the object's attributes, as `struct fuse_entry_out` has it.

@@ -2,9 +2,19 @@
 #![tactic(auto)]
 
 mod answer;
+mod directory;
 mod entry;
+mod flags;
+mod forget;
+mod length;
 mod request;
+#[cfg(test)]
+mod tests;
 
-pub use answer::{Answer, Refusal};
+pub use answer::{Answer, GetxattrReply, ListxattrReply, Refusal};
+pub use directory::{DirEntries, DirEntry};
 pub use entry::{Attr, Entry, Timeout};
-pub use request::{Context, Request};
+pub use flags::{FsOptions, OpenOptions, SetattrValid, SetxattrFlags};
+pub use forget::ForgetList;
+pub use length::used_len;
+pub use request::{Context, Extensions, Request, SecContext, SetattrIn};

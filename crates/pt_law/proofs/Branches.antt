@@ -33,6 +33,7 @@ back_step deed None told i n g = absurd i
 
 giving_gives : (one : Hold) → GivesBack (Some (giving one))
 giving_gives (hold.Pin row fd) = tt
+giving_gives (hold.HandlePin row fd) = tt
 giving_gives (hold.Fd fd was) = tt
 giving_gives hold.Slot = tt
 giving_gives (hold.Count era number) = tt

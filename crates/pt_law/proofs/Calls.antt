@@ -3,7 +3,7 @@ use Rattle.std.proofs.Common.{◌≡◌, ℕ, ◌<◌, ◌≤◌, List, Bool, tr
 use Rattle.pt_host.specs.Words.{total, Each, Takes, set_at}
 use Rattle.pt_host.specs.Call.{Call}
 use Rattle.pt_host.specs.Flags.{includes, o_path}
-use Rattle.pt_host.specs.Tree.{Tree, Opened}
+use Rattle.pt_host.specs.Tree.{Tree, Opened, IsOpenOn}
 use Rattle.pt_host.specs.LawfulStep.{Changes as TreeChanges, opened_on, closed_at}
 use Rattle.pt_host.specs.declared.ids.Fd.{Fd}
 use Rattle.pt_host.specs.declared.ids.ObjIds.{ObjIds}
@@ -13,26 +13,29 @@ use Rattle.pt_host.specs.declared.reply.HostReply.{HostReply}
 use Rattle.pt_host.specs.declared.reply.HostReply.TheVariants as host
 use Rattle.pt_host.specs.declared.reply.HostValue.TheVariants as value
 use Rattle.pt_session.specs.declared.row.Row.{Row}
+use Rattle.pt_session.specs.declared.row.HandleRow.{HandleRow}
 use Rattle.pt_req.specs.Deed.{Calls}
 use Rattle.pt_req.specs.declared.act.ActReply.TheVariants.{Host}
 use Rattle.pt_req.specs.declared.hold.Hold.{Hold}
 use Rattle.pt_req.specs.declared.hold.Hold.TheVariants as hold
 use Rattle.pt_law.specs.Discipline.{Job, Notes, with_root, without, unless, MovesBy}
 use Rattle.pt_law.specs.World.{Past, settled_by, object_of, first_of}
-use Rattle.pt_law.specs.Ledger.{fd_held, row_fd}
+use Rattle.pt_law.specs.Ledger.{fd_held, row_fd, handle_fd}
 use Rattle.pt_law.proofs.Lists.{total_takes, total_replaces, is_same, is_apart, set_at_same, set_at_other, at_each, each_replaces, each_takes, each_put}
-use Rattle.pt_law.proofs.Knowing.{RowOpen, ToldRight, PinRight, NotedOpen, NotedRight, Knowing, with_entry, rows_open, told_open, noted_open, rows_closed, told_closed, noted_closed, unless_apart}
+use Rattle.pt_law.proofs.Knowing.{RowOpen, HandleOpen, ToldRight, PinRight, NotedOpen, NotedRight, Knowing, with_entry, rows_open, handles_open, told_open, noted_open, rows_closed, handles_closed, told_closed, noted_closed, unless_apart}
 
 -- what is known of rows and jobs is right
-pub record Right (bound : ℕ) (tree : Tree) (next : ℕ) (past : Past) (rows : List Row) (js : ℕ → Job) : Type 0 where
+pub record Right (bound : ℕ) (tree : Tree) (next : ℕ) (past : Past) (rows : List Row) (handles : List HandleRow) (js : ℕ → Job) : Type 0 where
   pub shown : Each (RowOpen tree past) rows
+  pub handled : Each (HandleOpen tree past) handles
   pub knows : (j : ℕ) → j < bound → Knowing tree next past j (js j)
 
 -- nothing was opened or closed
-quiet : (bound : ℕ) (tree : Tree) (next : ℕ) (past : Past) (rows : List Row) (js : ℕ → Job) (j : ℕ) (after : Job) → j < bound → Right bound tree next past rows js → after.notes ≡ (js j).notes →
-    Each (ToldRight tree) after.holds → Each (PinRight next past.fds) after.holds → ((fd : ℕ) → total (fd_held fd) (js j).holds ≤ total (fd_held fd) after.holds) → Right bound tree next past rows (set_at j after js)
-quiet bound tree next past rows js j after lt h n told pins more = record {
+quiet : (bound : ℕ) (tree : Tree) (next : ℕ) (past : Past) (rows : List Row) (handles : List HandleRow) (js : ℕ → Job) (j : ℕ) (after : Job) → j < bound → Right bound tree next past rows handles js → after.notes ≡ (js j).notes →
+    Each (ToldRight tree) after.holds → Each (PinRight next past.fds) after.holds → ((fd : ℕ) → total (fd_held fd) (js j).holds ≤ total (fd_held fd) after.holds) → Right bound tree next past rows handles (set_at j after js)
+quiet bound tree next past rows handles js j after lt h n told pins more = record {
   shown = h.shown;
+  handled = h.handled;
   knows = λ i less. at_each (Knowing tree next past) js j after i (
       let k = h.knows j lt in
       record {
@@ -41,22 +44,26 @@ quiet bound tree next past rows js j after lt h n told pins more = record {
         latest = λ fd e. let a = k.latest fd (sym (ap (λ (z : Notes). z.latest) n) ∙ e) in record { held = let b = a.held in let c = more fd.0 in omega (arith, b, c); object = a.object; open_on = a.open_on; judged = a.judged };
         root = λ fd e. let a = k.root fd (sym (ap (λ (z : Notes). z.root) n) ∙ e) in record { held = let b = a.held in let c = more fd.0 in omega (arith, b, c); object = a.object; open_on = a.open_on; judged = a.judged };
         unrooted = λ e. k.unrooted (sym (ap (λ (z : Notes). z.rooted) n) ∙ e);
+        resolved = λ was e. k.resolved was (sym (ap (λ (z : Notes). z.resolved) n) ∙ e);
+        reopened = λ fd e. let a = k.reopened fd (sym (ap (λ (z : Notes). z.reopened) n) ∙ e) in record { held = let b = a.held in let c = more fd.0 in omega (arith, b, c); object = a.object; open_on = a.open_on; judged = a.judged };
       }) (λ _. h.knows i less);
 }
 
-same_holds : (bound : ℕ) (tree : Tree) (next : ℕ) (past : Past) (rows : List Row) (js : ℕ → Job) (j : ℕ) (after : Job) → j < bound → Right bound tree next past rows js → after.notes ≡ (js j).notes →
-    after.holds ≡ (js j).holds → Right bound tree next past rows (set_at j after js)
-same_holds bound tree next past rows js j after lt h n e = quiet bound tree next past rows js j after lt h n (rw e (h.knows j lt).told) (rw e (h.knows j lt).pins) (λ fd. rw e (omega arith))
+same_holds : (bound : ℕ) (tree : Tree) (next : ℕ) (past : Past) (rows : List Row) (handles : List HandleRow) (js : ℕ → Job) (j : ℕ) (after : Job) → j < bound → Right bound tree next past rows handles js → after.notes ≡ (js j).notes →
+    after.holds ≡ (js j).holds → Right bound tree next past rows handles (set_at j after js)
+same_holds bound tree next past rows handles js j after lt h n e = quiet bound tree next past rows handles js j after lt h n (rw e (h.knows j lt).told) (rw e (h.knows j lt).pins) (λ fd. rw e (omega arith))
 
 -- what another job knows, where a descriptor was opened
-elsewhere : (tree : Tree) (next : ℕ) (past later : Past) (i : ℕ) (job : Job) (f : ℕ) (x : Option Opened) → tree.opened f ≡ None → later.fds ≡ past.fds → later.latest i ≡ past.latest i → later.roots i ≡ past.roots i →
+elsewhere : (tree : Tree) (next : ℕ) (past later : Past) (i : ℕ) (job : Job) (f : ℕ) (x : Option Opened) → tree.opened f ≡ None → later.fds ≡ past.fds → later.latest i ≡ past.latest i → later.roots i ≡ past.roots i → later.objects ≡ past.objects → later.resolved ≡ past.resolved →
     Knowing tree next past i job → Knowing (with_entry tree f x) next later i job
-elsewhere tree next past later i job f x n e l r k = record {
+elsewhere tree next past later i job f x n e l r o q k = record {
   told = told_open tree f x job.holds n k.told;
   pins = rw e k.pins;
   latest = rw l (noted_open tree f x job.notes.latest (past.latest i) job.holds job.holds n (λ fd. omega arith) k.latest);
   root = rw r (noted_open tree f x job.notes.root (past.roots i) job.holds job.holds n (λ fd. omega arith) k.root);
-  unrooted = λ q. r ∙ k.unrooted q;
+  unrooted = λ u. r ∙ k.unrooted u;
+  resolved = λ was u. let a = k.resolved was u in (a.0, ap (λ z. z was.row) o ∙ a.1 ∙ sym (ap (λ z. z i) q));
+  reopened = rw (ap (λ z. z i) q) (noted_open tree f x job.notes.reopened (past.resolved i) job.holds job.holds n (λ fd. omega arith) k.reopened);
 }
 
 more_held : {one : Hold} {holds after : List Hold} → Takes one after holds → (fd : ℕ) → total (fd_held fd) holds ≤ total (fd_held fd) after
@@ -80,14 +87,15 @@ opened_latest past j o = record past { latest = set_at j o past.latest }
 abbrev opened_root : Past → ℕ → Option ℕ → Past
 opened_root past j o = record past { roots = set_at j (first_of (past.roots j) o) past.roots }
 
-opens_at : (bound : ℕ) (tree : Tree) (next : ℕ) (past : Past) (rows : List Row) (js : ℕ → Job) (j : ℕ) (after : Job) (object : ℕ) (flags : OpenFlags) (new : Fd) → j < bound → Right bound tree next past rows js →
+opens_at : (bound : ℕ) (tree : Tree) (next : ℕ) (past : Past) (rows : List Row) (handles : List HandleRow) (js : ℕ → Job) (j : ℕ) (after : Job) (object : ℕ) (flags : OpenFlags) (new : Fd) → j < bound → Right bound tree next past rows handles js →
     tree.opened new.0 ≡ None → Takes (hold.Fd new None) after.holds (js j).holds → after.notes ≡ record (js j).notes { latest = Some new } →
-    (o : Option ℕ) → o ≡ Some object → Right bound (opened_on tree object flags new) next (opened_latest past j o) rows (set_at j after js)
-opens_at bound tree next past rows js j after object flags new lt h free t n o judged =
+    (o : Option ℕ) → o ≡ Some object → Right bound (opened_on tree object flags new) next (opened_latest past j o) rows handles (set_at j after js)
+opens_at bound tree next past rows handles js j after object flags new lt h free t n o judged =
     let x : Option Opened = Some (record { object = object; path_only = includes flags.0 o_path }) in
     let later = opened_latest past j o in
     record {
       shown = rows_open tree past new.0 x rows free h.shown;
+      handled = handles_open tree past new.0 x handles free h.handled;
       knows = λ i less. at_each (Knowing (opened_on tree object flags new) next later) js j after i (
           let k = h.knows j lt in
           record {
@@ -96,8 +104,10 @@ opens_at bound tree next past rows js j after object flags new lt h free t n o j
             latest = λ fd e. just_opened tree object flags new fd (later.latest j) (let a = ap (λ (z : Notes). z.latest) n in cc) t (set_at_same past.latest j o ∙ judged);
             root = rw (ap (λ (z : Notes). z.root) n) (noted_open tree new.0 x (js j).notes.root (past.roots j) (js j).holds after.holds free (more_held t) k.root);
             unrooted = λ e. k.unrooted (sym (ap (λ (z : Notes). z.rooted) n) ∙ e);
+            resolved = λ was e. k.resolved was (sym (ap (λ (z : Notes). z.resolved) n) ∙ e);
+            reopened = rw (ap (λ (z : Notes). z.reopened) n) (noted_open tree new.0 x (js j).notes.reopened (past.resolved j) (js j).holds after.holds free (more_held t) k.reopened);
           })
-          (λ other. elsewhere tree next past later i (js i) new.0 x free refl (set_at_other past.latest j o i other) refl (h.knows i less));
+          (λ other. elsewhere tree next past later i (js i) new.0 x free refl (set_at_other past.latest j o i other) refl refl refl (h.knows i less));
     }
 
 -- the first root stays the first
@@ -112,15 +122,16 @@ root_after tree object flags new notes was o holds after free t judged h u true 
 root_after tree object flags new notes was o holds after free t judged h u false e =
     ((λ fd q. just_opened tree object flags new fd (first_of was o) (cc) t (ap (λ z. first_of z o) (u e) ∙ judged)), refl)
 
-opens_root : (bound : ℕ) (tree : Tree) (next : ℕ) (past : Past) (rows : List Row) (js : ℕ → Job) (j : ℕ) (after : Job) (object : ℕ) (flags : OpenFlags) (new : Fd) → j < bound → Right bound tree next past rows js →
+opens_root : (bound : ℕ) (tree : Tree) (next : ℕ) (past : Past) (rows : List Row) (handles : List HandleRow) (js : ℕ → Job) (j : ℕ) (after : Job) (object : ℕ) (flags : OpenFlags) (new : Fd) → j < bound → Right bound tree next past rows handles js →
     tree.opened new.0 ≡ None → Takes (hold.Fd new None) after.holds (js j).holds → after.notes ≡ with_root new (js j).notes →
-    (o : Option ℕ) → o ≡ Some object → Right bound (opened_on tree object flags new) next (opened_root past j o) rows (set_at j after js)
-opens_root bound tree next past rows js j after object flags new lt h free t n o judged =
+    (o : Option ℕ) → o ≡ Some object → Right bound (opened_on tree object flags new) next (opened_root past j o) rows handles (set_at j after js)
+opens_root bound tree next past rows handles js j after object flags new lt h free t n o judged =
     let x : Option Opened = Some (record { object = object; path_only = includes flags.0 o_path }) in
     let later = opened_root past j o in
     let first = first_of (past.roots j) o in
     record {
       shown = rows_open tree past new.0 x rows free h.shown;
+      handled = handles_open tree past new.0 x handles free h.handled;
       knows = λ i less. at_each (Knowing (opened_on tree object flags new) next later) js j after i (
           let k = h.knows j lt in
           let r = root_after tree object flags new (js j).notes (past.roots j) o (js j).holds after.holds free t judged k.root k.unrooted (js j).notes.rooted refl in
@@ -131,10 +142,26 @@ opens_root bound tree next past rows js j after object flags new lt h free t n o
             latest = rw (ap (λ (z : Notes). z.latest) n ∙ root_latest new (js j).notes) (noted_open tree new.0 x (js j).notes.latest (past.latest j) (js j).holds after.holds free (more_held t) k.latest);
             root = rw (ap (λ (z : Notes). z.root) n, now) r.0;
             unrooted = λ e. let a = ap (λ (z : Notes). z.rooted) n in let b = r.1 in absurd (cc);
+            resolved = λ was e. k.resolved was (sym (root_resolved new (js j).notes) ∙ sym (ap (λ (z : Notes). z.resolved) n) ∙ e);
+            reopened = rw (ap (λ (z : Notes). z.reopened) n ∙ root_reopened new (js j).notes) (noted_open tree new.0 x (js j).notes.reopened (past.resolved j) (js j).holds after.holds free (more_held t) k.reopened);
           })
-          (λ other. elsewhere tree next past later i (js i) new.0 x free refl refl (set_at_other past.roots j first i other) (h.knows i less));
+          (λ other. elsewhere tree next past later i (js i) new.0 x free refl refl (set_at_other past.roots j first i other) refl refl (h.knows i less));
     }
   where
+    root_resolved : (fd : Fd) (notes : Notes) → (with_root fd notes).resolved ≡ notes.resolved
+    root_resolved fd notes = go notes.rooted
+      where
+        go : (b : Bool) → (with_root fd (record notes { rooted = b })).resolved ≡ notes.resolved
+        go true = refl
+        go false = refl
+
+    root_reopened : (fd : Fd) (notes : Notes) → (with_root fd notes).reopened ≡ notes.reopened
+    root_reopened fd notes = go notes.rooted
+      where
+        go : (b : Bool) → (with_root fd (record notes { rooted = b })).reopened ≡ notes.reopened
+        go true = refl
+        go false = refl
+
     root_latest : (fd : Fd) (notes : Notes) → (with_root fd notes).latest ≡ notes.latest
     root_latest fd notes = go notes.rooted
       where
@@ -142,12 +169,36 @@ opens_root bound tree next past rows js j after object flags new lt h free t n o
         go true = refl
         go false = refl
 
+-- what was resolved last is opened anew
+opens_anew : (bound : ℕ) (tree : Tree) (next : ℕ) (past : Past) (rows : List Row) (handles : List HandleRow) (js : ℕ → Job) (j : ℕ) (after : Job) (object : ℕ) (flags : OpenFlags) (new : Fd) → j < bound → Right bound tree next past rows handles js →
+    tree.opened new.0 ≡ None → Takes (hold.Fd new None) after.holds (js j).holds → after.notes ≡ record (js j).notes { reopened = Some new } → past.resolved j ≡ Some object →
+    Right bound (opened_on tree object flags new) next past rows handles (set_at j after js)
+opens_anew bound tree next past rows handles js j after object flags new lt h free t n judged =
+    let x : Option Opened = Some (record { object = object; path_only = includes flags.0 o_path }) in
+    record {
+      shown = rows_open tree past new.0 x rows free h.shown;
+      handled = handles_open tree past new.0 x handles free h.handled;
+      knows = λ i less. at_each (Knowing (opened_on tree object flags new) next past) js j after i (
+          let k = h.knows j lt in
+          record {
+            told = each_put (ToldRight (with_entry tree new.0 x)) t tt (told_open tree new.0 x (js j).holds free k.told);
+            pins = each_put (PinRight next past.fds) t tt k.pins;
+            latest = rw (ap (λ (z : Notes). z.latest) n) (noted_open tree new.0 x (js j).notes.latest (past.latest j) (js j).holds after.holds free (more_held t) k.latest);
+            root = rw (ap (λ (z : Notes). z.root) n) (noted_open tree new.0 x (js j).notes.root (past.roots j) (js j).holds after.holds free (more_held t) k.root);
+            unrooted = λ e. k.unrooted (sym (ap (λ (z : Notes). z.rooted) n) ∙ e);
+            resolved = λ was e. k.resolved was (sym (ap (λ (z : Notes). z.resolved) n) ∙ e);
+            reopened = λ fd e. just_opened tree object flags new fd (past.resolved j) (let a = ap (λ (z : Notes). z.reopened) n in cc) t judged;
+          })
+          (λ other. elsewhere tree next past past i (js i) new.0 x free refl refl refl refl refl (h.knows i less));
+    }
+
 -- a descriptor was closed that no row and no job has after
-closes : (bound : ℕ) (tree : Tree) (next : ℕ) (past : Past) (rows : List Row) (js : ℕ → Job) (j : ℕ) (after : Job) (f : Fd) (told : Option ObjIds) → j < bound → Right bound tree next past rows js →
-    Takes (hold.Fd f told) (js j).holds after.holds → after.notes ≡ without f (js j).notes → total (row_fd f.0) rows ≡ 0 →
-    ((i : ℕ) → i < bound → total (fd_held f.0) (set_at j after js i).holds ≡ 0) → Right bound (closed_at tree f) next past rows (set_at j after js)
-closes bound tree next past rows js j after f told lt h t n z none = record {
+closes : (bound : ℕ) (tree : Tree) (next : ℕ) (past : Past) (rows : List Row) (handles : List HandleRow) (js : ℕ → Job) (j : ℕ) (after : Job) (f : Fd) (told : Option ObjIds) → j < bound → Right bound tree next past rows handles js →
+    Takes (hold.Fd f told) (js j).holds after.holds → after.notes ≡ without f (js j).notes → total (row_fd f.0) rows ≡ 0 → total (handle_fd f.0) handles ≡ 0 →
+    ((i : ℕ) → i < bound → total (fd_held f.0) (set_at j after js i).holds ≡ 0) → Right bound (closed_at tree f) next past rows handles (set_at j after js)
+closes bound tree next past rows handles js j after f told lt h t n z y none = record {
   shown = rows_closed tree past f.0 rows z h.shown;
+  handled = handles_closed tree past f.0 handles y h.handled;
   knows = λ i less. at_each (λ i job. total (fd_held f.0) job.holds ≡ 0 → Knowing (closed_at tree f) next past i job) js j after i
       (λ y.
       let k = h.knows j lt in
@@ -157,6 +208,8 @@ closes bound tree next past rows js j after f told lt h t n z none = record {
         latest = noted_closed tree f.0 after.notes.latest (past.latest j) after.holds y (left (js j).notes.latest after.notes.latest (past.latest j) (ap (λ (z : Notes). z.latest) n) k.latest);
         root = noted_closed tree f.0 after.notes.root (past.roots j) after.holds y (left (js j).notes.root after.notes.root (past.roots j) (ap (λ (z : Notes). z.root) n) k.root);
         unrooted = λ e. k.unrooted (sym (ap (λ (z : Notes). z.rooted) n) ∙ e);
+        resolved = λ was e. k.resolved was (sym (ap (λ (z : Notes). z.resolved) n) ∙ e);
+        reopened = noted_closed tree f.0 after.notes.reopened (past.resolved j) after.holds y (left (js j).notes.reopened after.notes.reopened (past.resolved j) (ap (λ (z : Notes). z.reopened) n) k.reopened);
       })
       (λ other y.
       let k = h.knows i less in
@@ -166,6 +219,8 @@ closes bound tree next past rows js j after f told lt h t n z none = record {
         latest = noted_closed tree f.0 (js i).notes.latest (past.latest i) (js i).holds y k.latest;
         root = noted_closed tree f.0 (js i).notes.root (past.roots i) (js i).holds y k.root;
         unrooted = k.unrooted;
+        resolved = k.resolved;
+        reopened = noted_closed tree f.0 (js i).notes.reopened (past.resolved i) (js i).holds y k.reopened;
       })
       (none i less);
 }
@@ -176,29 +231,38 @@ closes bound tree next past rows js j after f told lt h t n z none = record {
         let a = k fd s.0 in
         record { held = let b = a.held in let c = total_takes (fd_held fd.0) t in let d = is_apart f.0 fd.0 s.1 in omega (arith, b, c, d); object = a.object; open_on = a.open_on; judged = a.judged }
 
--- Each call keeps what is known, where what it closes is no row's and nobody's after.
-pub keeps_call : (bound : ℕ) (tree : Tree) (next : ℕ) (past : Past) (rows : List Row) (js : ℕ → Job) (j : ℕ) (after : Job) (a : Call) (r : HostReply) (tree' : Tree) → j < bound → Right bound tree next past rows js →
+-- Each call keeps what is known, where what it closes is no row's and nobody's after, and what it opens anew is what was resolved last.
+pub keeps_call : (bound : ℕ) (tree : Tree) (next : ℕ) (past : Past) (rows : List Row) (handles : List HandleRow) (js : ℕ → Job) (j : ℕ) (after : Job) (a : Call) (r : HostReply) (tree' : Tree) → j < bound → Right bound tree next past rows handles js →
     TreeChanges tree a r tree' → MovesBy (js j) (Calls a) (Host r) after →
-    ((f : Fd) → a ≡ call.Close f → (total (row_fd f.0) rows ≡ 0) × ((i : ℕ) → i < bound → total (fd_held f.0) (set_at j after js i).holds ≡ 0)) →
-    Right bound tree' next (settled_by past j (Calls a) (Host r) next tree') rows (set_at j after js)
-keeps_call bound tree next past rows js j after (call.OpenRoot path flags) (host.Ok (value.Fd new)) tree' lt h l m c =
+    ((f : Fd) (flags : OpenFlags) (object : ℕ) → a ≡ call.Reopen f flags → IsOpenOn tree f object → past.resolved j ≡ Some object) →
+    ((f : Fd) → a ≡ call.Close f → (total (row_fd f.0) rows ≡ 0) × (total (handle_fd f.0) handles ≡ 0) × ((i : ℕ) → i < bound → total (fd_held f.0) (set_at j after js i).holds ≡ 0)) →
+    Right bound tree' next (settled_by past j (Calls a) (Host r) next tree') rows handles (set_at j after js)
+keeps_call bound tree next past rows handles js j after (call.OpenRoot path flags) (host.Ok (value.Fd new)) tree' lt h l m b c =
     let o = l.1 in
-    rw o.adds (opens_root bound tree next past rows js j after l.0 flags new lt h o.fresh m.0 m.3 (object_of ((opened_on tree l.0 flags new).opened new.0)) (object_opened tree l.0 flags new))
-keeps_call bound tree next past rows js j after (call.OpenAt dir name flags mode) (host.Ok (value.Fd new)) tree' lt h l m c =
+    rw o.adds (opens_root bound tree next past rows handles js j after l.0 flags new lt h o.fresh m.0 m.3 (object_of ((opened_on tree l.0 flags new).opened new.0)) (object_opened tree l.0 flags new))
+keeps_call bound tree next past rows handles js j after (call.OpenAt dir name flags mode) (host.Ok (value.Fd new)) tree' lt h l m b c =
     let o = l.3 in
-    rw o.adds (opens_at bound tree next past rows js j after l.0 flags new lt h o.fresh m.0.1 m.3 (object_of ((opened_on tree l.0 flags new).opened new.0)) (object_opened tree l.0 flags new))
-keeps_call bound tree next past rows js j after (call.Stat f) (host.Ok (value.Stat stat)) tree' lt h l m c =
-    rw l.5 (quiet bound tree next past rows js j after lt h m.3
+    rw o.adds (opens_at bound tree next past rows handles js j after l.0 flags new lt h o.fresh m.0.1 m.3 (object_of ((opened_on tree l.0 flags new).opened new.0)) (object_opened tree l.0 flags new))
+keeps_call bound tree next past rows handles js j after (call.Reopen f flags) (host.Ok (value.Fd new)) tree' lt h l m b c =
+    let o = l.2 in
+    rw o.adds (opens_anew bound tree next past rows handles js j after l.0 flags new lt h o.fresh m.0.1 m.3 (b f flags l.0 refl l.1))
+keeps_call bound tree next past rows handles js j after (call.ReadAt f offset size) (host.Ok (value.Bytes bytes)) tree' lt h l m b c = rw l (same_holds bound tree next past rows handles js j after lt h m.3 m.0.1)
+keeps_call bound tree next past rows handles js j after (call.Stat f) (host.Ok (value.Stat stat)) tree' lt h l m b c =
+    rw l.5 (quiet bound tree next past rows handles js j after lt h m.3
     (each_replaces (ToldRight tree) m.0.1 (λ _. (l.0, record { open_on = l.2; what = l.1; is_object = l.3; same_ids = sym l.4.ids })) (h.knows j lt).told)
     (each_replaces (PinRight next past.fds) m.0.1 (λ _. tt) (h.knows j lt).pins)
     (λ fd. let e = total_replaces (fd_held fd) m.0.1 in omega (arith, e)))
-keeps_call bound tree next past rows js j after (call.Close f) told tree' lt h l m c =
+keeps_call bound tree next past rows handles js j after (call.Close f) told tree' lt h l m b c =
     let e = c f refl in
-    rw l (closes bound tree next past rows js j after f m.0.0 lt h m.0.1 m.3 e.0 e.1)
-keeps_call bound tree next past rows js j after asked (host.Ok told) tree' lt h l m c = absurd l
-keeps_call bound tree next past rows js j after (call.OpenRoot path flags) (host.Refused e) tree' lt h l m c = rw l.1 (same_holds bound tree next past rows js j after lt h m.3 m.0)
-keeps_call bound tree next past rows js j after (call.OpenAt dir name flags mode) (host.Refused e) tree' lt h l m c = rw l.1 (same_holds bound tree next past rows js j after lt h m.3 m.0.1)
-keeps_call bound tree next past rows js j after (call.Stat f) (host.Refused e) tree' lt h l m c = rw l.1 (same_holds bound tree next past rows js j after lt h m.3 m.0.1)
-keeps_call bound tree next past rows js j after (call.OpenRoot path flags) told tree' lt h l m c = rw l (same_holds bound tree next past rows js j after lt h m.3 m.0)
-keeps_call bound tree next past rows js j after (call.OpenAt dir name flags mode) told tree' lt h l m c = rw l (same_holds bound tree next past rows js j after lt h m.3 m.0.1)
-keeps_call bound tree next past rows js j after (call.Stat f) told tree' lt h l m c = rw l (same_holds bound tree next past rows js j after lt h m.3 m.0.1)
+    rw l (closes bound tree next past rows handles js j after f m.0.0 lt h m.0.1 m.3 e.0 e.1 e.2)
+keeps_call bound tree next past rows handles js j after asked (host.Ok told) tree' lt h l m b c = absurd l
+keeps_call bound tree next past rows handles js j after (call.OpenRoot path flags) (host.Refused e) tree' lt h l m b c = rw l.1 (same_holds bound tree next past rows handles js j after lt h m.3 m.0)
+keeps_call bound tree next past rows handles js j after (call.OpenAt dir name flags mode) (host.Refused e) tree' lt h l m b c = rw l.1 (same_holds bound tree next past rows handles js j after lt h m.3 m.0.1)
+keeps_call bound tree next past rows handles js j after (call.Reopen f flags) (host.Refused e) tree' lt h l m b c = rw l.1 (same_holds bound tree next past rows handles js j after lt h m.3 m.0.1)
+keeps_call bound tree next past rows handles js j after (call.ReadAt f offset size) (host.Refused e) tree' lt h l m b c = rw l.1 (same_holds bound tree next past rows handles js j after lt h m.3 m.0.1)
+keeps_call bound tree next past rows handles js j after (call.Stat f) (host.Refused e) tree' lt h l m b c = rw l.1 (same_holds bound tree next past rows handles js j after lt h m.3 m.0.1)
+keeps_call bound tree next past rows handles js j after (call.OpenRoot path flags) told tree' lt h l m b c = rw l (same_holds bound tree next past rows handles js j after lt h m.3 m.0)
+keeps_call bound tree next past rows handles js j after (call.OpenAt dir name flags mode) told tree' lt h l m b c = rw l (same_holds bound tree next past rows handles js j after lt h m.3 m.0.1)
+keeps_call bound tree next past rows handles js j after (call.Reopen f flags) told tree' lt h l m b c = rw l (same_holds bound tree next past rows handles js j after lt h m.3 m.0.1)
+keeps_call bound tree next past rows handles js j after (call.ReadAt f offset size) told tree' lt h l m b c = rw l (same_holds bound tree next past rows handles js j after lt h m.3 m.0.1)
+keeps_call bound tree next past rows handles js j after (call.Stat f) told tree' lt h l m b c = rw l (same_holds bound tree next past rows handles js j after lt h m.3 m.0.1)

@@ -5,6 +5,7 @@ use Rattle.pt_host.specs.Words.{is, total, Each, set_at, sum_to}
 use Rattle.pt_session.specs.Change.{Change}
 use Rattle.pt_session.specs.Tables.{Tables, Agree}
 use Rattle.pt_session.specs.declared.row.Row.{Row}
+use Rattle.pt_session.specs.declared.row.HandleRow.{HandleRow}
 use Rattle.pt_session.specs.Happens.{Happens}
 use Rattle.pt_session.specs.declared.event.KeptEvent.TheVariants as change
 use Rattle.pt_session.specs.declared.reply.EventRefusal.TheVariants.{NotLive}
@@ -18,7 +19,7 @@ use Rattle.pt_req.specs.declared.hold.Hold.{Hold}
 use Rattle.pt_law.specs.Discipline.{Job, MovesBy}
 use Rattle.pt_law.specs.World.{TablesGo}
 use Rattle.pt_law.specs.Ledger.{held_by, kept_slots}
-use Rattle.pt_law.proofs.Flows.{slot_held, pin_held, row_pins, closing_ended, IsHonest, called}
+use Rattle.pt_law.proofs.Flows.{slot_held, pin_held, handle_pin_held, row_pins, handle_pins, closing_ended, IsHonest, called}
 use Rattle.pt_law.proofs.Lists.{total_takes, le_sum_to, sum_to_set, is_same, is_apart}
 use Rattle.pt_law.proofs.Effects.{stays}
 use Rattle.pt_law.proofs.Balance.{moved}
@@ -28,6 +29,7 @@ use Rattle.pt_law.proofs.Holding.{handed}
 pub record Books (bound : ℕ) (t : Tables) (js : ℕ → Job) : Type 0 where
   pub slots : kept_slots t + held_by bound slot_held js ≡ t.limit
   pub pins : (serial : ℕ) → total (row_pins serial) t.rows ≡ held_by bound (pin_held serial) js
+  pub handle_pins : (serial : ℕ) → total (handle_pins serial) t.handles ≡ held_by bound (handle_pin_held serial) js
   pub closings : length t.closing ≡ sum_to bound (λ j. (js j).owed)
 
 pub part : (w : Hold → ℕ) (js : ℕ → Job) (bound j : ℕ) → j < bound → total w (js j).holds ≤ held_by bound w js
@@ -43,6 +45,16 @@ unpinned serial (r ∷ rs) h = let k = unpinned serial rs h.1 in let a : row_pin
     other : r.serial ≢ serial → row_pins serial r ≡ 0
     other e = let y = ap (λ i. i * r.pins) (is_apart r.serial serial e) in omega (arith, y)
 
+handle_unpinned : (serial : ℕ) (rows : List HandleRow) → Each (λ r. (r.serial ≡ serial) × (r.pins ≢ 0) → ⊥) rows → total (handle_pins serial) rows ≡ 0
+handle_unpinned serial [] h = refl
+handle_unpinned serial (r ∷ rs) h = let k = handle_unpinned serial rs h.1 in let a : handle_pins serial r ≡ 0 = ⊎_elim same other (cases_eq r.serial serial) in omega (arith, k, a)
+  where
+    same : r.serial ≡ serial → handle_pins serial r ≡ 0
+    same e = ⊎_elim (λ (z : r.pins ≡ 0). let y = ap (λ p. is r.serial serial * p) z in omega (arith, y)) (λ (z : r.pins ≢ 0). absurd (h.0 (e, z))) (cases_eq r.pins 0)
+
+    other : r.serial ≢ serial → handle_pins serial r ≡ 0
+    other e = let y = ap (λ i. i * r.pins) (is_apart r.serial serial e) in omega (arith, y)
+
 -- what a job holds can be given back
 pub honest : (bound : ℕ) (t : Tables) (js : ℕ → Job) (j : ℕ) (e : Change) (r : EventReply) (t' : Tables) (after : Job) → j < bound → Books bound t js → Happens t e r t' →
     MovesBy (js j) (Changes e) (Event r) after → IsHonest (Changes e) (Event r)
@@ -54,6 +66,14 @@ honest bound t js j (change.Unpin row) (event.Refused NotLive) t' after lt b h m
     let s = is_same row in
     absurd (omega (arith, u, p, q, k, s))
 honest bound t js j (change.Unpin row) (event.Refused _) t' after lt b h m = absurd h
+honest bound t js j (change.UnpinHandle row) (event.Refused NotLive) t' after lt b h m =
+    let u = handle_unpinned row t.handles h.0 in
+    let p = b.handle_pins row in
+    let q = part (handle_pin_held row) js bound j lt in
+    let k = total_takes (handle_pin_held row) m.0.1 in
+    let s = is_same row in
+    absurd (omega (arith, u, p, q, k, s))
+honest bound t js j (change.UnpinHandle row) (event.Refused _) t' after lt b h m = absurd h
 honest bound t js j change.GiveFd (event.Refused NotLive) t' after lt b h m =
     let p = b.slots in
     let q = part slot_held js bound j lt in
@@ -81,16 +101,18 @@ keeps_books bound t js j (Calls a) told t' after lt agree b g m =
     rw (called t a told t' g) (record {
       slots = let x = b.slots in let y = f.slots in let z = sum_to_set (λ (k : Job). total slot_held k.holds) js j after bound lt in omega (arith, x, y, z);
       pins = λ s. let x = b.pins s in let y = f.pins s in let z = sum_to_set (λ (k : Job). total (pin_held s) k.holds) js j after bound lt in omega (arith, x, y, z);
+      handle_pins = λ s. let x = b.handle_pins s in let y = f.handle_pins s in let z = sum_to_set (λ (k : Job). total (handle_pin_held s) k.holds) js j after bound lt in omega (arith, x, y, z);
       closings = let x = b.closings in let z = sum_to_set (λ (k : Job). k.owed) js j after bound lt in omega (arith, x, o, z);
     })
 keeps_books bound t js j (Changes e) (Event r) t' after lt agree b g m =
     let f = handed (js j).holds (Changes e) (Event r) after.holds m.0 in
     let o = owed_flow (js j) (Changes e) (Event r) after m in
     let v = moved t e r t' g (honest bound t js j e r t' after lt b g m) in
-    let l = (stays t e r t' agree g).limit in
+    let l = (stays t e r t' g).limit in
     record {
       slots = let x = b.slots in let y = f.slots in let u = v.slots in let z = sum_to_set (λ (k : Job). total slot_held k.holds) js j after bound lt in omega (arith, x, y, z, u, l);
       pins = λ s. let x = b.pins s in let y = f.pins s in let u = v.pins s in let z = sum_to_set (λ (k : Job). total (pin_held s) k.holds) js j after bound lt in omega (arith, x, y, z, u);
+      handle_pins = λ s. let x = b.handle_pins s in let y = f.handle_pins s in let u = v.handle_pins s in let z = sum_to_set (λ (k : Job). total (handle_pin_held s) k.holds) js j after bound lt in omega (arith, x, y, z, u);
       closings = let x = b.closings in let u = v.closings in let z = sum_to_set (λ (k : Job). k.owed) js j after bound lt in omega (arith, x, o, z, u);
     }
 keeps_books bound t js j (Changes e) told t' after lt agree b g m = absurd g

@@ -19,16 +19,16 @@ abbrev back : List Step → List Step → List Step
 back [] past = past
 back (step ∷ steps) past = back steps (step ∷ past)
 
-turned : (steps past : List Step) (errno : Errno) → SomeCauses (back steps past) errno → SomeCauses steps errno ⊎ SomeCauses past errno
-turned [] past errno s = inr s
-turned (step ∷ steps) past errno s = elim (turned steps (step ∷ past) errno s) [
+turned : (asked : Request) (steps past : List Step) (errno : Errno) → SomeCauses asked (back steps past) errno → SomeCauses asked steps errno ⊎ SomeCauses asked past errno
+turned asked [] past errno s = inr s
+turned asked (step ∷ steps) past errno s = elim (turned asked steps (step ∷ past) errno s) [
   | inl later ↦ inl (inr later)
   | inr (inl now) ↦ inl (inl now)
   | inr (inr before) ↦ inr before
 ]
 
-in_turn : (steps : List Step) (errno : Errno) → SomeCauses (back steps []) errno → SomeCauses steps errno
-in_turn steps errno s = elim (turned steps [] errno s) [
+in_turn : (asked : Request) (steps : List Step) (errno : Errno) → SomeCauses asked (back steps []) errno → SomeCauses asked steps errno
+in_turn asked steps errno s = elim (turned asked steps [] errno s) [
   | inl later ↦ later
   | inr none ↦ absurd none
 ]
@@ -62,7 +62,7 @@ pub fit_ends : (asked : Request) (tree : Tree) (steps : List Step) (last : Finis
     Ends idle steps last × IsCausedEnd asked steps last
 fit_ends asked tree steps last f t b =
     let k = ends asked (framed tree []) idle [] steps last (sound_framed asked tree [] blank [] [] f (λ errno s. s)) t b in
-    (k.0, end_within asked last (back steps []) steps (in_turn steps) k.1)
+    (k.0, end_within asked last (back steps []) steps (in_turn asked steps) k.1)
 
 pub fit_ends_cut : (asked : Request) (tree : Tree) (steps : List Step) (last : Finish) → Fit asked tree [] blank [] → AllMayBeTold steps → BelongsCut (framed tree []) steps last →
     Ends idle steps last

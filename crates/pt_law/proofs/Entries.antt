@@ -51,6 +51,8 @@ settled_objects : (past : Past) (j : ℕ) (deed : Option Deed) (told : ActReply)
 settled_objects past j None told next tree row l = refl
 settled_objects past j (Some (Changes (change.Insert era number form ids mode))) (Event (event.Inserted given)) next tree row l = set_at_other past.objects next (past.latest j) row (λ e. absurd (omega (arith, e, l)))
 settled_objects past j (Some (Changes (change.InsertRoot era form ids mode agreed))) (Event (event.Inserted given)) next tree row l = set_at_other past.objects next (past.roots j) row (λ e. absurd (omega (arith, e, l)))
+settled_objects past j (Some (Changes (change.InsertHandle era handle number fd))) (Event (event.Inserted given)) next tree row l = set_at_other past.objects next (past.resolved j) row (λ e. absurd (omega (arith, e, l)))
+settled_objects past j (Some (Changes (change.Resolve number))) (Event (event.Resolved serial form ids mode)) next tree row l = refl
 settled_objects past j (Some (Calls (call.OpenAt dir name flags mode))) (Host (host.Ok (value.Fd fd))) next tree row l = refl
 settled_objects past j (Some (Calls (call.OpenRoot place flags))) (Host (host.Ok (value.Fd fd))) next tree row l = refl
 settled_objects past j (Some _) _ next tree row l = refl
@@ -58,7 +60,7 @@ settled_objects past j (Some _) _ next tree row l = refl
 objects_step : (w : World) (s : Turn) (next : World) (row : ℕ) → Agree w.tables → Goes w s next → row < w.tables.next_row → (next.past.objects row ≡ w.past.objects row) × (row < next.tables.next_row) × Agree next.tables
 objects_step w s next row a g l =
     let t = turned IsLawful s.step.deed s.step.reply w.tree g.seat w.tables next.tree g.seat_after next.tables g.made in
-    let later = (step_stays w.tables s.step.deed s.step.reply next.tables a t).rows in (
+    let later = (step_stays w.tables s.step.deed s.step.reply next.tables t).rows in (
       ap (λ (p : Past). p.objects row) g.past ∙ settled_objects w.past s.job s.step.deed s.step.reply w.tables.next_row next.tree row l,
       omega (arith, l, later),
       agree_step w.tables s.step.deed s.step.reply next.tables t a,
@@ -78,6 +80,8 @@ settled_latest past j i (Some (Calls (call.OpenAt dir name flags mode))) (Host (
 settled_latest past j i (Some (Calls (call.OpenAt dir name flags mode))) (Host (host.Ok (value.Fd fd))) next tree (inr q) = absurd q
 settled_latest past j i (Some (Changes (change.Insert era number form ids mode))) (Event (event.Inserted given)) next tree q = refl
 settled_latest past j i (Some (Changes (change.InsertRoot era form ids mode agreed))) (Event (event.Inserted given)) next tree q = refl
+settled_latest past j i (Some (Changes (change.InsertHandle era handle number fd))) (Event (event.Inserted given)) next tree q = refl
+settled_latest past j i (Some (Changes (change.Resolve number))) (Event (event.Resolved serial form ids mode)) next tree q = refl
 settled_latest past j i (Some (Calls (call.OpenRoot place flags))) (Host (host.Ok (value.Fd fd))) next tree q = refl
 settled_latest past j i None told next tree q = refl
 settled_latest past j i (Some _) _ next tree q = refl

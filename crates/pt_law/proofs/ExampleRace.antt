@@ -171,11 +171,13 @@ abbrev tables : ℕ → ℕ → ℕ → List Row → Tables
 tables next_number next_row slots rows = record {
   era = 0;
   next_number = next_number;
+  next_handle = 0;
   next_row = next_row;
   slots = slots;
   limit = 5;
   negotiated = nothing_agreed;
   rows = rows;
+  handles = [];
   closing = [];
 }
 

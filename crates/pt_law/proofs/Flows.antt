@@ -7,6 +7,7 @@ use Rattle.pt_host.specs.declared.reply.HostReply.TheVariants as host
 use Rattle.pt_host.specs.declared.reply.HostValue.TheVariants as value
 use Rattle.pt_session.specs.Tables.{Tables}
 use Rattle.pt_session.specs.declared.row.Row.{Row}
+use Rattle.pt_session.specs.declared.row.HandleRow.{HandleRow}
 use Rattle.pt_session.specs.declared.event.KeptEvent.TheVariants as change
 use Rattle.pt_session.specs.declared.reply.EventReply.TheVariants as event
 use Rattle.pt_req.specs.Deed.{Deed, Calls, Changes}
@@ -23,6 +24,7 @@ use Rattle.pt_law.specs.Ledger.{one_if, form_slot}
 abbrev pub fd_in : ℕ → Deed → ActReply → ℕ
 fd_in fd (Changes (change.Insert era number form ids mode)) (Event (event.Inserted given)) = is (fd_of form).0 fd
 fd_in fd (Changes (change.InsertRoot era form ids mode agreed)) (Event (event.Inserted given)) = is (fd_of form).0 fd
+fd_in fd (Changes (change.InsertHandle era handle number same)) (Event (event.Inserted given)) = is same.0 fd
 fd_in fd deed told = 0
 
 abbrev pub fd_out : ℕ → Deed → ActReply → ℕ
@@ -32,6 +34,7 @@ fd_out fd deed told = 0
 abbrev pub fd_made : ℕ → Deed → ActReply → ℕ
 fd_made fd (Calls (call.OpenRoot path flags)) (Host (host.Ok (value.Fd new))) = is new.0 fd
 fd_made fd (Calls (call.OpenAt dir name flags mode)) (Host (host.Ok (value.Fd new))) = is new.0 fd
+fd_made fd (Calls (call.Reopen same flags)) (Host (host.Ok (value.Fd new))) = is new.0 fd
 fd_made fd deed told = 0
 
 abbrev pub fd_ended : ℕ → Deed → ActReply → ℕ
@@ -44,6 +47,7 @@ abbrev pub slot_in : Deed → ActReply → ℕ
 slot_in (Changes change.GiveFd) told = 1
 slot_in (Changes (change.Insert era number form ids mode)) (Event (event.Inserted given)) = form_slot form
 slot_in (Changes (change.InsertRoot era form ids mode agreed)) (Event (event.Inserted given)) = form_slot form
+slot_in (Changes (change.InsertHandle era handle number fd)) (Event (event.Inserted given)) = 1
 slot_in deed told = 0
 
 abbrev pub slot_out : Deed → ActReply → ℕ
@@ -61,6 +65,16 @@ abbrev pub pin_ended : ℕ → Deed → ActReply → ℕ
 pin_ended serial (Changes (change.Unpin row)) told = is row serial
 pin_ended serial deed told = 0
 
+-- the same of handles
+
+abbrev pub handle_pin_made : ℕ → Deed → ActReply → ℕ
+handle_pin_made serial (Changes (change.PinHandle handle number)) (Event (event.Pinned row fd)) = is row serial
+handle_pin_made serial deed told = 0
+
+abbrev pub handle_pin_ended : ℕ → Deed → ActReply → ℕ
+handle_pin_ended serial (Changes (change.UnpinHandle row)) told = is row serial
+handle_pin_ended serial deed told = 0
+
 -- closings that are taken; those that come to be owed are `closings_in`
 abbrev pub closing_ended : Deed → ActReply → ℕ
 closing_ended (Changes change.TakeClosing) told = 1
@@ -72,6 +86,10 @@ abbrev pub pin_held : ℕ → Hold → ℕ
 pin_held serial (hold.Pin row fd) = is row serial
 pin_held serial _ = 0
 
+abbrev pub handle_pin_held : ℕ → Hold → ℕ
+handle_pin_held serial (hold.HandlePin row fd) = is row serial
+handle_pin_held serial _ = 0
+
 abbrev pub slot_held : Hold → ℕ
 slot_held hold.Slot = 1
 slot_held _ = 0
@@ -80,9 +98,13 @@ slot_held _ = 0
 abbrev pub row_pins : ℕ → Row → ℕ
 row_pins serial row = is row.serial serial * row.pins
 
+abbrev pub handle_pins : ℕ → HandleRow → ℕ
+handle_pins serial row = is row.serial serial * row.pins
+
 -- no giving back was refused
 abbrev pub IsHonest : Deed → ActReply → Type 0
 IsHonest (Changes (change.Unpin row)) (Event (event.Refused why)) = ⊥
+IsHonest (Changes (change.UnpinHandle row)) (Event (event.Refused why)) = ⊥
 IsHonest (Changes change.GiveFd) (Event (event.Refused why)) = ⊥
 IsHonest (Changes change.TakeClosing) (Event (event.Refused why)) = ⊥
 IsHonest deed told = Unit {0}

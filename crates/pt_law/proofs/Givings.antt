@@ -5,7 +5,8 @@ use Rattle.pt_host.specs.Words.{is, total, Each, EachTwo, Takes, Takes.{here, th
 use Rattle.pt_session.specs.Change.{Change}
 use Rattle.pt_session.specs.Tables.{Tables, HasNumber, AreApart, Agree}
 use Rattle.pt_session.specs.declared.row.Row.{Row}
-use Rattle.pt_session.specs.Happens.{Happens, Changes, Dies, ForgetsOne, ForgetsAll, Unpins, NoRow, new_row, with_row, agreed}
+use Rattle.pt_session.specs.declared.row.HandleRow.{HandleRow}
+use Rattle.pt_session.specs.Happens.{Happens, Changes, Dies, ForgetsOne, ForgetsAll, Unpins, HandleDies, UnpinsHandle, NoRow, new_row, with_row, agreed}
 use Rattle.pt_session.specs.declared.form.Negotiated.{Negotiated}
 use Rattle.pt_session.specs.declared.event.KeptEvent.TheVariants as change
 use Rattle.pt_session.specs.declared.reply.EventRefusal.TheVariants.{NotLive, Overtaken, NoSlot, Last, Live, Memory}
@@ -17,8 +18,9 @@ use Rattle.pt_req.specs.declared.act.ActReply.TheVariants.{Event}
 use Rattle.pt_law.specs.World.{Turn, TablesGo, TablesRun}
 use Rattle.pt_law.specs.Ledger.{forgotten, given_by, given_if, given_after}
 use Rattle.pt_law.proofs.Flows.{called, unmade}
-use Rattle.pt_law.proofs.Lists.{total_takes, total_replaces, is_same, is_apart}
-use Rattle.pt_law.proofs.Effects.{forgets_one, agree_kept, agrees}
+use Rattle.pt_law.proofs.Lists.{total_takes, total_replaces, is_same, is_apart, each_map}
+use Rattle.pt_session.proofs.Dying.{clears}
+use Rattle.pt_law.proofs.Effects.{agrees}
 
 -- the row's count where it is live and has the number
 abbrev pub count_in : ℕ → Row → ℕ
@@ -146,16 +148,29 @@ counts_one n m k t c after a (inl h) = ap (live_count n) h.2 ∙ nothing n m t k
 counts_one n m k t c after a (inr (r, has, inl h)) = falls n m k t r after has h.0 h.2
 counts_one n m k t c after a (inr (r, has, inr h)) = dies n m k t r c after a has h.0 h.1
 
+-- a pair is a list of one
+agree_one : (t : Tables) (m k c : ℕ) (after : Tables) → Agree t → ForgetsOne t m k c after → Agree after
+agree_one t m k c after a f = agrees t (change.Forget ((m, k) ∷ [])) (event.Done (c + 0)) after (after, c, 0, f, (refl, refl), refl) a
+
 counts_all : (n : ℕ) (t : Tables) (list : List (ℕ × ℕ)) (c : ℕ) (after : Tables) → Agree t → ForgetsAll t list c after → live_count n after ≡ forgotten n (live_count n t) list
 counts_all n t [] c after a h = ap (live_count n) h.1
 counts_all n t (pair ∷ pairs) c after a h =
     let one = counts_one n pair.0 pair.1 t h.1 h.0 a h.3 in
-    let rest = counts_all n h.0 pairs h.2 after (agree_kept (forgets_one t pair.0 pair.1 h.1 h.0 a h.3) a) h.4 in
+    let rest = counts_all n h.0 pairs h.2 after (agree_one t pair.0 pair.1 h.1 h.0 a h.3) h.4 in
     rest ∙ ap (λ had. forgotten n had pairs) one
 
 unpins : (n : ℕ) (t : Tables) (serial c : ℕ) (after : Tables) → Unpins t serial c after → live_count n after ≡ live_count n t
 unpins n t serial c after (r, pins, s, p, inl h) = let e = h.3 in rw e.2 (let x = total_takes (count_in n) e.1 in let y = in_dead n r h.0 in omega (arith, x, y))
 unpins n t serial c after (r, pins, s, p, inr h) = same_count n t r _ after h.2 refl
+
+-- handles are not numbers
+handle_dies : (n : ℕ) (t : Tables) (row : HandleRow) (c : ℕ) (after : Tables) → HandleDies t row c after → live_count n after ≡ live_count n t
+handle_dies n t row c after (inl h) = ap (live_count n) h.2.2
+handle_dies n t row c after (inr h) = ap (live_count n) h.2.2
+
+handle_unpins : (n : ℕ) (t : Tables) (serial c : ℕ) (after : Tables) → UnpinsHandle t serial c after → live_count n after ≡ live_count n t
+handle_unpins n t serial c after (row, pins, s, p, inl h) = ap (live_count n) h.3.2
+handle_unpins n t serial c after (row, pins, s, p, inr h) = ap (live_count n) h.2.2
 
 said : (n : ℕ) (negotiated : Option Negotiated) (t : Tables) → live_count n (agreed negotiated t) ≡ live_count n t
 said n None t = refl
@@ -194,6 +209,22 @@ counts_event n t (change.Forget list) (event.Done closings) after a h = counts_a
 counts_event n t (change.GiveBack era number) (event.Done closings) after a h = let x = counts_one n number 1 t closings after a h.2 in omega (arith, x)
 counts_event n t (change.GiveBack era number) (event.Refused Overtaken) after a h = ap (live_count n) h.1
 counts_event n t (change.GiveBack era number) (event.Refused NotLive) after a h = ap (live_count n) h.2
+counts_event n t change.DrawHandle (event.Drawn handle) after a h = ap (live_count n) h.2
+counts_event n t change.DrawHandle (event.Refused Last) after a h = ap (live_count n) h.1
+counts_event n t (change.InsertHandle era handle number fd) (event.Inserted given) after a h = ap (live_count n) h.4
+counts_event n t (change.InsertHandle era handle number fd) (event.Refused Overtaken) after a h = ap (live_count n) h.1
+counts_event n t (change.InsertHandle era handle number fd) (event.Refused Live) after a h = ap (live_count n) h.2
+counts_event n t (change.InsertHandle era handle number fd) (event.Refused Last) after a h = ap (live_count n) h.3
+counts_event n t (change.InsertHandle era handle number fd) (event.Refused Memory) after a h = ap (live_count n) h.3
+counts_event n t (change.PinHandle handle number) (event.Pinned serial fd) after a h = ap (live_count n) h.5.2
+counts_event n t (change.PinHandle handle number) (event.Refused NotLive) after a h = ap (live_count n) h.1
+counts_event n t (change.PinHandle handle number) (event.Refused Last) after a h = ap (live_count n) h.4
+counts_event n t (change.UnpinHandle serial) (event.Done closings) after a h = handle_unpins n t serial closings after h
+counts_event n t (change.UnpinHandle serial) (event.Refused NotLive) after a h = ap (live_count n) h.1
+counts_event n t (change.Release handle number) (event.Done closings) after a h = handle_dies n t h.0 closings after h.2
+counts_event n t (change.Release handle number) (event.Refused NotLive) after a h = ap (live_count n) h.1
+counts_event n t change.Clear (event.Cleared era closings) after a h = none_other n after.rows (each_map (λ z. z.live ≡ true → ⊥) (λ z. HasNumber n z → ⊥) after.rows (λ z f k. f k.0) (clears t after era closings h.1).numbers)
+counts_event n t change.Clear (event.Refused Last) after a h = ap (live_count n) h.1
 counts_event n t change.TakeClosing (event.Closing fd slot) after a h = ap (live_count n) h.2
 counts_event n t change.TakeClosing (event.Refused NotLive) after a h = ap (live_count n) h.1
 counts_event n t _ _ after a h = absurd h

@@ -6,12 +6,13 @@ use Rattle.pt_host.specs.Tree.{Tree, Object, Opened, IsObject, IsOpenOn}
 use Rattle.pt_host.specs.declared.ids.Fd.{Fd}
 use Rattle.pt_host.specs.declared.ids.ObjIds.{ObjIds}
 use Rattle.pt_session.specs.declared.row.Row.{Row}
+use Rattle.pt_session.specs.declared.row.HandleRow.{HandleRow}
 use Rattle.pt_req.specs.Held.{fd_of}
 use Rattle.pt_req.specs.declared.hold.Hold.{Hold}
 use Rattle.pt_req.specs.declared.hold.Hold.TheVariants as hold
-use Rattle.pt_law.specs.Discipline.{Job, unless}
+use Rattle.pt_law.specs.Discipline.{Job, Resolution, unless}
 use Rattle.pt_law.specs.World.{Past}
-use Rattle.pt_law.specs.Ledger.{fd_held, row_fd}
+use Rattle.pt_law.specs.Ledger.{fd_held, row_fd, handle_fd}
 use Rattle.pt_law.proofs.Lists.{none_weighs, is_none, set_at_other, each_map, each_both}
 use Rattle.pt_law.proofs.Effects.{Later}
 
@@ -33,6 +34,16 @@ pub record RowShows (tree : Tree) (numbers objects : ℕ → Option ℕ) (fds : 
 abbrev pub RowOpen : Tree → Past → Row → Type 0
 RowOpen tree past row = RowShows tree past.numbers past.objects past.fds row
 
+-- a handle's descriptor is open on the object that its number had when it was resolved for its opening
+pub record HandleShows (tree : Tree) (objects : ℕ → Option ℕ) (fds : ℕ → Option Fd) (row : HandleRow) : Type 0 where
+  pub object : ℕ
+  pub open_on : IsOpenOn tree row.fd object
+  pub placed : objects row.serial ≡ Some object
+  pub kept_by : fds row.serial ≡ Some row.fd
+
+abbrev pub HandleOpen : Tree → Past → HandleRow → Type 0
+HandleOpen tree past row = HandleShows tree past.objects past.fds row
+
 -- what `Stat` told of a descriptor is right
 abbrev pub ToldRight : Tree → Hold → Type 0
 ToldRight tree (hold.Fd fd (Some ids)) = (object : ℕ) × Shows tree fd object ids
@@ -41,6 +52,7 @@ ToldRight tree _ = Unit {0}
 -- a pinned row was inserted, with the pin's descriptor
 abbrev pub PinRight : ℕ → (ℕ → Option Fd) → Hold → Type 0
 PinRight next fds (hold.Pin row fd) = (row < next) × (fds row ≡ Some fd)
+PinRight next fds (hold.HandlePin row fd) = (row < next) × (fds row ≡ Some fd)
 PinRight next fds _ = Unit {0}
 
 -- a noted descriptor is held, and open on the object that its opening answered
@@ -60,6 +72,9 @@ pub record Knowing (tree : Tree) (next : ℕ) (past : Past) (j : ℕ) (job : Job
   pub latest : NotedRight tree job.notes.latest (past.latest j) job.holds
   pub root : NotedRight tree job.notes.root (past.roots j) job.holds
   pub unrooted : job.notes.rooted ≡ false → past.roots j ≡ None
+  -- the row that was resolved last has the object that its number had then, and what was opened anew is open on it
+  pub resolved : (was : Resolution) → job.notes.resolved ≡ Some was → (was.row < next) × (past.objects was.row ≡ past.resolved j)
+  pub reopened : NotedRight tree job.notes.reopened (past.resolved j) job.holds
 
 -- the tree with another entry for this descriptor
 abbrev pub with_entry : Tree → ℕ → Option Opened → Tree
@@ -88,6 +103,13 @@ stays_shown tree f x fd object ids e h = record { open_on = stays_open tree f x 
 row_stays : (tree : Tree) (past : Past) (f : ℕ) (x : Option Opened) (row : Row) → (fd_of row.form).0 ≢ f → RowOpen tree past row → RowOpen (with_entry tree f x) past row
 row_stays tree past f x row e h = record { object = h.object; shows = stays_shown tree f x (fd_of row.form) h.object row.ids e h.shows; numbered = h.numbered; placed = h.placed; kept_by = h.kept_by }
 
+handle_stays : (tree : Tree) (past : Past) (f : ℕ) (x : Option Opened) (row : HandleRow) → row.fd.0 ≢ f → HandleOpen tree past row → HandleOpen (with_entry tree f x) past row
+handle_stays tree past f x row e h = record { object = h.object; open_on = stays_open tree f x row.fd h.object e h.open_on; placed = h.placed; kept_by = h.kept_by }
+
+pub handles_open : (tree : Tree) (past : Past) (f : ℕ) (x : Option Opened) (rows : List HandleRow) → tree.opened f ≡ None → Each (HandleOpen tree past) rows → Each (HandleOpen (with_entry tree f x) past) rows
+handles_open tree past f x rows n = each_map (HandleOpen tree past) (HandleOpen (with_entry tree f x) past) rows
+    (λ r h. handle_stays tree past f x r (other_than tree f r.fd h.object n h.open_on) h)
+
 -- a descriptor is opened that was not open
 pub rows_open : (tree : Tree) (past : Past) (f : ℕ) (x : Option Opened) (rows : List Row) → tree.opened f ≡ None → Each (RowOpen tree past) rows → Each (RowOpen (with_entry tree f x) past) rows
 rows_open tree past f x rows n = each_map (RowOpen tree past) (RowOpen (with_entry tree f x) past) rows
@@ -97,6 +119,7 @@ told_stays : (tree : Tree) (f : ℕ) (x : Option Opened) (one : Hold) → ((fd :
 told_stays tree f x (hold.Fd fd None) e h = tt
 told_stays tree f x (hold.Fd fd (Some ids)) e h = (h.0, stays_shown tree f x fd h.0 ids (e fd h.0 refl h.1.open_on) h.1)
 told_stays tree f x (hold.Pin row fd) e h = tt
+told_stays tree f x (hold.HandlePin row fd) e h = tt
 told_stays tree f x hold.Slot e h = tt
 told_stays tree f x (hold.Count era n) e h = tt
 
@@ -118,6 +141,10 @@ noted_open tree f x noted was holds after n more h fd e =
 pub rows_closed : (tree : Tree) (past : Past) (f : ℕ) (rows : List Row) → total (row_fd f) rows ≡ 0 → Each (RowOpen tree past) rows → Each (RowOpen (with_entry tree f None) past) rows
 rows_closed tree past f rows z h = each_both (RowOpen tree past) (λ r. row_fd f r ≡ 0) (RowOpen (with_entry tree f None) past) rows
     (λ r a b. row_stays tree past f None r (is_none (fd_of r.form).0 f b) a) h (none_weighs (row_fd f) rows z)
+
+pub handles_closed : (tree : Tree) (past : Past) (f : ℕ) (rows : List HandleRow) → total (handle_fd f) rows ≡ 0 → Each (HandleOpen tree past) rows → Each (HandleOpen (with_entry tree f None) past) rows
+handles_closed tree past f rows z h = each_both (HandleOpen tree past) (λ r. handle_fd f r ≡ 0) (HandleOpen (with_entry tree f None) past) rows
+    (λ r a b. handle_stays tree past f None r (is_none r.fd.0 f b) a) h (none_weighs (handle_fd f) rows z)
 
 pub told_closed : (tree : Tree) (f : ℕ) (holds : List Hold) → total (fd_held f) holds ≡ 0 → Each (ToldRight tree) holds → Each (ToldRight (with_entry tree f None)) holds
 told_closed tree f holds z t = each_both (ToldRight tree) (λ one. fd_held f one ≡ 0) (ToldRight (with_entry tree f None)) holds
@@ -151,8 +178,8 @@ unless_apart f (Some n) fd e = ⊎_elim
     left f n q = grind arith
 
 -- a row that is later the same stays so
-pub row_later : (tree : Tree) (past : Past) (next : ℕ) (row later : Row) → Later next row later → RowOpen tree past row → RowOpen tree past later
-row_later tree past next row later l h = record {
+pub row_later : (tree : Tree) (past : Past) (row later : Row) → Later row later → RowOpen tree past row → RowOpen tree past later
+row_later tree past row later l h = record {
   object = h.object;
   shows = rw (l.form, l.ids) h.shows;
   numbered = λ x. ap past.numbers l.number ∙ h.numbered (l.live x);

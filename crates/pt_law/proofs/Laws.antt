@@ -3,9 +3,10 @@ use Rattle.std.proofs.Common.{◌≡◌, ◌≢◌, ⊎_elim, ℕ, ◌+◌, ◌*
 use Rattle.std.proofs.lemmas.Bool.{cases_eq, cases_Bool}
 use Rattle.pt_host.specs.Words.{is, total, Each, Takes, Takes.{here, there}, sum_to}
 use Rattle.pt_host.specs.Tree.{Tree, IsWellFormed}
-use Rattle.pt_session.specs.Tables.{Tables, Agree, AreApart, IsSoundRow, HasNumber, empty_tables}
+use Rattle.pt_session.specs.Tables.{Tables, Agree, AreApart, IsSoundRow, IsSoundHandle, HasNumber, empty_tables}
 use Rattle.pt_session.specs.declared.row.Row.{Row}
-use Rattle.pt_session.specs.Happens.{IsRow}
+use Rattle.pt_session.specs.declared.row.HandleRow.{HandleRow}
+use Rattle.pt_session.specs.Happens.{IsRow, IsHandleRow}
 use Rattle.pt_req.specs.Deed.{Deed, Calls, Changes, Step}
 use Rattle.pt_req.specs.Held.{fd_of}
 use Rattle.pt_req.specs.declared.finish.Finish.{Finish}
@@ -16,15 +17,15 @@ use Rattle.pt_req.specs.declared.hold.Hold.TheVariants as hold
 use Rattle.pt_law.specs.Discipline.{Job, idle, at_job, Moves, Disciplined, entry_holds}
 use Rattle.pt_law.specs.World.{World, Turn, TablesGo, Runs, TablesRun, steps_of, no_past}
 use Rattle.pt_law.specs.Ledger.{closing_slot, slot_taken, slot_given_by, slots_taken, slots_given, carried, closing_fd, fd_held, held_by, open_count, given, inserted}
-use Rattle.pt_law.specs.Laws.{AreDisciplined, AreEnded, Starts, AreDistinct, HasObject, IsCounted, SlotsAddUp, AreKept, IsAtRest, LeavesRows}
+use Rattle.pt_law.specs.Laws.{Serves, AreDisciplined, AreEnded, Starts, AreDistinct, HasObject, IsCounted, SlotsAddUp, AreKept, IsAtRest, LeavesRows}
 use Rattle.pt_req.specs.declared.act.ActReply.{ActReply}
 use Rattle.pt_req.specs.declared.act.ActReply.TheVariants.{Event}
-use Rattle.pt_law.proofs.Flows.{slot_held, pin_held, row_pins, called, unmade}
+use Rattle.pt_law.proofs.Flows.{slot_held, pin_held, handle_pin_held, row_pins, handle_pins, called, unmade}
 use Rattle.pt_law.proofs.Lists.{total_takes, each_front, each_taken, each_both, sum_to_same, sum_to_zero, two_of, is_same, is_apart}
-use Rattle.pt_law.proofs.Effects.{Stays, stays}
+use Rattle.pt_law.proofs.Effects.{Stays, stays, stays_same, stays_on}
 use Rattle.pt_law.proofs.Holding.{handed}
 use Rattle.pt_law.proofs.Givings.{count_in, live_count, in_live, only_taken, agree_step, counts_run}
-use Rattle.pt_law.proofs.Knowing.{Shows, RowOpen, one_ids}
+use Rattle.pt_law.proofs.Knowing.{Shows, RowOpen, HandleOpen, one_ids}
 use Rattle.pt_law.proofs.Steps.{Tabled, Inv, HasFlows, recount}
 use Rattle.pt_law.proofs.Interleaving.{steps_append, disciplined_split, choose, tables_keep, runs_keep}
 
@@ -32,15 +33,17 @@ use Rattle.pt_law.proofs.Interleaving.{steps_append, disciplined_split, choose, 
 pub held_nobody : (bound : ℕ) (w : Hold → ℕ) (js : ℕ → Job) → ((j : ℕ) → j < bound → total w (js j).holds ≡ 0) → held_by bound w js ≡ 0
 held_nobody bound w js e = sum_to_zero (λ j. total w (js j).holds) bound e
 
+empty_agree : (limit : ℕ) → Agree (empty_tables limit)
+empty_agree limit = record { sound = tt; apart = tt; sound_handles = tt; handles_apart = tt; serials = tt; slots = omega arith }
+
 pub begins_tabled : (limit bound : ℕ) → Tabled bound (λ n. 0) (empty_tables limit) (λ j. idle)
 begins_tabled limit bound =
     let none = (λ (w : Hold → ℕ). held_nobody bound w (λ j. idle) (λ j l. refl)) in
     let still = sum_to_zero (λ j. 0) bound (λ j l. refl) in
     record {
-      agree = record { sound = tt; apart = tt; slots = omega arith };
-      books = record { slots = let a = none slot_held in omega (arith, a); pins = λ s. let a = none (pin_held s) in omega (arith, a); closings = omega (arith, still) };
+      agree = empty_agree limit;
+      books = record { slots = let a = none slot_held in omega (arith, a); pins = λ s. let a = none (pin_held s) in omega (arith, a); handle_pins = λ s. let a = none (handle_pin_held s) in omega (arith, a); closings = omega (arith, still) };
       numbers = record { once = λ n ne. omega (arith, still); fresh = λ n l. omega (arith, still); second = omega arith };
-      dated = λ j l. record { noted = λ own e. absurd (cc); counts = tt };
     }
 
 begins_at : (limit bound : ℕ) (tree : Tree) → IsWellFormed tree → Inv bound (λ fd. open_count fd tree) (λ n. 0) (record { tree = tree; tables = empty_tables limit; past = no_past }) (λ j. idle)
@@ -50,7 +53,16 @@ begins_at limit bound tree well = record {
   fds = λ fd. let a = held_nobody bound (fd_held fd) (λ j. idle) (λ j l. refl) in omega (arith, a);
   right = record {
     shown = tt;
-    knows = λ j l. record { told = tt; pins = tt; latest = λ fd e. absurd (cc); root = λ fd e. absurd (cc); unrooted = λ e. refl };
+    handled = tt;
+    knows = λ j l. record {
+      told = tt;
+      pins = tt;
+      latest = λ fd e. absurd (cc);
+      root = λ fd e. absurd (cc);
+      unrooted = λ e. refl;
+      resolved = λ was e. absurd (cc);
+      reopened = λ fd e. absurd (cc);
+    };
   };
 }
 
@@ -85,28 +97,25 @@ reach limit bound turns more start now s a r =
     let v = runs_keep bound (λ fd. open_count fd start.tree) (λ n. 0) turns start now (λ j. idle) ends.0 r (each_front (λ s. s.job < bound) turns more a.owners) (begins limit bound start s) (λ j l. (ends.1 j l).0) in
     (v.0, v.1, (λ j l. subst (Between (steps_of j turns) (steps_of j more)) (sym (v.2 j l)) (ends.1 j l)))
 
-pub step_stays : (t : Tables) (deed : Option Deed) (told : ActReply) (t' : Tables) → Agree t → TablesGo t deed told t' → Stays t t'
-step_stays t None told t' a g = rw (unmade t told t' g) (record { era = refl; limit = refl; numbers = omega arith; rows = omega arith })
-step_stays t (Some (Calls asked)) told t' a g = rw (called t asked told t' g) (record { era = refl; limit = refl; numbers = omega arith; rows = omega arith })
-step_stays t (Some (Changes asked)) (Event r) t' a g = stays t asked r t' a g
-step_stays t (Some (Changes asked)) told t' a g = absurd g
+pub step_stays : (t : Tables) (deed : Option Deed) (told : ActReply) (t' : Tables) → TablesGo t deed told t' → Stays t t'
+step_stays t None told t' g = rw (unmade t told t' g) (stays_same t)
+step_stays t (Some (Calls asked)) told t' g = rw (called t asked told t' g) (stays_same t)
+step_stays t (Some (Changes asked)) (Event r) t' g = stays t asked r t' g
+step_stays t (Some (Changes asked)) told t' g = absurd g
 
--- era and limit stay
-run_stays : (turns : List Turn) (t last : Tables) → Agree t → TablesRun t turns last → (last.era ≡ t.era) × (last.limit ≡ t.limit)
-run_stays [] t last a r = (ap (λ (z : Tables). z.era) r, ap (λ (z : Tables). z.limit) r)
-run_stays (s ∷ ss) t last a r =
-    let one = step_stays t s.step.deed s.step.reply r.0 a r.1 in
-    let rest = run_stays ss r.0 last (agree_step t s.step.deed s.step.reply r.0 r.1 a) r.2 in
-    (rest.0 ∙ one.era, rest.1 ∙ one.limit)
+-- the era only grows, and the limit stays
+run_stays : (turns : List Turn) (t last : Tables) → TablesRun t turns last → Stays t last
+run_stays [] t last r = rw r (stays_same t)
+run_stays (s ∷ ss) t last r = stays_on (step_stays t s.step.deed s.step.reply r.0 r.1) (run_stays ss r.0 last r.2)
 
-pub era_stays : (limit : ℕ) (turns : List Turn) (now : Tables) → TablesRun (empty_tables limit) turns now → now.era ≡ 0
-era_stays limit turns now r = (run_stays turns (empty_tables limit) now (record { sound = tt; apart = tt; slots = omega arith }) r).0
+pub era_grows : (turns : List Turn) (start now : Tables) → TablesRun start turns now → start.era ≤ now.era
+era_grows turns start now r = (run_stays turns start now r).era
 
 limit_stays : (limit : ℕ) (turns : List Turn) (now : Tables) → TablesRun (empty_tables limit) turns now → now.limit ≡ limit
-limit_stays limit turns now r = (run_stays turns (empty_tables limit) now (record { sound = tt; apart = tt; slots = omega arith }) r).1
+limit_stays limit turns now r = (run_stays turns (empty_tables limit) now r).limit
 
 pub agree_law : (limit : ℕ) (turns : List Turn) (now : Tables) → TablesRun (empty_tables limit) turns now → Agree now
-agree_law limit turns now r = go turns (empty_tables limit) (record { sound = tt; apart = tt; slots = omega arith }) r
+agree_law limit turns now r = go turns (empty_tables limit) (empty_agree limit) r
   where
     go : (turns : List Turn) (t : Tables) → Agree t → TablesRun t turns now → Agree now
     go [] t a r = rw r a
@@ -196,7 +205,7 @@ counted n t a = record {
 
 pub counts_law : (limit : ℕ) (turns : List Turn) (now : Tables) (n : ℕ) → TablesRun (empty_tables limit) turns now → IsCounted now n (given n turns)
 counts_law limit turns now n r =
-    subst (IsCounted now n) (counts_run n turns (empty_tables limit) now (record { sound = tt; apart = tt; slots = omega arith }) r) (counted n now (agree_law limit turns now r))
+    subst (IsCounted now n) (counts_run n turns (empty_tables limit) now (empty_agree limit) r) (counted n now (agree_law limit turns now r))
 
 -- objects
 shown : (bound : ℕ) (base had : ℕ → ℕ) (w : World) (js : ℕ → Job) (row : Row) → Inv bound base had w js → IsRow w.tables row → RowOpen w.tree w.past row
@@ -234,12 +243,26 @@ kept_law limit bound turns more start now s a r =
       all = v.1.fds;
     }
 
+-- each handle's descriptor is open on the object that its number had when it was resolved for the opening
+pub handles_law : (limit bound : ℕ) (turns more : List Turn) (start now : World) (row : HandleRow) → Starts limit start → AreDisciplined bound (turns ++ more) → Runs start turns now → IsHandleRow now.tables row → Serves now row
+handles_law limit bound turns more start now row s a r h =
+    let v = reach limit bound turns more start now s a r in
+    let o = each_taken (HandleOpen now.tree now.past) h.1 v.1.right.handled in
+    (o.object, o.placed, o.open_on)
+
 -- at the end
 all_unpinned : (rows : List Row) → ((serial : ℕ) → total (row_pins serial) rows ≡ 0) → Each (λ row. row.pins ≡ 0) rows
 all_unpinned [] h = tt
 all_unpinned (row ∷ rows) h = (
   let a = h row.serial in let b = ap (λ i. i * row.pins) (is_same row.serial) in omega (arith, a, b),
   all_unpinned rows (λ s. let a = h s in omega (arith, a)),
+)
+
+all_handles_unpinned : (rows : List HandleRow) → ((serial : ℕ) → total (handle_pins serial) rows ≡ 0) → Each (λ row. row.pins ≡ 0) rows
+all_handles_unpinned [] h = tt
+all_handles_unpinned (row ∷ rows) h = (
+  let a = h row.serial in let b = ap (λ i. i * row.pins) (is_same row.serial) in omega (arith, a, b),
+  all_handles_unpinned rows (λ s. let a = h s in omega (arith, a)),
 )
 
 empty : {A : Type 0} (xs : List A) → length xs ≡ 0 → xs ≡ []
@@ -273,11 +296,15 @@ rest_law limit bound turns now a r =
     let v = tables_keep bound (λ n. 0) turns (empty_tables limit) now (λ j. idle) ends.0 r a.owners (begins_tabled limit bound) (λ j l. (ends.1 j l).0) in
     let none = sum_nothing bound v.1 (λ j l. subst HasEnded (sym (v.3 j l)) (ends.1 j l).1) in
     let unpinned = all_unpinned now.rows (λ s. let p = v.2.books.pins s in let q = none.0 (pin_held s) (λ era n. refl) in omega (arith, p, q)) in
+    let unpinned_handles = all_handles_unpinned now.handles (λ s. let p = v.2.books.handle_pins s in let q = none.0 (handle_pin_held s) (λ era n. refl) in omega (arith, p, q)) in
     let closed = empty now.closing (let p = v.2.books.closings in let q = none.1 in omega (arith, p, q)) in
     record {
       rows = each_both (IsSoundRow now.next_row) (λ row. row.pins ≡ 0) (λ row. (row.live ≡ true) × (row.pins ≡ 0)) now.rows
           (λ row t p. (⊎_elim (λ (l : row.live ≡ true). l) (λ (d : row.live ≡ false). let q = t.pinned d in absurd (omega (arith, p, q))) (cases_Bool row.live), p))
           v.2.agree.sound unpinned;
+      handles = each_both (IsSoundHandle now.next_row) (λ row. row.pins ≡ 0) (λ row. (row.live ≡ true) × (row.pins ≡ 0)) now.handles
+          (λ row t p. (⊎_elim (λ (l : row.live ≡ true). l) (λ (d : row.live ≡ false). let q = t.pinned d in absurd (omega (arith, p, q))) (cases_Bool row.live), p))
+          v.2.agree.sound_handles unpinned_handles;
       closing = closed;
       carried = λ j l. carried_held (ends.0 j) (steps_of j turns) (flows_of j turns v.0) (ends.1 j l).0 ∙ (ends.1 j l).1.0 slot_held (λ era n. refl);
       slots =

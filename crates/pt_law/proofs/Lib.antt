@@ -19,11 +19,12 @@ pub mod Numbers
 pub mod Givings
 pub mod Knowing
 pub mod Events
-pub mod Eras
 pub mod Calls
+pub mod PinnedRows
 pub mod Steps
 pub mod Interleaving
 pub mod Laws
+pub mod Standing
 pub mod Pinned
 pub mod Next
 pub mod Straight

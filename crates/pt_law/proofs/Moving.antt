@@ -9,6 +9,7 @@ use Rattle.pt_host.specs.declared.reply.HostReply.TheVariants as host
 use Rattle.pt_host.specs.declared.reply.HostValue.TheVariants as value
 use Rattle.pt_session.specs.declared.event.KeptEvent.TheVariants as change
 use Rattle.pt_session.specs.declared.reply.EventReply.TheVariants as event
+use Rattle.pt_iface.specs.declared.request.Request.{Request}
 use Rattle.pt_req.specs.Deed.{Deed, Calls, Changes, IsStepOf, MayFailToCopy}
 use Rattle.pt_req.specs.Held.{fd_of, held, laid, giving, closings_in}
 use Rattle.pt_req.specs.declared.act.ActReply.{ActReply}
@@ -34,20 +35,23 @@ made_moves deed None told job mid n i m = absurd i
 
 pub never_copied : (one : Hold) → MayFailToCopy (giving one) → ⊥
 never_copied (hold.Pin row fd) m = m
+never_copied (hold.HandlePin row fd) m = m
 never_copied (hold.Fd fd was) m = m
 never_copied hold.Slot m = m
 never_copied (hold.Count era number) m = m
 
 pub giving_lasts : (one : Hold) (told : ActReply) (notes : Notes) → Lasts notes (notes_after notes (giving one) told)
-giving_lasts (hold.Pin row fd) told notes = refl
-giving_lasts (hold.Fd fd was) told notes = refl
-giving_lasts hold.Slot told notes = refl
-giving_lasts (hold.Count era number) told notes = refl
+giving_lasts (hold.Pin row fd) told notes = (refl, refl)
+giving_lasts (hold.HandlePin row fd) told notes = (refl, refl)
+giving_lasts (hold.Fd fd was) told notes = (refl, refl)
+giving_lasts hold.Slot told notes = (refl, refl)
+giving_lasts (hold.Count era number) told notes = (refl, refl)
 
 -- any hold may be given back
 pub gives_back : (one : Hold) (told : ActReply) (holds left : List Hold) (notes : Notes) → Takes one holds left →
     MovesBy (at_job holds notes) (giving one) told (owing_job left (closings_in (giving one) told) (notes_after notes (giving one) told))
 gives_back (hold.Pin row fd) told holds left notes t = ((fd, t), tt, omega arith, refl)
+gives_back (hold.HandlePin row fd) told holds left notes t = ((fd, t), tt, omega arith, refl)
 gives_back (hold.Fd fd was) told holds left notes t = ((was, t), tt, omega arith, refl)
 gives_back hold.Slot told holds left notes t = (t, tt, omega arith, refl)
 gives_back (hold.Count era number) told holds left notes t = (t, tt, omega arith, refl)
@@ -62,11 +66,26 @@ may_move : (deed : Deed) (told : ActReply) (holds : List Hold) (notes : Notes) �
 may_move (Calls (call.OpenRoot path flags)) (Host (host.Ok (value.Fd fd))) holds notes m = (takes_laid (hold.Fd fd None) holds, tt, omega arith, refl)
 may_move (Calls (call.OpenAt dir name flags mode)) (Host (host.Ok (value.Fd fd))) holds notes m = ((m, takes_laid (hold.Fd fd None) holds), tt, omega arith, refl)
 may_move (Calls (call.OpenAt dir name flags mode)) told holds notes m = ((m, refl), tt, omega arith, refl)
+may_move (Calls (call.Reopen fd flags)) (Host (host.Ok (value.Fd new))) holds notes m =
+    (((hold.Pin m.0.row fd, m.1, m.3, refl), takes_laid (hold.Fd new None) holds), m, omega arith, refl)
+may_move (Calls (call.Reopen fd flags)) told holds notes m = (((hold.Pin m.0.row fd, m.1, m.3, refl), refl), m, omega arith, refl)
+may_move (Calls (call.ReadAt fd offset size)) told holds notes m = ((m, refl), tt, omega arith, refl)
 may_move (Calls (call.Stat fd)) (Host (host.Ok (value.Stat stat))) (hold.Fd same was ∷ holds) notes m =
     ((was, subst (λ (f : Fd). Replaces (hold.Fd f was) (hold.Fd f (Some stat.ids)) (hold.Fd same was ∷ holds) (hold.Fd same (Some stat.ids) ∷ holds)) m at), tt, omega arith, refl)
 may_move (Calls (call.Stat fd)) told (hold.Fd same was ∷ holds) notes m = (((hold.Fd same was, holds, here, m), refl), tt, omega arith, refl)
 may_move (Calls (call.Stat fd)) told holds notes m = absurd m
 may_move (Calls (call.Close fd)) told holds notes m = absurd m
+may_move (Changes change.Begin) told holds notes m = (refl, m, omega arith, refl)
+may_move (Changes change.Clear) (Event (event.Cleared era closings)) holds notes m = (refl, m, omega arith, refl)
+may_move (Changes change.Clear) told holds notes m = (refl, m, omega arith, refl)
+may_move (Changes (change.PinHandle handle number)) (Event (event.Pinned row fd)) holds notes m = (takes_laid (hold.HandlePin row fd) holds, tt, omega arith, refl)
+may_move (Changes (change.InsertHandle era handle number fd)) (Event (event.Inserted given)) (hold.Fd same was ∷ hold.Slot ∷ holds) notes m =
+    let t = subst (λ (f : Fd). Takes (hold.Fd f was) (hold.Fd same was ∷ hold.Slot ∷ holds) (hold.Slot ∷ holds)) m.0 here in
+    ((was, hold.Slot ∷ holds, t, here), m.1, omega arith, refl)
+may_move (Changes (change.InsertHandle era handle number fd)) told (hold.Fd same was ∷ hold.Slot ∷ holds) notes m = (refl, m.1, omega arith, refl)
+may_move (Changes (change.InsertHandle era handle number fd)) told holds notes m = absurd m
+may_move (Changes (change.UnpinHandle row)) told holds notes m = absurd m
+may_move (Changes (change.Release handle number)) (Event (event.Done closings)) holds notes m = (refl, tt, omega arith, refl)
 may_move (Changes (change.Resolve number)) (Event (event.Resolved row form ids mode)) holds notes m = (takes_laid (hold.Pin row (fd_of form)) holds, tt, omega arith, refl)
 may_move (Changes change.TakeFd) (Event event.Taken) (top ∷ holds) notes m = (there here, tt, omega arith, refl)
 may_move (Changes change.TakeFd) (Event event.Taken) [] notes m = (here, tt, omega arith, refl)
@@ -120,14 +139,14 @@ told_of (Calls asked) None NoCopy i t = inl i
 told_of (Changes asked) None NoCopy i t = inl i
 told_of deed None told i t = absurd i
 
-no_copy_causes : (deed : Deed) (errno : Errno) → StepCauses (Some deed) NoCopy errno → ⊥
-no_copy_causes (Calls (call.OpenRoot path flags)) errno s = s
-no_copy_causes (Calls asked) errno s = s
-no_copy_causes (Changes change.Begin) errno s = s
-no_copy_causes (Changes asked) errno s = s
+no_copy_causes : (asked : Request) (deed : Deed) (errno : Errno) → StepCauses asked (Some deed) NoCopy errno → ⊥
+no_copy_causes asked (Calls (call.OpenRoot path flags)) errno s = s
+no_copy_causes asked (Calls made) errno s = s
+no_copy_causes asked (Changes change.Begin) errno s = s
+no_copy_causes asked (Changes made) errno s = s
 
 -- what the deed causes, the step causes
-pub causes_of : (deed : Deed) (made : Option Deed) (told : ActReply) (errno : Errno) → IsStepOf deed made told → StepCauses (Some deed) told errno → StepCauses made told errno
-causes_of deed (Some same) told errno i s = subst (λ (d : Deed). StepCauses (Some d) told errno) (sym (same_deed deed same told i)) s
-causes_of deed None NoCopy errno i s = absurd (no_copy_causes deed errno s)
-causes_of deed None told errno i s = absurd i
+pub causes_of : (asked : Request) (deed : Deed) (made : Option Deed) (told : ActReply) (errno : Errno) → IsStepOf deed made told → StepCauses asked (Some deed) told errno → StepCauses asked made told errno
+causes_of asked deed (Some same) told errno i s = subst (λ (d : Deed). StepCauses asked (Some d) told errno) (sym (same_deed deed same told i)) s
+causes_of asked deed None NoCopy errno i s = absurd (no_copy_causes asked deed errno s)
+causes_of asked deed None told errno i s = absurd i

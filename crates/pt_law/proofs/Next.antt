@@ -5,7 +5,6 @@ use Rattle.pt_session.specs.Change.{Change}
 use Rattle.pt_session.specs.Tables.{Tables, empty_tables}
 use Rattle.pt_session.specs.Happens.{Happens}
 use Rattle.pt_session.specs.declared.event.KeptEvent.TheVariants as change
-use Rattle.pt_session.specs.declared.reply.EventRefusal.TheVariants.{Overtaken}
 use Rattle.pt_session.specs.declared.reply.EventReply.{EventReply}
 use Rattle.pt_session.specs.declared.reply.EventReply.TheVariants as event
 use Rattle.pt_req.specs.Deed.{Deed, Calls, Changes}
@@ -17,7 +16,6 @@ use Rattle.pt_law.specs.Ledger.{open_count, inserted}
 use Rattle.pt_law.specs.Laws.{AreDisciplined, Starts, NamesOpen, IsHonoured}
 use Rattle.pt_law.proofs.Flows.{IsHonest}
 use Rattle.pt_law.proofs.Counting.{honest}
-use Rattle.pt_law.proofs.Eras.{in_time}
 use Rattle.pt_law.proofs.Steps.{Tabled}
 use Rattle.pt_law.proofs.Interleaving.{steps_same}
 use Rattle.pt_law.proofs.Laws.{reach, reach_tables}
@@ -41,8 +39,8 @@ named_law limit bound turns turn more start now s a r =
 
 honoured_event : (bound : ℕ) (had : ℕ → ℕ) (t : Tables) (js : ℕ → Job) (j : ℕ) (e : Change) (r : EventReply) (t' : Tables) (after : Job) → j < bound → Tabled bound had t js → Happens t e r t' →
     MovesIf (js j) (Some (Changes e)) (Event r) after → IsHonest (Changes e) (Event r) → IsHonoured (Some (Changes e)) (Event r)
-honoured_event bound had t js j e (event.Refused Overtaken) t' after lt v h m a = in_time (js j) t e t' after h m (v.dated j lt)
 honoured_event bound had t js j (change.Unpin row) (event.Refused why) t' after lt v h m a = a
+honoured_event bound had t js j (change.UnpinHandle row) (event.Refused why) t' after lt v h m a = a
 honoured_event bound had t js j change.GiveFd (event.Refused why) t' after lt v h m a = a
 honoured_event bound had t js j change.TakeClosing (event.Refused why) t' after lt v h m a = a
 honoured_event bound had t js j e r t' after lt v h m a = tt

@@ -63,12 +63,17 @@ drawn_flow job t (Calls (call.OpenRoot path flags)) (Host (host.Ok (value.Fd fd)
     let b = ap (is_drawn n) (root_drawn fd job.notes) in
     omega (arith, a, b)
 drawn_flow job t (Calls (call.OpenAt dir name flags mode)) (Host (host.Ok (value.Fd fd))) t' after g m n ne = let a = ap (λ (z : Notes). is_drawn n z.drawn) m.3 in omega (arith, a)
+drawn_flow job t (Changes change.Clear) (Event (event.Cleared era closings)) t' after g m n ne = let a = ap (λ (z : Notes). is_drawn n z.drawn) m.3 in omega (arith, a)
+drawn_flow job t (Changes (change.Resolve number)) (Event (event.Resolved row form ids mode)) t' after g m n ne = let a = ap (λ (z : Notes). is_drawn n z.drawn) m.3 in omega (arith, a)
+drawn_flow job t (Calls (call.Reopen fd flags)) (Host (host.Ok (value.Fd new))) t' after g m n ne = let a = ap (λ (z : Notes). is_drawn n z.drawn) m.3 in omega (arith, a)
+drawn_flow job t (Changes change.DrawHandle) (Event (event.Drawn handle)) t' after g m n ne = let a = ap (λ (z : Notes). is_drawn n z.drawn) m.3 in omega (arith, a)
+drawn_flow job t (Changes (change.InsertHandle era handle number fd)) (Event (event.Inserted given)) t' after g m n ne = let a = ap (λ (z : Notes). is_drawn n z.drawn) m.3 in omega (arith, a)
 drawn_flow job t (Changes change.Begin) (Event (event.Began era agreed)) t' after g m n ne = let a = ap (λ (z : Notes). is_drawn n z.drawn) m.3 in omega (arith, a)
 drawn_flow job t deed told t' after g m n ne = let a = ap (λ (z : Notes). is_drawn n z.drawn) m.3 in omega (arith, a)
 
 next_later : (t : Tables) (deed : Deed) (told : ActReply) (t' : Tables) → Agree t → TablesGo t (Some deed) told t' → t.next_number ≤ t'.next_number
 next_later t (Calls a) told t' agree g = rw (called t a told t' g) (omega arith)
-next_later t (Changes e) (Event r) t' agree g = (stays t e r t' agree g).numbers
+next_later t (Changes e) (Event r) t' agree g = (stays t e r t' g).numbers
 next_later t (Changes e) told t' agree g = absurd g
 
 pub keeps_numbers : (bound : ℕ) (had : ℕ → ℕ) (t : Tables) (js : ℕ → Job) (j : ℕ) (deed : Deed) (told : ActReply) (t' : Tables) (after : Job) → j < bound → Agree t → Numbers bound had t js →

@@ -19,7 +19,7 @@ use Rattle.pt_iface.specs.declared.request.Request.{Request}
 use Rattle.pt_req.specs.Deed.{Calls, Changes, Step}
 use Rattle.pt_req.specs.Held.{fd_of, laid}
 use Rattle.pt_req.specs.Tree.{Tree, Gives, Asks}
-use Rattle.pt_req.specs.Requests.{on_began, on_resolved, on_fd, on_stat, on_claim, on_taken, on_drawn, on_inserted, on_root, on_done}
+use Rattle.pt_req.specs.Requests.{on_began, on_resolved, on_fd, on_stat, on_claim, on_taken, on_drawn, on_inserted, on_root, on_done, on_row, on_bytes, on_handle, on_pinned, on_cleared}
 use Rattle.pt_req.specs.declared.act.ActReply.TheVariants.{Event, Host, NoCopy}
 use Rattle.pt_req.specs.declared.hold.Hold.{Hold}
 use Rattle.pt_req.specs.declared.hold.Hold.TheVariants as hold
@@ -36,11 +36,11 @@ laid_on_top one (top ∷ holds) = refl
 on_top : (asked : Request) (tree : Tree) (one : Hold) (holds : List Hold) (notes : Notes) (path : List Step) → Fit asked tree (one ∷ holds) notes path → Fit asked tree (laid one holds) notes path
 on_top asked tree one holds notes path f = subst (λ (z : List Hold). Fit asked tree z notes path) (sym (laid_on_top one holds)) f
 
-pub ask_begin : (asked : Request) (next : ℕ → Negotiated → Tree) (holds : List Hold) (notes : Notes) (path : List Step) →
+pub ask_begin : (asked : Request) (next : ℕ → Negotiated → Tree) (holds : List Hold) (notes : Notes) (path : List Step) → notes.era ≡ None →
     ((era : ℕ) (agreed : Negotiated) (path : List Step) → Fit asked (next era agreed) holds (record notes { era = Some era }) path) →
     Fit asked (Asks (Changes change.Begin) (on_began next)) holds notes path
-ask_begin asked next holds notes path f = (
-  tt,
+ask_begin asked next holds notes path none f = (
+  none,
   elim [
     | Event (event.Began era agreed) ↦ λ m. f era agreed _
     | Event told ↦ λ m. absurd m.2
@@ -49,13 +49,17 @@ ask_begin asked next holds notes path f = (
   ],
 )
 
+-- what is noted where a number was resolved
+abbrev pub resolved : ℕ → ℕ → Notes → Notes
+resolved number row notes = record notes { resolved = Some (record { number = number; row = row }); reopened = None }
+
 pub ask_resolve : (asked : Request) (number : ℕ) (next : RowForm → ObjIds → Tree) (holds : List Hold) (notes : Notes) (path : List Step) →
-    ((row : ℕ) (form : RowForm) (ids : ObjIds) (path : List Step) → Fit asked (next form ids) (hold.Pin row (fd_of form) ∷ holds) notes path) →
+    ((row : ℕ) (form : RowForm) (ids : ObjIds) (path : List Step) → Fit asked (next form ids) (hold.Pin row (fd_of form) ∷ holds) (resolved number row notes) path) →
     Fit asked (Asks (Changes (change.Resolve number)) (on_resolved next)) holds notes path
 ask_resolve asked number next holds notes path f = (
   tt,
   elim [
-    | Event (event.Resolved row form ids mode) ↦ λ m. on_top asked (next form ids) (hold.Pin row (fd_of form)) holds notes _ (f row form ids _)
+    | Event (event.Resolved row form ids mode) ↦ λ m. on_top asked (next form ids) (hold.Pin row (fd_of form)) holds (resolved number row notes) _ (f row form ids _)
     | Event (event.Refused refused.NotLive) ↦ λ m. inr (inl refl)
     | Event (event.Refused refused.Last) ↦ λ m. inr (inl refl)
     | Event told ↦ λ m. absurd m.2
@@ -204,6 +208,131 @@ ask_forget asked list next holds notes path f = (
   tt,
   elim [
     | Event (event.Done closings) ↦ λ m. after_any closings _ notes (λ later l. f later _ l)
+    | Event told ↦ λ m. absurd m.2
+    | Host told ↦ λ m. absurd m
+    | NoCopy ↦ λ m. tt
+  ],
+)
+
+-- the same, where the row's kind says whether it is opened
+pub ask_row : (asked : Request) (number : ℕ) (next : RowForm → ℕ → Tree) (holds : List Hold) (notes : Notes) (path : List Step) →
+    ((row : ℕ) (form : RowForm) (ids : ObjIds) (mode : ℕ) (path : List Step) → Fit asked (next form mode) (hold.Pin row (fd_of form) ∷ holds) (resolved number row notes)
+        (record { deed = Some (Changes (change.Resolve number)); reply = Event (event.Resolved row form ids mode) } ∷ path)) →
+    Fit asked (Asks (Changes (change.Resolve number)) (on_row next)) holds notes path
+ask_row asked number next holds notes path f = (
+  tt,
+  elim [
+    | Event (event.Resolved row form ids mode) ↦ λ m. on_top asked (next form mode) (hold.Pin row (fd_of form)) holds (resolved number row notes) _ (f row form ids mode path)
+    | Event (event.Refused refused.NotLive) ↦ λ m. inr (inl refl)
+    | Event (event.Refused refused.Last) ↦ λ m. inr (inl refl)
+    | Event told ↦ λ m. absurd m.2
+    | Host told ↦ λ m. absurd m
+    | NoCopy ↦ λ m. tt
+  ],
+)
+
+pub ask_reopen : (asked : Request) (fd : Fd) (flags : OpenFlags) (row number : ℕ) (next : Fd → Tree) (holds : List Hold) (notes : Notes) (path : List Step) →
+    notes.resolved ≡ Some (record { number = number; row = row }) →
+    ((new : Fd) (path : List Step) → Fit asked (next new) (hold.Fd new None ∷ hold.Pin row fd ∷ holds) (record notes { reopened = Some new }) path) →
+    Fit asked (Asks (Calls (call.Reopen fd flags)) (on_fd next)) (hold.Pin row fd ∷ holds) notes path
+ask_reopen asked fd flags row number next holds notes path r f = (
+  (record { number = number; row = row }, holds, r, here),
+  elim [
+    | Host (host.Ok (value.Fd new)) ↦ λ m. on_top asked (next new) (hold.Fd new None) (hold.Pin row fd ∷ holds) (record notes { reopened = Some new }) _ (f new _)
+    | Host (host.Refused errno) ↦ λ m. inr (inl refl)
+    | Host (host.Fault errno) ↦ λ m. inr (inl refl)
+    | Host host.NoMemory ↦ λ m. tt
+    | Host told ↦ λ m. absurd m
+    | Event told ↦ λ m. absurd m
+    | NoCopy ↦ λ m. tt
+  ],
+)
+
+pub ask_read : (asked : Request) (fd : Fd) (offset size : ℕ) (next : List ℕ → Tree) (holds : List Hold) (notes : Notes) (path : List Step) → Knows holds fd →
+    ((bytes : List ℕ) (path : List Step) → Fit asked (next bytes) holds notes path) →
+    Fit asked (Asks (Calls (call.ReadAt fd offset size)) (on_bytes next)) holds notes path
+ask_read asked fd offset size next holds notes path k f = (
+  k,
+  elim [
+    | Host (host.Ok (value.Bytes bytes)) ↦ λ m. f bytes _
+    | Host (host.Refused errno) ↦ λ m. inr (inl refl)
+    | Host (host.Fault errno) ↦ λ m. inr (inl refl)
+    | Host host.NoMemory ↦ λ m. tt
+    | Host told ↦ λ m. absurd m
+    | Event told ↦ λ m. absurd m
+    | NoCopy ↦ λ m. tt
+  ],
+)
+
+pub ask_handle : (asked : Request) (next : ℕ → Tree) (holds : List Hold) (notes : Notes) (path : List Step) →
+    ((handle : ℕ) (path : List Step) → Fit asked (next handle) holds (record notes { handle = Some handle }) path) →
+    Fit asked (Asks (Changes change.DrawHandle) (on_drawn next)) holds notes path
+ask_handle asked next holds notes path f = (
+  tt,
+  elim [
+    | Event (event.Drawn handle) ↦ λ m. f handle _
+    | Event (event.Refused refused.Last) ↦ λ m. inr (inl refl)
+    | Event told ↦ λ m. absurd m.2
+    | Host told ↦ λ m. absurd m
+    | NoCopy ↦ λ m. tt
+  ],
+)
+
+pub ask_insert_handle : (asked : Request) (era handle number row : ℕ) (fd : Fd) (was : Option ObjIds) (next : Tree) (holds : List Hold) (notes : Notes) (path : List Step) →
+    notes.era ≡ Some era → notes.handle ≡ Some handle → notes.resolved ≡ Some (record { number = number; row = row }) → notes.reopened ≡ Some fd →
+    ((path : List Step) → Fit asked next holds (record (without fd notes) { handle = None }) path) →
+    Fit asked (Asks (Changes (change.InsertHandle era handle number fd)) (on_handle next)) (hold.Fd fd was ∷ hold.Slot ∷ holds) notes path
+ask_insert_handle asked era handle number row fd was next holds notes path e h r o f = (
+  (refl, (row, e, h, r, o)),
+  elim [
+    | Event (event.Inserted given) ↦ λ m. f _
+    | Event (event.Refused refused.Overtaken) ↦ λ m. inr (inl refl)
+    | Event (event.Refused refused.Live) ↦ λ m. inr (inl refl)
+    | Event (event.Refused refused.Last) ↦ λ m. inr (inl refl)
+    | Event (event.Refused refused.Memory) ↦ λ m. tt
+    | Event told ↦ λ m. absurd m.2
+    | Host told ↦ λ m. absurd m
+    | NoCopy ↦ λ m. tt
+  ],
+)
+
+pub ask_pin : (asked : Request) (handle number : ℕ) (next : Fd → Tree) (holds : List Hold) (notes : Notes) (path : List Step) →
+    ((row : ℕ) (fd : Fd) (path : List Step) → Fit asked (next fd) (hold.HandlePin row fd ∷ holds) notes path) →
+    Fit asked (Asks (Changes (change.PinHandle handle number)) (on_pinned next)) holds notes path
+ask_pin asked handle number next holds notes path f = (
+  tt,
+  elim [
+    | Event (event.Pinned row fd) ↦ λ m. on_top asked (next fd) (hold.HandlePin row fd) holds notes _ (f row fd _)
+    | Event (event.Refused refused.NotLive) ↦ λ m. inr (inl refl)
+    | Event (event.Refused refused.Last) ↦ λ m. inr (inl refl)
+    | Event told ↦ λ m. absurd m.2
+    | Host told ↦ λ m. absurd m
+    | NoCopy ↦ λ m. tt
+  ],
+)
+
+pub ask_release : (asked : Request) (handle number : ℕ) (next : Tree) (holds : List Hold) (notes : Notes) (path : List Step) →
+    ((later : Notes) (path : List Step) → Lasts notes later → Fit asked next holds later path) →
+    Fit asked (Asks (Changes (change.Release handle number)) (on_done next)) holds notes path
+ask_release asked handle number next holds notes path f = (
+  tt,
+  elim [
+    | Event (event.Done closings) ↦ λ m. after_any closings _ notes (λ later l. f later _ l)
+    | Event (event.Refused refused.NotLive) ↦ λ m. inr (inl refl)
+    | Event told ↦ λ m. absurd m.2
+    | Host told ↦ λ m. absurd m
+    | NoCopy ↦ λ m. tt
+  ],
+)
+
+pub ask_clear : (asked : Request) (next : ℕ → Tree) (holds : List Hold) (notes : Notes) (path : List Step) → notes.era ≡ None →
+    ((era : ℕ) (later : Notes) (path : List Step) → Lasts (record notes { era = Some era }) later → Fit asked (next era) holds later path) →
+    Fit asked (Asks (Changes change.Clear) (on_cleared next)) holds notes path
+ask_clear asked next holds notes path none f = (
+  none,
+  elim [
+    | Event (event.Cleared era closings) ↦ λ m. after_any closings _ (record notes { era = Some era }) (λ later l. f era later _ l)
+    | Event (event.Refused refused.Last) ↦ λ m. inr (inl refl)
     | Event told ↦ λ m. absurd m.2
     | Host told ↦ λ m. absurd m
     | NoCopy ↦ λ m. tt

@@ -23,33 +23,13 @@ use Rattle.pt_law.proofs.Flows.{pin_held, row_pins}
 use Rattle.pt_law.proofs.Lists.{total_takes, each_taken, is_same, is_apart}
 use Rattle.pt_law.proofs.Counting.{part}
 use Rattle.pt_law.proofs.Knowing.{RowOpen, PinRight}
+use Rattle.pt_law.proofs.PinnedRows.{pinned_row, pinned_handle}
 use Rattle.pt_law.proofs.Steps.{Inv}
-
--- a pinned row is there
-some_pinned : (serial : ℕ) (rows : List Row) → 0 < total (row_pins serial) rows → (row : Row) × (others : List Row) × Takes row rows others × (row.serial ≡ serial)
-some_pinned serial [] h = absurd (omega arith)
-some_pinned serial (row ∷ rows) h = ⊎_elim (λ (e : row.serial ≡ serial). (row, rows, here, e)) (other (some_pinned serial rows)) (cases_eq row.serial serial)
-  where
-    other : (0 < total (row_pins serial) rows → (x : Row) × (others : List Row) × Takes x rows others × (x.serial ≡ serial)) → row.serial ≢ serial →
-        (x : Row) × (others : List Row) × Takes x (row ∷ rows) others × (x.serial ≡ serial)
-    other ih e =
-        let a = ap (λ i. i * row.pins) (is_apart row.serial serial e) in
-        let k = ih (omega (arith, h, a)) in
-        (k.0, row ∷ k.1, there k.2, k.3)
 
 -- what a held pin's descriptor is open on: the object of its row
 pub pinned_open : (bound : ℕ) (base had : ℕ → ℕ) (w : World) (js : ℕ → Job) (j row : ℕ) (fd : Fd) {rest : List Hold} → j < bound → Inv bound base had w js → Takes (hold.Pin row fd) (js j).holds rest →
     (object : ℕ) × IsOpenOn w.tree fd object × (w.past.objects row ≡ Some object)
-pinned_open bound base had w js j row fd lt v t =
-    let x = v.tabled.books.pins row in
-    let y = part (pin_held row) js bound j lt in
-    let z = total_takes (pin_held row) t in
-    let s = is_same row in
-    let r = some_pinned row w.tables.rows (omega (arith, x, y, z, s)) in
-    let o = each_taken (RowOpen w.tree w.past) r.2 v.right.shown in
-    let p = each_taken (PinRight w.tables.next_row w.past.fds) t (v.right.knows j lt).pins in
-    let same : fd_of r.0.form ≡ fd = (let a = ap w.past.fds (sym r.3) ∙ o.kept_by in let b = p.1 in cc) in
-    (o.object, subst (λ f. IsOpenOn w.tree f o.object) same o.shows.open_on, ap w.past.objects (sym r.3) ∙ o.placed)
+pinned_open bound base had w js j row fd lt v t = pinned_row bound w.tree w.tables w.past js j row fd lt v.tabled.books v.right t
 
 -- a held descriptor is open
 held_open : (bound : ℕ) (base had : ℕ → ℕ) (w : World) (js : ℕ → Job) (j : ℕ) (fd : Fd) → j < bound → Inv bound base had w js → 0 < total (fd_held fd.0) (js j).holds → (object : ℕ) × IsOpenOn w.tree fd object
@@ -68,6 +48,7 @@ known_open bound base had w js j fd lt v k = go k.0 k.1 k.2 k.3
   where
     go : (one : Hold) (rest : List Hold) → Takes one (js j).holds rest → Names one fd → (object : ℕ) × IsOpenOn w.tree fd object
     go (hold.Pin row same) rest t e = let o = pinned_open bound base had w js j row same lt v t in (o.0, subst (λ f. IsOpenOn w.tree f o.0) e o.1)
+    go (hold.HandlePin row same) rest t e = let o = pinned_handle bound w.tree w.tables w.past js j row same lt v.tabled.books v.right t in (o.0, subst (λ f. IsOpenOn w.tree f o.0) e o.1)
     go (hold.Fd same told) rest t e =
         let a = total_takes (fd_held fd.0) t in
         let b = ap (λ (f : Fd). is f.0 fd.0) e in
@@ -80,6 +61,9 @@ known_open bound base had w js j fd lt v k = go k.0 k.1 k.2 k.3
 pub names_open : (bound : ℕ) (base had : ℕ → ℕ) (w : World) (js : ℕ → Job) (j : ℕ) (deed : Option Deed) (told : ActReply) (after : Job) → j < bound → Inv bound base had w js → MovesIf (js j) deed told after → NamesOpen w.tree deed
 names_open bound base had w js j (Some (Calls (call.OpenAt fd name flags mode))) (Host (host.Ok (value.Fd new))) after lt v m = known_open bound base had w js j fd lt v m.0.0
 names_open bound base had w js j (Some (Calls (call.OpenAt fd name flags mode))) told after lt v m = known_open bound base had w js j fd lt v m.0.0
+names_open bound base had w js j (Some (Calls (call.Reopen fd flags))) (Host (host.Ok (value.Fd new))) after lt v m = known_open bound base had w js j fd lt v m.0.0
+names_open bound base had w js j (Some (Calls (call.Reopen fd flags))) told after lt v m = known_open bound base had w js j fd lt v m.0.0
+names_open bound base had w js j (Some (Calls (call.ReadAt fd offset size))) told after lt v m = known_open bound base had w js j fd lt v m.0.0
 names_open bound base had w js j (Some (Calls (call.Stat fd))) (Host (host.Ok (value.Stat stat))) after lt v m =
     held_open bound base had w js j fd lt v (was_held (fd) m.0.0 m.0.1)
   where

@@ -37,6 +37,9 @@ one_given : (n : ℕ) (deed : Deed) (told : ActReply) (holds after : List Hold) 
 one_given n (Calls (call.OpenRoot path flags)) (Host (host.Ok (value.Fd fd))) holds after s = let k = total_takes (count_of n) s in omega (arith, k)
 one_given n (Calls (call.OpenAt dir name flags mode)) (Host (host.Ok (value.Fd fd))) holds after s = let k = total_takes (count_of n) s.1 in omega (arith, k)
 one_given n (Calls (call.OpenAt dir name flags mode)) told holds after s = let k = ap (total (count_of n)) s.1 in omega (arith, k)
+one_given n (Calls (call.Reopen fd flags)) (Host (host.Ok (value.Fd new))) holds after s = let k = total_takes (count_of n) s.1 in omega (arith, k)
+one_given n (Calls (call.Reopen fd flags)) told holds after s = let k = ap (total (count_of n)) s.1 in omega (arith, k)
+one_given n (Calls (call.ReadAt fd offset size)) told holds after s = let k = ap (total (count_of n)) s.1 in omega (arith, k)
 one_given n (Calls (call.Stat fd)) (Host (host.Ok (value.Stat stat))) holds after s = let k = total_replaces (count_of n) s.1 in omega (arith, k)
 one_given n (Calls (call.Stat fd)) told holds after s = let k = ap (total (count_of n)) s.1 in omega (arith, k)
 one_given n (Calls (call.Close fd)) told holds after s = let k = total_takes (count_of n) s.1 in omega (arith, k)
@@ -56,6 +59,12 @@ one_given n (Changes (change.InsertRoot era form ids mode agreed)) (Event (event
     let b = total_takes (count_of n) s.2 in
     omega (arith, a, b)
 one_given n (Changes (change.GiveBack era number)) told holds after s = let k = total_takes (count_of n) s in omega (arith, k)
+one_given n (Changes (change.PinHandle handle number)) (Event (event.Pinned row fd)) holds after s = let k = total_takes (count_of n) s in omega (arith, k)
+one_given n (Changes (change.UnpinHandle row)) told holds after s = let k = total_takes (count_of n) s.1 in omega (arith, k)
+one_given n (Changes (change.InsertHandle era handle number fd)) (Event (event.Inserted given)) holds after s =
+    let a = total_takes (count_of n) s.2 in
+    let b = total_takes (count_of n) s.3 in
+    omega (arith, a, b)
 one_given n (Changes change.TakeClosing) told holds after s = let k = ap (total (count_of n)) s in let b = brings_none n (taken_in told) holds in omega (arith, k, b)
 one_given n deed told holds after s = let k = ap (total (count_of n)) s in omega (arith, k)
 

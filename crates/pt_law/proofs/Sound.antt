@@ -23,8 +23,8 @@ Sound asked (Do deed owed next) job past = Owes owed job
 Sound asked (May one other) job past = Sound asked one job past × Sound asked other job past
 
 -- what the one causes, the other causes too
-abbrev pub Within : List Step → List Step → Type 0
-Within past more = (errno : Errno) → SomeCauses past errno → SomeCauses more errno
+abbrev pub Within : Request → List Step → List Step → Type 0
+Within asked past more = (errno : Errno) → SomeCauses asked past errno → SomeCauses asked more errno
 
 -- a job with closings to make
 abbrev pub owing_job : List Hold → ℕ → Notes → Job
@@ -32,4 +32,4 @@ owing_job holds count notes = record { holds = holds; owed = count; notes = note
 
 -- the rest is sound after whatever steps of giving back and closings
 abbrev pub Goes : Request → Grammar → List Hold → ℕ → Notes → List Step → Type 0
-Goes asked rest holds count notes past = (later : Notes) → Lasts notes later → (more : List Step) → Within past more → Sound asked rest (owing_job holds count later) more
+Goes asked rest holds count notes past = (later : Notes) → Lasts notes later → (more : List Step) → Within asked past more → Sound asked rest (owing_job holds count later) more

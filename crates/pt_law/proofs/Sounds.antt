@@ -31,12 +31,12 @@ use Rattle.pt_law.proofs.Sound.{Sound, Owes, Within, Goes, owing_job}
 use Rattle.pt_law.proofs.Moving.{made_moves, never_copied, giving_lasts, gives_back, may_step, told_of, causes_of}
 
 -- causes
-caused_within : (asked : Request) (last : Answer) (past more : List Step) → Within past more → IsCaused asked past last → IsCaused asked more last
+caused_within : (asked : Request) (last : Answer) (past more : List Step) → Within asked past more → IsCaused asked past last → IsCaused asked more last
 caused_within asked (answer.Refused errno) past more w (inl own) = inl own
 caused_within asked (answer.Refused errno) past more w (inr made) = inr (w errno made)
 caused_within asked last past more w c = tt
 
-pub end_within : (asked : Request) (last : Finish) (past more : List Step) → Within past more → IsCausedEnd asked past last → IsCausedEnd asked more last
+pub end_within : (asked : Request) (last : Finish) (past more : List Step) → Within asked past more → IsCausedEnd asked past last → IsCausedEnd asked more last
 end_within asked (finish.Answer last) past more w c = caused_within asked last past more w c
 end_within asked (finish.Lost errno) past more w c = tt
 
@@ -54,7 +54,7 @@ restored_bare (finish.Answer told) (Some errno) e = refl
 
 -- closings
 pub after_any : (count : ℕ) (P : Notes → Type 0) (notes : Notes) → ((later : Notes) → Lasts notes later → P later) → After count P notes
-after_any zero P notes k = k notes refl
+after_any zero P notes k = k notes (refl, refl)
 after_any (suc count) P notes k = k
 
 after_map : (count : ℕ) (P Q : Notes → Type 0) (notes : Notes) → ((later : Notes) → P later → Q later) → After count P notes → After count Q notes
@@ -62,27 +62,27 @@ after_map zero P Q notes f k = f notes k
 after_map (suc count) P Q notes f k = λ later l. f later (k later l)
 
 goes_on : (asked : Request) (rest : Grammar) (holds : List Hold) (count : ℕ) (notes later : Notes) (past more : List Step) →
-    Lasts notes later → Within past more → Goes asked rest holds count notes past → Goes asked rest holds count later more
-goes_on asked rest holds count notes later past more l w k = λ last m much v. k last (m ∙ l) much (λ errno s. v errno (w errno s))
+    Lasts notes later → Within asked past more → Goes asked rest holds count notes past → Goes asked rest holds count later more
+goes_on asked rest holds count notes later past more l w k = λ last m much v. k last (m.0 ∙ l.0, m.1 ∙ l.1) much (λ errno s. v errno (w errno s))
 
 -- what a closing brought
 sound_slot : (asked : Request) (count : ℕ) (holds : List Hold) (rest : Grammar) (notes : Notes) (past : List Step) → Goes asked rest holds count notes past →
     Sound asked (give_slot true count holds rest) (owing_job (hold.Slot ∷ holds) count notes) past
 sound_slot asked count holds rest notes past k = (
   (refl, refl),
-  (λ step i t. (owing_job holds count notes, made_moves (Changes change.GiveFd) step.deed step.reply _ _ (λ no. no) i (here, tt, omega arith, refl), k notes refl (step ∷ past) (λ errno s. inr s))),
+  (λ step i t. (owing_job holds count notes, made_moves (Changes change.GiveFd) step.deed step.reply _ _ (λ no. no) i (here, tt, omega arith, refl), k notes (refl, refl) (step ∷ past) (λ errno s. inr s))),
 )
 
 sound_taken : (asked : Request) (brings : Taken) (count : ℕ) (holds : List Hold) (rest : Grammar) (notes : Notes) (past : List Step) →
     Goes asked rest holds count notes past → Sound asked (give_taken brings count holds rest) (owing_job (brought brings ++ holds) count notes) past
-sound_taken asked taken.Nothing count holds rest notes past k = k notes refl past (λ errno s. s)
+sound_taken asked taken.Nothing count holds rest notes past k = k notes (refl, refl) past (λ errno s. s)
 sound_taken asked taken.Slot count holds rest notes past k = sound_slot asked count holds rest notes past k
 sound_taken asked (taken.Fd fd true) count holds rest notes past k = (
   (refl, refl),
   (λ step i t. (
     owing_job (hold.Slot ∷ holds) count (without fd notes),
     made_moves (Calls (call.Close fd)) step.deed step.reply _ _ (λ no. no) i ((None, here), tt, omega arith, refl),
-    sound_slot asked count holds rest (without fd notes) (step ∷ past) (goes_on asked rest holds count notes (without fd notes) past (step ∷ past) refl (λ errno s. inr s) k),
+    sound_slot asked count holds rest (without fd notes) (step ∷ past) (goes_on asked rest holds count notes (without fd notes) past (step ∷ past) (refl, refl) (λ errno s. inr s) k),
   )),
 )
 sound_taken asked (taken.Fd fd false) count holds rest notes past k = (
@@ -90,12 +90,12 @@ sound_taken asked (taken.Fd fd false) count holds rest notes past k = (
   (λ step i t. (
     owing_job holds count (without fd notes),
     made_moves (Calls (call.Close fd)) step.deed step.reply _ _ (λ no. no) i ((None, here), tt, omega arith, refl),
-    k (without fd notes) refl (step ∷ past) (λ errno s. inr s),
+    k (without fd notes) (refl, refl) (step ∷ past) (λ errno s. inr s),
   )),
 )
 
 pub sound_closings : (asked : Request) (count : ℕ) (holds : List Hold) (next : Grammar) (notes : Notes) (past : List Step) →
-    After count (λ later. (more : List Step) → Within past more → Sound asked next (at_job holds later) more) notes →
+    After count (λ later. (more : List Step) → Within asked past more → Sound asked next (at_job holds later) more) notes →
     Sound asked (closings count holds next) (owing_job holds count notes) past
 sound_closings asked zero holds next notes past k = k past (λ errno s. s)
 sound_closings asked (suc count) holds next notes past k = (
@@ -104,7 +104,7 @@ sound_closings asked (suc count) holds next notes past k = (
     owing_job (brought (taken_in step.reply) ++ holds) count notes,
     made_moves (Changes change.TakeClosing) step.deed step.reply _ _ (λ no. no) i (refl, omega arith, omega arith, refl),
     sound_taken asked (taken_in step.reply) count holds (closings count holds next) notes (step ∷ past) (λ later l more w.
-        sound_closings asked count holds next later more (after_any count _ later (λ last m much v. k last (m ∙ l) much (λ errno s. v errno (w errno (inr s)))))),
+        sound_closings asked count holds next later more (after_any count _ later (λ last m much v. k last (m.0 ∙ l.0, m.1 ∙ l.1) much (λ errno s. v errno (w errno (inr s)))))),
   )),
 )
 
@@ -119,7 +119,7 @@ sound_give asked one holds left next notes past t k = (
         owing_job left count later,
         made_moves (giving one) step.deed step.reply _ _ (never_copied one) i (gives_back one step.reply holds left notes t),
         sound_closings asked count left (next (lost_by one step.reply)) later (step ∷ past) (after_any count _ later (λ last m more w.
-            k (lost_by one step.reply) last (m ∙ giving_lasts one step.reply notes) more (λ errno s. w errno (inr s)))),
+            k (lost_by one step.reply) last (let g = giving_lasts one step.reply notes in (m.0 ∙ g.0, m.1 ∙ g.1)) more (λ errno s. w errno (inr s)))),
       )),
 )
 
@@ -141,8 +141,8 @@ takes_under (Some other) one holds = there here
 pub sound_shut : (asked : Request) (passing : Option Hold) (count : ℕ) (holds : List Hold) (next : List Hold → Grammar) (notes : Notes) (past : List Step) →
     Goes asked (next (under passing (dropped count holds))) (under passing (dropped count holds)) 0 notes past →
     Sound asked (shut passing count holds next) (at_job (under passing holds) notes) past
-sound_shut asked passing zero holds next notes past k = k notes refl past (λ errno s. s)
-sound_shut asked passing (suc count) [] next notes past k = k notes refl past (λ errno s. s)
+sound_shut asked passing zero holds next notes past k = k notes (refl, refl) past (λ errno s. s)
+sound_shut asked passing (suc count) [] next notes past k = k notes (refl, refl) past (λ errno s. s)
 sound_shut asked passing (suc count) (one ∷ holds) next notes past k =
     sound_give asked one (under passing (one ∷ holds)) (under passing holds) _ notes past (takes_under passing one holds) (λ fault later l more w.
     sound_or_lost asked fault (under passing holds) (shut passing count holds next) later more
@@ -179,12 +179,12 @@ under_front true (one ∷ holds) = refl
 under_front false holds = refl
 
 -- what the path of the tree causes, the steps so far cause
-further : (deed : Deed) (step : Step) (path past : List Step) → IsStepOf deed step.deed step.reply → Within path past →
-    Within (record { deed = Some deed; reply = step.reply } ∷ path) (step ∷ past)
-further deed step path past i w errno (inl s) = inl (causes_of deed step.deed step.reply errno i s)
-further deed step path past i w errno (inr s) = inr (w errno s)
+further : (asked : Request) (deed : Deed) (step : Step) (path past : List Step) → IsStepOf deed step.deed step.reply → Within asked path past →
+    Within asked (record { deed = Some deed; reply = step.reply } ∷ path) (step ∷ past)
+further asked deed step path past i w errno (inl s) = inl (causes_of asked deed step.deed step.reply errno i s)
+further asked deed step path past i w errno (inr s) = inr (w errno s)
 
-pub sound_framed : (asked : Request) (tree : Tree) (holds : List Hold) (notes : Notes) (path past : List Step) → Fit asked tree holds notes path → Within path past →
+pub sound_framed : (asked : Request) (tree : Tree) (holds : List Hold) (notes : Notes) (path past : List Step) → Fit asked tree holds notes path → Within asked path past →
     Sound asked (framed tree holds) (at_job holds notes) past
 sound_framed asked (Gives last) holds notes path past f w = sound_answered asked last holds notes past f.0 (caused_within asked last path past w f.1)
 sound_framed asked (Refuses told) holds notes path past f w =
@@ -199,7 +199,7 @@ sound_framed asked (Asks deed next) holds notes path past f w = (
         (
           sound_closings asked count after (leave after (finish.Answer answer.NoMemory)) _ _ (after_any count _ _ (λ later l more v. sound_leave asked after (finish.Answer answer.NoMemory) later more refl tt)),
           sound_closings asked count after (framed (next step.reply) after) _ _ (after_map count _ _ _ (λ later g more v.
-              sound_framed asked (next step.reply) after later _ more g (λ errno s. v errno (further deed step path past i w errno s))) (f.1 step.reply (told_of deed step.deed step.reply i t))),
+              sound_framed asked (next step.reply) after later _ more g (λ errno s. v errno (further asked deed step path past i w errno s))) (f.1 step.reply (told_of deed step.deed step.reply i t))),
         ),
       )),
 )

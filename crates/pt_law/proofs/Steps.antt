@@ -5,7 +5,8 @@ use Rattle.pt_host.specs.Words.{total, set_at}
 use Rattle.pt_host.specs.Call.{Call}
 use Rattle.pt_host.specs.Reply.{ReplyHoldsBytes}
 use Rattle.pt_host.specs.Promises.{IsAllowed}
-use Rattle.pt_host.specs.Tree.{Tree, IsWellFormed}
+use Rattle.pt_host.specs.Tree.{Tree, IsOpenOn, IsWellFormed}
+use Rattle.pt_host.specs.declared.flags.OpenFlags.{OpenFlags}
 use Rattle.pt_host.specs.LawfulStep.{LawfulStep, Changes as TreeChanges}
 use Rattle.pt_host.specs.declared.ids.Fd.{Fd}
 use Rattle.pt_host.specs.declared.seat.HostSeat.{HostSeat}
@@ -32,10 +33,10 @@ use Rattle.pt_law.proofs.Balance.{moved}
 use Rattle.pt_law.proofs.Holding.{handed, in_tree}
 use Rattle.pt_law.proofs.Counting.{Books, keeps_books, honest, part}
 use Rattle.pt_law.proofs.Numbers.{Numbers, keeps_numbers}
-use Rattle.pt_law.proofs.Eras.{Dated, keeps_eras}
-use Rattle.pt_law.proofs.Knowing.{Knowing}
-use Rattle.pt_law.proofs.Events.{grows, rows_event, knows_event, knows_other}
+use Rattle.pt_law.proofs.Knowing.{Knowing, one_object}
+use Rattle.pt_law.proofs.Events.{grows, rows_event, handles_event, knows_event, knows_other, resolved_other}
 use Rattle.pt_law.proofs.Calls.{Right, keeps_call}
+use Rattle.pt_law.proofs.PinnedRows.{pinned_row}
 use Rattle.pt_law.proofs.Givings.{agree_step}
 
 -- what holds of the tables, whatever host there is; `had` says how often each number was inserted
@@ -43,14 +44,13 @@ pub record Tabled (bound : ℕ) (had : ℕ → ℕ) (t : Tables) (js : ℕ → J
   pub agree : Agree t
   pub books : Books bound t js
   pub numbers : Numbers bound had t js
-  pub dated : (j : ℕ) → j < bound → Dated t.era (js j)
 
 -- and of a host that tells its tree; `base` says what was open before the first step
 pub record Inv (bound : ℕ) (base had : ℕ → ℕ) (w : World) (js : ℕ → Job) : Type 0 where
   pub tabled : Tabled bound had w.tables js
   pub well : IsWellFormed w.tree
   pub fds : (fd : ℕ) → open_count fd w.tree ≡ kept_fds fd w.tables + held_by bound (fd_held fd) js + base fd
-  pub right : Right bound w.tree w.tables.next_row w.past w.tables.rows js
+  pub right : Right bound w.tree w.tables.next_row w.past w.tables.rows w.tables.handles js
 
 pub set_self : {X : Type 0} (f : ℕ → X) (j : ℕ) (x : X) → x ≡ f j → set_at j x f ≡ f
 set_self f j x e = λ i k. at k i
@@ -68,7 +68,6 @@ recount bound had had' t js e v = record {
     fresh = λ n l. let a = v.numbers.fresh n l in let b = e n in omega (arith, a, b);
     second = v.numbers.second;
   };
-  dated = v.dated;
 }
 
 pub keeps_tabled : (bound : ℕ) (had : ℕ → ℕ) (t : Tables) (js : ℕ → Job) (j : ℕ) (deed : Option Deed) (told : ActReply) (t' : Tables) (after : Job) → j < bound → Tabled bound had t js → TablesGo t deed told t' →
@@ -78,7 +77,6 @@ keeps_tabled bound had t js j (Some deed) told t' after lt v g m = record {
   agree = agree_step t (Some deed) told t' g v.agree;
   books = keeps_books bound t js j deed told t' after lt v.agree v.books g m;
   numbers = keeps_numbers bound had t js j deed told t' after lt v.agree v.numbers g m;
-  dated = keeps_eras bound t js j deed told t' after lt v.agree v.dated g m;
 }
 
 -- the slots that a step moves are told by its reply
@@ -92,6 +90,7 @@ event_flows t change.GiveFd event.Given t' h a = (refl, refl)
 event_flows t change.GiveFd (event.Refused why) t' h a = absurd a
 event_flows t (change.Insert era number form ids mode) (event.Inserted given) t' h a = (refl, refl)
 event_flows t (change.InsertRoot era form ids mode negotiated) (event.Inserted given) t' h a = (refl, refl)
+event_flows t (change.InsertHandle era handle number fd) (event.Inserted given) t' h a = (refl, refl)
 event_flows t change.TakeClosing (event.Closing fd slot) t' h a = (refl, refl)
 event_flows t change.GiveFd _ t' h a = absurd h
 event_flows t _ event.Taken t' h a = absurd h
@@ -115,13 +114,19 @@ turned does (Some (Calls a)) NoCopy from seat t to seat' t' h = h.1
 turned does None NoCopy from seat t to seat' t' h = h.2
 turned does _ _ from seat t to seat' t' h = absurd h
 
--- no call of these tells bytes, so each reply could be copied
-no_bytes : (a : Call) (r : HostReply) (before after : ℕ) → ReplyHoldsBytes r → IsAllowed before a r after → ⊥
-no_bytes (call.OpenRoot path flags) (host.Ok (value.Bytes bytes)) before after h f = f
-no_bytes (call.OpenAt dir name flags mode) (host.Ok (value.Bytes bytes)) before after h f = f
-no_bytes (call.Stat fd) (host.Ok (value.Bytes bytes)) before after h f = f
-no_bytes (call.Close fd) (host.Ok (value.Bytes bytes)) before after h f = f
-no_bytes _ _ before after h f = absurd h
+-- reading alone tells bytes, so each other reply could be copied
+abbrev Reads : Call → Type 0
+Reads (call.ReadAt fd offset size) = Unit {0}
+Reads a = ⊥
+
+no_bytes : (a : Call) (r : HostReply) (before after : ℕ) → (Reads a → ⊥) → ReplyHoldsBytes r → IsAllowed before a r after → ⊥
+no_bytes (call.OpenRoot path flags) (host.Ok (value.Bytes bytes)) before after n h f = f
+no_bytes (call.OpenAt dir name flags mode) (host.Ok (value.Bytes bytes)) before after n h f = f
+no_bytes (call.Reopen fd flags) (host.Ok (value.Bytes bytes)) before after n h f = f
+no_bytes (call.ReadAt fd offset size) (host.Ok (value.Bytes bytes)) before after n h f = n tt
+no_bytes (call.Stat fd) (host.Ok (value.Bytes bytes)) before after n h f = f
+no_bytes (call.Close fd) (host.Ok (value.Bytes bytes)) before after n h f = f
+no_bytes _ _ before after n h f = absurd h
 
 at_most_one : (fd : ℕ) (tree : Tree) → open_count fd tree ≤ 1
 at_most_one fd tree = go (tree.opened fd)
@@ -134,6 +139,8 @@ at_most_one fd tree = go (tree.opened fd)
 closed_held : (job : Job) (a : Call) (told : ActReply) (after : Job) → MovesBy job (Calls a) told after → (f : ℕ) → 0 < fd_ended f (Calls a) told → 0 < total (fd_held f) job.holds
 closed_held job (call.OpenRoot path flags) told after m f l = absurd (omega arith)
 closed_held job (call.OpenAt dir name flags mode) told after m f l = absurd (omega arith)
+closed_held job (call.Reopen fd flags) told after m f l = absurd (omega arith)
+closed_held job (call.ReadAt fd offset size) told after m f l = absurd (omega arith)
 closed_held job (call.Stat fd) told after m f l = absurd (omega arith)
 closed_held job (call.Close fd) told after m f l = let a = total_takes (fd_held f) m.0.1 in omega (arith, a, l)
 
@@ -154,10 +161,11 @@ keeps_event bound base had w js j e r t' after lt v h m =
           let s = sum_to_set (λ (k : Job). total (fd_held fd) k.holds) js j after bound lt in
           omega (arith, x, y, z, s);
       right = record {
+        handled = handles_event w.tree w.past w.tables j (js j) after e r t' a h m (v.right.knows j lt) v.right.handled;
         shown = rows_event w.tree w.past w.tables j (js j) after e r t' a h m (v.right.knows j lt) v.right.shown;
         knows = λ i less. at_each (Knowing w.tree t'.next_row later) js j after i
-            (knows_event w.tree w.past w.tables j (js j) after e r t' a h m v.right.shown (v.right.knows j lt))
-            (λ _. knows_other w.tree w.past later w.tables.next_row t'.next_row i (js i) g (v.right.knows i less));
+            (knows_event w.tree w.past w.tables j (js j) after e r t' a h m v.right.shown v.right.handled (v.right.knows j lt))
+            (λ other. knows_other w.tree w.past later w.tables.next_row t'.next_row i (js i) g (resolved_other w.past j e r w.tables.next_row w.tree i other) (v.right.knows i less));
       };
     }
 
@@ -176,18 +184,35 @@ keeps_host bound base had w js j a r seat seat' tree' after lt v l m =
       tabled = keeps_tabled bound had w.tables js j (Some (Calls a)) (Host r) w.tables after lt v.tabled refl m;
       well = l.well_formed v.well;
       fds = fds;
-      right = keeps_call bound w.tree w.tables.next_row w.past w.tables.rows js j after a r tree' lt v.right l.changes m
+      right = keeps_call bound w.tree w.tables.next_row w.past w.tables.rows w.tables.handles js j after a r tree' lt v.right l.changes m
+          (λ f flags object e on. judged f flags object on (subst (λ c. MovesBy (js j) (Calls c) (Host r) after) e m))
           (λ f e.
           let n : open_count f.0 tree' ≡ 0 = closed_none w.tree tree' a f r e l.changes in
           let x = fds f.0 in
-          (omega (arith, n, x), (λ i less. let y = part (fd_held f.0) (set_at j after js) bound i less in omega (arith, n, x, y))));
+          (omega (arith, n, x), omega (arith, n, x), (λ i less. let y = part (fd_held f.0) (set_at j after js) bound i less in omega (arith, n, x, y))));
     }
   where
+    judged : (f : Fd) (flags : OpenFlags) (object : ℕ) → IsOpenOn w.tree f object → MovesBy (js j) (Calls (call.Reopen f flags)) (Host r) after → w.past.resolved j ≡ Some object
+    judged f flags object on m =
+        let fit = m.1 in
+        let p = pinned_row bound w.tree w.tables w.past js j fit.0.row f lt v.tabled.books v.right fit.3 in
+        sym ((v.right.knows j lt).resolved fit.0 fit.2).1 ∙ p.2 ∙ ap Some (one_object w.tree f p.0 object p.1 on)
+
     closed_none : (tree tree' : Tree) (a : Call) (f : Fd) (r : HostReply) → a ≡ call.Close f → TreeChanges tree a r tree' → open_count f.0 tree' ≡ 0
     closed_none tree tree' a f r e h = let l : TreeChanges tree (call.Close f) r tree' = subst (λ c. TreeChanges tree c r tree') e h in none tree tree' f r l
       where
         none : (tree tree' : Tree) (f : Fd) (r : HostReply) → TreeChanges tree (call.Close f) r tree' → open_count f.0 tree' ≡ 0
         none tree tree' f r l = rw l (ap some_count (set_at_same tree.opened f.0 None))
+
+-- bytes that could not be copied were read, which moves nothing
+keeps_bytes : (bound : ℕ) (base had : ℕ → ℕ) (w : World) (js : ℕ → Job) (j : ℕ) (a : Call) (r : HostReply) (seat seat' : HostSeat) (next : World) (after : Job) (faults later : ℕ) → j < bound → Inv bound base had w js →
+    ReplyHoldsBytes r → IsAllowed faults a r later → LawfulStep w.tree seat a r next.tree seat' → next.tables ≡ w.tables → next.past ≡ settled_by w.past j (Calls a) NoCopy w.tables.next_row next.tree → MovesBy (js j) (Calls a) NoCopy after →
+    Inv bound base (λ n. had n + inserted_as n (Calls a) NoCopy) next (set_at j after js)
+keeps_bytes bound base had w js j (call.ReadAt fd offset size) (host.Ok (value.Bytes bytes)) seat seat' next after faults later lt v h f l t p m =
+    let same : next ≡ record { tree = next.tree; tables = w.tables; past = w.past } = λ i. record { tree = next.tree; tables = t i; past = p i } in
+    rw same (keeps_host bound base had w js j (call.ReadAt fd offset size) (host.Ok (value.Bytes bytes)) seat seat' next.tree after lt v l m)
+keeps_bytes bound base had w js j (call.ReadAt fd offset size) r seat seat' next after faults later lt v h f l t p m = absurd h
+keeps_bytes bound base had w js j a r seat seat' next after faults later lt v h f l t p m = absurd (no_bytes a r faults later (λ no. no) h f)
 
 keeps_by : (bound : ℕ) (base had : ℕ → ℕ) (w : World) (js : ℕ → Job) (j : ℕ) (deed : Option Deed) (told : ActReply) (seat seat' : HostSeat) (next : World) (after : Job) → j < bound → Inv bound base had w js →
     Made IsLawful deed told w.tree seat w.tables next.tree seat' next.tables → next.past ≡ settled_if w.past j deed told w.tables.next_row next.tree → MovesIf (js j) deed told after →
@@ -202,7 +227,9 @@ keeps_by bound base had w js j (Some (Changes e)) (Event r) seat seat' next afte
 keeps_by bound base had w js j (Some (Calls a)) (Host r) seat seat' next after lt v g p m =
     let same : next ≡ record { tree = next.tree; tables = w.tables; past = settled_by w.past j (Calls a) (Host r) w.tables.next_row next.tree } = λ i. record { tree = next.tree; tables = g.1 i; past = p i } in
     rw same (keeps_host bound base had w js j a r seat seat' next.tree after lt v g.0.0 m)
-keeps_by bound base had w js j (Some (Calls a)) NoCopy seat seat' next after lt v g p m = let l = g.0.2 in absurd (no_bytes a g.0.0 l.1 l.2 g.0.1 l.3.allowed)
+keeps_by bound base had w js j (Some (Calls a)) NoCopy seat seat' next after lt v g p m =
+    let l = g.0.2 in
+    keeps_bytes bound base had w js j a g.0.0 seat seat' next after l.1 l.2 lt v g.0.1 l.3.allowed l.0 g.1 p m
 keeps_by bound base had w js j _ _ seat seat' next after lt v g p m = absurd g
 
 -- Each step keeps what holds.

@@ -22,6 +22,7 @@ Along tree steps last = ⊥
 abbrev pub GivesBack : Option Deed → Type 0
 GivesBack (Some (Calls (call.Close fd))) = Unit {0}
 GivesBack (Some (Changes (change.Unpin row))) = Unit {0}
+GivesBack (Some (Changes (change.UnpinHandle row))) = Unit {0}
 GivesBack (Some (Changes change.GiveFd)) = Unit {0}
 GivesBack (Some (Changes (change.GiveBack era number))) = Unit {0}
 GivesBack (Some (Changes change.TakeClosing)) = Unit {0}

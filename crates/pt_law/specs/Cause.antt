@@ -1,57 +1,78 @@
 -- The cause of a refusal: the request itself, or one of its steps.
-use Rattle.std.specs.Prelude.{◌≡◌, ◌⊎◌, true, List, [], ◌∷◌, Option, Some}
-use Rattle.pt_host.specs.Errno.{ebadf, eio, einval, enfile, eoverflow}
+use Rattle.std.specs.Prelude.{◌≡◌, ◌⊎◌, true, false, List, [], ◌∷◌, Option, Some}
+use Rattle.pt_host.specs.Errno.{errno_of, ebadf, eio, einval, enfile, eoverflow}
 use Rattle.pt_host.specs.declared.ids.Errno.{Errno}
 use Rattle.pt_host.specs.declared.op.KeptHostOp.TheVariants as call
 use Rattle.pt_host.specs.declared.reply.HostReply.TheVariants as host
 use Rattle.pt_session.specs.declared.event.KeptEvent.TheVariants as change
-use Rattle.pt_session.specs.declared.reply.EventReply.TheVariants.{Refused}
+use Rattle.pt_session.specs.declared.reply.EventReply.TheVariants.{Refused, Resolved}
 use Rattle.pt_session.specs.declared.reply.EventRefusal.TheVariants.{NotLive, Overtaken, NoSlot, Last, Live}
 use Rattle.pt_iface.specs.declared.answer.Answer.{Answer}
 use Rattle.pt_iface.specs.declared.answer.Answer.TheVariants as answer
 use Rattle.pt_iface.specs.declared.request.Request.{Request}
 use Rattle.pt_iface.specs.declared.request.Request.TheVariants as request
 use Rattle.pt_req.specs.Deed.{Deed, Calls, Changes, Step}
-use Rattle.pt_req.specs.Requests.{is_bad_name}
+use Rattle.pt_req.specs.Requests.{is_bad_name, is_bad_offset, can_open, IsHeld}
 use Rattle.pt_req.specs.declared.act.ActReply.{ActReply}
 use Rattle.pt_req.specs.declared.act.ActReply.TheVariants.{Event, Host}
 use Rattle.pt_req.specs.declared.finish.Finish.{Finish}
 use Rattle.pt_req.specs.declared.finish.Finish.TheVariants as finish
 
--- The step, answered so, causes this error number. What gives a hold back causes none: its reply is passed over.
-abbrev pub StepCauses : Option Deed → ActReply → Errno → Type 0
-StepCauses (Some (Calls (call.OpenRoot path flags))) (Host (host.Refused errno)) cause = cause ≡ errno
-StepCauses (Some (Calls (call.OpenRoot path flags))) (Host (host.Fault errno)) cause = cause ≡ errno
-StepCauses (Some (Calls (call.OpenAt dir name flags mode))) (Host (host.Refused errno)) cause = cause ≡ errno
-StepCauses (Some (Calls (call.OpenAt dir name flags mode))) (Host (host.Fault errno)) cause = cause ≡ errno
-StepCauses (Some (Calls (call.Stat fd))) (Host (host.Refused errno)) cause = cause ≡ errno
-StepCauses (Some (Calls (call.Stat fd))) (Host (host.Fault errno)) cause = cause ≡ errno
-StepCauses (Some (Changes (change.Resolve number))) (Event (Refused NotLive)) cause = cause ≡ ebadf
-StepCauses (Some (Changes (change.Resolve number))) (Event (Refused Last)) cause = cause ≡ eoverflow
-StepCauses (Some (Changes (change.Claim era handle ids))) (Event (Refused Overtaken)) cause = cause ≡ ebadf
-StepCauses (Some (Changes (change.Claim era handle ids))) (Event (Refused Last)) cause = cause ≡ eoverflow
-StepCauses (Some (Changes change.TakeFd)) (Event (Refused NoSlot)) cause = cause ≡ enfile
-StepCauses (Some (Changes change.DrawNode)) (Event (Refused Last)) cause = cause ≡ eoverflow
-StepCauses (Some (Changes (change.Insert era number form ids mode))) (Event (Refused Overtaken)) cause = cause ≡ ebadf
-StepCauses (Some (Changes (change.Insert era number form ids mode))) (Event (Refused Last)) cause = cause ≡ eoverflow
-StepCauses (Some (Changes (change.Insert era number form ids mode))) (Event (Refused Live)) cause = cause ≡ eio
-StepCauses (Some (Changes (change.InsertRoot era form ids mode agreed))) (Event (Refused Overtaken)) cause = cause ≡ ebadf
-StepCauses (Some (Changes (change.InsertRoot era form ids mode agreed))) (Event (Refused Last)) cause = cause ≡ eoverflow
-StepCauses (Some (Changes (change.InsertRoot era form ids mode agreed))) (Event (Refused Live)) cause = cause ≡ eio
-StepCauses deed told cause = ⊥
+-- it opens a number
+abbrev pub IsOpening : Request → Type 0
+IsOpening (request.Open inode kill flags) = Unit {0}
+IsOpening (request.OpenDir inode flags) = Unit {0}
+IsOpening asked = ⊥
+
+-- The step, answered so, causes this error number. What gives a hold back causes none: its reply is passed over. A number that stands for neither
+-- a regular file nor a directory is not opened.
+abbrev pub StepCauses : Request → Option Deed → ActReply → Errno → Type 0
+StepCauses asked (Some (Calls (call.OpenRoot path flags))) (Host (host.Refused errno)) cause = cause ≡ errno
+StepCauses asked (Some (Calls (call.OpenRoot path flags))) (Host (host.Fault errno)) cause = cause ≡ errno
+StepCauses asked (Some (Calls (call.OpenAt dir name flags mode))) (Host (host.Refused errno)) cause = cause ≡ errno
+StepCauses asked (Some (Calls (call.OpenAt dir name flags mode))) (Host (host.Fault errno)) cause = cause ≡ errno
+StepCauses asked (Some (Calls (call.Stat fd))) (Host (host.Refused errno)) cause = cause ≡ errno
+StepCauses asked (Some (Calls (call.Stat fd))) (Host (host.Fault errno)) cause = cause ≡ errno
+StepCauses asked (Some (Changes (change.Resolve number))) (Event (Refused NotLive)) cause = cause ≡ ebadf
+StepCauses asked (Some (Changes (change.Resolve number))) (Event (Resolved row form ids mode)) cause = IsOpening asked × (can_open mode ≡ false) × (cause ≡ ebadf)
+StepCauses asked (Some (Changes (change.Resolve number))) (Event (Refused Last)) cause = cause ≡ eoverflow
+StepCauses asked (Some (Changes (change.Claim era handle ids))) (Event (Refused Overtaken)) cause = cause ≡ ebadf
+StepCauses asked (Some (Changes (change.Claim era handle ids))) (Event (Refused Last)) cause = cause ≡ eoverflow
+StepCauses asked (Some (Changes change.TakeFd)) (Event (Refused NoSlot)) cause = cause ≡ enfile
+StepCauses asked (Some (Changes change.DrawNode)) (Event (Refused Last)) cause = cause ≡ eoverflow
+StepCauses asked (Some (Changes (change.Insert era number form ids mode))) (Event (Refused Overtaken)) cause = cause ≡ ebadf
+StepCauses asked (Some (Changes (change.Insert era number form ids mode))) (Event (Refused Last)) cause = cause ≡ eoverflow
+StepCauses asked (Some (Changes (change.Insert era number form ids mode))) (Event (Refused Live)) cause = cause ≡ eio
+StepCauses asked (Some (Changes (change.InsertRoot era form ids mode agreed))) (Event (Refused Overtaken)) cause = cause ≡ ebadf
+StepCauses asked (Some (Changes (change.InsertRoot era form ids mode agreed))) (Event (Refused Last)) cause = cause ≡ eoverflow
+StepCauses asked (Some (Changes (change.InsertRoot era form ids mode agreed))) (Event (Refused Live)) cause = cause ≡ eio
+StepCauses asked (Some (Calls (call.Reopen fd flags))) (Host (host.Refused errno)) cause = cause ≡ errno
+StepCauses asked (Some (Calls (call.Reopen fd flags))) (Host (host.Fault errno)) cause = cause ≡ errno
+StepCauses asked (Some (Calls (call.ReadAt fd offset size))) (Host (host.Refused errno)) cause = cause ≡ errno
+StepCauses asked (Some (Calls (call.ReadAt fd offset size))) (Host (host.Fault errno)) cause = cause ≡ errno
+StepCauses asked (Some (Changes change.DrawHandle)) (Event (Refused Last)) cause = cause ≡ eoverflow
+StepCauses asked (Some (Changes (change.InsertHandle era handle number fd))) (Event (Refused Overtaken)) cause = cause ≡ ebadf
+StepCauses asked (Some (Changes (change.InsertHandle era handle number fd))) (Event (Refused Last)) cause = cause ≡ eoverflow
+StepCauses asked (Some (Changes (change.InsertHandle era handle number fd))) (Event (Refused Live)) cause = cause ≡ eio
+StepCauses asked (Some (Changes (change.PinHandle handle number))) (Event (Refused NotLive)) cause = cause ≡ ebadf
+StepCauses asked (Some (Changes (change.PinHandle handle number))) (Event (Refused Last)) cause = cause ≡ eoverflow
+StepCauses asked (Some (Changes (change.Release handle number))) (Event (Refused NotLive)) cause = cause ≡ ebadf
+StepCauses asked (Some (Changes change.Clear)) (Event (Refused Last)) cause = cause ≡ eoverflow
+StepCauses asked deed told cause = ⊥
 
 -- one of the steps causes it
-abbrev pub SomeCauses : List Step → Errno → Type 0
-SomeCauses [] cause = ⊥
-SomeCauses (step ∷ steps) cause = StepCauses step.deed step.reply cause ⊎ SomeCauses steps cause
+abbrev pub SomeCauses : Request → List Step → Errno → Type 0
+SomeCauses asked [] cause = ⊥
+SomeCauses asked (step ∷ steps) cause = StepCauses asked step.deed step.reply cause ⊎ SomeCauses asked steps cause
 
--- the request itself causes it: a lookup of what is no name
+-- the request itself causes it: a lookup of what is no name, an offset past the last that a file can have, or a function that there is not, `ENOSYS`
 abbrev pub OwnCause : Request → Errno → Type 0
 OwnCause (request.Lookup parent name) cause = (is_bad_name name ≡ true) × (cause ≡ einval)
-OwnCause asked cause = ⊥
+OwnCause (request.Read inode handle size offset) cause = (is_bad_offset offset ≡ true) × (cause ≡ einval)
+OwnCause asked cause = (IsHeld asked → ⊥) × (cause ≡ errno_of 38)
 
 abbrev pub HasCause : Request → List Step → Errno → Type 0
-HasCause asked steps cause = OwnCause asked cause ⊎ SomeCauses steps cause
+HasCause asked steps cause = OwnCause asked cause ⊎ SomeCauses asked steps cause
 
 -- an answer that refuses has its cause
 abbrev pub IsCaused : Request → List Step → Answer → Type 0

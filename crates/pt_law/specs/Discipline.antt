@@ -20,6 +20,7 @@ use Rattle.pt_req.specs.declared.hold.Hold.TheVariants as hold
 
 abbrev pub Names : Hold → Fd → Type 0
 Names (hold.Pin row same) fd = same ≡ fd
+Names (hold.HandlePin row same) fd = same ≡ fd
 Names (hold.Fd same told) fd = same ≡ fd
 Names _ fd = ⊥
 
@@ -36,6 +37,9 @@ abbrev pub Shifts : List Hold → Deed → ActReply → List Hold → Type 0
 Shifts holds (Calls (call.OpenRoot path flags)) (Host (host.Ok (value.Fd fd))) after = Gains (hold.Fd fd None) holds after
 Shifts holds (Calls (call.OpenAt dir name flags mode)) (Host (host.Ok (value.Fd fd))) after = Knows holds dir × Gains (hold.Fd fd None) holds after
 Shifts holds (Calls (call.OpenAt dir name flags mode)) told after = Knows holds dir × (after ≡ holds)
+Shifts holds (Calls (call.Reopen fd flags)) (Host (host.Ok (value.Fd new))) after = Knows holds fd × Gains (hold.Fd new None) holds after
+Shifts holds (Calls (call.Reopen fd flags)) told after = Knows holds fd × (after ≡ holds)
+Shifts holds (Calls (call.ReadAt fd offset size)) told after = Knows holds fd × (after ≡ holds)
 Shifts holds (Calls (call.Stat fd)) (Host (host.Ok (value.Stat stat))) after = (was : Option ObjIds) × Replaces (hold.Fd fd was) (hold.Fd fd (Some stat.ids)) holds after
 Shifts holds (Calls (call.Stat fd)) told after = Knows holds fd × (after ≡ holds)
 Shifts holds (Calls (call.Close fd)) told after = (was : Option ObjIds) × Takes (hold.Fd fd was) holds after
@@ -50,23 +54,37 @@ Shifts holds (Changes (change.Insert era number form ids mode)) (Event (event.Fo
 Shifts holds (Changes (change.InsertRoot era form ids mode agreed)) (Event (event.Inserted given)) after =
     (mid : List Hold) × Takes (hold.Fd (fd_of form) (Some ids)) holds mid × Takes hold.Slot mid after
 Shifts holds (Changes (change.GiveBack era number)) told after = Takes (hold.Count era number) holds after
+Shifts holds (Changes (change.PinHandle handle number)) (Event (event.Pinned row fd)) after = Gains (hold.HandlePin row fd) holds after
+Shifts holds (Changes (change.UnpinHandle row)) told after = (fd : Fd) × Takes (hold.HandlePin row fd) holds after
+Shifts holds (Changes (change.InsertHandle era handle number fd)) (Event (event.Inserted given)) after =
+    (was : Option ObjIds) × (mid : List Hold) × Takes (hold.Fd fd was) holds mid × Takes hold.Slot mid after
 Shifts holds (Changes change.TakeClosing) told after = after ≡ brought (taken_in told) ++ holds
 Shifts holds deed told after = after ≡ holds
 
--- What a job knows by its steps. A descriptor is noted while it is neither closed nor handed to the tables, and a number while it is not inserted.
+-- a number that was resolved, and the row that is pinned for it
+pub record Resolution : Type 0 where
+  pub number : ℕ
+  pub row : ℕ
+
+-- What a job knows by its steps. A descriptor is noted while it is neither closed nor handed to the tables, and a number or a handle while it is
+-- not inserted.
 pub record Notes : Type 0 where
-  -- the era in which it began
+  -- the era in which it began, or which it began
   pub era : Option ℕ
   -- what its latest `OpenAt` answered
   pub latest : Option Fd
   -- what its first `OpenRoot` answered, and whether one was answered yet
   pub root : Option Fd
   pub rooted : Bool
-  -- the number that it drew last
+  -- the number that it drew last, and the handle
   pub drawn : Option ℕ
+  pub handle : Option ℕ
+  -- what its latest `Resolve` answered, and what its latest `Reopen` since then did
+  pub resolved : Option Resolution
+  pub reopened : Option Fd
 
 abbrev pub blank : Notes
-blank = record { era = None; latest = None; root = None; rooted = false; drawn = None }
+blank = record { era = None; latest = None; root = None; rooted = false; drawn = None; handle = None; resolved = None; reopened = None }
 
 -- unless it is this one
 abbrev pub unless : Fd → Option Fd → Option Fd
@@ -75,7 +93,7 @@ unless fd (Some noted) = if noted.0 == fd.0 then None else Some noted
 
 -- this descriptor is noted no more
 abbrev pub without : Fd → Notes → Notes
-without fd notes = record notes { latest = unless fd notes.latest; root = unless fd notes.root }
+without fd notes = record notes { latest = unless fd notes.latest; root = unless fd notes.root; reopened = unless fd notes.reopened }
 
 -- the first opening of a root stays the first
 abbrev pub with_root : Fd → Notes → Notes
@@ -83,10 +101,16 @@ with_root fd notes = if notes.rooted then notes else record notes { root = Some 
 
 abbrev pub notes_after : Notes → Deed → ActReply → Notes
 notes_after notes (Changes change.Begin) (Event (event.Began era agreed)) = record notes { era = Some era }
+notes_after notes (Changes change.Clear) (Event (event.Cleared era closings)) = record notes { era = Some era }
 notes_after notes (Calls (call.OpenRoot path flags)) (Host (host.Ok (value.Fd fd))) = with_root fd notes
 notes_after notes (Calls (call.OpenAt dir name flags mode)) (Host (host.Ok (value.Fd fd))) = record notes { latest = Some fd }
+notes_after notes (Changes (change.Resolve number)) (Event (event.Resolved row form ids mode)) =
+    record notes { resolved = Some (record { number = number; row = row }); reopened = None }
+notes_after notes (Calls (call.Reopen fd flags)) (Host (host.Ok (value.Fd new))) = record notes { reopened = Some new }
 notes_after notes (Calls (call.Close fd)) told = without fd notes
 notes_after notes (Changes change.DrawNode) (Event (event.Drawn number)) = record notes { drawn = Some number }
+notes_after notes (Changes change.DrawHandle) (Event (event.Drawn handle)) = record notes { handle = Some handle }
+notes_after notes (Changes (change.InsertHandle era handle number fd)) (Event (event.Inserted given)) = record (without fd notes) { handle = None }
 notes_after notes (Changes (change.Insert era number form ids mode)) (Event (event.Inserted given)) = record (without (fd_of form) notes) { drawn = None }
 notes_after notes (Changes (change.InsertRoot era form ids mode agreed)) (Event (event.Inserted given)) = without (fd_of form) notes
 notes_after notes _ _ = notes
@@ -112,9 +136,18 @@ owed_after owed deed told = owed + closings_in deed told
 abbrev pub IsTold : List Hold → Fd → ObjIds → Type 0
 IsTold holds fd ids = (rest : List Hold) × Takes (hold.Fd fd (Some ids)) holds rest
 
--- Whether the job may make this deed, what it holds aside. A number is asked or inserted only for what was opened last, in the era of the job; an
--- inserted one was drawn; number 1 is only for the first root that was opened; and a closing is taken only where one is owed.
+-- Whether the job may make this deed, what it holds aside. A job begins once, in the era that there is or in a new one; a number is asked or
+-- inserted only for what was opened last, in the era of the job; an inserted one was drawn; number 1 is only for the first root that was opened;
+-- what was resolved last is opened anew while its row is pinned, and a handle that was drawn is inserted for it; and a closing is taken only where
+-- one is owed.
 abbrev pub Fits : Job → Deed → Type 0
+Fits job (Changes change.Begin) = job.notes.era ≡ None
+Fits job (Changes change.Clear) = job.notes.era ≡ None
+Fits job (Calls (call.Reopen fd flags)) =
+    (was : Resolution) × (rest : List Hold) × (job.notes.resolved ≡ Some was) × Takes (hold.Pin was.row fd) job.holds rest
+Fits job (Changes (change.InsertHandle era handle number fd)) =
+    (row : ℕ) × (job.notes.era ≡ Some era) × (job.notes.handle ≡ Some handle) × (job.notes.resolved ≡ Some (record { number = number; row = row }))
+    × (job.notes.reopened ≡ Some fd)
 Fits job (Changes (change.Claim era handle ids)) = (fd : Fd) × (job.notes.era ≡ Some era) × (job.notes.latest ≡ Some fd) × IsTold job.holds fd ids
 Fits job (Changes (change.Insert era number form ids mode)) =
     (job.notes.era ≡ Some era) × (job.notes.latest ≡ Some (fd_of form)) × (job.notes.drawn ≡ Some number) × IsTold job.holds (fd_of form) ids

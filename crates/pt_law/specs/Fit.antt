@@ -1,5 +1,5 @@
 -- A tree whose deeds may be made where they stand, and whose refusals have a cause.
-use Rattle.std.specs.Prelude.{◌≡◌, ℕ, zero, suc, List, ◌∷◌, Some}
+use Rattle.std.specs.Prelude.{◌≡◌, ℕ, zero, suc, List, ◌∷◌, None, Some}
 use Rattle.pt_host.specs.declared.op.KeptHostOp.TheVariants as call
 use Rattle.pt_session.specs.declared.event.KeptEvent.TheVariants as change
 use Rattle.pt_iface.specs.declared.answer.Answer.{Answer}
@@ -18,9 +18,13 @@ use Rattle.pt_law.specs.Cause.{IsCaused}
 -- A request's own part may make this deed, whatever it is then told. What gives a hold back, and the closings, are the frame's.
 abbrev pub MayMake : Deed → List Hold → Notes → Type 0
 MayMake (Calls (call.OpenAt dir name flags mode)) holds notes = Knows holds dir
+MayMake (Calls (call.Reopen fd flags)) holds notes = Fits (at_job holds notes) (Calls (call.Reopen fd flags))
+MayMake (Calls (call.ReadAt fd offset size)) holds notes = Knows holds fd
 MayMake (Calls (call.Stat fd)) (hold.Fd same was ∷ holds) notes = same ≡ fd
 MayMake (Calls (call.Stat fd)) holds notes = ⊥
 MayMake (Calls (call.Close fd)) holds notes = ⊥
+MayMake (Changes change.Begin) holds notes = notes.era ≡ None
+MayMake (Changes change.Clear) holds notes = notes.era ≡ None
 MayMake (Changes (change.Claim era handle ids)) holds notes = Fits (at_job holds notes) (Changes (change.Claim era handle ids))
 MayMake (Changes (change.Insert era number form ids mode)) (hold.Fd same was ∷ hold.Slot ∷ holds) notes =
     (same ≡ fd_of form) × (was ≡ Some ids) × (notes.era ≡ Some era) × (notes.latest ≡ Some (fd_of form)) × (notes.drawn ≡ Some number)
@@ -28,15 +32,19 @@ MayMake (Changes (change.Insert era number form ids mode)) holds notes = ⊥
 MayMake (Changes (change.InsertRoot era form ids mode agreed)) (hold.Fd same was ∷ hold.Slot ∷ holds) notes =
     (same ≡ fd_of form) × (was ≡ Some ids) × (notes.era ≡ Some era) × (notes.root ≡ Some (fd_of form))
 MayMake (Changes (change.InsertRoot era form ids mode agreed)) holds notes = ⊥
+MayMake (Changes (change.InsertHandle era handle number fd)) (hold.Fd same was ∷ hold.Slot ∷ holds) notes =
+    (same ≡ fd) × Fits (at_job holds notes) (Changes (change.InsertHandle era handle number fd))
+MayMake (Changes (change.InsertHandle era handle number fd)) holds notes = ⊥
 MayMake (Changes (change.Unpin row)) holds notes = ⊥
+MayMake (Changes (change.UnpinHandle row)) holds notes = ⊥
 MayMake (Changes change.GiveFd) holds notes = ⊥
 MayMake (Changes (change.GiveBack era number)) holds notes = ⊥
 MayMake (Changes change.TakeClosing) holds notes = ⊥
 MayMake deed holds notes = Unit {0}
 
--- giving back and closings leave the era noted, and what else is noted may change
+-- giving back and closings leave it noted which era it is and whether a root was opened, and what else is noted may change
 abbrev pub Lasts : Notes → Notes → Type 0
-Lasts notes later = later.era ≡ notes.era
+Lasts notes later = (later.era ≡ notes.era) × (later.rooted ≡ notes.rooted)
 
 -- with these notes, or after closings with whatever may follow
 abbrev pub After : ℕ → (Notes → Type 0) → Notes → Type 0

@@ -1,13 +1,13 @@
 -- What holds of every run whose jobs keep the discipline, after every step and at the end.
-use Rattle.std.specs.Prelude.{◌≡◌, ◌≢◌, ◌<◌, ◌≤◌, ℕ, ◌+◌, true, List, [], Option, Some}
+use Rattle.std.specs.Prelude.{◌≡◌, ◌≢◌, ◌<◌, ◌≤◌, ℕ, ◌+◌, true, List, [], ◌∷◌, ◌++◌, length, Option, Some}
 use Rattle.pt_host.specs.Words.{total, sum_to, Each}
 use Rattle.pt_host.specs.Tree.{Tree, IsOpenOn, IsWellFormed}
 use Rattle.pt_host.specs.declared.op.KeptHostOp.TheVariants as call
-use Rattle.pt_session.specs.Tables.{Tables, empty_tables, HasNumber}
+use Rattle.pt_session.specs.Tables.{Tables, empty_tables, HasNumber, HasHandle}
 use Rattle.pt_session.specs.declared.row.Row.{Row}
-use Rattle.pt_session.specs.Happens.{IsRow, NoRow}
+use Rattle.pt_session.specs.declared.row.HandleRow.{HandleRow}
+use Rattle.pt_session.specs.Happens.{IsRow, NoRow, IsHandleRow, NoHandle}
 use Rattle.pt_session.specs.declared.event.KeptEvent.TheVariants as change
-use Rattle.pt_session.specs.declared.reply.EventRefusal.TheVariants.{Overtaken}
 use Rattle.pt_session.specs.declared.reply.EventReply.TheVariants as event
 use Rattle.pt_req.specs.Deed.{Deed, Calls, Changes}
 use Rattle.pt_req.specs.Grammar.{Belongs}
@@ -20,7 +20,7 @@ use Rattle.pt_req.specs.declared.plan.Plan.{Plan}
 use Rattle.pt_iface.specs.declared.request.Request.{Request}
 use Rattle.pt_law.specs.Discipline.{Job, idle, Disciplined, Ends}
 use Rattle.pt_law.specs.World.{Turn, World, steps_of, no_past}
-use Rattle.pt_law.specs.Ledger.{kept_slots, row_slot, slots_taken, slots_given, carried, kept_fds, row_fd, fd_held, held_by, open_count}
+use Rattle.pt_law.specs.Ledger.{kept_slots, row_slot, handle_fd, slots_taken, slots_given, carried, kept_fds, row_fd, fd_held, held_by, open_count}
 
 -- each step is one of the jobs' below the bound, and each of these keeps the discipline
 pub record AreDisciplined (bound : ℕ) (turns : List Turn) : Type 0 where
@@ -65,6 +65,27 @@ pub record IsCounted (tables : Tables) (number : ℕ) (amount : ℕ) : Type 0 wh
   pub live : 0 < amount → (row : Row) × IsRow tables row × HasNumber number row × (row.count ≡ amount)
   pub gone : amount ≡ 0 → NoRow tables (HasNumber number)
 
+-- a handle is live exactly where it was inserted and neither released nor cleared since
+pub record IsStanding (tables : Tables) (handle : ℕ) (amount : ℕ) : Type 0 where
+  pub live : 0 < amount → (row : HandleRow) × IsHandleRow tables row × HasHandle handle row
+  pub gone : amount ≡ 0 → NoHandle tables (HasHandle handle)
+
+-- a handle's descriptor is open on the object that its number had when it was resolved for the handle's opening
+abbrev pub Serves : World → HandleRow → Type 0
+Serves world row = (object : ℕ) × (world.past.objects row.serial ≡ Some object) × IsOpenOn world.tree row.fd object
+
+-- a job that was overtaken: after its first step another job began the session anew
+pub record IsOvertaken (job : ℕ) (turns : List Turn) : Type 0 where
+  pub before : List Turn
+  pub clearing : Turn
+  pub later : List Turn
+  pub in_turn : turns ≡ before ++ clearing ∷ later
+  pub begun : steps_of job before ≢ []
+  pub other : clearing.job ≢ job
+  pub era : ℕ
+  pub closings : ℕ
+  pub cleared : clearing.step ≡ record { deed = Some (Changes change.Clear); reply = Event (event.Cleared era closings) }
+
 -- slots left, those of rows and of the closing list, and those that jobs carry, are the limit
 pub record SlotsAddUp (limit bound : ℕ) (turns : List Turn) (tables : Tables) : Type 0 where
   pub sum : kept_slots tables + sum_to bound (λ job. carried (steps_of job turns)) ≡ limit
@@ -82,25 +103,28 @@ pub record AreKept (start : World) (bound : ℕ) (turns : List Turn) (now : Worl
 -- a call names only what is open
 abbrev pub NamesOpen : Tree → Option Deed → Type 0
 NamesOpen tree (Some (Calls (call.OpenAt fd name flags mode))) = (object : ℕ) × IsOpenOn tree fd object
+NamesOpen tree (Some (Calls (call.Reopen fd flags))) = (object : ℕ) × IsOpenOn tree fd object
+NamesOpen tree (Some (Calls (call.ReadAt fd offset size))) = (object : ℕ) × IsOpenOn tree fd object
 NamesOpen tree (Some (Calls (call.Stat fd))) = (object : ℕ) × IsOpenOn tree fd object
 NamesOpen tree (Some (Calls (call.Close fd))) = (object : ℕ) × IsOpenOn tree fd object
 NamesOpen tree deed = Unit {0}
 
--- Giving back a pin or a slot that is held is never refused, nor is the taking of a closing that is owed, and no event is overtaken.
+-- Giving back a pin or a slot that is held is never refused, nor is the taking of a closing that is owed.
 abbrev pub IsHonoured : Option Deed → ActReply → Type 0
-IsHonoured deed (Event (event.Refused Overtaken)) = ⊥
 IsHonoured (Some (Changes (change.Unpin row))) (Event (event.Refused why)) = ⊥
+IsHonoured (Some (Changes (change.UnpinHandle row))) (Event (event.Refused why)) = ⊥
 IsHonoured (Some (Changes change.GiveFd)) (Event (event.Refused why)) = ⊥
 IsHonoured (Some (Changes change.TakeClosing)) (Event (event.Refused why)) = ⊥
 IsHonoured deed told = Unit {0}
 
--- at the end no row is pinned, nothing is to be closed, nothing is carried, and slots left are the limit less those of the rows
+-- at the end no row of a number or a handle is pinned, nothing is to be closed, nothing is carried, and slots left are the limit less those of the rows
 pub record IsAtRest (limit bound : ℕ) (turns : List Turn) (tables : Tables) : Type 0 where
   pub rows : Each (λ row. (row.live ≡ true) × (row.pins ≡ 0)) tables.rows
+  pub handles : Each (λ row. (row.live ≡ true) × (row.pins ≡ 0)) tables.handles
   pub closing : tables.closing ≡ []
   pub carried : (job : ℕ) → job < bound → carried (steps_of job turns) ≡ 0
-  pub slots : tables.slots + total row_slot tables.rows ≡ limit
+  pub slots : tables.slots + total row_slot tables.rows + length tables.handles ≡ limit
 
--- and open are those that were at the start, those of the rows, and no other
+-- and open are those that were at the start, those of the rows of numbers and of handles, and no other
 abbrev pub LeavesRows : World → World → Type 0
-LeavesRows start end = (fd : ℕ) → open_count fd end.tree ≡ total (row_fd fd) end.tables.rows + open_count fd start.tree
+LeavesRows start end = (fd : ℕ) → open_count fd end.tree ≡ total (row_fd fd) end.tables.rows + total (handle_fd fd) end.tables.handles + open_count fd start.tree

@@ -1,9 +1,10 @@
 -- Who has what: tables, jobs and host; and what was given of each number.
-use Rattle.std.specs.Prelude.{ℕ, ◌+◌, ◌-◌, ◌*◌, Bool, true, false, List, [], ◌∷◌, Option, None, Some}
+use Rattle.std.specs.Prelude.{ℕ, ◌+◌, ◌-◌, ◌*◌, Bool, true, false, List, [], ◌∷◌, length, Option, None, Some}
 use Rattle.pt_host.specs.Words.{is, total, sum_to}
 use Rattle.pt_host.specs.Tree.{Tree}
 use Rattle.pt_session.specs.Tables.{Tables}
 use Rattle.pt_session.specs.declared.row.Row.{Row}
+use Rattle.pt_session.specs.declared.row.HandleRow.{HandleRow}
 use Rattle.pt_session.specs.declared.row.Closing.{Closing}
 use Rattle.pt_session.specs.declared.form.RowForm.{RowForm}
 use Rattle.pt_session.specs.declared.form.RowForm.TheVariants.{File}
@@ -22,7 +23,7 @@ abbrev pub one_if : Bool → ℕ
 one_if true = 1
 one_if false = 0
 
--- Slots. A row that keeps a descriptor has one, and so has an entry of the closing list that says so.
+-- Slots. A row that keeps a descriptor has one, a handle's row has one, and so has an entry of the closing list that says so.
 
 abbrev pub form_slot : RowForm → ℕ
 form_slot (File fd) = 1
@@ -33,9 +34,9 @@ row_slot row = form_slot row.form
 abbrev pub closing_slot : Closing → ℕ
 closing_slot closing = one_if closing.slot
 
--- those that are left, those of the rows, live or not, and those of the closing list
+-- those that are left, those of the rows of numbers and of handles, live or not, and those of the closing list
 abbrev pub kept_slots : Tables → ℕ
-kept_slots tables = tables.slots + total row_slot tables.rows + total closing_slot tables.closing
+kept_slots tables = tables.slots + total row_slot tables.rows + length tables.handles + total closing_slot tables.closing
 
 -- what a reply brings a job
 abbrev pub slot_taken : ActReply → ℕ
@@ -47,6 +48,7 @@ slot_taken _ = 0
 abbrev pub slot_given : Deed → ActReply → ℕ
 slot_given (Changes (change.Insert era number form ids mode)) (Event (event.Inserted given)) = form_slot form
 slot_given (Changes (change.InsertRoot era form ids mode agreed)) (Event (event.Inserted given)) = form_slot form
+slot_given (Changes (change.InsertHandle era handle number fd)) (Event (event.Inserted given)) = 1
 slot_given _ (Event event.Given) = 1
 slot_given _ _ = 0
 
@@ -69,12 +71,15 @@ carried steps = slots_taken steps - slots_given steps
 abbrev pub row_fd : ℕ → Row → ℕ
 row_fd fd row = is (fd_of row.form).0 fd
 
+abbrev pub handle_fd : ℕ → HandleRow → ℕ
+handle_fd fd row = is row.fd.0 fd
+
 abbrev pub closing_fd : ℕ → Closing → ℕ
 closing_fd fd closing = is closing.fd.0 fd
 
 -- at how many places of the tables the descriptor stands
 abbrev pub kept_fds : ℕ → Tables → ℕ
-kept_fds fd tables = total (row_fd fd) tables.rows + total (closing_fd fd) tables.closing
+kept_fds fd tables = total (row_fd fd) tables.rows + total (handle_fd fd) tables.handles + total (closing_fd fd) tables.closing
 
 abbrev pub fd_held : ℕ → Hold → ℕ
 fd_held fd (hold.Fd same told) = is same.0 fd
@@ -106,6 +111,7 @@ given_by number had (Changes (change.Insert era drawn form ids mode)) (Event (ev
 given_by number had (Changes (change.Claim era handle ids)) (Event (event.Claimed given)) = had + is given number
 given_by number had (Changes (change.Forget list)) (Event (event.Done closings)) = forgotten number had list
 given_by number had (Changes (change.GiveBack era given)) (Event (event.Done closings)) = had - is given number
+given_by number had (Changes change.Clear) (Event (event.Cleared era closings)) = 0
 given_by number had deed told = had
 
 abbrev pub given_if : ℕ → ℕ → Option Deed → ActReply → ℕ
@@ -134,3 +140,35 @@ inserted_if number (Some deed) told = inserted_as number deed told
 -- how often the number was inserted
 abbrev pub inserted : ℕ → List Turn → ℕ
 inserted number turns = total (λ turn. inserted_if number turn.step.deed turn.step.reply) turns
+
+-- Handles.
+
+abbrev pub handle_inserted_as : ℕ → Deed → ActReply → ℕ
+handle_inserted_as handle (Changes (change.InsertHandle era drawn number fd)) (Event (event.Inserted given)) = is given handle
+handle_inserted_as handle deed told = 0
+
+abbrev pub handle_inserted_if : ℕ → Option Deed → ActReply → ℕ
+handle_inserted_if handle None told = 0
+handle_inserted_if handle (Some deed) told = handle_inserted_as handle deed told
+
+-- how often the handle was inserted
+abbrev pub handle_inserted : ℕ → List Turn → ℕ
+handle_inserted handle turns = total (λ turn. handle_inserted_if handle turn.step.deed turn.step.reply) turns
+
+abbrev pub standing_by : ℕ → ℕ → Deed → ActReply → ℕ
+standing_by handle had (Changes (change.InsertHandle era drawn number fd)) (Event (event.Inserted given)) = had + is given handle
+standing_by handle had (Changes (change.Release released number)) (Event (event.Done closings)) = had - is released handle
+standing_by handle had (Changes change.Clear) (Event (event.Cleared era closings)) = 0
+standing_by handle had deed told = had
+
+abbrev pub standing_if : ℕ → ℕ → Option Deed → ActReply → ℕ
+standing_if handle had None told = had
+standing_if handle had (Some deed) told = standing_by handle had deed told
+
+abbrev pub standing_after : ℕ → ℕ → List Turn → ℕ
+standing_after handle had [] = had
+standing_after handle had (turn ∷ turns) = standing_after handle (standing_if handle had turn.step.deed turn.step.reply) turns
+
+-- how often the handle was inserted and neither released nor cleared since
+abbrev pub standing : ℕ → List Turn → ℕ
+standing handle turns = standing_after handle 0 turns

@@ -33,16 +33,19 @@ steps_of job (turn ∷ turns) = if turn.job == job then turn.step ∷ steps_of j
 pub record Past : Type 0 where
   -- the object of each number
   pub numbers : ℕ → Option ℕ
-  -- the object and the descriptor of each row
+  -- the object and the descriptor of each row, of a number or a handle; a handle's is the object that its number had when it was resolved for the
+  -- handle's opening
   pub objects : ℕ → Option ℕ
   pub fds : ℕ → Option Fd
   -- the object that each job's latest `OpenAt` answered, and the one that its first `OpenRoot` answered
   pub latest : ℕ → Option ℕ
   pub roots : ℕ → Option ℕ
+  -- the object that the number of each job's latest `Resolve` had then
+  pub resolved : ℕ → Option ℕ
 
 -- before the first step
 abbrev pub no_past : Past
-no_past = record { numbers = λ number. None; objects = λ row. None; fds = λ row. None; latest = λ job. None; roots = λ job. None }
+no_past = record { numbers = λ number. None; objects = λ row. None; fds = λ row. None; latest = λ job. None; roots = λ job. None; resolved = λ job. None }
 
 abbrev pub object_of : Option Opened → Option ℕ
 object_of None = None
@@ -64,6 +67,10 @@ settled_by past job (Changes (change.Insert era number form ids mode)) (Event (e
     settled past given row (fd_of form) (past.latest job)
 settled_by past job (Changes (change.InsertRoot era form ids mode agreed)) (Event (event.Inserted given)) row tree =
     settled past given row (fd_of form) (past.roots job)
+settled_by past job (Changes (change.InsertHandle era handle number fd)) (Event (event.Inserted given)) row tree =
+    record past { objects = set_at row (past.resolved job) past.objects; fds = set_at row (Some fd) past.fds }
+settled_by past job (Changes (change.Resolve number)) (Event (event.Resolved serial form ids mode)) row tree =
+    record past { resolved = set_at job (past.numbers number) past.resolved }
 settled_by past job (Calls (call.OpenAt dir name flags mode)) (Host (host.Ok (value.Fd fd))) row tree =
     record past { latest = set_at job (object_of (tree.opened fd.0)) past.latest }
 settled_by past job (Calls (call.OpenRoot path flags)) (Host (host.Ok (value.Fd fd))) row tree =

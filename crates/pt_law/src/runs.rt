@@ -4,7 +4,8 @@
 ghost use Rattle.std.specs.Prelude.{◌≡◌, ◌≢◌, ◌<◌, ◌≤◌, ℕ, List, ◌++◌, ◌∷◌, true, Some};
 ghost use Rattle.pt_session.specs.Tables.{Tables, Agree, empty_tables};
 ghost use Rattle.pt_session.specs.declared.row.Row.{Row};
-ghost use Rattle.pt_session.specs.Happens.{IsRow};
+ghost use Rattle.pt_session.specs.declared.row.HandleRow.{HandleRow};
+ghost use Rattle.pt_session.specs.Happens.{IsRow, IsHandleRow};
 ghost use Rattle.pt_iface.specs.declared.answer.Answer.TheVariants as answer;
 ghost use Rattle.pt_iface.specs.declared.entry.Entry.{Entry};
 ghost use Rattle.pt_iface.specs.declared.request.Request.{Request};
@@ -16,8 +17,8 @@ ghost use Rattle.pt_req.specs.declared.finish.Finish.TheVariants as finish;
 ghost use Rattle.pt_req.specs.declared.plan.Plan.{Plan};
 ghost use Rattle.pt_law.specs.Told.{AllMayBeTold};
 ghost use Rattle.pt_law.specs.World.{World, Turn, Runs, HostRuns, TablesGo, TablesRun, steps_of};
-ghost use Rattle.pt_law.specs.Ledger.{given, inserted};
-ghost use Rattle.pt_law.specs.Laws.{AreDisciplined, AreEnded, AreAnswered, Starts, AreDistinct, HasObject, IsCounted, SlotsAddUp, AreKept, NamesOpen, IsHonoured, IsAtRest, LeavesRows};
+ghost use Rattle.pt_law.specs.Ledger.{given, inserted, standing};
+ghost use Rattle.pt_law.specs.Laws.{AreDisciplined, AreEnded, AreAnswered, Starts, AreDistinct, HasObject, Serves, IsCounted, IsStanding, SlotsAddUp, AreKept, NamesOpen, IsHonoured, IsAtRest, LeavesRows};
 ghost use Rattle.pt_law.specs.Entered.{IsEntered};
 
 use pt_host::Host;
@@ -26,8 +27,9 @@ use pt_host::Host;
 pub fn every_run()
     ensures cut { (turns more : List Turn) (start end : Tables) → TablesRun start (turns ++ more) end → ((now : Tables) × TablesRun start turns now × TablesRun now more end) }
     ensures agree { (limit : ℕ) (turns : List Turn) (now : Tables) → TablesRun (empty_tables limit) turns now → Agree now }
-    ensures era { (limit : ℕ) (turns : List Turn) (now : Tables) → TablesRun (empty_tables limit) turns now → now.era ≡ 0 }
+    ensures era { (turns : List Turn) (start now : Tables) → TablesRun start turns now → start.era ≤ now.era }
     ensures counts { (limit : ℕ) (turns : List Turn) (now : Tables) (number : ℕ) → TablesRun (empty_tables limit) turns now → IsCounted now number (given number turns) }
+    ensures standing { (limit : ℕ) (turns : List Turn) (now : Tables) (handle : ℕ) → TablesRun (empty_tables limit) turns now → IsStanding now handle (standing handle turns) }
     ensures once { (limit bound : ℕ) (turns more : List Turn) (now : Tables) (number : ℕ) →
         AreDisciplined bound (turns ++ more) → TablesRun (empty_tables limit) turns now → number ≢ 1 → inserted number turns ≤ 1 }
     ensures slots { (limit bound : ℕ) (turns more : List Turn) (now : Tables) →
@@ -49,6 +51,8 @@ pub fn every_told_run()
         Starts limit start → AreDisciplined bound (turns ++ more) → Runs start turns now → AreDistinct now }
     ensures objects { (limit bound : ℕ) (turns more : List Turn) (start now : World) (row : Row) →
         Starts limit start → AreDisciplined bound (turns ++ more) → Runs start turns now → IsRow now.tables row → row.live ≡ true → HasObject now row }
+    ensures handles { (limit bound : ℕ) (turns more : List Turn) (start now : World) (row : HandleRow) →
+        Starts limit start → AreDisciplined bound (turns ++ more) → Runs start turns now → IsHandleRow now.tables row → Serves now row }
     ensures descriptors { (limit bound : ℕ) (turns more : List Turn) (start now : World) →
         Starts limit start → AreDisciplined bound (turns ++ more) → Runs start turns now → AreKept start bound turns now }
     ensures named { (limit bound : ℕ) (turns : List Turn) (turn : Turn) (more : List Turn) (start now : World) →

@@ -7,7 +7,9 @@ use Rattle.pt_main.specs.Script.{Begun, is_empty, may_stand, added, keeps_tree, 
 use Rattle.pt_main.specs.FirstBad.{whole_lines, BeginScript, NamesFirstBad}
 use Rattle.pt_main.specs.Line.{line_of}
 use Rattle.pt_main.specs.declared.line.Line.{Line}
-use Rattle.pt_main.specs.declared.line.Line.TheVariants.{Tree, Job, End}
+use Rattle.pt_main.specs.declared.line.Line.TheVariants.{Set, Tree, Job, End}
+use Rattle.pt_main.specs.declared.settings.Settings.{Settings}
+use Rattle.pt_main.specs.declared.line.ScriptJob.{ScriptJob}
 
 abbrev fold_on : Option Begun → (Begun → Option Begun) → Option Begun
 fold_on None next = None
@@ -76,68 +78,92 @@ and_true : (a b : Bool) → (a && b) ≡ true → (a ≡ true) × (b ≡ true)
 and_true true b both = (refl, both)
 and_true false b both = cc
 
-not_true : (a : Bool) → not a ≡ true → a ≡ false
-not_true true is = cc
-not_true false is = refl
-
 is_empty-push : (xs : List TreeLine) (y : TreeLine) → is_empty (xs ++ y ∷ []) ≡ false
 is_empty-push [] y = refl
 is_empty-push (x ∷ xs) y = refl
 
--- behind a line there is a tree
-some_tree : (begun after : Begun) (text : List ℕ) → with_text begun text ≡ Some after → is_empty after.tree ≡ false
-some_tree begun after text is = go (line_of text) is
+no_clash : (b : Bool) → not b ≡ true → b ≡ true → ⊥
+no_clash true e f = cc
+no_clash false e f = cc
+
+-- before the first line of a tree nothing but settings stands
+abbrev OnlySets : Begun → Type 0
+OnlySets begun = is_empty begun.tree ≡ true → (begun.ended ≡ false) × (is_empty begun.jobs ≡ true)
+
+only_sets : (begun after : Begun) (text : List ℕ) → OnlySets begun → with_text begun text ≡ Some after → OnlySets after
+only_sets begun after text start is = go (line_of text) is
   where
-    at : (line : Line) → may_stand begun line ≡ true → is_empty (added begun line).tree ≡ false
-    at (Tree y) may = is_empty-push begun.tree y
-    at (Job job) may = not_true (is_empty begun.tree) (and_true (not (is_empty begun.tree)) _ (and_true (not begun.ended) _ may).1).0
-    at End may = not_true (is_empty begun.tree) (and_true (not begun.ended) _ may).1
+    at : (line : Line) → may_stand begun line ≡ true → OnlySets (added begun line)
+    at (Set setting) may = start
+    at (Tree y) may = λ e. absurd (cc (sym (is_empty-push begun.tree y) ∙ e))
+    at (Job job) may = λ e. absurd (no_clash (is_empty begun.tree) (and_true (not (is_empty begun.tree)) _ (and_true (not begun.ended) _ may).1).0 e)
+    at End may = λ e. absurd (no_clash (is_empty begun.tree) (and_true (not begun.ended) _ may).1 e)
 
-    stands : (line : Line) (b : Bool) → (may_stand begun line && keeps_tree begun line) ≡ b → cond b (Some (added begun line)) None ≡ Some after → is_empty after.tree ≡ false
-    stands line true e is = let same : added begun line ≡ after = cc in ap (λ (b : Begun). is_empty b.tree) (sym same) ∙ at line (and_true (may_stand begun line) _ e).0
-    stands line false e is = cc
+    stands : (line : Line) (b : Bool) → (may_stand begun line && keeps_tree begun line) ≡ b → cond b (Some (added begun line)) None ≡ Some after → OnlySets after
+    stands line true e is = let same : added begun line ≡ after = cc in subst OnlySets same (at line (and_true (may_stand begun line) _ e).0)
+    stands line false e is = let never : ⊥ = cc in absurd never
 
-    go : (o : Option Line) → option_and_then (with_line begun) o ≡ Some after → is_empty after.tree ≡ false
-    go None e = cc
+    go : (o : Option Line) → option_and_then (with_line begun) o ≡ Some after → OnlySets after
+    go None e = let never : ⊥ = cc in absurd never
     go (Some line) e = stands line (may_stand begun line && keeps_tree begun line) refl e
 
-fold-some_tree : (texts : List (List ℕ)) (begun after : Begun) → is_empty begun.tree ≡ false → fold begun texts ≡ Some after → is_empty after.tree ≡ false
-fold-some_tree [] begun after some is = let same : begun ≡ after = cc in ap (λ (b : Begun). is_empty b.tree) (sym same) ∙ some
-fold-some_tree (text ∷ texts) begun after some is = go (λ b s. fold-some_tree texts b after s) (with_text begun text) refl is
+fold-only_sets : (texts : List (List ℕ)) (begun after : Begun) → OnlySets begun → fold begun texts ≡ Some after → OnlySets after
+fold-only_sets [] begun after start is = let same : begun ≡ after = cc in subst OnlySets same start
+fold-only_sets (text ∷ texts) begun after start is = go (λ b s. fold-only_sets texts b after s) (with_text begun text) refl is
   where
-    go : ((b : Begun) → is_empty b.tree ≡ false → fold b texts ≡ Some after → is_empty after.tree ≡ false) → (o : Option Begun) → with_text begun text ≡ o → fold_on o (λ b. fold b texts) ≡ Some after →
-        is_empty after.tree ≡ false
-    go below None e is = cc
-    go below (Some b) e is = below b (some_tree begun b text e) is
+    go : ((b : Begun) → OnlySets b → fold b texts ≡ Some after → OnlySets after) → (o : Option Begun) → with_text begun text ≡ o → fold_on o (λ b. fold b texts) ≡ Some after → OnlySets after
+    go below None e is = let never : ⊥ = cc in absurd never
+    go below (Some b) e is = below b (only_sets begun b text start e) is
 
 open_end : (a b : Bool) → a ≡ false → b ≡ false → (not a && not b) ≡ true
 open_end false false e f = refl
 open_end true b e f = cc
 open_end false true e f = cc
 
--- good lines with a tree can be ended
-ends : (after : Begun) → is_empty after.tree ≡ false → (more : List (List ℕ)) × (last : Begun) × (fold after more ≡ Some last) × (last.ended ≡ true)
-ends after some = go after.ended refl
+abbrev begun_of : Settings → List TreeLine → List ScriptJob → Bool → Begun
+begun_of settings tree jobs ended = record { settings = settings; tree = tree; jobs = jobs; ended = ended }
+
+abbrev settings_alone : Settings → Begun
+settings_alone settings = begun_of settings [] [] false
+
+same_begun : (begun : Begun) → begun.tree ≡ [] → begun.jobs ≡ [] → begun.ended ≡ false → settings_alone begun.settings ≡ begun
+same_begun begun tree jobs ended =
+    ap (λ (lines : List TreeLine). begun_of begun.settings lines [] false) (sym tree) ∙ ap (λ (them : List ScriptJob). begun_of begun.settings begun.tree them false) (sym jobs)
+        ∙ ap (λ (b : Bool). begun_of begun.settings begun.tree begun.jobs b) (sym ended)
+
+empty_is : {A : Type 0} (xs : List A) → is_empty xs ≡ true → xs ≡ []
+empty_is [] e = refl
+empty_is (x ∷ xs) e = cc
+
+abbrev CanEnd : Begun → Type 0
+CanEnd after = (more : List (List ℕ)) × (last : Begun) × (fold after more ≡ Some last) × (last.ended ≡ true)
+
+-- settings can be followed by a tree and an end
+settings_end : (settings : Settings) → CanEnd (settings_alone settings)
+settings_end settings =
+    (codes "mount 1 1 / 1" ∷ codes "end" ∷ [], record { settings = settings; tree = Mount 1 1 (47 ∷ []) true ∷ []; jobs = []; ended = true }, refl, refl)
+
+-- good lines can be ended
+ends : (after : Begun) → OnlySets after → CanEnd after
+ends after only = go after.ended refl
   where
-    go : (b : Bool) → after.ended ≡ b → (more : List (List ℕ)) × (last : Begun) × (fold after more ≡ Some last) × (last.ended ≡ true)
-    go true e = ([], after, refl, e)
-    go false e = (
+    tree_at : (b : Bool) → after.ended ≡ false → is_empty after.tree ≡ b → CanEnd after
+    tree_at true e none = let both = only none in subst CanEnd (same_begun after (empty_is after.tree none) (empty_is after.jobs both.1) e) (settings_end after.settings)
+    tree_at false e some = (
       codes "end" ∷ [],
       record after { ended = true },
       ap (λ (b : Bool). fold_on (cond (b && true) (Some (record after { ended = true })) None) (λ (b : Begun). Some b)) (open_end after.ended (is_empty after.tree) e some),
       refl,
     )
 
+    go : (b : Bool) → after.ended ≡ b → CanEnd after
+    go true e = ([], after, refl, e)
+    go false e = tree_at (is_empty after.tree) e refl
+
 begins : (lines : List (List ℕ)) (after : Begun) → fold nothing lines ≡ Some after → BeginScript lines
-begins [] after is = (codes "mount 1 1 / 1" ∷ codes "end" ∷ [], (record { tree = Mount 1 1 (47 ∷ []) true ∷ []; jobs = []; ended = true }, refl))
-begins (text ∷ lines) after is =
-    let some = go (with_text nothing text) refl is in
-    let e = ends after some in
-    (e.0, (e.1, script-from_fold ((text ∷ lines) ++ e.0) 1 nothing e.1 (append-fold (text ∷ lines) e.0 nothing after e.1 is e.2) e.3))
-  where
-    go : (o : Option Begun) → with_text nothing text ≡ o → fold_on o (λ b. fold b lines) ≡ Some after → is_empty after.tree ≡ false
-    go None e is = cc
-    go (Some b) e is = fold-some_tree lines b after (some_tree nothing b text e) is
+begins lines after is =
+    let e = ends after (fold-only_sets lines nothing after (λ none. (refl, refl)) is) in
+    (e.0, (e.1, script-from_fold (lines ++ e.0) 1 nothing e.1 (append-fold lines e.0 nothing after e.1 is e.2) e.3))
 
 -- the first bad line of a text that is no script
 abbrev FailsAt : ℕ → Begun → List (List ℕ) → ℕ → Type 0

@@ -1,8 +1,9 @@
 pub mod StreamLemmas
 pub mod LinesLemmas
+pub mod PairsRead
 pub mod Scripts
 pub mod Outputs
-pub mod Lives
+pub mod PairLines
 pub mod CommandWords
 pub mod FirstBads
 pub mod Opening

@@ -21,10 +21,11 @@ use Rattle.pt_tree.specs.Laws.WellFormed.{well_formed}
 use Rattle.pt_fs.specs.FileSystem.{FileSystem, IsMadeBy, opens_root, path}
 use Rattle.pt_main.specs.Run.{IsOpened, IsRefused, IsNoReport, start_seat}
 use Rattle.pt_main.specs.declared.status.Status.TheVariants as status
+use Rattle.pt_main.specs.declared.settings.Settings.{Settings}
 
 -- it is well formed, since the host was sound as the file system was made
-pub opened_well : (before : State) (fs : FileSystem) (after : State) → IsOpened before fs after → IsWellFormed (tree_of after)
-opened_well before fs after opened =
+pub opened_well : (settings : Settings) (before : State) (fs : FileSystem) (after : State) → IsOpened settings before fs after → IsWellFormed (tree_of after)
+opened_well settings before fs after opened =
     let does = opened.call.1 in
     (lawful_step before _ _ opened.call.0 after _ does).well_formed (well_formed before does.sound)
 

@@ -1,5 +1,5 @@
 -- The fields of a line: each is the front of the words that are left.
-use Rattle.std.specs.Prelude.{ℕ, ◌^◌, Bool, true, false, List, [], ◌∷◌, Option, Some, None, if◌then◌else◌, option_and_then}
+use Rattle.std.specs.Prelude.{ℕ, zero, suc, ◌^◌, Bool, true, false, List, [], ◌∷◌, Option, Some, None, if◌then◌else◌, option_and_then}
 use Rattle.std.specs.Str.{bytes_eq}
 use Rattle.pt_text.specs.Number.{number_of, below}
 use Rattle.pt_text.specs.ByteWord.{bytes_of}
@@ -38,6 +38,22 @@ switch_of word =
 
 abbrev pub switch_in : List (List ℕ) → Option (Field Bool)
 switch_in words = first_as switch_of words
+
+-- a pair of numbers
+abbrev pub pair_in : List (List ℕ) → Option (Field (ℕ × ℕ))
+pair_in words = do
+  first ← number_in words
+  second ← number_in first.rest
+  Some (record { value = (first.value, second.value); rest = second.rest })
+
+-- a pair before those that were read behind it
+abbrev pub with_first : ℕ × ℕ → Field (List (ℕ × ℕ)) → Option (Field (List (ℕ × ℕ)))
+with_first pair pairs = Some (record pairs { value = pair ∷ pairs.value })
+
+-- so many pairs of numbers
+abbrev pub pairs_in : ℕ → List (List ℕ) → Option (Field (List (ℕ × ℕ)))
+pairs_in zero words = Some (record { value = []; rest = words })
+pairs_in (suc count) words = pair_in words >>= (λ pair. pairs_in count pair.rest >>= with_first pair.value)
 
 -- the value, where no word is left
 abbrev pub at_end : {A : Type 0} → List (List ℕ) → A → Option A

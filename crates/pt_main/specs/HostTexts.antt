@@ -5,6 +5,7 @@ use Rattle.pt_host.specs.declared.ids.Fd.{Fd}
 use Rattle.pt_host.specs.declared.ids.ObjIds.{ObjIds}
 use Rattle.pt_host.specs.declared.ids.Time.{Time}
 use Rattle.pt_host.specs.declared.flags.OpenFlags.{OpenFlags}
+use Rattle.pt_host.specs.declared.stat.FsStat.{FsStat}
 use Rattle.pt_host.specs.declared.stat.Stat.{Stat}
 use Rattle.pt_host.specs.declared.op.KeptHostOp.{KeptHostOp}
 use Rattle.pt_host.specs.declared.op.KeptHostOp.TheVariants as call
@@ -35,10 +36,17 @@ stat_text stat =
     ++ number_text stat.rdev ++ number_text stat.size ++ number_text stat.blksize ++ number_text stat.blocks
     ++ time_text stat.atime ++ time_text stat.mtime ++ time_text stat.ctime
 
+abbrev pub fs_stat_text : FsStat → List ℕ
+fs_stat_text stat =
+    number_text stat.blocks ++ number_text stat.bfree ++ number_text stat.bavail ++ number_text stat.files ++ number_text stat.ffree
+    ++ number_text stat.bsize ++ number_text stat.namelen ++ number_text stat.frsize
+
 abbrev pub call_text : KeptHostOp → List ℕ
 call_text (call.OpenRoot path flags) = word (codes "OpenRoot") ++ bytes_text path ++ flags_text flags
 call_text (call.OpenAt fd name flags mode) = word (codes "OpenAt") ++ fd_text fd ++ bytes_text name ++ flags_text flags ++ number_text mode
+call_text (call.Reopen fd flags) = word (codes "Reopen") ++ fd_text fd ++ flags_text flags
 call_text (call.Stat fd) = word (codes "Stat") ++ fd_text fd
+call_text (call.ReadAt fd offset size) = word (codes "ReadAt") ++ fd_text fd ++ number_text offset ++ number_text size
 call_text (call.Close fd) = word (codes "Close") ++ fd_text fd
 
 abbrev pub value_text : HostValue → List ℕ

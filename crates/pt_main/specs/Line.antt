@@ -2,15 +2,16 @@
 use Rattle.std.specs.Prelude.{ℕ, List, [], ◌∷◌, Option, Some, None, if◌then◌else◌, codes}
 use Rattle.std.specs.Option.{option_map}
 use Rattle.std.specs.Str.{bytes_eq}
-use Rattle.pt_iface.specs.declared.request.Request.{Request}
-use Rattle.pt_iface.specs.declared.request.Request.TheVariants.{Root, Lookup, Forget}
 use Rattle.pt_tree.specs.declared.spec.TreeLine.{TreeLine}
-use Rattle.pt_tree.specs.declared.spec.TreeLine.TheVariants.{Mount, File}
+use Rattle.pt_tree.specs.declared.spec.TreeLine.TheVariants.{Mount, File, Dir}
 use Rattle.pt_text.specs.Words.{words_of}
 use Rattle.pt_main.specs.Fields.{◌>>=◌, number_in, small_in, bytes_in, switch_in, at_end}
+use Rattle.pt_main.specs.Request.{request_in}
 use Rattle.pt_main.specs.declared.line.ScriptJob.{ScriptJob}
 use Rattle.pt_main.specs.declared.line.Line.{Line}
-use Rattle.pt_main.specs.declared.line.Line.TheVariants.{Tree, Job, End}
+use Rattle.pt_main.specs.declared.line.Line.TheVariants.{Set, Tree, Job, End}
+use Rattle.pt_main.specs.declared.settings.Setting.{Setting}
+use Rattle.pt_main.specs.declared.settings.Setting.TheVariants.{GuestFdLimit}
 
 -- `mount ID DEV PATH HANDLES`
 abbrev pub mount_in : List (List ℕ) → Option TreeLine
@@ -31,26 +32,14 @@ file_in words = do
   bytes ← bytes_in gid.rest
   at_end bytes.rest (File path.value mode.value uid.value gid.value bytes.value)
 
--- `lookup PARENT NAME`
-abbrev pub lookup_in : List (List ℕ) → Option Request
-lookup_in words = do
-  parent ← number_in words
-  name ← bytes_in parent.rest
-  at_end name.rest (Lookup parent.value name.value)
-
--- `forget INODE COUNT`
-abbrev pub forget_in : List (List ℕ) → Option Request
-forget_in words = do
-  inode ← number_in words
-  count ← number_in inode.rest
-  at_end count.rest (Forget inode.value count.value)
-
-abbrev pub request_in : List (List ℕ) → Option Request
-request_in [] = None
-request_in (word ∷ fields) =
-    if bytes_eq word (codes "root") then at_end fields Root
-    else (if bytes_eq word (codes "lookup") then lookup_in fields
-    else (if bytes_eq word (codes "forget") then forget_in fields else None))
+-- `dir PATH MODE UID GID`
+abbrev pub dir_in : List (List ℕ) → Option TreeLine
+dir_in words = do
+  path ← bytes_in words
+  mode ← small_in path.rest
+  uid ← small_in mode.rest
+  gid ← small_in uid.rest
+  at_end gid.rest (Dir path.value mode.value uid.value gid.value)
 
 -- `job UID GID REQUEST FIELDS`
 abbrev pub job_in : List (List ℕ) → Option ScriptJob
@@ -60,13 +49,29 @@ job_in words = do
   request ← request_in gid.rest
   Some (record { context = record { uid = uid.value; gid = gid.value }; request = request })
 
+-- the value of `guest_fd_limit N`
+abbrev pub limit_in : List (List ℕ) → Option Setting
+limit_in words = do
+  limit ← number_in words
+  at_end limit.rest (GuestFdLimit limit.value)
+
+-- `KEY VALUE`
+abbrev pub setting_in : List (List ℕ) → Option Setting
+setting_in [] = None
+setting_in (key ∷ fields) = if bytes_eq key (codes "guest_fd_limit") then limit_in fields else None
+
+abbrev pub tree_line_in : List ℕ → List (List ℕ) → Option TreeLine
+tree_line_in word fields =
+    if bytes_eq word (codes "mount") then mount_in fields
+    else (if bytes_eq word (codes "dir") then dir_in fields
+    else (if bytes_eq word (codes "file") then file_in fields else None))
+
 abbrev pub line_in : List (List ℕ) → Option Line
 line_in [] = None
 line_in (word ∷ fields) =
-    if bytes_eq word (codes "mount") then option_map Tree (mount_in fields)
-    else (if bytes_eq word (codes "file") then option_map Tree (file_in fields)
+    if bytes_eq word (codes "set") then option_map Set (setting_in fields)
     else (if bytes_eq word (codes "job") then option_map Job (job_in fields)
-    else (if bytes_eq word (codes "end") then at_end fields End else None)))
+    else (if bytes_eq word (codes "end") then at_end fields End else option_map Tree (tree_line_in word fields)))
 
 -- the line that a text is
 abbrev pub line_of : List ℕ → Option Line

@@ -15,8 +15,7 @@ use Rattle.pt_iface.specs.declared.answer.Refusal.{Refusal}
 use Rattle.pt_iface.specs.declared.answer.Refusal.TheVariants as refusal
 use Rattle.pt_iface.specs.declared.request.Context.{Context}
 use Rattle.pt_iface.specs.declared.request.Request.{Request}
-use Rattle.pt_iface.specs.declared.request.Request.TheVariants.{Root, Lookup, Forget}
-use Rattle.pt_req.specs.Plan.{IsDefault}
+use Rattle.pt_iface.specs.declared.request.Request.TheVariants.{Root}
 use Rattle.pt_fs.specs.FileSystem.{FileSystem, opens_root, IsMadeBy}
 use Rattle.pt_fs.specs.Jobs.{job_seat}
 use Rattle.pt_fs.specs.Keeps.{turns_of, AfterEach, AfterEachTold, LeadsOn, KeepsObjects, KeepsCounts, InsertsOnce, OfEachJob, GivesBack, IsCausedIn, IsNamedIn, NamesOpenOnes, LeavesOpen}
@@ -28,7 +27,10 @@ use Rattle.pt_fs.specs.declared.job.Job.TheVariants as job
 use Rattle.pt_fs.specs.declared.trace.TraceStep.{TraceStep}
 use Rattle.pt_main.specs.Script.{Begun, script_of}
 use Rattle.pt_main.specs.Streams.{IsAll}
-use Rattle.pt_main.specs.Report.{step_lines, answer_lines, live_lines, slots_line, LivesAbove}
+use Rattle.pt_main.specs.Report.{step_lines, answer_lines}
+use Rattle.pt_main.specs.TableLines.{live_lines, handle_lines, slots_line, LivesAbove, HandlesAbove}
+use Rattle.pt_main.specs.Configured.{IsConfigured}
+use Rattle.pt_main.specs.declared.settings.Settings.{Settings}
 use Rattle.pt_main.specs.declared.line.ScriptJob.{ScriptJob}
 use Rattle.pt_main.specs.declared.status.Status.{Status}
 use Rattle.pt_main.specs.declared.status.Status.TheVariants as status
@@ -53,25 +55,24 @@ start_seat = record {
 
 abbrev pub job_for : Context → Request → Job
 job_for who Root = job.OpenRoot start_seat
-job_for who (Lookup parent name) = job.Request who start_seat (Lookup parent name)
-job_for who (Forget inode count) = job.Request who start_seat (Forget inode count)
+job_for who request = job.Request who start_seat request
 
 -- the job of a job's line
 abbrev pub job_of : ScriptJob → Job
 job_of line = job_for line.context line.request
 
--- the file system is made over this host with the default configuration, by one call
-pub record IsOpened (before : State) (fs : FileSystem) (after : State) : Type 0 where
+-- the file system is made over this host with the default configuration but for what is set, by one call
+pub record IsOpened (settings : Settings) (before : State) (fs : FileSystem) (after : State) : Type 0 where
   pub call : (reply : HostReply) × Does before start_seat opens_root reply after start_seat × IsMadeBy reply (Ok fs)
-  pub plan : IsDefault fs.plan.config
+  pub plan : IsConfigured settings fs.plan.config
   pub tables : fs.tables ≡ empty_tables fs.plan.config.guest_fd_limit
 
 -- The jobs of a script run over this host: the trace leads from the new file system to these tables and that host, the jobs run whole, one
 -- after another, each is answered by the pattern of its request, and each clause of `drive` holds.
-pub record IsRunFrom (start : State) (lines : List ScriptJob) (trace : List TraceStep) (answers : List Answer) (tables : Tables) (host : State) : Type 0 where
+pub record IsRunFrom (settings : Settings) (start : State) (lines : List ScriptJob) (trace : List TraceStep) (answers : List Answer) (tables : Tables) (host : State) : Type 0 where
   pub fs : FileSystem
   pub opened_host : State
-  pub opened : IsOpened start fs opened_host
+  pub opened : IsOpened settings start fs opened_host
   pub seats : List HostSeat
   pub steps : Runs Does trace opened_host (map job_seat (map job_of lines)) fs.tables host seats tables
   pub order : IsInOrder [] (length (map job_of lines)) trace
@@ -92,10 +93,15 @@ pub record IsRunFrom (start : State) (lines : List ScriptJob) (trace : List Trac
   pub descriptors : AfterEachTold (Some (tree_of opened_host)) fs.tables trace (λ start so_far now. AreKept start (length (map job_of lines)) so_far now)
   pub leaves_open : LeavesOpen (Some (tree_of opened_host)) fs.tables trace
 
--- the report of a run: its steps, answers, live numbers, slots and objects
-abbrev pub report_of : List TraceStep → List Answer → List (ℕ × ℕ) → Tables → State → List ℕ
-report_of trace answers lives tables host =
-    step_lines trace ++ answer_lines 0 answers ++ live_lines lives ++ slots_line tables.slots ++ listing_of host ++ codes "end\n"
+-- these are the live numbers and handles of tables, each ascending
+abbrev pub AreLive : Tables → List (ℕ × ℕ) → List (ℕ × ℕ) → Type 0
+AreLive tables lives handles = LivesAbove tables.rows None lives × HandlesAbove tables.handles None handles
+
+-- the report of a run: its steps, answers, live numbers and handles, slots and objects
+abbrev pub report_of : List TraceStep → List Answer → List (ℕ × ℕ) → List (ℕ × ℕ) → Tables → State → List ℕ
+report_of trace answers lives handles tables host =
+    step_lines trace ++ answer_lines 0 answers ++ live_lines lives ++ handle_lines handles ++ slots_line tables.slots ++ listing_of host
+    ++ codes "end\n"
 
 -- this is the report of one run of the script that the bytes are
 pub record IsReportOf (bytes report : List ℕ) : Type 0 where
@@ -107,10 +113,11 @@ pub record IsReportOf (bytes report : List ℕ) : Type 0 where
   pub host : State
   pub start : State
   pub starts : StartsAs begun.tree start
-  pub run : IsRunFrom start begun.jobs trace answers tables host
+  pub run : IsRunFrom begun.settings start begun.jobs trace answers tables host
   pub lives : List (ℕ × ℕ)
-  pub live : LivesAbove tables.rows None lives
-  pub text : report ≡ report_of trace answers lives tables host
+  pub handles : List (ℕ × ℕ)
+  pub live : AreLive tables lives handles
+  pub text : report ≡ report_of trace answers lives handles tables host
 
 -- the making of a file system over this host was refused with this error
 pub record IsRefused (before : State) (errno : Errno) : Type 0 where

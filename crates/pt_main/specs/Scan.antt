@@ -8,6 +8,8 @@ use Rattle.pt_text.specs.Words.{lines_of}
 use Rattle.pt_main.specs.Line.{line_of}
 use Rattle.pt_main.specs.Script.{Begun, nothing, is_empty, may_stand, added, script_of}
 use Rattle.pt_main.specs.declared.line.Line.{Line}
+use Rattle.pt_main.specs.declared.settings.Settings.{Settings}
+use Rattle.pt_main.specs.Settings.{set_lines}
 
 -- the lines up to the first bad one, and its number, or none where they are a script
 pub record Scanned : Type 0 where
@@ -33,15 +35,17 @@ scan_from number begun (text ∷ more) =
 abbrev pub scan_of : List ℕ → Scanned
 scan_of bytes = scan_from 1 nothing (lines_of bytes)
 
--- the script that was read, judged by the rules of trees too: a line that breaks these stands above any other bad one
+-- the script that was read, judged by the rules of trees too: a line that breaks these stands above any other bad one, and behind the lines
+-- that set something
 abbrev pub judged_by : Begun → Result (List Node) ℕ → Option ℕ → Result Begun ℕ
-judged_by begun (Err line) bad = Err line
+judged_by begun (Err line) bad = Err (set_lines begun.settings + line)
 judged_by begun (Ok nodes) (Some line) = Err line
 judged_by begun (Ok nodes) None = Ok begun
 
 abbrev pub judged : Scanned → Result Begun ℕ
 judged scanned = judged_by scanned.begun (nodes_of scanned.begun.tree) scanned.bad
 
--- a host and jobs that are those of the script that these bytes are
-abbrev pub IsScriptOf : List ℕ → State → List ScriptJob → Type 0
-IsScriptOf bytes host jobs = (begun : Begun) × (script_of bytes ≡ Ok begun) × StartsAs begun.tree host × (jobs ≡ begun.jobs)
+-- settings, a host and jobs that are those of the script that these bytes are
+abbrev pub IsScriptOf : List ℕ → Settings → State → List ScriptJob → Type 0
+IsScriptOf bytes settings host jobs =
+    (begun : Begun) × (script_of bytes ≡ Ok begun) × (settings ≡ begun.settings) × StartsAs begun.tree host × (jobs ≡ begun.jobs)

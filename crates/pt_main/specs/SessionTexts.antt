@@ -1,4 +1,4 @@
--- The texts of the events of the tables and of their replies, and of whole acts.
+-- The texts of the events of the tables and of their replies.
 use Rattle.std.specs.Prelude.{ℕ, List, ◌++◌, codes, length}
 use Rattle.pt_host.specs.declared.handle.FileHandle.{FileHandle}
 use Rattle.pt_host.specs.declared.ids.ObjIds.{ObjIds}
@@ -11,12 +11,8 @@ use Rattle.pt_session.specs.declared.reply.EventRefusal.{EventRefusal}
 use Rattle.pt_session.specs.declared.reply.EventRefusal.TheVariants as refusal
 use Rattle.pt_session.specs.declared.reply.EventReply.{EventReply}
 use Rattle.pt_session.specs.declared.reply.EventReply.TheVariants as reply
-use Rattle.pt_req.specs.declared.act.KeptAct.{KeptAct}
-use Rattle.pt_req.specs.declared.act.KeptAct.TheVariants as act
-use Rattle.pt_req.specs.declared.act.ActReply.{ActReply}
-use Rattle.pt_req.specs.declared.act.ActReply.TheVariants as told
 use Rattle.pt_main.specs.Texts.{word, number_text, signed_text, bytes_text, switch_text, option_text, items_text}
-use Rattle.pt_main.specs.HostTexts.{fd_text, ids_text, call_text, host_reply_text}
+use Rattle.pt_main.specs.HostTexts.{fd_text, ids_text}
 
 abbrev pub handle_text : FileHandle → List ℕ
 handle_text handle = number_text handle.mnt_id ++ signed_text handle.handle.handle_type ++ bytes_text handle.handle.bytes
@@ -52,6 +48,13 @@ event_text (event.InsertRoot era form ids mode negotiated) =
     word (codes "InsertRoot") ++ number_text era ++ row_text form ids mode ++ option_text negotiated_text negotiated
 event_text (event.Forget list) = word (codes "Forget") ++ forgets_text list
 event_text (event.GiveBack era number) = word (codes "GiveBack") ++ number_text era ++ number_text number
+event_text event.DrawHandle = word (codes "DrawHandle")
+event_text (event.InsertHandle era handle number fd) =
+    word (codes "InsertHandle") ++ number_text era ++ number_text handle ++ number_text number ++ fd_text fd
+event_text (event.PinHandle handle number) = word (codes "PinHandle") ++ number_text handle ++ number_text number
+event_text (event.UnpinHandle row) = word (codes "UnpinHandle") ++ number_text row
+event_text (event.Release handle number) = word (codes "Release") ++ number_text handle ++ number_text number
+event_text event.Clear = word (codes "Clear")
 event_text event.TakeClosing = word (codes "TakeClosing")
 
 abbrev pub refusal_text : EventRefusal → List ℕ
@@ -74,15 +77,6 @@ event_reply_text (reply.Drawn number) = word (codes "Drawn") ++ number_text numb
 event_reply_text (reply.Inserted number) = word (codes "Inserted") ++ number_text number
 event_reply_text (reply.Found number) = word (codes "Found") ++ number_text number
 event_reply_text (reply.Closing fd slot) = word (codes "Closing") ++ fd_text fd ++ switch_text slot
+event_reply_text (reply.Pinned row fd) = word (codes "Pinned") ++ number_text row ++ fd_text fd
+event_reply_text (reply.Cleared era closings) = word (codes "Cleared") ++ number_text era ++ number_text closings
 event_reply_text (reply.Refused why) = word (codes "Refused") ++ refusal_text why
-
--- an act and its reply add no name of their own
-abbrev pub act_text : KeptAct → List ℕ
-act_text (act.Event event) = event_text event
-act_text (act.Host call) = call_text call
-act_text act.NoCopy = word (codes "NoCopy")
-
-abbrev pub act_reply_text : ActReply → List ℕ
-act_reply_text (told.Event reply) = event_reply_text reply
-act_reply_text (told.Host reply) = host_reply_text reply
-act_reply_text told.NoCopy = word (codes "NoCopy")

@@ -26,3 +26,7 @@ option_text text (Some value) = word (codes "+") ++ text value
 abbrev pub items_text : {A : Type 0} → (A → List ℕ) → List A → List ℕ
 items_text text [] = []
 items_text text (item ∷ items) = text item ++ items_text text items
+
+-- a text and its line feed
+abbrev pub ended : List ℕ → List ℕ
+ended text = text ++ 10 ∷ []

@@ -1,6 +1,6 @@
-ghost use Rattle.std.specs.Prelude.{◌≡◌, IfOk, OnOk, Some, None, ◌≢◌, ◌∷◌, []};
+ghost use Rattle.std.specs.Prelude.{◌≡◌, IfOk, OnOk, Some, None, ◌≢◌, ◌∷◌, ◌++◌, []};
 ghost use Rattle.std.specs.Str.{bytes_eq};
-ghost use Rattle.pt_main.specs.Fields.{number_in, small_in, bytes_in, switch_in, switch_of};
+ghost use Rattle.pt_main.specs.Fields.{number_in, small_in, bytes_in, switch_in, switch_of, pair_in, pairs_in};
 
 use pt_host::Bytes;
 use pt_text::{Parts, read_byte_word, read_number};
@@ -71,6 +71,48 @@ pub fn next_switch(words: &mut Parts<'_>) -> Result<bool, LineError>
     } else {
         Err(LineError::Bad)
     }
+}
+
+fn next_pair(words: &mut Parts<'_>) -> Result<(u64, u64), LineError>
+    ensures ok { IfOk result (λ pair. pair_in words.old ≡ Some (record { value = pair; rest = words.new })) }
+    ensures bad { result ≡ Err LineError.Bad → pair_in words.old ≡ None }
+{
+    let first = next_number(words)?;
+    let second = next_number(words)?;
+    Ok((first, second))
+}
+
+// Reads a pair of numbers, and puts it behind others.
+fn push_pair(pairs: &mut Vec<(u64, u64)>, words: &mut Parts<'_>) -> Result<(u64, u64), LineError>
+    ensures ok { IfOk result (λ pair. pair_in words.old ≡ Some (record { value = pair; rest = words.new })) }
+    ensures pushed { IfOk result (λ pair. pairs.new.items ≡ pairs.old.items ++ pair ∷ []) }
+    ensures bad { result ≡ Err LineError.Bad → pair_in words.old ≡ None }
+{
+    let pair = next_pair(words)?;
+    match pairs.push(pair) {
+        Ok(()) => Ok(pair),
+        Err(_) => Err(LineError::Memory),
+    }
+}
+
+/// So many pairs of numbers.
+pub fn next_pairs(
+    alloc: Global,
+    count: u64,
+    words: &mut Parts<'_>,
+) -> Result<Vec<(u64, u64)>, LineError>
+    ensures ok { IfOk result (λ pairs. pairs_in count words.old ≡ Some (record { value = pairs.items; rest = words.new })) }
+    ensures bad { result ≡ Err LineError.Bad → pairs_in count words.old ≡ None }
+{
+    let mut pairs = Vec::new(alloc);
+    let mut left = count;
+    'pairs: while left > 0 {
+        match push_pair(&mut pairs, words) {
+            Ok(_) => left -= 1,
+            Err(error) => return Err(error),
+        }
+    }
+    Ok(pairs)
 }
 
 /// Nothing more.

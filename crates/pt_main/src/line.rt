@@ -1,8 +1,9 @@
 ghost use Rattle.std.specs.Prelude.{◌≡◌, IfOk, Some, None};
-ghost use Rattle.pt_main.specs.Fields.{at_end};
-ghost use Rattle.pt_main.specs.Line.{mount_in, file_in, lookup_in, forget_in, request_in, job_in, line_in, line_of};
+ghost use Rattle.pt_main.specs.Line.{mount_in, file_in, dir_in, tree_line_in, limit_in, setting_in, job_in, line_in, line_of};
 
 use crate::fields::{LineError, end, next_bytes, next_number, next_small, next_switch, next_word};
+use crate::request::next_request;
+use crate::settings::Setting;
 use pt_iface::{Context, Request};
 use pt_text::Parts;
 use pt_tree::TreeLine;
@@ -18,6 +19,7 @@ pub struct ScriptJob {
 /// A line of a script.
 #[derive(Debug, Drop)]
 pub enum Line {
+    Set(Setting),
     Tree(TreeLine),
     Job(ScriptJob),
     End,
@@ -59,45 +61,55 @@ fn next_file(alloc: Global, words: &mut Parts<'_>) -> Result<TreeLine, LineError
     })
 }
 
-fn next_lookup(alloc: Global, words: &mut Parts<'_>) -> Result<Request, LineError>
-    ensures ok { IfOk result (λ request. lookup_in words.old ≡ Some request) }
-    ensures bad { result ≡ Err LineError.Bad → lookup_in words.old ≡ None }
+fn next_dir(alloc: Global, words: &mut Parts<'_>) -> Result<TreeLine, LineError>
+    ensures ok { IfOk result (λ line. dir_in words.old ≡ Some line) }
+    ensures bad { result ≡ Err LineError.Bad → dir_in words.old ≡ None }
 {
-    let parent = next_number(words)?;
-    let name = next_bytes(alloc, words)?;
+    let path = next_bytes(alloc, words)?;
+    let mode = next_small(words)?;
+    let uid = next_small(words)?;
+    let gid = next_small(words)?;
     end(words)?;
-    Ok(Request::Lookup { parent, name })
+    Ok(TreeLine::Dir {
+        path,
+        mode,
+        uid,
+        gid,
+    })
 }
 
-fn next_forget(words: &mut Parts<'_>) -> Result<Request, LineError>
-    ensures ok { IfOk result (λ request. forget_in words.old ≡ Some request) }
-    ensures bad { result ≡ Err LineError.Bad → forget_in words.old ≡ None }
+// The line of a tree that begins with this word.
+fn next_tree_line(alloc: Global, word: &[u8], words: &mut Parts<'_>) -> Result<TreeLine, LineError>
+    ensures ok { IfOk result (λ line. tree_line_in word.now words.old ≡ Some line) }
+    ensures bad { result ≡ Err LineError.Bad → tree_line_in word.now words.old ≡ None }
 {
-    let inode = next_number(words)?;
-    let count = next_number(words)?;
-    end(words)?;
-    Ok(Request::Forget { inode, count })
+    if word == b"mount".as_slice() {
+        next_mount(alloc, words)
+    } else if word == b"dir".as_slice() {
+        next_dir(alloc, words)
+    } else if word == b"file".as_slice() {
+        next_file(alloc, words)
+    } else {
+        Err(LineError::Bad)
+    }
 }
 
-fn next_root(words: &mut Parts<'_>) -> Result<Request, LineError>
-    ensures ok { IfOk result (λ request. at_end words.old Request.Root ≡ Some request) }
-    ensures bad { result ≡ Err LineError.Bad → at_end words.old Request.Root ≡ None }
+fn next_limit(words: &mut Parts<'_>) -> Result<Setting, LineError>
+    ensures ok { IfOk result (λ setting. limit_in words.old ≡ Some setting) }
+    ensures bad { result ≡ Err LineError.Bad → limit_in words.old ≡ None }
 {
+    let limit = next_number(words)?;
     end(words)?;
-    Ok(Request::Root)
+    Ok(Setting::GuestFdLimit(limit))
 }
 
-fn next_request(alloc: Global, words: &mut Parts<'_>) -> Result<Request, LineError>
-    ensures ok { IfOk result (λ request. request_in words.old ≡ Some request) }
-    ensures bad { result ≡ Err LineError.Bad → request_in words.old ≡ None }
+fn next_setting(words: &mut Parts<'_>) -> Result<Setting, LineError>
+    ensures ok { IfOk result (λ setting. setting_in words.old ≡ Some setting) }
+    ensures bad { result ≡ Err LineError.Bad → setting_in words.old ≡ None }
 {
-    let word = next_word(words)?;
-    if word == b"root".as_slice() {
-        next_root(words)
-    } else if word == b"lookup".as_slice() {
-        next_lookup(alloc, words)
-    } else if word == b"forget".as_slice() {
-        next_forget(words)
+    let key = next_word(words)?;
+    if key == b"guest_fd_limit".as_slice() {
+        next_limit(words)
     } else {
         Err(LineError::Bad)
     }
@@ -121,16 +133,14 @@ pub fn read_line(alloc: Global, text: &[u8]) -> Result<Line, LineError>
 {
     let mut words = Parts::words(text);
     let word = next_word(&mut words)?;
-    if word == b"mount".as_slice() {
-        Ok(Line::Tree(next_mount(alloc, &mut words)?))
-    } else if word == b"file".as_slice() {
-        Ok(Line::Tree(next_file(alloc, &mut words)?))
+    if word == b"set".as_slice() {
+        Ok(Line::Set(next_setting(&mut words)?))
     } else if word == b"job".as_slice() {
         Ok(Line::Job(next_job(alloc, &mut words)?))
     } else if word == b"end".as_slice() {
         end(&words)?;
         Ok(Line::End)
     } else {
-        Err(LineError::Bad)
+        Ok(Line::Tree(next_tree_line(alloc, word, &mut words)?))
     }
 }

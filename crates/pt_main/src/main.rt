@@ -1,4 +1,4 @@
-//! The program: reads a script of lookups and forgets, runs it over a tree in memory and writes the report.
+//! The program: reads a script of requests, runs it over a tree in memory and writes the report.
 #![tactic(auto)]
 
 mod fields;
@@ -10,11 +10,14 @@ mod mem;
 mod output;
 mod program;
 mod report;
+mod request;
 mod scan;
 mod script;
+mod settings;
 mod status;
 mod std_streams;
 mod streams;
+mod table_lines;
 #[cfg(test)]
 mod tests;
 mod texts;
@@ -25,6 +28,7 @@ pub use line::{Line, ScriptJob};
 pub use mem::{MemSink, MemSource};
 pub use program::run;
 pub use script::{ParseError, Script, parse};
+pub use settings::{Setting, Settings};
 pub use status::Status;
 use std::alloc::AllocError;
 use std::process::ExitCode;

@@ -1,13 +1,16 @@
-ghost use Rattle.std.specs.Prelude.{◌≡◌, ◌≤◌, ◌+◌, ◌<◌, ◌^◌, ◌++◌, List, ℕ, None, IfOk, IfErr, OnOk, map, length};
+ghost use Rattle.std.specs.Prelude.{◌≡◌, ◌≤◌, ◌+◌, ◌<◌, ◌^◌, ◌++◌, List, ℕ, IfOk, IfErr, OnOk, map, length};
 ghost use Rattle.pt_tree.specs.Listing.{listing_of};
-ghost use Rattle.pt_main.specs.Report.{LivesAbove, live_lines, slots_line};
-ghost use Rattle.pt_main.specs.Run.{job_of, start_seat, report_of, IsOpened, IsNotOpened, IsRunFrom, IsReportOf, IsNoReport};
+ghost use Rattle.pt_main.specs.TableLines.{live_lines, handle_lines, slots_line};
+ghost use Rattle.pt_main.specs.Configured.{configured};
+ghost use Rattle.pt_main.specs.Run.{job_of, start_seat, report_of, AreLive, IsOpened, IsNotOpened, IsRunFrom, IsReportOf, IsNoReport};
 
 use crate::input::MAX_SCRIPT;
 use crate::line::ScriptJob;
-use crate::report::{push_answers, push_lives, push_slots, push_steps};
+use crate::report::{push_answers, push_steps};
 use crate::script::{ParseError, parse};
+use crate::settings::Settings;
 use crate::status::Status;
+use crate::table_lines::{push_handles, push_lives, push_slots};
 use pt_fs::{Driven, Job, PassthroughFs, SteppedFs, drive};
 use pt_host::{Caps, HostSeat};
 use pt_iface::{Refusal, Request};
@@ -38,14 +41,25 @@ fn jobs_of(alloc: Global, jobs: Vec<ScriptJob>) -> Result<Vec<Job>, AllocError>
     jobs.into_iter().map(|job| job_of(job)).collect(alloc)
 }
 
-// The file system over a host, with the default configuration.
-fn open_fs(alloc: Global, host: &mut TreeHost) -> Result<PassthroughFs, Status>
-    ensures ok { IfOk result (λ fs. IsOpened host.old fs host.new) }
+// The configuration with what is set in place of the defaults.
+fn configured(settings: Settings, mut config: Config) -> Config
+    ensures { result ≡ configured settings config }
+{
+    if let Some(limit) = settings.guest_fd_limit {
+        config.guest_fd_limit = limit;
+    }
+    config
+}
+
+// The file system over a host, with the default configuration but for what is set.
+fn open_fs(alloc: Global, settings: Settings, host: &mut TreeHost) -> Result<PassthroughFs, Status>
+    ensures ok { IfOk result (λ fs. IsOpened settings host.old fs host.new) }
     ensures err { IfErr result (λ status. IsNotOpened host.old status) }
 {
     let Ok(config) = Config::new(alloc) else {
         return Err(Status::NoMemory);
     };
+    let config = configured(settings, config);
     match PassthroughFs::new(alloc, config, host, &mut start_seat()) {
         Ok(fs) => Ok(fs),
         Err(Refusal::Errno(errno)) => Err(Status::BadConfig(errno)),
@@ -57,11 +71,12 @@ fn open_fs(alloc: Global, host: &mut TreeHost) -> Result<PassthroughFs, Status>
 
 // Appends what the report says of the tables.
 fn push_tables(out: &mut Vec<u8>, fs: &PassthroughFs) -> Result<(), AllocError>
-    ensures { OnOk result ((lives : List (ℕ × ℕ)) × LivesAbove fs.now.tables.rows None lives
-        × (out.new.items ≡ out.old.items ++ live_lines lives ++ slots_line fs.now.tables.slots)) }
+    ensures { OnOk result ((lives : List (ℕ × ℕ)) × (handles : List (ℕ × ℕ)) × AreLive fs.now.tables lives handles
+        × (out.new.items ≡ out.old.items ++ live_lines lives ++ handle_lines handles ++ slots_line fs.now.tables.slots)) }
 {
     let session = fs.session();
     push_lives(out, session)?;
+    push_handles(out, session)?;
     push_slots(out, session.slots_left())
 }
 
@@ -81,8 +96,8 @@ fn report_on(
     driven: &Driven<PassthroughFs>,
     host: &TreeHost,
 ) -> Result<Vec<u8>, AllocError>
-    ensures { IfOk result (λ report. (lives : List (ℕ × ℕ)) × LivesAbove driven.now.fs.tables.rows None lives
-        × (report.items ≡ report_of driven.now.trace.items driven.now.answers.items lives driven.now.fs.tables host.now)) }
+    ensures { IfOk result (λ report. (lives : List (ℕ × ℕ)) × (handles : List (ℕ × ℕ)) × AreLive driven.now.fs.tables lives handles
+        × (report.items ≡ report_of driven.now.trace.items driven.now.answers.items lives handles driven.now.fs.tables host.now)) }
 {
     let mut out = Vec::new(alloc);
     push_steps(&mut out, driven.trace.as_slice())?;
@@ -96,14 +111,15 @@ fn report_on(
 // Runs the jobs over a host that holds the script's tree.
 fn run_jobs(
     alloc: Global,
+    settings: Settings,
     host: &mut TreeHost,
     jobs: Vec<ScriptJob>,
 ) -> Result<Driven<PassthroughFs>, Status>
     requires { length jobs.items < 2 ^ 32 }
-    ensures ok { IfOk result (λ driven. IsRunFrom host.old jobs.items driven.trace.items driven.answers.items driven.fs.tables host.new) }
+    ensures ok { IfOk result (λ driven. IsRunFrom settings host.old jobs.items driven.trace.items driven.answers.items driven.fs.tables host.new) }
     ensures err { IfErr result (λ status. IsNotOpened host.old status) }
 {
-    let fs = open_fs(alloc, host)?;
+    let fs = open_fs(alloc, settings, host)?;
     let Ok(jobs) = jobs_of(alloc, jobs) else {
         return Err(Status::NoMemory);
     };
@@ -125,7 +141,7 @@ pub fn report_of_script(alloc: Global, bytes: &[u8]) -> Result<Vec<u8>, Status>
         Err(ParseError::Memory) => return Err(Status::NoMemory),
     };
     let mut host = script.host;
-    let driven = match run_jobs(alloc, &mut host, script.jobs) {
+    let driven = match run_jobs(alloc, script.settings, &mut host, script.jobs) {
         Ok(driven) => driven,
         Err(status) => return Err(status),
     };

@@ -5,6 +5,7 @@ ghost use Rattle.pt_main.specs.Scan.{allowed, scan_of};
 use crate::fields::LineError;
 use crate::input::MAX_SCRIPT;
 use crate::line::{Line, ScriptJob, read_line};
+use crate::settings::Settings;
 use pt_text::Parts;
 use pt_tree::{TreeLine, TreeSpec};
 use std::alloc::{AllocError, Global};
@@ -16,6 +17,7 @@ pub const MAX_JOBS: usize = 65_536;
 /// A script as far as its lines go.
 #[derive(Drop)]
 pub struct Lines {
+    settings: Settings,
     tree: Vec<TreeLine>,
     jobs: Vec<ScriptJob>,
     ended: bool,
@@ -26,7 +28,7 @@ impl Model for Lines {
 
     ghost Value = { Begun };
 
-    ghost view = { λ lines. record { tree = lines.tree.items; jobs = lines.jobs.items; ended = lines.ended } };
+    ghost view = { λ lines. record { settings = lines.settings; tree = lines.tree.items; jobs = lines.jobs.items; ended = lines.ended } };
 }
 
 impl Lines {
@@ -34,6 +36,7 @@ impl Lines {
         ensures { result ≡ nothing }
     {
         Lines {
+            settings: Settings::none(),
             tree: Vec::new(alloc),
             jobs: Vec::new(alloc),
             ended: false,
@@ -51,6 +54,7 @@ impl Lines {
         ensures { result ≡ may_stand self.now line.now }
     {
         match line {
+            Line::Set(setting) => self.tree.is_empty() && self.settings.may_set(*setting),
             Line::Tree(_) => !self.ended && self.jobs.is_empty(),
             Line::Job(_) => !self.ended && !self.tree.is_empty() && self.jobs.len() < MAX_JOBS,
             Line::End => !self.ended && !self.tree.is_empty(),
@@ -63,11 +67,19 @@ impl Lines {
         ensures err { OnErr result (self.new ≡ self.old) }
     {
         match line {
+            Line::Set(setting) => self.settings = self.settings.with_setting(setting),
             Line::Tree(line) => self.tree.push(line)?,
             Line::Job(job) => self.jobs.push(job)?,
             Line::End => self.ended = true,
         }
         Ok(())
+    }
+
+    /// What is set.
+    pub fn settings(&self) -> Settings
+        ensures { result ≡ self.now.settings }
+    {
+        self.settings
     }
 
     /// The lines of the tree, and the jobs, which takes no memory.

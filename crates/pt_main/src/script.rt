@@ -1,17 +1,19 @@
 ghost use Rattle.std.specs.Prelude.{◌≡◌, ◌≤◌, ◌<◌, ◌+◌, ◌^◌, IfOk, IfErr, length};
 ghost use Rattle.pt_tree.specs.Start.{StartsAs};
-ghost use Rattle.pt_main.specs.Parse.{IsBadLine, IsBadTree};
+ghost use Rattle.pt_main.specs.Parse.{IsBadLine, IsBadTree, place_of, error_behind};
 ghost use Rattle.pt_main.specs.Scan.{IsScriptOf};
 
 use crate::input::MAX_SCRIPT;
 use crate::line::ScriptJob;
 use crate::scan::scan_lines;
+use crate::settings::Settings;
 use pt_tree::{SpecError, TreeHost, TreeSpec};
 use std::alloc::Global;
 
-/// A script: the host that holds its tree, and its jobs in order.
+/// A script: what it sets, the host that holds its tree, and its jobs in order.
 #[derive(Drop)]
 pub struct Script {
+    pub settings: Settings,
     pub host: TreeHost,
     pub jobs: Vec<ScriptJob>,
 }
@@ -27,32 +29,47 @@ pub enum ParseError {
 /// Reads a script.
 pub fn parse(alloc: Global, bytes: &[u8]) -> Result<Script, ParseError>
     requires { length bytes.now ≤ MAX_SCRIPT }
-    ensures ok { IfOk result (λ script. IsScriptOf bytes.now script.host script.jobs.items) }
+    ensures ok { IfOk result (λ script. IsScriptOf bytes.now script.settings script.host script.jobs.items) }
     ensures bad { IfErr result (λ error. IsBadLine bytes.now error) }
     ensures few { IfOk result (λ script. length script.jobs.items ≤ length bytes.now + 1) }
 {
     let Ok(scan) = scan_lines(alloc, bytes) else {
         return Err(ParseError::Memory);
     };
+    let settings = scan.lines.settings();
     let (tree, jobs) = scan.lines.into_parts();
-    let host = match host_of(alloc, &tree) {
+    let host = match host_of(alloc, settings.lines(), &tree) {
         Ok(host) => host,
         Err(error) => return Err(error),
     };
     match scan.bad {
         Some(line) => Err(ParseError::BadScript(line)),
-        None => Ok(Script { host, jobs }),
+        None => Ok(Script {
+            settings,
+            host,
+            jobs,
+        }),
     }
 }
 
-fn host_of(alloc: Global, tree: &TreeSpec) -> Result<TreeHost, ParseError>
-    requires { length tree.now < 2 ^ 32 }
+// The host that holds the tree, whose lines stand behind so many others.
+fn host_of(alloc: Global, above: u32, tree: &TreeSpec) -> Result<TreeHost, ParseError>
+    requires { above + length tree.now + 1 < 2 ^ 32 }
     ensures ok { IfOk result (λ host. StartsAs tree.now host) }
-    ensures bad { IfErr result (λ error. IsBadTree tree.now error) }
+    ensures bad { IfErr result (λ error. IsBadTree above tree.now error) }
 {
     match TreeHost::from_spec(alloc, tree) {
         Ok(host) => Ok(host),
-        Err(SpecError::NotATree(line)) => Err(ParseError::BadScript(line)),
-        Err(SpecError::Memory) => Err(ParseError::Memory),
+        Err(error) => Err(error_behind(above, &error)),
+    }
+}
+
+fn error_behind(above: u32, error: &SpecError) -> ParseError
+    requires { above + place_of error.now < 2 ^ 32 }
+    ensures { result ≡ error_behind above error.now }
+{
+    match error {
+        SpecError::NotATree(place) => ParseError::BadScript(above + *place),
+        SpecError::Memory => ParseError::Memory,
     }
 }

@@ -4,6 +4,7 @@ use crate::{
     Failed, InputError, MAX_SCRIPT, MemSink, MemSource, ParseError, Sink, Source, Status, parse,
     read_script, run,
 };
+use pt_iface::Request;
 use std::test::Fail;
 
 const TREE: &str = "mount 1 1 / 1\nfile /a 0o644 0 0 hi\n";
@@ -29,6 +30,19 @@ fn empty_run(rt: HostRuntime) -> Result<(), Fail> {
     assert_eq!(rt; status, Status::Done);
     let want = b"slots 18446744073709551615\nobj / 1 1 1 16877 2 0 0 0 %-\nend\n";
     assert_eq!(rt; output.as_slice(), want.as_slice());
+    Ok(())
+}
+
+// Each text, which comes in two parts, is refused at this line.
+fn assert_bad(rt: &HostRuntime, table: &[(&str, &str, u32)]) -> Result<(), Fail> {
+    for row in table {
+        let (head, rest, line) = *row;
+        let mut bytes = head.as_bytes().to_vec(rt.alloc())?;
+        bytes.extend_from_slice(rest.as_bytes())?;
+        let (status, output) = run_on(rt, bytes, &[], &[])?;
+        assert_eq!(*rt; status, Status::BadScript(line), "at {head:?} {rest:?}");
+        assert!(*rt; output.as_slice().is_empty());
+    }
     Ok(())
 }
 
@@ -127,18 +141,63 @@ fn bad_lines_are_named(rt: HostRuntime) -> Result<(), Fail> {
         (TREE, "job 0 4294967296 root\nend\n", 3),
         (TREE, "job 0 0 forget 01 1\nend\n", 3),
         (TREE, "job 0 0 lookup 1 %61\nend\n", 3),
-        (TREE, "job 0 0 init 0\nend\n", 3),
         (TREE, "set read_only 1\nend\n", 3),
         (TREE, "file /b/c 0o644 0 0 z\nfrob\n", 3),
     ];
-    for (head, rest, line) in table {
-        let mut bytes = head.as_bytes().to_vec(rt.alloc())?;
-        bytes.extend_from_slice(rest.as_bytes())?;
-        let (status, output) = run_on(&rt, bytes, &[], &[])?;
-        assert_eq!(rt; status, Status::BadScript(line), "at {head:?} {rest:?}");
-        assert!(rt; output.as_slice().is_empty());
-    }
-    Ok(())
+    assert_bad(&rt, &table)
+}
+
+#[test]
+fn bad_settings_are_named(rt: HostRuntime) -> Result<(), Fail> {
+    let table = [
+        ("set guest_fd_limit\n", "", 1),
+        ("set guest_fd_limit x\n", "", 1),
+        ("set guest_fd_limit 1 1\n", "", 1),
+        ("set\n", "", 1),
+        ("set read_only 1\n", TREE, 1),
+        ("set guest_fd_limit 1\n", "", 2),
+        ("set guest_fd_limit 1\n", "end\n", 2),
+        ("set guest_fd_limit 1\n", "set guest_fd_limit 1\n", 2),
+        ("set guest_fd_limit 1\n", "mount 1 1 /b 1\nend\n", 2),
+        (
+            "set guest_fd_limit 1\n",
+            "mount 1 1 / 1\nfile /x/y 0o644 0 0 z\nfrob\n",
+            3,
+        ),
+        ("set guest_fd_limit 1\n", TREE, 4),
+        (TREE, "set guest_fd_limit 1\nend\n", 3),
+    ];
+    assert_bad(&rt, &table)
+}
+
+#[test]
+fn bad_fields_are_named(rt: HostRuntime) -> Result<(), Fail> {
+    let table = [
+        (TREE, "dir /a 0o755 0 0\nend\n", 3),
+        (TREE, "dir /d 0o755 0\nend\n", 3),
+        (TREE, "dir /d/e 0o755 0 0\nend\n", 3),
+        (TREE, "dir /d 0o755 0 0\nfile /d/x 0o644 0 0 z\n", 5),
+        (TREE, "job 0 0 init\nend\n", 3),
+        (TREE, "job 0 0 init 4294967296\nend\n", 3),
+        (TREE, "job 0 0 destroy 1\nend\n", 3),
+        (TREE, "job 0 0 batch_forget\nend\n", 3),
+        (TREE, "job 0 0 batch_forget 1 2\nend\n", 3),
+        (TREE, "job 0 0 batch_forget 1 2 3 4\nend\n", 3),
+        (TREE, "job 0 0 batch_forget 2 1 1\nend\n", 3),
+        (
+            TREE,
+            "job 0 0 batch_forget 18446744073709551615 1 1\nend\n",
+            3,
+        ),
+        (TREE, "job 0 0 open 1 2 0\nend\n", 3),
+        (TREE, "job 0 0 open 1 0\nend\n", 3),
+        (TREE, "job 0 0 opendir 1\nend\n", 3),
+        (TREE, "job 0 0 read 1 0 4294967296 0\nend\n", 3),
+        (TREE, "job 0 0 read 1 0 10\nend\n", 3),
+        (TREE, "job 0 0 release 1\nend\n", 3),
+        (TREE, "job 0 0 releasedir 1 0 0\nend\n", 3),
+    ];
+    assert_bad(&rt, &table)
 }
 
 #[test]
@@ -246,6 +305,115 @@ fn scripts_are_parsed(rt: HostRuntime) -> Result<(), Fail> {
     }
     let bad = parse(rt.alloc(), b"mount 1 1 / 1\n");
     assert!(rt; matches!(&bad, Err(ParseError::BadScript(2))));
+    Ok(())
+}
+
+// These lines, each ended by a line feed.
+fn text_of(rt: &HostRuntime, lines: &[&str]) -> Result<Vec<u8>, Fail> {
+    let mut text = Vec::new(rt.alloc());
+    for line in lines {
+        text.extend_from_slice(line.as_bytes())?;
+        text.extend_from_slice(b"\n")?;
+    }
+    Ok(text)
+}
+
+// The report of a script is this.
+fn assert_report(rt: &HostRuntime, script: &[&str], want: &[&str]) -> Result<(), Fail> {
+    let want = text_of(rt, want)?;
+    let (status, output) = run_on(rt, text_of(rt, script)?, &[], &[])?;
+    assert_eq!(*rt; status, Status::Done);
+    assert_eq!(*rt; output.as_slice(), want.as_slice());
+    Ok(())
+}
+
+#[test]
+fn a_root_that_was_taken_back_is_not_live(rt: HostRuntime) -> Result<(), Fail> {
+    let script = [
+        "mount 1 1 / 1",
+        "file /a 0o644 0 0 hi",
+        "job 0 0 init 0",
+        "job 0 0 forget 1 2",
+        "job 0 0 lookup 1 a",
+        "end",
+    ];
+    let want = [
+        "step 0 Clear = Cleared 1 0",
+        "step 0 OpenRoot / 2752512 = Ok Fd 4",
+        "step 0 Stat 4 = Ok Stat 1 1 1 16877 2 0 0 0 0 4096 0 0 0 0 0 0 0",
+        "step 0 TakeFd = Taken",
+        "step 0 InsertRoot 1 File 4 1 1 1 16877 + 0 0 0 0 = Inserted 1",
+        "step 1 Begin = Began 1 0 0 0 0",
+        "step 1 Forget 1 1 2 = Done 1",
+        "step 1 TakeClosing = Closing 4 1",
+        "step 1 Close 4 = Ok Unit",
+        "step 1 GiveFd = Given",
+        "step 2 Begin = Began 1 0 0 0 0",
+        "step 2 Resolve 1 = Refused NotLive",
+        "answer 0 Inited 3",
+        "answer 1 NoReply",
+        "answer 2 Refused 9",
+        "slots 18446744073709551615",
+        "obj / 1 1 1 16877 2 0 0 0 %-",
+        "obj /a 2 1 1 33188 1 0 0 0 hi",
+        "end",
+    ];
+    assert_report(&rt, &script, &want)
+}
+
+#[test]
+fn a_lookup_without_a_slot_draws_no_number(rt: HostRuntime) -> Result<(), Fail> {
+    let script = [
+        "set guest_fd_limit 1",
+        "mount 1 1 / 1",
+        "file /a 0o644 0 0 hi",
+        "job 0 0 init 0",
+        "job 0 0 lookup 1 a",
+        "end",
+    ];
+    let want = [
+        "step 0 Clear = Cleared 1 0",
+        "step 0 OpenRoot / 2752512 = Ok Fd 4",
+        "step 0 Stat 4 = Ok Stat 1 1 1 16877 2 0 0 0 0 4096 0 0 0 0 0 0 0",
+        "step 0 TakeFd = Taken",
+        "step 0 InsertRoot 1 File 4 1 1 1 16877 + 0 0 0 0 = Inserted 1",
+        "step 1 Begin = Began 1 0 0 0 0",
+        "step 1 Resolve 1 = Resolved 0 File 4 1 1 1 16877",
+        "step 1 OpenAt 4 a 2752512 0 = Ok Fd 5",
+        "step 1 Stat 5 = Ok Stat 2 1 1 33188 1 0 0 0 2 4096 1 0 0 0 0 0 0",
+        "step 1 Claim 1 - 2 1 1 = Absent",
+        "step 1 TakeFd = Refused NoSlot",
+        "step 1 Close 5 = Ok Unit",
+        "step 1 Unpin 0 = Done 0",
+        "answer 0 Inited 3",
+        "answer 1 Refused 23",
+        "live 1 2",
+        "slots 0",
+        "obj / 1 1 1 16877 2 0 0 0 %-",
+        "obj /a 2 1 1 33188 1 0 0 0 hi",
+        "end",
+    ];
+    assert_report(&rt, &script, &want)
+}
+
+#[test]
+fn requests_are_parsed(rt: HostRuntime) -> Result<(), Fail> {
+    let text = b"set guest_fd_limit 7\nmount 1 1 / 1\ndir /d 0o755 0 0\njob 0 0 init 512\njob 0 0 destroy\njob 0 0 batch_forget 2 3 1 4 2\njob 0 0 open 2 1 0o1\njob 0 0 opendir 3 0\njob 0 0 read 2 0 10 5\njob 0 0 release 2 0\njob 0 0 releasedir 3 1\nend\n";
+    let script = match parse(rt.alloc(), text) {
+        Ok(script) => script,
+        Err(_) => return Err(Fail::from("no script")),
+    };
+    assert_eq!(rt; script.settings.guest_fd_limit, Some(7));
+    assert_eq!(rt; script.jobs.len(), 8);
+    let jobs = script.jobs.as_slice();
+    assert!(rt; matches!(&jobs[0].request, Request::Init { capable } if capable.0 == 512));
+    assert!(rt; matches!(&jobs[1].request, Request::Destroy));
+    assert!(rt; matches!(&jobs[2].request, Request::BatchForget { list } if list.as_slice() == [(3, 1), (4, 2)].as_slice()));
+    assert!(rt; matches!(&jobs[3].request, Request::Open { inode: 2, kill: true, flags: 1 }));
+    assert!(rt; matches!(&jobs[4].request, Request::OpenDir { inode: 3, flags: 0 }));
+    assert!(rt; matches!(&jobs[5].request, Request::Read { inode: 2, handle: 0, size: 10, offset: 5 }));
+    assert!(rt; matches!(&jobs[6].request, Request::Release { inode: 2, handle: 0 }));
+    assert!(rt; matches!(&jobs[7].request, Request::ReleaseDir { inode: 3, handle: 1 }));
     Ok(())
 }
 

@@ -41,6 +41,7 @@ laid one (top ∷ holds) = if is_scope top then top ∷ laid one holds else one 
 abbrev pub held : Deed → ActReply → List Hold → List Hold
 held (Calls (call.OpenRoot path flags)) (Host (host.Ok (value.Fd fd))) holds = laid (hold.Fd fd None) holds
 held (Calls (call.OpenAt dir name flags mode)) (Host (host.Ok (value.Fd fd))) holds = laid (hold.Fd fd None) holds
+held (Calls (call.Reopen same flags)) (Host (host.Ok (value.Fd fd))) holds = laid (hold.Fd fd None) holds
 held (Calls (call.Stat fd)) (Host (host.Ok (value.Stat stat))) (hold.Fd same was ∷ holds) = hold.Fd same (Some stat.ids) ∷ holds
 held (Changes (change.Resolve number)) (Event (event.Resolved row form ids mode)) holds = laid (hold.Pin row (fd_of form)) holds
 held (Changes change.TakeFd) (Event event.Taken) (top ∷ holds) = top ∷ hold.Slot ∷ holds
@@ -49,6 +50,8 @@ held (Changes (change.Claim era handle ids)) (Event (event.Claimed number)) hold
 held (Changes (change.Insert era number form ids mode)) (Event (event.Inserted given)) (hold.Fd fd was ∷ hold.Slot ∷ holds) = hold.Count era given ∷ holds
 held (Changes (change.Insert era number form ids mode)) (Event (event.Found given)) holds = hold.Count era given ∷ holds
 held (Changes (change.InsertRoot era form ids mode agreed)) (Event (event.Inserted given)) (hold.Fd fd was ∷ hold.Slot ∷ holds) = holds
+held (Changes (change.PinHandle handle number)) (Event (event.Pinned row fd)) holds = laid (hold.HandlePin row fd) holds
+held (Changes (change.InsertHandle era handle number fd)) (Event (event.Inserted given)) (hold.Fd same was ∷ hold.Slot ∷ holds) = holds
 held _ _ holds = holds
 
 -- how a refused event is answered
@@ -73,6 +76,7 @@ refusal _ = answer.NoMemory
 -- what gives a hold back
 abbrev pub giving : Hold → Deed
 giving (hold.Pin row fd) = Changes (change.Unpin row)
+giving (hold.HandlePin row fd) = Changes (change.UnpinHandle row)
 giving (hold.Fd fd was) = Calls (call.Close fd)
 giving hold.Slot = Changes change.GiveFd
 giving (hold.Count era number) = Changes (change.GiveBack era number)
@@ -82,12 +86,16 @@ abbrev pub closings_in : Deed → ActReply → ℕ
 closings_in (Changes (change.Unpin row)) (Event (event.Done closings)) = closings
 closings_in (Changes (change.Forget list)) (Event (event.Done closings)) = closings
 closings_in (Changes (change.GiveBack era number)) (Event (event.Done closings)) = closings
+closings_in (Changes (change.UnpinHandle row)) (Event (event.Done closings)) = closings
+closings_in (Changes (change.Release handle number)) (Event (event.Done closings)) = closings
+closings_in (Changes change.Clear) (Event (event.Cleared era closings)) = closings
 closings_in _ _ = 0
 
 -- how many rows are inserted
 abbrev pub inserted_by : Deed → ActReply → ℕ
 inserted_by (Changes (change.Insert era number form ids mode)) (Event (event.Inserted given)) = 1
 inserted_by (Changes (change.InsertRoot era form ids mode agreed)) (Event (event.Inserted given)) = 1
+inserted_by (Changes (change.InsertHandle era handle number fd)) (Event (event.Inserted given)) = 1
 inserted_by _ _ = 0
 
 -- what a closing brings, to be given back at once

@@ -4,6 +4,7 @@ pub mod Held
 pub mod Grammar
 pub mod Frame
 pub mod Tree
+pub mod Options
 pub mod Requests
 pub mod Pattern
 pub mod Made
@@ -11,6 +12,7 @@ pub mod Room
 pub mod Next
 pub mod Left
 pub mod Parts
+pub mod Opening
 pub mod Bodies
 pub mod Job
 pub mod Calm

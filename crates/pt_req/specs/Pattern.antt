@@ -22,9 +22,12 @@ Pattern plan seat who asked steps answer = Belongs (grammar_of plan asked) steps
 
 -- a bound on a request's steps; each closing takes at most three more
 abbrev pub bound_of : Request → ℕ
+bound_of (request.Init capable) = 48
 bound_of request.Root = 48
 bound_of (request.Lookup parent name) = 48
-bound_of (request.Forget inode count) = 8
+bound_of (request.Open inode kill flags) = 48
+bound_of (request.OpenDir inode flags) = 48
+bound_of _ = 8
 
 -- so many rows a request inserts at most
 abbrev pub most_inserted : ℕ

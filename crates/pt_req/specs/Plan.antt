@@ -1,6 +1,7 @@
 -- The defaults of the configuration.
-use Rattle.std.specs.Prelude.{◌≡◌, ◌-◌, ◌^◌, [], ◌∷◌}
+use Rattle.std.specs.Prelude.{◌≡◌, ◌-◌, ◌^◌, true, false, [], ◌∷◌}
 use Rattle.pt_iface.specs.declared.entry.Timeout.{Timeout}
+use Rattle.pt_req.specs.declared.plan.CachePolicy.TheVariants.{Auto}
 use Rattle.pt_req.specs.declared.plan.Config.{Config}
 
 abbrev pub five_seconds : Timeout
@@ -12,3 +13,7 @@ pub record IsDefault (config : Config) : Type 0 where
   -- a slash
   pub root_dir : config.root_dir ≡ 47 ∷ []
   pub guest_fd_limit : config.guest_fd_limit ≡ 2 ^ 64 - 1
+  pub cache_policy : config.cache_policy ≡ Auto
+  pub readdirplus : config.readdirplus ≡ true
+  pub allow_direct_io : config.allow_direct_io ≡ false
+  pub clean_noatime : config.clean_noatime ≡ true

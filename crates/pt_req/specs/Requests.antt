@@ -1,8 +1,9 @@
--- The requests, by their parts. After virtiofsd's passthrough file system: `open_root_node`, `do_lookup`, `forget`.
-use Rattle.std.specs.Prelude.{ℕ, Bool, true, ◌&&◌, ◌||◌, not, ◌==◌, if◌then◌else◌, List, [], ◌∷◌, None, Option}
+-- The requests, by their parts. After virtiofsd's passthrough file system: `init`, `open_root_node`, `do_lookup`, `forget`, `open_inode`,
+-- `do_open`, `do_release`, `read`.
+use Rattle.std.specs.Prelude.{ℕ, ◌-◌, ◌^◌, Bool, true, false, ◌&&◌, ◌||◌, not, ◌==◌, nat_lt, if◌then◌else◌, List, [], ◌∷◌, Some, None, Option}
 use Rattle.std.specs.List.{list_any}
-use Rattle.pt_host.specs.Errno.{einval}
-use Rattle.pt_host.specs.Flags.{path_flags}
+use Rattle.pt_host.specs.Errno.{ebadf, einval, errno_of}
+use Rattle.pt_host.specs.Flags.{path_flags, o_directory}
 use Rattle.pt_host.specs.Tree.{kind_of}
 use Rattle.pt_host.specs.declared.ids.Fd.{Fd}
 use Rattle.pt_host.specs.declared.ids.ObjIds.{ObjIds}
@@ -17,12 +18,14 @@ use Rattle.pt_session.specs.declared.form.Negotiated.{Negotiated}
 use Rattle.pt_session.specs.declared.event.KeptEvent.TheVariants as change
 use Rattle.pt_session.specs.declared.reply.EventReply.TheVariants as event
 use Rattle.pt_iface.specs.declared.answer.Answer.TheVariants as answer
+use Rattle.pt_iface.specs.declared.flags.FsOptions.{FsOptions}
 use Rattle.pt_iface.specs.declared.entry.Attr.{Attr}
 use Rattle.pt_iface.specs.declared.entry.Entry.{Entry}
 use Rattle.pt_iface.specs.declared.request.Request.{Request}
 use Rattle.pt_iface.specs.declared.request.Request.TheVariants as request
 use Rattle.pt_req.specs.Deed.{Calls, Changes}
 use Rattle.pt_req.specs.Held.{fd_of}
+use Rattle.pt_req.specs.Options.{with_bits, host_flags, without_nofollow, agreed_with, nothing_agreed, init_options, open_options}
 use Rattle.pt_req.specs.Tree.{Tree, Gives, Refuses, Asks, Shuts}
 use Rattle.pt_req.specs.declared.act.ActReply.{ActReply}
 use Rattle.pt_req.specs.declared.act.ActReply.TheVariants.{Event, Host}
@@ -39,6 +42,10 @@ abbrev pub on_resolved : (RowForm → ObjIds → Tree) → ActReply → Tree
 on_resolved next (Event (event.Resolved row form ids mode)) = next form ids
 on_resolved next told = Refuses told
 
+abbrev pub on_row : (RowForm → ℕ → Tree) → ActReply → Tree
+on_row next (Event (event.Resolved row form ids mode)) = next form mode
+on_row next told = Refuses told
+
 abbrev pub on_fd : (Fd → Tree) → ActReply → Tree
 on_fd next (Host (host.Ok (value.Fd fd))) = next fd
 on_fd next told = Refuses told
@@ -46,6 +53,10 @@ on_fd next told = Refuses told
 abbrev pub on_stat : (Stat → Tree) → ActReply → Tree
 on_stat next (Host (host.Ok (value.Stat stat))) = next stat
 on_stat next told = Refuses told
+
+abbrev pub on_bytes : (List ℕ → Tree) → ActReply → Tree
+on_bytes next (Host (host.Ok (value.Bytes bytes))) = next bytes
+on_bytes next told = Refuses told
 
 abbrev pub on_claim : (ℕ → Tree) → Tree → ActReply → Tree
 on_claim next absent (Event (event.Claimed number)) = next number
@@ -72,6 +83,18 @@ on_root next told = Refuses told
 abbrev pub on_done : Tree → ActReply → Tree
 on_done next (Event (event.Done closings)) = next
 on_done next told = Refuses told
+
+abbrev pub on_cleared : (ℕ → Tree) → ActReply → Tree
+on_cleared next (Event (event.Cleared era closings)) = next era
+on_cleared next told = Refuses told
+
+abbrev pub on_pinned : (Fd → Tree) → ActReply → Tree
+on_pinned next (Event (event.Pinned row fd)) = next fd
+on_pinned next told = Refuses told
+
+abbrev pub on_handle : Tree → ActReply → Tree
+on_handle next (Event (event.Inserted handle)) = next
+on_handle next told = Refuses told
 
 -- the flags of every opening that only stands for its object
 abbrev pub path : OpenFlags
@@ -156,8 +179,52 @@ abbrev pub look_up : Plan → Session → ℕ → List ℕ → (Entry → Tree) 
 look_up plan session parent name next =
     Asks (Changes (change.Resolve parent)) (on_resolved (λ form ids. opened_in plan session ids (fd_of form) name next))
 
+-- what stands on a row is opened, where it is a regular file or a directory
+abbrev pub can_open : ℕ → Bool
+can_open mode = (kind_of mode == 8) || (kind_of mode == 4)
+
+abbrev pub reopened : ℕ → RowForm → ℕ → (Fd → Tree) → Tree
+reopened flags form mode next =
+    if can_open mode then Asks (Calls (call.Reopen (fd_of form) (without_nofollow flags))) (on_fd next) else Gives (answer.Refused ebadf)
+
+abbrev pub open_inode : ℕ → ℕ → (Fd → Tree) → Tree
+open_inode inode flags next = Asks (Changes (change.Resolve inode)) (on_row (λ form mode. reopened flags form mode next))
+
+-- what was opened gets a handle; the bracket ends with the pin, since the table took the descriptor and its slot
+abbrev pub handled : Session → ℕ → Fd → ℕ → Tree → Tree
+handled session inode fd handle next =
+    Asks (Changes change.TakeFd) (on_taken (
+    Asks (Changes (change.InsertHandle session.era handle inode fd)) (on_handle (Shuts false 1 next))))
+
+abbrev pub do_open : Plan → Session → ℕ → ℕ → (ℕ → Tree) → Tree
+do_open plan session inode flags next =
+    open_inode inode (host_flags plan.config flags) (λ fd.
+    Asks (Changes change.DrawHandle) (on_drawn (λ handle. handled session inode fd handle (next handle))))
+
+-- an offset that is no `off_t`
+abbrev pub is_bad_offset : ℕ → Bool
+is_bad_offset offset = nat_lt (2 ^ 63 - 1) offset
+
+abbrev pub placed : ℕ → Tree → Tree
+placed offset next = if is_bad_offset offset then Gives (answer.Refused einval) else next
+
 abbrev pub answers_entry : Entry → Tree
 answers_entry entry = Gives (answer.Entry entry)
+
+abbrev pub answers_opened : Plan → ℕ → ℕ → Tree
+answers_opened plan flags handle = Gives (answer.Opened handle (open_options plan.config flags))
+
+abbrev pub answers_bytes : List ℕ → Tree
+answers_bytes bytes = Gives (answer.Read bytes)
+
+-- the session begins anew, and what was agreed on is said with its root
+abbrev pub init : Plan → FsOptions → Tree
+init plan capable =
+    Asks (Changes change.Clear) (on_cleared (λ era.
+    root_open plan (record { era = era; agreed = nothing_agreed }) (Some (agreed_with capable)) (Gives (answer.Inited (init_options plan.config)))))
+
+abbrev pub destroy : Tree
+destroy = Asks (Changes change.Clear) (on_cleared (λ era. Gives answer.NoReply))
 
 abbrev pub root : Plan → Tree
 root plan = begun (λ session. root_open plan session None (Gives answer.Done))
@@ -165,11 +232,58 @@ root plan = begun (λ session. root_open plan session None (Gives answer.Done))
 abbrev pub lookup : Plan → ℕ → List ℕ → Tree
 lookup plan parent name = begun (λ session. named name (look_up plan session parent name answers_entry))
 
+abbrev pub batch_forget : List (ℕ × ℕ) → Tree
+batch_forget list = begun (λ session. Asks (Changes (change.Forget list)) (on_done (Gives answer.NoReply)))
+
 abbrev pub forget : ℕ → ℕ → Tree
-forget inode count = begun (λ session. Asks (Changes (change.Forget ((inode, count) ∷ []))) (on_done (Gives answer.NoReply)))
+forget inode count = batch_forget ((inode, count) ∷ [])
+
+abbrev pub open_file : Plan → ℕ → ℕ → Tree
+open_file plan inode flags = begun (λ session. do_open plan session inode flags (answers_opened plan flags))
+
+abbrev pub open_dir : Plan → ℕ → ℕ → Tree
+open_dir plan inode flags = open_file plan inode (with_bits flags o_directory)
+
+abbrev pub release : ℕ → ℕ → Tree
+release inode handle = begun (λ session. Asks (Changes (change.Release handle inode)) (on_done (Gives answer.Done)))
+
+abbrev pub read_pinned : ℕ → ℕ → Fd → Tree
+read_pinned size offset fd = Asks (Calls (call.ReadAt fd offset size)) (on_bytes answers_bytes)
+
+abbrev pub read : ℕ → ℕ → ℕ → ℕ → Tree
+read inode handle size offset =
+    begun (λ session. placed offset (Asks (Changes (change.PinHandle handle inode)) (on_pinned (read_pinned size offset))))
+
+-- the function is not implemented, `ENOSYS`
+abbrev pub unheld : Tree
+unheld = begun (λ session. Gives (answer.Refused (errno_of 38)))
+
+-- The requests that are held today. Whether an opening clears set-id bits comes with a switch of its own.
+abbrev pub IsHeld : Request → Type 0
+IsHeld (request.Init capable) = Unit {0}
+IsHeld request.Destroy = Unit {0}
+IsHeld request.Root = Unit {0}
+IsHeld (request.Lookup parent name) = Unit {0}
+IsHeld (request.Forget inode count) = Unit {0}
+IsHeld (request.BatchForget list) = Unit {0}
+IsHeld (request.Open inode kill flags) = Unit {0}
+IsHeld (request.OpenDir inode flags) = Unit {0}
+IsHeld (request.Release inode handle) = Unit {0}
+IsHeld (request.ReleaseDir inode handle) = Unit {0}
+IsHeld (request.Read inode handle size offset) = Unit {0}
+IsHeld _ = ⊥
 
 -- what a request does, its frame aside
 abbrev pub tree_of : Plan → Request → Tree
+tree_of plan (request.Init capable) = init plan capable
+tree_of plan request.Destroy = destroy
 tree_of plan request.Root = root plan
 tree_of plan (request.Lookup parent name) = lookup plan parent name
 tree_of plan (request.Forget inode count) = forget inode count
+tree_of plan (request.BatchForget list) = batch_forget list
+tree_of plan (request.Open inode kill flags) = open_file plan inode flags
+tree_of plan (request.OpenDir inode flags) = open_dir plan inode flags
+tree_of plan (request.Release inode handle) = release inode handle
+tree_of plan (request.ReleaseDir inode handle) = release inode handle
+tree_of plan (request.Read inode handle size offset) = read inode handle size offset
+tree_of plan _ = unheld

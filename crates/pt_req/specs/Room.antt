@@ -9,10 +9,12 @@ use Rattle.pt_req.specs.declared.hold.Hold.{Hold}
 abbrev pub adds : Deed → ℕ
 adds (Calls (call.OpenRoot path flags)) = 1
 adds (Calls (call.OpenAt dir name flags mode)) = 1
+adds (Calls (call.Reopen fd flags)) = 1
 adds (Changes (change.Resolve number)) = 1
 adds (Changes change.TakeFd) = 1
 adds (Changes (change.Claim era handle ids)) = 1
 adds (Changes (change.Insert era number form ids mode)) = 1
+adds (Changes (change.PinHandle handle number)) = 1
 adds _ = 0
 
 -- a hold that passes is one

@@ -10,6 +10,8 @@ use std::marker::Model;
 pub enum Hold {
     /// A pin on a row, whose object is kept by this descriptor.
     Pin { row: u64, fd: Fd },
+    /// A pin on a handle's row, and the handle's descriptor.
+    HandlePin { row: u64, fd: Fd },
     /// A descriptor, and the ids that `Stat` told of it.
     Fd { fd: Fd, told: Option<ObjIds> },
     /// A slot, which goes with the descriptor that lies on it.

@@ -8,8 +8,11 @@ use crate::act::{ActReply, Want};
 use crate::finish::Finish;
 use crate::frame::Framed;
 use crate::plan::Plan;
-use crate::requests::{Forget, ForgetAt, Lookup, LookupAt, RequestBody, Root};
-use pt_host::{Errno, HostSeat};
+use crate::requests::{
+    Destroy, Forget, ForgetAt, Forgotten, Init, Lookup, LookupAt, Open, OpenAt, Read, Reading,
+    Release, ReleaseAt, RequestBody, Root, Unknown,
+};
+use pt_host::{Errno, HostSeat, OpenFlags};
 use pt_iface::{Context, Request};
 use std::alloc::Global;
 
@@ -26,6 +29,8 @@ fn body_of(request: Request) -> RequestBody
     ensures inserts { request_inserts result ≤ most_inserted }
 {
     match request {
+        Request::Init { capable } => RequestBody::Init(Init::Clear { capable }),
+        Request::Destroy => RequestBody::Destroy(Destroy),
         Request::Root => RequestBody::Root(Root::Begin),
         Request::Lookup { parent, name } => {
             let at = LookupAt::Begin { parent };
@@ -33,9 +38,44 @@ fn body_of(request: Request) -> RequestBody
         }
         Request::Forget { inode, count } => {
             let at = ForgetAt::Begin;
-            let list = [(inode, count)];
+            let list = Forgotten::One([(inode, count)]);
             RequestBody::Forget(Forget { list, at })
         }
+        Request::BatchForget { list } => {
+            let at = ForgetAt::Begin;
+            let list = Forgotten::Many(list);
+            RequestBody::Forget(Forget { list, at })
+        }
+        // Whether set-id bits are cleared is heeded by a switch that is not there yet.
+        Request::Open { inode, flags, .. } => {
+            let at = OpenAt::Begin { inode };
+            RequestBody::Open(Open { flags, at })
+        }
+        Request::OpenDir { inode, flags } => {
+            let at = OpenAt::Begin { inode };
+            let flags = flags | OpenFlags::O_DIRECTORY.0;
+            RequestBody::Open(Open { flags, at })
+        }
+        Request::Release { inode, handle } | Request::ReleaseDir { inode, handle } => {
+            let at = ReleaseAt::Begin;
+            RequestBody::Release(Release { inode, handle, at })
+        }
+        Request::Read {
+            inode,
+            handle,
+            size,
+            offset,
+        } => {
+            let at = Reading::Begin;
+            RequestBody::Read(Read {
+                inode,
+                handle,
+                size,
+                offset,
+                at,
+            })
+        }
+        _ => RequestBody::Unknown(Unknown),
     }
 }
 

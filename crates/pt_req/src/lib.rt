@@ -19,4 +19,4 @@ pub use finish::Finish;
 pub use hold::{Hold, Holds, Taken};
 pub use job::JobState;
 pub use laws::{calm, cut_says_no_more};
-pub use plan::{Config, Plan};
+pub use plan::{CachePolicy, Config, Plan};

@@ -5,6 +5,19 @@ use pt_host::Bytes;
 use pt_iface::{Refusal, Timeout};
 use std::alloc::Global;
 
+/// How the guest may cache files and directories, by virtiofsd's names.
+#[derive(Clone, Copy, Debug, PartialEq, Eq)]
+pub enum CachePolicy {
+    /// Nothing: files are read and written directly.
+    Never,
+    /// Entries and attributes and what directories hold, but no file's contents.
+    Metadata,
+    /// As the guest's kernel decides at each opening.
+    Auto,
+    /// All, also from one opening to the next.
+    Always,
+}
+
 /// What the file system is set up with, by virtiofsd's names. A switch comes with the requests that heed it.
 #[derive(Debug, Drop)]
 pub struct Config {
@@ -16,10 +29,19 @@ pub struct Config {
     pub root_dir: Bytes,
     /// How many of the host's descriptors may be open for the guest at once.
     pub guest_fd_limit: u64,
+    /// How the guest may cache what it opens.
+    pub cache_policy: CachePolicy,
+    /// Whether the guest may read a directory together with its entries' attributes.
+    pub readdirplus: bool,
+    /// Whether `O_DIRECT` of the guest is passed on to the host.
+    pub allow_direct_io: bool,
+    /// Whether `O_NOATIME` of the guest is left out: a host may refuse it to whom does not own the file.
+    pub clean_noatime: bool,
 }
 
 impl Config {
-    /// The defaults: timeouts of five seconds, the host's root, no limit of descriptors. Its one refusal is want of memory.
+    /// The defaults: timeouts of five seconds, the host's root, no limit of descriptors, cached as the guest decides, with attributes of whole
+    /// directories, and neither direct I/O nor `O_NOATIME` on the host. Its one refusal is want of memory.
     pub fn new(alloc: Global) -> Result<Config, Refusal>
         ensures ok { IfOk result IsDefault }
         ensures err { OnErr result (result ≡ Err Refusal.Memory) }
@@ -34,6 +56,10 @@ impl Config {
             attr_timeout: timeout,
             root_dir,
             guest_fd_limit: u64::MAX,
+            cache_policy: CachePolicy::Auto,
+            readdirplus: true,
+            allow_direct_io: false,
+            clean_noatime: true,
         })
     }
 }

@@ -1,9 +1,21 @@
 mod any;
+mod destroy;
 mod forget;
+mod init;
 mod lookup;
+mod open;
+mod read;
+mod release;
 mod root;
+mod unknown;
 
 pub use any::RequestBody;
-pub use forget::{Forget, ForgetAt};
+pub use destroy::Destroy;
+pub use forget::{Forget, ForgetAt, Forgotten};
+pub use init::Init;
 pub use lookup::{Lookup, LookupAt};
+pub use open::{Open, OpenAt};
+pub use read::{Read, Reading};
+pub use release::{Release, ReleaseAt};
 pub use root::Root;
+pub use unknown::Unknown;

@@ -1,6 +1,8 @@
-use crate::{ActReply, Config, Finish, JobState, Plan, Want, calm, cut_says_no_more};
+use crate::{ActReply, CachePolicy, Config, Finish, JobState, Plan, Want, calm, cut_says_no_more};
 use pt_host::{Bytes, Caps, Errno, Fd, HostReply, HostSeat, HostValue, ObjIds, Stat, Time};
-use pt_iface::{Answer, Attr, Context, Entry, Request, Timeout};
+use pt_iface::{
+    Answer, Attr, Context, Entry, ForgetList, FsOptions, OpenOptions, Request, Timeout,
+};
 use pt_session::{EventRefusal, EventReply, Negotiated, RowForm};
 use std::alloc::Global;
 use std::test::Fail;
@@ -273,5 +275,206 @@ fn a_forget_makes_its_closings(rt: HostRuntime) -> Result<(), Fail> {
     job.host(alloc, "Host(Close { fd: Fd(5) })", HostValue::Unit)?;
     job.event(alloc, "Event(GiveFd)", EventReply::Given)?;
     assert_eq!(&rt; job.finish()?, Finish::Answer(Answer::NoReply));
+    Ok(())
+}
+
+/// The steps of an opening up to its `InsertHandle`.
+fn opens(alloc: Global, job: &mut Played, reopen: &str) -> Result<(), Fail> {
+    job.event(alloc, "Event(Begin)", began())?;
+    job.event(alloc, "Event(Resolve { number: 2 })", resolved())?;
+    job.host(alloc, reopen, HostValue::Fd(Fd(5)))?;
+    job.event(alloc, "Event(DrawHandle)", EventReply::Drawn { number: 7 })?;
+    job.event(alloc, "Event(TakeFd)", EventReply::Taken)
+}
+
+const INSERT_HANDLE: &str = "Event(InsertHandle { era: 1, handle: 7, number: 2, fd: Fd(5) })";
+
+fn opened_handle() -> EventReply {
+    EventReply::Inserted { number: 7 }
+}
+
+fn none_to_close() -> EventReply {
+    EventReply::Done { closings: 0 }
+}
+
+#[test]
+fn a_session_begins_anew(rt: HostRuntime) -> Result<(), Fail> {
+    let alloc = rt.alloc();
+    let capable = FsOptions::CREATE_SUPP_GROUP;
+    let mut job = Played::start(alloc, Request::Init { capable })?;
+    let cleared = EventReply::Cleared {
+        era: 2,
+        closings: 0,
+    };
+    job.event(alloc, "Event(Clear)", cleared)?;
+    let open = "Host(OpenRoot { path: Bytes { items: [47] }, flags: OpenFlags(2752512) })";
+    job.host(alloc, open, HostValue::Fd(Fd(4)))?;
+    job.host(alloc, "Host(Stat { fd: Fd(4) })", HostValue::Stat(a_stat()))?;
+    job.event(alloc, "Event(TakeFd)", EventReply::Taken)?;
+    let insert =
+        "Event(InsertRoot { era: 2, form: File(Fd(4)), ids: ObjIds { ino: 2, dev: 1, mnt_id: 1 }, mode: 33188, negotiated: Some(Negotiated { writeback: false, announce_submounts: false, posix_acl: false, sup_group: true }) })";
+    job.event(alloc, insert, EventReply::Inserted { number: 1 })?;
+    assert_eq!(&rt; job.finish()?, Finish::Answer(Answer::Inited(FsOptions(3))));
+    Ok(())
+}
+
+#[test]
+fn a_session_ends_and_many_are_forgotten(rt: HostRuntime) -> Result<(), Fail> {
+    let alloc = rt.alloc();
+    let mut job = Played::start(alloc, Request::Destroy)?;
+    let cleared = EventReply::Cleared {
+        era: 2,
+        closings: 0,
+    };
+    job.event(alloc, "Event(Clear)", cleared)?;
+    assert_eq!(&rt; job.finish()?, Finish::Answer(Answer::NoReply));
+    let list = ForgetList::from_vec(vec![in alloc; (2, 1), (3, 1)]?);
+    let mut job = Played::start(alloc, Request::BatchForget { list })?;
+    job.event(alloc, "Event(Begin)", began())?;
+    let forget = "Event(Forget { list: ForgetList { pairs: [(2, 1), (3, 1)] } })";
+    job.event(alloc, forget, none_to_close())?;
+    assert_eq!(&rt; job.finish()?, Finish::Answer(Answer::NoReply));
+    Ok(())
+}
+
+#[test]
+fn an_opening_gets_a_handle(rt: HostRuntime) -> Result<(), Fail> {
+    let alloc = rt.alloc();
+    // O_RDWR | O_APPEND | O_DIRECT | O_NOFOLLOW | O_NOATIME
+    let open = Request::Open {
+        inode: 2,
+        kill: false,
+        flags: 0o1442002,
+    };
+    let mut job = Played::start(alloc, open)?;
+    opens(
+        alloc,
+        &mut job,
+        "Host(Reopen { fd: Fd(4), flags: OpenFlags(524290) })",
+    )?;
+    job.event(alloc, INSERT_HANDLE, opened_handle())?;
+    job.event(alloc, "Event(Unpin { row: 0 })", none_to_close())?;
+    assert_eq!(&rt;
+        job.finish()?,
+        Finish::Answer(Answer::Opened(7, OpenOptions(0)))
+    );
+    let open = Request::OpenDir { inode: 2, flags: 0 };
+    let mut job = Played::start(alloc, open)?;
+    job.plan.config.cache_policy = CachePolicy::Metadata;
+    opens(
+        alloc,
+        &mut job,
+        "Host(Reopen { fd: Fd(4), flags: OpenFlags(589824) })",
+    )?;
+    job.event(alloc, INSERT_HANDLE, opened_handle())?;
+    job.event(alloc, "Event(Unpin { row: 0 })", none_to_close())?;
+    assert_eq!(&rt;
+        job.finish()?,
+        Finish::Answer(Answer::Opened(7, OpenOptions(10)))
+    );
+    Ok(())
+}
+
+#[test]
+fn a_refused_opening_gives_all_back(rt: HostRuntime) -> Result<(), Fail> {
+    let alloc = rt.alloc();
+    let open = Request::Open {
+        inode: 2,
+        kill: false,
+        flags: 0,
+    };
+    let mut job = Played::start(alloc, open)?;
+    opens(
+        alloc,
+        &mut job,
+        "Host(Reopen { fd: Fd(4), flags: OpenFlags(524288) })",
+    )?;
+    let refused = EventReply::Refused(EventRefusal::Overtaken);
+    job.event(alloc, INSERT_HANDLE, refused)?;
+    job.gives_all_back(alloc)?;
+    assert_eq!(&rt;
+        job.finish()?,
+        Finish::Answer(Answer::Refused(Errno::EBADF))
+    );
+    let mut job = Played::start(alloc, Request::OpenDir { inode: 2, flags: 0 })?;
+    job.event(alloc, "Event(Begin)", began())?;
+    let fifo = EventReply::Resolved {
+        row: 0,
+        form: RowForm::File(Fd(4)),
+        ids: a_stat().ids,
+        mode: 0o10600,
+    };
+    job.event(alloc, "Event(Resolve { number: 2 })", fifo)?;
+    job.event(alloc, "Event(Unpin { row: 0 })", none_to_close())?;
+    assert_eq!(&rt;
+        job.finish()?,
+        Finish::Answer(Answer::Refused(Errno::EBADF))
+    );
+    Ok(())
+}
+
+#[test]
+fn a_handle_is_read_and_released(rt: HostRuntime) -> Result<(), Fail> {
+    let alloc = rt.alloc();
+    let read = Request::Read {
+        inode: 2,
+        handle: 7,
+        size: 2,
+        offset: 1,
+    };
+    let mut job = Played::start(alloc, read)?;
+    job.event(alloc, "Event(Begin)", began())?;
+    let pinned = EventReply::Pinned { row: 3, fd: Fd(5) };
+    let pin = "Event(PinHandle { handle: 7, number: 2 })";
+    job.event(alloc, pin, pinned)?;
+    let bytes = Bytes::from_slice(alloc, b"hi")?;
+    job.host(
+        alloc,
+        "Host(ReadAt { fd: Fd(5), offset: 1, size: 2 })",
+        HostValue::Bytes(bytes),
+    )?;
+    job.event(alloc, "Event(UnpinHandle { row: 3 })", none_to_close())?;
+    let bytes = Bytes::from_slice(alloc, b"hi")?;
+    assert_eq!(&rt; job.finish()?, Finish::Answer(Answer::Read(bytes)));
+    let release = Request::Release {
+        inode: 2,
+        handle: 7,
+    };
+    let mut job = Played::start(alloc, release)?;
+    job.event(alloc, "Event(Begin)", began())?;
+    let release = "Event(Release { handle: 7, number: 2 })";
+    job.event(alloc, release, EventReply::Done { closings: 1 })?;
+    let closing = EventReply::Closing {
+        fd: Fd(5),
+        slot: true,
+    };
+    job.event(alloc, "Event(TakeClosing)", closing)?;
+    job.host(alloc, "Host(Close { fd: Fd(5) })", HostValue::Unit)?;
+    job.event(alloc, "Event(GiveFd)", EventReply::Given)?;
+    assert_eq!(&rt; job.finish()?, Finish::Answer(Answer::Done));
+    Ok(())
+}
+
+#[test]
+fn what_is_not_implemented_is_refused(rt: HostRuntime) -> Result<(), Fail> {
+    let alloc = rt.alloc();
+    let mut job = Played::start(alloc, Request::Readlink { inode: 1 })?;
+    job.event(alloc, "Event(Begin)", began())?;
+    assert_eq!(&rt;
+        job.finish()?,
+        Finish::Answer(Answer::Refused(Errno::ENOSYS))
+    );
+    let read = Request::Read {
+        inode: 2,
+        handle: 7,
+        size: 2,
+        offset: u64::MAX,
+    };
+    let mut job = Played::start(alloc, read)?;
+    job.event(alloc, "Event(Begin)", began())?;
+    assert_eq!(&rt;
+        job.finish()?,
+        Finish::Answer(Answer::Refused(Errno::EINVAL))
+    );
     Ok(())
 }

@@ -2,7 +2,11 @@ pub mod Lists
 pub mod Orders
 pub mod Indexing
 pub mod Entries
+pub mod Seen
 pub mod Stores
+pub mod HandleStores
+pub mod Dying
+pub mod Slots
 pub mod Forgetting
 pub mod Effects
 pub mod Replies

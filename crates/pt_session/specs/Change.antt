@@ -21,6 +21,12 @@ change_of (borrowed.Insert era number form ids mode) = change.Insert era number 
 change_of (borrowed.InsertRoot era form ids mode negotiated) = change.InsertRoot era form.now ids mode negotiated
 change_of (borrowed.Forget list) = change.Forget list.now
 change_of (borrowed.GiveBack era number) = change.GiveBack era number
+change_of borrowed.DrawHandle = change.DrawHandle
+change_of (borrowed.InsertHandle era handle number fd) = change.InsertHandle era handle number fd
+change_of (borrowed.PinHandle handle number) = change.PinHandle handle number
+change_of (borrowed.UnpinHandle row) = change.UnpinHandle row
+change_of (borrowed.Release handle number) = change.Release handle number
+change_of borrowed.Clear = change.Clear
 change_of borrowed.TakeClosing = change.TakeClosing
 
 -- it has a list to copy

@@ -3,7 +3,8 @@ use Rattle.std.specs.Prelude.{◌≡◌, ◌≢◌, ◌<◌, ◌≤◌, ◌⊎�
 use Rattle.pt_host.specs.Words.{Each, Takes, Replaces}
 use Rattle.pt_host.specs.declared.ids.ObjIds.{ObjIds}
 use Rattle.pt_session.specs.Change.{Change}
-use Rattle.pt_session.specs.Tables.{Row, Closing, Tables, closing_of, HasNumber, HasIds}
+use Rattle.pt_host.specs.declared.ids.Fd.{Fd}
+use Rattle.pt_session.specs.Tables.{Row, HandleRow, Closing, Tables, closing_of, closing_of_handle, nothing_agreed, HasNumber, HasIds, HasHandle, IsHandle}
 use Rattle.pt_session.specs.declared.form.RowForm.{RowForm}
 use Rattle.pt_session.specs.declared.form.Negotiated.{Negotiated}
 use Rattle.pt_session.specs.declared.event.KeptEvent.TheVariants as change
@@ -57,6 +58,70 @@ Unpins tables serial closings after =
     (row : Row) × (pins : ℕ) × (row.serial ≡ serial) × (row.pins ≡ suc pins)
     × (((row.live ≡ false) × (pins ≡ 0) × (closings ≡ 1) × Ends tables row after)
     ⊎ (((row.live ≡ true) ⊎ (pins ≢ 0)) × (closings ≡ 0) × Changes tables row (record row { pins = pins }) after))
+
+-- one of the handles' rows
+abbrev pub IsHandleRow : Tables → HandleRow → Type 0
+IsHandleRow tables row = (others : List HandleRow) × Takes row tables.handles others
+
+-- no handle's row is such
+abbrev pub NoHandle : Tables → (HandleRow → Type 0) → Type 0
+NoHandle tables P = Each (λ row. P row → ⊥) tables.handles
+
+-- one handle's row changes
+abbrev pub ChangesHandle : Tables → HandleRow → HandleRow → Tables → Type 0
+ChangesHandle tables row changed after =
+    (handles : List HandleRow) × Replaces row changed tables.handles handles × (after ≡ record tables { handles = handles })
+
+-- a handle's row ends, and its descriptor is to be closed
+abbrev pub EndsHandle : Tables → HandleRow → Tables → Type 0
+EndsHandle tables row after = (handles : List HandleRow) × Takes row tables.handles handles
+    × (after ≡ record tables { handles = handles; closing = tables.closing ++ closing_of_handle row ∷ [] })
+
+-- a live handle dies: with a pin its row stays, without one it ends
+abbrev pub HandleDies : Tables → HandleRow → ℕ → Tables → Type 0
+HandleDies tables row closings after =
+    ((row.pins ≡ 0) × (closings ≡ 1) × EndsHandle tables row after)
+    ⊎ ((row.pins ≢ 0) × (closings ≡ 0) × ChangesHandle tables row (record row { live = false }) after)
+
+-- a handle's pin is given back: the last one of a row that is not live ends it
+abbrev pub UnpinsHandle : Tables → ℕ → ℕ → Tables → Type 0
+UnpinsHandle tables serial closings after =
+    (row : HandleRow) × (pins : ℕ) × (row.serial ≡ serial) × (row.pins ≡ suc pins)
+    × (((row.live ≡ false) × (pins ≡ 0) × (closings ≡ 1) × EndsHandle tables row after)
+    ⊎ (((row.live ≡ true) ⊎ (pins ≢ 0)) × (closings ≡ 0) × ChangesHandle tables row (record row { pins = pins }) after))
+
+-- the live numbers die, the least first
+pub data NumbersDie : Tables → ℕ → Tables → Type 0 where
+  none : {tables : Tables} → NoRow tables (λ row. row.live ≡ true) → NumbersDie tables 0 tables
+  next : {tables mid after : Tables} {one more : ℕ} (row : Row) → row.live ≡ true →
+      Each (λ other. other.live ≡ true → row.number ≤ other.number) tables.rows → Dies tables row one mid → NumbersDie mid more after →
+      NumbersDie tables (one + more) after
+
+-- the live handles die, the least first
+pub data HandlesDie : Tables → ℕ → Tables → Type 0 where
+  none : {tables : Tables} → NoHandle tables (λ row. row.live ≡ true) → HandlesDie tables 0 tables
+  next : {tables mid after : Tables} {one more : ℕ} (row : HandleRow) → row.live ≡ true →
+      Each (λ other. other.live ≡ true → row.handle ≤ other.handle) tables.handles → HandleDies tables row one mid → HandlesDie mid more after →
+      HandlesDie tables (one + more) after
+
+-- the session begins anew: numbers die, then handles; what was agreed on is off, and counters and slots stay
+abbrev pub Clears : Tables → ℕ → ℕ → Tables → Type 0
+Clears tables era closings after =
+    (mid : Tables) × (last : Tables) × (numbers : ℕ) × (handles : ℕ) × NumbersDie tables numbers mid × HandlesDie mid handles last
+    × (closings ≡ numbers + handles) × (era ≡ tables.era + 1) × (after ≡ record last { era = era; negotiated = nothing_agreed })
+
+abbrev pub new_handle : Tables → ℕ → ℕ → Fd → HandleRow
+new_handle tables handle number fd = record {
+  serial = tables.next_row;
+  handle = handle;
+  number = number;
+  fd = fd;
+  pins = 0;
+  live = true;
+}
+
+abbrev pub with_handle : Tables → HandleRow → Tables
+with_handle tables row = record tables { next_row = tables.next_row + 1; handles = row ∷ tables.handles }
 
 abbrev pub new_row : Tables → ℕ → RowForm → ObjIds → ℕ → ℕ → Row
 new_row tables number form ids mode count = record {
@@ -137,6 +202,33 @@ Happens tables (change.GiveBack era number) (reply.Done closings) after =
     (era ≡ tables.era) × ((row : Row) × IsRow tables row × HasNumber number row) × ForgetsOne tables number 1 closings after
 Happens tables (change.GiveBack era number) (reply.Refused Overtaken) after = (era ≢ tables.era) × (after ≡ tables)
 Happens tables (change.GiveBack era number) (reply.Refused NotLive) after = (era ≡ tables.era) × NoRow tables (HasNumber number) × (after ≡ tables)
+Happens tables change.DrawHandle (reply.Drawn handle) after =
+    (handle ≡ tables.next_handle) × (tables.next_handle < last_u64) × (after ≡ record tables { next_handle = tables.next_handle + 1 })
+Happens tables change.DrawHandle (reply.Refused Last) after = (last_u64 ≤ tables.next_handle) × (after ≡ tables)
+Happens tables (change.InsertHandle era handle number fd) (reply.Inserted given) after =
+    (era ≡ tables.era) × NoHandle tables (HasHandle handle) × (tables.next_row < last_u64) × (given ≡ handle)
+    × (after ≡ with_handle tables (new_handle tables handle number fd))
+Happens tables (change.InsertHandle era handle number fd) (reply.Refused Overtaken) after = (era ≢ tables.era) × (after ≡ tables)
+Happens tables (change.InsertHandle era handle number fd) (reply.Refused Live) after =
+    (era ≡ tables.era) × ((row : HandleRow) × IsHandleRow tables row × HasHandle handle row) × (after ≡ tables)
+Happens tables (change.InsertHandle era handle number fd) (reply.Refused Last) after =
+    (era ≡ tables.era) × NoHandle tables (HasHandle handle) × (last_u64 ≤ tables.next_row) × (after ≡ tables)
+Happens tables (change.InsertHandle era handle number fd) (reply.Refused Memory) after =
+    (era ≡ tables.era) × NoHandle tables (HasHandle handle) × (tables.next_row < last_u64) × (after ≡ tables)
+Happens tables (change.PinHandle handle number) (reply.Pinned serial fd) after =
+    (row : HandleRow) × IsHandle handle number row × (row.serial ≡ serial) × (row.fd ≡ fd)
+    × (row.pins < last_u64) × ChangesHandle tables row (record row { pins = row.pins + 1 }) after
+Happens tables (change.PinHandle handle number) (reply.Refused NotLive) after = NoHandle tables (IsHandle handle number) × (after ≡ tables)
+Happens tables (change.PinHandle handle number) (reply.Refused Last) after =
+    (row : HandleRow) × IsHandleRow tables row × IsHandle handle number row × (row.pins ≡ last_u64) × (after ≡ tables)
+Happens tables (change.UnpinHandle serial) (reply.Done closings) after = UnpinsHandle tables serial closings after
+Happens tables (change.UnpinHandle serial) (reply.Refused NotLive) after =
+    NoHandle tables (λ row. (row.serial ≡ serial) × (row.pins ≢ 0)) × (after ≡ tables)
+Happens tables (change.Release handle number) (reply.Done closings) after =
+    (row : HandleRow) × IsHandle handle number row × HandleDies tables row closings after
+Happens tables (change.Release handle number) (reply.Refused NotLive) after = NoHandle tables (IsHandle handle number) × (after ≡ tables)
+Happens tables change.Clear (reply.Cleared era closings) after = (tables.era < last_u64) × Clears tables era closings after
+Happens tables change.Clear (reply.Refused Last) after = (last_u64 ≤ tables.era) × (after ≡ tables)
 Happens tables change.TakeClosing (reply.Closing fd slot) after =
     (closing : List Closing) × (tables.closing ≡ record { fd = fd; slot = slot } ∷ closing) × (after ≡ record tables { closing = closing })
 Happens tables change.TakeClosing (reply.Refused NotLive) after = (tables.closing ≡ []) × (after ≡ tables)

@@ -1,4 +1,4 @@
--- The rows by serial, and where a number or an object has its row.
+-- The rows by serial, and where a number, an object or a handle has its row.
 use Rattle.std.specs.Prelude.{◌≡◌, ◌≢◌, ◌⊎◌, ◌≤◌, ◌+◌, ℕ, Bool, true, false, List, Option, Some, None, length}
 use Rattle.std.specs.declared.cmp.Ordering.{Ordering}
 use Rattle.std.specs.Ordering.{nat_cmp, ordering_then}
@@ -6,7 +6,7 @@ use Rattle.std.specs.Map.{lookup, values_of}
 use Rattle.std.specs.BTreeMap.{BTreeMap, is_at, get}
 use Rattle.pt_host.specs.Words.{Each, EachTwo}
 use Rattle.pt_host.specs.declared.ids.ObjIds.{ObjIds}
-use Rattle.pt_session.specs.Tables.{Row, Closing}
+use Rattle.pt_session.specs.Tables.{Row, HandleRow}
 use Rattle.pt_session.specs.Store.{IsOlder}
 use Rattle.pt_session.specs.LiveAfter.{IsAbove}
 
@@ -32,8 +32,29 @@ by_number numbers = get nat_cmp numbers
 abbrev pub by_object : BTreeMap ObjectKey ℕ → ObjectKey → Option ℕ
 by_object objects = get object_cmp objects
 
+abbrev pub serial_of_row : Row → ℕ
+serial_of_row row = row.serial
+
+abbrev pub is_live_row : Row → Bool
+is_live_row row = row.live
+
+abbrev pub number_of_row : Row → ℕ
+number_of_row row = row.number
+
+abbrev pub object_of_row : Row → ObjectKey
+object_of_row row = key_of row.ids
+
+abbrev pub serial_of_handle : HandleRow → ℕ
+serial_of_handle row = row.serial
+
+abbrev pub is_live_handle : HandleRow → Bool
+is_live_handle row = row.live
+
+abbrev pub handle_of_row : HandleRow → ℕ
+handle_of_row row = row.handle
+
 -- the row of this serial
-abbrev pub row_at : List (ℕ × Row) → ℕ → Option Row
+abbrev pub row_at : {R : Type 0} → List (ℕ × R) → ℕ → Option R
 row_at entries serial = lookup (is_at (nat_cmp serial)) entries
 
 -- the same but for one key, which has this now
@@ -50,17 +71,27 @@ Leaves true key old new = Puts key None old new
 Leaves false key old new = SameAt old new
 
 -- an index of the live rows: a key leads to the serial of the row that has it
-pub record Indexes {K : Type 0} (key : Row → K) (rows : ℕ → Option Row) (index : K → Option ℕ) : Type 0 where
-  pub sound : (k : K) (serial : ℕ) → index k ≡ Some serial → (row : Row) × (rows serial ≡ Some row) × (row.live ≡ true) × (key row ≡ k)
-  pub whole : (serial : ℕ) (row : Row) → rows serial ≡ Some row → row.live ≡ true → index (key row) ≡ Some serial
+pub record Indexes {R K : Type 0} (is_live : R → Bool) (key : R → K) (rows : ℕ → Option R) (index : K → Option ℕ) : Type 0 where
+  pub sound : (k : K) (serial : ℕ) → index k ≡ Some serial → (row : R) × (rows serial ≡ Some row) × (is_live row ≡ true) × (key row ≡ k)
+  pub whole : (serial : ℕ) (row : R) → rows serial ≡ Some row → is_live row ≡ true → index (key row) ≡ Some serial
 
--- Each row can still be put on the closing list without memory, stands under its serial, and is found by what it stands for.
-pub record IsSoundStore (entries : List (ℕ × Row)) (number_index : ℕ → Option ℕ) (object_index : ObjectKey → Option ℕ) (closing : List Closing) (capacity : ℕ) : Type 0 where
-  pub room : length entries + length closing ≤ capacity
-  pub keyed : Each (λ entry. entry.1.serial ≡ entry.0) entries
-  pub ordered : EachTwo IsOlder (values_of entries)
-  pub numbers : Indexes (λ row. row.number) (row_at entries) number_index
-  pub objects : Indexes (λ row. key_of row.ids) (row_at entries) object_index
+-- each row stands under its serial
+abbrev pub IsKeyed : {R : Type 0} → (R → ℕ) → List (ℕ × R) → Type 0
+IsKeyed serial_of entries = Each (λ entry. serial_of entry.1 ≡ entry.0) entries
+
+-- Each row can still be put on the closing list without memory, where others have their room, stands under its serial, and is found by what it stands for.
+pub record IsSoundStore (entries : List (ℕ × Row)) (number_index : ℕ → Option ℕ) (object_index : ObjectKey → Option ℕ) (others : ℕ) (capacity : ℕ) : Type 0 where
+  pub room : length entries + others ≤ capacity
+  pub keyed : IsKeyed serial_of_row entries
+  pub ordered : EachTwo (IsOlder serial_of_row) (values_of entries)
+  pub numbers : Indexes is_live_row number_of_row (row_at entries) number_index
+  pub objects : Indexes is_live_row object_of_row (row_at entries) object_index
+
+-- each handle's row stands under its serial, and is found by its handle
+pub record IsSoundHandles (entries : List (ℕ × HandleRow)) (handle_index : ℕ → Option ℕ) : Type 0 where
+  pub keyed : IsKeyed serial_of_handle entries
+  pub ordered : EachTwo (IsOlder serial_of_handle) (values_of entries)
+  pub handles : Indexes is_live_handle handle_of_row (row_at entries) handle_index
 
 -- the least key above, with what it has, or none where nothing is above
 abbrev pub IsNextIn : (ℕ → Option ℕ) → Option ℕ → Option (ℕ × ℕ) → Type 0

@@ -14,11 +14,13 @@ abbrev pub tables_of : SessionTables → Tables
 tables_of it = record {
   era = it.era;
   next_number = it.next_number;
+  next_handle = it.next_handle;
   next_row = it.next_row;
   slots = it.slots;
   limit = it.limit;
   negotiated = it.negotiated;
   rows = it.store.rows;
+  handles = it.store.handles;
   closing = it.store.closing;
 }
 

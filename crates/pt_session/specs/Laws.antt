@@ -1,14 +1,15 @@
 -- What holds of every event, whatever it is.
-use Rattle.std.specs.Prelude.{◌≡◌, ◌≤◌, ◌+◌, ℕ}
+use Rattle.std.specs.Prelude.{◌≡◌, ◌≤◌, ◌+◌, ℕ, true}
 use Rattle.pt_session.specs.Change.{Change}
-use Rattle.pt_session.specs.Tables.{Tables, Agree, empty_tables}
-use Rattle.pt_session.specs.Happens.{Happens}
+use Rattle.pt_session.specs.Tables.{Tables, Agree, nothing_agreed, empty_tables}
+use Rattle.pt_session.specs.Happens.{Happens, NoRow, NoHandle}
 use Rattle.pt_session.specs.Effect.{Effects}
 use Rattle.pt_session.specs.Answers.{IsReplyFor}
 use Rattle.pt_session.specs.Pending.{pending_in, put_by, added_by}
+use Rattle.pt_session.specs.declared.event.KeptEvent.TheVariants.{Clear}
 use Rattle.pt_session.specs.declared.reply.EventRefusal.{EventRefusal}
 use Rattle.pt_session.specs.declared.reply.EventReply.{EventReply}
-use Rattle.pt_session.specs.declared.reply.EventReply.TheVariants.{Refused}
+use Rattle.pt_session.specs.declared.reply.EventReply.TheVariants.{Refused, Cleared}
 
 -- it holds of each event that happens
 abbrev pub OfEachEvent : (Tables → Change → EventReply → Tables → Type 0) → Type 0
@@ -37,3 +38,19 @@ ClosingsArePaid = OfEachEvent (λ tables asked told after. pending_in after + pu
 -- an event is some of the few kinds of steps
 abbrev pub EventsHaveEffects : Type 0
 EventsHaveEffects = OfEachEvent (λ tables asked told after. Effects tables after)
+
+-- a clearing leaves no number and no handle live and nothing agreed on; the era is the next one, and counters and slots are as they were
+pub record IsCleared (tables after : Tables) (era : ℕ) : Type 0 where
+  pub numbers : NoRow after (λ row. row.live ≡ true)
+  pub handles : NoHandle after (λ row. row.live ≡ true)
+  pub told : era ≡ tables.era + 1
+  pub begun : after.era ≡ tables.era + 1
+  pub agreed_on : after.negotiated ≡ nothing_agreed
+  pub next_number : after.next_number ≡ tables.next_number
+  pub next_handle : after.next_handle ≡ tables.next_handle
+  pub next_row : after.next_row ≡ tables.next_row
+  pub slots : after.slots ≡ tables.slots
+  pub limit : after.limit ≡ tables.limit
+
+abbrev pub ClearingsClear : Type 0
+ClearingsClear = (tables after : Tables) (era closings : ℕ) → Happens tables Clear (Cleared era closings) after → IsCleared tables after era

@@ -3,7 +3,7 @@ ghost use Rattle.std.specs.Option.{option_copied};
 ghost use Rattle.pt_session.specs.Change.{change_of, HoldsList};
 
 use crate::form::{Negotiated, RowForm};
-use pt_host::{FileHandle, ObjIds};
+use pt_host::{Fd, FileHandle, ObjIds};
 use std::alloc::{AllocError, Global};
 use std::marker::Model;
 
@@ -81,6 +81,29 @@ pub enum Event<'a> {
         era: u64,
         number: u64,
     },
+    /// Draws a handle that was never given.
+    DrawHandle,
+    InsertHandle {
+        era: u64,
+        handle: u64,
+        number: u64,
+        fd: Fd,
+    },
+    /// Pins the row of a live handle of this number.
+    PinHandle {
+        handle: u64,
+        number: u64,
+    },
+    UnpinHandle {
+        row: u64,
+    },
+    /// Ends a handle of this number.
+    Release {
+        handle: u64,
+        number: u64,
+    },
+    /// Begins the session anew: no number and no handle stays live.
+    Clear,
     /// Takes the first descriptor that is to be closed.
     TakeClosing,
 }
@@ -124,6 +147,25 @@ pub enum KeptEvent {
         era: u64,
         number: u64,
     },
+    DrawHandle,
+    InsertHandle {
+        era: u64,
+        handle: u64,
+        number: u64,
+        fd: Fd,
+    },
+    PinHandle {
+        handle: u64,
+        number: u64,
+    },
+    UnpinHandle {
+        row: u64,
+    },
+    Release {
+        handle: u64,
+        number: u64,
+    },
+    Clear,
     TakeClosing,
 }
 
@@ -191,6 +233,22 @@ impl<'a> Event<'a> {
                 Ok(KeptEvent::Forget { list })
             }
             Event::GiveBack { era, number } => Ok(KeptEvent::GiveBack { era, number }),
+            Event::DrawHandle => Ok(KeptEvent::DrawHandle),
+            Event::InsertHandle {
+                era,
+                handle,
+                number,
+                fd,
+            } => Ok(KeptEvent::InsertHandle {
+                era,
+                handle,
+                number,
+                fd,
+            }),
+            Event::PinHandle { handle, number } => Ok(KeptEvent::PinHandle { handle, number }),
+            Event::UnpinHandle { row } => Ok(KeptEvent::UnpinHandle { row }),
+            Event::Release { handle, number } => Ok(KeptEvent::Release { handle, number }),
+            Event::Clear => Ok(KeptEvent::Clear),
             Event::TakeClosing => Ok(KeptEvent::TakeClosing),
         }
     }
@@ -246,6 +304,28 @@ impl KeptEvent {
                 era: *era,
                 number: *number,
             },
+            KeptEvent::DrawHandle => Event::DrawHandle,
+            KeptEvent::InsertHandle {
+                era,
+                handle,
+                number,
+                fd,
+            } => Event::InsertHandle {
+                era: *era,
+                handle: *handle,
+                number: *number,
+                fd: *fd,
+            },
+            KeptEvent::PinHandle { handle, number } => Event::PinHandle {
+                handle: *handle,
+                number: *number,
+            },
+            KeptEvent::UnpinHandle { row } => Event::UnpinHandle { row: *row },
+            KeptEvent::Release { handle, number } => Event::Release {
+                handle: *handle,
+                number: *number,
+            },
+            KeptEvent::Clear => Event::Clear,
             KeptEvent::TakeClosing => Event::TakeClosing,
         }
     }

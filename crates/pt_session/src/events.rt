@@ -59,6 +59,17 @@ impl SessionTables {
             }
             Event::Forget { list } => self.forget(list),
             Event::GiveBack { era, number } => self.give_back(era, number),
+            Event::DrawHandle => self.draw_handle(),
+            Event::InsertHandle {
+                era,
+                handle,
+                number,
+                fd,
+            } => self.insert_handle(era, handle, number, fd),
+            Event::PinHandle { handle, number } => self.pin_handle(handle, number),
+            Event::UnpinHandle { row } => self.unpin_handle(row),
+            Event::Release { handle, number } => self.release(handle, number),
+            Event::Clear => self.clear(),
             Event::TakeClosing => self.take_closing(),
         }
     }

@@ -1,5 +1,5 @@
 //! What holds of every event of the case table, as functions that do nothing.
-ghost use Rattle.pt_session.specs.Laws.{EventsKeepAgreement, NewTablesAgree, RefusalsChangeNothing, EventsAreAnswered, ClosingsArePaid, EventsHaveEffects};
+ghost use Rattle.pt_session.specs.Laws.{EventsKeepAgreement, NewTablesAgree, RefusalsChangeNothing, EventsAreAnswered, ClosingsArePaid, EventsHaveEffects, ClearingsClear};
 
 /// An event leads from tables that agree to tables that agree, and new ones do.
 pub fn events_keep_agreement()
@@ -22,4 +22,9 @@ pub fn closings_are_paid()
 
 pub fn events_have_effects()
     ensures { EventsHaveEffects }
+{}
+
+/// After a clearing no number and no handle is live, and counters and slots are as they were.
+pub fn clearings_clear()
+    ensures { ClearingsClear }
 {}

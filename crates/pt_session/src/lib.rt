@@ -1,10 +1,13 @@
 //! The session's tables, and the events that change them one at a time.
 #![tactic(auto)]
 
+mod clearing;
 mod event;
 mod events;
 mod form;
 mod giving;
+mod handles;
+mod handling;
 mod index;
 mod laws;
 mod reply;
@@ -19,9 +22,9 @@ mod tests;
 pub use event::{Event, ForgetList, KeptEvent};
 pub use form::{Negotiated, RowForm};
 pub use laws::{
-    closings_are_paid, events_are_answered, events_have_effects, events_keep_agreement,
-    refusals_change_nothing,
+    clearings_clear, closings_are_paid, events_are_answered, events_have_effects,
+    events_keep_agreement, refusals_change_nothing,
 };
 pub use reply::{EventRefusal, EventReply};
-pub use row::{Closing, Row};
+pub use row::{Closing, HandleRow, Row};
 pub use session::Session;

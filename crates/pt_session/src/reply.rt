@@ -57,6 +57,16 @@ pub enum EventReply {
         fd: Fd,
         slot: bool,
     },
+    /// A handle's row and its descriptor.
+    Pinned {
+        row: u64,
+        fd: Fd,
+    },
+    /// The session's new era, and how many descriptors were put on the closing list.
+    Cleared {
+        era: u64,
+        closings: u64,
+    },
     Refused(EventRefusal),
 }
 
@@ -94,6 +104,11 @@ impl EventReply {
             EventReply::Closing { fd, slot } => EventReply::Closing {
                 fd: *fd,
                 slot: *slot,
+            },
+            EventReply::Pinned { row, fd } => EventReply::Pinned { row: *row, fd: *fd },
+            EventReply::Cleared { era, closings } => EventReply::Cleared {
+                era: *era,
+                closings: *closings,
             },
             EventReply::Refused(refusal) => EventReply::Refused(*refusal),
         }

@@ -1,5 +1,5 @@
 ghost use Rattle.std.specs.Prelude.{◌≡◌, false};
-ghost use Rattle.pt_session.specs.Tables.{closing_of};
+ghost use Rattle.pt_session.specs.Tables.{closing_of, closing_of_handle};
 
 use crate::form::RowForm;
 use pt_host::{Fd, ObjIds};
@@ -13,6 +13,17 @@ pub struct Row {
     pub ids: ObjIds,
     pub mode: u32,
     pub count: u64,
+    pub pins: u64,
+    pub live: bool,
+}
+
+/// A handle's row, with the number that it was opened for. It is not live once it was released, and stays until its last pin is given back.
+#[derive(Clone, Copy, Debug, PartialEq, Eq)]
+pub struct HandleRow {
+    pub serial: u64,
+    pub handle: u64,
+    pub number: u64,
+    pub fd: Fd,
     pub pins: u64,
     pub live: bool,
 }
@@ -73,6 +84,34 @@ impl Row {
     {
         match self.form {
             RowForm::File(fd) => Closing { fd, slot: true },
+        }
+    }
+}
+
+impl HandleRow {
+    pub fn with_pins(&self, pins: u64) -> HandleRow
+        ensures { result ≡ record self.now { pins = pins } }
+    {
+        HandleRow { pins, ..*self }
+    }
+
+    /// The row as it stays for its pins once the handle was released.
+    pub fn dead(&self) -> HandleRow
+        ensures { result ≡ record self.now { live = false } }
+    {
+        HandleRow {
+            live: false,
+            ..*self
+        }
+    }
+
+    /// What is to be closed when the row ends.
+    pub fn closing(&self) -> Closing
+        ensures { result ≡ closing_of_handle self.now }
+    {
+        Closing {
+            fd: self.fd,
+            slot: true,
         }
     }
 }

@@ -1,8 +1,9 @@
-ghost use Rattle.std.specs.Prelude.{◌≡◌};
+ghost use Rattle.std.specs.Prelude.{◌≡◌, ◌↔◌, IsTrue};
 ghost use Rattle.pt_session.specs.Change.{change_of};
 ghost use Rattle.pt_session.specs.Tables.{Agree, empty_tables};
 ghost use Rattle.pt_session.specs.Happens.{Happens};
-ghost use Rattle.pt_session.specs.LiveAfter.{IsLiveAfter};
+ghost use Rattle.pt_session.specs.LiveAfter.{IsLiveAfter, IsHandleAfter};
+ghost use Rattle.pt_session.specs.Pending.{all_pending, AddsUp};
 
 use crate::event::Event;
 use crate::reply::EventReply;
@@ -58,5 +59,26 @@ impl Session {
         ensures { IsLiveAfter self.now.rows above result }
     {
         self.tables.store.live_after(above)
+    }
+
+    /// The least live handle above the given one, or the least of all, with its number.
+    pub fn handle_after(&self, above: Option<u64>) -> Option<(u64, u64)>
+        ensures { IsHandleAfter self.now.handles above result }
+    {
+        self.tables.store.handle_after(above)
+    }
+
+    /// How many rows and closing entries there are.
+    pub fn pending(&self) -> u64
+        ensures { result ≡ all_pending self.now }
+    {
+        self.tables.store.pending() as u64
+    }
+
+    /// Whether the slots that are left and those of rows and closing entries add up to the limit.
+    pub fn adds_up(&self) -> bool
+        ensures { IsTrue result ↔ AddsUp self.now }
+    {
+        self.tables.adds_up()
     }
 }

@@ -1,15 +1,18 @@
-ghost use Rattle.std.specs.Prelude.{◌≡◌, ◌<◌, ◌++◌, ◌∷◌, [], true, Some, MatchOption, OnOk, OnErr, IsSome};
+ghost use Rattle.std.specs.Prelude.{◌≡◌, ◌<◌, ◌≤◌, ◌+◌, length, ◌++◌, ◌∷◌, [], true, Some, MatchOption, OnOk, OnErr, IsSome};
 ghost use Rattle.std.specs.Ordering.{nat_cmp};
 ghost use Rattle.std.specs.Map.{set_value};
 ghost use Rattle.std.specs.BTreeMap.{is_at};
+ghost use Rattle.std.specs.VecDeque.{deque_capacity};
 ghost use Rattle.pt_host.specs.Words.{Each, Takes, Replaces};
-ghost use Rattle.pt_session.specs.Tables.{closing_of, HasNumber, HasIds};
-ghost use Rattle.pt_session.specs.Store.{IsAmong, NoneOf, IsPinned, IsLater, dead_row};
+ghost use Rattle.pt_session.specs.Tables.{closing_of, closing_of_handle, HasNumber, HasIds, HasHandle, IsHandle};
+ghost use Rattle.pt_session.specs.Store.{IsAmong, NoneOf, IsPinned, IsPinnedHandle, IsLater, IsLaterHandle, dead_row, dead_handle};
 ghost use Rattle.pt_session.specs.Index.{row_at, Puts};
-ghost use Rattle.pt_session.specs.LiveAfter.{IsLiveAfter};
+ghost use Rattle.pt_session.specs.Pending.{row_slots, closing_slots};
+ghost use Rattle.pt_session.specs.LiveAfter.{IsLiveAfter, IsHandleAfter, IsLeast, IsLeastHandle};
 
+use crate::handles::HandleStore;
 use crate::index::{Numbers, Objects, enter, leave, next_number, object_key};
-use crate::row::{Closing, Row};
+use crate::row::{Closing, HandleRow, Row};
 use pt_host::ObjIds;
 use std::alloc::{AllocError, Global};
 use std::collections::{BTreeMap, VecDeque};
@@ -24,12 +27,13 @@ pub struct RowStore {
     rows: Rows,
     numbers: Numbers,
     objects: Objects,
+    handles: HandleStore,
     /// Has room for the descriptor of each row.
     closing: VecDeque<Closing>,
 }
 
 impl Model for RowStore {
-    ghost use Rattle.std.specs.Prelude.{reverse};
+    ghost use Rattle.std.specs.Prelude.{◌+◌, length, reverse};
     ghost use Rattle.std.specs.Map.{values_of};
     ghost use Rattle.std.specs.VecDeque.{deque_capacity};
     ghost use Rattle.pt_session.specs.Store.{Stored};
@@ -39,10 +43,11 @@ impl Model for RowStore {
 
     ghost view = { λ store. record {
       rows = reverse (values_of store.rows.entries);
+      handles = store.handles;
       closing = store.closing.items;
     } };
 
-    ghost invariant = { λ store. IsSoundStore store.rows.entries (by_number store.numbers) (by_object store.objects) store.closing.items (deque_capacity store.closing) };
+    ghost invariant = { λ store. IsSoundStore store.rows.entries (by_number store.numbers) (by_object store.objects) (length store.handles + length store.closing.items) (deque_capacity store.closing) };
 }
 
 fn row_of(rows: &Rows, serial: u64) -> Option<Row>
@@ -65,15 +70,35 @@ fn put(rows: &mut Rows, serial: u64, now: Row)
     }
 }
 
+/// Gets room on the closing list for one more row than there are, and for all of those.
+fn reserve(closing: &mut VecDeque<Closing>, rows: usize, handles: usize) -> Result<(), AllocError>
+    requires { rows + handles + length closing.old.items ≤ deque_capacity closing.old }
+    ensures items { closing.new.items ≡ closing.old.items }
+    ensures kept { deque_capacity closing.old ≤ deque_capacity closing.new }
+    ensures room { OnOk result (rows + 1 + handles + length closing.new.items ≤ deque_capacity closing.new) }
+{
+    closing.reserve(rows + handles + 1)
+}
+
+/// How many slots go back with what is to be closed.
+fn slots_of(closing: &VecDeque<Closing>) -> usize
+    ensures same { result ≡ closing_slots closing.now.items }
+    ensures bound { result ≤ length closing.now.items }
+{
+    closing.iter().filter(|entry| entry.slot).count()
+}
+
 impl RowStore {
     pub fn new(alloc: Global) -> RowStore
         ensures rows { result.rows ≡ [] }
+        ensures handles { result.handles ≡ [] }
         ensures closing { result.closing ≡ [] }
     {
         RowStore {
             rows: BTreeMap::new(alloc),
             numbers: BTreeMap::new(alloc),
             objects: BTreeMap::new(alloc),
+            handles: HandleStore::new(alloc),
             closing: VecDeque::new(alloc),
         }
     }
@@ -119,6 +144,7 @@ impl RowStore {
         requires later { IsLater was.now now }
         requires lives { now.live ≡ was.now.live }
         ensures rows { Replaces was.now now self.old.rows self.new.rows }
+        ensures handles { self.new.handles ≡ self.old.handles }
         ensures closing { self.new.closing ≡ self.old.closing }
     {
         put(&mut self.rows, was.serial, now);
@@ -129,6 +155,7 @@ impl RowStore {
         requires among { IsAmong row.now self.old.rows }
         requires live { row.now.live ≡ true }
         ensures rows { Replaces row.now (dead_row row.now) self.old.rows self.new.rows }
+        ensures handles { self.new.handles ≡ self.old.handles }
         ensures closing { self.new.closing ≡ self.old.closing }
     {
         put(&mut self.rows, row.serial, row.dead());
@@ -139,6 +166,7 @@ impl RowStore {
     pub fn end(&mut self, row: &Row)
         requires { IsAmong row.now self.old.rows }
         ensures rows { Takes row.now self.old.rows self.new.rows }
+        ensures handles { self.new.handles ≡ self.old.handles }
         ensures closing { self.new.closing ≡ self.old.closing ++ closing_of row.now ∷ [] }
     {
         let _ = self.rows.remove(&row.serial);
@@ -154,10 +182,10 @@ impl RowStore {
         requires object { NoneOf (HasIds row.ids) self.old.rows }
         ensures ok { OnOk result (self.new.rows ≡ row ∷ self.old.rows) }
         ensures err { OnErr result (self.new.rows ≡ self.old.rows) }
+        ensures handles { self.new.handles ≡ self.old.handles }
         ensures closing { self.new.closing ≡ self.old.closing }
     {
-        let rows = self.rows.len() + 1;
-        self.closing.reserve(rows)?;
+        reserve(&mut self.closing, self.rows.len(), self.handles.len())?;
         enter(&mut self.numbers, &mut self.objects, &row)?;
         match self.rows.insert(row.serial, row) {
             Ok(_) => Ok(()),
@@ -170,7 +198,7 @@ impl RowStore {
 
     /// Takes the first descriptor that is to be closed.
     pub fn take_closing(&mut self) -> Option<Closing>
-        ensures { MatchOption result (self.old.closing ≡ [] × self.new ≡ self.old) (λ closing. self.old.closing ≡ closing ∷ self.new.closing × self.new.rows ≡ self.old.rows) }
+        ensures { MatchOption result (self.old.closing ≡ [] × self.new ≡ self.old) (λ closing. self.old.closing ≡ closing ∷ self.new.closing × self.new.rows ≡ self.old.rows × self.new.handles ≡ self.old.handles) }
     {
         self.closing.pop_front()
     }
@@ -186,5 +214,114 @@ impl RowStore {
                 Some(row) => Some((number, row.count)),
             },
         }
+    }
+
+    /// The live row of the least number.
+    pub fn least(&self) -> Option<Row>
+        ensures least { MatchOption result (NoneOf (λ row. row.live ≡ true) self.now.rows) (λ row. IsLeast self.now.rows row) }
+        ensures few { length self.now.rows + length self.now.closing ≤ usize.MAX }
+    {
+        match next_number(&self.numbers, None) {
+            None => None,
+            Some((_, serial)) => row_of(&self.rows, serial),
+        }
+    }
+
+    /// The live row of this handle.
+    pub fn live_handle(&self, handle: u64) -> Option<HandleRow>
+        ensures { MatchOption result (NoneOf (HasHandle handle) self.now.handles) (λ row. HasHandle handle row × IsAmong row self.now.handles) }
+    {
+        self.handles.live(handle)
+    }
+
+    /// The live row of this handle, if it was opened for this number.
+    pub fn handle_of(&self, handle: u64, number: u64) -> Option<HandleRow>
+        ensures { MatchOption result (NoneOf (IsHandle handle number) self.now.handles) (λ row. IsHandle handle number row × IsAmong row self.now.handles) }
+    {
+        self.handles.of_number(handle, number)
+    }
+
+    /// The handle's row of this serial, if it has a pin.
+    pub fn pinned_handle(&self, serial: u64) -> Option<HandleRow>
+        ensures { MatchOption result (NoneOf (IsPinnedHandle serial) self.now.handles) (λ row. IsPinnedHandle serial row × IsAmong row self.now.handles) }
+    {
+        self.handles.pinned(serial)
+    }
+
+    /// Puts the handle's row as it is now in its place.
+    pub fn replace_handle(&mut self, was: &HandleRow, now: HandleRow)
+        requires among { IsAmong was.now self.old.handles }
+        requires later { IsLaterHandle was.now now }
+        requires lives { now.live ≡ was.now.live }
+        ensures handles { Replaces was.now now self.old.handles self.new.handles }
+        ensures rows { self.new.rows ≡ self.old.rows }
+        ensures closing { self.new.closing ≡ self.old.closing }
+    {
+        self.handles.replace(was, now);
+    }
+
+    /// Lets a live handle's row die that stays for its pins.
+    pub fn bury_handle(&mut self, row: &HandleRow)
+        requires among { IsAmong row.now self.old.handles }
+        requires live { row.now.live ≡ true }
+        ensures handles { Replaces row.now (dead_handle row.now) self.old.handles self.new.handles }
+        ensures rows { self.new.rows ≡ self.old.rows }
+        ensures closing { self.new.closing ≡ self.old.closing }
+    {
+        self.handles.bury(row);
+    }
+
+    /// Takes the handle's row out, and puts its descriptor on the closing list.
+    pub fn end_handle(&mut self, row: &HandleRow)
+        requires { IsAmong row.now self.old.handles }
+        ensures handles { Takes row.now self.old.handles self.new.handles }
+        ensures rows { self.new.rows ≡ self.old.rows }
+        ensures closing { self.new.closing ≡ self.old.closing ++ closing_of_handle row.now ∷ [] }
+    {
+        self.handles.remove(row);
+        self.closing.push_back_reserved(row.closing());
+    }
+
+    /// Adds a handle's row that is newer than all others, with the room that its closing will want.
+    pub fn insert_handle(&mut self, row: HandleRow) -> Result<(), AllocError>
+        requires live { row.live ≡ true }
+        requires newest { Each (λ other. other.serial < row.serial) self.old.handles }
+        requires handle { NoneOf (HasHandle row.handle) self.old.handles }
+        ensures ok { OnOk result (self.new.handles ≡ row ∷ self.old.handles) }
+        ensures err { OnErr result (self.new.handles ≡ self.old.handles) }
+        ensures rows { self.new.rows ≡ self.old.rows }
+        ensures closing { self.new.closing ≡ self.old.closing }
+    {
+        reserve(&mut self.closing, self.rows.len(), self.handles.len())?;
+        self.handles.insert(row)
+    }
+
+    /// The least live handle above the given one, or the least of all, with its number.
+    pub fn handle_after(&self, above: Option<u64>) -> Option<(u64, u64)>
+        ensures { IsHandleAfter self.now.handles above result }
+    {
+        self.handles.after(above)
+    }
+
+    /// The live row of the least handle.
+    pub fn least_handle(&self) -> Option<HandleRow>
+        ensures least { MatchOption result (NoneOf (λ row. row.live ≡ true) self.now.handles) (λ row. IsLeastHandle self.now.handles row) }
+        ensures few { length self.now.handles + length self.now.closing ≤ usize.MAX }
+    {
+        self.handles.least()
+    }
+
+    /// How many rows and closing entries there are. Each has its room, so that they can be counted.
+    pub fn pending(&self) -> usize
+        ensures { result ≡ length self.now.rows + length self.now.handles + length self.now.closing }
+    {
+        self.rows.len() + self.handles.len() + self.closing.len()
+    }
+
+    /// How many slots the rows and the closing list hold.
+    pub fn slots(&self) -> usize
+        ensures { result ≡ row_slots self.now.rows + length self.now.handles + closing_slots self.now.closing }
+    {
+        self.rows.len() + self.handles.len() + slots_of(&self.closing)
     }
 }

@@ -1,7 +1,8 @@
-ghost use Rattle.std.specs.Prelude.{◌≡◌, ◌≢◌, true};
+ghost use Rattle.std.specs.Prelude.{◌≡◌, true, ◌↔◌, IsTrue};
 ghost use Rattle.pt_session.specs.Tables.{empty_tables};
 ghost use Rattle.pt_session.specs.Store.{IsAmong, IsLater};
 ghost use Rattle.pt_session.specs.Happens.{Happens, Changes, Ends, Dies, agreed};
+ghost use Rattle.pt_session.specs.Pending.{AddsUp};
 ghost use Rattle.pt_session.specs.Kept.{tables_of};
 
 use crate::event::KeptEvent;
@@ -16,6 +17,7 @@ use std::alloc::Global;
 pub struct SessionTables {
     pub era: u64,
     pub next_number: u64,
+    pub next_handle: u64,
     pub next_row: u64,
     pub slots: u64,
     pub limit: u64,
@@ -30,6 +32,7 @@ impl SessionTables {
         SessionTables {
             era: 0,
             next_number: 2,
+            next_handle: 0,
             next_row: 0,
             slots: limit,
             limit,
@@ -121,5 +124,12 @@ impl SessionTables {
                 slot: closing.slot,
             },
         }
+    }
+
+    /// Whether the slots that are left and those that are held are all that there are.
+    pub fn adds_up(&self) -> bool
+        ensures { IsTrue result ↔ AddsUp (tables_of self.now) }
+    {
+        self.slots <= self.limit && self.store.slots() as u64 == self.limit - self.slots
     }
 }

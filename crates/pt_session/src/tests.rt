@@ -1,7 +1,7 @@
 use crate::{
     Event, EventRefusal, EventReply, ForgetList, KeptEvent, Negotiated, RowForm, Session,
-    closings_are_paid, events_are_answered, events_have_effects, events_keep_agreement,
-    refusals_change_nothing,
+    clearings_clear, closings_are_paid, events_are_answered, events_have_effects,
+    events_keep_agreement, refusals_change_nothing,
 };
 use pt_host::{Fd, ObjIds};
 use std::process::Abort;
@@ -157,6 +157,132 @@ fn a_pin_keeps_a_row(rt: HostRuntime) {
     play(&rt, &mut session, &script);
 }
 
+fn handle_of(handle: u64, number: u64, fd: u32) -> Event<'static> {
+    Event::InsertHandle {
+        era: 0,
+        handle,
+        number,
+        fd: Fd(fd),
+    }
+}
+
+#[test]
+fn handles_are_pinned_and_released(rt: HostRuntime) {
+    let mut session = Session::new(rt.alloc(), 2);
+    let refused = EventReply::Refused(EventRefusal::NotLive);
+    let script = [
+        (Event::TakeFd, EventReply::Taken),
+        (Event::DrawHandle, EventReply::Drawn { number: 0 }),
+        (Event::DrawHandle, EventReply::Drawn { number: 1 }),
+        (handle_of(1, 7, 5), EventReply::Inserted { number: 1 }),
+        (handle_of(1, 8, 6), EventReply::Refused(EventRefusal::Live)),
+        (
+            Event::PinHandle {
+                handle: 1,
+                number: 8,
+            },
+            refused.copy(),
+        ),
+        (
+            Event::PinHandle {
+                handle: 1,
+                number: 7,
+            },
+            EventReply::Pinned { row: 0, fd: Fd(5) },
+        ),
+        (
+            Event::Release {
+                handle: 1,
+                number: 8,
+            },
+            refused.copy(),
+        ),
+    ];
+    play(&rt, &mut session, &script);
+    assert_eq!(rt; session.handle_after(None), Some((1, 7)));
+    assert_eq!(rt; session.handle_after(Some(1)), None);
+    assert!(rt; session.adds_up());
+    let ended = [
+        (
+            Event::Release {
+                handle: 1,
+                number: 7,
+            },
+            EventReply::Done { closings: 0 },
+        ),
+        (
+            Event::PinHandle {
+                handle: 1,
+                number: 7,
+            },
+            refused.copy(),
+        ),
+        (
+            Event::UnpinHandle { row: 0 },
+            EventReply::Done { closings: 1 },
+        ),
+        (Event::UnpinHandle { row: 0 }, refused.copy()),
+    ];
+    play(&rt, &mut session, &ended);
+    assert_eq!(rt; session.pending(), 1);
+    assert!(rt; session.adds_up());
+}
+
+fn closed(fd: u32) -> EventReply {
+    EventReply::Closing {
+        fd: Fd(fd),
+        slot: true,
+    }
+}
+
+#[test]
+fn a_clearing_ends_rows_in_order(rt: HostRuntime) {
+    let mut session = Session::new(rt.alloc(), 8);
+    let top = RowForm::File(Fd(3));
+    let file = RowForm::File(Fd(4));
+    let numbers = [
+        (insertion(2, &file, 11), EventReply::Inserted { number: 2 }),
+        (root(&top, None), EventReply::Inserted { number: 1 }),
+    ];
+    play(&rt, &mut session, &numbers);
+    let script = [
+        (handle_of(9, 1, 7), EventReply::Inserted { number: 9 }),
+        (handle_of(8, 1, 6), EventReply::Inserted { number: 8 }),
+        (handle_of(5, 2, 5), EventReply::Inserted { number: 5 }),
+        (
+            Event::PinHandle {
+                handle: 5,
+                number: 2,
+            },
+            EventReply::Pinned { row: 4, fd: Fd(5) },
+        ),
+        (
+            Event::Clear,
+            EventReply::Cleared {
+                era: 1,
+                closings: 4,
+            },
+        ),
+        (
+            handle_of(5, 2, 5),
+            EventReply::Refused(EventRefusal::Overtaken),
+        ),
+        (Event::TakeClosing, closed(3)),
+        (Event::TakeClosing, closed(4)),
+        (Event::TakeClosing, closed(6)),
+        (Event::TakeClosing, closed(7)),
+        (
+            Event::UnpinHandle { row: 4 },
+            EventReply::Done { closings: 1 },
+        ),
+        (Event::TakeClosing, closed(5)),
+    ];
+    play(&rt, &mut session, &script);
+    assert_eq!(rt; session.handle_after(None), None);
+    assert_eq!(rt; session.live_after(None), None);
+    assert_eq!(rt; session.pending(), 0);
+}
+
 #[test]
 fn slots_come_and_go(rt: HostRuntime) {
     let mut session = Session::new(rt.alloc(), 1);
@@ -192,4 +318,5 @@ fn laws_are_called(_rt: HostRuntime) {
     events_are_answered();
     closings_are_paid();
     events_have_effects();
+    clearings_clear();
 }

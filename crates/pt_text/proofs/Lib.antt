@@ -1,3 +1,4 @@
 pub mod Numerals
 pub mod ByteWords
 pub mod PartsLemmas
+pub mod OneWord

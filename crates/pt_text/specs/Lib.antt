@@ -1,3 +1,4 @@
 pub mod Number
 pub mod ByteWord
 pub mod Words
+pub mod Laws

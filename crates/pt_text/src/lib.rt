@@ -2,6 +2,7 @@
 #![tactic(auto)]
 
 mod byte_word;
+mod laws;
 mod number;
 mod parts;
 #[cfg(test)]
@@ -9,6 +10,7 @@ mod tests;
 mod write;
 
 pub use byte_word::read_byte_word;
+pub use laws::bytes_have_one_word;
 pub use number::read_number;
 pub use parts::Parts;
 pub use write::{push_byte_word, push_decimal, push_signed, push_text};

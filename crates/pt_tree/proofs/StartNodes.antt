@@ -12,7 +12,7 @@ use Rattle.pt_tree.specs.Names.{found, named}
 use Rattle.pt_tree.specs.Node.{name_at, names_in}
 use Rattle.pt_tree.specs.Slots.{open_at, no_files}
 use Rattle.pt_tree.specs.Sound.{IsSound, IsNumbered}
-use Rattle.pt_tree.specs.Start.{add_line, add_lines, first_line, going_on, new_file, nodes_of, place_of, start_with, root_of, with_entry, with_file, with_name}
+use Rattle.pt_tree.specs.Start.{add_line, add_lines, add_object, first_line, going_on, new_object, nodes_of, place_of, start_with, root_of, with_entry, with_object, with_name}
 use Rattle.pt_tree.specs.Laws.Updates.{get-set_cases, get-push_cases}
 use Rattle.pt_tree.specs.Laws.WellFormed.{and_then_some}
 use Rattle.pt_tree.specs.declared.node.Node.{Node}
@@ -20,7 +20,7 @@ use Rattle.pt_tree.specs.declared.node.Content.{Content}
 use Rattle.pt_tree.specs.declared.node.Content.TheVariants.{Directory, Regular}
 use Rattle.pt_tree.specs.declared.slots.OpenFile.{OpenFile}
 use Rattle.pt_tree.specs.declared.spec.TreeLine.{TreeLine}
-use Rattle.pt_tree.specs.declared.spec.TreeLine.TheVariants.{Mount, File}
+use Rattle.pt_tree.specs.declared.spec.TreeLine.TheVariants.{Mount, File, Dir}
 
 pub record AreSound (nodes : List Node) : Type 0 where
   pub numbered : (place : ℕ) (node : Node) → slice_get nodes place ≡ Some node → IsNumbered place node
@@ -63,54 +63,55 @@ found-with_name : (q name : List ℕ) (v object : ℕ) (content : Content) → f
 found-with_name q name v object (Directory names) is = found-named q name v object names is
 found-with_name q name v object (Regular bytes) is = inr is
 
--- ---- one file more
+-- ---- one object more
 
-abbrev filed : List Node → ℕ → List ℕ → ℕ → ℕ → ℕ → List ℕ → Node → List Node
-filed nodes at name permissions uid gid bytes dir =
-    with_entry nodes at name (length nodes) dir ++ new_file dir (length nodes + 1) permissions uid gid bytes ∷ []
+abbrev grown : List Node → ℕ → List ℕ → ℕ → ℕ → ℕ → Content → Node → List Node
+grown nodes at name permissions uid gid content dir =
+    slice_set nodes at (with_entry name (length nodes) content dir) ++ new_object dir (length nodes + 1) permissions uid gid content ∷ []
 
-length-filed : (nodes : List Node) (at : ℕ) (name : List ℕ) (permissions uid gid : ℕ) (bytes : List ℕ) (dir : Node) →
-    length (filed nodes at name permissions uid gid bytes dir) ≡ length nodes + 1
-length-filed nodes at name permissions uid gid bytes dir =
-    let entry = record dir { content = with_name name (length nodes) dir.content } in
-    let pushed = length_push (slice_set nodes at entry) (new_file dir (length nodes + 1) permissions uid gid bytes) in
+length-grown : (nodes : List Node) (at : ℕ) (name : List ℕ) (permissions uid gid : ℕ) (content : Content) (dir : Node) →
+    length (grown nodes at name permissions uid gid content dir) ≡ length nodes + 1
+length-grown nodes at name permissions uid gid content dir =
+    let entry = with_entry name (length nodes) content dir in
+    let pushed = length_push (slice_set nodes at entry) (new_object dir (length nodes + 1) permissions uid gid content) in
     let same = length-set nodes at entry in
     omega arith
 
-numbered_entry : (place : ℕ) (dir : Node) (content : Content) → IsNumbered place dir → IsNumbered place (record dir { content = content })
-numbered_entry place dir content numbered = record { ino = numbered.ino; serial = numbered.serial; permissions = numbered.permissions }
+numbered_entry : (place object : ℕ) (name : List ℕ) (content : Content) (dir : Node) → IsNumbered place dir → IsNumbered place (with_entry name object content dir)
+numbered_entry place object name content dir numbered = record { ino = numbered.ino; serial = numbered.serial; permissions = numbered.permissions }
 
-numbered_file : (nodes : List Node) (at : ℕ) (name : List ℕ) (permissions uid gid : ℕ) (bytes : List ℕ) (dir : Node) → AreSound nodes →
+numbered_grown : (nodes : List Node) (at : ℕ) (name : List ℕ) (permissions uid gid : ℕ) (content : Content) (dir : Node) → AreSound nodes →
     permissions < 4096 → slice_get nodes at ≡ Some dir → (place : ℕ) (node : Node) →
-    slice_get (filed nodes at name permissions uid gid bytes dir) place ≡ Some node → IsNumbered place node
-numbered_file nodes at name permissions uid gid bytes dir sound small is place node there =
-    let entry = record dir { content = with_name name (length nodes) dir.content } in
-    let file = new_file dir (length nodes + 1) permissions uid gid bytes in
+    slice_get (grown nodes at name permissions uid gid content dir) place ≡ Some node → IsNumbered place node
+numbered_grown nodes at name permissions uid gid content dir sound small is place node there =
+    let entry = with_entry name (length nodes) content dir in
+    let made = new_object dir (length nodes + 1) permissions uid gid content in
     let same = length-set nodes at entry in
-    elim (get-push_cases (slice_set nodes at entry) file place node there) [
+    elim (get-push_cases (slice_set nodes at entry) made place node there) [
       | inl (end, new) ↦ (let number : length nodes + 1 ≡ place + 1 = omega (arith, end, same) in
-          let good : IsNumbered place file = record { ino = number; serial = number; permissions = small } in
+          let good : IsNumbered place made = record { ino = number; serial = number; permissions = small } in
           subst (IsNumbered place) (sym new) good)
       | inr before ↦ elim (get-set_cases nodes at entry place node before) [
-        | inl (here, new) ↦ (let good : IsNumbered place entry = numbered_entry place dir (with_name name (length nodes) dir.content)
+        | inl (here, new) ↦ (let good : IsNumbered place entry = numbered_entry place (length nodes) name content dir
             (sound.numbered place dir (ap (slice_get nodes) here ∙ is)) in
             subst (IsNumbered place) (sym new) good)
         | inr was ↦ sound.numbered place node was
       ]
     ]
 
-no_name_in_file : (q bytes : List ℕ) (object : ℕ) → found q (names_in (Regular bytes)) ≡ Some object → ⊥
-no_name_in_file q bytes object is = cc
+no_name : (q : List ℕ) (object : ℕ) (names : List (List ℕ × ℕ)) → names ≡ [] → found q names ≡ Some object → ⊥
+no_name q object [] none is = cc
+no_name q object (entry ∷ names) none is = cc
 
-leads_file : (nodes : List Node) (at : ℕ) (name : List ℕ) (permissions uid gid : ℕ) (bytes : List ℕ) (dir : Node) → AreSound nodes →
-    slice_get nodes at ≡ Some dir → (from : ℕ) (q : List ℕ) (object : ℕ) →
-    name_at (filed nodes at name permissions uid gid bytes dir) from q ≡ Some object → object < length nodes + 1
-leads_file nodes at name permissions uid gid bytes dir sound is from q object leads =
-    let entry = record dir { content = with_name name (length nodes) dir.content } in
-    let file = new_file dir (length nodes + 1) permissions uid gid bytes in
-    let there = and_then_some (λ node. found q (names_in node.content)) (slice_get (filed nodes at name permissions uid gid bytes dir) from) object leads in
-    elim (get-push_cases (slice_set nodes at entry) file from there.0 there.1) [
-      | inl (end, new) ↦ absurd (no_name_in_file q bytes object (sym (ap (λ (node : Node). found q (names_in node.content)) new) ∙ there.2))
+leads_grown : (nodes : List Node) (at : ℕ) (name : List ℕ) (permissions uid gid : ℕ) (content : Content) (dir : Node) → AreSound nodes →
+    names_in content ≡ [] → slice_get nodes at ≡ Some dir → (from : ℕ) (q : List ℕ) (object : ℕ) →
+    name_at (grown nodes at name permissions uid gid content dir) from q ≡ Some object → object < length nodes + 1
+leads_grown nodes at name permissions uid gid content dir sound none is from q object leads =
+    let entry = with_entry name (length nodes) content dir in
+    let made = new_object dir (length nodes + 1) permissions uid gid content in
+    let there = and_then_some (λ node. found q (names_in node.content)) (slice_get (grown nodes at name permissions uid gid content dir) from) object leads in
+    elim (get-push_cases (slice_set nodes at entry) made from there.0 there.1) [
+      | inl (end, new) ↦ absurd (no_name q object (names_in content) none (sym (ap (λ (node : Node). found q (names_in node.content)) new) ∙ there.2))
       | inr before ↦ elim (get-set_cases nodes at entry from there.0 before) [
         | inl (here, new) ↦ elim (found-with_name q name (length nodes) object dir.content (sym (ap (λ (node : Node). found q (names_in node.content)) new) ∙ there.2)) [
           | inl last ↦ omega (arith, last)
@@ -120,16 +121,16 @@ leads_file nodes at name permissions uid gid bytes dir sound is from q object le
       ]
     ]
 
-pub sound_file : (nodes : List Node) (at : ℕ) (name : List ℕ) (permissions uid gid : ℕ) (bytes : List ℕ) (dir : Option Node) (after : List Node) → AreSound nodes →
-    permissions < 4096 → slice_get nodes at ≡ dir → with_file nodes at name permissions uid gid bytes dir ≡ Some after →
+pub sound_object : (nodes : List Node) (at : ℕ) (name : List ℕ) (permissions uid gid : ℕ) (content : Content) (dir : Option Node) (after : List Node) → AreSound nodes →
+    permissions < 4096 → names_in content ≡ [] → slice_get nodes at ≡ dir → with_object nodes at name permissions uid gid content dir ≡ Some after →
     AreSound after × (length after ≡ length nodes + 1)
-sound_file nodes at name permissions uid gid bytes None after sound small is made = cc
-sound_file nodes at name permissions uid gid bytes (Some dir) after sound small is made =
-    let same = same_Some (filed nodes at name permissions uid gid bytes dir) after made in
-    let longer = length-filed nodes at name permissions uid gid bytes dir in
-    let good : AreSound (filed nodes at name permissions uid gid bytes dir) = record {
-      numbered = numbered_file nodes at name permissions uid gid bytes dir sound small is;
-      leads = λ from q object leads. subst (λ n. object < n) (sym longer) (leads_file nodes at name permissions uid gid bytes dir sound is from q object leads);
+sound_object nodes at name permissions uid gid content None after sound small none is made = cc
+sound_object nodes at name permissions uid gid content (Some dir) after sound small none is made =
+    let same = same_Some (grown nodes at name permissions uid gid content dir) after made in
+    let longer = length-grown nodes at name permissions uid gid content dir in
+    let good : AreSound (grown nodes at name permissions uid gid content dir) = record {
+      numbered = numbered_grown nodes at name permissions uid gid content dir sound small is;
+      leads = λ from q object leads. subst (λ n. object < n) (sym longer) (leads_grown nodes at name permissions uid gid content dir sound none is from q object leads);
     } in
     (subst AreSound same good, sym (ap length same) ∙ longer)
 
@@ -137,18 +138,20 @@ when_true : (b : Bool) (made : Option (List Node)) (after : List Node) → cond 
 when_true true made after is = (refl, is)
 when_true false made after is = cc
 
-first_true : (a b : Bool) → a && b ≡ true → a ≡ true
-first_true true b is = refl
-first_true false b is = cc
+sound_added : (nodes : List Node) (path : List ℕ) (mode uid gid : ℕ) (content : Content) (after : List Node) → AreSound nodes → names_in content ≡ [] →
+    add_object nodes path mode uid gid content ≡ Some after → AreSound after × (length after ≡ length nodes + 1)
+sound_added nodes path mode uid gid content after sound none is =
+    let both = when_true (nat_lt mode 4096) _ after is in
+    let place = and_then_some (λ (place : ℕ × List ℕ). with_object nodes place.0 place.1 mode uid gid content (slice_get nodes place.0)) (place_of nodes path) after both.1 in
+    sound_object nodes place.0.0 place.0.1 mode uid gid content (slice_get nodes place.0.0) after sound (ltb-true mode 4096 both.0) none refl place.2
 
 pub sound_line : (nodes : List Node) (line : TreeLine) (after : List Node) → AreSound nodes → add_line nodes line ≡ Some after →
     AreSound after × (length after ≡ length nodes + 1)
 sound_line nodes (Mount id dev path handles) after sound is = cc
 sound_line nodes (File path mode uid gid bytes) after sound is =
-    let both = when_true (nat_lt mode 4096 && nat_le (length bytes) 1048576) _ after is in
-    let small = ltb-true mode 4096 (first_true (nat_lt mode 4096) (nat_le (length bytes) 1048576) both.0) in
-    let place = and_then_some (λ (place : ℕ × List ℕ). with_file nodes place.0 place.1 mode uid gid bytes (slice_get nodes place.0)) (place_of nodes path) after both.1 in
-    sound_file nodes place.0.0 place.0.1 mode uid gid bytes (slice_get nodes place.0.0) after sound small refl place.2
+    let added = when_true (nat_le (length bytes) 1048576) (add_object nodes path mode uid gid (Regular bytes)) after is in
+    sound_added nodes path mode uid gid (Regular bytes) after sound refl added.1
+sound_line nodes (Dir path mode uid gid) after sound is = sound_added nodes path mode uid gid (Directory []) after sound refl is
 
 went_on : (told : Option (List Node)) (number : ℕ) (rest : List Node → Result (List Node) ℕ) (after : List Node) → going_on told number rest ≡ Ok after →
     (nodes : List Node) × (told ≡ Some nodes) × (rest nodes ≡ Ok after)
@@ -185,6 +188,7 @@ root_leads id dev handles (suc dir) name object is = cc
 
 sound_root : (line : TreeLine) (nodes : List Node) → first_line line ≡ Some nodes → AreSound nodes × (length nodes ≡ 1)
 sound_root (File path mode uid gid bytes) nodes is = cc
+sound_root (Dir path mode uid gid) nodes is = cc
 sound_root (Mount id dev path handles) nodes is =
     let both = when_true (nat_lt 0 id && nat_lt 0 dev && bytes_eq path (47 ∷ [])) (Some (root_of id dev handles ∷ [])) nodes is in
     let same = same_Some (root_of id dev handles ∷ []) nodes both.1 in

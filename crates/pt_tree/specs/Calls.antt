@@ -1,9 +1,9 @@
 -- The table of the calls: what each is answered and what it leaves.
-use Rattle.std.specs.Prelude.{ℕ, ◌==◌, nat_lt, not, Bool, List, [], ◌∷◌, length, Option, Some, None, Result, Ok, Err, ok_or, slice_get, slice_set, if◌then◌else◌}
+use Rattle.std.specs.Prelude.{ℕ, ◌==◌, nat_lt, not, ◌&&◌, Bool, List, [], ◌∷◌, length, Option, Some, None, Result, Ok, Err, ok_or, slice_get, slice_set, if◌then◌else◌}
 use Rattle.std.specs.List.{slice_split}
 use Rattle.pt_host.specs.Call.{Call}
-use Rattle.pt_host.specs.Flags.{includes, o_creat}
-use Rattle.pt_host.specs.Errno.{ebadf, eacces, eio, enoent, enotdir, enametoolong, eopnotsupp}
+use Rattle.pt_host.specs.Flags.{includes, o_creat, o_excl}
+use Rattle.pt_host.specs.Errno.{ebadf, eacces, eexist, eio, enoent, enotdir, enametoolong, eopnotsupp}
 use Rattle.pt_host.specs.declared.ids.Errno.{Errno}
 use Rattle.pt_host.specs.declared.flags.OpenFlags.{OpenFlags}
 use Rattle.pt_host.specs.declared.seat.HostSeat.{HostSeat}
@@ -13,11 +13,12 @@ use Rattle.pt_host.specs.declared.reply.HostReply.TheVariants as reply
 use Rattle.pt_host.specs.declared.reply.HostValue.{HostValue}
 use Rattle.pt_host.specs.declared.reply.HostValue.TheVariants as value
 use Rattle.pt_tree.specs.Names.{found}
-use Rattle.pt_tree.specs.Node.{is_directory, names_in, status_of}
+use Rattle.pt_tree.specs.Node.{bytes_in, is_directory, names_in, status_of}
 use Rattle.pt_tree.specs.Permission.{may}
 use Rattle.pt_tree.specs.Slots.{open_at, least_free, put_at, closed}
 use Rattle.pt_tree.specs.State.{State, time_of}
 use Rattle.pt_tree.specs.Opening.{first_refusal, opening_refusal, after_opening}
+use Rattle.pt_tree.specs.Reading.{read_refusal, part_of, after_reading}
 use Rattle.pt_tree.specs.declared.node.Node.{Node}
 use Rattle.pt_tree.specs.declared.slots.OpenFile.{OpenFile}
 use Rattle.pt_tree.specs.declared.slots.Slot.TheVariants.{Open}
@@ -111,6 +112,11 @@ abbrev pub find_name : List Node → HostSeat → List ℕ → ℕ → Option Op
 find_name nodes seat name flags None = Err ebadf
 find_name nodes seat name flags (Some dir) = find_in seat name flags (slice_get nodes dir.object)
 
+-- the object of a descriptor, to be opened anew; `O_CREAT` with `O_EXCL` asks for a new one
+abbrev pub find_open : ℕ → Option OpenFile → Result ℕ Errno
+find_open flags None = Err ebadf
+find_open flags (Some file) = if includes flags o_creat && includes flags o_excl then Err eexist else Ok file.object
+
 abbrev pub tell_node : State → Option Node → Answered
 tell_node state None = refused state eio
 tell_node state (Some node) = tells state (value.Stat (status_of node))
@@ -118,6 +124,19 @@ tell_node state (Some node) = tells state (value.Stat (status_of node))
 abbrev pub tell_status : State → Option OpenFile → Answered
 tell_status state None = refused state ebadf
 tell_status state (Some file) = tell_node state (slice_get state.nodes file.object)
+
+-- the state after this object was read
+abbrev pub with_read : State → ℕ → Node → State
+with_read state object node = record state { nodes = slice_set state.nodes object (after_reading (time_of state) node) }
+
+abbrev pub read_node : State → ℕ → ℕ → OpenFile → Option Node → Answered
+read_node state offset size file None = refused state eio
+read_node state offset size file (Some node) = unless state (read_refusal node file.flags.0)
+    (tells (with_read state file.object node) (value.Bytes (part_of offset size (bytes_in node.content))))
+
+abbrev pub read_file : State → ℕ → ℕ → Option OpenFile → Answered
+read_file state offset size None = refused state ebadf
+read_file state offset size (Some file) = read_node state offset size file (slice_get state.nodes file.object)
 
 abbrev pub close_file : State → ℕ → Option OpenFile → Answered
 close_file state fd None = refused state ebadf
@@ -127,5 +146,7 @@ abbrev pub answer : State → HostSeat → Call → Answered
 answer state seat (call.OpenRoot path flags) = open_walked state seat flags (walk_root state.nodes path)
 answer state seat (call.OpenAt fd name flags mode) =
     open_walked state seat flags (find_name state.nodes seat name flags.0 (open_at state.slots fd.0))
+answer state seat (call.Reopen fd flags) = open_walked state seat flags (find_open flags.0 (open_at state.slots fd.0))
 answer state seat (call.Stat fd) = tell_status state (open_at state.slots fd.0)
+answer state seat (call.ReadAt fd offset size) = read_file state offset size (open_at state.slots fd.0)
 answer state seat (call.Close fd) = close_file state fd.0 (open_at state.slots fd.0)

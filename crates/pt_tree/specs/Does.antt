@@ -13,10 +13,12 @@ use Rattle.pt_tree.specs.Sound.{IsSound}
 abbrev pub AnswersAs : Answered → State → HostReply → State → Type 0
 AnswersAs told before given after = ((given, after) ≡ told) ⊎ ((given ≡ reply.NoMemory) × (after ≡ before))
 
--- only an opening takes memory
+-- only an opening and a reading take memory
 abbrev pub AnswersCall : State → HostSeat → Call → HostReply → State → Type 0
 AnswersCall before seat (call.OpenRoot path flags) given after = AnswersAs (answer before seat (call.OpenRoot path flags)) before given after
 AnswersCall before seat (call.OpenAt fd name flags mode) given after = AnswersAs (answer before seat (call.OpenAt fd name flags mode)) before given after
+AnswersCall before seat (call.Reopen fd flags) given after = AnswersAs (answer before seat (call.Reopen fd flags)) before given after
+AnswersCall before seat (call.ReadAt fd offset size) given after = AnswersAs (answer before seat (call.ReadAt fd offset size)) before given after
 AnswersCall before seat asked given after = (given, after) ≡ answer before seat asked
 
 -- a call is answered by the table and then counted; want of memory is all that is left open

@@ -5,6 +5,7 @@ pub mod Node
 pub mod Permission
 pub mod State
 pub mod Opening
+pub mod Reading
 pub mod Calls
 pub mod Sound
 pub mod Does

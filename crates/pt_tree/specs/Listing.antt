@@ -2,19 +2,12 @@
 use Rattle.std.specs.Prelude.{ℕ, zero, suc, List, [], ◌∷◌, ◌++◌, length, codes, decimal, Option, Some, None, slice_get}
 use Rattle.std.specs.List.{flat_map}
 use Rattle.pt_text.specs.ByteWord.{byte_word}
-use Rattle.pt_tree.specs.Node.{mode_of, names_in}
+use Rattle.pt_tree.specs.Node.{bytes_in, mode_of, names_in}
 use Rattle.pt_tree.specs.State.{State}
 use Rattle.pt_tree.specs.declared.node.Node.{Node}
-use Rattle.pt_tree.specs.declared.node.Content.{Content}
-use Rattle.pt_tree.specs.declared.node.Content.TheVariants.{Directory, Regular}
 
 abbrev pub number_word : ℕ → List ℕ
 number_word number = 32 ∷ decimal number
-
--- what a regular file holds
-abbrev pub bytes_in : Content → List ℕ
-bytes_in (Directory names) = []
-bytes_in (Regular bytes) = bytes
 
 -- inode number, device, mount, mode, number of links, owner, group, device of a special file
 abbrev pub numbers_of : Node → List ℕ

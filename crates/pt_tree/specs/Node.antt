@@ -30,6 +30,11 @@ names_in (Regular bytes) = []
 abbrev pub name_at : List Node → ℕ → List ℕ → Option ℕ
 name_at nodes dir name = option_and_then (λ node. found name (names_in node.content)) (slice_get nodes dir)
 
+-- what a regular file holds
+abbrev pub bytes_in : Content → List ℕ
+bytes_in (Directory names) = []
+bytes_in (Regular bytes) = bytes
+
 abbrev pub size_of : Content → ℕ
 size_of (Directory names) = 0
 size_of (Regular bytes) = length bytes

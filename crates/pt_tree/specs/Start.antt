@@ -1,5 +1,5 @@
 -- The tree that lines describe.
-use Rattle.std.specs.Prelude.{ℕ, ◌≡◌, ◌+◌, ◌==◌, nat_lt, nat_le, ◌&&◌, ◌||◌, not, Bool, true, false, List, [], ◌∷◌, ◌++◌, length, pos, Option, Some, None, option_map, option_and_then, is_none, ⊤, Result, Ok, Err, slice_get, slice_set, if◌then◌else◌}
+use Rattle.std.specs.Prelude.{ℕ, ◌≡◌, ◌+◌, ◌==◌, nat_lt, nat_le, min, ◌&&◌, ◌||◌, not, Bool, true, false, List, [], ◌∷◌, ◌++◌, length, pos, Option, Some, None, option_map, option_and_then, is_none, ⊤, Result, Ok, Err, slice_get, slice_set, if◌then◌else◌}
 use Rattle.std.specs.Borrow.{Bor}
 use Rattle.std.specs.List.{list_any}
 use Rattle.std.specs.Str.{bytes_eq}
@@ -14,7 +14,7 @@ use Rattle.pt_tree.specs.declared.node.Node.{Node}
 use Rattle.pt_tree.specs.declared.node.Content.{Content}
 use Rattle.pt_tree.specs.declared.node.Content.TheVariants.{Directory, Regular}
 use Rattle.pt_tree.specs.declared.spec.TreeLine.{TreeLine}
-use Rattle.pt_tree.specs.declared.spec.TreeLine.TheVariants.{Mount, File}
+use Rattle.pt_tree.specs.declared.spec.TreeLine.TheVariants.{Mount, File, Dir}
 use Rattle.pt_tree.specs.declared.spec.SpecError.{SpecError}
 use Rattle.pt_tree.specs.declared.spec.SpecError.TheVariants.{NotATree, Memory}
 
@@ -47,43 +47,63 @@ place_of nodes (first ∷ path) = if first == 47 then place_in nodes 0 (parts pa
 abbrev pub never : Time
 never = record { sec = pos 0; nsec = 0 }
 
+-- the links of a new object: a directory is named by its parent and by itself
+abbrev pub first_links : Content → ℕ
+first_links (Directory names) = 2
+first_links (Regular bytes) = 1
+
 -- an object on the mount of this directory
-abbrev pub new_file : Node → ℕ → ℕ → ℕ → ℕ → List ℕ → Node
-new_file dir number permissions uid gid bytes = record {
+abbrev pub new_object : Node → ℕ → ℕ → ℕ → ℕ → Content → Node
+new_object dir number permissions uid gid content = record {
   ids = record { ino = number; dev = dir.ids.dev; mnt_id = dir.ids.mnt_id };
   serial = number;
   has_handle = dir.has_handle;
   permissions = permissions;
-  nlink = 1;
+  nlink = first_links content;
   uid = uid;
   gid = gid;
   atime = never;
   mtime = never;
   ctime = never;
-  content = Regular bytes;
+  content = content;
 }
 
 abbrev pub with_name : List ℕ → ℕ → Content → Content
 with_name name object (Directory names) = Directory (named name object names)
 with_name name object (Regular bytes) = Regular bytes
 
--- the directory at this place with one name more
-abbrev pub with_entry : List Node → ℕ → List ℕ → ℕ → Node → List Node
-with_entry nodes at name object dir = slice_set nodes at (record dir { content = with_name name object dir.content })
+-- a directory has one link more by each directory in it; the count stands still where its type ends
+abbrev pub links_with : Content → ℕ → ℕ
+links_with (Directory names) links = min (links + 1) 4294967295
+links_with (Regular bytes) links = links
 
-abbrev pub with_file : List Node → ℕ → List ℕ → ℕ → ℕ → ℕ → List ℕ → Option Node → Option (List Node)
-with_file nodes at name permissions uid gid bytes None = None
-with_file nodes at name permissions uid gid bytes (Some dir) = Some (
-    with_entry nodes at name (length nodes) dir
-    ++ new_file dir (length nodes + 1) permissions uid gid bytes ∷ [])
+-- the directory with one name more, which leads to a new object that holds this
+abbrev pub with_entry : List ℕ → ℕ → Content → Node → Node
+with_entry name object content dir = record dir {
+  nlink = links_with content dir.nlink;
+  content = with_name name object dir.content;
+}
+
+-- the objects with a new one in the directory at this place
+abbrev pub with_object : List Node → ℕ → List ℕ → ℕ → ℕ → ℕ → Content → Option Node → Option (List Node)
+with_object nodes at name permissions uid gid content None = None
+with_object nodes at name permissions uid gid content (Some dir) = Some (
+    slice_set nodes at (with_entry name (length nodes) content dir)
+    ++ new_object dir (length nodes + 1) permissions uid gid content ∷ [])
+
+-- the objects with a new one at the end of this path
+abbrev pub add_object : List Node → List ℕ → ℕ → ℕ → ℕ → Content → Option (List Node)
+add_object nodes path mode uid gid content =
+    if nat_lt mode 4096
+    then option_and_then (λ place. with_object nodes place.0 place.1 mode uid gid content (slice_get nodes place.0)) (place_of nodes path)
+    else None
 
 -- the objects with those of one more line, where it keeps the rules
 abbrev pub add_line : List Node → TreeLine → Option (List Node)
 add_line nodes (Mount id dev path handles) = None
 add_line nodes (File path mode uid gid bytes) =
-    if nat_lt mode 4096 && nat_le (length bytes) 1048576
-    then option_and_then (λ place. with_file nodes place.0 place.1 mode uid gid bytes (slice_get nodes place.0)) (place_of nodes path)
-    else None
+    if nat_le (length bytes) 1048576 then add_object nodes path mode uid gid (Regular bytes) else None
+add_line nodes (Dir path mode uid gid) = add_object nodes path mode uid gid (Directory [])
 
 abbrev pub root_of : ℕ → ℕ → Bool → Node
 root_of id dev handles = record {
@@ -105,6 +125,7 @@ abbrev pub first_line : TreeLine → Option (List Node)
 first_line (Mount id dev path handles) =
     if nat_lt 0 id && nat_lt 0 dev && bytes_eq path (47 ∷ []) then Some (root_of id dev handles ∷ []) else None
 first_line (File path mode uid gid bytes) = None
+first_line (Dir path mode uid gid) = None
 
 -- what follows a line: the rest, or the number of the line that is none of a tree
 abbrev pub going_on : Option (List Node) → ℕ → (List Node → Result (List Node) ℕ) → Result (List Node) ℕ

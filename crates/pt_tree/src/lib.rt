@@ -9,6 +9,7 @@ mod node;
 mod opening;
 mod path;
 mod permission;
+mod reading;
 mod slots;
 mod spec;
 mod start;

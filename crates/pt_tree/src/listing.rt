@@ -3,8 +3,8 @@ ghost use Rattle.std.specs.List.{flat_map};
 ghost use Rattle.std.specs.Option.{option_copied};
 ghost use Rattle.pt_text.specs.ByteWord.{byte_word};
 ghost use Rattle.pt_tree.specs.Sound.{HavePermissions};
-ghost use Rattle.pt_tree.specs.Node.{mode_of};
-ghost use Rattle.pt_tree.specs.Listing.{bytes_in, line_at, lines_below, listing_of, names_at, number_word, numbers_of, object_line};
+ghost use Rattle.pt_tree.specs.Node.{bytes_in, mode_of};
+ghost use Rattle.pt_tree.specs.Listing.{line_at, lines_below, listing_of, names_at, number_word, numbers_of, object_line};
 ghost use Rattle.pt_tree.specs.declared.spec.SpecError.TheVariants.{Memory};
 
 use crate::host::TreeHost;
@@ -14,18 +14,6 @@ use crate::spec::SpecError;
 use pt_host::Bytes;
 use pt_text::{push_byte_word, push_decimal, push_text};
 use std::alloc::{AllocError, Global};
-
-impl Content {
-    /// What a regular file holds.
-    fn bytes(&self) -> &[u8]
-        ensures { result.now ≡ bytes_in self.now }
-    {
-        match self {
-            Content::Directory(_) => &[],
-            Content::Regular(bytes) => bytes.as_slice(),
-        }
-    }
-}
 
 fn push_numbers(out: &mut Vec<u8>, numbers: &[u64]) -> Result<(), AllocError>
     ensures { OnOk result (out.new.items ≡ out.old.items ++ flat_map number_word numbers.now) }

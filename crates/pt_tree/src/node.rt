@@ -1,5 +1,5 @@
 ghost use Rattle.std.specs.Prelude.{◌≡◌, ◌<◌};
-ghost use Rattle.pt_tree.specs.Node.{is_directory, kind_number, mode_of, size_of, status_of};
+ghost use Rattle.pt_tree.specs.Node.{bytes_in, is_directory, kind_number, mode_of, size_of, status_of};
 
 use crate::names::Names;
 use pt_host::{Bytes, ObjIds, Stat, Time};
@@ -38,6 +38,16 @@ impl Content {
         match self {
             Content::Directory(_) => 4,
             Content::Regular(_) => 8,
+        }
+    }
+
+    /// What a regular file holds.
+    pub fn bytes(&self) -> &[u8]
+        ensures { result.now ≡ bytes_in self.now }
+    {
+        match self {
+            Content::Directory(_) => &[],
+            Content::Regular(bytes) => bytes.as_slice(),
         }
     }
 

@@ -13,7 +13,8 @@ use crate::permission::{Right, may};
 use pt_host::{Bytes, Caps, Errno, HostSeat, OpenFlags, Time};
 use std::alloc::Global;
 
-fn wants_read(flags: OpenFlags) -> bool
+/// Whether the access mode lets read.
+pub fn wants_read(flags: OpenFlags) -> bool
     ensures { result ≡ wants_read flags.0 }
 {
     flags.0 % 4 == 0 || flags.0 % 4 == 2

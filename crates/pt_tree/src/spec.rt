@@ -24,6 +24,13 @@ pub enum TreeLine {
         gid: u32,
         bytes: Bytes,
     },
+    /// An empty directory: its path from the root, its permissions and its owner. Later lines put names into it.
+    Dir {
+        path: Bytes,
+        mode: u32,
+        uid: u32,
+        gid: u32,
+    },
 }
 
 /// Why lines make no host.

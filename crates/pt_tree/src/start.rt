@@ -7,17 +7,20 @@ ghost use Rattle.pt_tree.specs.Slots.{no_files};
 ghost use Rattle.pt_tree.specs.Start.{
   AddsIf,
   add_line,
+  add_object,
   alone,
   first_line,
+  first_links,
   IsCause,
-  new_file,
+  links_with,
+  new_object,
   nodes_of,
   NoneOpen,
   root_of,
   StartsAs,
   with_entry,
-  with_file,
   with_name,
+  with_object,
 };
 
 use crate::host::TreeHost;
@@ -58,9 +61,16 @@ fn root_of(alloc: Global, id: u64, dev: u64, handles: bool) -> Node
     }
 }
 
-/// A regular file in this directory.
-fn new_file(dir: &Node, number: u64, permissions: u32, uid: u32, gid: u32, bytes: Bytes) -> Node
-    ensures { result ≡ new_file dir.now number permissions uid gid bytes }
+/// A new object in this directory.
+fn new_object(
+    dir: &Node,
+    number: u64,
+    permissions: u32,
+    uid: u32,
+    gid: u32,
+    content: Content,
+) -> Node
+    ensures { result ≡ new_object dir.now number permissions uid gid content }
 {
     Node {
         ids: ObjIds {
@@ -71,17 +81,37 @@ fn new_file(dir: &Node, number: u64, permissions: u32, uid: u32, gid: u32, bytes
         serial: number,
         has_handle: dir.has_handle,
         permissions,
-        nlink: 1,
+        nlink: content.first_links(),
         uid,
         gid,
         atime: NEVER,
         mtime: NEVER,
         ctime: NEVER,
-        content: Content::Regular(bytes),
+        content,
     }
 }
 
 impl Content {
+    /// The links of a new object that holds this.
+    fn first_links(&self) -> u32
+        ensures { result ≡ first_links self.now }
+    {
+        match self {
+            Content::Directory(_) => 2,
+            Content::Regular(_) => 1,
+        }
+    }
+
+    /// The links of a directory that gets an object which holds this.
+    fn links_with(&self, links: u32) -> u32
+        ensures { result ≡ links_with self.now links }
+    {
+        match self {
+            Content::Directory(_) => links.saturating_add(1),
+            Content::Regular(_) => links,
+        }
+    }
+
     fn add_name(&mut self, name: Vec<u8>, object: usize) -> Result<(), AllocError>
         ensures { OnOk result (self.new ≡ with_name name.items object self.old) }
     {
@@ -92,22 +122,24 @@ impl Content {
     }
 }
 
-/// The directory at this place gets one name more.
-fn add_entry(
-    nodes: &mut Vec<Node>,
-    at: usize,
-    name: Vec<u8>,
-    object: usize,
-) -> Result<(), AllocError>
-    requires { at < length nodes.old.items }
-    ensures { OnOk result (
-        (dir : Node) × (slice_get nodes.old.items at ≡ Some dir) × (nodes.new.items ≡ with_entry nodes.old.items at name.items object dir)) }
-{
-    nodes[at].content.add_name(name, object)
+impl Node {
+    /// One name more, which leads to a new object that holds this.
+    fn add_entry(
+        &mut self,
+        name: Vec<u8>,
+        object: usize,
+        content: &Content,
+    ) -> Result<(), AllocError>
+        ensures { OnOk result (self.new ≡ with_entry name.items object content.now self.old) }
+    {
+        self.content.add_name(name, object)?;
+        self.nlink = content.links_with(self.nlink);
+        Ok(())
+    }
 }
 
-/// A file with this name in the directory at this place; false where none is there.
-fn add_file(
+/// A new object with this name in the directory at this place; false where none is there.
+fn add_at(
     alloc: Global,
     nodes: &mut Vec<Node>,
     at: usize,
@@ -115,21 +147,41 @@ fn add_file(
     permissions: u32,
     uid: u32,
     gid: u32,
-    bytes: &Bytes,
+    content: Content,
 ) -> Result<bool, AllocError>
     ensures { IfOk result (λ added. AddsIf added
-        (with_file nodes.old.items at name.now permissions uid gid bytes.now (slice_get nodes.old.items at)) nodes.new.items) }
+        (with_object nodes.old.items at name.now permissions uid gid content (slice_get nodes.old.items at)) nodes.new.items) }
 {
     let object = nodes.len();
-    let Some(dir) = nodes.get(at) else {
+    let Some(dir) = nodes.get_mut(at) else {
         return Ok(false);
     };
-    let bytes = bytes.copy(alloc)?;
-    let file = new_file(dir, object as u64 + 1, permissions, uid, gid, bytes);
     let name = name.to_vec(alloc)?;
-    add_entry(nodes, at, name, object)?;
-    nodes.push(file)?;
+    let node = new_object(dir, object as u64 + 1, permissions, uid, gid, content);
+    dir.add_entry(name, object, &node.content)?;
+    nodes.push(node)?;
     Ok(true)
+}
+
+/// A new object at the end of this path; false where it breaks the rules.
+fn add_object(
+    alloc: Global,
+    nodes: &mut Vec<Node>,
+    path: &[u8],
+    mode: u32,
+    uid: u32,
+    gid: u32,
+    content: Content,
+) -> Result<bool, AllocError>
+    ensures { IfOk result (λ added. AddsIf added (add_object nodes.old.items path.now mode uid gid content) nodes.new.items) }
+{
+    if mode >= 4096 {
+        return Ok(false);
+    }
+    match place_of(nodes, path) {
+        None => Ok(false),
+        Some((dir, name)) => add_at(alloc, nodes, dir, name, mode, uid, gid, content),
+    }
 }
 
 /// One line more; false where it breaks the rules.
@@ -145,13 +197,20 @@ fn add_line(alloc: Global, nodes: &mut Vec<Node>, line: &TreeLine) -> Result<boo
             gid,
             bytes,
         } => {
-            if *mode >= 4096 || bytes.len() > FILE_MAX {
+            if bytes.len() > FILE_MAX {
                 return Ok(false);
             }
-            match place_of(nodes, path.as_slice()) {
-                None => Ok(false),
-                Some((dir, name)) => add_file(alloc, nodes, dir, name, *mode, *uid, *gid, bytes),
-            }
+            let content = Content::Regular(bytes.copy(alloc)?);
+            add_object(alloc, nodes, path.as_slice(), *mode, *uid, *gid, content)
+        }
+        TreeLine::Dir {
+            path,
+            mode,
+            uid,
+            gid,
+        } => {
+            let content = Content::Directory(Names::new(alloc));
+            add_object(alloc, nodes, path.as_slice(), *mode, *uid, *gid, content)
         }
     }
 }
@@ -179,7 +238,7 @@ fn first_line(alloc: Global, line: &TreeLine) -> Option<Node>
                 None
             }
         }
-        TreeLine::File { .. } => None,
+        TreeLine::File { .. } | TreeLine::Dir { .. } => None,
     }
 }
 

@@ -9,8 +9,10 @@ ghost use Rattle.pt_tree.specs.Calls.{
   close_file,
   name_refusal,
   find_name,
+  find_open,
   open_walked,
   opening,
+  read_file,
   tell_status,
   walk_root,
 };
@@ -19,8 +21,9 @@ use crate::node::Node;
 use crate::opening::{apply_opening, opening_refusal};
 use crate::path::walk_root;
 use crate::permission::{Right, may};
+use crate::reading::{part_of, read_refusal};
 use crate::slots::{Descriptors, OpenFile};
-use pt_host::{Errno, Fd, HostOp, HostReply, HostSeat, HostValue, OpenFlags, Time};
+use pt_host::{Bytes, Errno, Fd, HostOp, HostReply, HostSeat, HostValue, OpenFlags, Time};
 use std::alloc::Global;
 
 /// The longest name of a file.
@@ -112,6 +115,17 @@ impl Store {
         dir.content.lookup(name).ok_or(Errno::ENOENT)
     }
 
+    /// The object of a descriptor, which is to be opened anew.
+    fn find_open(&self, fd: Fd, flags: OpenFlags) -> Result<usize, Errno>
+        ensures { result ≡ find_open flags.0 (open_at self.now.files fd.0) }
+    {
+        let file = self.files.get(fd).ok_or(Errno::EBADF)?;
+        if flags.includes(OpenFlags::O_CREAT) && flags.includes(OpenFlags::O_EXCL) {
+            return Err(Errno::EEXIST);
+        }
+        Ok(file.object)
+    }
+
     fn stat(&self, fd: Fd) -> HostReply
         requires { IsSound (state_of self.now) }
         ensures { (result, state_of self.now) ≡ tell_status (state_of self.now) (open_at self.now.files fd.0) }
@@ -122,6 +136,29 @@ impl Store {
         match self.nodes.get(file.object) {
             Some(node) => HostReply::Ok(HostValue::Stat(node.status())),
             None => HostReply::Refused(Errno::EIO),
+        }
+    }
+
+    fn read(&mut self, fd: Fd, offset: u64, size: u32) -> HostReply
+        requires { IsSound (state_of self.old) }
+        ensures { AnswersAs (read_file (state_of self.old) offset size (open_at self.old.files fd.0)) (state_of self.old) result (state_of self.new) }
+    {
+        let Some(file) = self.files.get(fd) else {
+            return HostReply::Refused(Errno::EBADF);
+        };
+        let Some(node) = self.nodes.get(file.object) else {
+            return HostReply::Refused(Errno::EIO);
+        };
+        if let Some(errno) = read_refusal(node, file.flags) {
+            return HostReply::Refused(errno);
+        }
+        let now = self.now();
+        match Bytes::from_slice(self.alloc, part_of(node.content.bytes(), offset, size)) {
+            Ok(bytes) => {
+                self.nodes[file.object].atime = now;
+                HostReply::Ok(HostValue::Bytes(bytes))
+            }
+            Err(_) => HostReply::NoMemory,
         }
     }
 
@@ -154,7 +191,12 @@ impl Store {
                 let found = self.find(seat, fd, name, flags);
                 self.open_found(seat, flags, found)
             }
+            HostOp::Reopen { fd, flags } => {
+                let object = self.find_open(fd, flags);
+                self.open_found(seat, flags, object)
+            }
             HostOp::Stat { fd } => self.stat(fd),
+            HostOp::ReadAt { fd, offset, size } => self.read(fd, offset, size),
             HostOp::Close { fd } => self.close(fd),
         }
     }

@@ -27,6 +27,16 @@ fn file(alloc: Global, path: &[u8], mode: u32, bytes: &[u8]) -> Result<TreeLine,
     })
 }
 
+fn dir(alloc: Global, path: &[u8], mode: u32) -> Result<TreeLine, AllocError> {
+    let path = Bytes::from_slice(alloc, path)?;
+    Ok(TreeLine::Dir {
+        path,
+        mode,
+        uid: 5,
+        gid: 6,
+    })
+}
+
 fn worked_tree(alloc: Global) -> Result<TreeSpec, AllocError> {
     let root = mount(alloc, 1, 1, b"/")?;
     let a = file(alloc, b"/a", 0o644, b"hi")?;
@@ -92,6 +102,34 @@ fn has_status(
 ) -> Result<bool, Fail> {
     match host.call(seat, &HostOp::Stat { fd: Fd(fd) }) {
         HostReply::Ok(HostValue::Stat(stat)) => Ok(stat == *expected),
+        _ => Err(Fail::from("another reply")),
+    }
+}
+
+fn reopen(fd: u32, flags: u32) -> HostOp<'static> {
+    HostOp::Reopen {
+        fd: Fd(fd),
+        flags: OpenFlags(flags),
+    }
+}
+
+fn read(fd: u32, offset: u64, size: u32) -> HostOp<'static> {
+    HostOp::ReadAt {
+        fd: Fd(fd),
+        offset,
+        size,
+    }
+}
+
+/// Whether the call reads these bytes.
+fn reads(
+    host: &mut TreeHost,
+    seat: &mut HostSeat,
+    op: HostOp<'_>,
+    expected: &[u8],
+) -> Result<bool, Fail> {
+    match host.call(seat, &op) {
+        HostReply::Ok(HostValue::Bytes(bytes)) => Ok(bytes.as_slice() == expected),
         _ => Err(Fail::from("another reply")),
     }
 }
@@ -208,6 +246,70 @@ fn names_are_refused(rt: HostRuntime) -> Result<(), Fail> {
     Ok(())
 }
 
+#[test]
+fn descriptors_are_opened_anew(rt: HostRuntime) -> Result<(), Fail> {
+    let mut host = host_of(rt.alloc(), &worked_tree(rt.alloc())?)?;
+    let mut seat = HostSeat::new(0, 0, Caps::ALL);
+    let path = OpenFlags::PATH.0;
+    let table = [
+        (root_of(b"/", path), 3),
+        (at(3, b"a", path), 4),
+        (reopen(5, 0), -9),
+        (reopen(4, 0o300), -17),
+        (reopen(4, 0o10000300), -17),
+        (reopen(4, 0o100), 5),
+        (reopen(4, 2), 6),
+        (reopen(6, path), 7),
+        (reopen(4, 3), -22),
+        (reopen(4, 0o200000), -20),
+        (reopen(4, 0o20200000), -95),
+        (reopen(3, 1), -21),
+        (reopen(3, 0o200000), 8),
+    ];
+    assert!(rt; answers(&mut host, &mut seat, &table)?);
+    let mut guest = HostSeat::new(1000, 1000, Caps(0));
+    let table = [(reopen(4, 1), -13), (reopen(6, 2), -13), (reopen(4, 0), 9)];
+    assert!(rt; answers(&mut host, &mut guest, &table)?);
+    Ok(())
+}
+
+#[test]
+fn bytes_are_read(rt: HostRuntime) -> Result<(), Fail> {
+    let mut host = host_of(rt.alloc(), &worked_tree(rt.alloc())?)?;
+    let mut seat = HostSeat::new(0, 0, Caps::ALL);
+    assert!(rt; answers(&mut host, &mut seat, &[(root_of(b"/a", 2), 3)])?);
+    assert!(rt; reads(&mut host, &mut seat, read(3, 0, 9), b"hi")?);
+    assert!(rt; reads(&mut host, &mut seat, read(3, 0, 1), b"h")?);
+    assert!(rt; reads(&mut host, &mut seat, read(3, 1, 1), b"i")?);
+    assert!(rt; reads(&mut host, &mut seat, read(3, 1, 0), b"")?);
+    assert!(rt; reads(&mut host, &mut seat, read(3, 2, 1), b"")?);
+    assert!(rt; reads(&mut host, &mut seat, read(3, u64::MAX, 1), b"")?);
+    let expected = Stat {
+        atime: Time { sec: 6, nsec: 0 },
+        ..stat_of(2, 33188, 1, 2, 1)
+    };
+    assert!(rt; has_status(&mut host, &mut seat, 3, &expected)?);
+    Ok(())
+}
+
+#[test]
+fn readings_are_refused(rt: HostRuntime) -> Result<(), Fail> {
+    let mut host = host_of(rt.alloc(), &worked_tree(rt.alloc())?)?;
+    let mut seat = HostSeat::new(0, 0, Caps::ALL);
+    let table = [
+        (read(3, 0, 1), -9),
+        (root_of(b"/", 0), 3),
+        (read(3, 0, 0), -21),
+        (root_of(b"/a", OpenFlags::PATH.0), 4),
+        (read(4, 0, 1), -9),
+        (root_of(b"/a", 1), 5),
+        (read(5, 0, 1), -9),
+    ];
+    assert!(rt; answers(&mut host, &mut seat, &table)?);
+    assert!(rt; has_status(&mut host, &mut seat, 5, &stat_of(2, 33188, 1, 2, 1))?);
+    Ok(())
+}
+
 /// Whether the file of mode 0o640, of user and group 0, is opened by this seat to these ends with these answers.
 fn may_open(alloc: Global, mut seat: HostSeat, reading: i64, writing: i64) -> Result<bool, Fail> {
     let root = mount(alloc, 1, 1, b"/")?;
@@ -274,6 +376,63 @@ fn lines_that_are_no_tree_are_found(rt: HostRuntime) -> Result<(), Fail> {
     assert_eq!(rt; bad_file(alloc, b"/", 0)?, 3);
     assert_eq!(rt; bad_file(alloc, b"/..", 0)?, 3);
     assert_eq!(rt; bad_file(alloc, b"/b\0", 0)?, 3);
+    Ok(())
+}
+
+/// The bad line of the root's mount, a file, a directory and a directory with this path and mode.
+fn bad_dir(alloc: Global, path: &[u8], mode: u32) -> Result<u32, Fail> {
+    let root = mount(alloc, 7, 9, b"/")?;
+    let a = file(alloc, b"/a", 0, b"")?;
+    let d = dir(alloc, b"/d", 0o7777)?;
+    let next = dir(alloc, path, mode)?;
+    bad_line(
+        alloc,
+        &TreeSpec::from_vec(vec![in alloc; root, a, d, next]?),
+    )
+}
+
+#[test]
+fn lines_of_directories_are_judged(rt: HostRuntime) -> Result<(), Fail> {
+    let alloc = rt.alloc();
+    let lines = vec![in alloc; dir(alloc, b"/", 0o755)?]?;
+    assert_eq!(rt; bad_line(alloc, &TreeSpec::from_vec(lines))?, 1);
+    assert_eq!(rt; bad_dir(alloc, b"/d/e", 0o7777)?, 0);
+    assert_eq!(rt; bad_dir(alloc, b"/e", 0o10000)?, 4);
+    assert_eq!(rt; bad_dir(alloc, b"/d", 0)?, 4);
+    assert_eq!(rt; bad_dir(alloc, b"/a", 0)?, 4);
+    assert_eq!(rt; bad_dir(alloc, b"/a/e", 0)?, 4);
+    assert_eq!(rt; bad_dir(alloc, b"/c/e", 0)?, 4);
+    assert_eq!(rt; bad_dir(alloc, b"/d/", 0)?, 4);
+    Ok(())
+}
+
+fn nested_tree(alloc: Global) -> Result<TreeSpec, AllocError> {
+    let root = mount(alloc, 1, 1, b"/")?;
+    let d = dir(alloc, b"/d", 0o700)?;
+    let f = file(alloc, b"/d/f", 0o644, b"hi")?;
+    let e = dir(alloc, b"/d/e", 0o755)?;
+    Ok(TreeSpec::from_vec(vec![in alloc; root, d, f, e]?))
+}
+
+#[test]
+fn directories_hold_names(rt: HostRuntime) -> Result<(), Fail> {
+    let alloc = rt.alloc();
+    let mut host = host_of(alloc, &nested_tree(alloc)?)?;
+    let listed = match host.listing(alloc) {
+        Ok(listed) => listed,
+        Err(_) => return Err(Fail::from("no memory")),
+    };
+    assert_eq!(rt;
+        listed.as_slice(),
+        b"obj / 1 1 1 16877 3 0 0 0 %-\nobj /d 2 1 1 16832 3 5 6 0 %-\nobj /d/e 4 1 1 16877 2 5 6 0 %-\nobj /d/f 3 1 1 33188 1 0 0 0 hi\n".as_slice()
+    );
+    let path = OpenFlags::PATH.0;
+    let mut guest = HostSeat::new(1000, 1000, Caps(0));
+    let table = [(root_of(b"/d", path), 3), (at(3, b"f", path), -13)];
+    assert!(rt; answers(&mut host, &mut guest, &table)?);
+    let mut owner = HostSeat::new(5, 1000, Caps(0));
+    let table = [(at(3, b"f", path), 4), (at(3, b"e", path), 5)];
+    assert!(rt; answers(&mut host, &mut owner, &table)?);
     Ok(())
 }
 

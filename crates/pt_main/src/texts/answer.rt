@@ -1,8 +1,13 @@
-ghost use Rattle.pt_main.specs.AnswerTexts.{timeout_text, attr_text, entry_text, answer_text};
+ghost use Rattle.std.specs.Prelude.{◌≡◌, ◌++◌, OnOk};
+ghost use Rattle.pt_main.specs.Texts.{word};
+ghost use Rattle.pt_main.specs.AnswerTexts.{timeout_text, attr_text, entry_text, options_text, open_options_text, dir_entry_text, listing_text, xattr_text, xattrs_text, answer_text};
 
 use crate::texts::Text;
 use crate::texts::plain::push_word;
-use pt_iface::{Answer, Attr, Entry, Timeout};
+use pt_iface::{
+    Answer, Attr, DirEntries, DirEntry, Entry, FsOptions, GetxattrReply, ListxattrReply,
+    OpenOptions, Timeout,
+};
 use std::alloc::AllocError;
 
 impl Text for Timeout {
@@ -46,6 +51,88 @@ impl Text for Entry {
     }
 }
 
+impl Text for FsOptions {
+    ghost text = { options_text };
+
+    fn write(&self, out: &mut Vec<u8>) -> Result<(), AllocError> {
+        self.0.write(out)
+    }
+}
+
+impl Text for OpenOptions {
+    ghost text = { open_options_text };
+
+    fn write(&self, out: &mut Vec<u8>) -> Result<(), AllocError> {
+        self.0.write(out)
+    }
+}
+
+impl Text for DirEntry {
+    ghost text = { dir_entry_text };
+
+    fn write(&self, out: &mut Vec<u8>) -> Result<(), AllocError> {
+        self.ino.write(out)?;
+        self.offset.write(out)?;
+        self.kind.write(out)?;
+        self.name.write(out)
+    }
+}
+
+impl Text for DirEntries {
+    ghost text = { listing_text };
+
+    fn write(&self, out: &mut Vec<u8>) -> Result<(), AllocError> {
+        let entries = self.as_slice();
+        (entries.len() as u64).write(out)?;
+        for entry in entries {
+            entry.write(out)?;
+        }
+        Ok(())
+    }
+}
+
+impl Text for GetxattrReply {
+    ghost text = { xattr_text };
+
+    fn write(&self, out: &mut Vec<u8>) -> Result<(), AllocError> {
+        match self {
+            GetxattrReply::Value(bytes) => {
+                push_word(out, b"Value")?;
+                bytes.write(out)
+            }
+            GetxattrReply::Count(count) => {
+                push_word(out, b"Count")?;
+                count.write(out)
+            }
+        }
+    }
+}
+
+impl Text for ListxattrReply {
+    ghost text = { xattrs_text };
+
+    fn write(&self, out: &mut Vec<u8>) -> Result<(), AllocError> {
+        match self {
+            ListxattrReply::Names(bytes) => {
+                push_word(out, b"Names")?;
+                bytes.write(out)
+            }
+            ListxattrReply::Count(count) => {
+                push_word(out, b"Count")?;
+                count.write(out)
+            }
+        }
+    }
+}
+
+// An answer that is its name and one value.
+fn push_named<T: Text>(out: &mut Vec<u8>, name: &[u8], value: &T) -> Result<(), AllocError>
+    ensures { OnOk result (out.new.items ≡ out.old.items ++ word name.now ++ T.text value.now) }
+{
+    push_word(out, name)?;
+    value.write(out)
+}
+
 impl Text for Answer {
     ghost text = { answer_text };
 
@@ -53,14 +140,32 @@ impl Text for Answer {
         match self {
             Answer::NoReply => push_word(out, b"NoReply"),
             Answer::Done => push_word(out, b"Done"),
-            Answer::Entry(entry) => {
-                push_word(out, b"Entry")?;
-                entry.write(out)
+            Answer::Inited(options) => push_named(out, b"Inited", options),
+            Answer::Entry(entry) => push_named(out, b"Entry", entry),
+            Answer::Opened(handle, options) => {
+                push_named(out, b"Opened", handle)?;
+                options.write(out)
             }
-            Answer::Refused(errno) => {
-                push_word(out, b"Refused")?;
-                errno.write(out)
+            Answer::Created(entry, handle, options) => {
+                push_named(out, b"Created", entry)?;
+                handle.write(out)?;
+                options.write(out)
             }
+            Answer::Attr(attr, timeout) => {
+                push_named(out, b"Attr", attr)?;
+                timeout.write(out)
+            }
+            Answer::Read(bytes) => push_named(out, b"Read", bytes),
+            Answer::Wrote(count) => push_named(out, b"Wrote", count),
+            Answer::Link(target) => push_named(out, b"Link", target),
+            Answer::FsStat(stat) => push_named(out, b"FsStat", stat),
+            Answer::Listing(entries) => push_named(out, b"Listing", entries),
+            Answer::Xattr(told) => push_named(out, b"Xattr", told),
+            Answer::Xattrs(told) => push_named(out, b"Xattrs", told),
+            Answer::Offset(place) => push_named(out, b"Offset", place),
+            Answer::Edited => push_word(out, b"Edited"),
+            Answer::EditRefused(errno) => push_named(out, b"EditRefused", errno),
+            Answer::Refused(errno) => push_named(out, b"Refused", errno),
             Answer::NoMemory => push_word(out, b"NoMemory"),
             Answer::Cut => push_word(out, b"Cut"),
         }

@@ -1,8 +1,8 @@
-ghost use Rattle.pt_main.specs.HostTexts.{errno_text, fd_text, flags_text, ids_text, time_text, stat_text, call_text, value_text, host_reply_text};
+ghost use Rattle.pt_main.specs.HostTexts.{errno_text, fd_text, flags_text, ids_text, time_text, stat_text, fs_stat_text, call_text, value_text, host_reply_text};
 
 use crate::texts::Text;
 use crate::texts::plain::push_word;
-use pt_host::{Errno, Fd, HostReply, HostValue, KeptHostOp, ObjIds, OpenFlags, Stat, Time};
+use pt_host::{Errno, Fd, FsStat, HostReply, HostValue, KeptHostOp, ObjIds, OpenFlags, Stat, Time};
 use std::alloc::AllocError;
 
 impl Text for Errno {
@@ -67,6 +67,21 @@ impl Text for Stat {
     }
 }
 
+impl Text for FsStat {
+    ghost text = { fs_stat_text };
+
+    fn write(&self, out: &mut Vec<u8>) -> Result<(), AllocError> {
+        self.blocks.write(out)?;
+        self.bfree.write(out)?;
+        self.bavail.write(out)?;
+        self.files.write(out)?;
+        self.ffree.write(out)?;
+        self.bsize.write(out)?;
+        self.namelen.write(out)?;
+        self.frsize.write(out)
+    }
+}
+
 impl Text for KeptHostOp {
     ghost text = { call_text };
 
@@ -89,9 +104,20 @@ impl Text for KeptHostOp {
                 flags.write(out)?;
                 mode.write(out)
             }
+            KeptHostOp::Reopen { fd, flags } => {
+                push_word(out, b"Reopen")?;
+                fd.write(out)?;
+                flags.write(out)
+            }
             KeptHostOp::Stat { fd } => {
                 push_word(out, b"Stat")?;
                 fd.write(out)
+            }
+            KeptHostOp::ReadAt { fd, offset, size } => {
+                push_word(out, b"ReadAt")?;
+                fd.write(out)?;
+                offset.write(out)?;
+                size.write(out)
             }
             KeptHostOp::Close { fd } => {
                 push_word(out, b"Close")?;

@@ -1,10 +1,9 @@
 ghost use Rattle.std.specs.Prelude.{◌≡◌, ◌++◌, OnOk};
-ghost use Rattle.pt_main.specs.SessionTexts.{handle_text, form_text, row_text, negotiated_text, pair_text, forgets_text, event_text, refusal_text, event_reply_text, act_text, act_reply_text};
+ghost use Rattle.pt_main.specs.SessionTexts.{handle_text, form_text, row_text, negotiated_text, pair_text, forgets_text, event_text, refusal_text, event_reply_text};
 
 use crate::texts::Text;
 use crate::texts::plain::{push_bytes, push_word};
 use pt_host::{FileHandle, ObjIds};
-use pt_req::{ActReply, KeptAct};
 use pt_session::{EventRefusal, EventReply, ForgetList, KeptEvent, Negotiated, RowForm};
 use std::alloc::AllocError;
 
@@ -129,6 +128,34 @@ impl Text for KeptEvent {
                 era.write(out)?;
                 number.write(out)
             }
+            KeptEvent::DrawHandle => push_word(out, b"DrawHandle"),
+            KeptEvent::InsertHandle {
+                era,
+                handle,
+                number,
+                fd,
+            } => {
+                push_word(out, b"InsertHandle")?;
+                era.write(out)?;
+                handle.write(out)?;
+                number.write(out)?;
+                fd.write(out)
+            }
+            KeptEvent::PinHandle { handle, number } => {
+                push_word(out, b"PinHandle")?;
+                handle.write(out)?;
+                number.write(out)
+            }
+            KeptEvent::UnpinHandle { row } => {
+                push_word(out, b"UnpinHandle")?;
+                row.write(out)
+            }
+            KeptEvent::Release { handle, number } => {
+                push_word(out, b"Release")?;
+                handle.write(out)?;
+                number.write(out)
+            }
+            KeptEvent::Clear => push_word(out, b"Clear"),
             KeptEvent::TakeClosing => push_word(out, b"TakeClosing"),
         }
     }
@@ -197,34 +224,20 @@ impl Text for EventReply {
                 fd.write(out)?;
                 slot.write(out)
             }
+            EventReply::Pinned { row, fd } => {
+                push_word(out, b"Pinned")?;
+                row.write(out)?;
+                fd.write(out)
+            }
+            EventReply::Cleared { era, closings } => {
+                push_word(out, b"Cleared")?;
+                era.write(out)?;
+                closings.write(out)
+            }
             EventReply::Refused(refusal) => {
                 push_word(out, b"Refused")?;
                 refusal.write(out)
             }
-        }
-    }
-}
-
-impl Text for KeptAct {
-    ghost text = { act_text };
-
-    fn write(&self, out: &mut Vec<u8>) -> Result<(), AllocError> {
-        match self {
-            KeptAct::Event(event) => event.write(out),
-            KeptAct::Host(call) => call.write(out),
-            KeptAct::NoCopy => push_word(out, b"NoCopy"),
-        }
-    }
-}
-
-impl Text for ActReply {
-    ghost text = { act_reply_text };
-
-    fn write(&self, out: &mut Vec<u8>) -> Result<(), AllocError> {
-        match self {
-            ActReply::Event(reply) => reply.write(out),
-            ActReply::Host(reply) => reply.write(out),
-            ActReply::NoCopy => push_word(out, b"NoCopy"),
         }
     }
 }

@@ -215,7 +215,8 @@ impl<B: Body> Framed<B> {
         requires { is_all_over self.taken self.closings self.mode self.holds ≡ true }
         ensures { (plan : Plan) → left_of self.taken self.closings self.mode (B.left self.body plan) self.holds ≡ End result }
     {
-        match self.mode {
+        let mode = self.mode;
+        match mode {
             Mode::Leave(last) => last,
             Mode::Out { answer, .. } => Finish::Answer(answer),
             _ => Finish::Answer(Answer::NoMemory),

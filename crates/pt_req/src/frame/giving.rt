@@ -26,6 +26,7 @@ pub fn giving<'a>(hold: Hold) -> Act<'a>
 {
     match hold {
         Hold::Pin { row, .. } => Act::Event(Event::Unpin { row }),
+        Hold::HandlePin { row, .. } => Act::Event(Event::UnpinHandle { row }),
         Hold::Fd { fd, .. } => Act::Host(HostOp::Close { fd }),
         Hold::Slot => Act::Event(Event::GiveFd),
         Hold::Count { era, number } => Act::Event(Event::GiveBack { era, number }),
@@ -37,7 +38,11 @@ pub fn is_scope(hold: Hold) -> bool
     ensures { result ≡ is_scope hold }
 {
     match hold {
-        Hold::Pin { .. } | Hold::Fd { .. } | Hold::Slot | Hold::Count { .. } => false,
+        Hold::Pin { .. }
+        | Hold::HandlePin { .. }
+        | Hold::Fd { .. }
+        | Hold::Slot
+        | Hold::Count { .. } => false,
     }
 }
 
@@ -53,6 +58,15 @@ pub fn closings_in(act: &Act<'_>, reply: &ActReply) -> u64
             *closings
         }
         (Act::Event(Event::GiveBack { .. }), ActReply::Event(EventReply::Done { closings })) => {
+            *closings
+        }
+        (Act::Event(Event::UnpinHandle { .. }), ActReply::Event(EventReply::Done { closings })) => {
+            *closings
+        }
+        (Act::Event(Event::Release { .. }), ActReply::Event(EventReply::Done { closings })) => {
+            *closings
+        }
+        (Act::Event(Event::Clear), ActReply::Event(EventReply::Cleared { closings, .. })) => {
             *closings
         }
         _ => 0,

@@ -102,11 +102,13 @@ fn count_for(era: u64, given: u64, holds: &mut Holds)
     }
 }
 
-/// The table took the root's descriptor and its slot.
-fn root_taken(holds: &mut Holds)
+/// The table took the descriptor of the root or of a handle, and its slot.
+fn fd_taken(holds: &mut Holds)
     requires { length holds.old ≤ 16 }
-    ensures held { (era given mode : ℕ) (form : RowForm) (ids : ObjIds) (agreed : Option Negotiated) →
+    ensures root { (era given mode : ℕ) (form : RowForm) (ids : ObjIds) (agreed : Option Negotiated) →
         holds.new ≡ held (Changes (change.InsertRoot era form ids mode agreed)) (told.Event (event.Inserted given)) holds.old }
+    ensures handle { (era given number handle : ℕ) (fd : Fd) →
+        holds.new ≡ held (Changes (change.InsertHandle era handle number fd)) (told.Event (event.Inserted given)) holds.old }
     ensures length { length holds.new ≤ length holds.old }
 {
     match holds.pop() {
@@ -138,6 +140,10 @@ fn hold_called(op: &HostOp<'_>, value: &HostValue, holds: &mut Holds)
             let told = None;
             lay(Hold::Fd { fd: *fd, told }, holds);
         }
+        (HostOp::Reopen { .. }, HostValue::Fd(fd)) => {
+            let told = None;
+            lay(Hold::Fd { fd: *fd, told }, holds);
+        }
         (HostOp::Stat { .. }, HostValue::Stat(stat)) => tell(stat, holds),
         _ => {}
     }
@@ -166,7 +172,11 @@ fn hold_changed(event: &Event<'_>, reply: &EventReply, holds: &mut Holds)
             era: *era,
             number: *number,
         }),
-        (Event::InsertRoot { .. }, EventReply::Inserted { .. }) => root_taken(holds),
+        (Event::InsertRoot { .. }, EventReply::Inserted { .. }) => fd_taken(holds),
+        (Event::InsertHandle { .. }, EventReply::Inserted { .. }) => fd_taken(holds),
+        (Event::PinHandle { .. }, EventReply::Pinned { row, fd }) => {
+            lay(Hold::HandlePin { row: *row, fd: *fd }, holds);
+        }
         _ => {}
     }
 }

@@ -1,8 +1,11 @@
+ghost use Rattle.std.specs.Prelude.{◌≡◌};
+ghost use Rattle.pt_req.specs.Bodies.{pairs_of};
+
 use crate::act::{Act, ActReply};
 use crate::frame::{Body, Next, Then};
 use crate::plan::Plan;
 use pt_host::HostSeat;
-use pt_iface::Answer;
+use pt_iface::{Answer, ForgetList};
 use pt_session::{Event, EventReply};
 
 /// Where the request `forget` stands.
@@ -12,10 +15,28 @@ pub enum ForgetAt {
     Forget,
 }
 
-/// The request `forget`, with its number and count as a list of one pair.
+/// Numbers with the counts that are taken back of them.
+#[derive(Debug, Drop)]
+pub enum Forgotten {
+    One([(u64, u64); 1]),
+    Many(ForgetList),
+}
+
+impl Forgotten {
+    fn as_slice(&self) -> &[(u64, u64)]
+        ensures { result.now ≡ pairs_of self.now }
+    {
+        match self {
+            Forgotten::One(pair) => pair,
+            Forgotten::Many(list) => list.as_slice(),
+        }
+    }
+}
+
+/// The request `forget`, of one number or of many.
 #[derive(Debug, Drop)]
 pub struct Forget {
-    pub list: [(u64, u64); 1],
+    pub list: Forgotten,
     pub at: ForgetAt,
 }
 
@@ -33,7 +54,9 @@ impl Body for Forget {
     fn want<'a>(&'a self, _plan: &'a Plan, _seat: &HostSeat) -> Act<'a> {
         match self.at {
             ForgetAt::Begin => Act::Event(Event::Begin),
-            ForgetAt::Forget => Act::Event(Event::Forget { list: &self.list }),
+            ForgetAt::Forget => Act::Event(Event::Forget {
+                list: self.list.as_slice(),
+            }),
         }
     }
 

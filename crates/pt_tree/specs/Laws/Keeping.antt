@@ -1,4 +1,4 @@
--- What an opening leaves of its object.
+-- What an opening and a reading leave of their object.
 use Rattle.std.proofs.Common.{◌≡◌, ◌≤◌, ◌-◌, ℕ, Bool, true, false, cond, refl, ap, sym, arith, ◌&&◌, not}
 use Rattle.pt_host.specs.declared.ids.Time.{Time}
 use Rattle.pt_host.specs.declared.seat.HostSeat.{HostSeat}
@@ -6,6 +6,7 @@ use Rattle.pt_host.specs.Flags.{includes, o_trunc, o_path}
 use Rattle.pt_tree.specs.Node.{object_of, names_in, kind_number}
 use Rattle.pt_tree.specs.Permission.{fsetid}
 use Rattle.pt_tree.specs.Opening.{emptied, after_opening, permissions_after, without_set_user, without_set_group}
+use Rattle.pt_tree.specs.Reading.{after_reading}
 use Rattle.pt_tree.specs.declared.node.Node.{Node}
 use Rattle.pt_tree.specs.declared.node.Content.{Content}
 use Rattle.pt_tree.specs.declared.node.Content.TheVariants.{Directory, Regular}
@@ -49,3 +50,6 @@ keeps_where b before after keeps = elim b as (λ v. Keeps before (cond v after b
 pub keeps_opening : (seat : HostSeat) (now : Time) (flags : ℕ) (node : Node) → Keeps node (after_opening seat now flags node)
 keeps_opening seat now flags node =
     keeps_where (includes flags o_trunc && not (includes flags o_path)) node (emptied seat now node node.content) (keeps_emptied seat now node node.content refl)
+
+pub keeps_reading : (now : Time) (node : Node) → Keeps node (after_reading now node)
+keeps_reading now node = record { ids = refl; serial = refl; object = refl; names = refl; permissions = omega arith }

@@ -5,8 +5,8 @@ use Rattle.std.proofs.lemmas.Option.{same_Some, slice_get_within, slice_get-map}
 use Rattle.std.proofs.lemmas.Bool.Decides.{eqb_tells}
 use Rattle.pt_host.specs.Call.{Call}
 use Rattle.pt_host.specs.Words.{set_at}
-use Rattle.pt_host.specs.Flags.{includes, o_creat, o_path, o_tmpfile}
-use Rattle.pt_host.specs.Errno.{errno_of, enoent, eopnotsupp, eio}
+use Rattle.pt_host.specs.Flags.{includes, o_creat, o_excl, o_path, o_tmpfile}
+use Rattle.pt_host.specs.Errno.{errno_of, enoent, eexist, eopnotsupp, eio}
 use Rattle.pt_host.specs.Tree.{Tree, Object, Opened, IsOpenOn}
 use Rattle.pt_host.specs.LawfulStep.{LawfulStep, Changes, MayRefuse, Opens, opened_on, closed_at}
 use Rattle.pt_host.specs.declared.ids.Errno.{Errno}
@@ -18,11 +18,12 @@ use Rattle.pt_host.specs.declared.reply.HostReply.{HostReply}
 use Rattle.pt_host.specs.declared.reply.HostReply.TheVariants as reply
 use Rattle.pt_host.specs.declared.reply.HostValue.TheVariants as value
 use Rattle.pt_tree.specs.Names.{found}
-use Rattle.pt_tree.specs.Node.{name_at, names_in, object_of, kind_number}
+use Rattle.pt_tree.specs.Node.{bytes_in, name_at, names_in, object_of, kind_number}
 use Rattle.pt_tree.specs.Slots.{open_at, file_of, least_free, put_at, closed_where}
 use Rattle.pt_tree.specs.State.{State, tree_of, opened_as, time_of}
 use Rattle.pt_tree.specs.Opening.{first_refusal, path_checks, open_checks, opening_refusal, after_opening}
-use Rattle.pt_tree.specs.Calls.{tells, unless, with_opened, opening_of, open_walked, find_in, find_name, name_refusal, name_checks, ok_unless, tell_node, tell_status, close_file, walk_root}
+use Rattle.pt_tree.specs.Reading.{after_reading, part_of, read_refusal}
+use Rattle.pt_tree.specs.Calls.{tells, unless, with_opened, opening_of, open_walked, find_in, find_name, find_open, name_refusal, name_checks, ok_unless, tell_node, tell_status, with_read, read_node, read_file, close_file, walk_root}
 use Rattle.pt_tree.specs.Does.{AnswersCall, Does}
 use Rattle.pt_tree.specs.Sound.{IsSound}
 use Rattle.pt_tree.specs.declared.node.Node.{Node}
@@ -31,7 +32,7 @@ use Rattle.pt_tree.specs.declared.slots.Slot.{Slot}
 use Rattle.pt_tree.specs.declared.slots.Slot.TheVariants.{Reserved, Free, Open}
 use Rattle.pt_tree.specs.Laws.SlotTable.{least_free-le-length}
 use Rattle.pt_tree.specs.Laws.Updates.{map-set_same, get-put_here, get-put_apart, get-set_here, get-set_apart}
-use Rattle.pt_tree.specs.Laws.Keeping.{keeps_opening}
+use Rattle.pt_tree.specs.Laws.Keeping.{Keeps, keeps_opening, keeps_reading}
 use Rattle.pt_tree.specs.Laws.Soundness.{same_names, sound-answers, open_slot}
 use Rattle.pt_tree.specs.Laws.WellFormed.{well_formed, file_of_open}
 
@@ -68,6 +69,18 @@ opened-put file slots fd = elim (eqb_tells fd (least_free slots)) [
       ∙ sym (ap (λ b. cond b (Some (opened_as file)) (option_map opened_as (open_at slots fd))) apart.0)
 ]
 
+leads_kept : (nodes : List Node) (object : ℕ) (node after : Node) → slice_get nodes object ≡ Some node → Keeps node after →
+    name_at (slice_set nodes object after) ≡ name_at nodes
+leads_kept nodes object node after is keeps =
+    same_function (name_at (slice_set nodes object after)) (name_at nodes)
+    (λ dir. same_function (name_at (slice_set nodes object after) dir) (name_at nodes dir) (λ name. same_names nodes object node after is keeps dir name))
+
+-- the tree does not tell the object from what it has become
+pub tree-with_node : (state : State) (object : ℕ) (node after : Node) → slice_get state.nodes object ≡ Some node → Keeps node after →
+    tree_of (record state { nodes = slice_set state.nodes object after }) ≡ tree_of state
+tree-with_node state object node after is keeps =
+    same_tree _ _ _ _ _ _ (map-set_same object_of state.nodes object node after is keeps.object) (leads_kept state.nodes object node after is keeps) refl
+
 pub tree-with_opened : (state : State) (seat : HostSeat) (flags : OpenFlags) (object : ℕ) (node : Node) → slice_get state.nodes object ≡ Some node →
     tree_of (with_opened state seat flags object node) ≡ opened_on (tree_of state) object flags (record { 0 = least_free state.slots })
 tree-with_opened state seat flags object node is =
@@ -75,8 +88,7 @@ tree-with_opened state seat flags object node is =
     let keeps = keeps_opening seat (time_of state) flags.0 node in
     same_tree _ _ _ _ _ _
     (map-set_same object_of state.nodes object node after is keeps.object)
-    (same_function (name_at (slice_set state.nodes object after)) (name_at state.nodes)
-    (λ dir. same_function (name_at (slice_set state.nodes object after) dir) (name_at state.nodes dir) (λ name. same_names state.nodes object node after is keeps dir name)))
+    (leads_kept state.nodes object node after is keeps)
     (same_function _ _ (λ fd. opened-put (record { object = object; flags = flags }) state.slots fd))
 
 -- errors of different numbers are different
@@ -285,6 +297,31 @@ at_changes before seat fd name flags mode given after (inl told) =
           (at_opened before seat fd name flags mode object new after led opens)
     ]
 
+found_where_open : (asks_new : Bool) (there object : ℕ) → cond asks_new (Err eexist) (Ok there) ≡ Ok object → there ≡ object
+found_where_open true there object is = cc
+found_where_open false there object is = cc
+
+-- an object that is opened anew is that of the descriptor
+found_open : (before : State) (fd : Fd) (flags object : ℕ) (file : Option OpenFile) → open_at before.slots fd.0 ≡ file → find_open flags file ≡ Ok object →
+    IsOpenOn (tree_of before) fd object
+found_open before fd flags object None on is = cc
+found_open before fd flags object (Some file) on is =
+    (opened_as file, ap (option_map opened_as) on, found_where_open (includes flags o_creat && includes flags o_excl) file.object object is)
+
+pub reopen_changes : (before : State) (seat : HostSeat) (fd : Fd) (flags : OpenFlags) (given : HostReply) (after : State) →
+    AnswersCall before seat (call.Reopen fd flags) given after → Changes (tree_of before) (call.Reopen fd flags) given (tree_of after)
+reopen_changes before seat fd flags given after (inr none) =
+    subst (λ reply. Changes (tree_of before) (call.Reopen fd flags) reply (tree_of after)) (sym none.0) (ap tree_of none.1)
+reopen_changes before seat fd flags given after (inl told) =
+    elim (walked_cases before seat flags (find_open flags.0 (open_at before.slots fd.0)) given after told) [
+      | inl (errno, led, is, same) ↦ subst (λ reply. Changes (tree_of before) (call.Reopen fd flags) reply (tree_of after)) (sym is) (tt, ap tree_of same)
+      | inr (object, led, inl (errno, is, other, same)) ↦
+          subst (λ reply. Changes (tree_of before) (call.Reopen fd flags) reply (tree_of after)) (sym is) (tt, ap tree_of same)
+      | inr (object, led, inr (new, is, opens)) ↦
+          subst (λ reply. Changes (tree_of before) (call.Reopen fd flags) reply (tree_of after)) (sym is)
+          (object, found_open before fd flags.0 object (open_at before.slots fd.0) refl led, opens)
+    ]
+
 kind_from : (kind permissions : ℕ) → permissions < 4096 → (4096 * kind + permissions) / 4096 ≡ kind
 kind_from kind permissions small = omega arith
 
@@ -309,6 +346,41 @@ told_status before fd None given after sound on told =
     subst (λ reply. Changes (tree_of before) (call.Stat fd) reply (tree_of after)) (sym (ap (λ both. both.0) told)) (tt, ap tree_of (ap (λ both. both.1) told))
 told_status before fd (Some file) given after sound on told =
     told_node before fd file (slice_get before.nodes file.object) given after sound on refl told
+
+read_unless : (before : State) (fd : Fd) (offset size : ℕ) (file : OpenFile) (node : Node) (refusal : Option Errno) (given : HostReply) (after : State) →
+    slice_get before.nodes file.object ≡ Some node →
+    (given, after) ≡ unless before refusal (tells (with_read before file.object node) (value.Bytes (part_of offset size (bytes_in node.content)))) →
+    Changes (tree_of before) (call.ReadAt fd offset size) given (tree_of after)
+read_unless before fd offset size file node (Some errno) given after is told =
+    subst (λ reply. Changes (tree_of before) (call.ReadAt fd offset size) reply (tree_of after)) (sym (ap (λ both. both.0) told))
+    (tt, ap tree_of (ap (λ both. both.1) told))
+read_unless before fd offset size file node None given after is told =
+    subst (λ reply. Changes (tree_of before) (call.ReadAt fd offset size) reply (tree_of after)) (sym (ap (λ both. both.0) told))
+    (ap tree_of (ap (λ both. both.1) told)
+    ∙ tree-with_node before file.object node (after_reading (time_of before) node) is (keeps_reading (time_of before) node))
+
+read_there : (before : State) (fd : Fd) (offset size : ℕ) (file : OpenFile) (node : Option Node) (given : HostReply) (after : State) →
+    slice_get before.nodes file.object ≡ node → (given, after) ≡ read_node before offset size file node →
+    Changes (tree_of before) (call.ReadAt fd offset size) given (tree_of after)
+read_there before fd offset size file None given after is told =
+    subst (λ reply. Changes (tree_of before) (call.ReadAt fd offset size) reply (tree_of after)) (sym (ap (λ both. both.0) told))
+    (tt, ap tree_of (ap (λ both. both.1) told))
+read_there before fd offset size file (Some node) given after is told =
+    read_unless before fd offset size file node (read_refusal node file.flags.0) given after is told
+
+read_open : (before : State) (fd : Fd) (offset size : ℕ) (file : Option OpenFile) (given : HostReply) (after : State) →
+    (given, after) ≡ read_file before offset size file → Changes (tree_of before) (call.ReadAt fd offset size) given (tree_of after)
+read_open before fd offset size None given after told =
+    subst (λ reply. Changes (tree_of before) (call.ReadAt fd offset size) reply (tree_of after)) (sym (ap (λ both. both.0) told))
+    (tt, ap tree_of (ap (λ both. both.1) told))
+read_open before fd offset size (Some file) given after told =
+    read_there before fd offset size file (slice_get before.nodes file.object) given after refl told
+
+pub read_changes : (before : State) (seat : HostSeat) (fd : Fd) (offset size : ℕ) (given : HostReply) (after : State) →
+    AnswersCall before seat (call.ReadAt fd offset size) given after → Changes (tree_of before) (call.ReadAt fd offset size) given (tree_of after)
+read_changes before seat fd offset size given after (inr none) =
+    subst (λ reply. Changes (tree_of before) (call.ReadAt fd offset size) reply (tree_of after)) (sym none.0) (ap tree_of none.1)
+read_changes before seat fd offset size given after (inl told) = read_open before fd offset size (open_at before.slots fd.0) given after told
 
 none_opened : (o : Option OpenFile) → o ≡ None → option_map opened_as o ≡ None
 none_opened o is = ap (option_map opened_as) is
@@ -347,6 +419,8 @@ pub changes : (before : State) (seat : HostSeat) (asked : Call) (given : HostRep
     AnswersCall before seat asked given after → Changes (tree_of before) asked given (tree_of after)
 changes before seat (call.OpenRoot path flags) given after sound answers = root_changes before seat path flags given after answers
 changes before seat (call.OpenAt fd name flags mode) given after sound answers = at_changes before seat fd name flags mode given after answers
+changes before seat (call.Reopen fd flags) given after sound answers = reopen_changes before seat fd flags given after answers
+changes before seat (call.ReadAt fd offset size) given after sound answers = read_changes before seat fd offset size given after answers
 changes before seat (call.Stat fd) given after sound answers = told_status before fd (open_at before.slots fd.0) given after sound refl answers
 changes before seat (call.Close fd) given after sound answers = told_closed before fd (open_at before.slots fd.0) given after refl answers
 

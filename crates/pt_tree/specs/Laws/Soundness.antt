@@ -12,7 +12,8 @@ use Rattle.pt_tree.specs.Node.{name_at, names_in}
 use Rattle.pt_tree.specs.Slots.{open_at, file_of, closed, closed_where, least_free}
 use Rattle.pt_tree.specs.State.{State, counted, time_of}
 use Rattle.pt_tree.specs.Opening.{after_opening, opening_refusal}
-use Rattle.pt_tree.specs.Calls.{Answered, answer, unless, with_opened, opening_of, open_walked, tell_node, tell_status, close_file, find_name, walk_root}
+use Rattle.pt_tree.specs.Reading.{after_reading, read_refusal}
+use Rattle.pt_tree.specs.Calls.{Answered, answer, unless, with_opened, opening_of, open_walked, tell_node, tell_status, read_node, read_file, close_file, find_name, find_open, walk_root}
 use Rattle.pt_tree.specs.Does.{AnswersAs, AnswersCall, Answers}
 use Rattle.pt_tree.specs.Sound.{IsSound, IsNumbered}
 use Rattle.pt_tree.specs.declared.node.Node.{Node}
@@ -20,7 +21,7 @@ use Rattle.pt_tree.specs.declared.slots.OpenFile.{OpenFile}
 use Rattle.pt_tree.specs.declared.slots.Slot.{Slot}
 use Rattle.pt_tree.specs.declared.slots.Slot.TheVariants.{Reserved, Free, Open}
 use Rattle.pt_tree.specs.Laws.Updates.{and_then-set_same, get-set_cases, get-put_cases}
-use Rattle.pt_tree.specs.Laws.Keeping.{Keeps, keeps_opening}
+use Rattle.pt_tree.specs.Laws.Keeping.{Keeps, keeps_opening, keeps_reading}
 
 pub open_slot : (slot : Option Slot) (file : OpenFile) → file_of slot ≡ Some file → slot ≡ Some (Open file)
 open_slot None file is = cc
@@ -49,11 +50,10 @@ pub same_names : (nodes : List Node) (object : ℕ) (before after : Node) → sl
 same_names nodes object before after is keeps dir name =
     and_then-set_same (λ node. found name (names_in node.content)) nodes object before after dir is (ap (found name) keeps.names)
 
-pub sound-with_opened : (state : State) (seat : HostSeat) (flags : OpenFlags) (object : ℕ) (node : Node) → IsSound state →
-    slice_get state.nodes object ≡ Some node → IsSound (with_opened state seat flags object node)
-sound-with_opened state seat flags object node sound is =
-    let after = after_opening seat (time_of state) flags.0 node in
-    let keeps = keeps_opening seat (time_of state) flags.0 node in
+-- one object has become another of the same place
+pub sound-with_node : (state : State) (object : ℕ) (node after : Node) → IsSound state → slice_get state.nodes object ≡ Some node → Keeps node after →
+    IsSound (record state { nodes = slice_set state.nodes object after })
+sound-with_node state object node after sound is keeps =
     let same = length-set state.nodes object after in
     record {
       timely = sound.timely;
@@ -64,6 +64,20 @@ sound-with_opened state seat flags object node sound is =
       ];
       named = λ dir name to found.
           subst (λ n. to < n) (sym same) (sound.named dir name to (sym (same_names state.nodes object node after is keeps dir name) ∙ found));
+      opened = λ fd file found. subst (λ n. file.object < n) (sym same) (sound.opened fd file found);
+    }
+
+pub sound-with_opened : (state : State) (seat : HostSeat) (flags : OpenFlags) (object : ℕ) (node : Node) → IsSound state →
+    slice_get state.nodes object ≡ Some node → IsSound (with_opened state seat flags object node)
+sound-with_opened state seat flags object node sound is =
+    let after = after_opening seat (time_of state) flags.0 node in
+    let kept = sound-with_node state object node after sound is (keeps_opening seat (time_of state) flags.0 node) in
+    let same = length-set state.nodes object after in
+    record {
+      timely = kept.timely;
+      few = kept.few;
+      numbered = kept.numbered;
+      named = kept.named;
       opened = λ fd file found.
           subst (λ n. file.object < n) (sym same) (sound_slots state (with_opened state seat flags object node).slots sound (λ other held is_open.
           elim (get-put_cases (least_free state.slots) (Open (record { object = object; flags = flags })) state.slots other (Open held) is_open) [
@@ -100,6 +114,17 @@ pub same-tell_status : (state : State) (file : Option OpenFile) → (tell_status
 same-tell_status state None = refl
 same-tell_status state (Some file) = same-tell_node state (slice_get state.nodes file.object)
 
+pub sound-read_node : (state : State) (offset size : ℕ) (file : OpenFile) (node : Option Node) → IsSound state →
+    slice_get state.nodes file.object ≡ node → IsSound (read_node state offset size file node).1
+sound-read_node state offset size file None sound is = sound
+sound-read_node state offset size file (Some node) sound is =
+    sound-unless state (read_refusal node file.flags.0) _ sound
+    (sound-with_node state file.object node (after_reading (time_of state) node) sound is (keeps_reading (time_of state) node))
+
+pub sound-read_file : (state : State) (offset size : ℕ) (file : Option OpenFile) → IsSound state → IsSound (read_file state offset size file).1
+sound-read_file state offset size None sound = sound
+sound-read_file state offset size (Some file) sound = sound-read_node state offset size file (slice_get state.nodes file.object) sound refl
+
 -- closing opens nothing
 closed_kept : (held : Option OpenFile) (fd : ℕ) (slots : List Slot) (other : ℕ) (file : OpenFile) →
     slice_get (closed_where held fd slots) other ≡ Some (Open file) → slice_get slots other ≡ Some (Open file)
@@ -129,7 +154,9 @@ pub sound-answer : (state : State) (seat : HostSeat) (asked : Call) → IsSound 
 sound-answer state seat (call.OpenRoot path flags) sound = sound-open_walked state seat flags (walk_root state.nodes path) sound
 sound-answer state seat (call.OpenAt fd name flags mode) sound =
     sound-open_walked state seat flags (find_name state.nodes seat name flags.0 (open_at state.slots fd.0)) sound
+sound-answer state seat (call.Reopen fd flags) sound = sound-open_walked state seat flags (find_open flags.0 (open_at state.slots fd.0)) sound
 sound-answer state seat (call.Stat fd) sound = subst IsSound (sym (same-tell_status state (open_at state.slots fd.0))) sound
+sound-answer state seat (call.ReadAt fd offset size) sound = sound-read_file state offset size (open_at state.slots fd.0) sound
 sound-answer state seat (call.Close fd) sound = sound-close_file state fd.0 (open_at state.slots fd.0) sound
 
 sound-answers_as : (told : Answered) (before : State) (given : HostReply) (after : State) → AnswersAs told before given after →
@@ -145,6 +172,10 @@ sound-call before seat (call.OpenRoot path flags) given after answers sound =
     sound-answers_as _ before given after answers sound (sound-answer before seat (call.OpenRoot path flags) sound)
 sound-call before seat (call.OpenAt fd name flags mode) given after answers sound =
     sound-answers_as _ before given after answers sound (sound-answer before seat (call.OpenAt fd name flags mode) sound)
+sound-call before seat (call.Reopen fd flags) given after answers sound =
+    sound-answers_as _ before given after answers sound (sound-answer before seat (call.Reopen fd flags) sound)
+sound-call before seat (call.ReadAt fd offset size) given after answers sound =
+    sound-answers_as _ before given after answers sound (sound-answer before seat (call.ReadAt fd offset size) sound)
 sound-call before seat (call.Stat fd) given after answers sound =
     subst IsSound (sym (ap (λ both. both.1) answers)) (sound-answer before seat (call.Stat fd) sound)
 sound-call before seat (call.Close fd) given after answers sound =

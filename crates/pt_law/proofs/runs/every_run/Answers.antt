@@ -1,13 +1,14 @@
 use Rattle.pt_law.proofs.runs.every_run.Goals as goal
 use Rattle.pt_law.proofs.Interleaving.{tables_split}
-use Rattle.pt_law.proofs.Laws.{agree_law, era_stays, counts_law, once_law, slots_law, rest_law, ended_jobs}
+use Rattle.pt_law.proofs.Laws.{agree_law, era_grows, counts_law, once_law, slots_law, rest_law, ended_jobs}
 use Rattle.pt_law.proofs.Next.{honoured_law}
+use Rattle.pt_law.proofs.Standing.{standing_law}
 
 pub returns-clause-agree : goal.returns-clause-agree
 returns-clause-agree c = agree_law
 
 pub returns-clause-era : goal.returns-clause-era
-returns-clause-era c = era_stays
+returns-clause-era c = era_grows
 
 pub returns-clause-counts : goal.returns-clause-counts
 returns-clause-counts c = counts_law
@@ -29,3 +30,6 @@ returns-clause-rest c = rest_law
 
 pub returns-clause-cut : goal.returns-clause-cut
 returns-clause-cut c = tables_split
+
+pub returns-clause-standing : goal.returns-clause-standing
+returns-clause-standing c = standing_law

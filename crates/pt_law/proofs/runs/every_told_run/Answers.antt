@@ -1,7 +1,7 @@
 use Rattle.pt_law.proofs.runs.every_told_run.Goals as goal
 use Rattle.pt_law.proofs.Interleaving.{tables_run}
 use Rattle.pt_law.proofs.Cuts.{runs_split}
-use Rattle.pt_law.proofs.Laws.{distinct_law, object_law, kept_law, leaves_law}
+use Rattle.pt_law.proofs.Laws.{distinct_law, object_law, handles_law, kept_law, leaves_law}
 use Rattle.pt_law.proofs.Hosts.{run_ended}
 use Rattle.pt_law.proofs.Next.{named_law}
 use Rattle.pt_law.proofs.Entries.{entered_law}
@@ -32,3 +32,6 @@ returns-clause-ended c = run_ended
 
 pub returns-clause-cut : goal.returns-clause-cut
 returns-clause-cut c = runs_split
+
+pub returns-clause-handles : goal.returns-clause-handles
+returns-clause-handles c = handles_law

@@ -1,9 +1,11 @@
+use Rattle.std.proofs.Common.{ap, ◌∙◌}
+use Rattle.pt_main.specs.Settings.{set_lines}
 use Rattle.pt_main.proofs.Scripts.{IsBadLine-tree, IsBadLine-line, IsScriptOf-read}
 use Rattle.pt_main.proofs.script.parse.Goals as goal
 
 pub returns-in-Err-clause-bad : goal.returns-in-Err-clause-bad
 returns-in-Err-clause-bad c =
-    IsBadLine-tree c.args.bytes.now c.in-Ok.scan.lines c.in-Ok.scan.bad _ _ c.in-Ok.ensures.scanned c.into_parts-tree.ensures.tree c.in-Err.ensures.bad
+    IsBadLine-tree c.args.bytes.now c.in-Ok.scan.lines c.in-Ok.scan.bad _ _ _ c.in-Ok.ensures.scanned (c.lines.ensures.lines ∙ ap set_lines c.settings-settings.ensures) c.into_parts-tree.ensures.tree c.in-Err.ensures.bad
 
 pub returns-in-Some-clause-bad : goal.returns-in-Some-clause-bad
 returns-in-Some-clause-bad c =
@@ -11,4 +13,4 @@ returns-in-Some-clause-bad c =
 
 pub returns-clause-ok : goal.returns-clause-ok
 returns-clause-ok c =
-    IsScriptOf-read c.args.bytes.now c.in-Ok.scan.lines c.in-Ok.scan.bad _ _ _ c.in-Ok.ensures.scanned c.in-None.is c.into_parts-tree.ensures.tree c.in-Ok-host_of.ensures.ok c.into_parts-tree.ensures.jobs
+    IsScriptOf-read c.args.bytes.now c.in-Ok.scan.lines c.in-Ok.scan.bad _ _ _ _ c.in-Ok.ensures.scanned c.in-None.is c.settings-settings.ensures c.into_parts-tree.ensures.tree c.in-Ok-host_of.ensures.ok c.into_parts-tree.ensures.jobs

@@ -1,0 +1,87 @@
+-- The bits of openings and sessions: which flags the host is given, and which options the guest is answered.
+use Rattle.std.specs.Prelude.{ℕ, ◌+◌, ◌-◌, ◌^◌, Bool, true, false, bit_and, bit_or, if◌then◌else◌}
+use Rattle.pt_host.specs.Flags.{includes, o_directory}
+use Rattle.pt_host.specs.declared.flags.OpenFlags.{OpenFlags}
+use Rattle.pt_session.specs.declared.form.Negotiated.{Negotiated}
+use Rattle.pt_iface.specs.declared.flags.FsOptions.{FsOptions}
+use Rattle.pt_iface.specs.declared.flags.OpenOptions.{OpenOptions}
+use Rattle.pt_req.specs.declared.plan.CachePolicy.{CachePolicy}
+use Rattle.pt_req.specs.declared.plan.CachePolicy.TheVariants as policy
+use Rattle.pt_req.specs.declared.plan.Config.{Config}
+
+abbrev pub o_append : ℕ
+o_append = 1024
+
+abbrev pub o_direct : ℕ
+o_direct = 16384
+
+abbrev pub o_nofollow : ℕ
+o_nofollow = 131072
+
+abbrev pub o_noatime : ℕ
+o_noatime = 262144
+
+abbrev pub o_cloexec : ℕ
+o_cloexec = 524288
+
+abbrev pub with_bits : ℕ → ℕ → ℕ
+with_bits flags bits = bit_or flags bits
+
+abbrev pub without : ℕ → ℕ → ℕ
+without flags bits = bit_and flags (2 ^ 32 - 1 - bits)
+
+-- Each write says itself whether it appends, so no handle does; access times are the host's own, where it is set up so.
+abbrev pub cleaned : Config → ℕ → ℕ
+cleaned config flags = if config.clean_noatime then without (without flags o_append) o_noatime else without flags o_append
+
+-- direct I/O of the guest is not passed on, unless it is allowed; the daemon runs no other program
+abbrev pub inode_flags : Config → ℕ → ℕ
+inode_flags config flags = with_bits (if config.allow_direct_io then flags else without flags o_direct) o_cloexec
+
+-- what a handle is opened with
+abbrev pub host_flags : Config → ℕ → ℕ
+host_flags config flags = inode_flags config (cleaned config flags)
+
+-- a descriptor's link in `/proc` is to be followed
+abbrev pub without_nofollow : ℕ → OpenFlags
+without_nofollow flags = record { 0 = without flags o_nofollow }
+
+abbrev pub direct_io : ℕ
+direct_io = 1
+
+abbrev pub keep_cache : ℕ
+keep_cache = 2
+
+abbrev pub cache_dir : ℕ
+cache_dir = 8
+
+-- how the guest may cache what it opens, a directory or not
+abbrev pub cache_options : CachePolicy → Bool → ℕ
+cache_options policy.Never true = 0
+cache_options policy.Never false = direct_io
+cache_options policy.Metadata true = keep_cache + cache_dir
+cache_options policy.Metadata false = direct_io
+cache_options policy.Auto directory = 0
+cache_options policy.Always true = keep_cache + cache_dir
+cache_options policy.Always false = keep_cache
+
+abbrev pub open_options : Config → ℕ → OpenOptions
+open_options config flags = record { 0 = cache_options config.cache_policy (includes flags o_directory) }
+
+-- `CREATE_SUPP_GROUP`
+abbrev pub create_supp_group : ℕ
+create_supp_group = 512
+
+abbrev pub nothing_agreed : Negotiated
+nothing_agreed = record { writeback = false; announce_submounts = false; posix_acl = false; sup_group = false }
+
+-- what is agreed on with a guest that offers this
+abbrev pub agreed_with : FsOptions → Negotiated
+agreed_with capable = record nothing_agreed { sup_group = includes capable.0 create_supp_group }
+
+-- `DO_READDIRPLUS` and `READDIRPLUS_AUTO`
+abbrev pub readdirplus_bits : ℕ
+readdirplus_bits = 3
+
+abbrev pub init_options : Config → FsOptions
+init_options config = record { 0 = if config.readdirplus then readdirplus_bits else 0 }

@@ -1,0 +1,58 @@
+use crate::act::{Act, ActReply};
+use crate::frame::{Body, Next, Then};
+use crate::plan::Plan;
+use pt_host::HostSeat;
+use pt_iface::Answer;
+use pt_session::{Event, EventReply};
+
+/// Where the request `release` stands.
+#[derive(Clone, Copy, Debug, PartialEq, Eq)]
+pub enum ReleaseAt {
+    Begin,
+    Release,
+}
+
+/// The request `release`, also of a directory.
+#[derive(Debug, Drop)]
+pub struct Release {
+    pub inode: u64,
+    pub handle: u64,
+    pub at: ReleaseAt,
+}
+
+impl Body for Release {
+    ghost use Rattle.pt_req.specs.Bodies.{release_left, release_acts, release_room, release_inserts, release_asks};
+
+    ghost left = { release_left };
+
+    ghost acts = { release_acts };
+
+    ghost room = { release_room };
+
+    ghost inserts = { release_inserts };
+
+    fn want<'a>(&'a self, _plan: &'a Plan, _seat: &HostSeat) -> Act<'a> {
+        match self.at {
+            ReleaseAt::Begin => Act::Event(Event::Begin),
+            ReleaseAt::Release => Act::Event(Event::Release {
+                handle: self.handle,
+                number: self.inode,
+            }),
+        }
+    }
+
+    fn take(&mut self, _plan: &Plan, reply: ActReply, _seat: &HostSeat) -> Next {
+        match (self.at, reply) {
+            (ReleaseAt::Begin, ActReply::Event(EventReply::Began { .. })) => {
+                self.at = ReleaseAt::Release;
+                Next::At(Then::Goes)
+            }
+            (ReleaseAt::Release, ActReply::Event(EventReply::Done { .. })) => {
+                Next::At(Then::Gives(Answer::Done))
+            }
+            _ => Next::At(Then::Refuses),
+        }
+    }
+
+    ghost asks = { release_asks };
+}
