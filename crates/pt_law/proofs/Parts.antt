@@ -217,7 +217,7 @@ ask_forget asked list next holds notes path f = (
 -- the same, where the row's kind says whether it is opened
 pub ask_row : (asked : Request) (number : ℕ) (next : RowForm → ℕ → Tree) (holds : List Hold) (notes : Notes) (path : List Step) →
     ((row : ℕ) (form : RowForm) (ids : ObjIds) (mode : ℕ) (path : List Step) → Fit asked (next form mode) (hold.Pin row (fd_of form) ∷ holds) (resolved number row notes)
-        (record { deed = Some (Changes (change.Resolve number)); reply = Event (event.Resolved row form ids mode) } ∷ path)) →
+    (record { deed = Some (Changes (change.Resolve number)); reply = Event (event.Resolved row form ids mode) } ∷ path)) →
     Fit asked (Asks (Changes (change.Resolve number)) (on_row next)) holds notes path
 ask_row asked number next holds notes path f = (
   tt,

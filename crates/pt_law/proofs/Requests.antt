@@ -116,7 +116,7 @@ fit_reopened : (asked : Request) (flags number row : ℕ) (form : RowForm) (ids 
     notes.resolved ≡ Some (record { number = number; row = row }) →
     ((new : Fd) (path : List Step) → Fit asked (next new) (hold.Fd new None ∷ hold.Pin row (fd_of form) ∷ holds) (record notes { reopened = Some new }) path) →
     Fit asked (reopened flags form mode next) (hold.Pin row (fd_of form) ∷ holds) notes
-        (record { deed = Some (Changes (change.Resolve number)); reply = Event (event.Resolved row form ids mode) } ∷ path)
+    (record { deed = Some (Changes (change.Resolve number)); reply = Event (event.Resolved row form ids mode) } ∷ path)
 fit_reopened asked flags number row form ids mode next holds notes path o r f = kind (can_open mode) refl
   where
     steps : List Step

@@ -129,7 +129,7 @@ settings_alone settings = begun_of settings [] [] false
 same_begun : (begun : Begun) → begun.tree ≡ [] → begun.jobs ≡ [] → begun.ended ≡ false → settings_alone begun.settings ≡ begun
 same_begun begun tree jobs ended =
     ap (λ (lines : List TreeLine). begun_of begun.settings lines [] false) (sym tree) ∙ ap (λ (them : List ScriptJob). begun_of begun.settings begun.tree them false) (sym jobs)
-        ∙ ap (λ (b : Bool). begun_of begun.settings begun.tree begun.jobs b) (sym ended)
+    ∙ ap (λ (b : Bool). begun_of begun.settings begun.tree begun.jobs b) (sym ended)
 
 empty_is : {A : Type 0} (xs : List A) → is_empty xs ≡ true → xs ≡ []
 empty_is [] e = refl

@@ -25,8 +25,8 @@ pub behind-more : (before after : List (ℕ × ℕ)) (pair : ℕ × ℕ) (left l
     pair_in words ≡ Some (record { value = pair; rest = rest }) → after ≡ before ++ pair ∷ [] → behind before (pairs_in left words) ≡ whole → behind after (pairs_in less rest) ≡ whole
 behind-more before after pair left less words rest whole fewer read pushed so_far =
     ap (λ (pairs : List (ℕ × ℕ)). behind pairs (pairs_in less rest)) pushed ∙ behind-first before pair (pairs_in less rest)
-        ∙ sym (ap (λ (o : Option (Field (ℕ × ℕ))). behind before (then_pairs less o)) read)
-        ∙ (subst (λ (n : ℕ). behind before (pairs_in n words) ≡ whole) (sym fewer) so_far)
+    ∙ sym (ap (λ (o : Option (Field (ℕ × ℕ))). behind before (then_pairs less o)) read)
+    ∙ (subst (λ (n : ℕ). behind before (pairs_in n words) ≡ whole) (sym fewer) so_far)
 
 -- no pair more, where one is wanted
 pub behind-none : (before : List (ℕ × ℕ)) (left : ℕ) (words : List (List ℕ)) (whole : Option (Field (List (ℕ × ℕ)))) → 0 < left → pair_in words ≡ None →
@@ -39,4 +39,4 @@ pub behind-all : (before : List (ℕ × ℕ)) (left : ℕ) (words : List (List �
     whole ≡ Some (record { value = before; rest = words })
 behind-all before left words whole all so_far =
     sym so_far ∙ ap (λ (n : ℕ). behind before (pairs_in n words)) all
-        ∙ ap (λ (pairs : List (ℕ × ℕ)). Some (record { value = pairs; rest = words })) (append-nil before)
+    ∙ ap (λ (pairs : List (ℕ × ℕ)). Some (record { value = pairs; rest = words })) (append-nil before)

@@ -398,7 +398,8 @@ fn a_lookup_without_a_slot_draws_no_number(rt: HostRuntime) -> Result<(), Fail> 
 
 #[test]
 fn requests_are_parsed(rt: HostRuntime) -> Result<(), Fail> {
-    let text = b"set guest_fd_limit 7\nmount 1 1 / 1\ndir /d 0o755 0 0\njob 0 0 init 512\njob 0 0 destroy\njob 0 0 batch_forget 2 3 1 4 2\njob 0 0 open 2 1 0o1\njob 0 0 opendir 3 0\njob 0 0 read 2 0 10 5\njob 0 0 release 2 0\njob 0 0 releasedir 3 1\nend\n";
+    let text =
+        b"set guest_fd_limit 7\nmount 1 1 / 1\ndir /d 0o755 0 0\njob 0 0 init 512\njob 0 0 destroy\njob 0 0 batch_forget 2 3 1 4 2\njob 0 0 open 2 1 0o1\njob 0 0 opendir 3 0\njob 0 0 read 2 0 10 5\njob 0 0 release 2 0\njob 0 0 releasedir 3 1\nend\n";
     let script = match parse(rt.alloc(), text) {
         Ok(script) => script,
         Err(_) => return Err(Fail::from("no script")),
@@ -408,12 +409,49 @@ fn requests_are_parsed(rt: HostRuntime) -> Result<(), Fail> {
     let jobs = script.jobs.as_slice();
     assert!(rt; matches!(&jobs[0].request, Request::Init { capable } if capable.0 == 512));
     assert!(rt; matches!(&jobs[1].request, Request::Destroy));
-    assert!(rt; matches!(&jobs[2].request, Request::BatchForget { list } if list.as_slice() == [(3, 1), (4, 2)].as_slice()));
-    assert!(rt; matches!(&jobs[3].request, Request::Open { inode: 2, kill: true, flags: 1 }));
+    assert!(rt;
+        matches!(&jobs[2].request, Request::BatchForget { list } if list.as_slice() == [(3, 1), (4, 2)].as_slice())
+    );
+    assert!(rt;
+        matches!(
+            &jobs[3].request,
+            Request::Open {
+                inode: 2,
+                kill: true,
+                flags: 1
+            }
+        )
+    );
     assert!(rt; matches!(&jobs[4].request, Request::OpenDir { inode: 3, flags: 0 }));
-    assert!(rt; matches!(&jobs[5].request, Request::Read { inode: 2, handle: 0, size: 10, offset: 5 }));
-    assert!(rt; matches!(&jobs[6].request, Request::Release { inode: 2, handle: 0 }));
-    assert!(rt; matches!(&jobs[7].request, Request::ReleaseDir { inode: 3, handle: 1 }));
+    assert!(rt;
+        matches!(
+            &jobs[5].request,
+            Request::Read {
+                inode: 2,
+                handle: 0,
+                size: 10,
+                offset: 5
+            }
+        )
+    );
+    assert!(rt;
+        matches!(
+            &jobs[6].request,
+            Request::Release {
+                inode: 2,
+                handle: 0
+            }
+        )
+    );
+    assert!(rt;
+        matches!(
+            &jobs[7].request,
+            Request::ReleaseDir {
+                inode: 3,
+                handle: 1
+            }
+        )
+    );
     Ok(())
 }
 
