@@ -119,15 +119,15 @@ agreed_handles (Some n) t = refl
 pub handles_event : (tree : Tree) (past : Past) (t : Tables) (j : ℕ) (job after : Job) (e : Change) (r : EventReply) (t' : Tables) → Agree t → Happens t e r t' → MovesBy job (Changes e) (Event r) after →
     Knowing tree t.next_row past j job → Each (HandleOpen tree past) t.handles → Each (HandleOpen tree (settled_by past j (Changes e) (Event r) t.next_row tree)) t'.handles
 handles_event tree past t j job after (change.Insert era number form ids mode) (event.Inserted given) t' a h m k rows =
-    rw h.4 (handles_place tree past _ t.next_row (fd_of form) (past.latest j) t.handles refl refl a.sound_handles rows)
+    rw h.4 (handles_place tree past (settled past given t.next_row (fd_of form) (past.latest j)) t.next_row (fd_of form) (past.latest j) t.handles refl refl a.sound_handles rows)
 handles_event tree past t j job after (change.InsertRoot era form ids mode negotiated) (event.Inserted given) t' a h m k rows =
-    rw (ap (λ (z : Tables). z.handles) h.4 ∙ agreed_handles negotiated (with_row t (new_row t 1 form ids mode 2))) (handles_place tree past _ t.next_row (fd_of form) (past.roots j) t.handles refl refl a.sound_handles rows)
+    rw (ap (λ (z : Tables). z.handles) h.4 ∙ agreed_handles negotiated (with_row t (new_row t 1 form ids mode 2))) (handles_place tree past (settled past given t.next_row (fd_of form) (past.roots j)) t.next_row (fd_of form) (past.roots j) t.handles refl refl a.sound_handles rows)
 handles_event tree past t j job after (change.InsertHandle era handle number fd) (event.Inserted given) t' a h m k rows =
     let fit = m.1 in
     let n = k.reopened fd fit.4 in
     rw h.4 (
       record { object = n.object; open_on = n.open_on; placed = set_at_same past.objects t.next_row (past.resolved j) ∙ n.judged; kept_by = set_at_same past.fds t.next_row (Some fd) },
-      handles_place tree past _ t.next_row fd (past.resolved j) t.handles refl refl a.sound_handles rows,
+      handles_place tree past (with_place past t.next_row fd (past.resolved j)) t.next_row fd (past.resolved j) t.handles refl refl a.sound_handles rows,
     )
 handles_event tree past t j job after (change.Resolve number) (event.Resolved serial form ids mode) t' a h m k rows = handles_kept (HandleOpen tree past) (handle_later tree past) (kept t (change.Resolve number) (event.Resolved serial form ids mode) t' tt h) rows
 handles_event tree past t j job after e r t' a h m k rows = handles_kept (HandleOpen tree past) (handle_later tree past) (kept t e r t' tt h) rows
