@@ -1,4 +1,7 @@
-use crate::{ActReply, CachePolicy, Config, Finish, JobState, Plan, Want, calm, cut_says_no_more};
+use crate::{
+    ActReply, CachePolicy, Config, Finish, JobState, Plan, Want, calm, cut_says_no_more,
+    requests_are_determined,
+};
 use pt_host::{Bytes, Caps, Errno, Fd, HostReply, HostSeat, HostValue, ObjIds, Stat, Time};
 use pt_iface::{
     Answer, Attr, Context, Entry, ForgetList, FsOptions, OpenOptions, Request, Timeout,
@@ -241,6 +244,7 @@ fn a_job_that_is_cut_gives_its_count_back_first(rt: HostRuntime) -> Result<(), F
     assert_eq!(&rt; job.finish()?, Finish::Answer(Answer::Cut));
     calm();
     cut_says_no_more();
+    requests_are_determined();
     Ok(())
 }
 
