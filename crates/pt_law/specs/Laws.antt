@@ -71,7 +71,7 @@ pub record IsStanding (tables : Tables) (handle : ℕ) (amount : ℕ) : Type 0 w
   pub live : 0 < amount → (row : HandleRow) × IsHandleRow tables row × HasHandle handle row
   pub gone : amount ≡ 0 → NoHandle tables (HasHandle handle)
 
--- a handle's descriptor is open on the object that its number had when it was resolved for the handle's opening
+-- a handle's descriptor is open on the object that its number had when its job resolved that number last before the handle was inserted
 abbrev pub Serves : World → HandleRow → Type 0
 Serves world row = (object : ℕ) × (world.past.objects row.serial ≡ Some object) × IsOpenOn world.tree row.fd object
 
