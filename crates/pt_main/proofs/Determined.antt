@@ -1,16 +1,12 @@
 -- A script alone determines its report, want of memory aside.
-use Rattle.std.proofs.Common.{◌≡◌, ◌≢◌, ℕ, ◌+◌, ◌≤◌, List, [], ◌∷◌, ◌∙◌, Option, Some, None, Result, Ok, Err, refl, ap, sym, subst, true, false, length, map, arith}
-use Rattle.pt_host.specs.Words.{Each}
-use Rattle.pt_host.specs.declared.ids.Fd.{Fd}
+use Rattle.std.proofs.Common.{◌≡◌, ◌≢◌, ℕ, ◌≤◌, List, [], ◌∷◌, ◌∙◌, Option, Some, None, Ok, refl, ap, sym, subst, map, arith}
 use Rattle.pt_host.specs.declared.reply.HostReply.{HostReply}
 use Rattle.pt_host.specs.declared.reply.HostReply.TheVariants as reply
 use Rattle.pt_host.specs.declared.reply.HostValue.TheVariants as value
-use Rattle.pt_host.specs.declared.seat.HostSeat.{HostSeat}
 use Rattle.pt_tree.specs.Does.{Does}
 use Rattle.pt_tree.specs.State.{State}
-use Rattle.pt_tree.specs.Start.{StartsAs, nodes_of, start_with}
+use Rattle.pt_tree.specs.Start.{StartsAs, start_with}
 use Rattle.pt_tree.specs.Laws.Determined.{determined as host_determined}
-use Rattle.pt_tree.specs.declared.node.Node.{Node}
 use Rattle.pt_tree.specs.declared.spec.TreeLine.{TreeLine}
 use Rattle.pt_session.specs.LiveAfter.{IsLiveAbove, IsHandleAbove, IsLiveAfter, IsHandleAfter}
 use Rattle.pt_session.specs.Tables.{Tables, empty_tables, Agree, AreApart, AreHandlesApart, HasNumber, HasHandle}
@@ -23,10 +19,8 @@ use Rattle.pt_iface.specs.declared.answer.Answer.{Answer}
 use Rattle.pt_law.specs.World.{TablesRun}
 use Rattle.pt_law.proofs.Hosts.{hosts_tables}
 use Rattle.pt_law.proofs.Laws.{agree_law}
-use Rattle.pt_req.specs.Plan.{IsDefault, five_seconds}
-use Rattle.pt_req.specs.declared.plan.CachePolicy.TheVariants.{Auto}
+use Rattle.pt_req.specs.Plan.{IsDefault}
 use Rattle.pt_req.specs.declared.plan.Config.{Config}
-use Rattle.pt_req.specs.declared.plan.Plan.{Plan}
 use Rattle.pt_fs.specs.Determined.{FoundMemory, RanInTurn, AreOneRun}
 use Rattle.pt_fs.specs.FileSystem.{FileSystem, opens_root, IsMadeBy}
 use Rattle.pt_fs.specs.Keeps.{turns_of}
@@ -34,7 +28,7 @@ use Rattle.pt_fs.specs.declared.trace.TraceStep.{TraceStep}
 use Rattle.pt_fs.proofs.Determined.{turns_determined}
 use Rattle.pt_fs.proofs.Laws.{host_runs}
 use Rattle.pt_main.specs.Configured.{IsConfigured, configured}
-use Rattle.pt_main.specs.Determined.{IsFull}
+use Rattle.pt_main.specs.Determined.{IsFull, IsOnly}
 use Rattle.pt_main.specs.Run.{start_seat, job_of, IsOpened, IsRunFrom, IsReportOf, AreLive, report_of}
 use Rattle.pt_main.specs.Script.{Begun}
 use Rattle.pt_main.specs.TableLines.{AllAbove}
@@ -152,7 +146,7 @@ report_same : (trace trace' : List TraceStep) (answers answers' : List Answer) (
     report_of trace answers lives handles tables host ≡ report_of trace' answers' lives' handles' tables' host'
 report_same trace trace' answers answers' lives lives' handles handles' tables tables' host host' one l h = λ i. report_of (one.traces i) (one.answered i) (l i) (h i) (one.left i) (one.hosts i)
 
-pub determined : (bytes report other : List ℕ) (ran : IsReportOf bytes report) (again : IsReportOf bytes other) → IsFull ran → IsFull again → report ≡ other
+determined : (bytes report other : List ℕ) (ran : IsReportOf bytes report) (again : IsReportOf bytes other) → IsFull ran → IsFull again → report ≡ other
 determined bytes report other ran again full full' =
     let begun : again.begun ≡ ran.begun = let e = ran.script in let f = again.script in cc in
     let starts : StartsAs ran.begun.tree again.start = subst (λ (b : Begun). StartsAs b.tree again.start) begun again.starts in
@@ -166,3 +160,6 @@ determined bytes report other ran again full full' =
     let lives : ran.lives ≡ again.lives = all_one (IsLiveAfter ran.tables.rows) (lives_one ran.tables agree) None ran.lives again.lives ran.live.0 live.0 in
     let handles : ran.handles ≡ again.handles = all_one (IsHandleAfter ran.tables.handles) (handles_one ran.tables agree) None ran.handles again.handles ran.live.1 live.1 in
     ran.text ∙ report_same ran.trace again.trace ran.answers again.answers ran.lives again.lives ran.handles again.handles ran.tables again.tables ran.host again.host one lives handles ∙ sym again.text
+
+pub only : (bytes report : List ℕ) (ran : IsReportOf bytes report) → IsOnly ran
+only bytes report ran full other again full' = determined bytes other report again ran full' full

@@ -7,6 +7,9 @@ use Rattle.pt_main.specs.Run.{IsReportOf}
 abbrev pub IsFull : {bytes report : List ℕ} → IsReportOf bytes report → Type 0
 IsFull ran = FoundMemory ran.trace ran.answers
 
--- two such reports of one script are the same bytes
+-- where that is so, each such report of the script is these bytes
+abbrev pub IsOnly : {bytes report : List ℕ} → IsReportOf bytes report → Type 0
+IsOnly {bytes} {report} ran = IsFull ran → (other : List ℕ) (again : IsReportOf bytes other) → IsFull again → other ≡ report
+
 abbrev pub ReportsAreDetermined : Type 0
-ReportsAreDetermined = (bytes report other : List ℕ) (ran : IsReportOf bytes report) (again : IsReportOf bytes other) → IsFull ran → IsFull again → report ≡ other
+ReportsAreDetermined = (bytes report : List ℕ) (ran : IsReportOf bytes report) → IsOnly ran
