@@ -9,3 +9,4 @@ pub mod World
 pub mod Ledger
 pub mod Laws
 pub mod Entered
+pub mod Uses
