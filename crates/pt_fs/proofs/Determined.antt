@@ -80,7 +80,7 @@ one_step does one deed x y host host1 host2 seats seats1 seats2 tables tables1 t
     let seat : n.0 ≡ m.0 = same_Some n.0 m.0 (sym n.2 ∙ ap (λ (k : ℕ). slice_get seats k) (sym j) ∙ m.2) in
     let here : Made does (Some deed) x.reply host m.0 tables host1 m.1 tables1 = subst (λ (d : Option Deed). Made does d x.reply host m.0 tables host1 m.1 tables1) a m.4 in
     let there : Made does (Some deed) y.reply host m.0 tables host2 n.1 tables2 =
-        subst (λ (z : HostSeat). Made does (Some deed) y.reply host z tables host2 n.1 tables2) seat (subst (λ (d : Option Deed). Made does d y.reply host n.0 tables host2 n.1 tables2) b n.4) in
+    subst (λ (z : HostSeat). Made does (Some deed) y.reply host z tables host2 n.1 tables2) seat (subst (λ (d : Option Deed). Made does d y.reply host n.0 tables host2 n.1 tables2) b n.4) in
     let led = leads does one deed x.reply y.reply host m.0 tables host1 host2 m.1 n.1 tables1 tables2 w w' agree here there in
     let sat : seats1 ≡ seats2 = m.3 ∙ ap (λ (k : ℕ). slice_set seats k m.1) j ∙ ap (λ (z : HostSeat). slice_set seats y.job z) led.seats ∙ sym n.3 in
     (same_step x y j (same_act deed x.act y.act a b) led.replies, record { steps = refl; hosts = led.hosts; sat = sat; left = led.left; agree = led.agree })
@@ -186,22 +186,30 @@ in_turn plan left (job ∷ jobs) first trace [] e l did = absurd (omega arith)
 in_turn plan left (job ∷ jobs) first trace (told ∷ answers) e l did =
     let cut = split_owned (left first) first (rest_of (length jobs) (first + 1) left) trace e in
     let later : Each (λ (s : TraceStep). first + 1 ≤ s.job) cut.1 =
-        each_owner (λ (k : ℕ). first + 1 ≤ k) cut.1 (subst (λ (l : List ℕ). Each (λ (k : ℕ). first + 1 ≤ k) l) (sym cut.4) (rest_later (length jobs) (first + 1) left)) in
+    each_owner (λ (k : ℕ). first + 1 ≤ k) cut.1 (subst (λ (l : List ℕ). Each (λ (k : ℕ). first + 1 ≤ k) l) (sym cut.4) (rest_later (length jobs) (first + 1) left)) in
     let own : steps_by first trace ≡ map step_of cut.0 =
-        ap (steps_by first) cut.2 ∙ steps_by-append first cut.0 cut.1
-        ∙ ap (λ (l : List Step). steps_by first cut.0 ++ l) (steps_none first cut.1 (each_weaker (λ (s : TraceStep). first + 1 ≤ s.job) (λ (s : TraceStep). s.job ≢ first) cut.1 (λ s k is. omega arith) later))
-        ∙ append-nil (steps_by first cut.0) ∙ steps_own first cut.0 cut.3 in
+    ap (steps_by first) cut.2 ∙ steps_by-append first cut.0 cut.1
+    ∙ ap (λ (l : List Step). steps_by first cut.0 ++ l) (steps_none first cut.1 (each_weaker (λ (s : TraceStep). first + 1 ≤ s.job) (λ (s : TraceStep). s.job ≢ first) cut.1 (λ s k is. omega arith) later))
+    ∙ append-nil (steps_by first cut.0) ∙ steps_own first cut.0 cut.3 in
     let here = did 0 job told refl refl in
     let belongs : Belongs (grammar_of plan (request_of job)) (map step_of cut.0) (finish.Answer told) =
-        subst (λ (steps : List Step). Belongs (grammar_of plan (request_of job)) steps (finish.Answer told)) (ap (λ (k : ℕ). steps_by k trace) (add-zero first) ∙ own) here in
-    (cut.0, cut.1, told, answers, cut.2, refl, cut.3, belongs,
-    in_turn plan left jobs (first + 1) cut.1 answers cut.4 (omega arith) (λ j other said at given.
-        let k : first + suc j ≡ first + 1 + j = omega arith in
-        let same : steps_by (first + suc j) trace ≡ steps_by (first + 1 + j) cut.1 =
-            ap (steps_by (first + suc j)) cut.2 ∙ steps_by-append (first + suc j) cut.0 cut.1
-            ∙ ap (λ (l : List Step). l ++ steps_by (first + suc j) cut.1) (steps_none (first + suc j) cut.0 (each_weaker (Owns first) (λ (s : TraceStep). s.job ≢ first + suc j) cut.0 (λ s is e. omega (arith, is, e)) cut.3))
-            ∙ ap (λ (n : ℕ). steps_by n cut.1) k in
-        subst (λ (steps : List Step). Belongs (grammar_of plan (request_of other)) steps (finish.Answer said)) same (did (suc j) other said at given)))
+    subst (λ (steps : List Step). Belongs (grammar_of plan (request_of job)) steps (finish.Answer told)) (ap (λ (k : ℕ). steps_by k trace) (add-zero first) ∙ own) here in (
+      cut.0,
+      cut.1,
+      told,
+      answers,
+      cut.2,
+      refl,
+      cut.3,
+      belongs,
+      in_turn plan left jobs (first + 1) cut.1 answers cut.4 (omega arith) (λ j other said at given.
+          let k : first + suc j ≡ first + 1 + j = omega arith in
+          let same : steps_by (first + suc j) trace ≡ steps_by (first + 1 + j) cut.1 =
+          ap (steps_by (first + suc j)) cut.2 ∙ steps_by-append (first + suc j) cut.0 cut.1
+          ∙ ap (λ (l : List Step). l ++ steps_by (first + suc j) cut.1) (steps_none (first + suc j) cut.0 (each_weaker (Owns first) (λ (s : TraceStep). s.job ≢ first + suc j) cut.0 (λ s is e. omega (arith, is, e)) cut.3))
+          ∙ ap (λ (n : ℕ). steps_by n cut.1) k in
+          subst (λ (steps : List Step). Belongs (grammar_of plan (request_of other)) steps (finish.Answer said)) same (did (suc j) other said at given)),
+    )
 
 same_answer : (told other : Answer) → finish.Answer told ≡ finish.Answer other → told ≡ other
 same_answer told other e = cc
@@ -224,11 +232,11 @@ turns_same {H} does one plan (job ∷ jobs) first trace trace' answers answers' 
     let full : (it.2 ≢ answer.NoMemory) × Each (λ (told : Answer). told ≢ answer.NoMemory) it.3 = subst (λ (l : List Answer). Each (λ (told : Answer). told ≢ answer.NoMemory) l) it.5 w.answered in
     let full' : (it'.2 ≢ answer.NoMemory) × Each (λ (told : Answer). told ≢ answer.NoMemory) it'.3 = subst (λ (l : List Answer). Each (λ (told : Answer). told ≢ answer.NoMemory) l) it'.5 w'.answered in
     let same = block_same does one (grammar_of plan (request_of job)) (requests_determined plan (request_of job)) first block block' (finish.Answer it.2) (finish.Answer it'.2) it.6 it'.6 found.0 found'.0 it.7 it'.7
-        (in_full it.2 full.0) (in_full it'.2 full'.0) host a.0 b.0 seats a.1 b.1 tables a.2 b.2 agree a.3 b.3 in
+    (in_full it.2 full.0) (in_full it'.2 full'.0) host a.0 b.0 seats a.1 b.1 tables a.2 b.2 agree a.3 b.3 in
     let led = same.1 in
     let on : Runs does it'.1 a.0 a.1 a.2 host2 seats2 tables2 = rw (led.hosts, led.sat, led.left) b.4 in
     let rest = turns_same does one plan jobs (first + 1) it.1 it'.1 it.3 it'.3 it.8 it'.8 (record { replies = found.1; answered = full.1 }) (record { replies = found'.1; answered = full'.1 })
-        a.0 host1 host2 a.1 seats1 seats2 a.2 tables1 tables2 led.agree a.4 on in
+    a.0 host1 host2 a.1 seats1 seats2 a.2 tables1 tables2 led.agree a.4 on in
     let told : it.2 ≡ it'.2 = same_answer it.2 it'.2 same.0 in
     record {
       traces = it.4 ∙ ap (λ (l : List TraceStep). l ++ it.1) led.steps ∙ ap (λ (l : List TraceStep). block' ++ l) rest.traces ∙ sym it'.4;
