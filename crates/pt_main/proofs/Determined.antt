@@ -137,8 +137,8 @@ runs_one settings start lines trace trace' answers answers' tables tables' host 
     let here = ran_in_turn settings start lines trace answers tables host run found in
     let there = ran_in_turn settings start lines trace' answers' tables' host' run' found' in
     let moved : RanInTurn Does run.fs.plan (map job_of lines) run.opened_host run.fs.tables trace' answers' host' tables' =
-        subst (λ (fs : FileSystem). RanInTurn Does fs.plan (map job_of lines) run.opened_host fs.tables trace' answers' host' tables') (sym same.made)
-        (subst (λ (state : State). RanInTurn Does run'.fs.plan (map job_of lines) state run'.fs.tables trace' answers' host' tables') (sym same.hosts) there) in
+    subst (λ (fs : FileSystem). RanInTurn Does fs.plan (map job_of lines) run.opened_host fs.tables trace' answers' host' tables') (sym same.made)
+    (subst (λ (state : State). RanInTurn Does run'.fs.plan (map job_of lines) state run'.fs.tables trace' answers' host' tables') (sym same.hosts) there) in
     let agree : Agree run.fs.tables = subst Agree (sym run.opened.tables) (agree_law run.fs.plan.config.guest_fd_limit [] (empty_tables run.fs.plan.config.guest_fd_limit) refl) in
     turns_determined Does host_determined run.fs.plan (map job_of lines) run.opened_host run.fs.tables trace trace' answers answers' host host' tables tables' agree here moved
 
@@ -152,8 +152,8 @@ determined bytes report other ran again full full' =
     let starts : StartsAs ran.begun.tree again.start = subst (λ (b : Begun). StartsAs b.tree again.start) begun again.starts in
     let start : again.start ≡ ran.start = start_one ran.begun.tree again.start ran.start starts ran.starts in
     let run : IsRunFrom ran.begun.settings ran.start ran.begun.jobs again.trace again.answers again.tables again.host =
-        subst (λ (s : State). IsRunFrom ran.begun.settings s ran.begun.jobs again.trace again.answers again.tables again.host) start
-        (subst (λ (b : Begun). IsRunFrom b.settings again.start b.jobs again.trace again.answers again.tables again.host) begun again.run) in
+    subst (λ (s : State). IsRunFrom ran.begun.settings s ran.begun.jobs again.trace again.answers again.tables again.host) start
+    (subst (λ (b : Begun). IsRunFrom b.settings again.start b.jobs again.trace again.answers again.tables again.host) begun again.run) in
     let one = runs_one ran.begun.settings ran.start ran.begun.jobs ran.trace again.trace ran.answers again.answers ran.tables again.tables ran.host again.host ran.run run full full' in
     let agree = end_agrees ran.begun.settings ran.start ran.begun.jobs ran.trace ran.answers ran.tables ran.host ran.run in
     let live : AreLive ran.tables again.lives again.handles = subst (λ (t : Tables). AreLive t again.lives again.handles) (sym one.left) again.live in

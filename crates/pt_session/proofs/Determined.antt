@@ -12,9 +12,10 @@ use Rattle.pt_session.specs.declared.reply.EventReply.{EventReply}
 use Rattle.pt_session.specs.declared.reply.EventReply.TheVariants as reply
 use Rattle.pt_session.specs.Tables.{Row, HandleRow, Closing, Tables, Agree, HasNumber, HasIds, HasHandle, IsHandle}
 use Rattle.pt_session.specs.Happens.{Happens, IsRow, Changes, ChangesHandle, GivesAgain, IsFull, IsFree, HandleDies, ForgetsOne, ForgetsAll, Clears, last_u64, with_row, new_row, with_handle, new_handle, agreed}
+use Rattle.pt_session.specs.Store.{IsPinned, IsPinnedHandle}
 use Rattle.pt_session.proofs.Alone.{replaced, none_taken}
 use Rattle.pt_session.proofs.Outcomes.{Alone, Is, is_alone, Where, where_alone, Tells, tells_alone, ByRow, row_alone, changes_alone, ByHandleRow, handle_row_alone, handle_changes_alone}
-use Rattle.pt_session.proofs.Endings.{number_one, ids_one, handle_one, is_handle_one, IsPinned, pinned_one, IsPinnedHandle, pinned_handle_one, Falls-pin, unpins_by, falls_pin_alone, Falls-handle, unpins_handle_by, falls_handle_alone, handle_dies_row, handle_dies_alone, forgets_one_alone, forgets_all_alone, clears_alone}
+use Rattle.pt_session.proofs.Endings.{number_one, ids_one, handle_one, is_handle_one, pinned_one, pinned_handle_one, Falls-pin, unpins_by, falls_pin_alone, Falls-handle, unpins_handle_by, falls_handle_alone, handle_dies_row, handle_dies_alone, forgets_one_alone, forgets_all_alone, clears_alone}
 
 -- refused so, and nothing changes
 abbrev Stays : EventRefusal → Tables → EventReply → Tables → Type 0

@@ -4,6 +4,7 @@ use Rattle.pt_host.specs.Words.{Each}
 use Rattle.pt_host.specs.declared.ids.ObjIds.{ObjIds}
 use Rattle.pt_session.specs.Tables.{Row, HandleRow, Tables, AreApart, AreHandlesApart, Agree, HasNumber, HasIds, HasHandle, IsHandle}
 use Rattle.pt_session.specs.Happens.{IsRow, IsHandleRow, Changes, Ends, Dies, ForgetsOne, ForgetsAll, Unpins, ChangesHandle, EndsHandle, HandleDies, UnpinsHandle, NumbersDie, NumbersDie.{none as no_number, next as next_number}, HandlesDie, HandlesDie.{none as no_handle, next as next_handle}, Clears}
+use Rattle.pt_session.specs.Store.{IsPinned, IsPinnedHandle}
 use Rattle.pt_session.proofs.Lists.{each_taken}
 use Rattle.pt_session.proofs.Effects.{effects_keep, agree_effect, forgets_one, dies, handle_dies, numbers_die}
 use Rattle.pt_session.proofs.Alone.{replaced, none_taken, takes_one}
@@ -21,15 +22,8 @@ handle_one handle = λ row other p a b. p.handles a.0 b.0 (a.1 ∙ sym b.1)
 pub is_handle_one : (handle number : ℕ) → AreHandleOne (IsHandle handle number)
 is_handle_one handle number = λ row other p a b. p.handles a.0 b.0 (a.1 ∙ sym b.1)
 
--- a row that is pinned, by its serial
-abbrev pub IsPinned : ℕ → Row → Type 0
-IsPinned serial row = (row.serial ≡ serial) × (row.pins ≢ 0)
-
 pub pinned_one : (serial : ℕ) → AreOne (IsPinned serial)
 pinned_one serial = λ row other p a b. p.serials (a.0 ∙ sym b.0)
-
-abbrev pub IsPinnedHandle : ℕ → HandleRow → Type 0
-IsPinnedHandle serial row = (row.serial ≡ serial) × (row.pins ≢ 0)
 
 pub pinned_handle_one : (serial : ℕ) → AreHandleOne (IsPinnedHandle serial)
 pinned_handle_one serial = λ row other p a b. p.serials (a.0 ∙ sym b.0)
