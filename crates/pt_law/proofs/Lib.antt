@@ -34,4 +34,5 @@ pub mod Cuts
 pub mod Entries
 pub mod Hosts
 pub mod Reliance
+pub mod Tracing
 pub mod ExampleRace

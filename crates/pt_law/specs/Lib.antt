@@ -10,3 +10,4 @@ pub mod Ledger
 pub mod Laws
 pub mod Entered
 pub mod Uses
+pub mod Origins
