@@ -116,8 +116,7 @@ bounded_each plan jobs running trace owing j job at =
 -- no request ends without a step
 pub begins : (plan : Plan) (asked : Request) (end : Finish) → Belongs (grammar_of plan asked) [] end → ⊥
 begins plan request.Root end b = b
-begins plan (request.Lookup parent name) end b = b
-begins plan (request.Forget inode count) end b = b
+begins plan asked end b = b
 
 pub some_steps : (plan : Plan) (asked : Request) (steps : List Step) (end : Finish) → Belongs (grammar_of plan asked) steps end → 0 < length steps
 some_steps plan asked [] end b = absurd (begins plan asked end b)

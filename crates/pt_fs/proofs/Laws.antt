@@ -1,10 +1,10 @@
 -- The laws of whole runs, read for a trace.
-use Rattle.std.proofs.Common.{◌≡◌, ◌<◌, ◌++◌, ◌∙◌, ◌==◌, ℕ, List, [], ◌∷◌, Option, Some, None, ap, sym, subst, refl, length, map, arith, cond, eqb, true, false, Bool, append-nil}
+use Rattle.std.proofs.Common.{◌≡◌, ◌<◌, ◌++◌, ◌∙◌, ℕ, List, [], ◌∷◌, Option, Some, None, ap, sym, subst, refl, length, map, arith, cond, eqb, append-nil}
 use Rattle.std.proofs.lemmas.Grind.{common_steps}
 use Rattle.std.proofs.Math.ListN.{length-set}
 use Rattle.std.proofs.lemmas.List.{length-map}
 use Rattle.std.proofs.lemmas.Option.{slice_get_within}
-use Rattle.std.specs.Prelude.{slice_get, slice_set}
+use Rattle.std.specs.Prelude.{slice_get}
 use Rattle.pt_host.specs.Words.{Each}
 use Rattle.pt_host.specs.declared.seat.HostSeat.{HostSeat}
 use Rattle.pt_host.specs.Tree.{Tree, IsWellFormed}
@@ -23,10 +23,14 @@ use Rattle.pt_req.specs.declared.finish.Finish.TheVariants as finish
 use Rattle.pt_req.specs.declared.plan.Plan.{Plan}
 use Rattle.pt_law.specs.Told.{AllMayBeTold}
 use Rattle.pt_law.specs.Laws.{AreKept, AreAnswered, AreEnded, AreDisciplined, Starts, SlotsAddUp, IsAtRest}
-use Rattle.pt_law.specs.World.{Turn, World, TablesRun, HostRuns, steps_of, Runs as WorldRuns}
+use Rattle.pt_law.specs.World.{Turn, TablesRun, HostRuns, steps_of}
 use Rattle.pt_law.proofs.Told.{Promises}
 use Rattle.pt_law.proofs.Hosts.{Tells, hosts_tables, hosts_told, hosts_ended, hosts_world}
-use Rattle.pt_law.proofs.Laws.{counts_law, once_law, slots_law, rest_law, ended_jobs, distinct_law, object_law, kept_law, leaves_law}
+use Rattle.pt_law.proofs.Laws.{counts_law, once_law, slots_law, rest_law, ended_jobs, distinct_law, object_law, handles_law, kept_law, leaves_law}
+use Rattle.pt_law.proofs.Standing.{standing_law}
+use Rattle.pt_law.proofs.HandlesOnce.{handles_once_law}
+use Rattle.pt_law.proofs.Overtaking.{overtaken_law}
+use Rattle.pt_law.proofs.Interleaving.{tables_split}
 use Rattle.pt_law.proofs.Next.{named_law}
 use Rattle.pt_law.proofs.Entries.{entered_law}
 use Rattle.pt_law.proofs.Ending.{fit_ends}
@@ -34,7 +38,7 @@ use Rattle.pt_law.proofs.Requests.{fit_request}
 use Rattle.pt_law.proofs.Settled.{settled}
 use Rattle.pt_fs.specs.Jobs.{request_of, job_seat}
 use Rattle.pt_fs.specs.Trace.{Runs, AnswersEach, steps_by, step_of}
-use Rattle.pt_fs.specs.Keeps.{turn_of, turns_of, AfterEach, AfterEachTold, WhereTold, LeadsOn, begins_in, KeepsObjects, KeepsCounts, InsertsOnce, OfEachJob, GivesBack, IsCausedIn, IsNamedIn, NamesOpenOnes, LeavesOpen}
+use Rattle.pt_fs.specs.Keeps.{turn_of, turns_of, AfterEach, AfterEachTold, LeadsOn, begins_in, KeepsObjects, KeepsCounts, KeepsHandles, ServesEach, InsertsOnce, OvertakenAsTold, OfEachJob, GivesBack, IsCausedIn, IsNamedIn, NamesOpenOnes, LeavesOpen}
 use Rattle.pt_fs.specs.declared.job.Job.{Job}
 use Rattle.pt_fs.specs.declared.trace.TraceStep.{TraceStep}
 use Rattle.pt_fs.proofs.Ended.{one_for_each, at_below}
@@ -117,7 +121,9 @@ cut_at bound trace so_far rest e d = subst (λ (turns : List Turn). AreDisciplin
 -- the laws that speak of no object, over any host
 pub record Keeps (limit : ℕ) (jobs : List Job) (tables : Tables) (trace : List TraceStep) (answers : List Answer) (tables' : Tables) : Type 0 where
   pub counts : AfterEach tables trace KeepsCounts
+  pub handles : AfterEach tables trace KeepsHandles
   pub once : InsertsOnce trace
+  pub overtaken : OvertakenAsTold trace
   pub slots : AfterEach tables trace (SlotsAddUp limit (length jobs))
   pub rest : IsAtRest limit (length jobs) (turns_of trace) tables'
   pub gives_back : OfEachJob jobs answers (GivesBack trace)
@@ -139,7 +145,17 @@ keeps does faults p plan limit jobs host tables trace answers host' tables' ran 
     let told = λ (j : ℕ). subst AllMayBeTold (steps_same j trace) (hosts_told does faults p j (turns_of trace) host tables host' tables' runs) in
     record {
       counts = λ so_far rest now e r number. counts_law limit (turns_of so_far) now number (from_empty (turns_of so_far) now r);
-      once = λ number other. once_law limit (length jobs) (turns_of trace) [] tables' number (subst (λ (turns : List Turn). AreDisciplined (length jobs) turns) (sym (append-nil (turns_of trace))) disciplined) whole other;
+      handles = λ so_far rest now e r handle. standing_law limit (turns_of so_far) now handle (from_empty (turns_of so_far) now r);
+      once =
+          let all = subst (λ (turns : List Turn). AreDisciplined (length jobs) turns) (sym (append-nil (turns_of trace))) disciplined in
+          record {
+            numbers = λ number other. once_law limit (length jobs) (turns_of trace) [] tables' number all whole other;
+            handles = λ handle. handles_once_law limit (length jobs) (turns_of trace) [] tables' handle all whole;
+          };
+      overtaken = λ so_far rest step e told.
+          let run = subst (λ (turns : List Turn). TablesRun (empty_tables limit) turns tables') (ap turns_of e ∙ turns-append so_far (step ∷ rest)) whole in
+          let cut = tables_split (turns_of so_far) (turn_of step ∷ turns_of rest) (empty_tables limit) tables' run in
+          overtaken_law limit (length jobs) (turns_of so_far) (turn_of step) (turns_of rest) cut.0 cut.2.0 (cut_at (length jobs) trace so_far (step ∷ rest) e disciplined) cut.1 cut.2.1 told;
       slots = λ so_far rest now e r. slots_law limit (length jobs) (turns_of so_far) (turns_of rest) now (cut_at (length jobs) trace so_far rest e disciplined) (from_empty (turns_of so_far) now r);
       rest = rest_law limit (length jobs) (turns_of trace) tables' ended whole;
       gives_back = λ j job answer at told_at.
@@ -153,6 +169,7 @@ keeps does faults p plan limit jobs host tables trace answers host' tables' ran 
 pub record KeepsTold (plan : Plan) (jobs : List Job) (told : Option Tree) (tables : Tables) (trace : List TraceStep) (answers : List Answer) (told' : Option Tree) (tables' : Tables) : Type 0 where
   pub leads_on : LeadsOn told tables trace told' tables'
   pub distinct : AfterEachTold told tables trace (λ start so_far now. KeepsObjects now)
+  pub serves : AfterEachTold told tables trace (λ start so_far now. ServesEach now)
   pub descriptors : AfterEachTold told tables trace (λ start so_far now. AreKept start (length jobs) so_far now)
   pub named : NamesOpenOnes told tables trace
   pub leaves : LeavesOpen told tables trace
@@ -180,6 +197,8 @@ keeps_told does tree faults p tells plan limit jobs host tables trace answers ho
             distinct = distinct_law limit (length jobs) (turns_of so_far) (turns_of rest) (begins_in t tables) now (starts t well) d r;
             open_on = λ row at live. object_law limit (length jobs) (turns_of so_far) (turns_of rest) (begins_in t tables) now row (starts t well) d r at live;
           };
+      serves = λ t is well so_far rest now e r row at.
+          handles_law limit (length jobs) (turns_of so_far) (turns_of rest) (begins_in t tables) now row (starts t well) (cut_at (length jobs) trace so_far rest e disciplined) r at;
       descriptors = λ t is well so_far rest now e r. kept_law limit (length jobs) (turns_of so_far) (turns_of rest) (begins_in t tables) now (starts t well) (cut_at (length jobs) trace so_far rest e disciplined) r;
       named = λ t is well so_far rest step now e r. named_law limit (length jobs) (turns_of so_far) (turn_of step) (turns_of rest) (begins_in t tables) now (starts t well) (cut_at (length jobs) trace so_far (step ∷ rest) e disciplined) r;
       leaves = λ t is well end r. leaves_law limit (length jobs) (turns_of trace) (begins_in t tables) end (starts t well) ended r;

@@ -17,11 +17,15 @@ pub told_put : (asked : Change) (told : EventReply) → closings_in (deed.Change
 told_put (change.Unpin row) (reply.Done closings) = omega arith
 told_put (change.Forget list) (reply.Done closings) = omega arith
 told_put (change.GiveBack era number) (reply.Done closings) = omega arith
+told_put (change.UnpinHandle row) (reply.Done closings) = omega arith
+told_put (change.Release handle number) (reply.Done closings) = omega arith
+told_put change.Clear (reply.Cleared era closings) = omega arith
 told_put asked told = omega arith
 
 pub same_inserted : (asked : Change) (told : EventReply) → inserted_by (deed.Changes asked) (Event told) ≡ added_by asked told
 same_inserted (change.Insert era number form ids mode) (reply.Inserted given) = refl
 same_inserted (change.InsertRoot era form ids mode agreed) (reply.Inserted given) = refl
+same_inserted (change.InsertHandle era handle number fd) (reply.Inserted given) = refl
 same_inserted asked told = refl
 
 -- no event tells more closings than rows go, and only an insertion adds a row

@@ -1,13 +1,12 @@
 -- What a run keeps after every step and at its end, in whatever order its jobs took their steps.
-use Rattle.std.specs.Prelude.{◌≡◌, ◌≢◌, ◌<◌, ◌≤◌, ◌+◌, ℕ, true, List, [], ◌∷◌, ◌++◌, Option, Some, length, map, slice_get}
+use Rattle.std.specs.Prelude.{◌≡◌, ◌≢◌, ◌≤◌, ◌+◌, ℕ, true, List, ◌∷◌, ◌++◌, Option, Some, map, slice_get}
 use Rattle.pt_host.specs.Tree.{Tree, IsWellFormed}
-use Rattle.pt_host.specs.declared.ids.Errno.{Errno}
 use Rattle.pt_session.specs.Tables.{Tables}
-use Rattle.pt_session.specs.Happens.{IsRow}
+use Rattle.pt_session.specs.Happens.{IsRow, IsHandleRow}
 use Rattle.pt_session.specs.declared.row.Row.{Row}
+use Rattle.pt_session.specs.declared.row.HandleRow.{HandleRow}
 use Rattle.pt_iface.specs.declared.answer.Answer.{Answer}
 use Rattle.pt_iface.specs.declared.answer.Answer.TheVariants as answer
-use Rattle.pt_iface.specs.declared.entry.Entry.{Entry}
 use Rattle.pt_iface.specs.declared.request.Request.TheVariants as request
 use Rattle.pt_req.specs.Deed.{kept_deed_of}
 use Rattle.pt_req.specs.declared.finish.Finish.TheVariants as finish
@@ -15,8 +14,8 @@ use Rattle.pt_req.specs.declared.plan.Plan.{Plan}
 use Rattle.pt_law.specs.Cause.{HasCause}
 use Rattle.pt_law.specs.Discipline.{idle, Ends}
 use Rattle.pt_law.specs.Entered.{IsEntered}
-use Rattle.pt_law.specs.Laws.{AreDistinct, HasObject, IsCounted, SlotsAddUp, AreKept, NamesOpen, IsAtRest, LeavesRows}
-use Rattle.pt_law.specs.Ledger.{given, inserted}
+use Rattle.pt_law.specs.Laws.{AreDistinct, HasObject, IsCounted, IsStanding, Serves, TellsOvertaken, IsOvertaken, NamesOpen, LeavesRows}
+use Rattle.pt_law.specs.Ledger.{given, inserted, handle_inserted, standing}
 use Rattle.pt_law.specs.Settled.{all_given, all_returned, entry_count}
 use Rattle.pt_law.specs.World.{Turn, World, TablesRun, no_past, Runs as WorldRuns}
 use Rattle.pt_fs.specs.Jobs.{request_of}
@@ -62,9 +61,23 @@ pub record KeepsObjects (now : World) : Type 0 where
 abbrev pub KeepsCounts : List Turn → Tables → Type 0
 KeepsCounts so_far now = (number : ℕ) → IsCounted now number (given number so_far)
 
--- no number but the root's is inserted twice
-abbrev pub InsertsOnce : List TraceStep → Type 0
-InsertsOnce trace = (number : ℕ) → number ≢ 1 → inserted number (turns_of trace) ≤ 1
+-- every handle is live where it was inserted and neither released nor cleared since
+abbrev pub KeepsHandles : List Turn → Tables → Type 0
+KeepsHandles so_far now = (handle : ℕ) → IsStanding now handle (standing handle so_far)
+
+-- every handle's descriptor is open on the object that its number had when it was resolved for the handle's opening
+abbrev pub ServesEach : World → Type 0
+ServesEach now = (row : HandleRow) → IsHandleRow now.tables row → Serves now row
+
+-- no number but the root's is inserted twice, and no handle
+pub record InsertsOnce (trace : List TraceStep) : Type 0 where
+  pub numbers : (number : ℕ) → number ≢ 1 → inserted number (turns_of trace) ≤ 1
+  pub handles : (handle : ℕ) → handle_inserted handle (turns_of trace) ≤ 1
+
+-- who is told that it was overtaken was: another job began the session anew after its first step
+abbrev pub OvertakenAsTold : List TraceStep → Type 0
+OvertakenAsTold trace = (so_far rest : List TraceStep) (step : TraceStep) → trace ≡ so_far ++ step ∷ rest →
+    TellsOvertaken (kept_deed_of step.act) step.reply → IsOvertaken step.job (turns_of so_far)
 
 -- of each job and its answer
 abbrev pub OfEachJob : List Job → List Answer → (ℕ → Job → Answer → Type 0) → Type 0

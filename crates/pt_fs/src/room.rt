@@ -32,8 +32,12 @@ fn bound_of(request: &Request) -> usize
     ensures small { result ≤ 48 }
 {
     match request {
-        Request::Root | Request::Lookup { .. } => 48,
-        Request::Forget { .. } => 8,
+        Request::Init { .. }
+        | Request::Root
+        | Request::Lookup { .. }
+        | Request::Open { .. }
+        | Request::OpenDir { .. } => 48,
+        _ => 8,
     }
 }
 

@@ -2,7 +2,7 @@ ghost use Rattle.std.specs.Prelude.{◌≤◌, vec_capacity, ◌≡◌, ◌<◌,
 ghost use Rattle.pt_session.specs.Tables.{empty_tables};
 ghost use Rattle.pt_fs.specs.Each.{EachStarted};
 ghost use Rattle.pt_fs.specs.Jobs.{job_seat};
-ghost use Rattle.pt_fs.specs.Keeps.{turns_of, AfterEach, AfterEachTold, LeadsOn, KeepsObjects, KeepsCounts, InsertsOnce, OfEachJob, GivesBack, IsCausedIn, IsNamedIn, NamesOpenOnes, LeavesOpen};
+ghost use Rattle.pt_fs.specs.Keeps.{turns_of, AfterEach, AfterEachTold, LeadsOn, KeepsObjects, KeepsCounts, KeepsHandles, ServesEach, InsertsOnce, OvertakenAsTold, OfEachJob, GivesBack, IsCausedIn, IsNamedIn, NamesOpenOnes, LeavesOpen};
 ghost use Rattle.pt_fs.specs.Order.{IsInOrder};
 ghost use Rattle.pt_law.specs.Laws.{SlotsAddUp, IsAtRest, AreKept};
 ghost use Rattle.pt_fs.specs.Trace.{Runs, AnswersEach, IsBounded};
@@ -68,8 +68,14 @@ pub fn drive<H: Host, F: SteppedFs>(
     // After every step a number is live exactly where something was given of it and not taken back, and so much is its count.
     ensures counts { IfOk result (λ driven. AfterEach (F.tables fs) driven.trace.items KeepsCounts) }
 
-    // No number but the root's is inserted twice.
+    // After every step a handle is live exactly where it was inserted and neither released nor cleared since.
+    ensures handles { IfOk result (λ driven. AfterEach (F.tables fs) driven.trace.items KeepsHandles) }
+
+    // No number but the root's is inserted twice, and no handle.
     ensures once { IfOk result (λ driven. InsertsOnce driven.trace.items) }
+
+    // Who is told that it was overtaken was, by another job's clearing after its first step.
+    ensures overtaken { IfOk result (λ driven. OvertakenAsTold driven.trace.items) }
 
     // After every step slots left, those of rows and closings, and those that jobs carry are the limit; at the end nothing is pinned or carried.
     ensures slots { IfOk result (λ driven. AfterEach (F.tables fs) driven.trace.items (SlotsAddUp (F.tables fs).limit (length jobs.items))) }
@@ -79,6 +85,9 @@ pub fn drive<H: Host, F: SteppedFs>(
     // objects that differ, and a live row has an open descriptor of its number's object.
     ensures told { IfOk result (λ driven. LeadsOn (H.tree host.old) (F.tables fs) driven.trace.items (H.tree host.new) (F.tables driven.fs)) }
     ensures distinct { IfOk result (λ driven. AfterEachTold (H.tree host.old) (F.tables fs) driven.trace.items (λ start so_far now. KeepsObjects now)) }
+
+    // After every step a handle's descriptor is open on the object that its number had when it was resolved for the handle's opening.
+    ensures serves { IfOk result (λ driven. AfterEachTold (H.tree host.old) (F.tables fs) driven.trace.items (λ start so_far now. ServesEach now)) }
 
     // An entry names the object that its name had in the directory that its parent stood for.
     ensures entries { IfOk result (λ driven. OfEachJob jobs.items driven.answers.items (IsNamedIn (F.plan_of fs) (H.tree host.old) (F.tables fs) driven.trace.items)) }

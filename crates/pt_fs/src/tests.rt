@@ -35,6 +35,7 @@ impl Host for OneDirectory {
                 }
             }
             HostOp::OpenAt { .. } => HostReply::Refused(Errno::ENOENT),
+            HostOp::Reopen { .. } | HostOp::ReadAt { .. } => HostReply::Refused(Errno::EACCES),
             HostOp::Stat { .. } => HostReply::Ok(HostValue::Stat(a_stat())),
             HostOp::Close { .. } => HostReply::Ok(HostValue::Unit),
         }

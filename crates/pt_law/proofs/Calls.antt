@@ -18,7 +18,7 @@ use Rattle.pt_req.specs.Deed.{Calls}
 use Rattle.pt_req.specs.declared.act.ActReply.TheVariants.{Host}
 use Rattle.pt_req.specs.declared.hold.Hold.{Hold}
 use Rattle.pt_req.specs.declared.hold.Hold.TheVariants as hold
-use Rattle.pt_law.specs.Discipline.{Job, Notes, with_root, without, unless, MovesBy}
+use Rattle.pt_law.specs.Discipline.{Job, Notes, with_root, without, unless, MovesBy, Resolution}
 use Rattle.pt_law.specs.World.{Past, settled_by, object_of, first_of}
 use Rattle.pt_law.specs.Ledger.{fd_held, row_fd, handle_fd}
 use Rattle.pt_law.proofs.Lists.{total_takes, total_replaces, is_same, is_apart, set_at_same, set_at_other, at_each, each_replaces, each_takes, each_put}
@@ -45,7 +45,7 @@ quiet bound tree next past rows handles js j after lt h n told pins more = recor
         root = λ fd e. let a = k.root fd (sym (ap (λ (z : Notes). z.root) n) ∙ e) in record { held = let b = a.held in let c = more fd.0 in omega (arith, b, c); object = a.object; open_on = a.open_on; judged = a.judged };
         unrooted = λ e. k.unrooted (sym (ap (λ (z : Notes). z.rooted) n) ∙ e);
         resolved = λ was e. k.resolved was (sym (ap (λ (z : Notes). z.resolved) n) ∙ e);
-        reopened = λ fd e. let a = k.reopened fd (sym (ap (λ (z : Notes). z.reopened) n) ∙ e) in record { held = let b = a.held in let c = more fd.0 in omega (arith, b, c); object = a.object; open_on = a.open_on; judged = a.judged };
+        reopened = λ was u fd e. let a = k.reopened was (sym (ap (λ (z : Notes). z.resolved) n) ∙ u) fd (sym (ap (λ (z : Notes). z.reopened) n) ∙ e) in record { held = let b = a.held in let c = more fd.0 in omega (arith, b, c); object = a.object; open_on = a.open_on; judged = a.judged };
       }) (λ _. h.knows i less);
 }
 
@@ -62,8 +62,8 @@ elsewhere tree next past later i job f x n e l r o q k = record {
   latest = rw l (noted_open tree f x job.notes.latest (past.latest i) job.holds job.holds n (λ fd. omega arith) k.latest);
   root = rw r (noted_open tree f x job.notes.root (past.roots i) job.holds job.holds n (λ fd. omega arith) k.root);
   unrooted = λ u. r ∙ k.unrooted u;
-  resolved = λ was u. let a = k.resolved was u in (a.0, ap (λ z. z was.row) o ∙ a.1 ∙ sym (ap (λ z. z i) q));
-  reopened = rw (ap (λ z. z i) q) (noted_open tree f x job.notes.reopened (past.resolved i) job.holds job.holds n (λ fd. omega arith) k.reopened);
+  resolved = λ was u. let a = k.resolved was u in (a.0, ap (λ z. z was.row) o ∙ a.1 ∙ sym (ap (λ (z : ℕ → ℕ → Option ℕ). z i was.number) q));
+  reopened = λ was u. rw (ap (λ (z : ℕ → ℕ → Option ℕ). z i was.number) q) (noted_open tree f x job.notes.reopened (past.resolved i was.number) job.holds job.holds n (λ fd. omega arith) (k.reopened was u));
 }
 
 more_held : {one : Hold} {holds after : List Hold} → Takes one after holds → (fd : ℕ) → total (fd_held fd) holds ≤ total (fd_held fd) after
@@ -105,7 +105,7 @@ opens_at bound tree next past rows handles js j after object flags new lt h free
             root = rw (ap (λ (z : Notes). z.root) n) (noted_open tree new.0 x (js j).notes.root (past.roots j) (js j).holds after.holds free (more_held t) k.root);
             unrooted = λ e. k.unrooted (sym (ap (λ (z : Notes). z.rooted) n) ∙ e);
             resolved = λ was e. k.resolved was (sym (ap (λ (z : Notes). z.resolved) n) ∙ e);
-            reopened = rw (ap (λ (z : Notes). z.reopened) n) (noted_open tree new.0 x (js j).notes.reopened (past.resolved j) (js j).holds after.holds free (more_held t) k.reopened);
+            reopened = λ was u. rw (ap (λ (z : Notes). z.reopened) n) (noted_open tree new.0 x (js j).notes.reopened (past.resolved j was.number) (js j).holds after.holds free (more_held t) (k.reopened was (sym (ap (λ (z : Notes). z.resolved) n) ∙ u)));
           })
           (λ other. elsewhere tree next past later i (js i) new.0 x free refl (set_at_other past.latest j o i other) refl refl refl (h.knows i less));
     }
@@ -143,7 +143,7 @@ opens_root bound tree next past rows handles js j after object flags new lt h fr
             root = rw (ap (λ (z : Notes). z.root) n, now) r.0;
             unrooted = λ e. let a = ap (λ (z : Notes). z.rooted) n in let b = r.1 in absurd (cc);
             resolved = λ was e. k.resolved was (sym (root_resolved new (js j).notes) ∙ sym (ap (λ (z : Notes). z.resolved) n) ∙ e);
-            reopened = rw (ap (λ (z : Notes). z.reopened) n ∙ root_reopened new (js j).notes) (noted_open tree new.0 x (js j).notes.reopened (past.resolved j) (js j).holds after.holds free (more_held t) k.reopened);
+            reopened = λ was u. rw (ap (λ (z : Notes). z.reopened) n ∙ root_reopened new (js j).notes) (noted_open tree new.0 x (js j).notes.reopened (past.resolved j was.number) (js j).holds after.holds free (more_held t) (k.reopened was (sym (root_resolved new (js j).notes) ∙ sym (ap (λ (z : Notes). z.resolved) n) ∙ u)));
           })
           (λ other. elsewhere tree next past later i (js i) new.0 x free refl refl (set_at_other past.roots j first i other) refl refl (h.knows i less));
     }
@@ -171,7 +171,7 @@ opens_root bound tree next past rows handles js j after object flags new lt h fr
 
 -- what was resolved last is opened anew
 opens_anew : (bound : ℕ) (tree : Tree) (next : ℕ) (past : Past) (rows : List Row) (handles : List HandleRow) (js : ℕ → Job) (j : ℕ) (after : Job) (object : ℕ) (flags : OpenFlags) (new : Fd) → j < bound → Right bound tree next past rows handles js →
-    tree.opened new.0 ≡ None → Takes (hold.Fd new None) after.holds (js j).holds → after.notes ≡ record (js j).notes { reopened = Some new } → past.resolved j ≡ Some object →
+    tree.opened new.0 ≡ None → Takes (hold.Fd new None) after.holds (js j).holds → after.notes ≡ record (js j).notes { reopened = Some new } → ((was : Resolution) → (js j).notes.resolved ≡ Some was → past.resolved j was.number ≡ Some object) →
     Right bound (opened_on tree object flags new) next past rows handles (set_at j after js)
 opens_anew bound tree next past rows handles js j after object flags new lt h free t n judged =
     let x : Option Opened = Some (record { object = object; path_only = includes flags.0 o_path }) in
@@ -187,7 +187,7 @@ opens_anew bound tree next past rows handles js j after object flags new lt h fr
             root = rw (ap (λ (z : Notes). z.root) n) (noted_open tree new.0 x (js j).notes.root (past.roots j) (js j).holds after.holds free (more_held t) k.root);
             unrooted = λ e. k.unrooted (sym (ap (λ (z : Notes). z.rooted) n) ∙ e);
             resolved = λ was e. k.resolved was (sym (ap (λ (z : Notes). z.resolved) n) ∙ e);
-            reopened = λ fd e. just_opened tree object flags new fd (past.resolved j) (let a = ap (λ (z : Notes). z.reopened) n in cc) t judged;
+            reopened = λ was u fd e. just_opened tree object flags new fd (past.resolved j was.number) (let a = ap (λ (z : Notes). z.reopened) n in cc) t (judged was (sym (ap (λ (z : Notes). z.resolved) n) ∙ u));
           })
           (λ other. elsewhere tree next past past i (js i) new.0 x free refl refl refl refl refl (h.knows i less));
     }
@@ -209,7 +209,7 @@ closes bound tree next past rows handles js j after f told lt h t n z y none = r
         root = noted_closed tree f.0 after.notes.root (past.roots j) after.holds y (left (js j).notes.root after.notes.root (past.roots j) (ap (λ (z : Notes). z.root) n) k.root);
         unrooted = λ e. k.unrooted (sym (ap (λ (z : Notes). z.rooted) n) ∙ e);
         resolved = λ was e. k.resolved was (sym (ap (λ (z : Notes). z.resolved) n) ∙ e);
-        reopened = noted_closed tree f.0 after.notes.reopened (past.resolved j) after.holds y (left (js j).notes.reopened after.notes.reopened (past.resolved j) (ap (λ (z : Notes). z.reopened) n) k.reopened);
+        reopened = λ was u. noted_closed tree f.0 after.notes.reopened (past.resolved j was.number) after.holds y (left (js j).notes.reopened after.notes.reopened (past.resolved j was.number) (ap (λ (z : Notes). z.reopened) n) (k.reopened was (sym (ap (λ (z : Notes). z.resolved) n) ∙ u)));
       })
       (λ other y.
       let k = h.knows i less in
@@ -220,7 +220,7 @@ closes bound tree next past rows handles js j after f told lt h t n z y none = r
         root = noted_closed tree f.0 (js i).notes.root (past.roots i) (js i).holds y k.root;
         unrooted = k.unrooted;
         resolved = k.resolved;
-        reopened = noted_closed tree f.0 (js i).notes.reopened (past.resolved i) (js i).holds y k.reopened;
+        reopened = λ was u. noted_closed tree f.0 (js i).notes.reopened (past.resolved i was.number) (js i).holds y (k.reopened was u);
       })
       (none i less);
 }
@@ -234,7 +234,7 @@ closes bound tree next past rows handles js j after f told lt h t n z y none = r
 -- Each call keeps what is known, where what it closes is no row's and nobody's after, and what it opens anew is what was resolved last.
 pub keeps_call : (bound : ℕ) (tree : Tree) (next : ℕ) (past : Past) (rows : List Row) (handles : List HandleRow) (js : ℕ → Job) (j : ℕ) (after : Job) (a : Call) (r : HostReply) (tree' : Tree) → j < bound → Right bound tree next past rows handles js →
     TreeChanges tree a r tree' → MovesBy (js j) (Calls a) (Host r) after →
-    ((f : Fd) (flags : OpenFlags) (object : ℕ) → a ≡ call.Reopen f flags → IsOpenOn tree f object → past.resolved j ≡ Some object) →
+    ((f : Fd) (flags : OpenFlags) (object : ℕ) → a ≡ call.Reopen f flags → IsOpenOn tree f object → (was : Resolution) → (js j).notes.resolved ≡ Some was → past.resolved j was.number ≡ Some object) →
     ((f : Fd) → a ≡ call.Close f → (total (row_fd f.0) rows ≡ 0) × (total (handle_fd f.0) handles ≡ 0) × ((i : ℕ) → i < bound → total (fd_held f.0) (set_at j after js i).holds ≡ 0)) →
     Right bound tree' next (settled_by past j (Calls a) (Host r) next tree') rows handles (set_at j after js)
 keeps_call bound tree next past rows handles js j after (call.OpenRoot path flags) (host.Ok (value.Fd new)) tree' lt h l m b c =

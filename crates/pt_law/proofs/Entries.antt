@@ -51,7 +51,7 @@ settled_objects : (past : Past) (j : ℕ) (deed : Option Deed) (told : ActReply)
 settled_objects past j None told next tree row l = refl
 settled_objects past j (Some (Changes (change.Insert era number form ids mode))) (Event (event.Inserted given)) next tree row l = set_at_other past.objects next (past.latest j) row (λ e. absurd (omega (arith, e, l)))
 settled_objects past j (Some (Changes (change.InsertRoot era form ids mode agreed))) (Event (event.Inserted given)) next tree row l = set_at_other past.objects next (past.roots j) row (λ e. absurd (omega (arith, e, l)))
-settled_objects past j (Some (Changes (change.InsertHandle era handle number fd))) (Event (event.Inserted given)) next tree row l = set_at_other past.objects next (past.resolved j) row (λ e. absurd (omega (arith, e, l)))
+settled_objects past j (Some (Changes (change.InsertHandle era handle number fd))) (Event (event.Inserted given)) next tree row l = set_at_other past.objects next (past.resolved j number) row (λ e. absurd (omega (arith, e, l)))
 settled_objects past j (Some (Changes (change.Resolve number))) (Event (event.Resolved serial form ids mode)) next tree row l = refl
 settled_objects past j (Some (Calls (call.OpenAt dir name flags mode))) (Host (host.Ok (value.Fd fd))) next tree row l = refl
 settled_objects past j (Some (Calls (call.OpenRoot place flags))) (Host (host.Ok (value.Fd fd))) next tree row l = refl

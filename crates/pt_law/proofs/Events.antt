@@ -119,15 +119,15 @@ agreed_handles (Some n) t = refl
 pub handles_event : (tree : Tree) (past : Past) (t : Tables) (j : ℕ) (job after : Job) (e : Change) (r : EventReply) (t' : Tables) → Agree t → Happens t e r t' → MovesBy job (Changes e) (Event r) after →
     Knowing tree t.next_row past j job → Each (HandleOpen tree past) t.handles → Each (HandleOpen tree (settled_by past j (Changes e) (Event r) t.next_row tree)) t'.handles
 handles_event tree past t j job after (change.Insert era number form ids mode) (event.Inserted given) t' a h m k rows =
-    rw h.4 (handles_place tree past _ t.next_row (fd_of form) (past.latest j) t.handles refl refl a.sound_handles rows)
+    rw h.4 (handles_place tree past (settled past given t.next_row (fd_of form) (past.latest j)) t.next_row (fd_of form) (past.latest j) t.handles refl refl a.sound_handles rows)
 handles_event tree past t j job after (change.InsertRoot era form ids mode negotiated) (event.Inserted given) t' a h m k rows =
-    rw (ap (λ (z : Tables). z.handles) h.4 ∙ agreed_handles negotiated (with_row t (new_row t 1 form ids mode 2))) (handles_place tree past _ t.next_row (fd_of form) (past.roots j) t.handles refl refl a.sound_handles rows)
+    rw (ap (λ (z : Tables). z.handles) h.4 ∙ agreed_handles negotiated (with_row t (new_row t 1 form ids mode 2))) (handles_place tree past (settled past given t.next_row (fd_of form) (past.roots j)) t.next_row (fd_of form) (past.roots j) t.handles refl refl a.sound_handles rows)
 handles_event tree past t j job after (change.InsertHandle era handle number fd) (event.Inserted given) t' a h m k rows =
     let fit = m.1 in
-    let n = k.reopened fd fit.4 in
+    let n = k.reopened (record { number = number; row = fit.0 }) fit.3 fd fit.4 in
     rw h.4 (
-      record { object = n.object; open_on = n.open_on; placed = set_at_same past.objects t.next_row (past.resolved j) ∙ n.judged; kept_by = set_at_same past.fds t.next_row (Some fd) },
-      handles_place tree past _ t.next_row fd (past.resolved j) t.handles refl refl a.sound_handles rows,
+      record { object = n.object; open_on = n.open_on; placed = set_at_same past.objects t.next_row (past.resolved j number) ∙ n.judged; kept_by = set_at_same past.fds t.next_row (Some fd) },
+      handles_place tree past (with_place past t.next_row fd (past.resolved j number)) t.next_row fd (past.resolved j number) t.handles refl refl a.sound_handles rows,
     )
 handles_event tree past t j job after (change.Resolve number) (event.Resolved serial form ids mode) t' a h m k rows = handles_kept (HandleOpen tree past) (handle_later tree past) (kept t (change.Resolve number) (event.Resolved serial form ids mode) t' tt h) rows
 handles_event tree past t j job after e r t' a h m k rows = handles_kept (HandleOpen tree past) (handle_later tree past) (kept t e r t' tt h) rows
@@ -142,7 +142,7 @@ rows_event tree past t j job after (change.InsertRoot era form ids mode negotiat
     rw h.4 (agreed_rows (RowOpen tree (settled past given t.next_row (fd_of form) (past.roots j))) negotiated (with_row t (new_row t 1 form ids mode 2))
     (row_comes tree past t 1 given form ids mode 2 (past.roots j) a h.3 h.1 (told_noted tree (fd_of form) ids (past.roots j) job.holds k.told fit.2 (k.root (fd_of form) fit.1)) rows))
 rows_event tree past t j job after (change.InsertHandle era handle number fd) (event.Inserted given) t' a h m k rows =
-    rw h.4 (each_both (IsSoundRow t.next_row) (RowOpen tree past) (RowOpen tree (with_place past t.next_row fd (past.resolved j))) t.rows (λ row s o. row_place tree past t.next_row fd (past.resolved j) row s o) a.sound rows)
+    rw h.4 (each_both (IsSoundRow t.next_row) (RowOpen tree past) (RowOpen tree (with_place past t.next_row fd (past.resolved j number))) t.rows (λ row s o. row_place tree past t.next_row fd (past.resolved j number) row s o) a.sound rows)
 rows_event tree past t j job after (change.Resolve number) (event.Resolved serial form ids mode) t' a h m k rows = rows_kept (RowOpen tree past) (row_later tree past) (kept t (change.Resolve number) (event.Resolved serial form ids mode) t' tt h) rows
 rows_event tree past t j job after e r t' a h m k rows = rows_kept (RowOpen tree past) (row_later tree past) (kept t e r t' tt h) rows
 
@@ -207,7 +207,7 @@ grows tree past t j (change.InsertHandle era handle number fd) (event.Inserted g
   latest = refl;
   roots = refl;
   fds = λ row k. set_at_other past.fds t.next_row (Some fd) row (λ e. absurd (omega (arith, e, k)));
-  objects = λ row k. set_at_other past.objects t.next_row (past.resolved j) row (λ e. absurd (omega (arith, e, k)));
+  objects = λ row k. set_at_other past.objects t.next_row (past.resolved j number) row (λ e. absurd (omega (arith, e, k)));
   rows = rw h.4 (omega arith);
 }
 grows tree past t j (change.Resolve number) (event.Resolved serial form ids mode) t' a h = let l = (stays t (change.Resolve number) (event.Resolved serial form ids mode) t' h).rows in record { latest = refl; roots = refl; fds = λ row k. refl; objects = λ row k. refl; rows = l }
@@ -278,10 +278,10 @@ resolved_pin tree past t number row mode form ids t' a h rows =
 
 -- what is noted of the latest resolution stays right
 resolved_stays : (past later : Past) (next next' j : ℕ) (noted : Option Resolution) → Grows past later next next' → later.resolved j ≡ past.resolved j →
-    ((was : Resolution) → noted ≡ Some was → (was.row < next) × (past.objects was.row ≡ past.resolved j)) → (was : Resolution) → noted ≡ Some was → (was.row < next') × (later.objects was.row ≡ later.resolved j)
+    ((was : Resolution) → noted ≡ Some was → (was.row < next) × (past.objects was.row ≡ past.resolved j was.number)) → (was : Resolution) → noted ≡ Some was → (was.row < next') × (later.objects was.row ≡ later.resolved j was.number)
 resolved_stays past later next next' j noted g q k was e =
     let a = k was e in
-    (let x = g.rows in let y = a.0 in omega (arith, x, y), g.objects was.row a.0 ∙ a.1 ∙ sym q)
+    (let x = g.rows in let y = a.0 in omega (arith, x, y), g.objects was.row a.0 ∙ a.1 ∙ sym (ap (λ (z : ℕ → Option ℕ). z was.number) q))
 
 -- a number that is resolved has the object of the row that is pinned
 resolved_now : (tree : Tree) (past : Past) (t : Tables) (number row mode : ℕ) (form : RowForm) (ids : ObjIds) (t' : Tables) → Agree t → Happens t (change.Resolve number) (event.Resolved row form ids mode) t' →
@@ -293,16 +293,22 @@ resolved_now tree past t number row mode form ids t' a h rows =
       ap past.objects (sym h.2) ∙ o.placed ∙ sym (o.numbered h.1.0) ∙ ap past.numbers h.1.1,
     )
 
+abbrev pub number_of : ℕ → Option Resolution → ℕ
+number_of other None = other
+number_of other (Some was) = was.number
+
 resolved_event : (tree : Tree) (past : Past) (t : Tables) (j : ℕ) (notes : Notes) (e : Change) (r : EventReply) (t' : Tables) → Agree t → Happens t e r t' → Each (RowOpen tree past) t.rows →
     Grows past (settled_by past j (Changes e) (Event r) t.next_row tree) t.next_row t'.next_row →
-    ((was : Resolution) → notes.resolved ≡ Some was → (was.row < t.next_row) × (past.objects was.row ≡ past.resolved j)) →
+    ((was : Resolution) → notes.resolved ≡ Some was → (was.row < t.next_row) × (past.objects was.row ≡ past.resolved j was.number)) →
     (was : Resolution) → (notes_after notes (Changes e) (Event r)).resolved ≡ Some was →
-    (was.row < t'.next_row) × ((settled_by past j (Changes e) (Event r) t.next_row tree).objects was.row ≡ (settled_by past j (Changes e) (Event r) t.next_row tree).resolved j)
+    (was.row < t'.next_row) × ((settled_by past j (Changes e) (Event r) t.next_row tree).objects was.row ≡ (settled_by past j (Changes e) (Event r) t.next_row tree).resolved j was.number)
 resolved_event tree past t j notes (change.Resolve number) (event.Resolved row form ids mode) t' a h rows g k was e =
     let n = resolved_now tree past t number row mode form ids t' a h rows in
-    let same : row ≡ was.row = ap (row_of row) e in (
+    let same : row ≡ was.row = ap (row_of row) e in
+    let same_number : number ≡ was.number = ap (number_of number) e in
+    let own = set_at number (past.numbers number) (past.resolved j) in (
       let x = n.0 in let y = g.rows in omega (arith, x, y, same),
-      ap past.objects (sym same) ∙ n.1 ∙ sym (set_at_same past.resolved j (past.numbers number)),
+      ap past.objects (sym same) ∙ n.1 ∙ sym (ap (λ (z : ℕ → Option ℕ). z was.number) (set_at_same past.resolved j own) ∙ ap own (sym same_number) ∙ set_at_same (past.resolved j) number (past.numbers number)),
     )
   where
     row_of : ℕ → Option Resolution → ℕ
@@ -329,17 +335,34 @@ event_reopened notes change.DrawNode (event.Drawn number) fd e = (e, refl)
 event_reopened notes _ _ fd e = (e, refl)
 
 -- what was opened anew is forgotten with the next resolution
-reopened_event : (tree : Tree) (past : Past) (t : Tables) (j : ℕ) (job after : Job) (e : Change) (r : EventReply) → MovesBy job (Changes e) (Event r) after → NotedRight tree job.notes.reopened (past.resolved j) job.holds →
-    NotedRight tree after.notes.reopened ((settled_by past j (Changes e) (Event r) t.next_row tree).resolved j) after.holds
-reopened_event tree past t j job after (change.Resolve number) (event.Resolved row form ids mode) m k = λ fd q. let n = ap (λ (z : Notes). z.reopened) m.3 in absurd (cc)
-reopened_event tree past t j job after (change.Insert era number form ids mode) (event.Inserted given) m k =
-    noted_event tree job after (change.Insert era number form ids mode) (event.Inserted given) job.notes.reopened after.notes.reopened (past.resolved j) _ m.0 refl (λ f q. event_reopened job.notes (change.Insert era number form ids mode) (event.Inserted given) f (sym (ap (λ (n : Notes). n.reopened) m.3) ∙ q)) k
-reopened_event tree past t j job after (change.InsertRoot era form ids mode negotiated) (event.Inserted given) m k =
-    noted_event tree job after (change.InsertRoot era form ids mode negotiated) (event.Inserted given) job.notes.reopened after.notes.reopened (past.resolved j) _ m.0 refl (λ f q. event_reopened job.notes (change.InsertRoot era form ids mode negotiated) (event.Inserted given) f (sym (ap (λ (n : Notes). n.reopened) m.3) ∙ q)) k
-reopened_event tree past t j job after (change.InsertHandle era handle number fd) (event.Inserted given) m k =
-    noted_event tree job after (change.InsertHandle era handle number fd) (event.Inserted given) job.notes.reopened after.notes.reopened (past.resolved j) _ m.0 refl (λ f q. event_reopened job.notes (change.InsertHandle era handle number fd) (event.Inserted given) f (sym (ap (λ (n : Notes). n.reopened) m.3) ∙ q)) k
-reopened_event tree past t j job after e r m k =
-    noted_event tree job after e r job.notes.reopened after.notes.reopened (past.resolved j) _ m.0 refl (λ fd q. event_reopened job.notes e r fd (sym (ap (λ (n : Notes). n.reopened) m.3) ∙ q)) k
+reopened_event : (tree : Tree) (past : Past) (t : Tables) (j : ℕ) (job after : Job) (e : Change) (r : EventReply) → MovesBy job (Changes e) (Event r) after →
+    ((was : Resolution) → job.notes.resolved ≡ Some was → NotedRight tree job.notes.reopened (past.resolved j was.number) job.holds) →
+    (was : Resolution) → after.notes.resolved ≡ Some was → NotedRight tree after.notes.reopened ((settled_by past j (Changes e) (Event r) t.next_row tree).resolved j was.number) after.holds
+reopened_event tree past t j job after (change.Resolve number) (event.Resolved row form ids mode) m k was u = λ fd q. let n = ap (λ (z : Notes). z.reopened) m.3 in absurd (cc)
+reopened_event tree past t j job after (change.Insert era number form ids mode) (event.Inserted given) m k was u =
+    noted_event tree job after (change.Insert era number form ids mode) (event.Inserted given) job.notes.reopened after.notes.reopened (past.resolved j was.number) _ m.0 refl
+    (λ f q. event_reopened job.notes (change.Insert era number form ids mode) (event.Inserted given) f (sym (ap (λ (n : Notes). n.reopened) m.3) ∙ q)) (k was (sym (ap (λ (n : Notes). n.resolved) m.3) ∙ u))
+reopened_event tree past t j job after (change.InsertRoot era form ids mode negotiated) (event.Inserted given) m k was u =
+    noted_event tree job after (change.InsertRoot era form ids mode negotiated) (event.Inserted given) job.notes.reopened after.notes.reopened (past.resolved j was.number) _ m.0 refl
+    (λ f q. event_reopened job.notes (change.InsertRoot era form ids mode negotiated) (event.Inserted given) f (sym (ap (λ (n : Notes). n.reopened) m.3) ∙ q)) (k was (sym (ap (λ (n : Notes). n.resolved) m.3) ∙ u))
+reopened_event tree past t j job after (change.InsertHandle era handle number fd) (event.Inserted given) m k was u =
+    noted_event tree job after (change.InsertHandle era handle number fd) (event.Inserted given) job.notes.reopened after.notes.reopened (past.resolved j was.number) _ m.0 refl
+    (λ f q. event_reopened job.notes (change.InsertHandle era handle number fd) (event.Inserted given) f (sym (ap (λ (n : Notes). n.reopened) m.3) ∙ q)) (k was (sym (ap (λ (n : Notes). n.resolved) m.3) ∙ u))
+reopened_event tree past t j job after change.Begin (event.Began era negotiated) m k was u =
+    noted_event tree job after change.Begin (event.Began era negotiated) job.notes.reopened after.notes.reopened (past.resolved j was.number) _ m.0 refl
+    (λ f q. event_reopened job.notes change.Begin (event.Began era negotiated) f (sym (ap (λ (n : Notes). n.reopened) m.3) ∙ q)) (k was (sym (ap (λ (n : Notes). n.resolved) m.3) ∙ u))
+reopened_event tree past t j job after change.Clear (event.Cleared era closings) m k was u =
+    noted_event tree job after change.Clear (event.Cleared era closings) job.notes.reopened after.notes.reopened (past.resolved j was.number) _ m.0 refl
+    (λ f q. event_reopened job.notes change.Clear (event.Cleared era closings) f (sym (ap (λ (n : Notes). n.reopened) m.3) ∙ q)) (k was (sym (ap (λ (n : Notes). n.resolved) m.3) ∙ u))
+reopened_event tree past t j job after change.DrawNode (event.Drawn number) m k was u =
+    noted_event tree job after change.DrawNode (event.Drawn number) job.notes.reopened after.notes.reopened (past.resolved j was.number) _ m.0 refl
+    (λ f q. event_reopened job.notes change.DrawNode (event.Drawn number) f (sym (ap (λ (n : Notes). n.reopened) m.3) ∙ q)) (k was (sym (ap (λ (n : Notes). n.resolved) m.3) ∙ u))
+reopened_event tree past t j job after change.DrawHandle (event.Drawn handle) m k was u =
+    noted_event tree job after change.DrawHandle (event.Drawn handle) job.notes.reopened after.notes.reopened (past.resolved j was.number) _ m.0 refl
+    (λ f q. event_reopened job.notes change.DrawHandle (event.Drawn handle) f (sym (ap (λ (n : Notes). n.reopened) m.3) ∙ q)) (k was (sym (ap (λ (n : Notes). n.resolved) m.3) ∙ u))
+reopened_event tree past t j job after e r m k was u =
+    noted_event tree job after e r job.notes.reopened after.notes.reopened (past.resolved j was.number) _ m.0 refl
+    (λ f q. event_reopened job.notes e r f (sym (ap (λ (n : Notes). n.reopened) m.3) ∙ q)) (k was (sym (ap (λ (n : Notes). n.resolved) m.3) ∙ u))
 
 pinned_now : (tree : Tree) (past : Past) (t : Tables) (handle number row : ℕ) (fd : Fd) (t' : Tables) → Agree t → Happens t (change.PinHandle handle number) (event.Pinned row fd) t' →
     Each (HandleOpen tree past) t.handles → PinRight t.next_row past.fds (hold.HandlePin row fd)
@@ -378,11 +401,11 @@ knows_other tree past later next next' i job g s k = record {
   root = λ fd e. let a = k.root fd e in record { held = a.held; object = a.object; open_on = a.open_on; judged = ap (λ f. f i) g.roots ∙ a.judged };
   unrooted = λ e. ap (λ f. f i) g.roots ∙ k.unrooted e;
   resolved = resolved_stays past later next next' i job.notes.resolved g s k.resolved;
-  reopened = λ fd e. let a = k.reopened fd e in record { held = a.held; object = a.object; open_on = a.open_on; judged = s ∙ a.judged };
+  reopened = λ was u fd e. let a = k.reopened was u fd e in record { held = a.held; object = a.object; open_on = a.open_on; judged = ap (λ (z : ℕ → Option ℕ). z was.number) s ∙ a.judged };
 }
 
 pub resolved_other : (past : Past) (j : ℕ) (e : Change) (r : EventReply) (next : ℕ) (tree : Tree) (i : ℕ) → i ≢ j → (settled_by past j (Changes e) (Event r) next tree).resolved i ≡ past.resolved i
-resolved_other past j (change.Resolve number) (event.Resolved row form ids mode) next tree i other = set_at_other past.resolved j (past.numbers number) i other
+resolved_other past j (change.Resolve number) (event.Resolved row form ids mode) next tree i other = set_at_other past.resolved j (set_at number (past.numbers number) (past.resolved j)) i other
 resolved_other past j (change.Insert era number form ids mode) (event.Inserted given) next tree i other = refl
 resolved_other past j (change.InsertRoot era form ids mode negotiated) (event.Inserted given) next tree i other = refl
 resolved_other past j (change.InsertHandle era handle number fd) (event.Inserted given) next tree i other = refl

@@ -73,8 +73,8 @@ pub record Knowing (tree : Tree) (next : ℕ) (past : Past) (j : ℕ) (job : Job
   pub root : NotedRight tree job.notes.root (past.roots j) job.holds
   pub unrooted : job.notes.rooted ≡ false → past.roots j ≡ None
   -- the row that was resolved last has the object that its number had then, and what was opened anew is open on it
-  pub resolved : (was : Resolution) → job.notes.resolved ≡ Some was → (was.row < next) × (past.objects was.row ≡ past.resolved j)
-  pub reopened : NotedRight tree job.notes.reopened (past.resolved j) job.holds
+  pub resolved : (was : Resolution) → job.notes.resolved ≡ Some was → (was.row < next) × (past.objects was.row ≡ past.resolved j was.number)
+  pub reopened : (was : Resolution) → job.notes.resolved ≡ Some was → NotedRight tree job.notes.reopened (past.resolved j was.number) job.holds
 
 -- the tree with another entry for this descriptor
 abbrev pub with_entry : Tree → ℕ → Option Opened → Tree

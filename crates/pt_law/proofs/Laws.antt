@@ -61,7 +61,7 @@ begins_at limit bound tree well = record {
       root = λ fd e. absurd (cc);
       unrooted = λ e. refl;
       resolved = λ was e. absurd (cc);
-      reopened = λ fd e. absurd (cc);
+      reopened = λ was u fd e. absurd (cc);
     };
   };
 }

@@ -25,8 +25,10 @@ pub mod Steps
 pub mod Interleaving
 pub mod Laws
 pub mod Standing
+pub mod HandlesOnce
 pub mod Pinned
 pub mod Next
+pub mod Overtaking
 pub mod Straight
 pub mod Cuts
 pub mod Entries

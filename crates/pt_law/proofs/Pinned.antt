@@ -1,16 +1,13 @@
 -- What a job names is open.
-use Rattle.std.proofs.Common.{◌≡◌, ◌≢◌, ⊎_elim, ℕ, ◌*◌, ◌<◌, ◌≤◌, List, [], ◌∷◌, refl, sym, ap, subst, ◌∙◌, arith, Option, Some, None}
-use Rattle.std.proofs.lemmas.Bool.{cases_eq}
-use Rattle.pt_host.specs.Words.{is, total, Takes, Takes.{here, there}, Replaces}
+use Rattle.std.proofs.Common.{◌≡◌, ℕ, ◌<◌, ◌≤◌, List, refl, ap, subst, arith, Option, Some, None}
+use Rattle.pt_host.specs.Words.{is, total, Takes, Replaces}
 use Rattle.pt_host.specs.Tree.{Opened, IsOpenOn}
 use Rattle.pt_host.specs.declared.ids.Fd.{Fd}
 use Rattle.pt_host.specs.declared.ids.ObjIds.{ObjIds}
 use Rattle.pt_host.specs.declared.op.KeptHostOp.TheVariants as call
 use Rattle.pt_host.specs.declared.reply.HostReply.TheVariants as host
 use Rattle.pt_host.specs.declared.reply.HostValue.TheVariants as value
-use Rattle.pt_session.specs.declared.row.Row.{Row}
 use Rattle.pt_req.specs.Deed.{Deed, Calls}
-use Rattle.pt_req.specs.Held.{fd_of}
 use Rattle.pt_req.specs.declared.act.ActReply.{ActReply}
 use Rattle.pt_req.specs.declared.act.ActReply.TheVariants.{Host}
 use Rattle.pt_req.specs.declared.hold.Hold.{Hold}
@@ -19,10 +16,8 @@ use Rattle.pt_law.specs.Discipline.{Job, Names, Knows, MovesIf}
 use Rattle.pt_law.specs.World.{World}
 use Rattle.pt_law.specs.Ledger.{fd_held, some_count}
 use Rattle.pt_law.specs.Laws.{NamesOpen}
-use Rattle.pt_law.proofs.Flows.{pin_held, row_pins}
-use Rattle.pt_law.proofs.Lists.{total_takes, each_taken, is_same, is_apart}
+use Rattle.pt_law.proofs.Lists.{total_takes, is_same}
 use Rattle.pt_law.proofs.Counting.{part}
-use Rattle.pt_law.proofs.Knowing.{RowOpen, PinRight}
 use Rattle.pt_law.proofs.PinnedRows.{pinned_row, pinned_handle}
 use Rattle.pt_law.proofs.Steps.{Inv}
 

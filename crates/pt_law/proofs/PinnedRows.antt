@@ -1,5 +1,5 @@
 -- What a pin that a job holds keeps open.
-use Rattle.std.proofs.Common.{◌≡◌, ◌≢◌, ⊎_elim, ℕ, ◌*◌, ◌<◌, ◌≤◌, List, [], ◌∷◌, refl, sym, ap, subst, ◌∙◌, arith, Option, Some}
+use Rattle.std.proofs.Common.{◌≡◌, ◌≢◌, ⊎_elim, ℕ, ◌*◌, ◌<◌, List, [], ◌∷◌, sym, ap, subst, ◌∙◌, arith, Some}
 use Rattle.std.proofs.lemmas.Bool.{cases_eq}
 use Rattle.pt_host.specs.Words.{is, total, Takes, Takes.{here, there}}
 use Rattle.pt_host.specs.Tree.{Tree, IsOpenOn}
@@ -12,7 +12,7 @@ use Rattle.pt_req.specs.declared.hold.Hold.{Hold}
 use Rattle.pt_req.specs.declared.hold.Hold.TheVariants as hold
 use Rattle.pt_law.specs.Discipline.{Job}
 use Rattle.pt_law.specs.World.{Past}
-use Rattle.pt_law.proofs.Flows.{pin_held, row_pins, handle_pin_held, handle_pins}
+use Rattle.pt_law.proofs.Flows.{pin_held, handle_pin_held}
 use Rattle.pt_law.proofs.Lists.{total_takes, each_taken, is_same, is_apart}
 use Rattle.pt_law.proofs.Counting.{Books, part}
 use Rattle.pt_law.proofs.Knowing.{RowOpen, HandleOpen, PinRight}

@@ -24,7 +24,7 @@ use Rattle.pt_req.specs.Deed.{Deed, Calls, Changes}
 use Rattle.pt_req.specs.Made.{Does, Made}
 use Rattle.pt_req.specs.declared.act.ActReply.{ActReply}
 use Rattle.pt_req.specs.declared.act.ActReply.TheVariants.{Event, Host, NoCopy}
-use Rattle.pt_law.specs.Discipline.{Job, Moves, MovesIf, MovesBy}
+use Rattle.pt_law.specs.Discipline.{Job, Resolution, Moves, MovesIf, MovesBy}
 use Rattle.pt_law.specs.World.{World, Turn, TablesGo, Goes, IsLawful, settled_if, settled_by}
 use Rattle.pt_law.specs.Ledger.{open_count, kept_fds, held_by, fd_held, some_count, slot_taken, slot_given, inserted_if, inserted_as}
 use Rattle.pt_law.proofs.Flows.{fd_ended, slot_in, slot_out, IsHonest, unmade}
@@ -34,7 +34,7 @@ use Rattle.pt_law.proofs.Holding.{handed, in_tree}
 use Rattle.pt_law.proofs.Counting.{Books, keeps_books, honest, part}
 use Rattle.pt_law.proofs.Numbers.{Numbers, keeps_numbers}
 use Rattle.pt_law.proofs.Knowing.{Knowing, one_object}
-use Rattle.pt_law.proofs.Events.{grows, rows_event, handles_event, knows_event, knows_other, resolved_other}
+use Rattle.pt_law.proofs.Events.{number_of, grows, rows_event, handles_event, knows_event, knows_other, resolved_other}
 use Rattle.pt_law.proofs.Calls.{Right, keeps_call}
 use Rattle.pt_law.proofs.PinnedRows.{pinned_row}
 use Rattle.pt_law.proofs.Givings.{agree_step}
@@ -192,11 +192,12 @@ keeps_host bound base had w js j a r seat seat' tree' after lt v l m =
           (omega (arith, n, x), omega (arith, n, x), (λ i less. let y = part (fd_held f.0) (set_at j after js) bound i less in omega (arith, n, x, y))));
     }
   where
-    judged : (f : Fd) (flags : OpenFlags) (object : ℕ) → IsOpenOn w.tree f object → MovesBy (js j) (Calls (call.Reopen f flags)) (Host r) after → w.past.resolved j ≡ Some object
-    judged f flags object on m =
+    judged : (f : Fd) (flags : OpenFlags) (object : ℕ) → IsOpenOn w.tree f object → MovesBy (js j) (Calls (call.Reopen f flags)) (Host r) after → (was : Resolution) → (js j).notes.resolved ≡ Some was → w.past.resolved j was.number ≡ Some object
+    judged f flags object on m was u =
         let fit = m.1 in
         let p = pinned_row bound w.tree w.tables w.past js j fit.0.row f lt v.tabled.books v.right fit.3 in
-        sym ((v.right.knows j lt).resolved fit.0 fit.2).1 ∙ p.2 ∙ ap Some (one_object w.tree f p.0 object p.1 on)
+        let same : was.number ≡ fit.0.number = ap (number_of 0) (sym u ∙ fit.2) in
+        ap (w.past.resolved j) same ∙ sym ((v.right.knows j lt).resolved fit.0 fit.2).1 ∙ p.2 ∙ ap Some (one_object w.tree f p.0 object p.1 on)
 
     closed_none : (tree tree' : Tree) (a : Call) (f : Fd) (r : HostReply) → a ≡ call.Close f → TreeChanges tree a r tree' → open_count f.0 tree' ≡ 0
     closed_none tree tree' a f r e h = let l : TreeChanges tree (call.Close f) r tree' = subst (λ c. TreeChanges tree c r tree') e h in none tree tree' f r l

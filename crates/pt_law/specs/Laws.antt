@@ -8,6 +8,7 @@ use Rattle.pt_session.specs.declared.row.Row.{Row}
 use Rattle.pt_session.specs.declared.row.HandleRow.{HandleRow}
 use Rattle.pt_session.specs.Happens.{IsRow, NoRow, IsHandleRow, NoHandle}
 use Rattle.pt_session.specs.declared.event.KeptEvent.TheVariants as change
+use Rattle.pt_session.specs.declared.reply.EventRefusal.TheVariants.{Overtaken}
 use Rattle.pt_session.specs.declared.reply.EventReply.TheVariants as event
 use Rattle.pt_req.specs.Deed.{Deed, Calls, Changes}
 use Rattle.pt_req.specs.Grammar.{Belongs}
@@ -70,7 +71,7 @@ pub record IsStanding (tables : Tables) (handle : ℕ) (amount : ℕ) : Type 0 w
   pub live : 0 < amount → (row : HandleRow) × IsHandleRow tables row × HasHandle handle row
   pub gone : amount ≡ 0 → NoHandle tables (HasHandle handle)
 
--- a handle's descriptor is open on the object that its number had when it was resolved for the handle's opening
+-- a handle's descriptor is open on the object that its number had when its job resolved that number last before the handle was inserted
 abbrev pub Serves : World → HandleRow → Type 0
 Serves world row = (object : ℕ) × (world.past.objects row.serial ≡ Some object) × IsOpenOn world.tree row.fd object
 
@@ -85,6 +86,14 @@ pub record IsOvertaken (job : ℕ) (turns : List Turn) : Type 0 where
   pub era : ℕ
   pub closings : ℕ
   pub cleared : clearing.step ≡ record { deed = Some (Changes change.Clear); reply = Event (event.Cleared era closings) }
+
+-- the tables refused it because the session had begun anew
+abbrev pub TellsOvertaken : Option Deed → ActReply → Type 0
+TellsOvertaken (Some (Changes (change.Claim era handle ids))) (Event (event.Refused Overtaken)) = Unit {0}
+TellsOvertaken (Some (Changes (change.Insert era number form ids mode))) (Event (event.Refused Overtaken)) = Unit {0}
+TellsOvertaken (Some (Changes (change.InsertRoot era form ids mode agreed))) (Event (event.Refused Overtaken)) = Unit {0}
+TellsOvertaken (Some (Changes (change.InsertHandle era handle number fd))) (Event (event.Refused Overtaken)) = Unit {0}
+TellsOvertaken deed told = ⊥
 
 -- slots left, those of rows and of the closing list, and those that jobs carry, are the limit
 pub record SlotsAddUp (limit bound : ℕ) (turns : List Turn) (tables : Tables) : Type 0 where

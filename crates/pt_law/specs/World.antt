@@ -40,12 +40,12 @@ pub record Past : Type 0 where
   -- the object that each job's latest `OpenAt` answered, and the one that its first `OpenRoot` answered
   pub latest : ℕ → Option ℕ
   pub roots : ℕ → Option ℕ
-  -- the object that the number of each job's latest `Resolve` had then
-  pub resolved : ℕ → Option ℕ
+  -- the object that a number had at each job's latest `Resolve` of it
+  pub resolved : ℕ → ℕ → Option ℕ
 
 -- before the first step
 abbrev pub no_past : Past
-no_past = record { numbers = λ number. None; objects = λ row. None; fds = λ row. None; latest = λ job. None; roots = λ job. None; resolved = λ job. None }
+no_past = record { numbers = λ number. None; objects = λ row. None; fds = λ row. None; latest = λ job. None; roots = λ job. None; resolved = λ job number. None }
 
 abbrev pub object_of : Option Opened → Option ℕ
 object_of None = None
@@ -68,9 +68,9 @@ settled_by past job (Changes (change.Insert era number form ids mode)) (Event (e
 settled_by past job (Changes (change.InsertRoot era form ids mode agreed)) (Event (event.Inserted given)) row tree =
     settled past given row (fd_of form) (past.roots job)
 settled_by past job (Changes (change.InsertHandle era handle number fd)) (Event (event.Inserted given)) row tree =
-    record past { objects = set_at row (past.resolved job) past.objects; fds = set_at row (Some fd) past.fds }
+    record past { objects = set_at row (past.resolved job number) past.objects; fds = set_at row (Some fd) past.fds }
 settled_by past job (Changes (change.Resolve number)) (Event (event.Resolved serial form ids mode)) row tree =
-    record past { resolved = set_at job (past.numbers number) past.resolved }
+    record past { resolved = set_at job (set_at number (past.numbers number) (past.resolved job)) past.resolved }
 settled_by past job (Calls (call.OpenAt dir name flags mode)) (Host (host.Ok (value.Fd fd))) row tree =
     record past { latest = set_at job (object_of (tree.opened fd.0)) past.latest }
 settled_by past job (Calls (call.OpenRoot path flags)) (Host (host.Ok (value.Fd fd))) row tree =

@@ -17,8 +17,8 @@ ghost use Rattle.pt_req.specs.declared.finish.Finish.TheVariants as finish;
 ghost use Rattle.pt_req.specs.declared.plan.Plan.{Plan};
 ghost use Rattle.pt_law.specs.Told.{AllMayBeTold};
 ghost use Rattle.pt_law.specs.World.{World, Turn, Runs, HostRuns, TablesGo, TablesRun, steps_of};
-ghost use Rattle.pt_law.specs.Ledger.{given, inserted, standing};
-ghost use Rattle.pt_law.specs.Laws.{AreDisciplined, AreEnded, AreAnswered, Starts, AreDistinct, HasObject, Serves, IsCounted, IsStanding, SlotsAddUp, AreKept, NamesOpen, IsHonoured, IsAtRest, LeavesRows};
+ghost use Rattle.pt_law.specs.Ledger.{given, inserted, handle_inserted, standing};
+ghost use Rattle.pt_law.specs.Laws.{AreDisciplined, AreEnded, AreAnswered, Starts, AreDistinct, HasObject, Serves, IsCounted, IsStanding, SlotsAddUp, AreKept, NamesOpen, IsHonoured, IsOvertaken, TellsOvertaken, IsAtRest, LeavesRows};
 ghost use Rattle.pt_law.specs.Entered.{IsEntered};
 
 use pt_host::Host;
@@ -32,10 +32,15 @@ pub fn every_run()
     ensures standing { (limit : ℕ) (turns : List Turn) (now : Tables) (handle : ℕ) → TablesRun (empty_tables limit) turns now → IsStanding now handle (standing handle turns) }
     ensures once { (limit bound : ℕ) (turns more : List Turn) (now : Tables) (number : ℕ) →
         AreDisciplined bound (turns ++ more) → TablesRun (empty_tables limit) turns now → number ≢ 1 → inserted number turns ≤ 1 }
+    ensures handles_once { (limit bound : ℕ) (turns more : List Turn) (now : Tables) (handle : ℕ) →
+        AreDisciplined bound (turns ++ more) → TablesRun (empty_tables limit) turns now → handle_inserted handle turns ≤ 1 }
     ensures slots { (limit bound : ℕ) (turns more : List Turn) (now : Tables) →
         AreDisciplined bound (turns ++ more) → TablesRun (empty_tables limit) turns now → SlotsAddUp limit bound turns now }
     ensures honoured { (limit bound : ℕ) (turns : List Turn) (turn : Turn) (more : List Turn) (now next : Tables) →
         AreDisciplined bound (turns ++ turn ∷ more) → TablesRun (empty_tables limit) turns now → TablesGo now turn.step.deed turn.step.reply next → IsHonoured turn.step.deed turn.step.reply }
+    ensures overtaken { (limit bound : ℕ) (turns : List Turn) (turn : Turn) (more : List Turn) (now next : Tables) →
+        AreDisciplined bound (turns ++ turn ∷ more) → TablesRun (empty_tables limit) turns now → TablesGo now turn.step.deed turn.step.reply next →
+        TellsOvertaken turn.step.deed turn.step.reply → IsOvertaken turn.job turns }
     ensures disciplined { (bound : ℕ) (turns : List Turn) → AreEnded bound turns → AreDisciplined bound turns }
     ensures rest { (limit bound : ℕ) (turns : List Turn) (now : Tables) →
         AreEnded bound turns → TablesRun (empty_tables limit) turns now → IsAtRest limit bound turns now }

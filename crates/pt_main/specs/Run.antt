@@ -18,7 +18,7 @@ use Rattle.pt_iface.specs.declared.request.Request.{Request}
 use Rattle.pt_iface.specs.declared.request.Request.TheVariants.{Root}
 use Rattle.pt_fs.specs.FileSystem.{FileSystem, opens_root, IsMadeBy}
 use Rattle.pt_fs.specs.Jobs.{job_seat}
-use Rattle.pt_fs.specs.Keeps.{turns_of, AfterEach, AfterEachTold, LeadsOn, KeepsObjects, KeepsCounts, InsertsOnce, OfEachJob, GivesBack, IsCausedIn, IsNamedIn, NamesOpenOnes, LeavesOpen}
+use Rattle.pt_fs.specs.Keeps.{turns_of, AfterEach, AfterEachTold, LeadsOn, KeepsObjects, KeepsCounts, KeepsHandles, ServesEach, InsertsOnce, OvertakenAsTold, OfEachJob, GivesBack, IsCausedIn, IsNamedIn, NamesOpenOnes, LeavesOpen}
 use Rattle.pt_fs.specs.Order.{IsInOrder}
 use Rattle.pt_law.specs.Laws.{SlotsAddUp, IsAtRest, AreKept}
 use Rattle.pt_fs.specs.Trace.{Runs, AnswersEach, IsBounded}
@@ -81,13 +81,16 @@ pub record IsRunFrom (settings : Settings) (start : State) (lines : List ScriptJ
   pub causes : OfEachJob (map job_of lines) answers (IsCausedIn trace)
   pub gives_back : OfEachJob (map job_of lines) answers (GivesBack trace)
   pub counts : AfterEach fs.tables trace KeepsCounts
+  pub handles : AfterEach fs.tables trace KeepsHandles
   pub once : InsertsOnce trace
+  pub overtaken : OvertakenAsTold trace
   pub slots : AfterEach fs.tables trace (SlotsAddUp fs.tables.limit (length (map job_of lines)))
   pub at_rest : IsAtRest fs.tables.limit (length (map job_of lines)) (turns_of trace) tables
   -- the host tells its tree, which is well formed; so what is said of objects holds
   pub well_formed : IsWellFormed (tree_of opened_host)
   pub told : LeadsOn (Some (tree_of opened_host)) fs.tables trace (Some (tree_of host)) tables
   pub distinct : AfterEachTold (Some (tree_of opened_host)) fs.tables trace (λ start so_far now. KeepsObjects now)
+  pub serves : AfterEachTold (Some (tree_of opened_host)) fs.tables trace (λ start so_far now. ServesEach now)
   pub entries : OfEachJob (map job_of lines) answers (IsNamedIn fs.plan (Some (tree_of opened_host)) fs.tables trace)
   pub names_open : NamesOpenOnes (Some (tree_of opened_host)) fs.tables trace
   pub descriptors : AfterEachTold (Some (tree_of opened_host)) fs.tables trace (λ start so_far now. AreKept start (length (map job_of lines)) so_far now)

@@ -1,4 +1,4 @@
-use Rattle.std.proofs.Common.{◌≡◌, ◌≤◌, ◌*◌, ap, length, vec_capacity, arith, rules}
+use Rattle.std.proofs.Common.{◌≡◌, ◌≤◌, ap, length, vec_capacity, arith, rules}
 use Rattle.pt_session.specs.Pending.{pending_in}
 use Rattle.pt_fs.specs.Work.{room_of}
 use Rattle.pt_fs.proofs.Ended.{started_length}
@@ -44,11 +44,14 @@ returns g c =
       causes = kept.causes;
       gives_back = kept.gives_back;
       counts = kept.counts;
+      handles = kept.handles;
       once = kept.once;
+      overtaken = kept.overtaken;
       slots = kept.slots;
       at_rest = kept.rest;
       told = told.leads_on;
       distinct = told.distinct;
+      serves = told.serves;
       entries = told.entries;
       names_open = told.named;
       descriptors = told.descriptors;

@@ -3,6 +3,8 @@ use Rattle.pt_law.proofs.Interleaving.{tables_split}
 use Rattle.pt_law.proofs.Laws.{agree_law, era_grows, counts_law, once_law, slots_law, rest_law, ended_jobs}
 use Rattle.pt_law.proofs.Next.{honoured_law}
 use Rattle.pt_law.proofs.Standing.{standing_law}
+use Rattle.pt_law.proofs.HandlesOnce.{handles_once_law}
+use Rattle.pt_law.proofs.Overtaking.{overtaken_law}
 
 pub returns-clause-agree : goal.returns-clause-agree
 returns-clause-agree c = agree_law
@@ -33,3 +35,9 @@ returns-clause-cut c = tables_split
 
 pub returns-clause-standing : goal.returns-clause-standing
 returns-clause-standing c = standing_law
+
+pub returns-clause-handles_once : goal.returns-clause-handles_once
+returns-clause-handles_once c = handles_once_law
+
+pub returns-clause-overtaken : goal.returns-clause-overtaken
+returns-clause-overtaken c = overtaken_law
