@@ -1,6 +1,7 @@
 -- The texts of the events of the tables and of their replies.
 use Rattle.std.specs.Prelude.{ℕ, List, ◌++◌, codes, length}
 use Rattle.pt_host.specs.declared.handle.FileHandle.{FileHandle}
+use Rattle.pt_host.specs.declared.ids.Fd.{Fd}
 use Rattle.pt_host.specs.declared.ids.ObjIds.{ObjIds}
 use Rattle.pt_session.specs.declared.form.RowForm.{RowForm}
 use Rattle.pt_session.specs.declared.form.RowForm.TheVariants.{File}
@@ -34,6 +35,10 @@ pair_text pair = number_text pair.0 ++ number_text pair.1
 abbrev pub forgets_text : List (ℕ × ℕ) → List ℕ
 forgets_text pairs = number_text (length pairs) ++ items_text pair_text pairs
 
+-- a name and what a new handle is told by
+abbrev pub new_handle_text : List ℕ → ℕ → ℕ → ℕ → Fd → List ℕ
+new_handle_text name era handle number fd = word name ++ number_text era ++ number_text handle ++ number_text number ++ fd_text fd
+
 abbrev pub event_text : KeptEvent → List ℕ
 event_text event.Begin = word (codes "Begin")
 event_text (event.Resolve number) = word (codes "Resolve") ++ number_text number
@@ -49,8 +54,7 @@ event_text (event.InsertRoot era form ids mode negotiated) =
 event_text (event.Forget list) = word (codes "Forget") ++ forgets_text list
 event_text (event.GiveBack era number) = word (codes "GiveBack") ++ number_text era ++ number_text number
 event_text event.DrawHandle = word (codes "DrawHandle")
-event_text (event.InsertHandle era handle number fd) =
-    word (codes "InsertHandle") ++ number_text era ++ number_text handle ++ number_text number ++ fd_text fd
+event_text (event.InsertHandle era handle number fd) = new_handle_text (codes "InsertHandle") era handle number fd
 event_text (event.PinHandle handle number) = word (codes "PinHandle") ++ number_text handle ++ number_text number
 event_text (event.UnpinHandle row) = word (codes "UnpinHandle") ++ number_text row
 event_text (event.Release handle number) = word (codes "Release") ++ number_text handle ++ number_text number

@@ -1,9 +1,7 @@
-ghost use Rattle.std.specs.Prelude.{◌≡◌, ◌++◌, OnOk};
-ghost use Rattle.pt_main.specs.Texts.{word};
 ghost use Rattle.pt_main.specs.AnswerTexts.{timeout_text, attr_text, entry_text, options_text, open_options_text, dir_entry_text, listing_text, xattr_text, xattrs_text, answer_text};
 
 use crate::texts::Text;
-use crate::texts::plain::push_word;
+use crate::texts::plain::{push_named, push_word};
 use pt_iface::{
     Answer, Attr, DirEntries, DirEntry, Entry, FsOptions, GetxattrReply, ListxattrReply,
     OpenOptions, Timeout,
@@ -96,14 +94,8 @@ impl Text for GetxattrReply {
 
     fn write(&self, out: &mut Vec<u8>) -> Result<(), AllocError> {
         match self {
-            GetxattrReply::Value(bytes) => {
-                push_word(out, b"Value")?;
-                bytes.write(out)
-            }
-            GetxattrReply::Count(count) => {
-                push_word(out, b"Count")?;
-                count.write(out)
-            }
+            GetxattrReply::Value(bytes) => push_named(out, b"Value", bytes),
+            GetxattrReply::Count(count) => push_named(out, b"Count", count),
         }
     }
 }
@@ -113,24 +105,10 @@ impl Text for ListxattrReply {
 
     fn write(&self, out: &mut Vec<u8>) -> Result<(), AllocError> {
         match self {
-            ListxattrReply::Names(bytes) => {
-                push_word(out, b"Names")?;
-                bytes.write(out)
-            }
-            ListxattrReply::Count(count) => {
-                push_word(out, b"Count")?;
-                count.write(out)
-            }
+            ListxattrReply::Names(bytes) => push_named(out, b"Names", bytes),
+            ListxattrReply::Count(count) => push_named(out, b"Count", count),
         }
     }
-}
-
-// An answer that is its name and one value.
-fn push_named<T: Text>(out: &mut Vec<u8>, name: &[u8], value: &T) -> Result<(), AllocError>
-    ensures { OnOk result (out.new.items ≡ out.old.items ++ word name.now ++ T.text value.now) }
-{
-    push_word(out, name)?;
-    value.write(out)
 }
 
 impl Text for Answer {

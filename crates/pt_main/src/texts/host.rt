@@ -1,7 +1,7 @@
 ghost use Rattle.pt_main.specs.HostTexts.{errno_text, fd_text, flags_text, ids_text, time_text, stat_text, fs_stat_text, call_text, value_text, host_reply_text};
 
 use crate::texts::Text;
-use crate::texts::plain::push_word;
+use crate::texts::plain::{push_named, push_word};
 use pt_host::{Errno, Fd, FsStat, HostReply, HostValue, KeptHostOp, ObjIds, OpenFlags, Stat, Time};
 use std::alloc::AllocError;
 
@@ -88,8 +88,7 @@ impl Text for KeptHostOp {
     fn write(&self, out: &mut Vec<u8>) -> Result<(), AllocError> {
         match self {
             KeptHostOp::OpenRoot { path, flags } => {
-                push_word(out, b"OpenRoot")?;
-                path.write(out)?;
+                push_named(out, b"OpenRoot", path)?;
                 flags.write(out)
             }
             KeptHostOp::OpenAt {
@@ -98,31 +97,22 @@ impl Text for KeptHostOp {
                 flags,
                 mode,
             } => {
-                push_word(out, b"OpenAt")?;
-                fd.write(out)?;
+                push_named(out, b"OpenAt", fd)?;
                 name.write(out)?;
                 flags.write(out)?;
                 mode.write(out)
             }
             KeptHostOp::Reopen { fd, flags } => {
-                push_word(out, b"Reopen")?;
-                fd.write(out)?;
+                push_named(out, b"Reopen", fd)?;
                 flags.write(out)
             }
-            KeptHostOp::Stat { fd } => {
-                push_word(out, b"Stat")?;
-                fd.write(out)
-            }
+            KeptHostOp::Stat { fd } => push_named(out, b"Stat", fd),
             KeptHostOp::ReadAt { fd, offset, size } => {
-                push_word(out, b"ReadAt")?;
-                fd.write(out)?;
+                push_named(out, b"ReadAt", fd)?;
                 offset.write(out)?;
                 size.write(out)
             }
-            KeptHostOp::Close { fd } => {
-                push_word(out, b"Close")?;
-                fd.write(out)
-            }
+            KeptHostOp::Close { fd } => push_named(out, b"Close", fd),
         }
     }
 }
@@ -133,18 +123,9 @@ impl Text for HostValue {
     fn write(&self, out: &mut Vec<u8>) -> Result<(), AllocError> {
         match self {
             HostValue::Unit => push_word(out, b"Unit"),
-            HostValue::Fd(fd) => {
-                push_word(out, b"Fd")?;
-                fd.write(out)
-            }
-            HostValue::Stat(stat) => {
-                push_word(out, b"Stat")?;
-                stat.write(out)
-            }
-            HostValue::Bytes(bytes) => {
-                push_word(out, b"Bytes")?;
-                bytes.write(out)
-            }
+            HostValue::Fd(fd) => push_named(out, b"Fd", fd),
+            HostValue::Stat(stat) => push_named(out, b"Stat", stat),
+            HostValue::Bytes(bytes) => push_named(out, b"Bytes", bytes),
         }
     }
 }
@@ -154,18 +135,9 @@ impl Text for HostReply {
 
     fn write(&self, out: &mut Vec<u8>) -> Result<(), AllocError> {
         match self {
-            HostReply::Ok(value) => {
-                push_word(out, b"Ok")?;
-                value.write(out)
-            }
-            HostReply::Refused(errno) => {
-                push_word(out, b"Refused")?;
-                errno.write(out)
-            }
-            HostReply::Fault(errno) => {
-                push_word(out, b"Fault")?;
-                errno.write(out)
-            }
+            HostReply::Ok(value) => push_named(out, b"Ok", value),
+            HostReply::Refused(errno) => push_named(out, b"Refused", errno),
+            HostReply::Fault(errno) => push_named(out, b"Fault", errno),
             HostReply::NoMemory => push_word(out, b"NoMemory"),
         }
     }

@@ -14,6 +14,14 @@ pub fn push_word(out: &mut Vec<u8>, text: &[u8]) -> Result<(), AllocError>
     push_text(out, text)
 }
 
+/// Appends a name and one value.
+pub fn push_named<T: Text>(out: &mut Vec<u8>, name: &[u8], value: &T) -> Result<(), AllocError>
+    ensures { OnOk result (out.new.items ≡ out.old.items ++ (word name.now ++ T.text value.now)) }
+{
+    push_word(out, name)?;
+    value.write(out)
+}
+
 impl Text for u64 {
     ghost text = { number_text };
 

@@ -1,9 +1,9 @@
 ghost use Rattle.std.specs.Prelude.{◌≡◌, ◌++◌, OnOk};
-ghost use Rattle.pt_main.specs.SessionTexts.{handle_text, form_text, row_text, negotiated_text, pair_text, forgets_text, event_text, refusal_text, event_reply_text};
+ghost use Rattle.pt_main.specs.SessionTexts.{handle_text, form_text, row_text, negotiated_text, pair_text, forgets_text, new_handle_text, event_text, refusal_text, event_reply_text};
 
 use crate::texts::Text;
-use crate::texts::plain::{push_bytes, push_word};
-use pt_host::{FileHandle, ObjIds};
+use crate::texts::plain::{push_bytes, push_named, push_word};
+use pt_host::{Fd, FileHandle, ObjIds};
 use pt_session::{EventRefusal, EventReply, ForgetList, KeptEvent, Negotiated, RowForm};
 use std::alloc::AllocError;
 
@@ -22,10 +22,7 @@ impl Text for RowForm {
 
     fn write(&self, out: &mut Vec<u8>) -> Result<(), AllocError> {
         match self {
-            RowForm::File(fd) => {
-                push_word(out, b"File")?;
-                fd.write(out)
-            }
+            RowForm::File(fd) => push_named(out, b"File", fd),
         }
     }
 }
@@ -72,23 +69,33 @@ impl Text for ForgetList {
     }
 }
 
+// A name and what a new handle is told by.
+fn push_new_handle(
+    out: &mut Vec<u8>,
+    name: &[u8],
+    era: u64,
+    handle: u64,
+    number: u64,
+    fd: Fd,
+) -> Result<(), AllocError>
+    ensures { OnOk result (out.new.items ≡ out.old.items ++ new_handle_text name.now era handle number fd) }
+{
+    push_named(out, name, &era)?;
+    handle.write(out)?;
+    number.write(out)?;
+    fd.write(out)
+}
+
 impl Text for KeptEvent {
     ghost text = { event_text };
 
     fn write(&self, out: &mut Vec<u8>) -> Result<(), AllocError> {
         match self {
             KeptEvent::Begin => push_word(out, b"Begin"),
-            KeptEvent::Resolve { number } => {
-                push_word(out, b"Resolve")?;
-                number.write(out)
-            }
-            KeptEvent::Unpin { row } => {
-                push_word(out, b"Unpin")?;
-                row.write(out)
-            }
+            KeptEvent::Resolve { number } => push_named(out, b"Resolve", number),
+            KeptEvent::Unpin { row } => push_named(out, b"Unpin", row),
             KeptEvent::Claim { era, handle, ids } => {
-                push_word(out, b"Claim")?;
-                era.write(out)?;
+                push_named(out, b"Claim", era)?;
                 handle.write(out)?;
                 ids.write(out)
             }
@@ -102,8 +109,7 @@ impl Text for KeptEvent {
                 ids,
                 mode,
             } => {
-                push_word(out, b"Insert")?;
-                era.write(out)?;
+                push_named(out, b"Insert", era)?;
                 number.write(out)?;
                 write_row(out, form, *ids, *mode)
             }
@@ -114,18 +120,13 @@ impl Text for KeptEvent {
                 mode,
                 negotiated,
             } => {
-                push_word(out, b"InsertRoot")?;
-                era.write(out)?;
+                push_named(out, b"InsertRoot", era)?;
                 write_row(out, form, *ids, *mode)?;
                 negotiated.write(out)
             }
-            KeptEvent::Forget { list } => {
-                push_word(out, b"Forget")?;
-                list.write(out)
-            }
+            KeptEvent::Forget { list } => push_named(out, b"Forget", list),
             KeptEvent::GiveBack { era, number } => {
-                push_word(out, b"GiveBack")?;
-                era.write(out)?;
+                push_named(out, b"GiveBack", era)?;
                 number.write(out)
             }
             KeptEvent::DrawHandle => push_word(out, b"DrawHandle"),
@@ -134,25 +135,14 @@ impl Text for KeptEvent {
                 handle,
                 number,
                 fd,
-            } => {
-                push_word(out, b"InsertHandle")?;
-                era.write(out)?;
-                handle.write(out)?;
-                number.write(out)?;
-                fd.write(out)
-            }
+            } => push_new_handle(out, b"InsertHandle", *era, *handle, *number, *fd),
             KeptEvent::PinHandle { handle, number } => {
-                push_word(out, b"PinHandle")?;
-                handle.write(out)?;
+                push_named(out, b"PinHandle", handle)?;
                 number.write(out)
             }
-            KeptEvent::UnpinHandle { row } => {
-                push_word(out, b"UnpinHandle")?;
-                row.write(out)
-            }
+            KeptEvent::UnpinHandle { row } => push_named(out, b"UnpinHandle", row),
             KeptEvent::Release { handle, number } => {
-                push_word(out, b"Release")?;
-                handle.write(out)?;
+                push_named(out, b"Release", handle)?;
                 number.write(out)
             }
             KeptEvent::Clear => push_word(out, b"Clear"),
@@ -182,8 +172,7 @@ impl Text for EventReply {
     fn write(&self, out: &mut Vec<u8>) -> Result<(), AllocError> {
         match self {
             EventReply::Began { era, negotiated } => {
-                push_word(out, b"Began")?;
-                era.write(out)?;
+                push_named(out, b"Began", era)?;
                 negotiated.write(out)
             }
             EventReply::Resolved {
@@ -192,52 +181,30 @@ impl Text for EventReply {
                 ids,
                 mode,
             } => {
-                push_word(out, b"Resolved")?;
-                row.write(out)?;
+                push_named(out, b"Resolved", row)?;
                 write_row(out, form, *ids, *mode)
             }
-            EventReply::Done { closings } => {
-                push_word(out, b"Done")?;
-                closings.write(out)
-            }
-            EventReply::Claimed { number } => {
-                push_word(out, b"Claimed")?;
-                number.write(out)
-            }
+            EventReply::Done { closings } => push_named(out, b"Done", closings),
+            EventReply::Claimed { number } => push_named(out, b"Claimed", number),
             EventReply::Absent => push_word(out, b"Absent"),
             EventReply::Taken => push_word(out, b"Taken"),
             EventReply::Given => push_word(out, b"Given"),
-            EventReply::Drawn { number } => {
-                push_word(out, b"Drawn")?;
-                number.write(out)
-            }
-            EventReply::Inserted { number } => {
-                push_word(out, b"Inserted")?;
-                number.write(out)
-            }
-            EventReply::Found { number } => {
-                push_word(out, b"Found")?;
-                number.write(out)
-            }
+            EventReply::Drawn { number } => push_named(out, b"Drawn", number),
+            EventReply::Inserted { number } => push_named(out, b"Inserted", number),
+            EventReply::Found { number } => push_named(out, b"Found", number),
             EventReply::Closing { fd, slot } => {
-                push_word(out, b"Closing")?;
-                fd.write(out)?;
+                push_named(out, b"Closing", fd)?;
                 slot.write(out)
             }
             EventReply::Pinned { row, fd } => {
-                push_word(out, b"Pinned")?;
-                row.write(out)?;
+                push_named(out, b"Pinned", row)?;
                 fd.write(out)
             }
             EventReply::Cleared { era, closings } => {
-                push_word(out, b"Cleared")?;
-                era.write(out)?;
+                push_named(out, b"Cleared", era)?;
                 closings.write(out)
             }
-            EventReply::Refused(refusal) => {
-                push_word(out, b"Refused")?;
-                refusal.write(out)
-            }
+            EventReply::Refused(refusal) => push_named(out, b"Refused", refusal),
         }
     }
 }

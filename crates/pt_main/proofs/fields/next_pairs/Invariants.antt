@@ -3,8 +3,8 @@ use Rattle.pt_main.specs.Fields.{pairs_in}
 use Rattle.pt_main.proofs.PairsRead.{behind}
 use Rattle.pt_main.proofs.fields.next_pairs.Given as goal
 
-abbrev pub invariant-loop-pairs : goal.invariant-loop-pairs
-invariant-loop-pairs l = behind l.pairs.items (pairs_in l.left l.words) ≡ pairs_in l.count l.initial.words
+abbrev pub invariant-pairs : goal.invariant-pairs
+invariant-pairs l = behind l.pairs.items (pairs_in l.left l.words) ≡ pairs_in l.count l.initial.words
 
-abbrev pub decreases-loop-pairs : goal.decreases-loop-pairs
-decreases-loop-pairs l = l.left
+abbrev pub decreases-pairs : goal.decreases-pairs
+decreases-pairs l = l.left
