@@ -5,8 +5,7 @@ use Rattle.pt_host.specs.Words.{is, total, Each, EachTwo, Takes, Takes.{here, th
 use Rattle.pt_session.specs.Change.{Change}
 use Rattle.pt_session.specs.Tables.{Tables, HasNumber, AreApart, Agree}
 use Rattle.pt_session.specs.declared.row.Row.{Row}
-use Rattle.pt_session.specs.declared.row.HandleRow.{HandleRow}
-use Rattle.pt_session.specs.Happens.{Happens, Changes, Dies, ForgetsOne, ForgetsAll, Unpins, HandleDies, UnpinsHandle, NoRow, new_row, with_row, agreed}
+use Rattle.pt_session.specs.Happens.{Happens, Changes, Dies, ForgetsOne, ForgetsAll, Unpins, NoRow, new_row, with_row, agreed}
 use Rattle.pt_session.specs.declared.form.Negotiated.{Negotiated}
 use Rattle.pt_session.specs.declared.event.KeptEvent.TheVariants as change
 use Rattle.pt_session.specs.declared.reply.EventRefusal.TheVariants.{NotLive, Overtaken, NoSlot, Last, Live, Memory}
@@ -17,6 +16,7 @@ use Rattle.pt_req.specs.declared.act.ActReply.{ActReply}
 use Rattle.pt_req.specs.declared.act.ActReply.TheVariants.{Event}
 use Rattle.pt_law.specs.World.{Turn, TablesGo, TablesRun}
 use Rattle.pt_law.specs.Ledger.{forgotten, given_by, given_if, given_after}
+use Rattle.pt_law.proofs.Ignoring.{IgnoresHandles, handle_dies, unpins_handle}
 use Rattle.pt_law.proofs.Flows.{called, unmade}
 use Rattle.pt_law.proofs.Lists.{total_takes, total_replaces, is_same, is_apart, each_map}
 use Rattle.pt_session.proofs.Dying.{clears}
@@ -164,13 +164,8 @@ unpins n t serial c after (r, pins, s, p, inl h) = let e = h.3 in rw e.2 (let x 
 unpins n t serial c after (r, pins, s, p, inr h) = same_count n t r _ after h.2 refl
 
 -- handles are not numbers
-handle_dies : (n : ℕ) (t : Tables) (row : HandleRow) (c : ℕ) (after : Tables) → HandleDies t row c after → live_count n after ≡ live_count n t
-handle_dies n t row c after (inl h) = ap (live_count n) h.2.2
-handle_dies n t row c after (inr h) = ap (live_count n) h.2.2
-
-handle_unpins : (n : ℕ) (t : Tables) (serial c : ℕ) (after : Tables) → UnpinsHandle t serial c after → live_count n after ≡ live_count n t
-handle_unpins n t serial c after (row, pins, s, p, inl h) = ap (live_count n) h.3.2
-handle_unpins n t serial c after (row, pins, s, p, inr h) = ap (live_count n) h.2.2
+no_handles : (n : ℕ) → IgnoresHandles (live_count n)
+no_handles n = record { changed = λ t handles. refl; ended = λ t handles closing. refl }
 
 said : (n : ℕ) (negotiated : Option Negotiated) (t : Tables) → live_count n (agreed negotiated t) ≡ live_count n t
 said n None t = refl
@@ -219,9 +214,9 @@ counts_event n t (change.InsertHandle era handle number fd) (event.Refused Memor
 counts_event n t (change.PinHandle handle number) (event.Pinned serial fd) after a h = ap (live_count n) h.5.2
 counts_event n t (change.PinHandle handle number) (event.Refused NotLive) after a h = ap (live_count n) h.1
 counts_event n t (change.PinHandle handle number) (event.Refused Last) after a h = ap (live_count n) h.4
-counts_event n t (change.UnpinHandle serial) (event.Done closings) after a h = handle_unpins n t serial closings after h
+counts_event n t (change.UnpinHandle serial) (event.Done closings) after a h = unpins_handle (live_count n) (no_handles n) t serial closings after h
 counts_event n t (change.UnpinHandle serial) (event.Refused NotLive) after a h = ap (live_count n) h.1
-counts_event n t (change.Release handle number) (event.Done closings) after a h = handle_dies n t h.0 closings after h.2
+counts_event n t (change.Release handle number) (event.Done closings) after a h = handle_dies (live_count n) (no_handles n) t h.0 closings after h.2
 counts_event n t (change.Release handle number) (event.Refused NotLive) after a h = ap (live_count n) h.1
 counts_event n t change.Clear (event.Cleared era closings) after a h = none_other n after.rows (each_map (λ z. z.live ≡ true → ⊥) (λ z. HasNumber n z → ⊥) after.rows (λ z f k. f k.0) (clears t after era closings h.1).numbers)
 counts_event n t change.Clear (event.Refused Last) after a h = ap (live_count n) h.1

@@ -1,4 +1,5 @@
 pub mod Lists
+pub mod Ignoring
 pub mod Sound
 pub mod Moving
 pub mod Sounds

@@ -8,10 +8,8 @@ use Rattle.pt_host.specs.declared.reply.HostReply.TheVariants as host
 use Rattle.pt_host.specs.declared.reply.HostValue.TheVariants as value
 use Rattle.pt_session.specs.Change.{Change}
 use Rattle.pt_session.specs.Tables.{Tables, empty_tables}
-use Rattle.pt_session.specs.declared.row.Row.{Row}
-use Rattle.pt_session.specs.declared.row.HandleRow.{HandleRow}
 use Rattle.pt_session.specs.declared.form.Negotiated.{Negotiated}
-use Rattle.pt_session.specs.Happens.{Happens, Dies, ForgetsOne, ForgetsAll, Unpins, HandleDies, UnpinsHandle, new_row, with_row, agreed}
+use Rattle.pt_session.specs.Happens.{Happens, new_row, with_row, agreed}
 use Rattle.pt_session.specs.declared.event.KeptEvent.TheVariants as change
 use Rattle.pt_session.specs.declared.reply.EventReply.{EventReply}
 use Rattle.pt_session.specs.declared.reply.EventRefusal.TheVariants.{Overtaken}
@@ -23,6 +21,7 @@ use Rattle.pt_req.specs.declared.act.ActReply.TheVariants.{Event, Host}
 use Rattle.pt_law.specs.Discipline.{Job, Notes, idle, notes_after, with_root, MovesBy, MovesIf}
 use Rattle.pt_law.specs.World.{Turn, TablesGo, TablesRun, steps_of}
 use Rattle.pt_law.specs.Laws.{AreDisciplined, IsOvertaken, TellsOvertaken}
+use Rattle.pt_law.proofs.Ignoring.{IgnoresRows, IgnoresHandles, forgets_one, forgets_all, unpins, handle_dies, unpins_handle}
 use Rattle.pt_law.proofs.Flows.{called, unmade}
 use Rattle.pt_law.proofs.Lists.{at_each, each_front}
 use Rattle.pt_law.proofs.Interleaving.{Sorted, after_step, choose, steps_same, steps_other, steps_append}
@@ -30,31 +29,14 @@ use Rattle.pt_law.proofs.Laws.{Between, between}
 use Rattle.pt_law.proofs.Next.{owner_of, next_move}
 
 -- which events leave the era: all but a clearing
+abbrev era_of : Tables → ℕ
+era_of t = t.era
 
-dies : (t : Tables) (row : Row) (c : ℕ) (after : Tables) → Dies t row c after → after.era ≡ t.era
-dies t row c after (inl h) = ap (λ (z : Tables). z.era) h.2.2
-dies t row c after (inr h) = ap (λ (z : Tables). z.era) h.2.2
+no_rows : IgnoresRows era_of
+no_rows = record { changed = λ t rows. refl; ended = λ t rows closing. refl }
 
-forgets_one : (t : Tables) (number amount c : ℕ) (after : Tables) → ForgetsOne t number amount c after → after.era ≡ t.era
-forgets_one t number amount c after (inl h) = ap (λ (z : Tables). z.era) h.2
-forgets_one t number amount c after (inr (row, has, inl h)) = ap (λ (z : Tables). z.era) h.2.2
-forgets_one t number amount c after (inr (row, has, inr h)) = dies t row c after h.1
-
-forgets_all : (t : Tables) (list : List (ℕ × ℕ)) (c : ℕ) (after : Tables) → ForgetsAll t list c after → after.era ≡ t.era
-forgets_all t [] c after h = ap (λ (z : Tables). z.era) h.1
-forgets_all t (pair ∷ pairs) c after h = forgets_all h.0 pairs h.2 after h.4 ∙ forgets_one t pair.0 pair.1 h.1 h.0 h.3
-
-unpins : (t : Tables) (serial c : ℕ) (after : Tables) → Unpins t serial c after → after.era ≡ t.era
-unpins t serial c after (row, pins, s, p, inl h) = ap (λ (z : Tables). z.era) h.3.2
-unpins t serial c after (row, pins, s, p, inr h) = ap (λ (z : Tables). z.era) h.2.2
-
-handle_dies : (t : Tables) (row : HandleRow) (c : ℕ) (after : Tables) → HandleDies t row c after → after.era ≡ t.era
-handle_dies t row c after (inl h) = ap (λ (z : Tables). z.era) h.2.2
-handle_dies t row c after (inr h) = ap (λ (z : Tables). z.era) h.2.2
-
-unpins_handle : (t : Tables) (serial c : ℕ) (after : Tables) → UnpinsHandle t serial c after → after.era ≡ t.era
-unpins_handle t serial c after (row, pins, s, p, inl h) = ap (λ (z : Tables). z.era) h.3.2
-unpins_handle t serial c after (row, pins, s, p, inr h) = ap (λ (z : Tables). z.era) h.2.2
+no_handles : IgnoresHandles era_of
+no_handles = record { changed = λ t handles. refl; ended = λ t handles closing. refl }
 
 said : (negotiated : Option Negotiated) (t : Tables) → (agreed negotiated t).era ≡ t.era
 said None t = refl
@@ -67,7 +49,7 @@ IsClearing deed told = ⊥
 era_event : (t : Tables) (e : Change) (r : EventReply) (after : Tables) → Happens t e r after → (IsClearing (Some (Changes e)) (Event r) → ⊥) → after.era ≡ t.era
 era_event t change.Begin (event.Began era negotiated) after h n = ap (λ (z : Tables). z.era) h.2
 era_event t (change.Resolve number) (event.Resolved serial form ids mode) after h n = ap (λ (z : Tables). z.era) h.7.2
-era_event t (change.Unpin serial) (event.Done closings) after h n = unpins t serial closings after h
+era_event t (change.Unpin serial) (event.Done closings) after h n = unpins era_of no_rows t serial closings after h
 era_event t (change.Claim era handle ids) (event.Claimed number) after h n = ap (λ (z : Tables). z.era) h.1.4.2
 era_event t (change.Claim era handle ids) event.Absent after h n = ap (λ (z : Tables). z.era) h.2
 era_event t change.TakeFd event.Taken after h n = ap (λ (z : Tables). z.era) h.2
@@ -76,13 +58,13 @@ era_event t change.DrawNode (event.Drawn number) after h n = ap (λ (z : Tables)
 era_event t (change.Insert era number form ids mode) (event.Inserted given) after h n = ap (λ (z : Tables). z.era) h.4
 era_event t (change.Insert era number form ids mode) (event.Found given) after h n = ap (λ (z : Tables). z.era) h.1.4.2
 era_event t (change.InsertRoot era form ids mode negotiated) (event.Inserted given) after h n = ap (λ (z : Tables). z.era) h.4 ∙ said negotiated (with_row t (new_row t 1 form ids mode 2))
-era_event t (change.Forget list) (event.Done closings) after h n = forgets_all t list closings after h
-era_event t (change.GiveBack era number) (event.Done closings) after h n = forgets_one t number 1 closings after h.2
+era_event t (change.Forget list) (event.Done closings) after h n = forgets_all era_of no_rows t list closings after h
+era_event t (change.GiveBack era number) (event.Done closings) after h n = forgets_one era_of no_rows t number 1 closings after h.2
 era_event t change.DrawHandle (event.Drawn handle) after h n = ap (λ (z : Tables). z.era) h.2
 era_event t (change.InsertHandle era handle number fd) (event.Inserted given) after h n = ap (λ (z : Tables). z.era) h.4
 era_event t (change.PinHandle handle number) (event.Pinned serial fd) after h n = ap (λ (z : Tables). z.era) h.5.2
-era_event t (change.UnpinHandle serial) (event.Done closings) after h n = unpins_handle t serial closings after h
-era_event t (change.Release handle number) (event.Done closings) after h n = handle_dies t h.0 closings after h.2
+era_event t (change.UnpinHandle serial) (event.Done closings) after h n = unpins_handle era_of no_handles t serial closings after h
+era_event t (change.Release handle number) (event.Done closings) after h n = handle_dies era_of no_handles t h.0 closings after h.2
 era_event t change.Clear (event.Cleared era closings) after h n = absurd (n tt)
 era_event t change.TakeClosing (event.Closing fd slot) after h n = ap (λ (z : Tables). z.era) h.2
 era_event t e (event.Refused why) after h n = ap (λ (z : Tables). z.era) (refused_stays t after e why h)

@@ -9,7 +9,8 @@ use Rattle.pt_host.specs.declared.reply.HostValue.TheVariants as value
 use Rattle.pt_session.specs.Change.{Change}
 use Rattle.pt_session.specs.Tables.{Tables, HasNumber, AreApart, IsSoundRow, Agree, empty_tables}
 use Rattle.pt_session.specs.declared.row.Row.{Row}
-use Rattle.pt_session.specs.Happens.{Happens, Changes as RowChanges, Dies, ForgetsOne, ForgetsAll, NoRow}
+use Rattle.pt_session.specs.declared.row.HandleRow.{HandleRow}
+use Rattle.pt_session.specs.Happens.{Happens, Changes as RowChanges, Dies, ForgetsOne, NoRow}
 use Rattle.pt_session.specs.declared.event.KeptEvent.TheVariants as change
 use Rattle.pt_session.specs.declared.reply.EventReply.{EventReply}
 use Rattle.pt_session.specs.declared.reply.EventReply.TheVariants as event
@@ -23,6 +24,7 @@ use Rattle.pt_law.specs.Laws.{AreDisciplined, Starts, IsLive, ObjectOf}
 use Rattle.pt_law.specs.Uses.{StaysLive, asked}
 use Rattle.pt_law.proofs.Lists.{is_apart, set_at_other, each_taken, each_replaced}
 use Rattle.pt_law.proofs.Givings.{count_in, live_count, in_other, apart_from, none_other, counts_step, counts_event, agree_step}
+use Rattle.pt_law.proofs.Ignoring.{forgets_all}
 use Rattle.pt_law.proofs.Flows.{called}
 use Rattle.pt_law.proofs.Steps.{turned}
 use Rattle.pt_law.proofs.Laws.{agree_law, counted, count_is, distinct_law, once_law}
@@ -91,21 +93,11 @@ gone_law before after list closings n a h most =
     (counted n after (agree_step before (Some (Changes (change.Forget list))) (Event (event.Done closings)) after h a)).gone (omega (arith, c, l, m))
 
 -- handles are not numbers
-dies : (t : Tables) (row : Row) (c : ℕ) (after : Tables) → Dies t row c after → after.handles ≡ t.handles
-dies t row c after (inl h) = ap (λ (z : Tables). z.handles) h.2.2
-dies t row c after (inr h) = ap (λ (z : Tables). z.handles) h.2.2
-
-forgets_one : (t : Tables) (number amount c : ℕ) (after : Tables) → ForgetsOne t number amount c after → after.handles ≡ t.handles
-forgets_one t number amount c after (inl h) = ap (λ (z : Tables). z.handles) h.2
-forgets_one t number amount c after (inr (row, has, inl h)) = ap (λ (z : Tables). z.handles) h.2.2
-forgets_one t number amount c after (inr (row, has, inr h)) = dies t row c after h.1
-
-handles_stay : (t : Tables) (list : List (ℕ × ℕ)) (c : ℕ) (after : Tables) → ForgetsAll t list c after → after.handles ≡ t.handles
-handles_stay t [] c after h = ap (λ (z : Tables). z.handles) h.1
-handles_stay t (pair ∷ pairs) c after h = handles_stay h.0 pairs h.2 after h.4 ∙ forgets_one t pair.0 pair.1 h.1 h.0 h.3
+abbrev handles_of : Tables → List HandleRow
+handles_of t = t.handles
 
 pub handles_stay_law : (before after : Tables) (list : List (ℕ × ℕ)) (closings : ℕ) → Happens before (change.Forget list) (event.Done closings) after → after.handles ≡ before.handles
-handles_stay_law before after list closings h = handles_stay before list closings after h
+handles_stay_law before after list closings h = forgets_all handles_of (record { changed = λ t rows. refl; ended = λ t rows closing. refl }) before list closings after h
 
 -- a number that is not live comes by an insertion alone
 comes_by : (n : ℕ) (t : Tables) (e : Change) (r : EventReply) (t' : Tables) → NoRow t (HasNumber n) → Happens t e r t' → given_by n 0 (Changes e) (Event r) ≤ 2 * inserted_as n (Changes e) (Event r)

@@ -4,9 +4,8 @@ use Rattle.std.proofs.lemmas.Bool.{cases_eq, cases_Bool}
 use Rattle.pt_host.specs.Words.{is, total, Each, Takes, Takes.{here, there}}
 use Rattle.pt_session.specs.Change.{Change}
 use Rattle.pt_session.specs.Tables.{Tables, HasHandle, empty_tables}
-use Rattle.pt_session.specs.declared.row.Row.{Row}
 use Rattle.pt_session.specs.declared.row.HandleRow.{HandleRow}
-use Rattle.pt_session.specs.Happens.{Happens, Dies, ForgetsOne, ForgetsAll, Unpins, HandleDies, UnpinsHandle, new_row, with_row, agreed}
+use Rattle.pt_session.specs.Happens.{Happens, HandleDies, UnpinsHandle, new_row, with_row, agreed}
 use Rattle.pt_session.specs.declared.form.Negotiated.{Negotiated}
 use Rattle.pt_session.specs.declared.event.KeptEvent.TheVariants as change
 use Rattle.pt_session.specs.declared.reply.EventReply.{EventReply}
@@ -18,6 +17,7 @@ use Rattle.pt_req.specs.declared.act.ActReply.{ActReply}
 use Rattle.pt_req.specs.declared.act.ActReply.TheVariants.{Event}
 use Rattle.pt_law.specs.World.{Turn, TablesGo, TablesRun}
 use Rattle.pt_law.specs.Ledger.{standing, standing_by, standing_if, standing_after}
+use Rattle.pt_law.proofs.Ignoring.{IgnoresRows, forgets_one, forgets_all, unpins}
 use Rattle.pt_law.proofs.Flows.{called, unmade}
 use Rattle.pt_law.specs.Laws.{IsStanding}
 use Rattle.pt_law.proofs.Lists.{total_takes, total_replaces, is_same, is_apart}
@@ -67,22 +67,8 @@ stands handle tables = record {
 }
 
 -- numbers are not handles
-dies : (n : ℕ) (t : Tables) (row : Row) (c : ℕ) (after : Tables) → Dies t row c after → live_handles n after ≡ live_handles n t
-dies n t row c after (inl h) = ap (live_handles n) h.2.2
-dies n t row c after (inr h) = ap (live_handles n) h.2.2
-
-forgets_one : (n : ℕ) (t : Tables) (number amount c : ℕ) (after : Tables) → ForgetsOne t number amount c after → live_handles n after ≡ live_handles n t
-forgets_one n t number amount c after (inl h) = ap (live_handles n) h.2
-forgets_one n t number amount c after (inr (row, has, inl h)) = ap (live_handles n) h.2.2
-forgets_one n t number amount c after (inr (row, has, inr h)) = dies n t row c after h.1
-
-forgets_all : (n : ℕ) (t : Tables) (list : List (ℕ × ℕ)) (c : ℕ) (after : Tables) → ForgetsAll t list c after → live_handles n after ≡ live_handles n t
-forgets_all n t [] c after h = ap (live_handles n) h.1
-forgets_all n t (pair ∷ pairs) c after h = forgets_all n h.0 pairs h.2 after h.4 ∙ forgets_one n t pair.0 pair.1 h.1 h.0 h.3
-
-unpins : (n : ℕ) (t : Tables) (serial c : ℕ) (after : Tables) → Unpins t serial c after → live_handles n after ≡ live_handles n t
-unpins n t serial c after (row, pins, s, p, inl h) = ap (live_handles n) h.3.2
-unpins n t serial c after (row, pins, s, p, inr h) = ap (live_handles n) h.2.2
+no_numbers : (n : ℕ) → IgnoresRows (live_handles n)
+no_numbers n = record { changed = λ t rows. refl; ended = λ t rows closing. refl }
 
 said : (n : ℕ) (negotiated : Option Negotiated) (t : Tables) → live_handles n (agreed negotiated t) ≡ live_handles n t
 said n None t = refl
@@ -115,7 +101,7 @@ no_live n (row ∷ rows) h =
 stands_event : (n : ℕ) (t : Tables) (e : Change) (r : EventReply) (after : Tables) → Happens t e r after → live_handles n after ≡ standing_by n (live_handles n t) (Asks e) (Event r)
 stands_event n t change.Begin (event.Began era negotiated) after h = ap (live_handles n) h.2
 stands_event n t (change.Resolve number) (event.Resolved serial form ids mode) after h = ap (live_handles n) h.7.2
-stands_event n t (change.Unpin serial) (event.Done closings) after h = unpins n t serial closings after h
+stands_event n t (change.Unpin serial) (event.Done closings) after h = unpins (live_handles n) (no_numbers n) t serial closings after h
 stands_event n t (change.Claim era handle ids) (event.Claimed number) after h = ap (live_handles n) h.1.4.2
 stands_event n t (change.Claim era handle ids) event.Absent after h = ap (live_handles n) h.2
 stands_event n t change.TakeFd event.Taken after h = ap (live_handles n) h.2
@@ -124,8 +110,8 @@ stands_event n t change.DrawNode (event.Drawn number) after h = ap (live_handles
 stands_event n t (change.Insert era number form ids mode) (event.Inserted given) after h = ap (live_handles n) h.4
 stands_event n t (change.Insert era number form ids mode) (event.Found given) after h = ap (live_handles n) h.1.4.2
 stands_event n t (change.InsertRoot era form ids mode negotiated) (event.Inserted given) after h = ap (live_handles n) h.4 ∙ said n negotiated (with_row t (new_row t 1 form ids mode 2))
-stands_event n t (change.Forget list) (event.Done closings) after h = forgets_all n t list closings after h
-stands_event n t (change.GiveBack era number) (event.Done closings) after h = forgets_one n t number 1 closings after h.2
+stands_event n t (change.Forget list) (event.Done closings) after h = forgets_all (live_handles n) (no_numbers n) t list closings after h
+stands_event n t (change.GiveBack era number) (event.Done closings) after h = forgets_one (live_handles n) (no_numbers n) t number 1 closings after h.2
 stands_event n t change.DrawHandle (event.Drawn handle) after h = ap (live_handles n) h.2
 stands_event n t (change.InsertHandle era handle number fd) (event.Inserted given) after h = rw h.4 (let e = ap (λ i. is i n) h.3 in omega (arith, e))
 stands_event n t (change.PinHandle handle number) (event.Pinned serial fd) after h = let k = h.5 in rw k.2 (let a = total_replaces (handle_in n) k.1 in omega (arith, a))
