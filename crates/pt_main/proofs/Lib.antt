@@ -1,6 +1,7 @@
 pub mod StreamLemmas
 pub mod LinesLemmas
 pub mod PairsRead
+pub mod PlacesRead
 pub mod Scripts
 pub mod Outputs
 pub mod PairLines

@@ -9,7 +9,7 @@ use Rattle.pt_main.specs.Scan.{Scanned, with_allowed, scanning_on, scan_from, sc
 use Rattle.pt_main.specs.Line.{line_of}
 use Rattle.pt_main.specs.declared.line.ScriptJob.{ScriptJob}
 use Rattle.pt_main.specs.declared.line.Line.{Line}
-use Rattle.pt_main.specs.declared.line.Line.TheVariants.{Set, Tree, Job, End}
+use Rattle.pt_main.specs.declared.line.Line.TheVariants.{Set, Tree, Job, Order, End}
 use Rattle.pt_main.specs.declared.settings.Setting.{Setting}
 use Rattle.pt_main.specs.declared.settings.Setting.TheVariants.{GuestFdLimit}
 use Rattle.pt_main.specs.declared.settings.Settings.{Settings}
@@ -75,7 +75,7 @@ nodes_of-first y n bad = go (first_line y) bad
 -- what is begun keeps the rules, and this is the number of the next line
 record IsSound (number : ℕ) (begun : Begun) : Type 0 where
   tree : ((begun.tree ≡ []) × (number ≡ set_lines begun.settings + 1) × (begun.ended ≡ false)) ⊎ (is_ok (nodes_of begun.tree) ≡ true)
-  next : begun.ended ≡ false → is_empty begun.jobs ≡ true → number ≡ set_lines begun.settings + length begun.tree + 1
+  next : begun.ended ≡ false → (is_empty begun.jobs && is_empty begun.order) ≡ true → number ≡ set_lines begun.settings + length begun.tree + 1
 
 -- the tree's lines break the rules at this line of the script, which is not ended
 abbrev IsBroken : Begun → Result (List Node) ℕ → ℕ → Bool → Type 0
@@ -132,6 +132,7 @@ scan_from-broken (text ∷ more) number begun n some is =
     at below true (Set setting) e = absurd (cc (sym (and_true (is_empty begun.tree) _ e).0 ∙ some))
     at below true (Tree y) e = below (added begun (Tree y)) (is_empty-push begun.tree y) (nodes_of-broken begun.tree y n some is)
     at below true (Job job) e = below (added begun (Job job)) some is
+    at below true (Order places) e = below (added begun (Order places)) some is
     at below true End e = below (added begun End) some is
 
     go : ((after : Begun) → is_empty after.tree ≡ false → nodes_of after.tree ≡ Err n → StaysBroken after n (scan_from (number + 1) after more).begun) → (last : Bool) (line : Option Line) →
@@ -150,7 +151,7 @@ broken_at : (number : ℕ) (begun : Begun) (y : TreeLine) (n : ℕ) → IsSound 
 broken_at number begun y n sound may bad = go (nodes_of begun.tree) refl sound.tree
   where
     next : number ≡ set_lines begun.settings + length begun.tree + 1
-    next = let both = and_true (not begun.ended) (is_empty begun.jobs) may in sound.next (not_true begun.ended both.0) both.1
+    next = let both = and_true (not begun.ended) (is_empty begun.jobs && is_empty begun.order) may in sound.next (not_true begun.ended both.0) both.1
 
     go : (o : Result (List Node) ℕ) → nodes_of begun.tree ≡ o → ((begun.tree ≡ []) × (number ≡ set_lines begun.settings + 1) × (begun.ended ≡ false)) ⊎ (is_ok (nodes_of begun.tree) ≡ true) →
         set_lines begun.settings + n ≡ number
@@ -181,7 +182,21 @@ sound_job : (number : ℕ) (begun : Begun) (job : ScriptJob) → IsSound number 
 sound_job number begun job sound may =
     let both = and_true (not begun.ended) _ may in
     let more = and_true (not (is_empty begun.tree)) _ both.1 in
-    record { tree = inr (has_tree number begun sound more.0); next = λ going none. absurd (is_empty-jobs begun.jobs job none) }
+    record { tree = inr (has_tree number begun sound more.0); next = λ going none. absurd (is_empty-jobs begun.jobs job (and_true (is_empty (begun.jobs ++ job ∷ [])) _ none).0) }
+
+is_empty-behind : (order places : List ℕ) → is_empty (order ++ places) ≡ true → is_empty places ≡ true
+is_empty-behind [] places e = e
+is_empty-behind (x ∷ xs) places e = absurd (cc)
+
+sound_order : (number : ℕ) (begun : Begun) (places : List ℕ) → IsSound number begun → may_stand begun (Order places) ≡ true → IsSound (number + 1) (added begun (Order places))
+sound_order number begun places sound may =
+    let both = and_true (not begun.ended) _ may in
+    let more = and_true (not (is_empty begun.tree)) _ both.1 in
+    let some = not_true (is_empty places) (and_true (not (is_empty places)) _ more.1).0 in
+    record {
+      tree = inr (has_tree number begun sound more.0);
+      next = λ going none. let e = is_empty-behind begun.order places (and_true (is_empty begun.jobs) _ none).1 in absurd (cc);
+    }
 
 one_more : (settings : Settings) (setting : Setting) → may_set settings setting ≡ true → set_lines (with_setting settings setting) ≡ set_lines settings + 1
 one_more settings (GuestFdLimit limit) free = go settings.guest_fd_limit free
@@ -238,6 +253,7 @@ scan_from-judged (text ∷ more) number begun sound = go (λ after. scan_from-ju
     at below true (Set setting) e = below (added begun (Set setting)) (sound_set number begun setting sound e)
     at below true (Tree y) e = tree_at below y e (nodes_of (begun.tree ++ y ∷ [])) refl
     at below true (Job job) e = below (added begun (Job job)) (sound_job number begun job sound e)
+    at below true (Order places) e = below (added begun (Order places)) (sound_order number begun places sound e)
     at below true End e = below (added begun End) (sound_end number begun sound e)
 
     go : ((after : Begun) → IsSound (number + 1) after → judged (scan_from (number + 1) after more) ≡ script_from (number + 1) after more) → (last : Bool) (line : Option Line) →
@@ -285,14 +301,16 @@ pub IsBadLine-line : (bytes : List ℕ) (begun : Begun) (bad : Option ℕ) (line
 IsBadLine-line bytes begun bad lines line host read is same starts =
     script_of-bad bytes begun line starts.0 (ap (λ (o : Option ℕ). record { begun = begun; bad = o }) (sym is) ∙ read) (ap nodes_of (sym same) ∙ starts.1)
 
-pub IsScriptOf-read : (bytes : List ℕ) (begun : Begun) (bad : Option ℕ) (settings : Settings) (lines : List TreeLine) (jobs : List ScriptJob) (host : State) →
-    record { begun = begun; bad = bad } ≡ scan_of bytes → bad ≡ None → settings ≡ begun.settings → lines ≡ begun.tree → StartsAs lines host → jobs ≡ begun.jobs → IsScriptOf bytes settings host jobs
-IsScriptOf-read bytes begun bad settings lines jobs host read is set same starts same_jobs = (
+pub IsScriptOf-read : (bytes : List ℕ) (begun : Begun) (bad : Option ℕ) (settings : Settings) (lines : List TreeLine) (jobs : List ScriptJob) (schedule : List ℕ) (host : State) →
+    record { begun = begun; bad = bad } ≡ scan_of bytes → bad ≡ None → settings ≡ begun.settings → lines ≡ begun.tree → StartsAs lines host → jobs ≡ begun.jobs → schedule ≡ begun.order →
+    IsScriptOf bytes settings host jobs schedule
+IsScriptOf-read bytes begun bad settings lines jobs schedule host read is set same starts same_jobs same_order = (
   begun,
   script_of-good bytes begun starts.0 (ap (λ (o : Option ℕ). record { begun = begun; bad = o }) (sym is) ∙ read) (ap nodes_of (sym same) ∙ starts.1),
   set,
   rw (← same) starts,
   same_jobs,
+  same_order,
 )
 
 -- a place at which lines break the rules is that of one of them, or the first

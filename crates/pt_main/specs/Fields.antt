@@ -55,6 +55,15 @@ abbrev pub pairs_in : ℕ → List (List ℕ) → Option (Field (List (ℕ × �
 pairs_in zero words = Some (record { value = []; rest = words })
 pairs_in (suc count) words = pair_in words >>= (λ pair. pairs_in count pair.rest >>= with_first pair.value)
 
+-- the number of 32 bits that a word is
+abbrev pub small_of : List ℕ → Option ℕ
+small_of word = below (2 ^ 32) (number_of word)
+
+-- the places that all words are
+abbrev pub places_in : List (List ℕ) → Option (List ℕ)
+places_in [] = Some []
+places_in (word ∷ words) = small_of word >>= (λ place. places_in words >>= (λ places. Some (place ∷ places)))
+
 -- the value, where no word is left
 abbrev pub at_end : {A : Type 0} → List (List ℕ) → A → Option A
 at_end [] value = Some value

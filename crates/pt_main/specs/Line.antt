@@ -5,11 +5,11 @@ use Rattle.std.specs.Str.{bytes_eq}
 use Rattle.pt_tree.specs.declared.spec.TreeLine.{TreeLine}
 use Rattle.pt_tree.specs.declared.spec.TreeLine.TheVariants.{Mount, File, Dir}
 use Rattle.pt_text.specs.Words.{words_of}
-use Rattle.pt_main.specs.Fields.{◌>>=◌, number_in, small_in, bytes_in, switch_in, at_end}
+use Rattle.pt_main.specs.Fields.{◌>>=◌, number_in, small_in, bytes_in, switch_in, places_in, at_end}
 use Rattle.pt_main.specs.Request.{request_in}
 use Rattle.pt_main.specs.declared.line.ScriptJob.{ScriptJob}
 use Rattle.pt_main.specs.declared.line.Line.{Line}
-use Rattle.pt_main.specs.declared.line.Line.TheVariants.{Set, Tree, Job, End}
+use Rattle.pt_main.specs.declared.line.Line.TheVariants.{Set, Tree, Job, Order, End}
 use Rattle.pt_main.specs.declared.settings.Setting.{Setting}
 use Rattle.pt_main.specs.declared.settings.Setting.TheVariants.{GuestFdLimit}
 
@@ -71,7 +71,8 @@ line_in [] = None
 line_in (word ∷ fields) =
     if bytes_eq word (codes "set") then option_map Set (setting_in fields)
     else (if bytes_eq word (codes "job") then option_map Job (job_in fields)
-    else (if bytes_eq word (codes "end") then at_end fields End else option_map Tree (tree_line_in word fields)))
+    else (if bytes_eq word (codes "order") then option_map Order (places_in fields)
+    else (if bytes_eq word (codes "end") then at_end fields End else option_map Tree (tree_line_in word fields))))
 
 -- the line that a text is
 abbrev pub line_of : List ℕ → Option Line

@@ -67,15 +67,15 @@ pub record IsOpened (settings : Settings) (before : State) (fs : FileSystem) (af
   pub plan : IsConfigured settings fs.plan.config
   pub tables : fs.tables ≡ empty_tables fs.plan.config.guest_fd_limit
 
--- The jobs of a script run over this host: the trace leads from the new file system to these tables and that host, the jobs run whole, one
--- after another, each is answered by the pattern of its request, and each clause of `drive` holds.
-pub record IsRunFrom (settings : Settings) (start : State) (lines : List ScriptJob) (trace : List TraceStep) (answers : List Answer) (tables : Tables) (host : State) : Type 0 where
+-- The jobs of a script run over this host: the trace leads from the new file system to these tables and that host, the steps come in the schedule's
+-- order, each job is answered by the pattern of its request, and each clause of `drive` holds.
+pub record IsRunFrom (settings : Settings) (start : State) (lines : List ScriptJob) (schedule : List ℕ) (trace : List TraceStep) (answers : List Answer) (tables : Tables) (host : State) : Type 0 where
   pub fs : FileSystem
   pub opened_host : State
   pub opened : IsOpened settings start fs opened_host
   pub seats : List HostSeat
   pub steps : Runs Does trace opened_host (map job_seat (map job_of lines)) fs.tables host seats tables
-  pub order : IsInOrder [] (length (map job_of lines)) trace
+  pub order : IsInOrder schedule (length (map job_of lines)) trace
   pub answers_each : AnswersEach fs.plan (map job_of lines) trace answers
   pub bounded : IsBounded (map job_of lines) trace
   pub causes : OfEachJob (map job_of lines) answers (IsCausedIn trace)
@@ -116,7 +116,7 @@ pub record IsReportOf (bytes report : List ℕ) : Type 0 where
   pub host : State
   pub start : State
   pub starts : StartsAs begun.tree start
-  pub run : IsRunFrom begun.settings start begun.jobs trace answers tables host
+  pub run : IsRunFrom begun.settings start begun.jobs begun.order trace answers tables host
   pub lives : List (ℕ × ℕ)
   pub handles : List (ℕ × ℕ)
   pub live : AreLive tables lives handles

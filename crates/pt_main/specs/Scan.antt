@@ -45,7 +45,7 @@ judged_by begun (Ok nodes) None = Ok begun
 abbrev pub judged : Scanned → Result Begun ℕ
 judged scanned = judged_by scanned.begun (nodes_of scanned.begun.tree) scanned.bad
 
--- settings, a host and jobs that are those of the script that these bytes are
-abbrev pub IsScriptOf : List ℕ → Settings → State → List ScriptJob → Type 0
-IsScriptOf bytes settings host jobs =
-    (begun : Begun) × (script_of bytes ≡ Ok begun) × (settings ≡ begun.settings) × StartsAs begun.tree host × (jobs ≡ begun.jobs)
+-- settings, a host, jobs and a schedule that are those of the script that these bytes are
+abbrev pub IsScriptOf : List ℕ → Settings → State → List ScriptJob → List ℕ → Type 0
+IsScriptOf bytes settings host jobs schedule =
+    (begun : Begun) × (script_of bytes ≡ Ok begun) × (settings ≡ begun.settings) × StartsAs begun.tree host × (jobs ≡ begun.jobs) × (schedule ≡ begun.order)

@@ -6,7 +6,7 @@ use Rattle.pt_text.specs.Words.{lines_of}
 use Rattle.pt_main.specs.Line.{line_of}
 use Rattle.pt_main.specs.declared.line.ScriptJob.{ScriptJob}
 use Rattle.pt_main.specs.declared.line.Line.{Line}
-use Rattle.pt_main.specs.declared.line.Line.TheVariants.{Set, Tree, Job, End}
+use Rattle.pt_main.specs.declared.line.Line.TheVariants.{Set, Tree, Job, Order, End}
 use Rattle.pt_main.specs.declared.settings.Settings.{Settings}
 use Rattle.pt_main.specs.Settings.{no_settings, may_set, with_setting}
 
@@ -15,29 +15,38 @@ pub record Begun : Type 0 where
   pub settings : Settings
   pub tree : List TreeLine
   pub jobs : List ScriptJob
+  -- the places of the schedule
+  pub order : List ℕ
   pub ended : Bool
 
 abbrev pub nothing : Begun
-nothing = record { settings = no_settings; tree = []; jobs = []; ended = false }
+nothing = record { settings = no_settings; tree = []; jobs = []; order = []; ended = false }
 
 abbrev pub max_jobs : ℕ
 max_jobs = 65536
+
+abbrev pub max_places : ℕ
+max_places = 1048576
 
 abbrev pub is_empty : {A : Type 0} → List A → Bool
 is_empty [] = true
 is_empty (x ∷ xs) = false
 
--- first what is set, then the lines of a tree, then jobs, then the end, and nothing behind it
+-- first what is set, then the lines of a tree, then jobs, then lines with places of the schedule, one at least each, then the
+-- end, and nothing behind it
 abbrev pub may_stand : Begun → Line → Bool
 may_stand begun (Set setting) = is_empty begun.tree && may_set begun.settings setting
-may_stand begun (Tree line) = not begun.ended && is_empty begun.jobs
-may_stand begun (Job job) = not begun.ended && (not (is_empty begun.tree) && nat_lt (length begun.jobs) max_jobs)
+may_stand begun (Tree line) = not begun.ended && (is_empty begun.jobs && is_empty begun.order)
+may_stand begun (Job job) = not begun.ended && (not (is_empty begun.tree) && (is_empty begun.order && nat_lt (length begun.jobs) max_jobs))
+may_stand begun (Order places) =
+    not begun.ended && (not (is_empty begun.tree) && (not (is_empty places) && not (nat_lt max_places (length begun.order + length places))))
 may_stand begun End = not begun.ended && not (is_empty begun.tree)
 
 abbrev pub added : Begun → Line → Begun
 added begun (Set setting) = record begun { settings = with_setting begun.settings setting }
 added begun (Tree line) = record begun { tree = begun.tree ++ line ∷ [] }
 added begun (Job job) = record begun { jobs = begun.jobs ++ job ∷ [] }
+added begun (Order places) = record begun { order = begun.order ++ places }
 added begun End = record begun { ended = true }
 
 -- a line of a tree keeps the rules of trees, with those above it

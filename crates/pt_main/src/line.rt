@@ -1,7 +1,9 @@
 ghost use Rattle.std.specs.Prelude.{◌≡◌, IfOk, Some, None};
 ghost use Rattle.pt_main.specs.Line.{mount_in, file_in, dir_in, tree_line_in, limit_in, setting_in, job_in, line_in, line_of};
 
-use crate::fields::{LineError, end, next_bytes, next_number, next_small, next_switch, next_word};
+use crate::fields::{
+    LineError, end, next_bytes, next_number, next_places, next_small, next_switch, next_word,
+};
 use crate::request::next_request;
 use crate::settings::Setting;
 use pt_iface::{Context, Request};
@@ -22,6 +24,8 @@ pub enum Line {
     Set(Setting),
     Tree(TreeLine),
     Job(ScriptJob),
+    /// Places of the schedule.
+    Order(Vec<u32>),
     End,
 }
 
@@ -137,6 +141,8 @@ pub fn read_line(alloc: Global, text: &[u8]) -> Result<Line, LineError>
         Ok(Line::Set(next_setting(&mut words)?))
     } else if word == b"job".as_slice() {
         Ok(Line::Job(next_job(alloc, &mut words)?))
+    } else if word == b"order".as_slice() {
+        Ok(Line::Order(next_places(alloc, &mut words)?))
     } else if word == b"end".as_slice() {
         end(&words)?;
         Ok(Line::End)

@@ -114,16 +114,17 @@ fn run_jobs(
     settings: Settings,
     host: &mut TreeHost,
     jobs: Vec<ScriptJob>,
+    schedule: &[u32],
 ) -> Result<Driven<PassthroughFs>, Status>
     requires { length jobs.items < 2 ^ 32 }
-    ensures ok { IfOk result (λ driven. IsRunFrom settings host.old jobs.items driven.trace.items driven.answers.items driven.fs.tables host.new) }
+    ensures ok { IfOk result (λ driven. IsRunFrom settings host.old jobs.items schedule.now driven.trace.items driven.answers.items driven.fs.tables host.new) }
     ensures err { IfErr result (λ status. IsNotOpened host.old status) }
 {
     let fs = open_fs(alloc, settings, host)?;
     let Ok(jobs) = jobs_of(alloc, jobs) else {
         return Err(Status::NoMemory);
     };
-    match drive(alloc, fs, host, jobs, &[]) {
+    match drive(alloc, fs, host, jobs, schedule) {
         Ok(driven) => Ok(driven),
         Err(_) => Err(Status::NoMemory),
     }
@@ -141,7 +142,8 @@ pub fn report_of_script(alloc: Global, bytes: &[u8]) -> Result<Vec<u8>, Status>
         Err(ParseError::Memory) => return Err(Status::NoMemory),
     };
     let mut host = script.host;
-    let driven = match run_jobs(alloc, script.settings, &mut host, script.jobs) {
+    let schedule = script.schedule.as_slice();
+    let driven = match run_jobs(alloc, script.settings, &mut host, script.jobs, schedule) {
         Ok(driven) => driven,
         Err(status) => return Err(status),
     };

@@ -1,5 +1,5 @@
-ghost use Rattle.std.specs.Prelude.{◌≡◌, ◌≤◌, ◌+◌, IfOk, OnOk, OnErr, Some, None, true, false, length};
-ghost use Rattle.pt_main.specs.Script.{may_stand, added, nothing};
+ghost use Rattle.std.specs.Prelude.{◌≡◌, ◌≤◌, ◌+◌, not, nat_lt, IfOk, OnOk, OnErr, Some, None, true, false, length};
+ghost use Rattle.pt_main.specs.Script.{may_stand, added, nothing, max_places};
 ghost use Rattle.pt_main.specs.Scan.{allowed, scan_of};
 
 use crate::fields::LineError;
@@ -14,12 +14,16 @@ use std::marker::Model;
 /// How many jobs a script has at most.
 pub const MAX_JOBS: usize = 65_536;
 
+/// How many places its schedule has at most.
+pub const MAX_PLACES: usize = 1_048_576;
+
 /// A script as far as its lines go.
 #[derive(Drop)]
 pub struct Lines {
     settings: Settings,
     tree: Vec<TreeLine>,
     jobs: Vec<ScriptJob>,
+    order: Vec<u32>,
     ended: bool,
 }
 
@@ -28,7 +32,7 @@ impl Model for Lines {
 
     ghost Value = { Begun };
 
-    ghost view = { λ lines. record { settings = lines.settings; tree = lines.tree.items; jobs = lines.jobs.items; ended = lines.ended } };
+    ghost view = { λ lines. record { settings = lines.settings; tree = lines.tree.items; jobs = lines.jobs.items; order = lines.order.items; ended = lines.ended } };
 }
 
 impl Lines {
@@ -39,6 +43,7 @@ impl Lines {
             settings: Settings::none(),
             tree: Vec::new(alloc),
             jobs: Vec::new(alloc),
+            order: Vec::new(alloc),
             ended: false,
         }
     }
@@ -55,10 +60,29 @@ impl Lines {
     {
         match line {
             Line::Set(setting) => self.tree.is_empty() && self.settings.may_set(*setting),
-            Line::Tree(_) => !self.ended && self.jobs.is_empty(),
-            Line::Job(_) => !self.ended && !self.tree.is_empty() && self.jobs.len() < MAX_JOBS,
+            Line::Tree(_) => !self.ended && self.jobs.is_empty() && self.order.is_empty(),
+            Line::Job(_) => {
+                !self.ended
+                    && !self.tree.is_empty()
+                    && self.order.is_empty()
+                    && self.jobs.len() < MAX_JOBS
+            }
+            Line::Order(places) => {
+                !self.ended
+                    && !self.tree.is_empty()
+                    && !places.is_empty()
+                    && self.has_place_for(places.len())
+            }
             Line::End => !self.ended && !self.tree.is_empty(),
         }
+    }
+
+    // Whether so many places may stand behind those of the schedule.
+    fn has_place_for(&self, count: usize) -> bool
+        ensures { result ≡ not (nat_lt max_places (length self.now.order + count)) }
+    {
+        let held = self.order.len();
+        held <= MAX_PLACES && count <= MAX_PLACES - held
     }
 
     /// Puts a line behind these.
@@ -70,6 +94,7 @@ impl Lines {
             Line::Set(setting) => self.settings = self.settings.with_setting(setting),
             Line::Tree(line) => self.tree.push(line)?,
             Line::Job(job) => self.jobs.push(job)?,
+            Line::Order(places) => self.order.extend_from_slice(places.as_slice())?,
             Line::End => self.ended = true,
         }
         Ok(())
@@ -82,12 +107,13 @@ impl Lines {
         self.settings
     }
 
-    /// The lines of the tree, and the jobs, which takes no memory.
-    pub fn into_parts(self) -> (TreeSpec, Vec<ScriptJob>)
+    /// The lines of the tree, the jobs and the schedule, which takes no memory.
+    pub fn into_parts(self) -> (TreeSpec, Vec<ScriptJob>, Vec<u32>)
         ensures tree { result.0 ≡ self.tree }
         ensures jobs { result.1.items ≡ self.jobs }
+        ensures schedule { result.2.items ≡ self.order }
     {
-        (TreeSpec::from_vec(self.tree), self.jobs)
+        (TreeSpec::from_vec(self.tree), self.jobs, self.order)
     }
 
     // Puts the line that a text is behind these, and tells whether it is one and may stand there.

@@ -10,12 +10,13 @@ use crate::settings::Settings;
 use pt_tree::{SpecError, TreeHost, TreeSpec};
 use std::alloc::Global;
 
-/// A script: what it sets, the host that holds its tree, and its jobs in order.
+/// A script: what it sets, the host that holds its tree, its jobs in order, and the order of their steps.
 #[derive(Drop)]
 pub struct Script {
     pub settings: Settings,
     pub host: TreeHost,
     pub jobs: Vec<ScriptJob>,
+    pub schedule: Vec<u32>,
 }
 
 /// Why bytes were not read as a script.
@@ -29,7 +30,7 @@ pub enum ParseError {
 /// Reads a script.
 pub fn parse(alloc: Global, bytes: &[u8]) -> Result<Script, ParseError>
     requires { length bytes.now ≤ MAX_SCRIPT }
-    ensures ok { IfOk result (λ script. IsScriptOf bytes.now script.settings script.host script.jobs.items) }
+    ensures ok { IfOk result (λ script. IsScriptOf bytes.now script.settings script.host script.jobs.items script.schedule.items) }
     ensures bad { IfErr result (λ error. IsBadLine bytes.now error) }
     ensures few { IfOk result (λ script. length script.jobs.items ≤ length bytes.now + 1) }
 {
@@ -37,7 +38,7 @@ pub fn parse(alloc: Global, bytes: &[u8]) -> Result<Script, ParseError>
         return Err(ParseError::Memory);
     };
     let settings = scan.lines.settings();
-    let (tree, jobs) = scan.lines.into_parts();
+    let (tree, jobs, schedule) = scan.lines.into_parts();
     let host = match host_of(alloc, settings.lines(), &tree) {
         Ok(host) => host,
         Err(error) => return Err(error),
@@ -48,6 +49,7 @@ pub fn parse(alloc: Global, bytes: &[u8]) -> Result<Script, ParseError>
             settings,
             host,
             jobs,
+            schedule,
         }),
     }
 }

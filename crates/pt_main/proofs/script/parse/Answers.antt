@@ -13,4 +13,4 @@ returns-in-Some-clause-bad c =
 
 pub returns-clause-ok : goal.returns-clause-ok
 returns-clause-ok c =
-    IsScriptOf-read c.args.bytes.now c.in-Ok.scan.lines c.in-Ok.scan.bad _ _ _ _ c.in-Ok.ensures.scanned c.in-None.is c.settings-settings.ensures c.into_parts-tree.ensures.tree c.in-Ok-host_of.ensures.ok c.into_parts-tree.ensures.jobs
+    IsScriptOf-read c.args.bytes.now c.in-Ok.scan.lines c.in-Ok.scan.bad _ _ _ _ _ c.in-Ok.ensures.scanned c.in-None.is c.settings-settings.ensures c.into_parts-tree.ensures.tree c.in-Ok-host_of.ensures.ok c.into_parts-tree.ensures.jobs c.into_parts-tree.ensures.schedule
