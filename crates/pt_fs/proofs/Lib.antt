@@ -7,3 +7,4 @@ pub mod Going
 pub mod Ended
 pub mod Whole
 pub mod Laws
+pub mod Determined

@@ -9,3 +9,4 @@ pub mod Goes
 pub mod Each
 pub mod Work
 pub mod Keeps
+pub mod Determined

@@ -13,9 +13,11 @@ mod step;
 #[cfg(test)]
 mod tests;
 mod trace;
+mod turns;
 
 pub use fs::SteppedFs;
 pub use job::Job;
 pub use passthrough::PassthroughFs;
 pub use run::{DriveError, Driven, drive};
 pub use trace::TraceStep;
+pub use turns::turns_are_determined;

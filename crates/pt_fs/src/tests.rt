@@ -2,7 +2,7 @@ ghost use Rattle.std.specs.Prelude.{◌≡◌, ℕ, None, IfOk, length};
 ghost use Rattle.pt_host.specs.Promises.{IsPromised};
 ghost use Rattle.pt_session.specs.Tables.{empty_tables};
 
-use crate::{DriveError, Driven, Job, PassthroughFs, SteppedFs, drive};
+use crate::{DriveError, Driven, Job, PassthroughFs, SteppedFs, drive, turns_are_determined};
 use pt_host::{
     Bytes, Caps, Errno, Fd, Host, HostOp, HostReply, HostSeat, HostValue, ObjIds, Stat, Time,
 };
@@ -162,5 +162,6 @@ fn the_root_comes_before_the_lookup(rt: HostRuntime) -> Result<(), Fail> {
     assert_eq!(rt; driven.answers.len(), 2);
     assert_eq!(rt; driven.answers[0], Answer::Done);
     assert_eq!(rt; driven.answers[1], Answer::Refused(Errno::ENOENT));
+    turns_are_determined::<OneDirectory>();
     Ok(())
 }

@@ -39,14 +39,14 @@ numbered : (n m : ℕ) (r : Row) → r.number ≡ m → is r.number n ≡ is m n
 numbered n m r e = ap (λ k. is k n) e
 
 -- no other row has the number
-in_other : (n : ℕ) (z : Row) → (z.live ≡ true → z.number ≢ n) → count_in n z ≡ 0
+pub in_other : (n : ℕ) (z : Row) → (z.live ≡ true → z.number ≢ n) → count_in n z ≡ 0
 in_other n z h = ⊎_elim (λ (e : z.live ≡ true). let a = in_live n z e in let b = ap (λ i. i * z.count) (is_apart z.number n (h e)) in omega (arith, a, b)) (in_dead n z) (cases_Bool z.live)
 
-none_other : (n : ℕ) (rows : List Row) → Each (λ z. HasNumber n z → ⊥) rows → total (count_in n) rows ≡ 0
+pub none_other : (n : ℕ) (rows : List Row) → Each (λ z. HasNumber n z → ⊥) rows → total (count_in n) rows ≡ 0
 none_other n [] h = refl
 none_other n (z ∷ rows) h = let a = in_other n z (λ l e. h.0 (l, e)) in let b = none_other n rows h.1 in omega (arith, a, b)
 
-apart_from : (n : ℕ) (r : Row) (rows : List Row) → HasNumber n r → Each (AreApart r) rows → total (count_in n) rows ≡ 0
+pub apart_from : (n : ℕ) (r : Row) (rows : List Row) → HasNumber n r → Each (AreApart r) rows → total (count_in n) rows ≡ 0
 apart_from n r [] m h = refl
 apart_from n r (z ∷ rows) m h = let a = in_other n z (λ l e. h.0.numbers m.0 l (m.1 ∙ sym e)) in let b = apart_from n r rows m h.1 in omega (arith, a, b)
 

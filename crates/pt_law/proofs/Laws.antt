@@ -181,7 +181,7 @@ found n (row ∷ rows) h = ⊎_elim
         (λ (l : row.live ≡ false). absurd (z (ap (λ b. cond b (is row.number n * row.count) 0) l)))
         (cases_Bool row.live)
 
-count_is : (n : ℕ) (row : Row) → HasNumber n row → count_in n row ≡ row.count
+pub count_is : (n : ℕ) (row : Row) → HasNumber n row → count_in n row ≡ row.count
 count_is n row h =
     let a = in_live n row h.0 in
     let b : is row.number n ≡ 1 = ap (λ i. is i n) h.1 ∙ is_same n in

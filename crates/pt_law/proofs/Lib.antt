@@ -33,4 +33,6 @@ pub mod Straight
 pub mod Cuts
 pub mod Entries
 pub mod Hosts
+pub mod Reliance
+pub mod Tracing
 pub mod ExampleRace

@@ -64,8 +64,9 @@ takes_laid one (top ∷ holds) = here
 may_move : (deed : Deed) (told : ActReply) (holds : List Hold) (notes : Notes) → MayMake deed holds notes →
     MovesBy (at_job holds notes) deed told (owing_job (held deed told holds) (closings_in deed told) (notes_after notes deed told))
 may_move (Calls (call.OpenRoot path flags)) (Host (host.Ok (value.Fd fd))) holds notes m = (takes_laid (hold.Fd fd None) holds, tt, omega arith, refl)
-may_move (Calls (call.OpenAt dir name flags mode)) (Host (host.Ok (value.Fd fd))) holds notes m = ((m, takes_laid (hold.Fd fd None) holds), tt, omega arith, refl)
-may_move (Calls (call.OpenAt dir name flags mode)) told holds notes m = ((m, refl), tt, omega arith, refl)
+may_move (Calls (call.OpenAt dir name flags mode)) (Host (host.Ok (value.Fd fd))) holds notes m =
+    (((hold.Pin m.0.row dir, m.1, m.3, refl), takes_laid (hold.Fd fd None) holds), m, omega arith, refl)
+may_move (Calls (call.OpenAt dir name flags mode)) told holds notes m = (((hold.Pin m.0.row dir, m.1, m.3, refl), refl), m, omega arith, refl)
 may_move (Calls (call.Reopen fd flags)) (Host (host.Ok (value.Fd new))) holds notes m =
     (((hold.Pin m.0.row fd, m.1, m.3, refl), takes_laid (hold.Fd new None) holds), m, omega arith, refl)
 may_move (Calls (call.Reopen fd flags)) told holds notes m = (((hold.Pin m.0.row fd, m.1, m.3, refl), refl), m, omega arith, refl)

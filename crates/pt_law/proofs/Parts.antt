@@ -84,14 +84,14 @@ ask_open_root asked dir flags next holds notes path f = (
   ],
 )
 
-pub ask_open_at : (asked : Request) (dir : Fd) (name : List ℕ) (flags : OpenFlags) (mode : ℕ) (next : Fd → Tree) (holds : List Hold) (notes : Notes) (path : List Step) →
-    Knows holds dir →
-    ((fd : Fd) (path : List Step) → Fit asked (next fd) (hold.Fd fd None ∷ holds) (record notes { latest = Some fd }) path) →
-    Fit asked (Asks (Calls (call.OpenAt dir name flags mode)) (on_fd next)) holds notes path
-ask_open_at asked dir name flags mode next holds notes path k f = (
-  k,
+pub ask_open_at : (asked : Request) (dir : Fd) (name : List ℕ) (flags : OpenFlags) (mode : ℕ) (row number : ℕ) (next : Fd → Tree) (holds : List Hold) (notes : Notes) (path : List Step) →
+    notes.resolved ≡ Some (record { number = number; row = row }) →
+    ((fd : Fd) (path : List Step) → Fit asked (next fd) (hold.Fd fd None ∷ hold.Pin row dir ∷ holds) (record notes { latest = Some fd }) path) →
+    Fit asked (Asks (Calls (call.OpenAt dir name flags mode)) (on_fd next)) (hold.Pin row dir ∷ holds) notes path
+ask_open_at asked dir name flags mode row number next holds notes path r f = (
+  (record { number = number; row = row }, holds, r, here),
   elim [
-    | Host (host.Ok (value.Fd fd)) ↦ λ m. on_top asked (next fd) (hold.Fd fd None) holds (record notes { latest = Some fd }) _ (f fd _)
+    | Host (host.Ok (value.Fd fd)) ↦ λ m. on_top asked (next fd) (hold.Fd fd None) (hold.Pin row dir ∷ holds) (record notes { latest = Some fd }) _ (f fd _)
     | Host (host.Refused errno) ↦ λ m. inr (inl refl)
     | Host (host.Fault errno) ↦ λ m. inr (inl refl)
     | Host host.NoMemory ↦ λ m. tt

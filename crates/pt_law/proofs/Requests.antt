@@ -59,11 +59,11 @@ abbrev pub Entered : Request → Session → (Entry → Tree) → List Hold → 
 Entered asked session next holds notes =
     (entry : Entry) (later : Notes) (path : List Step) → Lasts notes later → Fit asked (next entry) (hold.Count session.era entry.inode ∷ holds) later path
 
-fit_opened : (asked : Request) (plan : Plan) (session : Session) (parent : ObjIds) (row : ℕ) (dir : Fd) (name : List ℕ) (next : Entry → Tree) (holds : List Hold) (notes : Notes) (path : List Step) →
-    notes.era ≡ Some session.era → Entered asked session next holds notes →
+fit_opened : (asked : Request) (plan : Plan) (session : Session) (parent : ObjIds) (row number : ℕ) (dir : Fd) (name : List ℕ) (next : Entry → Tree) (holds : List Hold) (notes : Notes) (path : List Step) →
+    notes.era ≡ Some session.era → notes.resolved ≡ Some (record { number = number; row = row }) → Entered asked session next holds notes →
     Fit asked (opened_in plan session parent dir name next) (hold.Pin row dir ∷ holds) notes path
-fit_opened asked plan session parent row dir name next holds notes steps e f =
-    ask_open_at asked dir name path 0 (λ fd. told_of plan session parent fd next) (hold.Pin row dir ∷ holds) notes steps (hold.Pin row dir, holds, here, refl)
+fit_opened asked plan session parent row number dir name next holds notes steps e r f =
+    ask_open_at asked dir name path 0 row number (λ fd. told_of plan session parent fd next) holds notes steps r
     (λ fd steps. ask_stat asked fd None _ (hold.Pin row dir ∷ holds) (record notes { latest = Some fd }) steps
     (λ stat steps. fit_numbered asked session fd stat (λ number. next (entry_of plan session.agreed parent stat number)) row dir holds (record notes { latest = Some fd }) steps e refl
     (λ number later steps m. f (entry_of plan session.agreed parent stat number) later steps m)))
@@ -72,7 +72,7 @@ pub fit_look_up : (asked : Request) (plan : Plan) (session : Session) (parent : 
     notes.era ≡ Some session.era → Entered asked session next holds notes → Fit asked (look_up plan session parent name next) holds notes path
 fit_look_up asked plan session parent name next holds notes path e f =
     ask_resolve asked parent (λ form ids. opened_in plan session ids (fd_of form) name next) holds notes path
-    (λ row form ids path. fit_opened asked plan session ids row (fd_of form) name next holds (resolved parent row notes) path e f)
+    (λ row form ids path. fit_opened asked plan session ids row parent (fd_of form) name next holds (resolved parent row notes) path e refl f)
 
 -- the first root that is opened
 first_root : (fd : Fd) (notes : Notes) → notes.rooted ≡ false → (with_root fd notes).root ≡ Some fd

@@ -136,15 +136,19 @@ owed_after owed deed told = owed + closings_in deed told
 abbrev pub IsTold : List Hold → Fd → ObjIds → Type 0
 IsTold holds fd ids = (rest : List Hold) × Takes (hold.Fd fd (Some ids)) holds rest
 
+-- the descriptor is that of the row that was resolved last, which is pinned
+abbrev pub PinsLatest : Job → Fd → Type 0
+PinsLatest job fd = (was : Resolution) × (rest : List Hold) × (job.notes.resolved ≡ Some was) × Takes (hold.Pin was.row fd) job.holds rest
+
 -- Whether the job may make this deed, what it holds aside. A job begins once, in the era that there is or in a new one; a number is asked or
 -- inserted only for what was opened last, in the era of the job; an inserted one was drawn; number 1 is only for the first root that was opened;
--- what was resolved last is opened anew while its row is pinned, and a handle that was drawn is inserted for it; and a closing is taken only where
+-- a name is opened in what was resolved last, and that is opened anew, while its row is pinned; a handle that was drawn is inserted for it; and a closing is taken only where
 -- one is owed.
 abbrev pub Fits : Job → Deed → Type 0
 Fits job (Changes change.Begin) = job.notes.era ≡ None
 Fits job (Changes change.Clear) = job.notes.era ≡ None
-Fits job (Calls (call.Reopen fd flags)) =
-    (was : Resolution) × (rest : List Hold) × (job.notes.resolved ≡ Some was) × Takes (hold.Pin was.row fd) job.holds rest
+Fits job (Calls (call.OpenAt dir name flags mode)) = PinsLatest job dir
+Fits job (Calls (call.Reopen fd flags)) = PinsLatest job fd
 Fits job (Changes (change.InsertHandle era handle number fd)) =
     (row : ℕ) × (job.notes.era ≡ Some era) × (job.notes.handle ≡ Some handle) × (job.notes.resolved ≡ Some (record { number = number; row = row }))
     × (job.notes.reopened ≡ Some fd)

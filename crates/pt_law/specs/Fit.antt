@@ -17,7 +17,7 @@ use Rattle.pt_law.specs.Cause.{IsCaused}
 
 -- A request's own part may make this deed, whatever it is then told. What gives a hold back, and the closings, are the frame's.
 abbrev pub MayMake : Deed → List Hold → Notes → Type 0
-MayMake (Calls (call.OpenAt dir name flags mode)) holds notes = Knows holds dir
+MayMake (Calls (call.OpenAt dir name flags mode)) holds notes = Fits (at_job holds notes) (Calls (call.OpenAt dir name flags mode))
 MayMake (Calls (call.Reopen fd flags)) holds notes = Fits (at_job holds notes) (Calls (call.Reopen fd flags))
 MayMake (Calls (call.ReadAt fd offset size)) holds notes = Knows holds fd
 MayMake (Calls (call.Stat fd)) (hold.Fd same was ∷ holds) notes = same ≡ fd

@@ -9,3 +9,5 @@ pub mod World
 pub mod Ledger
 pub mod Laws
 pub mod Entered
+pub mod Uses
+pub mod Origins

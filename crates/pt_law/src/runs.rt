@@ -1,7 +1,7 @@
 //! Whatever jobs run, in whatever order their steps come: what holds after every step, and at the end.
 //! The parts that speak of no object hold over any host; those that do, over one that tells its tree.
 
-ghost use Rattle.std.specs.Prelude.{◌≡◌, ◌≢◌, ◌<◌, ◌≤◌, ℕ, List, ◌++◌, ◌∷◌, true, Some};
+ghost use Rattle.std.specs.Prelude.{◌⊎◌, ◌≡◌, ◌≢◌, ◌<◌, ◌≤◌, ℕ, List, ◌++◌, ◌∷◌, true, Some};
 ghost use Rattle.pt_session.specs.Tables.{Tables, Agree, empty_tables};
 ghost use Rattle.pt_session.specs.declared.row.Row.{Row};
 ghost use Rattle.pt_session.specs.declared.row.HandleRow.{HandleRow};
@@ -18,8 +18,9 @@ ghost use Rattle.pt_req.specs.declared.plan.Plan.{Plan};
 ghost use Rattle.pt_law.specs.Told.{AllMayBeTold};
 ghost use Rattle.pt_law.specs.World.{World, Turn, Runs, HostRuns, TablesGo, TablesRun, steps_of};
 ghost use Rattle.pt_law.specs.Ledger.{given, inserted, handle_inserted, standing};
-ghost use Rattle.pt_law.specs.Laws.{AreDisciplined, AreEnded, AreAnswered, Starts, AreDistinct, HasObject, Serves, IsCounted, IsStanding, SlotsAddUp, AreKept, NamesOpen, IsHonoured, IsOvertaken, TellsOvertaken, IsAtRest, LeavesRows};
+ghost use Rattle.pt_law.specs.Laws.{ObjectOf, AreDisciplined, AreEnded, AreAnswered, Starts, AreDistinct, HasObject, Serves, IsCounted, IsStanding, SlotsAddUp, AreKept, NamesOpen, IsHonoured, IsOvertaken, TellsOvertaken, IsAtRest, LeavesRows};
 ghost use Rattle.pt_law.specs.Entered.{IsEntered};
+ghost use Rattle.pt_law.specs.Origins.{WasRoot, WasNamed};
 
 use pt_host::Host;
 
@@ -58,6 +59,8 @@ pub fn every_told_run()
         Starts limit start → AreDisciplined bound (turns ++ more) → Runs start turns now → IsRow now.tables row → row.live ≡ true → HasObject now row }
     ensures handles { (limit bound : ℕ) (turns more : List Turn) (start now : World) (row : HandleRow) →
         Starts limit start → AreDisciplined bound (turns ++ more) → Runs start turns now → IsHandleRow now.tables row → Serves now row }
+    ensures origins { (limit bound : ℕ) (turns more : List Turn) (start now : World) (number object : ℕ) →
+        Starts limit start → AreDisciplined bound (turns ++ more) → Runs start turns now → ObjectOf now number object → WasRoot start turns object ⊎ WasNamed start turns object }
     ensures descriptors { (limit bound : ℕ) (turns more : List Turn) (start now : World) →
         Starts limit start → AreDisciplined bound (turns ++ more) → Runs start turns now → AreKept start bound turns now }
     ensures named { (limit bound : ℕ) (turns : List Turn) (turn : Turn) (more : List Turn) (start now : World) →

@@ -6,7 +6,8 @@ ghost use Rattle.pt_host.specs.Errno.{eio};
 ghost use Rattle.pt_host.specs.declared.reply.HostReply.TheVariants as reply;
 
 use crate::{
-    any_request, each_request, every_host, every_run, every_told_run, request_ends, steps_told,
+    any_request, each_request, every_host, every_run, every_told_run, forgotten_nothing,
+    forgotten_number, one_number, request_ends, steps_told,
 };
 use pt_host::{Errno, Host, HostOp, HostReply, HostSeat};
 
@@ -39,4 +40,7 @@ fn the_laws_hold_with_no_premise() {
     every_run();
     every_told_run();
     every_host::<Refusing>();
+    one_number();
+    forgotten_number();
+    forgotten_nothing();
 }

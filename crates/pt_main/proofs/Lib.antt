@@ -7,3 +7,4 @@ pub mod PairLines
 pub mod CommandWords
 pub mod FirstBads
 pub mod Opening
+pub mod Determined

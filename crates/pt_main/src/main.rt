@@ -23,7 +23,7 @@ mod tests;
 mod texts;
 
 pub use input::{InputError, MAX_SCRIPT, read_script};
-pub use laws::first_bad_line;
+pub use laws::{first_bad_line, script_determines_report};
 pub use line::{Line, ScriptJob};
 pub use mem::{MemSink, MemSource};
 pub use program::run;

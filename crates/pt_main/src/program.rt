@@ -2,6 +2,7 @@ ghost use Rattle.std.specs.Prelude.{◌≡◌, ◌≢◌, ◌≤◌, ◌↔◌, 
 ghost use Rattle.pt_host.specs.Promises.{HasRisen};
 ghost use Rattle.pt_host.specs.declared.ids.Errno.{Errno};
 ghost use Rattle.pt_main.specs.Streams.{IsAtEnd, IsLonger};
+ghost use Rattle.pt_main.specs.Determined.{IsOnly};
 ghost use Rattle.pt_main.specs.Output.{IsWritten, IsFrontWritten};
 ghost use Rattle.pt_main.specs.Run.{IsReportOf, IsNoReport, IsScriptWord, IsReportFrom, IsNoReportFrom};
 
@@ -49,9 +50,10 @@ pub fn run<I: Source, O: Sink>(
     input: &mut I,
     output: &mut O,
 ) -> Status
-    // The input was read to its end, and the report of one run of the script that it is stands in the output.
-    ensures done { result ≡ Status.Done → (report : List ℕ) × IsReportFrom (I.left input.old) report
-        × IsWritten (O.written output.old) report (O.written output.new) }
+    // The input was read to its end, and the report of one run of the script that it is stands in the output. Where no reply and no answer in it tells
+    // of want of memory, the script alone determines the report.
+    ensures done { result ≡ Status.Done → (report : List ℕ) × (from : IsReportFrom (I.left input.old) report)
+        × IsWritten (O.written output.old) report (O.written output.new) × IsOnly from.3 }
     ensures read_whole { result ≡ Status.Done → IsAtEnd (I.left input.new) }
 
     ensures usage { (result ≡ Status.Usage) ↔ (IsScriptWord (map string_bytes words.now) → ⊥) }

@@ -7,7 +7,7 @@ mod requests;
 
 use crate::{
     Failed, InputError, MAX_SCRIPT, MemSink, MemSource, ParseError, Sink, Source, Status,
-    first_bad_line, parse, read_script, run,
+    first_bad_line, parse, read_script, run, script_determines_report,
 };
 use pt_iface::Request;
 use std::alloc::{AllocError, Global};
@@ -144,6 +144,7 @@ fn scripts_are_parsed(rt: HostRuntime) -> Result<(), Fail> {
     let bad = parse(rt.alloc(), b"mount 1 1 / 1\n");
     assert!(rt; matches!(&bad, Err(ParseError::BadScript(2))));
     first_bad_line();
+    script_determines_report();
     Ok(())
 }
 

@@ -34,7 +34,7 @@ ends_taken P taken.Slot count holds next so steps end belongs = ends_slot P true
 ends_taken P (taken.Fd fd slot) count holds next so [] end belongs = absurd belongs
 ends_taken P (taken.Fd fd slot) count holds next so (step ∷ steps) end belongs = ends_slot P slot count holds next so steps end belongs.1
 
-ends_closings : (P : Finish → Type 0) (count : ℕ) (holds : List Hold) (next : Grammar) → EndsSo P next → EndsSo P (closings count holds next)
+pub ends_closings : (P : Finish → Type 0) (count : ℕ) (holds : List Hold) (next : Grammar) → EndsSo P next → EndsSo P (closings count holds next)
 ends_closings P zero holds next so steps end belongs = so steps end belongs
 ends_closings P (suc count) holds next so [] end belongs = absurd belongs
 ends_closings P (suc count) holds next so (step ∷ steps) end belongs =
@@ -44,7 +44,7 @@ ends_first : (P : Finish → Type 0) (brings : Taken) (count : ℕ) (holds : Lis
 ends_first P brings count holds next so = ends_taken P brings count holds (closings count holds next) (ends_closings P count holds next so)
 
 -- giving all back keeps what no reply of it changes
-ends_leave : (P : Finish → Type 0) → ((one : Hold) (told : ActReply) (last : Finish) → P last → P (restored last (lost_by one told))) → (holds : List Hold) (last : Finish) → P last → EndsSo P (leave holds last)
+pub ends_leave : (P : Finish → Type 0) → ((one : Hold) (told : ActReply) (last : Finish) → P last → P (restored last (lost_by one told))) → (holds : List Hold) (last : Finish) → P last → EndsSo P (leave holds last)
 ends_leave P keeps [] last so [] end belongs = subst P (sym belongs) so
 ends_leave P keeps [] last so (step ∷ steps) end belongs = absurd belongs
 ends_leave P keeps (one ∷ holds) last so [] end belongs = absurd belongs

@@ -16,3 +16,4 @@ pub mod Opening
 pub mod Bodies
 pub mod Job
 pub mod Calm
+pub mod Determined

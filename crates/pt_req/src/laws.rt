@@ -5,6 +5,7 @@ ghost use Rattle.pt_iface.specs.declared.answer.Answer.TheVariants.{Cut};
 ghost use Rattle.pt_iface.specs.declared.request.Request.{Request};
 ghost use Rattle.pt_req.specs.Calm.{IsAnswered};
 ghost use Rattle.pt_req.specs.Deed.{Step};
+ghost use Rattle.pt_req.specs.Determined.{RequestsAreDetermined};
 ghost use Rattle.pt_req.specs.Frame.{BelongsCut};
 ghost use Rattle.pt_req.specs.Grammar.{Grammar, Belongs};
 ghost use Rattle.pt_req.specs.Pattern.{grammar_of};
@@ -20,4 +21,9 @@ pub fn calm()
 /// A job that was cut is answered `Cut`.
 pub fn cut_says_no_more()
     ensures { (grammar : Grammar) (steps : List Step) (end : Finish) → BelongsCut grammar steps end → end ≡ Answer Cut }
+{}
+
+/// A request leaves nothing open but want of memory.
+pub fn requests_are_determined()
+    ensures { RequestsAreDetermined }
 {}

@@ -1,4 +1,7 @@
-use crate::{ActReply, CachePolicy, Config, Finish, JobState, Plan, Want, calm, cut_says_no_more};
+use crate::{
+    ActReply, CachePolicy, Config, Finish, JobState, Plan, Want, calm, cut_says_no_more,
+    requests_are_determined,
+};
 use pt_host::{Bytes, Caps, Errno, Fd, HostReply, HostSeat, HostValue, ObjIds, Stat, Time};
 use pt_iface::{
     Answer, Attr, Context, Entry, ForgetList, FsOptions, OpenOptions, Request, Timeout,
@@ -36,14 +39,6 @@ impl Played {
         Played::start(alloc, Request::Lookup { parent: 1, name })
     }
 
-    fn host(&mut self, alloc: Global, wanted: &str, value: HostValue) -> Result<(), Fail> {
-        self.step(alloc, wanted, ActReply::Host(HostReply::Ok(value)))
-    }
-
-    fn event(&mut self, alloc: Global, wanted: &str, reply: EventReply) -> Result<(), Fail> {
-        self.step(alloc, wanted, ActReply::Event(reply))
-    }
-
     /// The job wants this act, and is told this reply.
     fn step(&mut self, alloc: Global, wanted: &str, reply: ActReply) -> Result<(), Fail> {
         match self.job.want(&self.plan, &self.seat) {
@@ -66,6 +61,14 @@ impl Played {
         Ok(())
     }
 
+    /// Plays these steps, in order.
+    fn plays(&mut self, alloc: Global, steps: Vec<(&str, ActReply)>) -> Result<(), Fail> {
+        for (wanted, reply) in steps {
+            self.step(alloc, wanted, reply)?;
+        }
+        Ok(())
+    }
+
     fn cut(&mut self) -> Result<(), Fail> {
         if self.job.is_finished() {
             return Err(Fail::from("it has finished"));
@@ -84,33 +87,60 @@ impl Played {
     /// The steps of a lookup up to its `Claim`.
     fn opened(alloc: Global) -> Result<Played, Fail> {
         let mut job = Played::look_up(alloc, b"a")?;
-        job.event(alloc, "Event(Begin)", began())?;
-        job.event(alloc, "Event(Resolve { number: 1 })", resolved())?;
         let open =
             "Host(OpenAt { fd: Fd(4), name: Bytes { items: [97] }, flags: OpenFlags(2752512), mode: 0 })";
-        job.host(alloc, open, HostValue::Fd(Fd(5)))?;
-        job.host(alloc, "Host(Stat { fd: Fd(5) })", HostValue::Stat(a_stat()))?;
+        let steps = vec![in alloc;
+            ("Event(Begin)", told(began())),
+            ("Event(Resolve { number: 1 })", told(resolved())),
+            (open, gave(HostValue::Fd(Fd(5)))),
+            ("Host(Stat { fd: Fd(5) })", gave(HostValue::Stat(a_stat()))),
+        ]?;
+        job.plays(alloc, steps)?;
         Ok(job)
     }
 
     /// And up to its `Insert`.
     fn drawn(alloc: Global) -> Result<Played, Fail> {
         let mut job = Played::opened(alloc)?;
-        job.event(alloc, CLAIM, EventReply::Absent)?;
-        job.event(alloc, "Event(TakeFd)", EventReply::Taken)?;
-        job.event(alloc, "Event(DrawNode)", EventReply::Drawn { number: 2 })?;
+        let steps = vec![in alloc;
+            (CLAIM, told(EventReply::Absent)),
+            ("Event(TakeFd)", told(EventReply::Taken)),
+            ("Event(DrawNode)", told(EventReply::Drawn { number: 2 })),
+        ]?;
+        job.plays(alloc, steps)?;
         Ok(job)
     }
 
     /// The descriptor, its slot and the pin go back.
     fn gives_all_back(&mut self, alloc: Global) -> Result<(), Fail> {
-        self.host(alloc, "Host(Close { fd: Fd(5) })", HostValue::Unit)?;
-        self.event(alloc, "Event(GiveFd)", EventReply::Given)?;
-        self.event(
-            alloc,
-            "Event(Unpin { row: 0 })",
-            EventReply::Done { closings: 0 },
-        )
+        let steps = vec![in alloc;
+            ("Host(Close { fd: Fd(5) })", gave(HostValue::Unit)),
+            ("Event(GiveFd)", told(EventReply::Given)),
+            ("Event(Unpin { row: 0 })", told(none_to_close())),
+        ]?;
+        self.plays(alloc, steps)
+    }
+}
+
+/// What the tables answered.
+fn told(reply: EventReply) -> ActReply {
+    ActReply::Event(reply)
+}
+
+/// What the host answered.
+fn gave(value: HostValue) -> ActReply {
+    ActReply::Host(HostReply::Ok(value))
+}
+
+fn none_to_close() -> EventReply {
+    EventReply::Done { closings: 0 }
+}
+
+/// A descriptor with its slot that is to be closed.
+fn closing() -> EventReply {
+    EventReply::Closing {
+        fd: Fd(5),
+        slot: true,
     }
 }
 
@@ -191,18 +221,23 @@ fn an_entry() -> Finish {
 }
 
 #[test]
-fn a_lookup_inserts_or_finds_a_row(rt: HostRuntime) -> Result<(), Fail> {
+fn a_lookup_inserts_a_row(rt: HostRuntime) -> Result<(), Fail> {
     let alloc = rt.alloc();
     let mut job = Played::drawn(alloc)?;
-    job.event(alloc, INSERT, EventReply::Inserted { number: 2 })?;
-    job.event(
-        alloc,
-        "Event(Unpin { row: 0 })",
-        EventReply::Done { closings: 0 },
-    )?;
+    let steps = vec![in alloc;
+        (INSERT, told(EventReply::Inserted { number: 2 })),
+        ("Event(Unpin { row: 0 })", told(none_to_close())),
+    ]?;
+    job.plays(alloc, steps)?;
     assert_eq!(&rt; job.finish()?, an_entry());
+    Ok(())
+}
+
+#[test]
+fn a_lookup_finds_a_row(rt: HostRuntime) -> Result<(), Fail> {
+    let alloc = rt.alloc();
     let mut job = Played::drawn(alloc)?;
-    job.event(alloc, INSERT, EventReply::Found { number: 2 })?;
+    job.step(alloc, INSERT, told(EventReply::Found { number: 2 }))?;
     job.gives_all_back(alloc)?;
     assert_eq!(&rt; job.finish()?, an_entry());
     Ok(())
@@ -212,15 +247,20 @@ fn a_lookup_inserts_or_finds_a_row(rt: HostRuntime) -> Result<(), Fail> {
 fn a_refusal_gives_all_back(rt: HostRuntime) -> Result<(), Fail> {
     let alloc = rt.alloc();
     let mut job = Played::drawn(alloc)?;
-    job.event(alloc, INSERT, EventReply::Refused(EventRefusal::Memory))?;
+    let refused = EventReply::Refused(EventRefusal::Memory);
+    job.step(alloc, INSERT, told(refused))?;
     job.gives_all_back(alloc)?;
     assert_eq!(&rt; job.finish()?, Finish::Answer(Answer::NoMemory));
+    Ok(())
+}
+
+#[test]
+fn what_is_no_name_is_refused(rt: HostRuntime) -> Result<(), Fail> {
+    let alloc = rt.alloc();
     let mut job = Played::look_up(alloc, b"..")?;
-    job.event(alloc, "Event(Begin)", began())?;
-    assert_eq!(&rt;
-        job.finish()?,
-        Finish::Answer(Answer::Refused(Errno::EINVAL))
-    );
+    job.step(alloc, "Event(Begin)", told(began()))?;
+    let refused = Answer::Refused(Errno::EINVAL);
+    assert_eq!(&rt; job.finish()?, Finish::Answer(refused));
     Ok(())
 }
 
@@ -228,34 +268,44 @@ fn a_refusal_gives_all_back(rt: HostRuntime) -> Result<(), Fail> {
 fn a_job_that_is_cut_gives_its_count_back_first(rt: HostRuntime) -> Result<(), Fail> {
     let alloc = rt.alloc();
     let mut job = Played::opened(alloc)?;
-    job.event(alloc, CLAIM, EventReply::Claimed { number: 2 })?;
+    job.step(alloc, CLAIM, told(EventReply::Claimed { number: 2 }))?;
     job.cut()?;
-    let given_back = "Event(GiveBack { era: 1, number: 2 })";
-    job.event(alloc, given_back, EventReply::Done { closings: 0 })?;
-    job.host(alloc, "Host(Close { fd: Fd(5) })", HostValue::Unit)?;
-    job.event(
-        alloc,
-        "Event(Unpin { row: 0 })",
-        EventReply::Done { closings: 0 },
-    )?;
+    let steps = vec![in alloc;
+        (
+            "Event(GiveBack { era: 1, number: 2 })",
+            told(none_to_close())
+        ),
+        ("Host(Close { fd: Fd(5) })", gave(HostValue::Unit)),
+        ("Event(Unpin { row: 0 })", told(none_to_close())),
+    ]?;
+    job.plays(alloc, steps)?;
     assert_eq!(&rt; job.finish()?, Finish::Answer(Answer::Cut));
-    calm();
-    cut_says_no_more();
     Ok(())
 }
+
+#[test]
+fn the_laws_hold_with_no_premise() {
+    calm();
+    cut_says_no_more();
+    requests_are_determined();
+}
+
+const OPEN_ROOT: &str = "Host(OpenRoot { path: Bytes { items: [47] }, flags: OpenFlags(2752512) })";
 
 #[test]
 fn the_root_is_opened(rt: HostRuntime) -> Result<(), Fail> {
     let alloc = rt.alloc();
     let mut job = Played::start(alloc, Request::Root)?;
-    job.event(alloc, "Event(Begin)", began())?;
-    let open = "Host(OpenRoot { path: Bytes { items: [47] }, flags: OpenFlags(2752512) })";
-    job.host(alloc, open, HostValue::Fd(Fd(4)))?;
-    job.host(alloc, "Host(Stat { fd: Fd(4) })", HostValue::Stat(a_stat()))?;
-    job.event(alloc, "Event(TakeFd)", EventReply::Taken)?;
     let insert =
         "Event(InsertRoot { era: 1, form: File(Fd(4)), ids: ObjIds { ino: 2, dev: 1, mnt_id: 1 }, mode: 33188, negotiated: None })";
-    job.event(alloc, insert, EventReply::Inserted { number: 1 })?;
+    let steps = vec![in alloc;
+        ("Event(Begin)", told(began())),
+        (OPEN_ROOT, gave(HostValue::Fd(Fd(4)))),
+        ("Host(Stat { fd: Fd(4) })", gave(HostValue::Stat(a_stat()))),
+        ("Event(TakeFd)", told(EventReply::Taken)),
+        (insert, told(EventReply::Inserted { number: 1 })),
+    ]?;
+    job.plays(alloc, steps)?;
     assert_eq!(&rt; job.finish()?, Finish::Answer(Answer::Done));
     Ok(())
 }
@@ -264,37 +314,25 @@ fn the_root_is_opened(rt: HostRuntime) -> Result<(), Fail> {
 fn a_forget_makes_its_closings(rt: HostRuntime) -> Result<(), Fail> {
     let alloc = rt.alloc();
     let mut job = Played::start(alloc, Request::Forget { inode: 2, count: 1 })?;
-    job.event(alloc, "Event(Begin)", began())?;
     let forget = "Event(Forget { list: ForgetList { pairs: [(2, 1)] } })";
-    job.event(alloc, forget, EventReply::Done { closings: 1 })?;
-    let closing = EventReply::Closing {
-        fd: Fd(5),
-        slot: true,
-    };
-    job.event(alloc, "Event(TakeClosing)", closing)?;
-    job.host(alloc, "Host(Close { fd: Fd(5) })", HostValue::Unit)?;
-    job.event(alloc, "Event(GiveFd)", EventReply::Given)?;
+    let steps = vec![in alloc;
+        ("Event(Begin)", told(began())),
+        (forget, told(EventReply::Done { closings: 1 })),
+        ("Event(TakeClosing)", told(closing())),
+        ("Host(Close { fd: Fd(5) })", gave(HostValue::Unit)),
+        ("Event(GiveFd)", told(EventReply::Given)),
+    ]?;
+    job.plays(alloc, steps)?;
     assert_eq!(&rt; job.finish()?, Finish::Answer(Answer::NoReply));
     Ok(())
 }
 
-/// The steps of an opening up to its `InsertHandle`.
-fn opens(alloc: Global, job: &mut Played, reopen: &str) -> Result<(), Fail> {
-    job.event(alloc, "Event(Begin)", began())?;
-    job.event(alloc, "Event(Resolve { number: 2 })", resolved())?;
-    job.host(alloc, reopen, HostValue::Fd(Fd(5)))?;
-    job.event(alloc, "Event(DrawHandle)", EventReply::Drawn { number: 7 })?;
-    job.event(alloc, "Event(TakeFd)", EventReply::Taken)
-}
-
-const INSERT_HANDLE: &str = "Event(InsertHandle { era: 1, handle: 7, number: 2, fd: Fd(5) })";
-
-fn opened_handle() -> EventReply {
-    EventReply::Inserted { number: 7 }
-}
-
-fn none_to_close() -> EventReply {
-    EventReply::Done { closings: 0 }
+/// The tables begin anew.
+fn cleared() -> EventReply {
+    EventReply::Cleared {
+        era: 2,
+        closings: 0,
+    }
 }
 
 #[test]
@@ -302,40 +340,67 @@ fn a_session_begins_anew(rt: HostRuntime) -> Result<(), Fail> {
     let alloc = rt.alloc();
     let capable = FsOptions::CREATE_SUPP_GROUP;
     let mut job = Played::start(alloc, Request::Init { capable })?;
-    let cleared = EventReply::Cleared {
-        era: 2,
-        closings: 0,
-    };
-    job.event(alloc, "Event(Clear)", cleared)?;
-    let open = "Host(OpenRoot { path: Bytes { items: [47] }, flags: OpenFlags(2752512) })";
-    job.host(alloc, open, HostValue::Fd(Fd(4)))?;
-    job.host(alloc, "Host(Stat { fd: Fd(4) })", HostValue::Stat(a_stat()))?;
-    job.event(alloc, "Event(TakeFd)", EventReply::Taken)?;
     let insert =
         "Event(InsertRoot { era: 2, form: File(Fd(4)), ids: ObjIds { ino: 2, dev: 1, mnt_id: 1 }, mode: 33188, negotiated: Some(Negotiated { writeback: false, announce_submounts: false, posix_acl: false, sup_group: true }) })";
-    job.event(alloc, insert, EventReply::Inserted { number: 1 })?;
-    assert_eq!(&rt; job.finish()?, Finish::Answer(Answer::Inited(FsOptions(3))));
+    let steps = vec![in alloc;
+        ("Event(Clear)", told(cleared())),
+        (OPEN_ROOT, gave(HostValue::Fd(Fd(4)))),
+        ("Host(Stat { fd: Fd(4) })", gave(HostValue::Stat(a_stat()))),
+        ("Event(TakeFd)", told(EventReply::Taken)),
+        (insert, told(EventReply::Inserted { number: 1 })),
+    ]?;
+    job.plays(alloc, steps)?;
+    let inited = Answer::Inited(FsOptions(3));
+    assert_eq!(&rt; job.finish()?, Finish::Answer(inited));
     Ok(())
 }
 
 #[test]
-fn a_session_ends_and_many_are_forgotten(rt: HostRuntime) -> Result<(), Fail> {
+fn a_session_ends(rt: HostRuntime) -> Result<(), Fail> {
     let alloc = rt.alloc();
     let mut job = Played::start(alloc, Request::Destroy)?;
-    let cleared = EventReply::Cleared {
-        era: 2,
-        closings: 0,
-    };
-    job.event(alloc, "Event(Clear)", cleared)?;
-    assert_eq!(&rt; job.finish()?, Finish::Answer(Answer::NoReply));
-    let list = ForgetList::from_vec(vec![in alloc; (2, 1), (3, 1)]?);
-    let mut job = Played::start(alloc, Request::BatchForget { list })?;
-    job.event(alloc, "Event(Begin)", began())?;
-    let forget = "Event(Forget { list: ForgetList { pairs: [(2, 1), (3, 1)] } })";
-    job.event(alloc, forget, none_to_close())?;
+    job.step(alloc, "Event(Clear)", told(cleared()))?;
     assert_eq!(&rt; job.finish()?, Finish::Answer(Answer::NoReply));
     Ok(())
 }
+
+#[test]
+fn many_are_forgotten(rt: HostRuntime) -> Result<(), Fail> {
+    let alloc = rt.alloc();
+    let list = ForgetList::from_vec(vec![in alloc; (2, 1), (3, 1)]?);
+    let mut job = Played::start(alloc, Request::BatchForget { list })?;
+    let forget = "Event(Forget { list: ForgetList { pairs: [(2, 1), (3, 1)] } })";
+    let steps = vec![in alloc;
+        ("Event(Begin)", told(began())),
+        (forget, told(none_to_close())),
+    ]?;
+    job.plays(alloc, steps)?;
+    assert_eq!(&rt; job.finish()?, Finish::Answer(Answer::NoReply));
+    Ok(())
+}
+
+/// The steps of an opening up to its `InsertHandle`.
+fn opens(alloc: Global, job: &mut Played, reopen: &str) -> Result<(), Fail> {
+    let steps = vec![in alloc;
+        ("Event(Begin)", told(began())),
+        ("Event(Resolve { number: 2 })", told(resolved())),
+        (reopen, gave(HostValue::Fd(Fd(5)))),
+        ("Event(DrawHandle)", told(EventReply::Drawn { number: 7 })),
+        ("Event(TakeFd)", told(EventReply::Taken)),
+    ]?;
+    job.plays(alloc, steps)
+}
+
+/// And those after it, where it was had.
+fn has_handle(alloc: Global, job: &mut Played) -> Result<(), Fail> {
+    let steps = vec![in alloc;
+        (INSERT_HANDLE, told(EventReply::Inserted { number: 7 })),
+        ("Event(Unpin { row: 0 })", told(none_to_close())),
+    ]?;
+    job.plays(alloc, steps)
+}
+
+const INSERT_HANDLE: &str = "Event(InsertHandle { era: 1, handle: 7, number: 2, fd: Fd(5) })";
 
 #[test]
 fn an_opening_gets_a_handle(rt: HostRuntime) -> Result<(), Fail> {
@@ -347,31 +412,25 @@ fn an_opening_gets_a_handle(rt: HostRuntime) -> Result<(), Fail> {
         flags: 0o1442002,
     };
     let mut job = Played::start(alloc, open)?;
-    opens(
-        alloc,
-        &mut job,
-        "Host(Reopen { fd: Fd(4), flags: OpenFlags(524290) })",
-    )?;
-    job.event(alloc, INSERT_HANDLE, opened_handle())?;
-    job.event(alloc, "Event(Unpin { row: 0 })", none_to_close())?;
-    assert_eq!(&rt;
-        job.finish()?,
-        Finish::Answer(Answer::Opened(7, OpenOptions(0)))
-    );
+    let reopen = "Host(Reopen { fd: Fd(4), flags: OpenFlags(524290) })";
+    opens(alloc, &mut job, reopen)?;
+    has_handle(alloc, &mut job)?;
+    let opened = Answer::Opened(7, OpenOptions(0));
+    assert_eq!(&rt; job.finish()?, Finish::Answer(opened));
+    Ok(())
+}
+
+#[test]
+fn an_opening_of_a_directory_tells_its_options(rt: HostRuntime) -> Result<(), Fail> {
+    let alloc = rt.alloc();
     let open = Request::OpenDir { inode: 2, flags: 0 };
     let mut job = Played::start(alloc, open)?;
     job.plan.config.cache_policy = CachePolicy::Metadata;
-    opens(
-        alloc,
-        &mut job,
-        "Host(Reopen { fd: Fd(4), flags: OpenFlags(589824) })",
-    )?;
-    job.event(alloc, INSERT_HANDLE, opened_handle())?;
-    job.event(alloc, "Event(Unpin { row: 0 })", none_to_close())?;
-    assert_eq!(&rt;
-        job.finish()?,
-        Finish::Answer(Answer::Opened(7, OpenOptions(10)))
-    );
+    let reopen = "Host(Reopen { fd: Fd(4), flags: OpenFlags(589824) })";
+    opens(alloc, &mut job, reopen)?;
+    has_handle(alloc, &mut job)?;
+    let opened = Answer::Opened(7, OpenOptions(10));
+    assert_eq!(&rt; job.finish()?, Finish::Answer(opened));
     Ok(())
 }
 
@@ -384,37 +443,39 @@ fn a_refused_opening_gives_all_back(rt: HostRuntime) -> Result<(), Fail> {
         flags: 0,
     };
     let mut job = Played::start(alloc, open)?;
-    opens(
-        alloc,
-        &mut job,
-        "Host(Reopen { fd: Fd(4), flags: OpenFlags(524288) })",
-    )?;
+    let reopen = "Host(Reopen { fd: Fd(4), flags: OpenFlags(524288) })";
+    opens(alloc, &mut job, reopen)?;
     let refused = EventReply::Refused(EventRefusal::Overtaken);
-    job.event(alloc, INSERT_HANDLE, refused)?;
+    job.step(alloc, INSERT_HANDLE, told(refused))?;
     job.gives_all_back(alloc)?;
-    assert_eq!(&rt;
-        job.finish()?,
-        Finish::Answer(Answer::Refused(Errno::EBADF))
-    );
+    let refused = Answer::Refused(Errno::EBADF);
+    assert_eq!(&rt; job.finish()?, Finish::Answer(refused));
+    Ok(())
+}
+
+#[test]
+fn what_is_neither_a_file_nor_a_directory_is_not_opened(rt: HostRuntime) -> Result<(), Fail> {
+    let alloc = rt.alloc();
     let mut job = Played::start(alloc, Request::OpenDir { inode: 2, flags: 0 })?;
-    job.event(alloc, "Event(Begin)", began())?;
     let fifo = EventReply::Resolved {
         row: 0,
         form: RowForm::File(Fd(4)),
         ids: a_stat().ids,
         mode: 0o10600,
     };
-    job.event(alloc, "Event(Resolve { number: 2 })", fifo)?;
-    job.event(alloc, "Event(Unpin { row: 0 })", none_to_close())?;
-    assert_eq!(&rt;
-        job.finish()?,
-        Finish::Answer(Answer::Refused(Errno::EBADF))
-    );
+    let steps = vec![in alloc;
+        ("Event(Begin)", told(began())),
+        ("Event(Resolve { number: 2 })", told(fifo)),
+        ("Event(Unpin { row: 0 })", told(none_to_close())),
+    ]?;
+    job.plays(alloc, steps)?;
+    let refused = Answer::Refused(Errno::EBADF);
+    assert_eq!(&rt; job.finish()?, Finish::Answer(refused));
     Ok(())
 }
 
 #[test]
-fn a_handle_is_read_and_released(rt: HostRuntime) -> Result<(), Fail> {
+fn a_handle_is_read(rt: HostRuntime) -> Result<(), Fail> {
     let alloc = rt.alloc();
     let read = Request::Read {
         inode: 2,
@@ -423,34 +484,42 @@ fn a_handle_is_read_and_released(rt: HostRuntime) -> Result<(), Fail> {
         offset: 1,
     };
     let mut job = Played::start(alloc, read)?;
-    job.event(alloc, "Event(Begin)", began())?;
     let pinned = EventReply::Pinned { row: 3, fd: Fd(5) };
-    let pin = "Event(PinHandle { handle: 7, number: 2 })";
-    job.event(alloc, pin, pinned)?;
-    let bytes = Bytes::from_slice(alloc, b"hi")?;
-    job.host(
-        alloc,
-        "Host(ReadAt { fd: Fd(5), offset: 1, size: 2 })",
-        HostValue::Bytes(bytes),
-    )?;
-    job.event(alloc, "Event(UnpinHandle { row: 3 })", none_to_close())?;
+    let bytes = HostValue::Bytes(Bytes::from_slice(alloc, b"hi")?);
+    let steps = vec![in alloc;
+        ("Event(Begin)", told(began())),
+        ("Event(PinHandle { handle: 7, number: 2 })", told(pinned)),
+        (
+            "Host(ReadAt { fd: Fd(5), offset: 1, size: 2 })",
+            gave(bytes)
+        ),
+        ("Event(UnpinHandle { row: 3 })", told(none_to_close())),
+    ]?;
+    job.plays(alloc, steps)?;
     let bytes = Bytes::from_slice(alloc, b"hi")?;
     assert_eq!(&rt; job.finish()?, Finish::Answer(Answer::Read(bytes)));
+    Ok(())
+}
+
+#[test]
+fn a_handle_is_released(rt: HostRuntime) -> Result<(), Fail> {
+    let alloc = rt.alloc();
     let release = Request::Release {
         inode: 2,
         handle: 7,
     };
     let mut job = Played::start(alloc, release)?;
-    job.event(alloc, "Event(Begin)", began())?;
-    let release = "Event(Release { handle: 7, number: 2 })";
-    job.event(alloc, release, EventReply::Done { closings: 1 })?;
-    let closing = EventReply::Closing {
-        fd: Fd(5),
-        slot: true,
-    };
-    job.event(alloc, "Event(TakeClosing)", closing)?;
-    job.host(alloc, "Host(Close { fd: Fd(5) })", HostValue::Unit)?;
-    job.event(alloc, "Event(GiveFd)", EventReply::Given)?;
+    let steps = vec![in alloc;
+        ("Event(Begin)", told(began())),
+        (
+            "Event(Release { handle: 7, number: 2 })",
+            told(EventReply::Done { closings: 1 })
+        ),
+        ("Event(TakeClosing)", told(closing())),
+        ("Host(Close { fd: Fd(5) })", gave(HostValue::Unit)),
+        ("Event(GiveFd)", told(EventReply::Given)),
+    ]?;
+    job.plays(alloc, steps)?;
     assert_eq!(&rt; job.finish()?, Finish::Answer(Answer::Done));
     Ok(())
 }
@@ -459,11 +528,15 @@ fn a_handle_is_read_and_released(rt: HostRuntime) -> Result<(), Fail> {
 fn what_is_not_implemented_is_refused(rt: HostRuntime) -> Result<(), Fail> {
     let alloc = rt.alloc();
     let mut job = Played::start(alloc, Request::Readlink { inode: 1 })?;
-    job.event(alloc, "Event(Begin)", began())?;
-    assert_eq!(&rt;
-        job.finish()?,
-        Finish::Answer(Answer::Refused(Errno::ENOSYS))
-    );
+    job.step(alloc, "Event(Begin)", told(began()))?;
+    let refused = Answer::Refused(Errno::ENOSYS);
+    assert_eq!(&rt; job.finish()?, Finish::Answer(refused));
+    Ok(())
+}
+
+#[test]
+fn an_offset_past_the_last_is_refused(rt: HostRuntime) -> Result<(), Fail> {
+    let alloc = rt.alloc();
     let read = Request::Read {
         inode: 2,
         handle: 7,
@@ -471,10 +544,8 @@ fn what_is_not_implemented_is_refused(rt: HostRuntime) -> Result<(), Fail> {
         offset: u64::MAX,
     };
     let mut job = Played::start(alloc, read)?;
-    job.event(alloc, "Event(Begin)", began())?;
-    assert_eq!(&rt;
-        job.finish()?,
-        Finish::Answer(Answer::Refused(Errno::EINVAL))
-    );
+    job.step(alloc, "Event(Begin)", told(began()))?;
+    let refused = Answer::Refused(Errno::EINVAL);
+    assert_eq!(&rt; job.finish()?, Finish::Answer(refused));
     Ok(())
 }

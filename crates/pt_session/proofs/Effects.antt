@@ -25,7 +25,7 @@ recounted tables after row count pins f g h = changed row _ h.0 h.1 (same_row ro
 ends : (tables after : Tables) (row : Row) → Ends tables row after → Effect tables after
 ends tables after row h = ended row h.0 h.1 h.2
 
-dies : (tables after : Tables) (row : Row) (closings : ℕ) → Dies tables row closings after → Effect tables after
+pub dies : (tables after : Tables) (row : Row) (closings : ℕ) → Dies tables row closings after → Effect tables after
 dies tables after row closings (inl h) = ends tables after row h.2
 dies tables after row closings (inr h) = changed row _ h.2.0 h.2.1 (record { serial = refl; number = refl; ids = refl; form = refl; mode = refl; live = λ l. absurd (cc) }) (λ sound. record { drawn = sound.drawn; counted = λ l. absurd (cc); pinned = λ d. omega (arith, h.0) }) h.2.2
 
@@ -64,7 +64,7 @@ handle_repinned tables after row pins g h = handle_changed row _ h.0 h.1 (record
 handle_ends : (tables after : Tables) (row : HandleRow) → EndsHandle tables row after → Effect tables after
 handle_ends tables after row h = handle_ended row h.0 h.1 h.2
 
-handle_dies : (tables after : Tables) (row : HandleRow) (closings : ℕ) → HandleDies tables row closings after → Effect tables after
+pub handle_dies : (tables after : Tables) (row : HandleRow) (closings : ℕ) → HandleDies tables row closings after → Effect tables after
 handle_dies tables after row closings (inl h) = handle_ends tables after row h.2
 handle_dies tables after row closings (inr h) = handle_changed row _ h.2.0 h.2.1 (record { serial = refl; handle = refl; number = refl; fd = refl; live = λ l. absurd (cc) }) (λ sound. record { drawn = sound.drawn; pinned = λ d. omega (arith, h.0) }) h.2.2
 
@@ -185,7 +185,7 @@ others_handle tables row s agree = each_both (IsSoundRow tables.next_row) (AreOt
 handles_drawn : (tables : Tables) → Agree tables → Each (IsSoundHandle (tables.next_row + 1)) tables.handles
 handles_drawn tables agree = each_map (IsSoundHandle tables.next_row) (IsSoundHandle (tables.next_row + 1)) tables.handles (λ other sound. record { drawn = let l = sound.drawn in omega arith; pinned = sound.pinned }) agree.sound_handles
 
-agree_effect : (tables after : Tables) → Effect tables after → Agree tables → Agree after
+pub agree_effect : (tables after : Tables) → Effect tables after → Agree tables → Agree after
 agree_effect tables after (nothing e) agree = subst Agree (sym e) agree
 agree_effect tables after (counted slots next l m e) agree = subst Agree (sym e) (record { sound = agree.sound; apart = agree.apart; sound_handles = agree.sound_handles; handles_apart = agree.handles_apart; serials = agree.serials; slots = l agree.slots })
 agree_effect tables after (changed was now rows r later sound e) agree = subst Agree (sym e) (record {

@@ -10,3 +10,7 @@ pub mod Slots
 pub mod Forgetting
 pub mod Effects
 pub mod Replies
+pub mod Alone
+pub mod Outcomes
+pub mod Endings
+pub mod Determined

@@ -9,3 +9,4 @@ pub mod Effect
 pub mod Pending
 pub mod Answers
 pub mod Laws
+pub mod Determined

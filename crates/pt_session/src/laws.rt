@@ -1,4 +1,5 @@
 //! What holds of every event of the case table, as functions that do nothing.
+ghost use Rattle.pt_session.specs.Determined.{EventsAreDetermined};
 ghost use Rattle.pt_session.specs.Laws.{EventsKeepAgreement, NewTablesAgree, RefusalsChangeNothing, EventsAreAnswered, ClosingsArePaid, EventsHaveEffects, ClearingsClear};
 
 /// An event leads from tables that agree to tables that agree, and new ones do.
@@ -27,4 +28,9 @@ pub fn events_have_effects()
 /// After a clearing no number and no handle is live, and counters and slots are as they were.
 pub fn clearings_clear()
     ensures { ClearingsClear }
+{}
+
+/// The tables and an event determine its reply and the tables after it, want of memory aside.
+pub fn events_are_determined()
+    ensures { EventsAreDetermined }
 {}

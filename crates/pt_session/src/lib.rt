@@ -22,8 +22,8 @@ mod tests;
 pub use event::{Event, ForgetList, KeptEvent};
 pub use form::{Negotiated, RowForm};
 pub use laws::{
-    clearings_clear, closings_are_paid, events_are_answered, events_have_effects,
-    events_keep_agreement, refusals_change_nothing,
+    clearings_clear, closings_are_paid, events_are_answered, events_are_determined,
+    events_have_effects, events_keep_agreement, refusals_change_nothing,
 };
 pub use reply::{EventRefusal, EventReply};
 pub use row::{Closing, HandleRow, Row};

@@ -1,7 +1,7 @@
 use crate::{
     Event, EventRefusal, EventReply, ForgetList, KeptEvent, Negotiated, RowForm, Session,
-    clearings_clear, closings_are_paid, events_are_answered, events_have_effects,
-    events_keep_agreement, refusals_change_nothing,
+    clearings_clear, closings_are_paid, events_are_answered, events_are_determined,
+    events_have_effects, events_keep_agreement, refusals_change_nothing,
 };
 use pt_host::{Fd, ObjIds};
 use std::process::Abort;
@@ -318,5 +318,6 @@ fn laws_are_called(_rt: HostRuntime) {
     events_are_answered();
     closings_are_paid();
     events_have_effects();
+    events_are_determined();
     clearings_clear();
 }

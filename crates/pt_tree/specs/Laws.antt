@@ -7,3 +7,4 @@ pub mod Soundness
 pub mod WellFormed
 pub mod Lawful
 pub mod Promised
+pub mod Determined

@@ -5,6 +5,7 @@ use Rattle.pt_law.proofs.Laws.{distinct_law, object_law, handles_law, kept_law, 
 use Rattle.pt_law.proofs.Hosts.{run_ended}
 use Rattle.pt_law.proofs.Next.{named_law}
 use Rattle.pt_law.proofs.Entries.{entered_law}
+use Rattle.pt_law.proofs.Tracing.{origins_law}
 
 pub returns-clause-tables : goal.returns-clause-tables
 returns-clause-tables c = tables_run
@@ -35,3 +36,6 @@ returns-clause-cut c = runs_split
 
 pub returns-clause-handles : goal.returns-clause-handles
 returns-clause-handles c = handles_law
+
+pub returns-clause-origins : goal.returns-clause-origins
+returns-clause-origins c = origins_law

@@ -1,0 +1,5 @@
+use Rattle.pt_fs.proofs.Determined.{turns_determined}
+use Rattle.pt_fs.proofs.turns.turns_are_determined.Goals as goal
+
+pub returns : goal.returns
+returns g c = λ one. turns_determined g.H.Host.does one

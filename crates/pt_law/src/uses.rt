@@ -1,0 +1,45 @@
+//! What a guest may rely on, whatever other requests do in between.
+
+ghost use Rattle.std.specs.Prelude.{◌≡◌, ◌≢◌, ◌⊎◌, ◌<◌, ◌≤◌, ℕ, List, [], ◌∷◌, ◌++◌};
+ghost use Rattle.pt_host.specs.Words.{Each};
+ghost use Rattle.pt_session.specs.Tables.{Tables, Agree, HasNumber, empty_tables};
+ghost use Rattle.pt_session.specs.Happens.{Happens, NoRow};
+ghost use Rattle.pt_session.specs.declared.event.KeptEvent.TheVariants as change;
+ghost use Rattle.pt_session.specs.declared.reply.EventReply.{EventReply};
+ghost use Rattle.pt_session.specs.declared.reply.EventReply.TheVariants as event;
+ghost use Rattle.pt_session.specs.declared.reply.EventRefusal.TheVariants.{NotLive};
+ghost use Rattle.pt_law.specs.World.{World, Turn, Runs, TablesRun};
+ghost use Rattle.pt_law.specs.Ledger.{inserted};
+ghost use Rattle.pt_law.specs.Laws.{AreDisciplined, Starts, IsLive, ObjectOf};
+ghost use Rattle.pt_law.specs.Uses.{StaysLive, asked};
+
+/// While a number stays live its object stays, and every other live number that stands for that object is this one: so two lookups of one object give one
+/// number, in whatever order their steps come.
+pub fn one_number()
+    ensures stays { (turns : List Turn) (start now : World) (number object : ℕ) →
+        StaysLive start turns number → Runs start turns now → ObjectOf start number object → ObjectOf now number object }
+    ensures one { (limit bound : ℕ) (turns between more : List Turn) (start first second : World) (number other object : ℕ) →
+        Starts limit start → AreDisciplined bound ((turns ++ between) ++ more) → Runs start turns first → Runs first between second →
+        StaysLive first between number → ObjectOf first number object → IsLive second.tables other → ObjectOf second other object → other ≡ number }
+{}
+
+/// A forget of at least the count removes the number, and no row of a handle; the number is not live again, unless it is the root's. A request that resolves it is told
+/// so.
+pub fn forgotten_number()
+    ensures gone { (before after : Tables) (list : List (ℕ × ℕ)) (closings number : ℕ) →
+        Agree before → Happens before (change.Forget list) (event.Done closings) after →
+        Each (λ row. HasNumber number row → row.count ≤ asked number list) before.rows → NoRow after (HasNumber number) }
+    ensures handles { (before after : Tables) (list : List (ℕ × ℕ)) (closings : ℕ) →
+        Happens before (change.Forget list) (event.Done closings) after → after.handles ≡ before.handles }
+    ensures never_again { (limit bound : ℕ) (turns later more : List Turn) (was now : Tables) (number : ℕ) → number ≢ 1 →
+        AreDisciplined bound ((turns ++ later) ++ more) → TablesRun (empty_tables limit) turns was → TablesRun was later now →
+        0 < inserted number turns → NoRow was (HasNumber number) → NoRow now (HasNumber number) }
+    ensures refused { (before after : Tables) (number : ℕ) (told : EventReply) →
+        NoRow before (HasNumber number) → Happens before (change.Resolve number) told after → (told ≡ event.Refused NotLive) × (after ≡ before) }
+{}
+
+/// A forget of an unknown number, or of none of it, changes nothing.
+pub fn forgotten_nothing()
+    ensures { (before after : Tables) (number amount : ℕ) (told : EventReply) → Agree before → NoRow before (HasNumber number) ⊎ (amount ≡ 0) →
+        Happens before (change.Forget ((number, amount) ∷ [])) told after → (told ≡ event.Done 0) × (after ≡ before) }
+{}

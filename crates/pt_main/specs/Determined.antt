@@ -1,0 +1,15 @@
+-- A script alone determines its report, want of memory aside.
+use Rattle.std.specs.Prelude.{◌≡◌, ℕ, List}
+use Rattle.pt_fs.specs.Determined.{FoundMemory}
+use Rattle.pt_main.specs.Run.{IsReportOf}
+
+-- no reply and no answer of the reported run tells of want of memory
+abbrev pub IsFull : {bytes report : List ℕ} → IsReportOf bytes report → Type 0
+IsFull ran = FoundMemory ran.trace ran.answers
+
+-- where that is so, each such report of the script is these bytes
+abbrev pub IsOnly : {bytes report : List ℕ} → IsReportOf bytes report → Type 0
+IsOnly {bytes} {report} ran = IsFull ran → (other : List ℕ) (again : IsReportOf bytes other) → IsFull again → other ≡ report
+
+abbrev pub ReportsAreDetermined : Type 0
+ReportsAreDetermined = (bytes report : List ℕ) (ran : IsReportOf bytes report) → IsOnly ran

@@ -1,0 +1,47 @@
+-- What is left open: want of memory alone.
+use Rattle.std.specs.Prelude.{◌≡◌, ◌≢◌}
+use Rattle.pt_host.specs.Call.{Call}
+use Rattle.pt_host.specs.declared.seat.HostSeat.{HostSeat}
+use Rattle.pt_host.specs.declared.reply.HostReply.{HostReply}
+use Rattle.pt_host.specs.declared.reply.HostReply.TheVariants as host
+use Rattle.pt_session.specs.declared.reply.EventRefusal.TheVariants as refused
+use Rattle.pt_session.specs.declared.reply.EventReply.TheVariants as event
+use Rattle.pt_iface.specs.declared.answer.Answer.TheVariants as answer
+use Rattle.pt_iface.specs.declared.request.Request.{Request}
+use Rattle.pt_req.specs.Calm.{EndsSo}
+use Rattle.pt_req.specs.Grammar.{Grammar, End, Do, May}
+use Rattle.pt_req.specs.Made.{Does}
+use Rattle.pt_req.specs.Pattern.{grammar_of}
+use Rattle.pt_req.specs.declared.act.ActReply.{ActReply}
+use Rattle.pt_req.specs.declared.act.ActReply.TheVariants.{Event, Host, NoCopy}
+use Rattle.pt_req.specs.declared.finish.Finish.{Finish}
+use Rattle.pt_req.specs.declared.finish.Finish.TheVariants as finish
+use Rattle.pt_req.specs.declared.plan.Plan.{Plan}
+
+-- the reply tells of want of memory, or there was none to copy it
+abbrev pub LacksMemory : ActReply → Type 0
+LacksMemory (Event (event.Refused refused.Memory)) = Unit {0}
+LacksMemory (Host host.NoMemory) = Unit {0}
+LacksMemory NoCopy = Unit {0}
+LacksMemory _ = ⊥
+
+-- a job ends with an answer, and that is not want of memory
+abbrev pub IsAnsweredInFull : Finish → Type 0
+IsAnsweredInFull (finish.Answer answer.NoMemory) = ⊥
+IsAnsweredInFull (finish.Answer told) = Unit {0}
+IsAnsweredInFull (finish.Lost errno) = ⊥
+
+-- the first side of a choice is one of want of memory
+abbrev pub IsDetermined : Grammar → Type 0
+IsDetermined (End last) = Unit {0}
+IsDetermined (Do deed owed next) = (told : ActReply) → IsDetermined (next told)
+IsDetermined (May one other) = EndsSo (λ end. IsAnsweredInFull end → ⊥) one × IsDetermined other
+
+-- so it is in what a request may do
+abbrev pub RequestsAreDetermined : Type 0
+RequestsAreDetermined = (plan : Plan) (asked : Request) → IsDetermined (grammar_of plan asked)
+
+-- two steps of a host that make the same call from the same place are alike
+abbrev pub IsDeterminedHost : {H : Type 0} → Does H → Type 0
+IsDeterminedHost {H} does = (before after after' : H) (seat left left' : HostSeat) (asked : Call) (told told' : HostReply) → told ≢ host.NoMemory → told' ≢ host.NoMemory →
+    does before seat asked told after left → does before seat asked told' after' left' → (told ≡ told') × (after ≡ after') × (left ≡ left')
