@@ -28,7 +28,7 @@ use Rattle.pt_fs.specs.declared.trace.TraceStep.{TraceStep}
 use Rattle.pt_fs.proofs.Determined.{turns_determined}
 use Rattle.pt_fs.proofs.Laws.{host_runs}
 use Rattle.pt_main.specs.Configured.{IsConfigured, configured}
-use Rattle.pt_main.specs.Determined.{IsFull, IsOnly}
+use Rattle.pt_main.specs.Determined.{IsFull, IsOnly, DeterminesReport}
 use Rattle.pt_main.specs.Run.{start_seat, job_of, IsOpened, IsRunFrom, IsReportOf, AreLive, report_of}
 use Rattle.pt_main.specs.Script.{Begun}
 use Rattle.pt_main.specs.TableLines.{AllAbove}
@@ -163,3 +163,7 @@ determined bytes report other ran again full full' =
 
 pub only : (bytes report : List ℕ) (ran : IsReportOf bytes report) → IsOnly ran
 only bytes report ran full other again full' = determined bytes other report again ran full' full
+
+pub only_from : (left : Option (List ℕ)) → DeterminesReport left
+unfolding DeterminesReport
+only_from left report from = only from.0 report from.3

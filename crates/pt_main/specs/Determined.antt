@@ -1,7 +1,7 @@
 -- A script alone determines its report, want of memory aside.
-use Rattle.std.specs.Prelude.{◌≡◌, ℕ, List}
+use Rattle.std.specs.Prelude.{◌≡◌, ℕ, List, Option}
 use Rattle.pt_fs.specs.Determined.{FoundMemory}
-use Rattle.pt_main.specs.Run.{IsReportOf}
+use Rattle.pt_main.specs.Run.{IsReportOf, IsReportFrom}
 
 -- no reply and no answer of the reported run tells of want of memory
 abbrev pub IsFull : {bytes report : List ℕ} → IsReportOf bytes report → Type 0
@@ -13,3 +13,7 @@ IsOnly {bytes} {report} ran = IsFull ran → (other : List ℕ) (again : IsRepor
 
 abbrev pub ReportsAreDetermined : Type 0
 ReportsAreDetermined = (bytes report : List ℕ) (ran : IsReportOf bytes report) → IsOnly ran
+
+-- so it is with what was read from here
+unfoldable pub DeterminesReport : Option (List ℕ) → Type 0
+DeterminesReport left = (report : List ℕ) (from : IsReportFrom left report) → IsOnly from.3

@@ -2,7 +2,7 @@ ghost use Rattle.std.specs.Prelude.{◌≡◌, ◌≢◌, ◌≤◌, ◌↔◌, 
 ghost use Rattle.pt_host.specs.Promises.{HasRisen};
 ghost use Rattle.pt_host.specs.declared.ids.Errno.{Errno};
 ghost use Rattle.pt_main.specs.Streams.{IsAtEnd, IsLonger};
-ghost use Rattle.pt_main.specs.Determined.{IsOnly};
+ghost use Rattle.pt_main.specs.Determined.{DeterminesReport};
 ghost use Rattle.pt_main.specs.Output.{IsWritten, IsFrontWritten};
 ghost use Rattle.pt_main.specs.Run.{IsReportOf, IsNoReport, IsScriptWord, IsReportFrom, IsNoReportFrom};
 
@@ -44,16 +44,18 @@ fn write_report<O: Sink>(alloc: Global, bytes: &[u8], output: &mut O) -> Status
 }
 
 /// Reads the script, runs it and writes the report. Want of memory may end it at any time, as `NoMemory`.
+#[tactic(auto, using(crate::proofs::Determined::only_from))]
 pub fn run<I: Source, O: Sink>(
     alloc: Global,
     words: &[String],
     input: &mut I,
     output: &mut O,
 ) -> Status
-    // The input was read to its end, and the report of one run of the script that it is stands in the output. Where no reply and no answer in it tells
-    // of want of memory, the script alone determines the report.
-    ensures done { result ≡ Status.Done → (report : List ℕ) × (from : IsReportFrom (I.left input.old) report)
-        × IsWritten (O.written output.old) report (O.written output.new) × IsOnly from.3 }
+    // The input was read to its end, and the report of one run of the script that it is stands in the output.
+    ensures done { result ≡ Status.Done → (report : List ℕ) × IsReportFrom (I.left input.old) report
+        × IsWritten (O.written output.old) report (O.written output.new) }
+    // Where no reply and no answer of a run tells of want of memory, what was read alone determines the report.
+    ensures determined { DeterminesReport (I.left input.old) }
     ensures read_whole { result ≡ Status.Done → IsAtEnd (I.left input.new) }
 
     ensures usage { (result ≡ Status.Usage) ↔ (IsScriptWord (map string_bytes words.now) → ⊥) }

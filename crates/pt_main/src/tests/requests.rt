@@ -233,7 +233,7 @@ fn a_limit_of_none_refuses_the_root(rt: HostRuntime) -> Result<(), Fail> {
 #[test]
 fn slots_are_taken_and_given(rt: HostRuntime) -> Result<(), Fail> {
     let script = [
-        "set guest_fd_limit 2",
+        "set guest_fd_limit 0o2",
         "mount 1 1 / 1",
         "job 0 0 init 0",
         "job 0 0 opendir 1 0",
