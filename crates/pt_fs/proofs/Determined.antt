@@ -1,7 +1,7 @@
 -- Jobs that run in the order of one schedule leave nothing open but want of memory.
 use Rattle.std.proofs.Common.{◌≡◌, ◌≢◌, inl, inr, ℕ, zero, suc, ◌≤◌, List, [], ◌∷◌, ◌∙◌, Option, Some, None, refl, ap, sym, subst, length, map, slice_get, arith}
 use Rattle.std.proofs.lemmas.Bool.{ne_eqb}
-use Rattle.std.proofs.lemmas.List.{length-set}
+use Rattle.std.proofs.lemmas.List.{length-set, length-map}
 use Rattle.std.proofs.lemmas.Option.{slice_get_within, slice_get_past, slice_get_cases}
 use Rattle.pt_host.specs.Words.{Each}
 use Rattle.pt_host.specs.declared.seat.HostSeat.{HostSeat}
@@ -77,15 +77,11 @@ belongs_at plan jobs trace answers each beyond j =
           rw (past.1, none, beyond j outside) refl
     ]
 
-length-seats : (jobs : List Job) → length (map job_seat jobs) ≡ length jobs
-length-seats [] = refl
-length-seats (job ∷ jobs) = ap suc (length-seats jobs)
-
 -- a whole run is the rest of one from its start on
 whole_rest : {H : Type 0} (does : Does H) (plan : Plan) (schedule : List ℕ) (jobs : List Job) (trace : List TraceStep) (answers : List Answer) (from to : Place H) → from.seats ≡ map job_seat jobs → RanInOrder does plan schedule jobs from.host from.tables trace answers to.host to.seats to.tables →
     IsRest does (λ j. grammar_at plan (slice_get jobs j)) (λ j. end_at (slice_get answers j)) trace from to
 whole_rest does plan schedule jobs trace answers from to sat ran =
-    let seats = length-seats jobs in
+    let seats = length-map jobs job_seat in
     record {
       belongs = belongs_at plan jobs trace answers ran.answers_each (λ j past. none_beyond does trace from.host to.host (map job_seat jobs) to.seats from.tables to.tables ran.steps j (omega arith));
       full = full_at answers ran.memory.answered;

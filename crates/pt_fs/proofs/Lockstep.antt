@@ -1,6 +1,7 @@
 -- Two traces by one schedule, step beside step.
 use Rattle.std.proofs.Common.{◌≡◌, ◌≢◌, ◌⊎◌, inl, inr, ℕ, zero, suc, ◌+◌, ◌<◌, ◌==◌, cond, List, [], ◌∷◌, ◌++◌, ◌∙◌, Option, Some, None, refl, ap, sym, subst, length, map, replicate, slice_get, slice_set, eq-eqb, arith}
 use Rattle.std.proofs.lemmas.Bool.{cases_eq, ne_eqb, lt-ltb}
+use Rattle.std.proofs.lemmas.List.{nil_from_length}
 use Rattle.std.proofs.lemmas.Option.{same_Some}
 use Rattle.pt_host.specs.Words.{Each}
 use Rattle.pt_host.specs.declared.op.KeptHostOp.{KeptHostOp}
@@ -80,7 +81,7 @@ one_step {H} does one deed x y from to to' j w w' agree s s' m n =
     let sat : to.seats ≡ to'.seats = m.3 ∙ ap (λ (k : ℕ). slice_set from.seats k m.1) j ∙ ap (λ (z : HostSeat). slice_set from.seats y.job z) led.seats ∙ sym n.3 in
     record { steps = same_step x y j (same_act deed x.act y.act a b) led.replies; places = place_same to to' led.hosts sat led.left; agree = led.agree }
 
--- what a job does next, want of memory aside
+-- What a job does next, want of memory aside: of a choice that side is left whose end is no want of memory.
 abbrev next_deed : Grammar → Option Deed
 next_deed (End last) = None
 next_deed (Do deed owed next) = Some deed
@@ -192,14 +193,14 @@ pub record AreAlike {H : Type 0} (trace trace' : List TraceStep) (ends ends' : �
   pub ended : (j : ℕ) → ends j ≡ ends' j
   pub places : to ≡ to'
 
--- this rest of a run is the only one whose steps have such owners
-abbrev pub IsOnly : {H : Type 0} → Does H → ((ℕ → ℕ) → List ℕ) → List TraceStep → Type 0
-IsOnly {H} does owners trace = (left : ℕ → Grammar) (ends ends' : ℕ → Finish) (trace' : List TraceStep) (from to to' : Place H) → ((j : ℕ) → IsDetermined (left j)) → Agree from.tables → IsRest does left ends trace from to → IsRest does left ends' trace' from to' →
+-- from where this rest of a run starts there is no other whose steps have such owners
+abbrev pub HasNoOther : {H : Type 0} → Does H → ((ℕ → ℕ) → List ℕ) → List TraceStep → Type 0
+HasNoOther {H} does owners trace = (left : ℕ → Grammar) (ends ends' : ℕ → Finish) (trace' : List TraceStep) (from to to' : Place H) → ((j : ℕ) → IsDetermined (left j)) → Agree from.tables → IsRest does left ends trace from to → IsRest does left ends' trace' from to' →
     map owner trace ≡ owners (count_of trace) → map owner trace' ≡ owners (count_of trace') → AreAlike trace trace' ends ends' to to'
 
 -- two runs that both make a step of one job
 only_step : {H : Type 0} (does : Does H) → IsDeterminedHost does → (owners : (ℕ → ℕ) → List ℕ) (deed : Deed) (x y : TraceStep) (trace trace' : List TraceStep) (left : ℕ → Grammar) (ends ends' : ℕ → Finish) (from to to' : Place H) → ((j : ℕ) → IsDetermined (left j)) → Agree from.tables →
-    next_deed (left x.job) ≡ Some deed → x.job ≡ y.job → IsRest does left ends (x ∷ trace) from to → IsRest does left ends' (y ∷ trace') from to' → map owner trace ≡ owners (count_of trace) → map owner trace' ≡ owners (count_of trace') → IsOnly does owners trace →
+    next_deed (left x.job) ≡ Some deed → x.job ≡ y.job → IsRest does left ends (x ∷ trace) from to → IsRest does left ends' (y ∷ trace') from to' → map owner trace ≡ owners (count_of trace) → map owner trace' ≡ owners (count_of trace') → HasNoOther does owners trace →
     AreAlike (x ∷ trace) (y ∷ trace') ends ends' to to'
 only_step {H} does one owners deed x y trace trace' left ends ends' from to to' det agree is j here there own own' only =
     let a = rest_on does deed left ends x trace from to det is here in
@@ -226,10 +227,6 @@ Serves owners place later = (trace : List TraceStep) → 0 < count_of trace plac
 abbrev Passes : ((ℕ → ℕ) → List ℕ) → ℕ → ((ℕ → ℕ) → List ℕ) → Type 0
 Passes owners place later = (left : ℕ → ℕ) → left place ≡ 0 → owners left ≡ later left
 
-length_none : {A : Type 0} (xs : List A) → length xs ≡ 0 → xs ≡ []
-length_none [] e = refl
-length_none (x ∷ xs) e = absurd (omega arith)
-
 some_or_none : (n : ℕ) → (n ≡ 0) ⊎ (0 < n)
 some_or_none zero = inl refl
 some_or_none (suc n) = inr (omega arith)
@@ -237,7 +234,7 @@ some_or_none (suc n) = inr (omega arith)
 has_step : {H : Type 0} (does : Does H) (left : ℕ → Grammar) (ends : ℕ → Finish) (trace : List TraceStep) (from to : Place H) (place : ℕ) (deed : Deed) → IsDetermined (left place) → next_deed (left place) ≡ Some deed → IsRest does left ends trace from to → 0 < count_of trace place
 has_step does left ends trace from to place deed det is it = elim (some_or_none (count_of trace place)) [
   | inl none ↦
-      let empty : steps_by place trace ≡ [] = length_none (steps_by place trace) (length-steps_by place trace ∙ none) in
+      let empty : steps_by place trace ≡ [] = nil_from_length (steps_by place trace) (length-steps_by place trace ∙ none) in
       absurd (goes_on (left place) det deed is (ends place) (it.full place) (subst (λ (steps : List Step). Belongs (left place) steps (ends place)) empty (it.belongs place)))
   | inr some ↦ some
 ]
@@ -253,7 +250,7 @@ deed_or_none None = inr refl
 
 -- a place of the schedule
 only_place : {H : Type 0} (does : Does H) → IsDeterminedHost does → (owners served passed : (ℕ → ℕ) → List ℕ) (place : ℕ) → Serves owners place served → Passes owners place passed → (trace : List TraceStep) →
-    ((step : TraceStep) (rest : List TraceStep) → trace ≡ step ∷ rest → IsOnly does served rest) → IsOnly does passed trace → IsOnly does owners trace
+    ((step : TraceStep) (rest : List TraceStep) → trace ≡ step ∷ rest → HasNoOther does served rest) → HasNoOther does passed trace → HasNoOther does owners trace
 only_place {H} does one owners served passed place serves passes trace go skip left ends ends' trace' from to to' det agree here there own own' = elim (deed_or_none (next_deed (left place))) [
   | inl asked ↦
       let a = serves trace (has_step does left ends trace from to place asked.0 (det place) asked.1 here) own in
@@ -308,7 +305,7 @@ serves_first jobs first (step ∷ trace) some is =
     record { step = step; rest = trace; whole = refl; own = own; owned = cc }
 
 -- nothing is left
-only_none : {H : Type 0} (does : Does H) (first : ℕ) (trace : List TraceStep) → IsOnly does (rest_of zero first) trace
+only_none : {H : Type 0} (does : Does H) (first : ℕ) (trace : List TraceStep) → HasNoOther does (rest_of zero first) trace
 only_none does first [] left ends ends' [] from to to' det agree here there own own' = record {
   traces = refl;
   ended = λ j. one_end (left j) (det j) (ends j) (ends' j) (here.full j) (there.full j) (here.belongs j) (there.belongs j);
@@ -318,19 +315,19 @@ only_none does first [] left ends ends' (y ∷ trace') from to to' det agree her
 only_none does first (x ∷ trace) left ends ends' trace' from to to' det agree here there own own' = absurd (cc)
 
 -- the first of the jobs that take all their steps
-only_first : {H : Type 0} (does : Does H) → IsDeterminedHost does → (jobs first : ℕ) → ((trace : List TraceStep) → IsOnly does (rest_of jobs (first + 1)) trace) → (trace : List TraceStep) → IsOnly does (rest_of (suc jobs) first) trace
+only_first : {H : Type 0} (does : Does H) → IsDeterminedHost does → (jobs first : ℕ) → ((trace : List TraceStep) → HasNoOther does (rest_of jobs (first + 1)) trace) → (trace : List TraceStep) → HasNoOther does (rest_of (suc jobs) first) trace
 only_first does one jobs first later [] =
     only_place does one (rest_of (suc jobs) first) (rest_of (suc jobs) first) (rest_of jobs (first + 1)) first (serves_first jobs first) (rest_idle jobs first) [] (λ step rest e. absurd (cc)) (later [])
 only_first does one jobs first later (x ∷ trace) =
     only_place does one (rest_of (suc jobs) first) (rest_of (suc jobs) first) (rest_of jobs (first + 1)) first (serves_first jobs first) (rest_idle jobs first) (x ∷ trace)
-    (λ step rest e. subst (IsOnly does (rest_of (suc jobs) first)) (let same : trace ≡ rest = cc in same) (only_first does one jobs first later trace)) (later (x ∷ trace))
+    (λ step rest e. subst (HasNoOther does (rest_of (suc jobs) first)) (let same : trace ≡ rest = cc in same) (only_first does one jobs first later trace)) (later (x ∷ trace))
 
-only_rest : {H : Type 0} (does : Does H) → IsDeterminedHost does → (jobs first : ℕ) (trace : List TraceStep) → IsOnly does (rest_of jobs first) trace
+only_rest : {H : Type 0} (does : Does H) → IsDeterminedHost does → (jobs first : ℕ) (trace : List TraceStep) → HasNoOther does (rest_of jobs first) trace
 only_rest does one zero first trace = only_none does first trace
 only_rest does one (suc jobs) first trace = only_first does one jobs first (λ t. only_rest does one jobs (first + 1) t) trace
 
 -- one schedule gives one run
-pub only_order : {H : Type 0} (does : Does H) → IsDeterminedHost does → (schedule : List ℕ) (jobs : ℕ) (trace : List TraceStep) → IsOnly does (order schedule jobs) trace
+pub only_order : {H : Type 0} (does : Does H) → IsDeterminedHost does → (schedule : List ℕ) (jobs : ℕ) (trace : List TraceStep) → HasNoOther does (order schedule jobs) trace
 only_order does one [] jobs trace = only_rest does one jobs 0 trace
 only_order does one (place ∷ places) jobs trace =
     only_place does one (order (place ∷ places) jobs) (order places jobs) (order places jobs) place (serves_place place places jobs) (order_idle place places jobs) trace (λ step rest e. only_order does one places jobs rest) (only_order does one places jobs trace)
