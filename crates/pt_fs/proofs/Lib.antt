@@ -7,4 +7,5 @@ pub mod Going
 pub mod Ended
 pub mod Whole
 pub mod Laws
+pub mod Lockstep
 pub mod Determined

@@ -1,5 +1,5 @@
--- Jobs that run whole, one after another, leave nothing open but want of memory.
-use Rattle.std.specs.Prelude.{◌≡◌, ◌≢◌, List, [], length, map}
+-- Jobs that run in the order of one schedule leave nothing open but want of memory.
+use Rattle.std.specs.Prelude.{◌≡◌, ◌≢◌, ℕ, List, length, map}
 use Rattle.pt_host.specs.Words.{Each}
 use Rattle.pt_host.specs.declared.seat.HostSeat.{HostSeat}
 use Rattle.pt_session.specs.Tables.{Tables, Agree}
@@ -19,21 +19,21 @@ pub record FoundMemory (trace : List TraceStep) (answers : List Answer) : Type 0
   pub replies : Each (λ step. LacksMemory step.reply → ⊥) trace
   pub answered : Each (λ answer. answer ≢ NoMemory) answers
 
--- the jobs ran whole, one after another, and never lacked memory
-pub record RanInTurn {H : Type 0} (does : Does H) (plan : Plan) (jobs : List Job) (host : H) (tables : Tables) (trace : List TraceStep) (answers : List Answer) (host' : H) (tables' : Tables) : Type 0 where
-  pub seats : List HostSeat
-  pub steps : Runs does trace host (map job_seat jobs) tables host' seats tables'
-  pub order : IsInOrder [] (length jobs) trace
+-- the jobs ran in the order of the schedule, and never lacked memory
+pub record RanInOrder {H : Type 0} (does : Does H) (plan : Plan) (schedule : List ℕ) (jobs : List Job) (host : H) (tables : Tables) (trace : List TraceStep) (answers : List Answer) (host' : H) (seats' : List HostSeat) (tables' : Tables) : Type 0 where
+  pub steps : Runs does trace host (map job_seat jobs) tables host' seats' tables'
+  pub order : IsInOrder schedule (length jobs) trace
   pub answers_each : AnswersEach plan jobs trace answers
   pub memory : FoundMemory trace answers
 
--- two such runs of the same jobs from the same host and tables are one
-pub record AreOneRun {H : Type 0} (trace trace' : List TraceStep) (answers answers' : List Answer) (host host' : H) (tables tables' : Tables) : Type 0 where
+-- two such runs of the same jobs, by one schedule from the same host and tables, are one
+pub record AreOneRun {H : Type 0} (trace trace' : List TraceStep) (answers answers' : List Answer) (host host' : H) (seats seats' : List HostSeat) (tables tables' : Tables) : Type 0 where
   pub traces : trace ≡ trace'
   pub answered : answers ≡ answers'
   pub hosts : host ≡ host'
+  pub sat : seats ≡ seats'
   pub left : tables ≡ tables'
 
 abbrev pub TurnsAreDetermined : {H : Type 0} → Does H → Type 0
-TurnsAreDetermined {H} does = (plan : Plan) (jobs : List Job) (host : H) (tables : Tables) (trace trace' : List TraceStep) (answers answers' : List Answer) (after after' : H) (left left' : Tables) → Agree tables →
-    RanInTurn does plan jobs host tables trace answers after left → RanInTurn does plan jobs host tables trace' answers' after' left' → AreOneRun trace trace' answers answers' after after' left left'
+TurnsAreDetermined {H} does = (plan : Plan) (schedule : List ℕ) (jobs : List Job) (host : H) (tables : Tables) (trace trace' : List TraceStep) (answers answers' : List Answer) (after after' : H) (seats seats' : List HostSeat) (left left' : Tables) → Agree tables →
+    RanInOrder does plan schedule jobs host tables trace answers after seats left → RanInOrder does plan schedule jobs host tables trace' answers' after' seats' left' → AreOneRun trace trace' answers answers' after after' seats seats' left left'

@@ -3,6 +3,7 @@ use Rattle.std.proofs.Common.{◌≡◌, ◌≢◌, ℕ, ◌≤◌, List, [], �
 use Rattle.pt_host.specs.declared.reply.HostReply.{HostReply}
 use Rattle.pt_host.specs.declared.reply.HostReply.TheVariants as reply
 use Rattle.pt_host.specs.declared.reply.HostValue.TheVariants as value
+use Rattle.pt_host.specs.declared.seat.HostSeat.{HostSeat}
 use Rattle.pt_tree.specs.Does.{Does}
 use Rattle.pt_tree.specs.State.{State}
 use Rattle.pt_tree.specs.Start.{StartsAs, start_with}
@@ -21,7 +22,7 @@ use Rattle.pt_law.proofs.Hosts.{hosts_tables}
 use Rattle.pt_law.proofs.Laws.{agree_law}
 use Rattle.pt_req.specs.Plan.{IsDefault}
 use Rattle.pt_req.specs.declared.plan.Config.{Config}
-use Rattle.pt_fs.specs.Determined.{FoundMemory, RanInTurn, AreOneRun}
+use Rattle.pt_fs.specs.Determined.{FoundMemory, RanInOrder, AreOneRun}
 use Rattle.pt_fs.specs.FileSystem.{FileSystem, opens_root, IsMadeBy}
 use Rattle.pt_fs.specs.Keeps.{turns_of}
 use Rattle.pt_fs.specs.declared.trace.TraceStep.{TraceStep}
@@ -120,10 +121,14 @@ opened_one settings before fs other after after' h k =
     let tables : fs.tables ≡ other.tables = h.tables ∙ ap (λ (c : Config). empty_tables c.guest_fd_limit) config ∙ sym k.tables in
     record { made = λ i. record { plan = record { config = config i }; tables = tables i; root = root i }; hosts = same.1 }
 
--- the run as one of jobs in turn
-ran_in_turn : (settings : Settings) (start : State) (lines : List ScriptJob) (trace : List TraceStep) (answers : List Answer) (tables : Tables) (host : State) → (run : IsRunFrom settings start lines trace answers tables host) →
-    FoundMemory trace answers → RanInTurn Does run.fs.plan (map job_of lines) run.opened_host run.fs.tables trace answers host tables
-ran_in_turn settings start lines trace answers tables host run found = record { seats = run.seats; steps = run.steps; order = run.order; answers_each = run.answers_each; memory = found }
+-- the schedule of a script's jobs
+abbrev schedule : List ℕ
+schedule = []
+
+-- the run as one of jobs in order
+ran_in_order : (settings : Settings) (start : State) (lines : List ScriptJob) (trace : List TraceStep) (answers : List Answer) (tables : Tables) (host : State) → (run : IsRunFrom settings start lines trace answers tables host) →
+    FoundMemory trace answers → RanInOrder Does run.fs.plan schedule (map job_of lines) run.opened_host run.fs.tables trace answers host run.seats tables
+ran_in_order settings start lines trace answers tables host run found = record { steps = run.steps; order = run.order; answers_each = run.answers_each; memory = found }
 
 end_agrees : (settings : Settings) (start : State) (lines : List ScriptJob) (trace : List TraceStep) (answers : List Answer) (tables : Tables) (host : State) → IsRunFrom settings start lines trace answers tables host → Agree tables
 end_agrees settings start lines trace answers tables host run =
@@ -131,20 +136,21 @@ end_agrees settings start lines trace answers tables host run =
     (subst (λ (t : Tables). TablesRun t (turns_of trace) tables) run.opened.tables (hosts_tables Does (turns_of trace) run.opened_host run.fs.tables host tables (host_runs Does trace run.opened_host _ run.fs.tables host run.seats tables run.steps)))
 
 runs_one : (settings : Settings) (start : State) (lines : List ScriptJob) (trace trace' : List TraceStep) (answers answers' : List Answer) (tables tables' : Tables) (host host' : State) →
-    IsRunFrom settings start lines trace answers tables host → IsRunFrom settings start lines trace' answers' tables' host' → FoundMemory trace answers → FoundMemory trace' answers' → AreOneRun trace trace' answers answers' host host' tables tables'
+    (run : IsRunFrom settings start lines trace answers tables host) (run' : IsRunFrom settings start lines trace' answers' tables' host') → FoundMemory trace answers → FoundMemory trace' answers' →
+    AreOneRun trace trace' answers answers' host host' run.seats run'.seats tables tables'
 runs_one settings start lines trace trace' answers answers' tables tables' host host' run run' found found' =
     let same = opened_one settings start run.fs run'.fs run.opened_host run'.opened_host run.opened run'.opened in
-    let here = ran_in_turn settings start lines trace answers tables host run found in
-    let there = ran_in_turn settings start lines trace' answers' tables' host' run' found' in
-    let moved : RanInTurn Does run.fs.plan (map job_of lines) run.opened_host run.fs.tables trace' answers' host' tables' =
-    subst (λ (fs : FileSystem). RanInTurn Does fs.plan (map job_of lines) run.opened_host fs.tables trace' answers' host' tables') (sym same.made)
-    (subst (λ (state : State). RanInTurn Does run'.fs.plan (map job_of lines) state run'.fs.tables trace' answers' host' tables') (sym same.hosts) there) in
+    let here = ran_in_order settings start lines trace answers tables host run found in
+    let there = ran_in_order settings start lines trace' answers' tables' host' run' found' in
+    let moved : RanInOrder Does run.fs.plan schedule (map job_of lines) run.opened_host run.fs.tables trace' answers' host' run'.seats tables' =
+    subst (λ (fs : FileSystem). RanInOrder Does fs.plan schedule (map job_of lines) run.opened_host fs.tables trace' answers' host' run'.seats tables') (sym same.made)
+    (subst (λ (state : State). RanInOrder Does run'.fs.plan schedule (map job_of lines) state run'.fs.tables trace' answers' host' run'.seats tables') (sym same.hosts) there) in
     let agree : Agree run.fs.tables = subst Agree (sym run.opened.tables) (agree_law run.fs.plan.config.guest_fd_limit [] (empty_tables run.fs.plan.config.guest_fd_limit) refl) in
-    turns_determined Does host_determined run.fs.plan (map job_of lines) run.opened_host run.fs.tables trace trace' answers answers' host host' tables tables' agree here moved
+    turns_determined Does host_determined run.fs.plan schedule (map job_of lines) run.opened_host run.fs.tables trace trace' answers answers' host host' run.seats run'.seats tables tables' agree here moved
 
-report_same : (trace trace' : List TraceStep) (answers answers' : List Answer) (lives lives' handles handles' : List (ℕ × ℕ)) (tables tables' : Tables) (host host' : State) → AreOneRun trace trace' answers answers' host host' tables tables' → lives ≡ lives' → handles ≡ handles' →
-    report_of trace answers lives handles tables host ≡ report_of trace' answers' lives' handles' tables' host'
-report_same trace trace' answers answers' lives lives' handles handles' tables tables' host host' one l h = λ i. report_of (one.traces i) (one.answered i) (l i) (h i) (one.left i) (one.hosts i)
+report_same : (trace trace' : List TraceStep) (answers answers' : List Answer) (lives lives' handles handles' : List (ℕ × ℕ)) (seats seats' : List HostSeat) (tables tables' : Tables) (host host' : State) →
+    AreOneRun trace trace' answers answers' host host' seats seats' tables tables' → lives ≡ lives' → handles ≡ handles' → report_of trace answers lives handles tables host ≡ report_of trace' answers' lives' handles' tables' host'
+report_same trace trace' answers answers' lives lives' handles handles' seats seats' tables tables' host host' one l h = λ i. report_of (one.traces i) (one.answered i) (l i) (h i) (one.left i) (one.hosts i)
 
 determined : (bytes report other : List ℕ) (ran : IsReportOf bytes report) (again : IsReportOf bytes other) → IsFull ran → IsFull again → report ≡ other
 determined bytes report other ran again full full' =
@@ -159,7 +165,7 @@ determined bytes report other ran again full full' =
     let live : AreLive ran.tables again.lives again.handles = subst (λ (t : Tables). AreLive t again.lives again.handles) (sym one.left) again.live in
     let lives : ran.lives ≡ again.lives = all_one (IsLiveAfter ran.tables.rows) (lives_one ran.tables agree) None ran.lives again.lives ran.live.0 live.0 in
     let handles : ran.handles ≡ again.handles = all_one (IsHandleAfter ran.tables.handles) (handles_one ran.tables agree) None ran.handles again.handles ran.live.1 live.1 in
-    ran.text ∙ report_same ran.trace again.trace ran.answers again.answers ran.lives again.lives ran.handles again.handles ran.tables again.tables ran.host again.host one lives handles ∙ sym again.text
+    ran.text ∙ report_same ran.trace again.trace ran.answers again.answers ran.lives again.lives ran.handles again.handles ran.run.seats run.seats ran.tables again.tables ran.host again.host one lives handles ∙ sym again.text
 
 pub only : (bytes report : List ℕ) (ran : IsReportOf bytes report) → IsOnly ran
 only bytes report ran full other again full' = determined bytes other report again ran full' full
