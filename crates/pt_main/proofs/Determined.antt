@@ -121,27 +121,23 @@ opened_one settings before fs other after after' h k =
     let tables : fs.tables ≡ other.tables = h.tables ∙ ap (λ (c : Config). empty_tables c.guest_fd_limit) config ∙ sym k.tables in
     record { made = λ i. record { plan = record { config = config i }; tables = tables i; root = root i }; hosts = same.1 }
 
--- the schedule of a script's jobs
-abbrev schedule : List ℕ
-schedule = []
-
 -- the run as one of jobs in order
-ran_in_order : (settings : Settings) (start : State) (lines : List ScriptJob) (trace : List TraceStep) (answers : List Answer) (tables : Tables) (host : State) → (run : IsRunFrom settings start lines trace answers tables host) →
+ran_in_order : (settings : Settings) (start : State) (lines : List ScriptJob) (schedule : List ℕ) (trace : List TraceStep) (answers : List Answer) (tables : Tables) (host : State) → (run : IsRunFrom settings start lines schedule trace answers tables host) →
     FoundMemory trace answers → RanInOrder Does run.fs.plan schedule (map job_of lines) run.opened_host run.fs.tables trace answers host run.seats tables
-ran_in_order settings start lines trace answers tables host run found = record { steps = run.steps; order = run.order; answers_each = run.answers_each; memory = found }
+ran_in_order settings start lines schedule trace answers tables host run found = record { steps = run.steps; order = run.order; answers_each = run.answers_each; memory = found }
 
-end_agrees : (settings : Settings) (start : State) (lines : List ScriptJob) (trace : List TraceStep) (answers : List Answer) (tables : Tables) (host : State) → IsRunFrom settings start lines trace answers tables host → Agree tables
-end_agrees settings start lines trace answers tables host run =
+end_agrees : (settings : Settings) (start : State) (lines : List ScriptJob) (schedule : List ℕ) (trace : List TraceStep) (answers : List Answer) (tables : Tables) (host : State) → IsRunFrom settings start lines schedule trace answers tables host → Agree tables
+end_agrees settings start lines schedule trace answers tables host run =
     agree_law run.fs.plan.config.guest_fd_limit (turns_of trace) tables
     (subst (λ (t : Tables). TablesRun t (turns_of trace) tables) run.opened.tables (hosts_tables Does (turns_of trace) run.opened_host run.fs.tables host tables (host_runs Does trace run.opened_host _ run.fs.tables host run.seats tables run.steps)))
 
-runs_one : (settings : Settings) (start : State) (lines : List ScriptJob) (trace trace' : List TraceStep) (answers answers' : List Answer) (tables tables' : Tables) (host host' : State) →
-    (run : IsRunFrom settings start lines trace answers tables host) (run' : IsRunFrom settings start lines trace' answers' tables' host') → FoundMemory trace answers → FoundMemory trace' answers' →
+runs_one : (settings : Settings) (start : State) (lines : List ScriptJob) (schedule : List ℕ) (trace trace' : List TraceStep) (answers answers' : List Answer) (tables tables' : Tables) (host host' : State) →
+    (run : IsRunFrom settings start lines schedule trace answers tables host) (run' : IsRunFrom settings start lines schedule trace' answers' tables' host') → FoundMemory trace answers → FoundMemory trace' answers' →
     AreOneRun trace trace' answers answers' host host' run.seats run'.seats tables tables'
-runs_one settings start lines trace trace' answers answers' tables tables' host host' run run' found found' =
+runs_one settings start lines schedule trace trace' answers answers' tables tables' host host' run run' found found' =
     let same = opened_one settings start run.fs run'.fs run.opened_host run'.opened_host run.opened run'.opened in
-    let here = ran_in_order settings start lines trace answers tables host run found in
-    let there = ran_in_order settings start lines trace' answers' tables' host' run' found' in
+    let here = ran_in_order settings start lines schedule trace answers tables host run found in
+    let there = ran_in_order settings start lines schedule trace' answers' tables' host' run' found' in
     let moved : RanInOrder Does run.fs.plan schedule (map job_of lines) run.opened_host run.fs.tables trace' answers' host' run'.seats tables' =
     subst (λ (fs : FileSystem). RanInOrder Does fs.plan schedule (map job_of lines) run.opened_host fs.tables trace' answers' host' run'.seats tables') (sym same.made)
     (subst (λ (state : State). RanInOrder Does run'.fs.plan schedule (map job_of lines) state run'.fs.tables trace' answers' host' run'.seats tables') (sym same.hosts) there) in
@@ -157,11 +153,11 @@ determined bytes report other ran again full full' =
     let begun : again.begun ≡ ran.begun = let e = ran.script in let f = again.script in cc in
     let starts : StartsAs ran.begun.tree again.start = subst (λ (b : Begun). StartsAs b.tree again.start) begun again.starts in
     let start : again.start ≡ ran.start = start_one ran.begun.tree again.start ran.start starts ran.starts in
-    let run : IsRunFrom ran.begun.settings ran.start ran.begun.jobs again.trace again.answers again.tables again.host =
-    subst (λ (s : State). IsRunFrom ran.begun.settings s ran.begun.jobs again.trace again.answers again.tables again.host) start
-    (subst (λ (b : Begun). IsRunFrom b.settings again.start b.jobs again.trace again.answers again.tables again.host) begun again.run) in
-    let one = runs_one ran.begun.settings ran.start ran.begun.jobs ran.trace again.trace ran.answers again.answers ran.tables again.tables ran.host again.host ran.run run full full' in
-    let agree = end_agrees ran.begun.settings ran.start ran.begun.jobs ran.trace ran.answers ran.tables ran.host ran.run in
+    let run : IsRunFrom ran.begun.settings ran.start ran.begun.jobs ran.begun.order again.trace again.answers again.tables again.host =
+    subst (λ (s : State). IsRunFrom ran.begun.settings s ran.begun.jobs ran.begun.order again.trace again.answers again.tables again.host) start
+    (subst (λ (b : Begun). IsRunFrom b.settings again.start b.jobs b.order again.trace again.answers again.tables again.host) begun again.run) in
+    let one = runs_one ran.begun.settings ran.start ran.begun.jobs ran.begun.order ran.trace again.trace ran.answers again.answers ran.tables again.tables ran.host again.host ran.run run full full' in
+    let agree = end_agrees ran.begun.settings ran.start ran.begun.jobs ran.begun.order ran.trace ran.answers ran.tables ran.host ran.run in
     let live : AreLive ran.tables again.lives again.handles = subst (λ (t : Tables). AreLive t again.lives again.handles) (sym one.left) again.live in
     let lives : ran.lives ≡ again.lives = all_one (IsLiveAfter ran.tables.rows) (lives_one ran.tables agree) None ran.lives again.lives ran.live.0 live.0 in
     let handles : ran.handles ≡ again.handles = all_one (IsHandleAfter ran.tables.handles) (handles_one ran.tables agree) None ran.handles again.handles ran.live.1 live.1 in

@@ -2,6 +2,7 @@ ghost use Rattle.std.specs.Prelude.{◌≡◌, IfOk, OnOk, Some, None, ◌≢◌
 ghost use Rattle.std.specs.Str.{bytes_eq};
 ghost use Rattle.pt_main.specs.Fields.{number_in, small_in, bytes_in, switch_in, switch_of, pair_in, pairs_in, places_in};
 
+use crate::places::Places;
 use pt_host::Bytes;
 use pt_text::{Parts, read_byte_word, read_number};
 use std::alloc::Global;
@@ -116,9 +117,9 @@ pub fn next_pairs(
 }
 
 // Reads a number of 32 bits, and puts it behind others.
-fn push_place(places: &mut Vec<u32>, words: &mut Parts<'_>) -> Result<u32, LineError>
+fn push_place(places: &mut Places, words: &mut Parts<'_>) -> Result<u32, LineError>
     ensures ok { IfOk result (λ place. small_in words.old ≡ Some (record { value = place; rest = words.new })) }
-    ensures pushed { IfOk result (λ place. places.new.items ≡ places.old.items ++ place ∷ []) }
+    ensures pushed { IfOk result (λ place. places.new ≡ places.old ++ place ∷ []) }
     ensures bad { result ≡ Err LineError.Bad → small_in words.old ≡ None }
 {
     let place = next_small(words)?;
@@ -129,11 +130,11 @@ fn push_place(places: &mut Vec<u32>, words: &mut Parts<'_>) -> Result<u32, LineE
 }
 
 /// Places, to the last word.
-pub fn next_places(alloc: Global, words: &mut Parts<'_>) -> Result<Vec<u32>, LineError>
-    ensures ok { IfOk result (λ places. places_in words.old ≡ Some places.items) }
+pub fn next_places(alloc: Global, words: &mut Parts<'_>) -> Result<Places, LineError>
+    ensures ok { IfOk result (λ places. places_in words.old ≡ Some places) }
     ensures bad { result ≡ Err LineError.Bad → places_in words.old ≡ None }
 {
-    let mut places = Vec::new(alloc);
+    let mut places = Places::new(alloc);
     'places: while !words.is_empty() {
         match push_place(&mut places, words) {
             Ok(_) => {}

@@ -4,6 +4,7 @@ ghost use Rattle.pt_main.specs.Line.{mount_in, file_in, dir_in, tree_line_in, li
 use crate::fields::{
     LineError, end, next_bytes, next_number, next_places, next_small, next_switch, next_word,
 };
+use crate::places::Places;
 use crate::request::next_request;
 use crate::settings::Setting;
 use pt_iface::{Context, Request};
@@ -25,7 +26,7 @@ pub enum Line {
     Tree(TreeLine),
     Job(ScriptJob),
     /// Places of the schedule.
-    Order(Vec<u32>),
+    Order(Places),
     End,
 }
 

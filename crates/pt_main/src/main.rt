@@ -8,6 +8,7 @@ mod line;
 mod make_report;
 mod mem;
 mod output;
+mod places;
 mod program;
 mod report;
 mod request;

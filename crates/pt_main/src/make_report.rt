@@ -7,7 +7,7 @@ ghost use Rattle.pt_main.specs.Run.{job_of, start_seat, report_of, AreLive, IsOp
 use crate::input::MAX_SCRIPT;
 use crate::line::ScriptJob;
 use crate::report::{push_answers, push_steps};
-use crate::script::{ParseError, parse};
+use crate::script::{ParseError, Script, parse};
 use crate::settings::Settings;
 use crate::status::Status;
 use crate::table_lines::{push_handles, push_lives, push_slots};
@@ -141,9 +141,13 @@ pub fn report_of_script(alloc: Global, bytes: &[u8]) -> Result<Vec<u8>, Status>
         Err(ParseError::BadScript(line)) => return Err(Status::BadScript(line)),
         Err(ParseError::Memory) => return Err(Status::NoMemory),
     };
-    let mut host = script.host;
-    let schedule = script.schedule.as_slice();
-    let driven = match run_jobs(alloc, script.settings, &mut host, script.jobs, schedule) {
+    let Script {
+        settings,
+        mut host,
+        jobs,
+        schedule,
+    } = script;
+    let driven = match run_jobs(alloc, settings, &mut host, jobs, schedule.as_slice()) {
         Ok(driven) => driven,
         Err(status) => return Err(status),
     };

@@ -5,6 +5,7 @@ ghost use Rattle.pt_main.specs.Scan.{allowed, scan_of};
 use crate::fields::LineError;
 use crate::input::MAX_SCRIPT;
 use crate::line::{Line, ScriptJob, read_line};
+use crate::places::Places;
 use crate::settings::Settings;
 use pt_text::Parts;
 use pt_tree::{TreeLine, TreeSpec};
@@ -23,7 +24,7 @@ pub struct Lines {
     settings: Settings,
     tree: Vec<TreeLine>,
     jobs: Vec<ScriptJob>,
-    order: Vec<u32>,
+    order: Places,
     ended: bool,
 }
 
@@ -32,7 +33,7 @@ impl Model for Lines {
 
     ghost Value = { Begun };
 
-    ghost view = { λ lines. record { settings = lines.settings; tree = lines.tree.items; jobs = lines.jobs.items; order = lines.order.items; ended = lines.ended } };
+    ghost view = { λ lines. record { settings = lines.settings; tree = lines.tree.items; jobs = lines.jobs.items; order = lines.order; ended = lines.ended } };
 }
 
 impl Lines {
@@ -43,7 +44,7 @@ impl Lines {
             settings: Settings::none(),
             tree: Vec::new(alloc),
             jobs: Vec::new(alloc),
-            order: Vec::new(alloc),
+            order: Places::new(alloc),
             ended: false,
         }
     }
@@ -94,7 +95,7 @@ impl Lines {
             Line::Set(setting) => self.settings = self.settings.with_setting(setting),
             Line::Tree(line) => self.tree.push(line)?,
             Line::Job(job) => self.jobs.push(job)?,
-            Line::Order(places) => self.order.extend_from_slice(places.as_slice())?,
+            Line::Order(places) => self.order.append(&places)?,
             Line::End => self.ended = true,
         }
         Ok(())
@@ -108,10 +109,10 @@ impl Lines {
     }
 
     /// The lines of the tree, the jobs and the schedule, which takes no memory.
-    pub fn into_parts(self) -> (TreeSpec, Vec<ScriptJob>, Vec<u32>)
+    pub fn into_parts(self) -> (TreeSpec, Vec<ScriptJob>, Places)
         ensures tree { result.0 ≡ self.tree }
         ensures jobs { result.1.items ≡ self.jobs }
-        ensures schedule { result.2.items ≡ self.order }
+        ensures schedule { result.2 ≡ self.order }
     {
         (TreeSpec::from_vec(self.tree), self.jobs, self.order)
     }

@@ -5,6 +5,7 @@ ghost use Rattle.pt_main.specs.Scan.{IsScriptOf};
 
 use crate::input::MAX_SCRIPT;
 use crate::line::ScriptJob;
+use crate::places::Places;
 use crate::scan::scan_lines;
 use crate::settings::Settings;
 use pt_tree::{SpecError, TreeHost, TreeSpec};
@@ -16,7 +17,7 @@ pub struct Script {
     pub settings: Settings,
     pub host: TreeHost,
     pub jobs: Vec<ScriptJob>,
-    pub schedule: Vec<u32>,
+    pub schedule: Places,
 }
 
 /// Why bytes were not read as a script.
@@ -30,7 +31,7 @@ pub enum ParseError {
 /// Reads a script.
 pub fn parse(alloc: Global, bytes: &[u8]) -> Result<Script, ParseError>
     requires { length bytes.now ≤ MAX_SCRIPT }
-    ensures ok { IfOk result (λ script. IsScriptOf bytes.now script.settings script.host script.jobs.items script.schedule.items) }
+    ensures ok { IfOk result (λ script. IsScriptOf bytes.now script.settings script.host script.jobs.items script.schedule) }
     ensures bad { IfErr result (λ error. IsBadLine bytes.now error) }
     ensures few { IfOk result (λ script. length script.jobs.items ≤ length bytes.now + 1) }
 {

@@ -4,6 +4,7 @@ mod bad_scripts;
 mod handles;
 mod reports;
 mod requests;
+mod schedules;
 
 use crate::{
     Failed, InputError, MAX_SCRIPT, MemSink, MemSource, ParseError, Sink, Source, Status,

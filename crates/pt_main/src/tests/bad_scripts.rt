@@ -102,6 +102,24 @@ fn bad_settings_are_named(rt: HostRuntime) -> Result<(), Fail> {
 }
 
 #[test]
+fn bad_places_are_named(rt: HostRuntime) -> Result<(), Fail> {
+    let table = [
+        ("order 0\n", TREE, 1),
+        (TREE, "order\nend\n", 3),
+        (TREE, "order x\nend\n", 3),
+        (TREE, "order 4294967296\nend\n", 3),
+        (TREE, "order 0 -\nend\n", 3),
+        (TREE, "order 0  0\nend\n", 3),
+        (TREE, "order 0\nfile /b 0o644 0 0 z\nend\n", 4),
+        (TREE, "order 0\njob 0 0 root\nend\n", 4),
+        (TREE, "order 0\norder 1\nset guest_fd_limit 1\nend\n", 5),
+        (TREE, "order 0\nend\norder 0\n", 5),
+        (TREE, "order 0\n", 4),
+    ];
+    assert_bad(&rt, rt.alloc(), &table)
+}
+
+#[test]
 fn bad_jobs_are_named(rt: HostRuntime) -> Result<(), Fail> {
     let table = [
         (TREE, "job x 0 root\nend\n", 3),

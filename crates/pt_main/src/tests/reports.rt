@@ -5,7 +5,7 @@ use std::process::Abort;
 use std::test::Fail;
 
 // The report of a script is this.
-fn assert_report(
+pub fn assert_report(
     rt: &impl Abort,
     alloc: Global,
     script: &[&str],

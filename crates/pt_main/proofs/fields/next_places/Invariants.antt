@@ -4,7 +4,7 @@ use Rattle.pt_main.proofs.PlacesRead.{behind}
 use Rattle.pt_main.proofs.fields.next_places.Given as goal
 
 abbrev pub invariant-places : goal.invariant-places
-invariant-places l = behind l.places.items (places_in l.words) ≡ places_in l.initial.words
+invariant-places l = behind l.places (places_in l.words) ≡ places_in l.initial.words
 
 abbrev pub decreases-places : goal.decreases-places
 decreases-places l = length l.words
