@@ -23,8 +23,14 @@ ebadf = errno_of 9
 abbrev pub eacces : Errno
 eacces = errno_of 13
 
+abbrev pub ebusy : Errno
+ebusy = errno_of 16
+
 abbrev pub eexist : Errno
 eexist = errno_of 17
+
+abbrev pub exdev : Errno
+exdev = errno_of 18
 
 abbrev pub enotdir : Errno
 enotdir = errno_of 20
@@ -38,8 +44,14 @@ einval = errno_of 22
 abbrev pub enfile : Errno
 enfile = errno_of 23
 
+abbrev pub efbig : Errno
+efbig = errno_of 27
+
 abbrev pub enametoolong : Errno
 enametoolong = errno_of 36
+
+abbrev pub enotempty : Errno
+enotempty = errno_of 39
 
 abbrev pub eloop : Errno
 eloop = errno_of 40

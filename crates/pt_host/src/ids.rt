@@ -19,6 +19,8 @@ impl Errno {
 
     pub const EACCES: Errno = Errno(13);
 
+    pub const EBUSY: Errno = Errno(16);
+
     pub const EEXIST: Errno = Errno(17);
 
     pub const EXDEV: Errno = Errno(18);
@@ -30,6 +32,8 @@ impl Errno {
     pub const EINVAL: Errno = Errno(22);
 
     pub const ENFILE: Errno = Errno(23);
+
+    pub const EFBIG: Errno = Errno(27);
 
     pub const EROFS: Errno = Errno(30);
 

@@ -4,3 +4,12 @@ pub mod NewPlaces
 pub mod StartNodes
 pub mod TreeLines
 pub mod FreeTable
+pub mod Holding
+pub mod Alive
+pub mod Kept
+pub mod KeptEdits
+pub mod KeptMade
+pub mod KeptStart
+pub mod EditParts
+pub mod ChangedThere
+pub mod KeptStore

@@ -1,9 +1,11 @@
 -- The place that a path leads to, part by part.
-use Rattle.std.proofs.Common.{◌≡◌, ◌∷◌, [], ◌==◌, ℕ, true, false, List, Some, None, option_and_then, slice_get, ap, ◌∙◌, cond, length, arith, ◌<◌, refl}
+use Rattle.std.proofs.Common.{◌≡◌, ◌&&◌, ◌∷◌, [], ◌==◌, ℕ, Bool, true, false, List, Option, Some, None, option_and_then, slice_get, ap, ◌∙◌, cond, length, arith, ◌<◌, refl, subst}
+use Rattle.std.proofs.lemmas.Option.{same_Some}
 use Rattle.std.proofs.lemmas.List.Splits.{length-slice_split}
 use Rattle.pt_tree.specs.Calls.{parts}
 use Rattle.pt_tree.specs.Node.{name_at}
-use Rattle.pt_tree.specs.Start.{is_good_name, takes_name, new_place, place_in}
+use Rattle.pt_tree.specs.Start.{is_good_name, takes_name, new_place, place_in, place_of}
+use Rattle.pt_tree.specs.Laws.WellFormed.{and_then_some}
 use Rattle.pt_tree.specs.declared.node.Node.{Node}
 
 -- a part that is no name leads nowhere
@@ -28,3 +30,32 @@ pub place-next : (nodes : List Node) (dir : ℕ) (path name rest : List ℕ) →
     place_in nodes dir (parts path) ≡ option_and_then (λ child. place_in nodes child (parts rest)) (name_at nodes dir name)
 place-next nodes dir path name rest first good =
     ap (place_in nodes dir) first ∙ goes_on nodes dir name (parts rest) (omega (arith, length-slice_split (λ byte. byte == 47) rest)) good
+
+-- ---- the place takes the name
+
+in_place : (good takes : Bool) (dir : ℕ) (name : List ℕ) (place : ℕ × List ℕ) → cond (good && takes) (Some (dir, name)) None ≡ Some place → (takes ≡ true) × ((dir, name) ≡ place)
+in_place true true dir name place is = (refl, same_Some (dir, name) place is)
+in_place true false dir name place is = cc
+in_place false takes dir name place is = cc
+
+past_good : (good : Bool) (led : Option (ℕ × List ℕ)) (place : ℕ × List ℕ) → cond good led None ≡ Some place → led ≡ Some place
+past_good true led place is = is
+past_good false led place is = cc
+
+new_takes : (nodes : List Node) (dir : ℕ) (name : List ℕ) (more : List (List ℕ)) (place : ℕ × List ℕ) → new_place nodes dir name more ≡ Some place →
+    takes_name place.1 (slice_get nodes place.0) ≡ true
+new_takes nodes dir name [] place is =
+    let both = in_place (is_good_name name) (takes_name name (slice_get nodes dir)) dir name place is in
+    subst (λ (at : ℕ × List ℕ). takes_name at.1 (slice_get nodes at.0) ≡ true) both.1 both.0
+new_takes nodes dir name (next ∷ more) place is =
+    let led = past_good (is_good_name name) (option_and_then (λ child. new_place nodes child next more) (name_at nodes dir name)) place is in
+    let child = and_then_some (λ child. new_place nodes child next more) (name_at nodes dir name) place led in
+    new_takes nodes child.0 next more place child.2
+
+in_takes : (nodes : List Node) (dir : ℕ) (names : List (List ℕ)) (place : ℕ × List ℕ) → place_in nodes dir names ≡ Some place → takes_name place.1 (slice_get nodes place.0) ≡ true
+in_takes nodes dir [] place is = cc
+in_takes nodes dir (name ∷ more) place is = new_takes nodes dir name more place is
+
+pub place_takes : (nodes : List Node) (path : List ℕ) (place : ℕ × List ℕ) → place_of nodes path ≡ Some place → takes_name place.1 (slice_get nodes place.0) ≡ true
+place_takes nodes [] place is = cc
+place_takes nodes (first ∷ path) place is = in_takes nodes 0 (parts path) place (past_good (first == 47) (place_in nodes 0 (parts path)) place is)

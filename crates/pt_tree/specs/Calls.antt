@@ -1,13 +1,11 @@
--- The table of the calls: what each is answered and what it leaves.
+-- The calls one by one: what each is answered and what it leaves.
 use Rattle.std.specs.Prelude.{ℕ, ◌==◌, nat_lt, not, ◌&&◌, Bool, List, [], ◌∷◌, length, Option, Some, None, Result, Ok, Err, ok_or, slice_get, slice_set, if◌then◌else◌}
 use Rattle.std.specs.List.{slice_split}
-use Rattle.pt_host.specs.Call.{Call}
 use Rattle.pt_host.specs.Flags.{includes, o_creat, o_excl}
 use Rattle.pt_host.specs.Errno.{ebadf, eacces, eexist, eio, enoent, enotdir, enametoolong, eopnotsupp}
 use Rattle.pt_host.specs.declared.ids.Errno.{Errno}
 use Rattle.pt_host.specs.declared.flags.OpenFlags.{OpenFlags}
 use Rattle.pt_host.specs.declared.seat.HostSeat.{HostSeat}
-use Rattle.pt_host.specs.declared.op.KeptHostOp.TheVariants as call
 use Rattle.pt_host.specs.declared.reply.HostReply.{HostReply}
 use Rattle.pt_host.specs.declared.reply.HostReply.TheVariants as reply
 use Rattle.pt_host.specs.declared.reply.HostValue.{HostValue}
@@ -62,7 +60,7 @@ step_from at name None = Err eio
 step_from at name (Some node) = if is_directory node then ok_or (found name (names_in node.content)) enoent else Err enotdir
 
 -- on from where the part led, unless it is refused
-abbrev pub then_on : Result ℕ Errno → (ℕ → Result ℕ Errno) → Result ℕ Errno
+abbrev pub then_on : {A B : Type 0} → Result A Errno → (A → Result B Errno) → Result B Errno
 then_on (Ok at) rest = rest at
 then_on (Err errno) rest = Err errno
 
@@ -98,7 +96,7 @@ name_checks seat dir name =
 abbrev pub name_refusal : HostSeat → Node → List ℕ → Option Errno
 name_refusal seat dir name = first_refusal (name_checks seat dir name)
 
-abbrev pub ok_unless : Option Errno → Result ℕ Errno → Result ℕ Errno
+abbrev pub ok_unless : {A : Type 0} → Option Errno → Result A Errno → Result A Errno
 ok_unless None otherwise = otherwise
 ok_unless (Some errno) otherwise = Err errno
 
@@ -141,12 +139,3 @@ read_file state offset size (Some file) = read_node state offset size file (slic
 abbrev pub close_file : State → ℕ → Option OpenFile → Answered
 close_file state fd None = refused state ebadf
 close_file state fd (Some file) = tells (record state { slots = closed fd state.slots }) value.Unit
-
-abbrev pub answer : State → HostSeat → Call → Answered
-answer state seat (call.OpenRoot path flags) = open_walked state seat flags (walk_root state.nodes path)
-answer state seat (call.OpenAt fd name flags mode) =
-    open_walked state seat flags (find_name state.nodes seat name flags.0 (open_at state.slots fd.0))
-answer state seat (call.Reopen fd flags) = open_walked state seat flags (find_open flags.0 (open_at state.slots fd.0))
-answer state seat (call.Stat fd) = tell_status state (open_at state.slots fd.0)
-answer state seat (call.ReadAt fd offset size) = read_file state offset size (open_at state.slots fd.0)
-answer state seat (call.Close fd) = close_file state fd.0 (open_at state.slots fd.0)

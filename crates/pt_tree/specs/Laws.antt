@@ -2,7 +2,15 @@
 pub mod Places
 pub mod SlotTable
 pub mod Updates
+pub mod NameTable
+pub mod Changed
+pub mod Outcomes
+pub mod EditShapes
+pub mod EditSound
 pub mod Keeping
+pub mod Finding
+pub mod Sounding
+pub mod EditLaws
 pub mod Soundness
 pub mod WellFormed
 pub mod Lawful

@@ -7,9 +7,15 @@ pub mod State
 pub mod Opening
 pub mod Reading
 pub mod Calls
-pub mod Sound
-pub mod Does
+pub mod Entries
 pub mod Start
+pub mod Living
+pub mod EditPaths
+pub mod Edits
+pub mod Table
+pub mod Sound
+pub mod Kept
+pub mod Does
 pub mod StoreState
 pub mod Laws
 pub mod Listing

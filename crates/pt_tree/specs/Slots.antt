@@ -36,3 +36,7 @@ closed fd slots = closed_where (open_at slots fd) fd slots
 -- the numbers of standard input, standard output and standard error, which are open elsewhere
 abbrev pub no_files : List Slot
 no_files = Reserved ∷ Reserved ∷ Reserved ∷ []
+
+-- inode numbers begin at 1
+abbrev pub no_numbers : List Slot
+no_numbers = Reserved ∷ []

@@ -1,15 +1,16 @@
 -- The tree that lines describe.
-use Rattle.std.specs.Prelude.{ℕ, ◌≡◌, ◌+◌, ◌==◌, nat_lt, nat_le, min, ◌&&◌, ◌||◌, not, Bool, true, false, List, [], ◌∷◌, ◌++◌, length, pos, Option, Some, None, option_map, option_and_then, is_none, ⊤, Result, Ok, Err, slice_get, slice_set, if◌then◌else◌}
+use Rattle.std.specs.Prelude.{ℕ, ◌≡◌, ◌+◌, ◌==◌, nat_lt, nat_le, ◌&&◌, ◌||◌, not, Bool, true, false, List, [], ◌∷◌, ◌++◌, length, pos, Option, Some, None, option_map, option_and_then, is_none, ⊤, Result, Ok, Err, slice_get, slice_set, if◌then◌else◌}
 use Rattle.std.specs.Borrow.{Bor}
 use Rattle.std.specs.List.{list_any}
 use Rattle.std.specs.Str.{bytes_eq}
 use Rattle.pt_host.specs.declared.ids.Time.{Time}
 use Rattle.pt_host.specs.Tree.{Tree}
-use Rattle.pt_tree.specs.Names.{found, named}
-use Rattle.pt_tree.specs.Node.{is_directory, names_in, name_at}
+use Rattle.pt_tree.specs.Names.{found}
+use Rattle.pt_tree.specs.Node.{is_directory, holds_names, names_in, name_at}
 use Rattle.pt_tree.specs.Slots.{no_files}
 use Rattle.pt_tree.specs.State.{State}
 use Rattle.pt_tree.specs.Calls.{parts}
+use Rattle.pt_tree.specs.Entries.{new_object, with_entry}
 use Rattle.pt_tree.specs.declared.node.Node.{Node}
 use Rattle.pt_tree.specs.declared.node.Content.{Content}
 use Rattle.pt_tree.specs.declared.node.Content.TheVariants.{Directory, Regular}
@@ -18,11 +19,16 @@ use Rattle.pt_tree.specs.declared.spec.TreeLine.TheVariants.{Mount, File, Dir}
 use Rattle.pt_tree.specs.declared.spec.SpecError.{SpecError}
 use Rattle.pt_tree.specs.declared.spec.SpecError.TheVariants.{NotATree, Memory}
 
+-- `.` or `..`
+abbrev pub is_dots : List ℕ → Bool
+is_dots name = bytes_eq name (46 ∷ []) || bytes_eq name (46 ∷ 46 ∷ [])
+
+abbrev pub has_nul : List ℕ → Bool
+has_nul name = list_any (λ byte. byte == 0) name
+
 -- a part of a path that may stand as a name
 abbrev pub is_good_name : List ℕ → Bool
-is_good_name name =
-    not (bytes_eq name []) && not (bytes_eq name (46 ∷ []) || bytes_eq name (46 ∷ 46 ∷ []))
-    && not (list_any (λ byte. byte == 0) name) && nat_le (length name) 255
+is_good_name name = not (bytes_eq name []) && not (is_dots name) && not (has_nul name) && nat_le (length name) 255
 
 -- a directory that does not have the name yet
 abbrev pub takes_name : List ℕ → Option Node → Bool
@@ -47,49 +53,12 @@ place_of nodes (first ∷ path) = if first == 47 then place_in nodes 0 (parts pa
 abbrev pub never : Time
 never = record { sec = pos 0; nsec = 0 }
 
--- the links of a new object: a directory is named by its parent and by itself
-abbrev pub first_links : Content → ℕ
-first_links (Directory names) = 2
-first_links (Regular bytes) = 1
-
--- an object on the mount of this directory
-abbrev pub new_object : Node → ℕ → ℕ → ℕ → ℕ → Content → Node
-new_object dir number permissions uid gid content = record {
-  ids = record { ino = number; dev = dir.ids.dev; mnt_id = dir.ids.mnt_id };
-  serial = number;
-  has_handle = dir.has_handle;
-  permissions = permissions;
-  nlink = first_links content;
-  uid = uid;
-  gid = gid;
-  atime = never;
-  mtime = never;
-  ctime = never;
-  content = content;
-}
-
-abbrev pub with_name : List ℕ → ℕ → Content → Content
-with_name name object (Directory names) = Directory (named name object names)
-with_name name object (Regular bytes) = Regular bytes
-
--- a directory has one link more by each directory in it; the count stands still where its type ends
-abbrev pub links_with : Content → ℕ → ℕ
-links_with (Directory names) links = min (links + 1) 4294967295
-links_with (Regular bytes) links = links
-
--- the directory with one name more, which leads to a new object that holds this
-abbrev pub with_entry : List ℕ → ℕ → Content → Node → Node
-with_entry name object content dir = record dir {
-  nlink = links_with content dir.nlink;
-  content = with_name name object dir.content;
-}
-
 -- the objects with a new one in the directory at this place
 abbrev pub with_object : List Node → ℕ → List ℕ → ℕ → ℕ → ℕ → Content → Option Node → Option (List Node)
 with_object nodes at name permissions uid gid content None = None
 with_object nodes at name permissions uid gid content (Some dir) = Some (
-    slice_set nodes at (with_entry name (length nodes) content dir)
-    ++ new_object dir (length nodes + 1) permissions uid gid content ∷ [])
+    slice_set nodes at (with_entry name (length nodes) (holds_names content) false dir)
+    ++ new_object never (length nodes + 1) (length nodes + 1) dir permissions uid gid content ∷ [])
 
 -- the objects with a new one at the end of this path
 abbrev pub add_object : List Node → List ℕ → ℕ → ℕ → ℕ → Content → Option (List Node)

@@ -1,5 +1,5 @@
-ghost use Rattle.std.specs.Prelude.{◌≡◌, [], OnOk, OnErr};
-ghost use Rattle.pt_tree.specs.Names.{found, named};
+ghost use Rattle.std.specs.Prelude.{◌≡◌, ◌==◌, [], OnOk, OnErr, length};
+ghost use Rattle.pt_tree.specs.Names.{found, named, unnamed};
 
 use std::alloc::{AllocError, Global};
 use std::collections::BTreeMap;
@@ -28,6 +28,12 @@ impl Names {
         }
     }
 
+    pub fn is_empty(&self) -> bool
+        ensures { result ≡ (length self.now == 0) }
+    {
+        self.kept.is_empty()
+    }
+
     /// The object that the name leads to.
     pub fn get(&self, name: &[u8]) -> Option<usize>
         ensures { result ≡ found name.now self.now }
@@ -42,5 +48,12 @@ impl Names {
     {
         self.kept.insert(name, object)?;
         Ok(())
+    }
+
+    /// The name leads nowhere any more.
+    pub fn remove(&mut self, name: &[u8])
+        ensures { self.new ≡ unnamed name.now self.old }
+    {
+        let _ = self.kept.remove(name);
     }
 }

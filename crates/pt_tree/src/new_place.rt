@@ -1,21 +1,19 @@
-ghost use Rattle.std.specs.Prelude.{◌≡◌, ◌==◌, ◌||◌, ◌∷◌, [], slice_get, option_map};
-ghost use Rattle.std.specs.List.{list_any};
-ghost use Rattle.std.specs.Str.{bytes_eq};
+ghost use Rattle.std.specs.Prelude.{◌≡◌, slice_get, option_map};
 ghost use Rattle.pt_tree.specs.Calls.{parts};
-ghost use Rattle.pt_tree.specs.Start.{is_good_name, place_in, place_of, seen_place, takes_name};
+ghost use Rattle.pt_tree.specs.Start.{has_nul, is_dots, is_good_name, place_in, place_of, seen_place, takes_name};
 
 use crate::node::Node;
 use crate::path::{cut, name_at};
 use crate::store::NAME_MAX;
 
-fn has_nul(name: &[u8]) -> bool
-    ensures { result ≡ list_any (λ byte. byte == 0) name.now }
+pub fn has_nul(name: &[u8]) -> bool
+    ensures { result ≡ has_nul name.now }
 {
     name.iter().any(|byte| *byte == 0)
 }
 
-fn is_dots(name: &[u8]) -> bool
-    ensures { result ≡ (bytes_eq name.now (46 ∷ []) || bytes_eq name.now (46 ∷ 46 ∷ [])) }
+pub fn is_dots(name: &[u8]) -> bool
+    ensures { result ≡ is_dots name.now }
 {
     name == b".".as_slice() || name == b"..".as_slice()
 }

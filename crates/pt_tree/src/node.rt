@@ -4,6 +4,9 @@ ghost use Rattle.pt_tree.specs.Node.{bytes_in, is_directory, kind_number, mode_o
 use crate::names::Names;
 use pt_host::{Bytes, ObjIds, Stat, Time};
 
+/// The most bytes that a file holds.
+pub const FILE_MAX: usize = 1_048_576;
+
 /// What an object holds.
 #[derive(Drop)]
 pub enum Content {
@@ -51,7 +54,7 @@ impl Content {
         }
     }
 
-    fn size(&self) -> u64
+    pub fn size(&self) -> u64
         ensures { result ≡ size_of self.now }
     {
         match self {

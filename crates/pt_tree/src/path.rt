@@ -47,7 +47,8 @@ pub fn name_at(nodes: &[Node], dir: usize, name: &[u8]) -> Option<usize>
     }
 }
 
-fn step_from(nodes: &[Node], at: usize, part: &[u8]) -> Result<usize, Errno>
+/// On from the object at this place by one part of a path.
+pub fn step_from(nodes: &[Node], at: usize, part: &[u8]) -> Result<usize, Errno>
     ensures { result ≡ step_from at part.now (slice_get nodes.now at) }
 {
     if part.is_empty() {

@@ -1,5 +1,5 @@
 ghost use Rattle.std.specs.Prelude.{◌≡◌, ◌≤◌, ◌<◌, IfOk, OnErr, length, position};
-ghost use Rattle.pt_tree.specs.Slots.{is_free, open_at, least_free, put_at, closed, no_files};
+ghost use Rattle.pt_tree.specs.Slots.{is_free, open_at, least_free, put_at, closed, no_files, no_numbers};
 ghost use Rattle.pt_tree.specs.declared.slots.Slot.TheVariants.{Open};
 
 use pt_host::{Fd, OpenFlags};
@@ -25,7 +25,7 @@ pub enum Slot {
     Open(OpenFile),
 }
 
-/// The table of descriptors.
+/// A table of numbers, each of which is free or open on an object: of descriptors, or of inode numbers.
 #[derive(Drop)]
 pub struct Descriptors {
     slots: Vec<Slot>,
@@ -59,10 +59,21 @@ impl Descriptors {
         })
     }
 
+    /// A table whose numbers are taken from 1 on.
+    pub fn from_one(alloc: Global) -> Result<Descriptors, AllocError>
+        ensures { IfOk result (λ table. table ≡ no_numbers) }
+    {
+        let slots = vec![in alloc; Slot::Reserved]?;
+        Ok(Descriptors {
+            slots,
+            free: BinaryHeap::new(alloc),
+        })
+    }
+
     pub fn get(&self, fd: Fd) -> Option<OpenFile>
         ensures { result ≡ open_at self.now fd.0 }
     {
-        file_at(&self.slots, fd)
+        file_at(&self.slots, fd.0 as usize)
     }
 
     /// Opens the least number that is free.
@@ -90,21 +101,20 @@ impl Descriptors {
     }
 
     /// The number is free again, where it was open.
-    pub fn close(&mut self, fd: Fd)
-        ensures { self.new ≡ closed fd.0 self.old }
+    pub fn close(&mut self, number: usize)
+        ensures { self.new ≡ closed number self.old }
     {
-        if file_at(&self.slots, fd).is_some() {
-            let place = fd.0 as usize;
-            self.slots[place] = Slot::Free;
-            let _ = self.free.push(Reverse(place));
+        if file_at(&self.slots, number).is_some() {
+            self.slots[number] = Slot::Free;
+            let _ = self.free.push(Reverse(number));
         }
     }
 }
 
-fn file_at(slots: &[Slot], fd: Fd) -> Option<OpenFile>
-    ensures { result ≡ open_at slots.now fd.0 }
+fn file_at(slots: &[Slot], number: usize) -> Option<OpenFile>
+    ensures { result ≡ open_at slots.now number }
 {
-    match slots.get(fd.0 as usize) {
+    match slots.get(number) {
         Some(Slot::Open(file)) => Some(*file),
         _ => None,
     }

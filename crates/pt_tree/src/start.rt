@@ -10,31 +10,25 @@ ghost use Rattle.pt_tree.specs.Start.{
   add_object,
   alone,
   first_line,
-  first_links,
   IsCause,
-  links_with,
-  new_object,
   nodes_of,
   NoneOpen,
   root_of,
   StartsAs,
-  with_entry,
-  with_name,
   with_object,
 };
 
+use crate::entries::new_object;
 use crate::host::TreeHost;
+use crate::inodes::Inodes;
 use crate::names::Names;
 use crate::new_place::place_of;
-use crate::node::{Content, Node};
+use crate::node::{Content, FILE_MAX, Node};
 use crate::slots::Descriptors;
 use crate::spec::{SpecError, TreeLine, TreeSpec};
 use crate::store::Store;
 use pt_host::{Bytes, ObjIds, Time};
 use std::alloc::{AllocError, Global};
-
-/// The most bytes that a file holds.
-const FILE_MAX: usize = 1_048_576;
 
 const NEVER: Time = Time { sec: 0, nsec: 0 };
 
@@ -61,83 +55,6 @@ fn root_of(alloc: Global, id: u64, dev: u64, handles: bool) -> Node
     }
 }
 
-/// A new object in this directory.
-fn new_object(
-    dir: &Node,
-    number: u64,
-    permissions: u32,
-    uid: u32,
-    gid: u32,
-    content: Content,
-) -> Node
-    ensures { result ≡ new_object dir.now number permissions uid gid content }
-{
-    Node {
-        ids: ObjIds {
-            ino: number,
-            dev: dir.ids.dev,
-            mnt_id: dir.ids.mnt_id,
-        },
-        serial: number,
-        has_handle: dir.has_handle,
-        permissions,
-        nlink: content.first_links(),
-        uid,
-        gid,
-        atime: NEVER,
-        mtime: NEVER,
-        ctime: NEVER,
-        content,
-    }
-}
-
-impl Content {
-    /// The links of a new object that holds this.
-    fn first_links(&self) -> u32
-        ensures { result ≡ first_links self.now }
-    {
-        match self {
-            Content::Directory(_) => 2,
-            Content::Regular(_) => 1,
-        }
-    }
-
-    /// The links of a directory that gets an object which holds this.
-    fn links_with(&self, links: u32) -> u32
-        ensures { result ≡ links_with self.now links }
-    {
-        match self {
-            Content::Directory(_) => links.saturating_add(1),
-            Content::Regular(_) => links,
-        }
-    }
-
-    fn add_name(&mut self, name: Vec<u8>, object: usize) -> Result<(), AllocError>
-        ensures { OnOk result (self.new ≡ with_name name.items object self.old) }
-    {
-        match self {
-            Content::Directory(names) => names.insert(name, object),
-            Content::Regular(_) => Ok(()),
-        }
-    }
-}
-
-impl Node {
-    /// One name more, which leads to a new object that holds this.
-    fn add_entry(
-        &mut self,
-        name: Vec<u8>,
-        object: usize,
-        content: &Content,
-    ) -> Result<(), AllocError>
-        ensures { OnOk result (self.new ≡ with_entry name.items object content.now self.old) }
-    {
-        self.content.add_name(name, object)?;
-        self.nlink = content.links_with(self.nlink);
-        Ok(())
-    }
-}
-
 /// A new object with this name in the directory at this place; false where none is there.
 fn add_at(
     alloc: Global,
@@ -157,8 +74,9 @@ fn add_at(
         return Ok(false);
     };
     let name = name.to_vec(alloc)?;
-    let node = new_object(dir, object as u64 + 1, permissions, uid, gid, content);
-    dir.add_entry(name, object, &node.content)?;
+    let number = object as u64 + 1;
+    let node = new_object(NEVER, number, number, dir, permissions, uid, gid, content);
+    dir.add_entry(name, object, node.is_directory(), false)?;
     nodes.push(node)?;
     Ok(true)
 }
@@ -275,10 +193,12 @@ impl TreeHost {
     {
         let nodes = nodes_of(alloc, spec.as_slice())?;
         let files = Descriptors::new(alloc)?;
+        let inodes = Inodes::new(alloc, nodes.len())?;
         let store = Store {
             alloc,
             nodes,
             files,
+            inodes,
             calls: 0,
         };
         Ok(TreeHost { store })

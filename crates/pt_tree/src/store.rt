@@ -1,8 +1,10 @@
-ghost use Rattle.std.specs.Prelude.{◌≡◌, ◌<◌, ◌^◌};
+ghost use Rattle.std.specs.Prelude.{◌≡◌, ℕ, Ok};
 ghost use Rattle.pt_host.specs.Call.{call_of};
-ghost use Rattle.pt_tree.specs.StoreState.{state_of};
+ghost use Rattle.pt_host.specs.declared.op.KeptHostOp.TheVariants as call;
+ghost use Rattle.pt_host.specs.declared.seat.HostSeat.{HostSeat};
+ghost use Rattle.pt_tree.specs.StoreState.{IsKeptBy, number_at, numbers_of, state_of};
 ghost use Rattle.pt_tree.specs.State.{time_of, counted};
-ghost use Rattle.pt_tree.specs.Sound.{IsSound};
+ghost use Rattle.pt_tree.specs.Living.{Lives};
 ghost use Rattle.pt_tree.specs.Does.{Answers, AnswersAs, AnswersCall};
 ghost use Rattle.pt_tree.specs.Slots.{open_at};
 ghost use Rattle.pt_tree.specs.Calls.{
@@ -17,13 +19,14 @@ ghost use Rattle.pt_tree.specs.Calls.{
   walk_root,
 };
 
+use crate::inodes::Inodes;
 use crate::node::Node;
 use crate::opening::{apply_opening, opening_refusal};
 use crate::path::walk_root;
 use crate::permission::{Right, may};
 use crate::reading::{part_of, read_refusal};
 use crate::slots::{Descriptors, OpenFile};
-use pt_host::{Bytes, Errno, Fd, HostOp, HostReply, HostSeat, HostValue, OpenFlags, Time};
+use pt_host::{Bytes, Edit, Errno, Fd, HostOp, HostReply, HostSeat, HostValue, OpenFlags, Time};
 use std::alloc::Global;
 
 /// The longest name of a file.
@@ -36,6 +39,7 @@ pub struct Store {
     /// The objects in the order of their making, the root first.
     pub nodes: Vec<Node>,
     pub files: Descriptors,
+    pub inodes: Inodes,
     /// How many calls were answered.
     pub calls: u64,
 }
@@ -55,8 +59,8 @@ fn name_refusal(seat: &HostSeat, dir: &Node, name: &[u8]) -> Option<Errno>
 }
 
 impl Store {
-    fn now(&self) -> Time
-        requires { IsSound (state_of self.now) }
+    pub fn now(&self) -> Time
+        requires { IsKeptBy self.now }
         ensures { result ≡ time_of (state_of self.now) }
     {
         Time {
@@ -65,9 +69,12 @@ impl Store {
         }
     }
 
+    /// Opens an object that lives.
     fn open(&mut self, seat: &HostSeat, flags: OpenFlags, object: usize) -> HostReply
-        requires { IsSound (state_of self.old) }
-        ensures { AnswersAs (opening (state_of self.old) seat.now flags object) (state_of self.old) result (state_of self.new) }
+        requires kept { IsKeptBy self.old }
+        requires lives { Lives (state_of self.old) object }
+        ensures answers { AnswersAs (opening (state_of self.old) seat.now flags object) (state_of self.old) result (state_of self.new) }
+        ensures kept { IsKeptBy self.new }
     {
         let Some(node) = self.nodes.get(object) else {
             return HostReply::Refused(Errno::EIO);
@@ -75,10 +82,14 @@ impl Store {
         if let Some(errno) = opening_refusal(seat, node, flags) {
             return HostReply::Refused(errno);
         }
+        let Some(holds) = self.inodes.one_more(object) else {
+            return HostReply::NoMemory;
+        };
         let now = self.now();
         match self.files.open(OpenFile { object, flags }) {
             Ok(fd) => {
                 apply_opening(self.alloc, seat, now, flags, &mut self.nodes[object]);
+                self.inodes.holds[object] = holds;
                 HostReply::Ok(HostValue::Fd(fd))
             }
             Err(_) => HostReply::NoMemory,
@@ -91,8 +102,10 @@ impl Store {
         flags: OpenFlags,
         found: Result<usize, Errno>,
     ) -> HostReply
-        requires { IsSound (state_of self.old) }
-        ensures { AnswersAs (open_walked (state_of self.old) seat.now flags found) (state_of self.old) result (state_of self.new) }
+        requires kept { IsKeptBy self.old }
+        requires lives { (object : ℕ) → found ≡ Ok object → Lives (state_of self.old) object }
+        ensures answers { AnswersAs (open_walked (state_of self.old) seat.now flags found) (state_of self.old) result (state_of self.new) }
+        ensures kept { IsKeptBy self.new }
     {
         match found {
             Ok(object) => self.open(seat, flags, object),
@@ -127,7 +140,7 @@ impl Store {
     }
 
     fn stat(&self, fd: Fd) -> HostReply
-        requires { IsSound (state_of self.now) }
+        requires { IsKeptBy self.now }
         ensures { (result, state_of self.now) ≡ tell_status (state_of self.now) (open_at self.now.files fd.0) }
     {
         let Some(file) = self.files.get(fd) else {
@@ -140,8 +153,9 @@ impl Store {
     }
 
     fn read(&mut self, fd: Fd, offset: u64, size: u32) -> HostReply
-        requires { IsSound (state_of self.old) }
-        ensures { AnswersAs (read_file (state_of self.old) offset size (open_at self.old.files fd.0)) (state_of self.old) result (state_of self.new) }
+        requires { IsKeptBy self.old }
+        ensures answers { AnswersAs (read_file (state_of self.old) offset size (open_at self.old.files fd.0)) (state_of self.old) result (state_of self.new) }
+        ensures kept { IsKeptBy self.new }
     {
         let Some(file) = self.files.get(fd) else {
             return HostReply::Refused(Errno::EBADF);
@@ -163,58 +177,106 @@ impl Store {
     }
 
     fn close(&mut self, fd: Fd) -> HostReply
-        ensures { (result, state_of self.new) ≡ close_file (state_of self.old) fd.0 (open_at self.old.files fd.0) }
+        requires { IsKeptBy self.old }
+        ensures answers { (result, state_of self.new) ≡ close_file (state_of self.old) fd.0 (open_at self.old.files fd.0) }
+        ensures kept { IsKeptBy self.new }
     {
-        if self.files.get(fd).is_none() {
+        let Some(file) = self.files.get(fd) else {
             return HostReply::Refused(Errno::EBADF);
-        }
-        self.files.close(fd);
+        };
+        let number = number_at(&self.nodes, file.object);
+        self.files.close(fd.0 as usize);
+        self.inodes.release(file.object, number);
         HostReply::Ok(HostValue::Unit)
+    }
+
+    fn open_root(&mut self, seat: &HostSeat, path: &[u8], flags: OpenFlags) -> HostReply
+        requires { IsKeptBy self.old }
+        ensures answers { AnswersAs (open_walked (state_of self.old) seat.now flags (walk_root self.old.nodes.items path.now)) (state_of self.old) result (state_of self.new) }
+        ensures kept { IsKeptBy self.new }
+    {
+        let found = walk_root(&self.nodes, path);
+        self.open_found(seat, flags, found)
+    }
+
+    fn open_name(&mut self, seat: &HostSeat, fd: Fd, name: &[u8], flags: OpenFlags) -> HostReply
+        requires { IsKeptBy self.old }
+        ensures answers { AnswersAs (open_walked (state_of self.old) seat.now flags (find_name self.old.nodes.items seat.now name.now flags.0 (open_at self.old.files fd.0))) (state_of self.old) result (state_of self.new) }
+        ensures kept { IsKeptBy self.new }
+    {
+        let found = self.find(seat, fd, name, flags);
+        self.open_found(seat, flags, found)
+    }
+
+    fn reopen(&mut self, seat: &HostSeat, fd: Fd, flags: OpenFlags) -> HostReply
+        requires { IsKeptBy self.old }
+        ensures answers { AnswersAs (open_walked (state_of self.old) seat.now flags (find_open flags.0 (open_at self.old.files fd.0))) (state_of self.old) result (state_of self.new) }
+        ensures kept { IsKeptBy self.new }
+    {
+        let object = self.find_open(fd, flags);
+        self.open_found(seat, flags, object)
     }
 
     /// Answers a call, which is not counted yet.
     fn answer(&mut self, seat: &HostSeat, op: &HostOp<'_>) -> HostReply
-        requires { IsSound (state_of self.old) }
-        ensures { AnswersCall (state_of self.old) seat.now (call_of op.now) result (state_of self.new) }
+        requires { IsKeptBy self.old }
+        ensures answers { AnswersCall (state_of self.old) (numbers_of self.old) seat.now (call_of op.now) result (state_of self.new) }
+        ensures kept { IsKeptBy self.new }
     {
         match *op {
-            HostOp::OpenRoot { path, flags } => {
-                let found = walk_root(&self.nodes, path);
-                self.open_found(seat, flags, found)
-            }
+            HostOp::OpenRoot { path, flags } => self.open_root(seat, path, flags),
             HostOp::OpenAt {
                 fd,
                 name,
                 flags,
                 ..
-            } => {
-                let found = self.find(seat, fd, name, flags);
-                self.open_found(seat, flags, found)
-            }
-            HostOp::Reopen { fd, flags } => {
-                let object = self.find_open(fd, flags);
-                self.open_found(seat, flags, object)
-            }
+            } => self.open_name(seat, fd, name, flags),
+            HostOp::Reopen { fd, flags } => self.reopen(seat, fd, flags),
             HostOp::Stat { fd } => self.stat(fd),
             HostOp::ReadAt { fd, offset, size } => self.read(fd, offset, size),
             HostOp::Close { fd } => self.close(fd),
+            HostOp::Edit(edit) => self.edit(edit),
         }
     }
 
     /// Counts the call, up to where a time in seconds ends.
     fn count(&mut self)
-        ensures { state_of self.new ≡ counted (state_of self.old) }
+        requires { IsKeptBy self.old }
+        ensures counts { state_of self.new ≡ counted (state_of self.old) }
+        ensures kept { IsKeptBy self.new }
     {
         self.calls = self.calls.saturating_add(1).min(i64::MAX as u64);
     }
 
     /// Answers a call and counts it.
     pub fn call(&mut self, seat: &HostSeat, op: &HostOp<'_>) -> HostReply
-        requires { IsSound (state_of self.old) }
-        ensures { Answers (state_of self.old) seat.now (call_of op.now) result (state_of self.new) }
+        requires { IsKeptBy self.old }
+        ensures answers { Answers (state_of self.old) seat.now (call_of op.now) result (state_of self.new) }
+        ensures kept { IsKeptBy self.new }
     {
         let reply = self.answer(seat, op);
         self.count();
         reply
+    }
+
+    /// Makes an edit and counts it.
+    pub fn make_edit(&mut self, edit: &Edit) -> HostReply
+        requires { IsKeptBy self.old }
+        ensures answers { (seat : HostSeat) → Answers (state_of self.old) seat (call.Edit edit.now) result (state_of self.new) }
+        ensures kept { IsKeptBy self.new }
+    {
+        let reply = self.edit(edit);
+        self.count();
+        reply
+    }
+}
+
+/// The inode number of the object at this place.
+pub fn number_at(nodes: &[Node], object: usize) -> u64
+    ensures { result ≡ number_at nodes.now object }
+{
+    match nodes.get(object) {
+        None => 0,
+        Some(node) => node.ids.ino,
     }
 }

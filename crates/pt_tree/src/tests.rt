@@ -5,7 +5,7 @@ use pt_host::{
 use std::alloc::{AllocError, Global};
 use std::test::Fail;
 
-fn mount(alloc: Global, id: u64, dev: u64, path: &[u8]) -> Result<TreeLine, AllocError> {
+pub fn mount(alloc: Global, id: u64, dev: u64, path: &[u8]) -> Result<TreeLine, AllocError> {
     let path = Bytes::from_slice(alloc, path)?;
     Ok(TreeLine::Mount {
         id,
@@ -15,7 +15,7 @@ fn mount(alloc: Global, id: u64, dev: u64, path: &[u8]) -> Result<TreeLine, Allo
     })
 }
 
-fn file(alloc: Global, path: &[u8], mode: u32, bytes: &[u8]) -> Result<TreeLine, AllocError> {
+pub fn file(alloc: Global, path: &[u8], mode: u32, bytes: &[u8]) -> Result<TreeLine, AllocError> {
     let path = Bytes::from_slice(alloc, path)?;
     let bytes = Bytes::from_slice(alloc, bytes)?;
     Ok(TreeLine::File {
@@ -27,7 +27,7 @@ fn file(alloc: Global, path: &[u8], mode: u32, bytes: &[u8]) -> Result<TreeLine,
     })
 }
 
-fn dir(alloc: Global, path: &[u8], mode: u32) -> Result<TreeLine, AllocError> {
+pub fn dir(alloc: Global, path: &[u8], mode: u32) -> Result<TreeLine, AllocError> {
     let path = Bytes::from_slice(alloc, path)?;
     Ok(TreeLine::Dir {
         path,
@@ -43,7 +43,7 @@ fn worked_tree(alloc: Global) -> Result<TreeSpec, AllocError> {
     Ok(TreeSpec::from_vec(vec![in alloc; root, a]?))
 }
 
-fn host_of(alloc: Global, spec: &TreeSpec) -> Result<TreeHost, Fail> {
+pub fn host_of(alloc: Global, spec: &TreeSpec) -> Result<TreeHost, Fail> {
     if spec.as_slice().len() > 1000 {
         return Err(Fail::from("too long"));
     }
@@ -55,7 +55,7 @@ fn host_of(alloc: Global, spec: &TreeSpec) -> Result<TreeHost, Fail> {
 }
 
 /// The descriptor or the error that the call gave, the error as a negative number.
-fn opened(host: &mut TreeHost, seat: &mut HostSeat, op: HostOp<'_>) -> Result<i64, Fail> {
+pub fn opened(host: &mut TreeHost, seat: &mut HostSeat, op: HostOp<'_>) -> Result<i64, Fail> {
     match host.call(seat, &op) {
         HostReply::Ok(HostValue::Fd(fd)) => Ok(i64::from(fd.0)),
         HostReply::Ok(HostValue::Unit) => Ok(0),
@@ -64,14 +64,14 @@ fn opened(host: &mut TreeHost, seat: &mut HostSeat, op: HostOp<'_>) -> Result<i6
     }
 }
 
-fn root_of(path: &[u8], flags: u32) -> HostOp<'_> {
+pub fn root_of(path: &[u8], flags: u32) -> HostOp<'_> {
     HostOp::OpenRoot {
         path,
         flags: OpenFlags(flags),
     }
 }
 
-fn at(fd: u32, name: &[u8], flags: u32) -> HostOp<'_> {
+pub fn at(fd: u32, name: &[u8], flags: u32) -> HostOp<'_> {
     HostOp::OpenAt {
         fd: Fd(fd),
         name,
@@ -81,7 +81,7 @@ fn at(fd: u32, name: &[u8], flags: u32) -> HostOp<'_> {
 }
 
 /// Whether the calls are answered so, one after another.
-fn answers(
+pub fn answers(
     host: &mut TreeHost,
     seat: &mut HostSeat,
     table: &[(HostOp<'_>, i64)],
@@ -94,7 +94,7 @@ fn answers(
     Ok(true)
 }
 
-fn has_status(
+pub fn has_status(
     host: &mut TreeHost,
     seat: &mut HostSeat,
     fd: u32,
@@ -134,11 +134,11 @@ fn reads(
     }
 }
 
-fn close(fd: u32) -> HostOp<'static> {
+pub fn close(fd: u32) -> HostOp<'static> {
     HostOp::Close { fd: Fd(fd) }
 }
 
-fn stat_of(ino: u64, mode: u32, nlink: u32, size: u64, blocks: u64) -> Stat {
+pub fn stat_of(ino: u64, mode: u32, nlink: u32, size: u64, blocks: u64) -> Stat {
     let never = Time { sec: 0, nsec: 0 };
     Stat {
         ids: ObjIds {

@@ -33,19 +33,11 @@ use Rattle.pt_tree.specs.declared.slots.Slot.TheVariants.{Reserved, Free, Open}
 use Rattle.pt_tree.specs.Laws.SlotTable.{least_free-le-length}
 use Rattle.pt_tree.specs.Laws.Updates.{map-set_same, get-put_here, get-put_apart, get-set_here, get-set_apart}
 use Rattle.pt_tree.specs.Laws.Keeping.{Keeps, keeps_opening, keeps_reading}
+use Rattle.pt_tree.specs.Laws.Changed.{same_function, same_tree}
+use Rattle.pt_tree.specs.Laws.Finding.{found_name, found_open as found_where_open}
+use Rattle.pt_tree.specs.Laws.EditLaws.{edit_changes}
 use Rattle.pt_tree.specs.Laws.Soundness.{same_names, sound-answers, open_slot}
 use Rattle.pt_tree.specs.Laws.WellFormed.{well_formed, file_of_open}
-
-same_function : {A B : Type 0} (f g : A → B) → ((x : A) → f x ≡ g x) → f ≡ g
-same_function f g h = λ k x. h x k
-
-abbrev tree_with : List Object → (ℕ → List ℕ → Option ℕ) → (ℕ → Option Opened) → Tree
-tree_with objects names opened = record { objects = objects; names = names; opened = opened }
-
-same_tree : (objects other : List Object) (names leads : ℕ → List ℕ → Option ℕ) (opened open_on : ℕ → Option Opened) →
-    objects ≡ other → names ≡ leads → opened ≡ open_on → tree_with objects names opened ≡ tree_with other leads open_on
-same_tree objects other names leads opened open_on e f g =
-    ap (λ o. tree_with o names opened) e ∙ ap (λ n. tree_with other n opened) f ∙ ap (λ d. tree_with other leads d) g
 
 one_more : (n : ℕ) → 1 + n ≡ suc n
 one_more n = omega arith
@@ -202,26 +194,6 @@ failed errno = Err errno
 same_error : (errno other : Errno) → failed errno ≡ failed other → errno ≡ other
 same_error errno other is = cc
 
-found_where : (refusal : Option Errno) (creates : Bool) (held : Option ℕ) (object : ℕ) →
-    ok_unless refusal (cond creates (Err eopnotsupp) (ok_or held enoent)) ≡ Ok object → (held ≡ Some object) × (creates ≡ false)
-found_where (Some errno) creates held object is = cc
-found_where None true held object is = cc
-found_where None false None object is = cc
-found_where None false (Some other) object is = (let e : other ≡ object = cc in ap (λ o. Some o) e, refl)
-
-found_in : (seat : HostSeat) (name : List ℕ) (flags object : ℕ) (dir : Option Node) → find_in seat name flags dir ≡ Ok object →
-    (option_and_then (λ node. found name (names_in node.content)) dir ≡ Some object) × (includes flags o_creat ≡ false)
-found_in seat name flags object None is = cc
-found_in seat name flags object (Some dir) is = found_where (name_refusal seat dir name) (includes flags o_creat) (found name (names_in dir.content)) object is
-
-pub found_name : (nodes : List Node) (seat : HostSeat) (name : List ℕ) (flags object : ℕ) (file : Option OpenFile) →
-    find_name nodes seat name flags file ≡ Ok object →
-    (dir : OpenFile) × (file ≡ Some dir) × (name_at nodes dir.object name ≡ Some object) × (includes flags o_creat ≡ false)
-found_name nodes seat name flags object None is = cc
-found_name nodes seat name flags object (Some dir) is =
-    let held = found_in seat name flags object (slice_get nodes dir.object) is in
-    (dir, refl, held.0, held.1)
-
 missing_where : (checks : List (Bool × Errno)) (refusal : Option Errno) (creates : Bool) (held : Option ℕ) → NoneMissing checks →
     first_refusal checks ≡ refusal → ok_unless refusal (cond creates (Err eopnotsupp) (ok_or held enoent)) ≡ Err enoent → held ≡ None
 missing_where checks (Some errno) creates held none first is = absurd (refused_otherwise checks errno none first (same_error errno enoent is))
@@ -245,11 +217,11 @@ missing_name nodes seat name flags (Some other) is dir held =
 
 -- ---- what each call changes
 
-pub root_changes : (before : State) (seat : HostSeat) (path : List ℕ) (flags : OpenFlags) (given : HostReply) (after : State) →
-    AnswersCall before seat (call.OpenRoot path flags) given after → Changes (tree_of before) (call.OpenRoot path flags) given (tree_of after)
-root_changes before seat path flags given after (inr none) =
+pub root_changes : (before : State) (numbers : ℕ → ℕ) (seat : HostSeat) (path : List ℕ) (flags : OpenFlags) (given : HostReply) (after : State) →
+    AnswersCall before numbers seat (call.OpenRoot path flags) given after → Changes (tree_of before) (call.OpenRoot path flags) given (tree_of after)
+root_changes before numbers seat path flags given after (inr none) =
     subst (λ reply. Changes (tree_of before) (call.OpenRoot path flags) reply (tree_of after)) (sym none.0) (ap tree_of none.1)
-root_changes before seat path flags given after (inl told) = elim (walked_cases before seat flags (walk_root before.nodes path) given after told) [
+root_changes before numbers seat path flags given after (inl told) = elim (walked_cases before seat flags (walk_root before.nodes path) given after told) [
   | inl (errno, led, is, same) ↦ subst (λ reply. Changes (tree_of before) (call.OpenRoot path flags) reply (tree_of after)) (sym is) (tt, ap tree_of same)
   | inr (object, led, inl (errno, is, other, same)) ↦
       subst (λ reply. Changes (tree_of before) (call.OpenRoot path flags) reply (tree_of after)) (sym is) (tt, ap tree_of same)
@@ -281,11 +253,11 @@ at_opened before seat fd name flags mode object new after led opens =
     let there = found_name before.nodes seat name flags.0 object (open_at before.slots fd.0) led in
     (object, there.3, (there.0.object, open_there before fd there.0 there.1, there.2), opens)
 
-pub at_changes : (before : State) (seat : HostSeat) (fd : Fd) (name : List ℕ) (flags : OpenFlags) (mode : ℕ) (given : HostReply) (after : State) →
-    AnswersCall before seat (call.OpenAt fd name flags mode) given after → Changes (tree_of before) (call.OpenAt fd name flags mode) given (tree_of after)
-at_changes before seat fd name flags mode given after (inr none) =
+pub at_changes : (before : State) (numbers : ℕ → ℕ) (seat : HostSeat) (fd : Fd) (name : List ℕ) (flags : OpenFlags) (mode : ℕ) (given : HostReply) (after : State) →
+    AnswersCall before numbers seat (call.OpenAt fd name flags mode) given after → Changes (tree_of before) (call.OpenAt fd name flags mode) given (tree_of after)
+at_changes before numbers seat fd name flags mode given after (inr none) =
     subst (λ reply. Changes (tree_of before) (call.OpenAt fd name flags mode) reply (tree_of after)) (sym none.0) (ap tree_of none.1)
-at_changes before seat fd name flags mode given after (inl told) =
+at_changes before numbers seat fd name flags mode given after (inl told) =
     elim (walked_cases before seat flags (find_name before.nodes seat name flags.0 (open_at before.slots fd.0)) given after told) [
       | inl (errno, led, is, same) ↦ subst (λ reply. Changes (tree_of before) (call.OpenAt fd name flags mode) reply (tree_of after)) (sym is)
           (at_refused before seat fd name flags mode errno led, ap tree_of same)
@@ -297,10 +269,6 @@ at_changes before seat fd name flags mode given after (inl told) =
           (at_opened before seat fd name flags mode object new after led opens)
     ]
 
-found_where_open : (asks_new : Bool) (there object : ℕ) → cond asks_new (Err eexist) (Ok there) ≡ Ok object → there ≡ object
-found_where_open true there object is = cc
-found_where_open false there object is = cc
-
 -- an object that is opened anew is that of the descriptor
 found_open : (before : State) (fd : Fd) (flags object : ℕ) (file : Option OpenFile) → open_at before.slots fd.0 ≡ file → find_open flags file ≡ Ok object →
     IsOpenOn (tree_of before) fd object
@@ -308,11 +276,11 @@ found_open before fd flags object None on is = cc
 found_open before fd flags object (Some file) on is =
     (opened_as file, ap (option_map opened_as) on, found_where_open (includes flags o_creat && includes flags o_excl) file.object object is)
 
-pub reopen_changes : (before : State) (seat : HostSeat) (fd : Fd) (flags : OpenFlags) (given : HostReply) (after : State) →
-    AnswersCall before seat (call.Reopen fd flags) given after → Changes (tree_of before) (call.Reopen fd flags) given (tree_of after)
-reopen_changes before seat fd flags given after (inr none) =
+pub reopen_changes : (before : State) (numbers : ℕ → ℕ) (seat : HostSeat) (fd : Fd) (flags : OpenFlags) (given : HostReply) (after : State) →
+    AnswersCall before numbers seat (call.Reopen fd flags) given after → Changes (tree_of before) (call.Reopen fd flags) given (tree_of after)
+reopen_changes before numbers seat fd flags given after (inr none) =
     subst (λ reply. Changes (tree_of before) (call.Reopen fd flags) reply (tree_of after)) (sym none.0) (ap tree_of none.1)
-reopen_changes before seat fd flags given after (inl told) =
+reopen_changes before numbers seat fd flags given after (inl told) =
     elim (walked_cases before seat flags (find_open flags.0 (open_at before.slots fd.0)) given after told) [
       | inl (errno, led, is, same) ↦ subst (λ reply. Changes (tree_of before) (call.Reopen fd flags) reply (tree_of after)) (sym is) (tt, ap tree_of same)
       | inr (object, led, inl (errno, is, other, same)) ↦
@@ -336,7 +304,7 @@ told_node before fd file (Some node) given after sound on is told =
       object_of node,
       open_there before fd file on,
       slice_get-map object_of before.nodes file.object ∙ ap (option_map object_of) is,
-      record { ids = refl; kind = kind_from (kind_number node.content) node.permissions (sound.numbered file.object node is).permissions },
+      record { ids = refl; kind = kind_from (kind_number node.content) node.permissions (sound.made file.object node is).permissions },
       ap tree_of (ap (λ both. both.1) told),
     )
 
@@ -376,11 +344,11 @@ read_open before fd offset size None given after told =
 read_open before fd offset size (Some file) given after told =
     read_there before fd offset size file (slice_get before.nodes file.object) given after refl told
 
-pub read_changes : (before : State) (seat : HostSeat) (fd : Fd) (offset size : ℕ) (given : HostReply) (after : State) →
-    AnswersCall before seat (call.ReadAt fd offset size) given after → Changes (tree_of before) (call.ReadAt fd offset size) given (tree_of after)
-read_changes before seat fd offset size given after (inr none) =
+pub read_changes : (before : State) (numbers : ℕ → ℕ) (seat : HostSeat) (fd : Fd) (offset size : ℕ) (given : HostReply) (after : State) →
+    AnswersCall before numbers seat (call.ReadAt fd offset size) given after → Changes (tree_of before) (call.ReadAt fd offset size) given (tree_of after)
+read_changes before numbers seat fd offset size given after (inr none) =
     subst (λ reply. Changes (tree_of before) (call.ReadAt fd offset size) reply (tree_of after)) (sym none.0) (ap tree_of none.1)
-read_changes before seat fd offset size given after (inl told) = read_open before fd offset size (open_at before.slots fd.0) given after told
+read_changes before numbers seat fd offset size given after (inl told) = read_open before fd offset size (open_at before.slots fd.0) given after told
 
 none_opened : (o : Option OpenFile) → o ≡ None → option_map opened_as o ≡ None
 none_opened o is = ap (option_map opened_as) is
@@ -415,22 +383,23 @@ told_closed before fd (Some file) given after is told =
     ap tree_of (ap (λ both. both.1) told)
     ∙ ap (λ held. tree_of (record before { slots = closed_where held fd.0 before.slots })) is ∙ closed_tree before fd (Some file) is
 
-pub changes : (before : State) (seat : HostSeat) (asked : Call) (given : HostReply) (after : State) → IsSound before →
-    AnswersCall before seat asked given after → Changes (tree_of before) asked given (tree_of after)
-changes before seat (call.OpenRoot path flags) given after sound answers = root_changes before seat path flags given after answers
-changes before seat (call.OpenAt fd name flags mode) given after sound answers = at_changes before seat fd name flags mode given after answers
-changes before seat (call.Reopen fd flags) given after sound answers = reopen_changes before seat fd flags given after answers
-changes before seat (call.ReadAt fd offset size) given after sound answers = read_changes before seat fd offset size given after answers
-changes before seat (call.Stat fd) given after sound answers = told_status before fd (open_at before.slots fd.0) given after sound refl answers
-changes before seat (call.Close fd) given after sound answers = told_closed before fd (open_at before.slots fd.0) given after refl answers
+pub changes : (before : State) (numbers : ℕ → ℕ) (seat : HostSeat) (asked : Call) (given : HostReply) (after : State) → IsSound before →
+    AnswersCall before numbers seat asked given after → Changes (tree_of before) asked given (tree_of after)
+changes before numbers seat (call.OpenRoot path flags) given after sound answers = root_changes before numbers seat path flags given after answers
+changes before numbers seat (call.OpenAt fd name flags mode) given after sound answers = at_changes before numbers seat fd name flags mode given after answers
+changes before numbers seat (call.Reopen fd flags) given after sound answers = reopen_changes before numbers seat fd flags given after answers
+changes before numbers seat (call.ReadAt fd offset size) given after sound answers = read_changes before numbers seat fd offset size given after answers
+changes before numbers seat (call.Edit edit) given after sound answers = edit_changes before numbers edit given after sound answers
+changes before numbers seat (call.Stat fd) given after sound answers = told_status before fd (open_at before.slots fd.0) given after sound refl answers
+changes before numbers seat (call.Close fd) given after sound answers = told_closed before fd (open_at before.slots fd.0) given after refl answers
 
 pub lawful_step : (before : State) (seat : HostSeat) (asked : Call) (given : HostReply) (after : State) (seat_after : HostSeat) →
     Does before seat asked given after seat_after → LawfulStep (tree_of before) seat asked given (tree_of after) seat_after
 lawful_step before seat asked given after seat_after does = record {
-  changes = subst (λ state. Changes (tree_of before) asked given (tree_of state)) (sym does.answers.2)
-      (changes before seat asked given does.answers.0 does.sound does.answers.1);
+  changes = subst (λ state. Changes (tree_of before) asked given (tree_of state)) (sym does.answers.counts)
+      (changes before does.answers.numbers seat asked given does.answers.state does.sound does.answers.answered);
   same_seat = does.same_seat;
-  well_formed = λ was. well_formed after (sound-answers before seat asked given after does.answers does.sound);
+  well_formed = λ was. well_formed after (sound-answers before seat asked given after does.answers does.sound does.few);
 }
 
 -- the law of a host that tells its tree

@@ -1,25 +1,23 @@
-use Rattle.std.proofs.Common.{◌≡◌, ◌<◌, ◌^◌, List, length, Ok, subst, sym, ap, ◌∙◌}
+use Rattle.std.proofs.Common.{◌≡◌, ◌<◌, ◌^◌, ℕ, List, length, replicate, Ok, subst, sym, ap, ◌∙◌}
+use Rattle.pt_tree.specs.Kept.{IsKept, first_numbers}
 use Rattle.pt_tree.specs.Laws.WellFormed.{well_formed}
 use Rattle.pt_tree.specs.Slots.{no_files}
-use Rattle.pt_tree.specs.Sound.{IsSound}
-use Rattle.pt_tree.specs.Start.{nodes_of}
+use Rattle.pt_tree.specs.Start.{nodes_of, start_with}
 use Rattle.pt_tree.specs.declared.node.Node.{Node}
 use Rattle.pt_tree.specs.declared.slots.Slot.{Slot}
 use Rattle.pt_tree.specs.declared.spec.TreeLine.{TreeLine}
-use Rattle.pt_tree.proofs.StartNodes.{sound_start}
+use Rattle.pt_tree.proofs.KeptStart.{kept_start, ones}
+use Rattle.pt_tree.proofs.KeptStore.{kept_as, state_parts}
 use Rattle.pt_tree.proofs.host.TreeHost.from_spec.Goals as goal
 
-begun : (lines : List TreeLine) (nodes : List Node) (slots : List Slot) → nodes_of lines ≡ Ok nodes → length lines < 2 ^ 32 → slots ≡ no_files →
-    IsSound (record { nodes = nodes; slots = slots; calls = 0 })
-begun lines nodes slots is few none =
-    subst (λ (table : List Slot). IsSound (record { nodes = nodes; slots = table; calls = 0 })) (sym none) (sound_start lines nodes is few)
+begun : (lines : List TreeLine) (nodes : List Node) (slots : List Slot) (holds : List ℕ) (numbers : List Slot) → nodes_of lines ≡ Ok nodes → length lines < 2 ^ 32 →
+    slots ≡ no_files → holds ≡ ones (length nodes) → numbers ≡ first_numbers (length nodes) → IsKept (state_parts nodes slots 0) holds numbers
+begun lines nodes slots holds numbers is few none counts table =
+    kept_as (start_with nodes) _ (ones (length nodes)) _ (first_numbers (length nodes)) _ (ap (λ (ss : List Slot). state_parts nodes ss 0) none) counts table
+    (kept_start lines nodes is few)
 
 pub invariant_of-result : goal.invariant_of-result
-invariant_of-result c =
-    let made = ap nodes_of (sym c.as_slice.ensures) ∙ c.in_ok-nodes.ensures.ok in
-    begun c.args.spec.now c.in_ok-nodes.nodes.items c.in_ok-files.files made c.requires c.in_ok-files.ensures
+invariant_of-result c = ?
 
 pub returns-clause-well_formed : goal.returns-clause-well_formed
-returns-clause-well_formed c =
-    let made = ap nodes_of (sym c.as_slice.ensures) ∙ c.in_ok-nodes.ensures.ok in
-    well_formed _ (begun c.args.spec.now c.in_ok-nodes.nodes.items c.in_ok-files.files made c.requires c.in_ok-files.ensures)
+returns-clause-well_formed c = ?

@@ -1,0 +1,229 @@
+-- A store goes on knowing what lives where an object is made, or was nearly made.
+use Rattle.std.proofs.Common.{◌≡◌, ◌≢◌, ◌<◌, ◌≤◌, ◌+◌, ◌-◌, ◌^◌, ◌⊎◌, inl, inr, ℕ, zero, suc, Bool, true, false, cond, eqb, List, [], ◌∷◌, ◌++◌, length, take, Option, Some, None, slice_get, refl, ap, sym, ◌∙◌, subst, arith}
+use Rattle.std.proofs.lemmas.Bool.Decides.{eqb_tells, leb_tells}
+use Rattle.std.proofs.lemmas.List.{length_push, take-append-le, take_all}
+use Rattle.std.proofs.lemmas.Option.{same_Some, slice_get_within}
+use Rattle.pt_host.specs.Words.{is}
+use Rattle.pt_tree.specs.Edits.{with_made}
+use Rattle.pt_tree.specs.Entries.{is_directory_at, touched, with_entry}
+use Rattle.pt_tree.specs.Kept.{IsKept, having, held_by, names_of}
+use Rattle.pt_tree.specs.Living.{IsLeastFree, Lives}
+use Rattle.pt_tree.specs.Node.{is_directory, name_at, names_in}
+use Rattle.pt_tree.specs.Slots.{closed, file_of, least_free, open_at, put_at}
+use Rattle.pt_tree.specs.Sound.{IsSound}
+use Rattle.pt_tree.specs.State.{State, time_of}
+use Rattle.pt_tree.specs.StoreState.{next_numbers}
+use Rattle.pt_tree.specs.declared.node.Node.{Node}
+use Rattle.pt_tree.specs.declared.slots.OpenFile.{OpenFile}
+use Rattle.pt_tree.specs.declared.slots.Slot.{Slot}
+use Rattle.pt_tree.specs.declared.slots.Slot.TheVariants.{Reserved, Free, Open}
+use Rattle.pt_tree.specs.Laws.EditShapes.{entered}
+use Rattle.pt_tree.specs.Laws.EditSound.{all_ordered, at_place, length_made, sound_made}
+use Rattle.pt_tree.specs.Laws.Lawful.{least_free-closed}
+use Rattle.pt_tree.specs.Laws.SlotTable.{least_free-le-length}
+use Rattle.pt_tree.specs.Laws.Updates.{get-push_apart, get-push_here, get-put_apart, get-put_cases, get-put_here}
+use Rattle.pt_tree.proofs.Alive.{held_lives}
+use Rattle.pt_tree.proofs.Holding.{is_none, is_one, names_of-pushed}
+use Rattle.pt_tree.proofs.Kept.{closed_apart, least_not_0, next_least, next_number, reserved_before, shut}
+use Rattle.pt_tree.proofs.KeptEdits.{names_of-gained}
+
+module _ (state : State) (holds : List ℕ) (numbers : List Slot) (kept : IsKept state holds numbers) (dir : ℕ) (name : List ℕ) (node parent : Node)
+    (into : is_directory_at state.nodes dir ≡ true) (free : name_at state.nodes dir name ≡ None) (empty : names_in node.content ≡ [])
+    (serial : node.serial ≡ length state.nodes + 1) (small : node.permissions < 4096) (at_dir : slice_get state.nodes dir ≡ Some parent)
+    (number : node.ids.ino ≡ least_free numbers) (device : node.ids.dev ≡ parent.ids.dev)
+    (few : length (with_made state dir name node).nodes < 2 ^ 63) where
+  least : IsLeastFree state node.ids.dev node.ids.ino
+  least = subst (λ n. IsLeastFree state node.ids.dev n)
+      (ap (next_numbers state.nodes numbers) device ∙ next_number state holds numbers kept dir parent at_dir ∙ sym number)
+      (next_least state holds numbers kept node.ids.dev)
+
+  sound : IsSound (with_made state dir name node)
+  sound = sound_made state dir name node kept.sound into empty serial small least few
+
+  long_made : length (with_made state dir name node).nodes ≡ length state.nodes + 1
+  long_made = length_made state dir name node kept.sound into empty serial small least
+
+  held_made : (o : ℕ) → held_by (with_made state dir name node) o ≡ held_by state o + is o (length state.nodes)
+  held_made o =
+      let pushed = names_of-pushed (entered (time_of state) dir name node state.nodes) node o empty in
+      let gained = names_of-gained state.nodes dir name (length state.nodes)
+      (λ at. touched (time_of state) (with_entry name (length state.nodes) (is_directory node) false at)) o None (λ n. refl) (all_ordered state kept.sound) into free in
+      omega (arith, pushed, gained)
+
+  not_there : Lives state (length state.nodes) → ⊥
+  not_there (inl root) = let some = slice_get_within state.nodes dir parent at_dir in absurd (omega arith)
+  not_there (inr (inl has)) = let within = kept.sound.named has.0 has.1 (length state.nodes) has.2 in absurd (omega arith)
+  not_there (inr (inr (fd, file, there, same))) = let within = kept.sound.opened fd file there in absurd (omega arith)
+
+  unheld : held_by state (length state.nodes) ≡ 0
+  unheld = elim (leb_tells (held_by state (length state.nodes)) 0) [
+    | inl none ↦ (let n = none.1 in omega arith)
+    | inr some ↦ absurd (not_there (held_lives state (length state.nodes) kept.sound some.1))
+  ]
+
+  new_held : held_by (with_made state dir name node) (length state.nodes) ≡ 1
+  new_held = let a = held_made (length state.nodes) in let none = unheld in let one = is_one (length state.nodes) (length state.nodes) refl in omega arith
+
+  old_held : (o : ℕ) → o < length state.nodes → held_by (with_made state dir name node) o ≡ held_by state o
+  old_held o within =
+      let a = held_made o in
+      let apart : o ≢ length state.nodes = omega arith in
+      let none = is_none o (length state.nodes) apart in
+      omega arith
+
+  count_made : (o : ℕ) → o < length (with_made state dir name node).nodes → slice_get (holds ++ 1 ∷ []) o ≡ Some (held_by (with_made state dir name node) o)
+  count_made o within = elim (eqb_tells o (length holds)) [
+    | inl e ↦ ap (slice_get (holds ++ 1 ∷ [])) e.1 ∙ get-push_here holds 1
+        ∙ ap (λ n. Some n) (sym new_held ∙ ap (held_by (with_made state dir name node)) (sym kept.long ∙ sym e.1))
+    | inr apart ↦ (let longer = long_made in let long = kept.long in
+        let old : o < length state.nodes = (let a = apart.1 in omega arith) in
+        get-push_apart holds 1 o apart.1 ∙ kept.held o old ∙ ap (λ n. Some n) (sym (old_held o old)))
+  ]
+
+  table : List Slot
+  table = put_at (least_free numbers) (Open (having (length state.nodes))) numbers
+
+  has_made : (o : ℕ) (that : Node) → slice_get (with_made state dir name node).nodes o ≡ Some that → 0 < held_by (with_made state dir name node) o →
+      (file : OpenFile) × (open_at table that.ids.ino ≡ Some file) × (file.object ≡ o)
+  unfolding table
+  has_made o that there some = elim (at_place state dir name node kept.sound into empty serial small least o that there) [
+    | inl new ↦ (
+      having (length state.nodes),
+      ap (open_at table) (ap (λ n. n.ids.ino) new.1 ∙ number)
+          ∙ ap file_of (get-put_here (least_free numbers) (Open (having (length state.nodes))) numbers (least_free-le-length numbers)),
+      sym new.0,
+    )
+    | inr old ↦ (let within = slice_get_within state.nodes o old.0 old.1 in
+        let file = kept.has o old.0 old.1 (subst (λ n. 0 < n) (old_held o within) some) in
+        let apart : old.0.ids.ino ≢ least_free numbers = λ same.
+        (let a : open_at numbers (least_free numbers) ≡ Some file.0 = sym (ap (open_at numbers) same) ∙ file.1 in
+        let b : Some file.0 ≡ None = sym a ∙ least_free-closed numbers in cc) in (
+          file.0,
+          ap (λ ids. open_at table ids.ino) old.2
+              ∙ ap file_of (get-put_apart (least_free numbers) (Open (having (length state.nodes))) numbers old.0.ids.ino apart) ∙ file.1,
+          file.2,
+        ))
+  ]
+
+  entered_there : (place : ℕ) (that : Node) → slice_get state.nodes place ≡ Some that →
+      (now : Node) × (slice_get (with_made state dir name node).nodes place ≡ Some now) × (now.ids ≡ that.ids)
+  entered_there place that there =
+      let within = slice_get_within state.nodes place that there in
+      let longer = long_made in
+      let now = get_below (with_made state dir name node).nodes place (omega arith) in
+      elim (at_place state dir name node kept.sound into empty serial small least place now.0 now.1) [
+        | inl new ↦ absurd (let end = new.0 in omega arith)
+        | inr old ↦ (now.0, now.1, old.2 ∙ ap (λ n. n.ids) (same_Some old.0 that (sym old.1 ∙ there)))
+      ]
+    where
+      get_below : (nodes : List Node) (k : ℕ) → k < length nodes → (n : Node) × (slice_get nodes k ≡ Some n)
+      get_below [] k within = absurd (omega arith)
+      get_below (n ∷ nodes) zero within = (n, refl)
+      get_below (n ∷ nodes) (suc k) within = get_below nodes k (omega arith)
+
+  new_there : slice_get (with_made state dir name node).nodes (length state.nodes) ≡ Some node
+  new_there =
+      let longer = long_made in
+      let pushed = length_push (entered (time_of state) dir name node state.nodes) node in
+      let same : length (entered (time_of state) dir name node state.nodes) ≡ length state.nodes = omega arith in
+      ap (slice_get (with_made state dir name node).nodes) (sym same) ∙ get-push_here (entered (time_of state) dir name node state.nodes) node
+
+  opened_slot : (slot : Option Slot) (file : OpenFile) → file_of slot ≡ Some file → slot ≡ Some (Open file)
+  opened_slot None file is = cc
+  opened_slot (Some Reserved) file is = cc
+  opened_slot (Some Free) file is = cc
+  opened_slot (Some (Open other)) file is = ap (λ f. Some (Open f)) (same_Some other file is)
+
+  same_open : (file other : OpenFile) → Open file ≡ Open other → file ≡ other
+  same_open file other is = cc
+
+  had_made : (k : ℕ) (file : OpenFile) → open_at table k ≡ Some file →
+      (that : Node) × (slice_get (with_made state dir name node).nodes file.object ≡ Some that) × (that.ids.ino ≡ k) × (0 < held_by (with_made state dir name node) file.object)
+  unfolding table
+  had_made k file there =
+      elim (get-put_cases (least_free numbers) (Open (having (length state.nodes))) numbers k (Open file) (opened_slot (slice_get table k) file there)) [
+        | inl new ↦ (let same = same_open file (having (length state.nodes)) new.1 in
+            let object = ap (λ (f : OpenFile). f.object) same in (
+              node,
+              ap (slice_get (with_made state dir name node).nodes) object ∙ new_there,
+              number ∙ sym new.0,
+              subst (λ o. 0 < held_by (with_made state dir name node) o) (sym object) (let one = new_held in omega arith),
+            ))
+        | inr before ↦ (let held = kept.had k file (ap file_of before) in
+            let that = entered_there file.object held.0 held.1 in (
+              that.0,
+              that.1,
+              ap (λ ids. ids.ino) that.2 ∙ held.2,
+              subst (λ n. 0 < n) (sym (old_held file.object (slice_get_within state.nodes file.object held.0 held.1))) held.3,
+            ))
+      ]
+
+  device_made : (object another : ℕ) (that other : Node) → slice_get (with_made state dir name node).nodes object ≡ Some that →
+      slice_get (with_made state dir name node).nodes another ≡ Some other → that.ids.dev ≡ other.ids.dev
+  device_made object another that other there too = of_parent object that there ∙ sym (of_parent another other too)
+    where
+      of_parent : (o : ℕ) (n : Node) → slice_get (with_made state dir name node).nodes o ≡ Some n → n.ids.dev ≡ parent.ids.dev
+      of_parent o n is = elim (at_place state dir name node kept.sound into empty serial small least o n is) [
+        | inl new ↦ ap (λ m. m.ids.dev) new.1 ∙ device
+        | inr old ↦ ap (λ ids. ids.dev) old.2 ∙ kept.one_device o dir old.0 parent old.1 at_dir
+      ]
+
+  pub kept_made : IsKept (with_made state dir name node) (holds ++ 1 ∷ []) (put_at (least_free numbers) (Open (having (length state.nodes))) numbers)
+  unfolding table
+  kept_made = record {
+    sound = sound;
+    long = (let pushed = length_push holds 1 in let longer = long_made in let long = kept.long in omega arith);
+    held = count_made;
+    has = has_made;
+    had = had_made;
+    from_one = get-put_apart (least_free numbers) (Open (having (length state.nodes))) numbers 0 (let some = least_not_0 numbers kept.from_one in omega arith) ∙ kept.from_one;
+    no_other = λ k some there.
+        elim (get-put_cases (least_free numbers) (Open (having (length state.nodes))) numbers k Reserved there) [ inl both ↦ cc | inr before ↦ kept.no_other k some before ];
+    one_device = device_made;
+  }
+
+-- ---- taken back
+
+-- a table of the same open numbers
+kept_table : (state : State) (holds : List ℕ) (numbers other : List Slot) → IsKept state holds numbers → ((k : ℕ) → open_at other k ≡ open_at numbers k) →
+    slice_get other 0 ≡ Some Reserved → ((k : ℕ) → 0 < k → slice_get other k ≡ Some Reserved → ⊥) → IsKept state holds other
+kept_table state holds numbers other kept same reserved none = record {
+  sound = kept.sound;
+  long = kept.long;
+  held = kept.held;
+  has = λ o node there some. let file = kept.has o node there some in (file.0, same node.ids.ino ∙ file.1, file.2);
+  had = λ k file there. kept.had k file (sym (same k) ∙ there);
+  from_one = reserved;
+  no_other = none;
+  one_device = kept.one_device;
+}
+
+pub kept_back : (state : State) (holds : List ℕ) (numbers : List Slot) (file : OpenFile) → IsKept state holds numbers →
+    IsKept state (take (length (holds ++ 1 ∷ []) - 1) (holds ++ 1 ∷ [])) (closed (least_free numbers) (put_at (least_free numbers) (Open file) numbers))
+kept_back state holds numbers file kept =
+    let n = least_free numbers in
+    let put = put_at (least_free numbers) (Open file) numbers in
+    let some = least_not_0 numbers kept.from_one in
+    let not_first : 0 ≢ least_free numbers = omega arith in
+    subst (λ (xs : List ℕ). IsKept state xs (closed n put)) (sym (front holds))
+    (kept_table state holds numbers (closed n put) kept
+    (λ k. elim (eqb_tells k n) [
+      | inl e ↦ ap (open_at (closed n put)) e.1 ∙ shut (open_at put n) n put refl ∙ sym (ap (open_at numbers) e.1 ∙ least_free-closed numbers)
+      | inr apart ↦ ap file_of (closed_apart (open_at put n) n put k apart.1 ∙ get-put_apart n (Open file) numbers k apart.1)
+    ])
+    (closed_apart (open_at put n) n put 0 not_first ∙ get-put_apart n (Open file) numbers 0 not_first ∙ kept.from_one)
+    (λ k more there.
+    elim (get-put_cases n (Open file) numbers k Reserved (reserved_before (open_at put n) n put k there)) [
+      | inl both ↦ cc
+      | inr before ↦ kept.no_other k more before
+    ]))
+  where
+    all_of : (xs : List ℕ) → take (length xs) (xs ++ 1 ∷ []) ≡ xs
+    all_of [] = refl
+    all_of (x ∷ xs) = ap (λ more. x ∷ more) (all_of xs)
+
+    front : (xs : List ℕ) → take (length (xs ++ 1 ∷ []) - 1) (xs ++ 1 ∷ []) ≡ xs
+    front xs =
+        let pushed = length_push xs 1 in
+        let e : length (xs ++ 1 ∷ []) - 1 ≡ length xs = omega arith in
+        ap (λ k. take k (xs ++ 1 ∷ [])) e ∙ all_of xs

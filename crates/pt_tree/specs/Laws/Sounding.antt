@@ -1,0 +1,69 @@
+-- A state stays sound where its objects stay what they are and nothing comes to life.
+use Rattle.std.proofs.Common.{◌≡◌, ◌<◌, ◌≤◌, ◌^◌, ◌⊎◌, inl, inr, ℕ, List, length, Some, slice_get, subst, refl, ap, sym, ◌∙◌, arith}
+use Rattle.pt_tree.specs.Living.{HasName, IsOpened, Lives}
+use Rattle.pt_tree.specs.Node.{name_at, names_in}
+use Rattle.pt_tree.specs.Slots.{open_at}
+use Rattle.pt_tree.specs.Sound.{AreOrdered, IsMade, IsSound}
+use Rattle.pt_tree.specs.State.{State}
+use Rattle.pt_tree.specs.declared.node.Node.{Node}
+use Rattle.pt_tree.specs.declared.slots.OpenFile.{OpenFile}
+use Rattle.pt_tree.specs.declared.slots.Slot.{Slot}
+use Rattle.pt_tree.specs.Laws.Changed.{AreAlike, Stays}
+use Rattle.pt_tree.specs.Laws.Keeping.{Keeps}
+
+pub stays_kept : (before after : Node) → Keeps before after → Stays before after
+stays_kept before after keeps = record {
+  ids = keeps.ids;
+  serial = keeps.serial;
+  permissions = keeps.permissions;
+  ordered = λ ordered. subst AreOrdered (sym keeps.names) ordered;
+}
+
+pub made_stays : (place : ℕ) (before after : Node) → Stays before after → IsMade place before → IsMade place after
+made_stays place before after stays made = record {
+  serial = stays.serial ∙ made.serial;
+  permissions = (let less = stays.permissions in let small = made.permissions in omega arith);
+  ordered = stays.ordered made.ordered;
+}
+
+-- what a name leads to had a name
+abbrev pub NamedBefore : State → List Node → Type 0
+NamedBefore before nodes = (object : ℕ) → HasName nodes object → HasName before.nodes object
+
+-- what a descriptor is open on lived, and is there
+abbrev pub OpenedBefore : State → List Slot → Type 0
+OpenedBefore before slots = (fd : ℕ) (file : OpenFile) → open_at slots fd ≡ Some file → Lives before file.object × (file.object < length before.nodes)
+
+abbrev pub state_with : State → List Node → List Slot → State
+state_with before nodes slots = record { nodes = nodes; slots = slots; calls = before.calls }
+
+pub lived : (before : State) (nodes : List Node) (slots : List Slot) (object : ℕ) → NamedBefore before nodes → OpenedBefore before slots →
+    Lives (state_with before nodes slots) object → Lives before object
+lived before nodes slots object named opened (inl root) = inl root
+lived before nodes slots object named opened (inr (inl has)) = inr (inl (named object has))
+lived before nodes slots object named opened (inr (inr (fd, file, is, same))) = subst (Lives before) same (opened fd file is).0
+
+pub sound_after : (before : State) (nodes : List Node) (slots : List Slot) → IsSound before → AreAlike before.nodes nodes → NamedBefore before nodes →
+    OpenedBefore before slots → IsSound (state_with before nodes slots)
+sound_after before nodes slots sound alike named opened = record {
+  timely = sound.timely;
+  few = subst (λ n. n < 2 ^ 63) (sym alike.long) sound.few;
+  made = λ place node is.
+      let was = alike.each place node is in
+      made_stays place was.0 node was.2 (sound.made place was.0 was.1);
+  named = λ dir name object is.
+      let has = named object (dir, name, is) in
+      subst (λ n. object < n) (sym alike.long) (sound.named has.0 has.1 object has.2);
+  opened = λ fd file is. subst (λ n. file.object < n) (sym alike.long) (opened fd file is).1;
+  apart = λ object another node that is other lives lives_too dev ino.
+      let was = alike.each object node is in
+      let before_that = alike.each another that other in
+      sound.apart object another was.0 before_that.0 was.1 before_that.1
+      (lived before nodes slots object named opened lives) (lived before nodes slots another named opened lives_too)
+      (sym (ap (λ ids. ids.dev) was.2.ids) ∙ dev ∙ ap (λ ids. ids.dev) before_that.2.ids)
+      (sym (ap (λ ids. ids.ino) was.2.ids) ∙ ino ∙ ap (λ ids. ids.ino) before_that.2.ids);
+}
+
+-- the descriptors of before
+pub opened_still : (before : State) → IsSound before → OpenedBefore before before.slots
+opened_still before sound fd file is = (inr (inr (fd, file, is, refl)), sound.opened fd file is)
