@@ -15,9 +15,11 @@ call_of (borrowed.Reopen fd flags) = call.Reopen fd flags
 call_of (borrowed.Stat fd) = call.Stat fd
 call_of (borrowed.ReadAt fd offset size) = call.ReadAt fd offset size
 call_of (borrowed.Close fd) = call.Close fd
+call_of (borrowed.Edit edit) = call.Edit edit.now
 
 -- it has bytes to copy
 abbrev pub HoldsBytes : Call → Type 0
 HoldsBytes (call.OpenRoot path flags) = Unit {0}
 HoldsBytes (call.OpenAt fd name flags mode) = Unit {0}
+HoldsBytes (call.Edit edit) = Unit {0}
 HoldsBytes _ = ⊥

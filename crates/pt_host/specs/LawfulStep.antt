@@ -5,6 +5,7 @@ use Rattle.pt_host.specs.Flags.{includes, o_creat, o_path, o_tmpfile}
 use Rattle.pt_host.specs.Errno.{enoent}
 use Rattle.pt_host.specs.Call.{Call}
 use Rattle.pt_host.specs.Tree.{Tree, Object, IsObject, IsOpenOn, IsWellFormed, Tells}
+use Rattle.pt_host.specs.Edits.{Edits}
 use Rattle.pt_host.specs.declared.ids.Fd.{Fd}
 use Rattle.pt_host.specs.declared.ids.Errno.{Errno}
 use Rattle.pt_host.specs.declared.flags.OpenFlags.{OpenFlags}
@@ -51,6 +52,7 @@ Changes tree (call.ReadAt fd offset size) (reply.Ok (value.Bytes bytes)) after =
 Changes tree (call.Stat fd) (reply.Ok (value.Stat stat)) after =
     (object : ℕ) × (what : Object) × IsOpenOn tree fd object × IsObject tree object what × Tells what stat × (after ≡ tree)
 Changes tree (call.Close fd) told after = after ≡ closed_at tree fd
+Changes tree (call.Edit edit) (reply.Ok value.Unit) after = Edits tree edit after
 Changes tree asked (reply.Ok told) after = ⊥
 Changes tree asked (reply.Refused errno) after = MayRefuse tree asked errno × (after ≡ tree)
 Changes tree asked told after = after ≡ tree

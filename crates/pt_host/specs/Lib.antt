@@ -5,5 +5,6 @@ pub mod Call
 pub mod Reply
 pub mod Seat
 pub mod Tree
+pub mod Edits
 pub mod LawfulStep
 pub mod Promises

@@ -16,6 +16,7 @@ FitsCall (call.Reopen fd flags) (value.Fd opened) = Unit {0}
 FitsCall (call.Stat fd) (value.Stat stat) = Unit {0}
 FitsCall (call.ReadAt fd offset size) (value.Bytes bytes) = Unit {0}
 FitsCall (call.Close fd) value.Unit = Unit {0}
+FitsCall (call.Edit edit) value.Unit = Unit {0}
 FitsCall _ _ = ⊥
 
 -- `Close` never lacks memory

@@ -3,6 +3,7 @@
 #![tactic(auto)]
 
 mod bytes;
+mod edit;
 mod flags;
 mod handle;
 mod host;
@@ -15,6 +16,7 @@ mod stat;
 mod tests;
 
 pub use bytes::Bytes;
+pub use edit::Edit;
 pub use flags::{Caps, OpenFlags};
 pub use handle::{CFileHandle, FileHandle, HandleBytes};
 pub use host::Host;

@@ -2,6 +2,7 @@ ghost use Rattle.std.specs.Prelude.{◌≡◌, IfOk, OnErr};
 ghost use Rattle.pt_host.specs.Call.{call_of, HoldsBytes};
 
 use crate::bytes::Bytes;
+use crate::edit::Edit;
 use crate::flags::OpenFlags;
 use crate::ids::Fd;
 use std::alloc::{AllocError, Global};
@@ -40,6 +41,8 @@ pub enum HostOp<'a> {
     Close {
         fd: Fd,
     },
+    /// A change that somebody else makes to the tree. Whose seat it is called with does not matter.
+    Edit(&'a Edit),
 }
 
 /// A call of the host that owns its bytes.
@@ -70,6 +73,7 @@ pub enum KeptHostOp {
     Close {
         fd: Fd,
     },
+    Edit(Edit),
 }
 
 impl<'a> HostOp<'a> {
@@ -101,6 +105,10 @@ impl<'a> HostOp<'a> {
             HostOp::Stat { fd } => Ok(KeptHostOp::Stat { fd }),
             HostOp::ReadAt { fd, offset, size } => Ok(KeptHostOp::ReadAt { fd, offset, size }),
             HostOp::Close { fd } => Ok(KeptHostOp::Close { fd }),
+            HostOp::Edit(edit) => {
+                let edit = edit.copy(alloc)?;
+                Ok(KeptHostOp::Edit(edit))
+            }
         }
     }
 }
@@ -137,6 +145,7 @@ impl KeptHostOp {
                 size: *size,
             },
             KeptHostOp::Close { fd } => HostOp::Close { fd: *fd },
+            KeptHostOp::Edit(edit) => HostOp::Edit(edit),
         }
     }
 }

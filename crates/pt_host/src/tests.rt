@@ -1,5 +1,5 @@
 use crate::{
-    Bytes, CFileHandle, Caps, Errno, Fd, FileHandle, Groups, HandleBytes, HostOp, HostReply,
+    Bytes, CFileHandle, Caps, Edit, Errno, Fd, FileHandle, Groups, HandleBytes, HostOp, HostReply,
     HostSeat, HostValue, KeptHostOp, ObjIds, OpenFlags, Stat, Time,
 };
 use std::test::Fail;
@@ -62,6 +62,45 @@ fn calls_are_kept_with_their_bytes(rt: HostRuntime) -> Result<(), Fail> {
     match (HostOp::OpenRoot { path: b"/", flags }).keep(rt.alloc())? {
         KeptHostOp::OpenRoot { path, .. } => assert_eq!(rt; path.as_slice(), b"/".as_slice()),
         _ => return Err(Fail::from("another call")),
+    }
+    Ok(())
+}
+
+#[test]
+fn edits_are_kept_with_their_bytes(rt: HostRuntime) -> Result<(), Fail> {
+    let path = Bytes::from_slice(rt.alloc(), b"/a")?;
+    let bytes = Bytes::from_slice(rt.alloc(), b"hi")?;
+    let edit = Edit::File {
+        path,
+        mode: 0o644,
+        uid: 1,
+        gid: 2,
+        bytes,
+    };
+    match HostOp::Edit(&edit).keep(rt.alloc())?.lend() {
+        HostOp::Edit(
+            Edit::File {
+                path,
+                mode,
+                uid,
+                gid,
+                bytes,
+            },
+        ) => {
+            assert_eq!(rt; path.as_slice(), b"/a".as_slice());
+            assert_eq!(rt; (*mode, *uid, *gid), (0o644, 1, 2));
+            assert_eq!(rt; bytes.as_slice(), b"hi".as_slice());
+        }
+        _ => return Err(Fail::from("another call")),
+    }
+    let old = Bytes::from_slice(rt.alloc(), b"/a")?;
+    let new = Bytes::from_slice(rt.alloc(), b"/b")?;
+    match (Edit::Rename { old, new }).copy(rt.alloc())? {
+        Edit::Rename { old, new } => {
+            assert_eq!(rt; old.as_slice(), b"/a".as_slice());
+            assert_eq!(rt; new.as_slice(), b"/b".as_slice());
+        }
+        _ => return Err(Fail::from("another edit")),
     }
     Ok(())
 }
