@@ -1,5 +1,5 @@
 -- Jobs that run whole, one after another, leave nothing open but want of memory.
-use Rattle.std.specs.Prelude.{◌≡◌, ◌≢◌, List, [], length, map}
+use Rattle.std.specs.Prelude.{◌≡◌, ◌≢◌, List, [], Option, length, map}
 use Rattle.pt_host.specs.Words.{Each}
 use Rattle.pt_host.specs.declared.seat.HostSeat.{HostSeat}
 use Rattle.pt_session.specs.Tables.{Tables, Agree}
@@ -21,7 +21,7 @@ pub record FoundMemory (trace : List TraceStep) (answers : List Answer) : Type 0
 
 -- the jobs ran whole, one after another, and never lacked memory
 pub record RanInTurn {H : Type 0} (does : Does H) (plan : Plan) (jobs : List Job) (host : H) (tables : Tables) (trace : List TraceStep) (answers : List Answer) (host' : H) (tables' : Tables) : Type 0 where
-  pub seats : List HostSeat
+  pub seats : List (Option HostSeat)
   pub steps : Runs does trace host (map job_seat jobs) tables host' seats tables'
   pub order : IsInOrder [] (length jobs) trace
   pub answers_each : AnswersEach plan jobs trace answers
