@@ -2,23 +2,23 @@
 use Rattle.std.proofs.Common.{◌≡◌, ℕ, zero, suc, ◌<◌, List, [], ◌∷◌, ◌++◌, ◌∙◌, Some, refl, ap, sym, subst, map, length, slice_get, append_assoc, append-nil, true, false, arith}
 use Rattle.std.proofs.lemmas.Option.{same_Some}
 use Rattle.pt_iface.specs.declared.answer.Answer.{Answer}
-use Rattle.pt_iface.specs.declared.request.Request.{Request}
 use Rattle.pt_iface.specs.declared.request.Request.TheVariants as request
 use Rattle.pt_req.specs.Deed.{Step}
 use Rattle.pt_req.specs.Grammar.{Grammar, Belongs}
 use Rattle.pt_req.specs.Job.{owes}
-use Rattle.pt_req.specs.Pattern.{grammar_of}
+use Rattle.pt_req.specs.Pattern.{Asked, Requests, Edits, grammar_for}
 use Rattle.pt_req.specs.declared.finish.Finish.{Finish}
 use Rattle.pt_req.specs.declared.finish.Finish.TheVariants as finish
 use Rattle.pt_req.specs.declared.plan.Plan.{Plan}
 use Rattle.pt_req.proofs.Ending.{calm}
 use Rattle.pt_fs.specs.Each.{IsStarted, EachStarted, EachAnswered, EndsAs, answer_of}
-use Rattle.pt_fs.specs.Jobs.{job_seat, request_of}
+use Rattle.pt_fs.specs.Jobs.{job_seat, asked_of, IsAnsweredBy}
 use Rattle.pt_fs.specs.Order.{rest_of, owner, count_of, total, Fits, Owns}
 use Rattle.pt_fs.specs.Owing.{Owing, run_seat}
 use Rattle.pt_fs.specs.Took.{IsFinishedAt}
 use Rattle.pt_fs.specs.Trace.{AnswersEach, IsBounded, steps_by}
 use Rattle.pt_fs.specs.declared.job.Job.{Job}
+use Rattle.pt_fs.specs.declared.job.Job.TheVariants as job
 use Rattle.pt_fs.specs.declared.running.Running.{Running}
 use Rattle.pt_fs.specs.declared.trace.TraceStep.{TraceStep}
 use Rattle.pt_fs.proofs.Orders.{same_function}
@@ -83,12 +83,23 @@ answered_at (run ∷ running) (first ∷ answers) h zero told at = (run, refl, s
 answered_at (run ∷ running) (first ∷ answers) h (suc j) told at = answered_at running answers h.1 j told at
 answered_at [] (first ∷ answers) h j told at = absurd h
 
--- the answer of steps that belong to a request is their end
-pub told_end : (plan : Plan) (asked : Request) (steps : List Step) (last : Finish) (told : Answer) → told ≡ answer_of last → Belongs (grammar_of plan asked) steps last → Belongs (grammar_of plan asked) steps (finish.Answer told)
+-- the answer of steps that belong to what is asked is their end
+pub told_end : (plan : Plan) (asked : Asked) (steps : List Step) (last : Finish) (told : Answer) → told ≡ answer_of last → Belongs (grammar_for plan asked) steps last → Belongs (grammar_for plan asked) steps (finish.Answer told)
 told_end plan asked steps last told is belongs =
     let c = calm plan asked steps last belongs in
     let same : last ≡ finish.Answer told = c.1 ∙ ap finish.Answer (sym (is ∙ ap answer_of c.1)) in
-    subst (λ (f : Finish). Belongs (grammar_of plan asked) steps f) same belongs
+    subst (λ (f : Finish). Belongs (grammar_for plan asked) steps f) same belongs
+
+-- the pattern of a job is the grammar of what it asks
+answered_by : (plan : Plan) (job : Job) (steps : List Step) (told : Answer) → Belongs (grammar_for plan (asked_of job)) steps (finish.Answer told) → IsAnsweredBy plan job steps told
+answered_by plan (job.Request who seat asked) steps told b = b
+answered_by plan (job.OpenRoot seat) steps told b = b
+answered_by plan (job.Edit edit) steps told b = b
+
+pub belongs_by : (plan : Plan) (job : Job) (steps : List Step) (told : Answer) → IsAnsweredBy plan job steps told → Belongs (grammar_for plan (asked_of job)) steps (finish.Answer told)
+belongs_by plan (job.Request who seat asked) steps told b = b
+belongs_by plan (job.OpenRoot seat) steps told b = b
+belongs_by plan (job.Edit edit) steps told b = b
 
 pub answers_each : (plan : Plan) (jobs : List Job) (running : List Running) (trace : List TraceStep) (answers : List Answer) → Owing plan jobs running trace → EachAnswered running answers → AnswersEach plan jobs trace answers
 answers_each plan jobs running trace answers owing answered = record {
@@ -97,7 +108,7 @@ answers_each plan jobs running trace answers owing answered = record {
       let there = answered_at running answers answered j told at_told in
       let last = there.2.0 in
       let nothing : Belongs (owes plan there.0.state) [] last = subst (λ (g : Grammar). Belongs g [] last) (sym (there.2.1 plan)) refl in
-      told_end plan (request_of job) (steps_by j trace) last told there.2.2 (rw append-nil at (owing.owed j job there.0 at_job there.1 [] last nothing));
+      answered_by plan job (steps_by j trace) told (told_end plan (asked_of job) (steps_by j trace) last told there.2.2 (rw append-nil at (owing.owed j job there.0 at_job there.1 [] last nothing)));
 }
 
 -- each job of a list of as many jobs
@@ -113,12 +124,13 @@ bounded_each plan jobs running trace owing j job at =
     let bounded = owing.bounded j job there.0 at there.1 in
     omega arith
 
--- no request ends without a step
-pub begins : (plan : Plan) (asked : Request) (end : Finish) → Belongs (grammar_of plan asked) [] end → ⊥
-begins plan request.Root end b = b
-begins plan asked end b = b
+-- no request ends without a step, nor does an edit
+pub begins : (plan : Plan) (asked : Asked) (end : Finish) → Belongs (grammar_for plan asked) [] end → ⊥
+begins plan (Requests request.Root) end b = b
+begins plan (Requests asked) end b = b
+begins plan (Edits edit) end b = b
 
-pub some_steps : (plan : Plan) (asked : Request) (steps : List Step) (end : Finish) → Belongs (grammar_of plan asked) steps end → 0 < length steps
+pub some_steps : (plan : Plan) (asked : Asked) (steps : List Step) (end : Finish) → Belongs (grammar_for plan asked) steps end → 0 < length steps
 some_steps plan asked [] end b = absurd (begins plan asked end b)
 some_steps plan asked (step ∷ steps) end b = omega arith
 
@@ -131,7 +143,7 @@ pub steps_each : (plan : Plan) (jobs : List Job) (trace : List TraceStep) (answe
 steps_each plan jobs trace answers each j below =
     let job = at_below jobs j below in
     let told = one_for_each jobs answers j job.0 each.one_each job.1 in
-    let some = some_steps plan (request_of job.0) (steps_by j trace) (finish.Answer told.0) (each.in_pattern j job.0 told.0 job.1 told.1) in
+    let some = some_steps plan (asked_of job.0) (steps_by j trace) (finish.Answer told.0) (belongs_by plan job.0 (steps_by j trace) told.0 (each.in_pattern j job.0 told.0 job.1 told.1)) in
     let long = length-steps_by j trace in
     omega arith
 

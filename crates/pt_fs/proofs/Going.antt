@@ -8,9 +8,9 @@ use Rattle.pt_req.specs.Deed.{Step}
 use Rattle.pt_req.specs.Grammar.{Belongs, is_end}
 use Rattle.pt_req.specs.Job.{owes, is_finished, steps_bound}
 use Rattle.pt_req.specs.Made.{Does}
-use Rattle.pt_req.specs.Pattern.{grammar_of, bound_of}
+use Rattle.pt_req.specs.Pattern.{grammar_for, bound_for}
 use Rattle.pt_req.specs.declared.plan.Plan.{Plan}
-use Rattle.pt_fs.specs.Jobs.{request_of}
+use Rattle.pt_fs.specs.Jobs.{asked_of}
 use Rattle.pt_fs.specs.Goes.{Goes}
 use Rattle.pt_fs.specs.Order.{order, rest_of, Owns}
 use Rattle.pt_fs.specs.Owing.{Owing, run_seat}
@@ -47,16 +47,16 @@ owing_took does plan place host host' running running' tables tables' trace trac
             | inl same ↦
                 let all = took.advances steps end (subst (λ (r : Running). Belongs (owes plan r.state) steps end) (is_run j run same at_run) belongs) in
                 let whole = owing.owed j job took.run at_job (was_run j same) (step_of took.step ∷ steps) end all in
-                subst (λ (s : List Step). Belongs (grammar_of plan (request_of job)) s end) (sym (append_assoc (steps_by j trace) (step_of took.step ∷ []) steps) ∙ ap (λ s. s ++ steps) (sym (same_steps j same))) whole
-            | inr other ↦ subst (λ (s : List Step). Belongs (grammar_of plan (request_of job)) (s ++ steps) end) (sym (other_steps j other)) (owing.owed j job run at_job (other_run j run other at_run) steps end belongs)
+                subst (λ (s : List Step). Belongs (grammar_for plan (asked_of job)) s end) (sym (append_assoc (steps_by j trace) (step_of took.step ∷ []) steps) ∙ ap (λ s. s ++ steps) (sym (same_steps j same))) whole
+            | inr other ↦ subst (λ (s : List Step). Belongs (grammar_for plan (asked_of job)) (s ++ steps) end) (sym (other_steps j other)) (owing.owed j job run at_job (other_run j run other at_run) steps end belongs)
           ];
       bounded = λ j job run at_job at_run.
           elim (cases_eq j place) [
             | inl same ↦
-                let more = bounded_more (steps_by j trace) (step_of took.step) (steps_bound took.run.state) (steps_bound took.run'.state) (bound_of (request_of job)) (owing.bounded j job took.run at_job (was_run j same)) took.within in
-                subst (λ (r : Running). length (steps_by j trace') + steps_bound r.state ≤ bound_of (request_of job) + 3 * closings_told (steps_by j trace')) (sym (is_run j run same at_run))
-                (subst (λ (s : List Step). length s + steps_bound took.run'.state ≤ bound_of (request_of job) + 3 * closings_told s) (sym (same_steps j same)) more)
-            | inr other ↦ subst (λ (s : List Step). length s + steps_bound run.state ≤ bound_of (request_of job) + 3 * closings_told s) (sym (other_steps j other)) (owing.bounded j job run at_job (other_run j run other at_run))
+                let more = bounded_more (steps_by j trace) (step_of took.step) (steps_bound took.run.state) (steps_bound took.run'.state) (bound_for (asked_of job)) (owing.bounded j job took.run at_job (was_run j same)) took.within in
+                subst (λ (r : Running). length (steps_by j trace') + steps_bound r.state ≤ bound_for (asked_of job) + 3 * closings_told (steps_by j trace')) (sym (is_run j run same at_run))
+                (subst (λ (s : List Step). length s + steps_bound took.run'.state ≤ bound_for (asked_of job) + 3 * closings_told s) (sym (same_steps j same)) more)
+            | inr other ↦ subst (λ (s : List Step). length s + steps_bound run.state ≤ bound_for (asked_of job) + 3 * closings_told s) (sym (other_steps j other)) (owing.bounded j job run at_job (other_run j run other at_run))
           ];
     }
 

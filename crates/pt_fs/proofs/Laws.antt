@@ -11,13 +11,11 @@ use Rattle.pt_host.specs.Tree.{Tree, IsWellFormed}
 use Rattle.pt_session.specs.Tables.{Tables, empty_tables}
 use Rattle.pt_iface.specs.declared.answer.Answer.{Answer}
 use Rattle.pt_iface.specs.declared.answer.Answer.TheVariants as answer
-use Rattle.pt_iface.specs.declared.request.Request.{Request}
 use Rattle.pt_iface.specs.declared.request.Request.TheVariants as request
-use Rattle.pt_req.specs.Deed.{Step}
+use Rattle.pt_req.specs.Deed.{Step, kept_deed_of}
 use Rattle.pt_req.specs.Grammar.{Belongs}
 use Rattle.pt_req.specs.Made.{Does}
-use Rattle.pt_req.specs.Pattern.{grammar_of}
-use Rattle.pt_req.specs.Requests.{tree_of}
+use Rattle.pt_req.specs.Pattern.{Asked, Requests, grammar_for}
 use Rattle.pt_req.specs.declared.finish.Finish.{Finish}
 use Rattle.pt_req.specs.declared.finish.Finish.TheVariants as finish
 use Rattle.pt_req.specs.declared.plan.Plan.{Plan}
@@ -33,28 +31,30 @@ use Rattle.pt_law.proofs.Overtaking.{overtaken_law}
 use Rattle.pt_law.proofs.Interleaving.{tables_split}
 use Rattle.pt_law.proofs.Next.{named_law}
 use Rattle.pt_law.proofs.Entries.{entered_law}
-use Rattle.pt_law.proofs.Ending.{fit_ends}
-use Rattle.pt_law.proofs.Requests.{fit_request}
+use Rattle.pt_law.proofs.Asked.{job_ends, job_caused}
 use Rattle.pt_law.proofs.Settled.{settled}
-use Rattle.pt_fs.specs.Jobs.{request_of, job_seat}
+use Rattle.pt_fs.specs.Jobs.{asked_of, job_seat}
 use Rattle.pt_fs.specs.Trace.{Runs, AnswersEach, steps_by, step_of}
 use Rattle.pt_fs.specs.Keeps.{turn_of, turns_of, AfterEach, AfterEachTold, LeadsOn, begins_in, KeepsObjects, KeepsCounts, KeepsHandles, ServesEach, InsertsOnce, OvertakenAsTold, OfEachJob, GivesBack, IsCausedIn, IsNamedIn, NamesOpenOnes, LeavesOpen}
 use Rattle.pt_fs.specs.declared.job.Job.{Job}
 use Rattle.pt_fs.specs.declared.trace.TraceStep.{TraceStep}
-use Rattle.pt_fs.proofs.Ended.{one_for_each, at_below}
+use Rattle.pt_fs.proofs.Ended.{one_for_each, at_below, belongs_by}
+use Rattle.pt_fs.proofs.Traces.{made_from}
 use Rattle.pt_fs.proofs.Whole.{Whole, runs_whole, answers_whole}
 use Rattle.pt_fs.specs.Owing.{run_seat}
 use Rattle.pt_fs.specs.declared.running.Running.{Running}
 
 -- the seats aside, a trace is a run of its host
-pub host_runs : {H : Type 0} (does : Does H) (trace : List TraceStep) (host : H) (seats : List HostSeat) (tables : Tables) (host' : H) (seats' : List HostSeat) (tables' : Tables) →
+pub host_runs : {H : Type 0} (does : Does H) (trace : List TraceStep) (host : H) (seats : List (Option HostSeat)) (tables : Tables) (host' : H) (seats' : List (Option HostSeat)) (tables' : Tables) →
     Runs does trace host seats tables host' seats' tables' → HostRuns does (turns_of trace) host tables host' tables'
 host_runs does [] host seats tables host' seats' tables' r = (r.0, r.2)
 host_runs does (step ∷ trace) host seats tables host' seats' tables' r =
-    (r.0, r.2, r.3.0, r.3.1, r.3.4, host_runs does trace r.0 r.1 r.2 host' seats' tables' r.4)
+    let at = r.3 in
+    let from = made_from does (kept_deed_of step.act) step.reply host at.0 tables r.0 at.1 r.2 at.4 in
+    (r.0, r.2, from.0, from.1, from.2, host_runs does trace r.0 r.1 r.2 host' seats' tables' r.4)
 
 -- each step is one of the jobs'
-pub owners_below : {H : Type 0} (does : Does H) (bound : ℕ) (trace : List TraceStep) (host : H) (seats : List HostSeat) (tables : Tables) (host' : H) (seats' : List HostSeat) (tables' : Tables) →
+pub owners_below : {H : Type 0} (does : Does H) (bound : ℕ) (trace : List TraceStep) (host : H) (seats : List (Option HostSeat)) (tables : Tables) (host' : H) (seats' : List (Option HostSeat)) (tables' : Tables) →
     length seats ≡ bound → Runs does trace host seats tables host' seats' tables' → Each (λ turn. turn.job < bound) (turns_of trace)
 owners_below does bound [] host seats tables host' seats' tables' e r = tt
 owners_below does bound (step ∷ trace) host seats tables host' seats' tables' e r =
@@ -67,9 +67,9 @@ pub steps_same : (job : ℕ) (trace : List TraceStep) → steps_of job (turns_of
 steps_same job [] = refl
 steps_same job (step ∷ trace) = ap (λ (steps : List Step). cond (eqb step.job job) (step_of step ∷ steps) steps) (steps_same job trace)
 
-asked_by : Option Job → Request
-asked_by None = request.Root
-asked_by (Some job) = request_of job
+asked_by : Option Job → Asked
+asked_by None = Requests request.Root
+asked_by (Some job) = asked_of job
 
 end_by : Option Answer → Finish
 end_by None = finish.Answer answer.Done
@@ -77,15 +77,15 @@ end_by (Some told) = finish.Answer told
 
 -- a trace, and what is known of it
 pub record Ran {H : Type 0} (does : Does H) (plan : Plan) (limit : ℕ) (jobs : List Job) (host : H) (tables : Tables) (trace : List TraceStep) (answers : List Answer) (host' : H) (tables' : Tables) : Type 0 where
-  pub seats : List HostSeat
-  pub seats' : List HostSeat
+  pub seats : List (Option HostSeat)
+  pub seats' : List (Option HostSeat)
   pub runs : Runs does trace host seats tables host' seats' tables'
   pub one_each : length seats ≡ length jobs
   pub answered : AnswersEach plan jobs trace answers
   pub begins : tables ≡ empty_tables limit
 
 -- what each job asked and how it ended
-asked_at : List Job → ℕ → Request
+asked_at : List Job → ℕ → Asked
 unfolding asked_by
 asked_at jobs j = asked_by (slice_get jobs j)
 
@@ -101,7 +101,7 @@ answered_in plan jobs trace answers each owners = record {
   jobs = λ j below.
       let job = at_below jobs j below in
       let told = one_for_each jobs answers j job.0 each.one_each job.1 in
-      let in_pattern = each.in_pattern j job.0 told.0 job.1 told.1 in
+      let in_pattern = belongs_by plan job.0 (steps_by j trace) told.0 (each.in_pattern j job.0 told.0 job.1 told.1) in
       rw (steps_same j trace, job.1, told.1) in_pattern;
 }
 
@@ -129,10 +129,6 @@ pub record Keeps (limit : ℕ) (jobs : List Job) (tables : Tables) (trace : List
   pub gives_back : OfEachJob jobs answers (GivesBack trace)
   pub causes : OfEachJob jobs answers (IsCausedIn trace)
 
-caused_by : (trace : List TraceStep) (j : ℕ) (job : Job) (told : Answer) → (plan : Plan) → AllMayBeTold (steps_by j trace) → Belongs (grammar_of plan (request_of job)) (steps_by j trace) (finish.Answer told) → IsCausedIn trace j job told
-caused_by trace j job (answer.Refused errno) plan t b = (fit_ends (request_of job) (tree_of plan (request_of job)) (steps_by j trace) _ (fit_request plan (request_of job)) t b).1
-caused_by trace j job told plan t b = tt
-
 pub keeps : {H : Type 0} (does : Does H) (faults : H → ℕ) → Promises does faults → (plan : Plan) (limit : ℕ) (jobs : List Job) (host : H) (tables : Tables) (trace : List TraceStep) (answers : List Answer) (host' : H) (tables' : Tables) →
     Ran does plan limit jobs host tables trace answers host' tables' → Keeps limit jobs tables trace answers tables'
 keeps does faults p plan limit jobs host tables trace answers host' tables' ran =
@@ -159,10 +155,10 @@ keeps does faults p plan limit jobs host tables trace answers host' tables' ran 
       slots = λ so_far rest now e r. slots_law limit (length jobs) (turns_of so_far) (turns_of rest) now (cut_at (length jobs) trace so_far rest e disciplined) (from_empty (turns_of so_far) now r);
       rest = rest_law limit (length jobs) (turns_of trace) tables' ended whole;
       gives_back = λ j job answer at told_at.
-          let b = ran.answered.in_pattern j job answer at told_at in
-          let ends = (fit_ends (request_of job) (tree_of plan (request_of job)) (steps_by j trace) (finish.Answer answer) (fit_request plan (request_of job)) (told j) b).0 in
+          let b = belongs_by plan job (steps_by j trace) answer (ran.answered.in_pattern j job answer at told_at) in
+          let ends = job_ends plan (asked_of job) (steps_by j trace) (finish.Answer answer) (told j) b in
           record { settled = λ number. settled number (steps_by j trace) (finish.Answer answer) ends; ends = ends };
-      causes = λ j job answer at told_at. caused_by trace j job answer plan (told j) (ran.answered.in_pattern j job answer at told_at);
+      causes = λ j job answer at told_at. job_caused plan (asked_of job) (steps_by j trace) answer (told j) (belongs_by plan job (steps_by j trace) answer (ran.answered.in_pattern j job answer at told_at));
     }
 
 -- those that speak of objects, over a host that tells its tree
@@ -176,10 +172,10 @@ pub record KeepsTold (plan : Plan) (jobs : List Job) (told : Option Tree) (table
   pub entries : OfEachJob jobs answers (IsNamedIn plan told tables trace)
 
 entered_by : (limit : ℕ) (plan : Plan) (jobs : List Job) (told : Option Tree) (tables : Tables) (trace : List TraceStep) → tables ≡ empty_tables limit → AreDisciplined (length jobs) (turns_of trace) →
-    (j : ℕ) (job : Job) (given : Answer) → j < length jobs → Belongs (grammar_of plan (request_of job)) (steps_of j (turns_of trace)) (finish.Answer given) → IsNamedIn plan told tables trace j job given
+    (j : ℕ) (job : Job) (given : Answer) → j < length jobs → Belongs (grammar_for plan (asked_of job)) (steps_of j (turns_of trace)) (finish.Answer given) → IsNamedIn plan told tables trace j job given
 entered_by limit plan jobs told tables trace begins disciplined j job (answer.Entry entry) below b = λ parent name asked tree is well end runs.
     entered_law limit (length jobs) plan (turns_of trace) (begins_in tree tables) end j parent name entry (record { tables = begins; well_formed = well; past = refl }) disciplined runs below
-    (subst (λ (r : Request). Belongs (grammar_of plan r) (steps_of j (turns_of trace)) (finish.Answer (answer.Entry entry))) asked b)
+    (subst (λ (r : Asked). Belongs (grammar_for plan r) (steps_of j (turns_of trace)) (finish.Answer (answer.Entry entry))) asked b)
 entered_by limit plan jobs told tables trace begins disciplined j job given below b = tt
 
 pub keeps_told : {H : Type 0} (does : Does H) (tree : H → Option Tree) (faults : H → ℕ) → Promises does faults → Tells does tree → (plan : Plan) (limit : ℕ) (jobs : List Job) (host : H) (tables : Tables) (trace : List TraceStep) (answers : List Answer) (host' : H) (tables' : Tables) →
@@ -204,16 +200,16 @@ keeps_told does tree faults p tells plan limit jobs host tables trace answers ho
       leaves = λ t is well end r. leaves_law limit (length jobs) (turns_of trace) (begins_in t tables) end (starts t well) ended r;
       entries = λ j job given at told_at.
           entered_by limit plan jobs (tree host) tables trace ran.begins disciplined j job given (slice_get_within jobs j job at)
-          (rw (steps_same j trace) (ran.answered.in_pattern j job given at told_at));
+          (rw (steps_same j trace) (belongs_by plan job (steps_by j trace) given (ran.answered.in_pattern j job given at told_at)));
     }
 
 -- what is known of a whole run
-pub ran_whole : {H : Type 0} {does : Does H} {plan : Plan} {schedule : List ℕ} {h h' : H} {jobs : List Job} {running running' : List Running} {tables tables' : Tables} {trace : List TraceStep} {answers : List Answer} (seats : List HostSeat)
-    → Whole does plan schedule h jobs running tables h' running' tables' trace answers → seats ≡ map run_seat running' → ((limit : ℕ) × (tables ≡ empty_tables limit)) → Ran does plan tables.limit jobs h tables trace answers h' tables'
-ran_whole {jobs = jobs} {tables = tables} seats whole ends new = record {
+pub ran_whole : {H : Type 0} {does : Does H} {plan : Plan} {schedule : List ℕ} {h h' : H} {jobs : List Job} {running running' : List Running} {tables tables' : Tables} {trace : List TraceStep} {answers : List Answer}
+    → Whole does plan schedule h jobs running tables h' running' tables' trace answers → ((limit : ℕ) × (tables ≡ empty_tables limit)) → Ran does plan tables.limit jobs h tables trace answers h' tables'
+ran_whole {jobs = jobs} {running' = running'} {tables = tables} whole new = record {
   seats = map job_seat jobs;
-  seats' = seats;
-  runs = runs_whole seats whole ends;
+  seats' = map run_seat running';
+  runs = runs_whole whole;
   one_each = length-map jobs job_seat;
   answered = answers_whole whole;
   begins = new.1 ∙ ap empty_tables (sym (ap (λ (t : Tables). t.limit) new.1));

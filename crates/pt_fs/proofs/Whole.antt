@@ -11,10 +11,11 @@ use Rattle.pt_fs.specs.Jobs.{job_seat}
 use Rattle.pt_fs.specs.Order.{order, rest_of, IsInOrder}
 use Rattle.pt_fs.specs.Owing.{Owing, run_seat}
 use Rattle.pt_fs.specs.Took.{IsFinishedAt}
-use Rattle.pt_fs.specs.Trace.{Runs, AnswersEach, IsBounded}
+use Rattle.pt_fs.specs.Trace.{Runs, RunsJobs, seated, AnswersEach, IsBounded}
 use Rattle.pt_fs.specs.declared.job.Job.{Job}
 use Rattle.pt_fs.specs.declared.running.Running.{Running}
 use Rattle.pt_fs.specs.declared.trace.TraceStep.{TraceStep}
+use Rattle.pt_fs.proofs.Traces.{seats_left}
 use Rattle.pt_fs.proofs.Ended.{started_seats, started_length, started_owing, answers_each, bounded_each, steps_each, order_kept}
 
 -- a whole run, from the jobs that were started to those that have finished
@@ -29,9 +30,16 @@ pub record Whole {H : Type 0} (does : Does H) (plan : Plan) (schedule : List ℕ
 pub whole_steps : {H : Type 0} {does : Does H} {plan : Plan} {schedule : List ℕ} {h h' : H} {jobs : List Job} {running running' : List Running} {tables tables' : Tables} {trace : List TraceStep} {answers : List Answer} (whole : Whole does plan schedule h jobs running tables h' running' tables' trace answers) → trace ≡ whole.goes.steps
 whole_steps whole = whole.goes.longer ∙ ap (λ t. t ++ whole.goes.steps) whole.empty
 
-pub runs_whole : {H : Type 0} {does : Does H} {plan : Plan} {schedule : List ℕ} {h h' : H} {jobs : List Job} {running running' : List Running} {tables tables' : Tables} {trace : List TraceStep} {answers : List Answer} (seats : List HostSeat)
-    → Whole does plan schedule h jobs running tables h' running' tables' trace answers → seats ≡ map run_seat running' → Runs does trace h (map job_seat jobs) tables h' seats tables'
-runs_whole {plan = plan} {jobs = jobs} {running = running} seats whole ends = rw (whole_steps whole, ends, ← started_seats plan jobs running whole.started) whole.goes.runs
+pub runs_whole : {H : Type 0} {does : Does H} {plan : Plan} {schedule : List ℕ} {h h' : H} {jobs : List Job} {running running' : List Running} {tables tables' : Tables} {trace : List TraceStep} {answers : List Answer}
+    → Whole does plan schedule h jobs running tables h' running' tables' trace answers → Runs does trace h (map job_seat jobs) tables h' (map run_seat running') tables'
+runs_whole {plan = plan} {jobs = jobs} {running = running} whole = rw (whole_steps whole, ← started_seats plan jobs running whole.started) whole.goes.runs
+
+-- and the seats that are left
+pub jobs_whole : {H : Type 0} {does : Does H} {plan : Plan} {schedule : List ℕ} {h h' : H} {jobs : List Job} {running running' : List Running} {tables tables' : Tables} {trace : List TraceStep} {answers : List Answer} (left : List HostSeat)
+    → Whole does plan schedule h jobs running tables h' running' tables' trace answers → left ≡ seated (map run_seat running') → RunsJobs does jobs trace h tables h' left tables'
+jobs_whole {does = does} {h = h} {h' = h'} {jobs = jobs} {running' = running'} {tables = tables} {tables' = tables'} {trace = trace} left whole ends =
+    let runs = runs_whole whole in
+    record { seats = map run_seat running'; runs = runs; are_left = ends; one_each = ap length ends ∙ seats_left does trace h h' (map job_seat jobs) (map run_seat running') tables tables' runs }
 
 pub owing_whole : {H : Type 0} {does : Does H} {plan : Plan} {schedule : List ℕ} {h h' : H} {jobs : List Job} {running running' : List Running} {tables tables' : Tables} {trace : List TraceStep} {answers : List Answer}
     → Whole does plan schedule h jobs running tables h' running' tables' trace answers → Owing plan jobs running' trace

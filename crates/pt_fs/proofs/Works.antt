@@ -12,11 +12,12 @@ use Rattle.pt_req.specs.declared.act.ActReply.TheVariants.{Event, Host, NoCopy}
 use Rattle.pt_req.specs.declared.plan.Plan.{Plan}
 use Rattle.pt_fs.specs.Advances.{inserted_in}
 use Rattle.pt_fs.specs.Each.{EachStarted}
-use Rattle.pt_fs.specs.Trace.{told_by}
+use Rattle.pt_fs.specs.Trace.{MadeFrom, told_by}
 use Rattle.pt_fs.specs.Work.{work, bounds_in, room_of}
 use Rattle.pt_fs.specs.declared.job.Job.{Job}
 use Rattle.pt_fs.specs.declared.running.Running.{Running}
 use Rattle.pt_fs.proofs.Pending.{event_puts}
+use Rattle.pt_fs.proofs.Traces.{made_from}
 
 abbrev pub weight : Running → ℕ
 weight run = steps_bound run.state + 3 * inserts_left run.state
@@ -39,13 +40,19 @@ made_puts does (Some (Calls asked)) (Event told) host host' seat seat' tables ta
 made_puts does None (Event told) host host' seat seat' tables tables' made = absurd made
 made_puts does None (Host told) host host' seat seat' tables tables' made = absurd made
 
+puts_from : {H : Type 0} (does : Does H) (kept : Option Deed) (told : ActReply) (host host' : H) (seat seat' : Option HostSeat) (tables tables' : Tables)
+    → MadeFrom does kept told host seat tables host' seat' tables' → pending_in tables' + told_by kept told ≤ pending_in tables + inserted_in kept told
+puts_from does kept told host host' seat seat' tables tables' made =
+    let from = made_from does kept told host seat tables host' seat' tables' made in
+    made_puts does kept told host host' from.0 from.1 tables tables' from.2
+
 -- each step leaves less work
-pub advance_falls : {H : Type 0} (does : Does H) (place : ℕ) (kept : Option Deed) (told : ActReply) (host host' : H) (running : List Running) (run run' : Running) (tables tables' : Tables) (seat' : HostSeat)
-    → slice_get running place ≡ Some run → Made does kept told host run.seat tables host' seat' tables'
+pub advance_falls : {H : Type 0} (does : Does H) (place : ℕ) (kept : Option Deed) (told : ActReply) (host host' : H) (running : List Running) (run run' : Running) (tables tables' : Tables) (seat' : Option HostSeat)
+    → slice_get running place ≡ Some run → MadeFrom does kept told host run.seat tables host' seat' tables'
     → steps_bound run'.state + 1 ≤ steps_bound run.state + 3 * told_by kept told → inserts_left run'.state + inserted_in kept told ≤ inserts_left run.state
     → work (slice_set running place run') tables' + 1 ≤ work running tables
 advance_falls does place kept told host host' running run run' tables tables' seat' there made within inserts =
-    let puts = made_puts does kept told host host' run.seat seat' tables tables' made in
+    let puts = puts_from does kept told host host' run.seat seat' tables tables' made in
     let sums = bounds-set running place run run' there in
     omega arith
 

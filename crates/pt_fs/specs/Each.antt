@@ -4,19 +4,19 @@ use Rattle.pt_iface.specs.declared.answer.Answer.{Answer}
 use Rattle.pt_iface.specs.declared.answer.Answer.TheVariants as answer
 use Rattle.pt_req.specs.Grammar.{End}
 use Rattle.pt_req.specs.Job.{owes, steps_bound, inserts_left}
-use Rattle.pt_req.specs.Pattern.{grammar_of, bound_of, most_inserted}
+use Rattle.pt_req.specs.Pattern.{grammar_for, bound_for, most_inserted}
 use Rattle.pt_req.specs.declared.finish.Finish.{Finish}
 use Rattle.pt_req.specs.declared.finish.Finish.TheVariants as finish
 use Rattle.pt_req.specs.declared.plan.Plan.{Plan}
-use Rattle.pt_fs.specs.Jobs.{job_seat, request_of}
+use Rattle.pt_fs.specs.Jobs.{job_seat, asked_of}
 use Rattle.pt_fs.specs.declared.job.Job.{Job}
 use Rattle.pt_fs.specs.declared.running.Running.{Running}
 
--- the job has its seat, and owes all of its request
+-- the job has its seat, if any, and owes all of what it asks
 pub record IsStarted (plan : Plan) (job : Job) (run : Running) : Type 0 where
   pub seat : run.seat ≡ job_seat job
-  pub left : owes plan run.state ≡ grammar_of plan (request_of job)
-  pub bound : steps_bound run.state ≤ bound_of (request_of job)
+  pub left : owes plan run.state ≡ grammar_for plan (asked_of job)
+  pub bound : steps_bound run.state ≤ bound_for (asked_of job)
   pub inserts : inserts_left run.state ≤ most_inserted
 
 abbrev pub EachStarted : Plan → List Job → List Running → Type 0

@@ -9,16 +9,17 @@ use Rattle.pt_iface.specs.declared.answer.Answer.{Answer}
 use Rattle.pt_iface.specs.declared.answer.Answer.TheVariants as answer
 use Rattle.pt_iface.specs.declared.request.Request.TheVariants as request
 use Rattle.pt_req.specs.Deed.{kept_deed_of}
+use Rattle.pt_req.specs.Pattern.{Requests}
 use Rattle.pt_req.specs.declared.finish.Finish.TheVariants as finish
 use Rattle.pt_req.specs.declared.plan.Plan.{Plan}
-use Rattle.pt_law.specs.Cause.{HasCause}
+use Rattle.pt_law.specs.Cause.{IsCausedBy}
 use Rattle.pt_law.specs.Discipline.{idle, Ends}
 use Rattle.pt_law.specs.Entered.{IsEntered}
 use Rattle.pt_law.specs.Laws.{AreDistinct, HasObject, IsCounted, IsStanding, Serves, TellsOvertaken, IsOvertaken, NamesOpen, LeavesRows}
 use Rattle.pt_law.specs.Ledger.{given, inserted, handle_inserted, standing}
 use Rattle.pt_law.specs.Settled.{all_given, all_returned, entry_count}
 use Rattle.pt_law.specs.World.{Turn, World, TablesRun, no_past, Runs as WorldRuns}
-use Rattle.pt_fs.specs.Jobs.{request_of}
+use Rattle.pt_fs.specs.Jobs.{asked_of}
 use Rattle.pt_fs.specs.Trace.{step_of, steps_by}
 use Rattle.pt_fs.specs.declared.job.Job.{Job}
 use Rattle.pt_fs.specs.declared.trace.TraceStep.{TraceStep}
@@ -88,14 +89,13 @@ pub record GivesBack (trace : List TraceStep) (j : ℕ) (job : Job) (told : Answ
   pub settled : (number : ℕ) → all_given number (steps_by j trace) ≡ all_returned number (steps_by j trace) + entry_count number (finish.Answer told)
   pub ends : Ends idle (steps_by j trace) (finish.Answer told)
 
--- a refusal has its cause, in what was asked or at a step of the job
+-- a refusal has its cause, in what was asked or at a step of the job; and an edit is refused exactly where its step was
 abbrev pub IsCausedIn : List TraceStep → ℕ → Job → Answer → Type 0
-IsCausedIn trace j job (answer.Refused errno) = HasCause (request_of job) (steps_by j trace) errno
-IsCausedIn trace j job told = Unit {0}
+IsCausedIn trace j job told = IsCausedBy (asked_of job) (steps_by j trace) told
 
 -- an entry names the object that its name had in the directory that its parent stood for
 abbrev pub IsNamedIn : Plan → Option Tree → Tables → List TraceStep → ℕ → Job → Answer → Type 0
-IsNamedIn plan told tables trace j job (answer.Entry entry) = (parent : ℕ) (name : List ℕ) → request_of job ≡ request.Lookup parent name →
+IsNamedIn plan told tables trace j job (answer.Entry entry) = (parent : ℕ) (name : List ℕ) → asked_of job ≡ Requests (request.Lookup parent name) →
     WhereTold told tables (λ start. (end : World) → WorldRuns start (turns_of trace) end → IsEntered plan start (turns_of trace) end j parent name entry)
 IsNamedIn plan told tables trace j job other = Unit {0}
 

@@ -4,10 +4,10 @@ use Rattle.pt_session.specs.Tables.{Tables}
 use Rattle.pt_req.specs.Deed.{kept_deed_of}
 use Rattle.pt_req.specs.Grammar.{is_end}
 use Rattle.pt_req.specs.Job.{owes, steps_left, steps_bound, is_finished}
-use Rattle.pt_req.specs.Made.{Does, Made}
+use Rattle.pt_req.specs.Made.{Does}
 use Rattle.pt_req.specs.declared.plan.Plan.{Plan}
 use Rattle.pt_fs.specs.Advances.{Advances}
-use Rattle.pt_fs.specs.Trace.{told_by}
+use Rattle.pt_fs.specs.Trace.{MadeFrom, told_by}
 use Rattle.pt_fs.specs.declared.trace.TraceStep.{TraceStep}
 use Rattle.pt_fs.specs.declared.running.Running.{Running}
 
@@ -27,7 +27,7 @@ pub record Took {H : Type 0} (does : Does H) (plan : Plan) (place : ℕ) (host :
   pub longer : trace' ≡ trace ++ step ∷ []
   pub owner : step.job ≡ place
   pub unfinished : is_finished run.state ≡ false
-  pub made : Made does (kept_deed_of step.act) step.reply host run.seat tables host' run'.seat tables'
+  pub made : MadeFrom does (kept_deed_of step.act) step.reply host run.seat tables host' run'.seat tables'
   pub advances : Advances (owes plan run.state) (kept_deed_of step.act) step.reply (owes plan run'.state)
   pub fewer : steps_left run'.state < steps_left run.state
   pub within : steps_bound run'.state + 1 ≤ steps_bound run.state + 3 * told_by (kept_deed_of step.act) step.reply

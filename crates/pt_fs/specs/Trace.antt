@@ -1,15 +1,15 @@
 -- Traces: where their steps lead, and what they say of each job.
-use Rattle.std.specs.Prelude.{◌≡◌, ◌≤◌, ℕ, ◌+◌, ◌*◌, ◌==◌, List, [], ◌∷◌, Option, Some, None, length, slice_get, slice_set, if◌then◌else◌}
+use Rattle.std.specs.Prelude.{◌≡◌, ◌≤◌, ℕ, ◌+◌, ◌*◌, ◌==◌, List, [], ◌∷◌, Option, Some, None, length, map, slice_get, slice_set, if◌then◌else◌}
 use Rattle.pt_host.specs.declared.seat.HostSeat.{HostSeat}
 use Rattle.pt_session.specs.Tables.{Tables}
 use Rattle.pt_iface.specs.declared.answer.Answer.{Answer}
 use Rattle.pt_req.specs.Deed.{Deed, Step, kept_deed_of}
 use Rattle.pt_req.specs.Held.{closings_in}
 use Rattle.pt_req.specs.Made.{Does, Made}
-use Rattle.pt_req.specs.Pattern.{bound_of}
+use Rattle.pt_req.specs.Pattern.{bound_for}
 use Rattle.pt_req.specs.declared.act.ActReply.{ActReply}
 use Rattle.pt_req.specs.declared.plan.Plan.{Plan}
-use Rattle.pt_fs.specs.Jobs.{IsAnsweredBy, request_of}
+use Rattle.pt_fs.specs.Jobs.{job_seat, asked_of, IsAnsweredBy}
 use Rattle.pt_fs.specs.declared.job.Job.{Job}
 use Rattle.pt_fs.specs.declared.trace.TraceStep.{TraceStep}
 
@@ -17,18 +17,52 @@ use Rattle.pt_fs.specs.declared.trace.TraceStep.{TraceStep}
 abbrev pub step_of : TraceStep → Step
 step_of step = record { deed = kept_deed_of step.act; reply = step.reply }
 
+-- A host's call takes a seat, and an edit has none: it is handed this one, and what is left of it is thrown away.
+abbrev pub no_seat : HostSeat
+no_seat = record {
+  real_uid = 0;
+  eff_uid = 0;
+  saved_uid = 0;
+  real_gid = 0;
+  eff_gid = 0;
+  saved_gid = 0;
+  groups = [];
+  eff_caps = record { 0 = 0 };
+  perm_caps = record { 0 = 0 };
+  umask = 0;
+}
+
+-- a step of a job that has a seat, which may be another after it, or of one that has none
+abbrev pub MadeFrom : {H : Type 0} → Does H → Option Deed → ActReply → H → Option HostSeat → Tables → H → Option HostSeat → Tables → Type 0
+MadeFrom does deed reply host (Some seat) tables host' (Some seat') tables' = Made does deed reply host seat tables host' seat' tables'
+MadeFrom does deed reply host None tables host' None tables' = (left : HostSeat) × Made does deed reply host no_seat tables host' left tables'
+MadeFrom does deed reply host seat tables host' seat' tables' = ⊥
+
 -- the step was made from the seat of the job that owns it, and no other seat changed
-abbrev pub MadeAt : {H : Type 0} → Does H → TraceStep → H → List HostSeat → Tables → H → List HostSeat → Tables → Type 0
+abbrev pub MadeAt : {H : Type 0} → Does H → TraceStep → H → List (Option HostSeat) → Tables → H → List (Option HostSeat) → Tables → Type 0
 MadeAt does step host seats tables host' seats' tables' =
-    (seat : HostSeat) × (seat' : HostSeat) × (slice_get seats step.job ≡ Some seat) × (seats' ≡ slice_set seats step.job seat')
-    × Made does (kept_deed_of step.act) step.reply host seat tables host' seat' tables'
+    (seat : Option HostSeat) × (seat' : Option HostSeat) × (slice_get seats step.job ≡ Some seat) × (seats' ≡ slice_set seats step.job seat')
+    × MadeFrom does (kept_deed_of step.act) step.reply host seat tables host' seat' tables'
 
 -- the trace leads from host, seats and tables to these, each step from where the one before it led
-abbrev pub Runs : {H : Type 0} → Does H → List TraceStep → H → List HostSeat → Tables → H → List HostSeat → Tables → Type 0
+abbrev pub Runs : {H : Type 0} → Does H → List TraceStep → H → List (Option HostSeat) → Tables → H → List (Option HostSeat) → Tables → Type 0
 Runs does [] host seats tables host' seats' tables' = (host' ≡ host) × (seats' ≡ seats) × (tables' ≡ tables)
 Runs {H} does (step ∷ steps) host seats tables host' seats' tables' =
-    (host1 : H) × (seats1 : List HostSeat) × (tables1 : Tables) × MadeAt does step host seats tables host1 seats1 tables1
+    (host1 : H) × (seats1 : List (Option HostSeat)) × (tables1 : Tables) × MadeAt does step host seats tables host1 seats1 tables1
     × Runs does steps host1 seats1 tables1 host' seats' tables'
+
+-- those that there are, in their order
+abbrev pub seated : List (Option HostSeat) → List HostSeat
+seated [] = []
+seated (None ∷ seats) = seated seats
+seated (Some seat ∷ seats) = seat ∷ seated seats
+
+-- The trace leads from host, the jobs' seats and tables to these. The seats that are left are those of the jobs that are no edit, in job order.
+pub record RunsJobs {H : Type 0} (does : Does H) (jobs : List Job) (trace : List TraceStep) (host : H) (tables : Tables) (host' : H) (left : List HostSeat) (tables' : Tables) : Type 0 where
+  pub seats : List (Option HostSeat)
+  pub runs : Runs does trace host (map job_seat jobs) tables host' seats tables'
+  pub are_left : left ≡ seated seats
+  pub one_each : length left ≡ length (seated (map job_seat jobs))
 
 -- the steps of one job
 abbrev pub steps_by : ℕ → List TraceStep → List Step
@@ -53,4 +87,4 @@ closings_told (step ∷ steps) = told_by step.deed step.reply + closings_told st
 -- no job took more steps than its bound, and three for each closing that it was told
 abbrev pub IsBounded : List Job → List TraceStep → Type 0
 IsBounded jobs trace =
-    (j : ℕ) (job : Job) → slice_get jobs j ≡ Some job → length (steps_by j trace) ≤ bound_of (request_of job) + 3 * closings_told (steps_by j trace)
+    (j : ℕ) (job : Job) → slice_get jobs j ≡ Some job → length (steps_by j trace) ≤ bound_for (asked_of job) + 3 * closings_told (steps_by j trace)

@@ -1,7 +1,8 @@
-ghost use Rattle.std.specs.Prelude.{◌≡◌, ◌≤◌, ℕ, [], length, map, IfOk, vec_capacity};
+ghost use Rattle.std.specs.Prelude.{◌≡◌, ◌≤◌, ◌<◌, ℕ, [], ◌∷◌, ◌++◌, length, map, IfOk, vec_capacity};
 ghost use Rattle.pt_fs.specs.Each.{IsStarted, EachStarted, EachAnswered, answer_of};
 ghost use Rattle.pt_fs.specs.Owing.{run_seat};
 ghost use Rattle.pt_fs.specs.Took.{IsFinishedAt};
+ghost use Rattle.pt_fs.specs.Trace.{seated};
 
 use crate::fs::SteppedFs;
 use crate::job::Job;
@@ -9,7 +10,7 @@ use crate::room::push_within;
 use crate::running::Running;
 use pt_host::HostSeat;
 use pt_iface::{Answer, Context, Request};
-use pt_req::Finish;
+use pt_req::{Finish, JobState};
 use std::alloc::{AllocError, Global};
 
 /// Starts one job.
@@ -19,9 +20,16 @@ fn start_one<F: SteppedFs>(alloc: Global, fs: &F, job: Job) -> Result<Running, A
     let (who, seat, request) = match job {
         Job::Request(who, seat, request) => (who, seat, request),
         Job::OpenRoot(seat) => (Context { uid: 0, gid: 0 }, seat, Request::Root),
+        Job::Edit(edit) => {
+            let state = JobState::edit(edit);
+            return Ok(Running { seat: None, state });
+        }
     };
     match fs.start(alloc, who, request) {
-        Ok(state) => Ok(Running { seat, state }),
+        Ok(state) => {
+            let seat = Some(seat);
+            Ok(Running { seat, state })
+        }
         Err(_) => Err(AllocError),
     }
 }
@@ -52,7 +60,18 @@ fn answered(finish: Finish) -> Answer
     }
 }
 
-/// Each job's answer and seat, where there is room for them.
+/// A seat more, where there is one.
+fn push_seat(seats: &mut Vec<HostSeat>, seat: Option<HostSeat>)
+    requires { length seats.old.items < vec_capacity seats.old }
+    ensures items { seats.new.items ≡ seats.old.items ++ seated (seat ∷ []) }
+    ensures capacity { vec_capacity seats.old ≤ vec_capacity seats.new }
+{
+    if let Some(seat) = seat {
+        push_within(seats, seat);
+    }
+}
+
+/// Each job's answer, and its seat if it has one, where there is room for them.
 pub fn finish_jobs(running: Vec<Running>, answers: &mut Vec<Answer>, seats: &mut Vec<HostSeat>)
     requires finished { (j : ℕ) → IsFinishedAt running.items j }
     requires no_answers { answers.old.items ≡ [] }
@@ -60,10 +79,10 @@ pub fn finish_jobs(running: Vec<Running>, answers: &mut Vec<Answer>, seats: &mut
     requires room_answers { length running.items ≤ vec_capacity answers.old }
     requires room_seats { length running.items ≤ vec_capacity seats.old }
     ensures answers { EachAnswered running.items answers.new.items }
-    ensures seats { seats.new.items ≡ map run_seat running.items }
+    ensures seats { seats.new.items ≡ seated (map run_seat running.items) }
 {
     for run in running {
         push_within(answers, answered(run.state.finish()));
-        push_within(seats, run.seat);
+        push_seat(seats, run.seat);
     }
 }

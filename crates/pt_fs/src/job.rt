@@ -1,4 +1,4 @@
-use pt_host::HostSeat;
+use pt_host::{Edit, HostSeat};
 use pt_iface::{Context, Request};
 
 /// One job of `drive`.
@@ -8,4 +8,6 @@ pub enum Job {
     Request(Context, HostSeat, Request),
     /// The daemon opens the shared directory.
     OpenRoot(HostSeat),
+    /// Somebody else changes the host's tree, beside the requests.
+    Edit(Edit),
 }

@@ -1,6 +1,6 @@
 ghost use Rattle.std.specs.Prelude.{◌≡◌, ◌+◌, ◌*◌, ◌<◌, ◌≤◌, ◌^◌, [], ◌∷◌, ◌++◌, length, IfOk, vec_capacity};
-ghost use Rattle.pt_req.specs.Pattern.{bound_of as bound};
-ghost use Rattle.pt_fs.specs.Jobs.{request_of};
+ghost use Rattle.pt_req.specs.Pattern.{bound_of, bound_for};
+ghost use Rattle.pt_fs.specs.Jobs.{asked_of};
 ghost use Rattle.pt_fs.specs.Work.{room_of as room};
 
 use crate::job::Job;
@@ -28,7 +28,7 @@ pub fn push_within<T: Drop>(v: &mut Vec<T>, item: T)
 
 /// How many steps a request takes at most, three for each closing aside.
 fn bound_of(request: &Request) -> usize
-    ensures bound { result ≡ bound request.now }
+    ensures bound { result ≡ bound_of request.now }
     ensures small { result ≤ 48 }
 {
     match request {
@@ -43,12 +43,13 @@ fn bound_of(request: &Request) -> usize
 
 /// The same of a job.
 fn bound_of_job(job: &Job) -> usize
-    ensures bound { result ≡ bound (request_of job.now) }
+    ensures bound { result ≡ bound_for (asked_of job.now) }
     ensures small { result ≤ 48 }
 {
     match job {
         Job::Request(_, _, request) => bound_of(request),
         Job::OpenRoot(_) => bound_of(&Request::Root),
+        Job::Edit(_) => 1,
     }
 }
 

@@ -1,11 +1,10 @@
-ghost use Rattle.std.specs.Prelude.{◌≤◌, vec_capacity, ◌≡◌, ◌<◌, ◌^◌, ℕ, [], length, map, IfOk, OnErr};
+ghost use Rattle.std.specs.Prelude.{◌≤◌, vec_capacity, ◌≡◌, ◌<◌, ◌^◌, ℕ, [], length, IfOk, OnErr};
 ghost use Rattle.pt_session.specs.Tables.{empty_tables};
 ghost use Rattle.pt_fs.specs.Each.{EachStarted};
-ghost use Rattle.pt_fs.specs.Jobs.{job_seat};
 ghost use Rattle.pt_fs.specs.Keeps.{turns_of, AfterEach, AfterEachTold, LeadsOn, KeepsObjects, KeepsCounts, KeepsHandles, ServesEach, InsertsOnce, OvertakenAsTold, OfEachJob, GivesBack, IsCausedIn, IsNamedIn, NamesOpenOnes, LeavesOpen};
 ghost use Rattle.pt_fs.specs.Order.{IsInOrder};
 ghost use Rattle.pt_law.specs.Laws.{SlotsAddUp, IsAtRest, AreKept};
-ghost use Rattle.pt_fs.specs.Trace.{Runs, AnswersEach, IsBounded};
+ghost use Rattle.pt_fs.specs.Trace.{RunsJobs, AnswersEach, IsBounded};
 ghost use Rattle.pt_fs.specs.Work.{room_of as room};
 
 use crate::ends::{finish_jobs, start_all};
@@ -19,7 +18,7 @@ use pt_host::{Host, HostSeat};
 use pt_iface::Answer;
 use std::alloc::{AllocError, Global};
 
-/// What a run leaves: the file system, and the answers, steps and seats of its jobs.
+/// What a run leaves: the file system, the answers and the steps of its jobs, and the seats of those that are no edit.
 #[derive(Drop)]
 pub struct Driven<F> {
     pub fs: F,
@@ -47,8 +46,8 @@ pub fn drive<H: Host, F: SteppedFs>(
     requires few { length jobs.items < 2 ^ 32 }
     requires new { (limit : ℕ) × (F.tables fs ≡ empty_tables limit) }
 
-    // The trace runs from the host, the jobs' seats and the tables as the call begins to those as it ends.
-    ensures steps { IfOk result (λ driven. Runs H.does driven.trace.items host.old (map job_seat jobs.items) (F.tables fs) host.new driven.seats.items (F.tables driven.fs)) }
+    // The trace runs from the host, the jobs' seats and the tables as the call begins to those as it ends. An edit has no seat.
+    ensures steps { IfOk result (λ driven. RunsJobs H.does jobs.items driven.trace.items host.old (F.tables fs) host.new driven.seats.items (F.tables driven.fs)) }
 
     // The steps belong to whom the schedule gives them, and each job has one at least.
     ensures order { IfOk result (λ driven. IsInOrder schedule.now (length jobs.items) driven.trace.items) }
@@ -59,7 +58,7 @@ pub fn drive<H: Host, F: SteppedFs>(
     // Each job keeps its bound.
     ensures bounded { IfOk result (λ driven. IsBounded jobs.items driven.trace.items) }
 
-    // Each refusal has its cause, in what was asked or at a step of its job.
+    // Each refusal has its cause, in what was asked or at a step of its job. An edit is refused exactly where its step was.
     ensures causes { IfOk result (λ driven. OfEachJob jobs.items driven.answers.items (IsCausedIn driven.trace.items)) }
 
     // What a job was given and what it held it gave back, but for the number that its answer has.

@@ -4,6 +4,7 @@ use pt_req::JobState;
 /// A job on its way.
 #[derive(Drop)]
 pub struct Running {
-    pub seat: HostSeat,
+    /// An edit has none.
+    pub seat: Option<HostSeat>,
     pub state: JobState,
 }

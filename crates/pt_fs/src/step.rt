@@ -1,27 +1,55 @@
-ghost use Rattle.std.specs.Prelude.{◌+◌, ◌*◌, ◌≤◌, vec_capacity, ◌≡◌, ◌<◌, false, length};
+ghost use Rattle.std.specs.Prelude.{◌+◌, ◌*◌, ◌≤◌, vec_capacity, ◌≡◌, ◌<◌, false, length, unwrap_or};
 ghost use Rattle.pt_req.specs.Deed.{kept_deed_of};
 ghost use Rattle.pt_req.specs.Grammar.{is_end};
 ghost use Rattle.pt_req.specs.Job.{owes, steps_left, steps_bound, inserts_left};
 ghost use Rattle.pt_req.specs.Made.{Made};
 ghost use Rattle.pt_fs.specs.Advances.{Advances, IsWanted, IsTold, inserted_in};
 ghost use Rattle.pt_fs.specs.Took.{Took, IsUnfinished};
-ghost use Rattle.pt_fs.specs.Trace.{told_by};
+ghost use Rattle.pt_fs.specs.Trace.{no_seat, MadeFrom, told_by};
 ghost use Rattle.pt_fs.specs.Work.{work};
 
 use crate::fs::SteppedFs;
 use crate::room::push_within;
 use crate::running::Running;
 use crate::trace::TraceStep;
-use pt_host::{Host, HostSeat};
+use pt_host::{Caps, Groups, Host, HostSeat};
 use pt_req::{ActReply, KeptAct, Want};
 use std::alloc::Global;
+
+/// The seat that an edit's call is handed.
+fn no_seat() -> HostSeat
+    ensures { result ≡ no_seat }
+{
+    HostSeat {
+        real_uid: 0,
+        eff_uid: 0,
+        saved_uid: 0,
+        real_gid: 0,
+        eff_gid: 0,
+        saved_gid: 0,
+        groups: Groups::new(),
+        eff_caps: Caps(0),
+        perm_caps: Caps(0),
+        umask: 0,
+    }
+}
+
+fn seat_or<'a>(seat: &'a Option<HostSeat>, none: &'a HostSeat) -> &'a HostSeat
+    ensures { result.now ≡ unwrap_or seat.now none.now }
+{
+    match seat {
+        Some(seat) => seat,
+        None => none,
+    }
+}
 
 /// What the job is to do next, or word that its bytes could not be copied.
 fn wanted<F: SteppedFs>(alloc: Global, fs: &F, running: &Running) -> KeptAct
     requires { is_end (owes (F.plan_of fs.now) running.now.state) ≡ false }
     ensures { IsWanted (owes (F.plan_of fs.now) running.now.state) (kept_deed_of result) }
 {
-    match running.state.want(fs.plan(), &running.seat) {
+    let none = no_seat();
+    match running.state.want(fs.plan(), seat_or(&running.seat, &none)) {
         Want::Finished => KeptAct::NoCopy,
         Want::Step(act) => match act.keep(alloc) {
             Ok(kept) => kept,
@@ -47,6 +75,25 @@ fn make<H: Host, F: SteppedFs>(
     }
 }
 
+/// Makes one act of a job that has this seat, or none.
+fn make_from<H: Host, F: SteppedFs>(
+    host: &mut H,
+    fs: &mut F,
+    seat: &mut Option<HostSeat>,
+    act: &KeptAct,
+) -> ActReply
+    ensures made { MadeFrom H.does (kept_deed_of act.now) result host.old seat.old (F.tables fs.old) host.new seat.new (F.tables fs.new) }
+    ensures plan { F.plan_of fs.new ≡ F.plan_of fs.old }
+{
+    match seat {
+        Some(seat) => make(host, fs, seat, act),
+        None => {
+            let mut seat = no_seat();
+            make(host, fs, &mut seat, act)
+        }
+    }
+}
+
 /// The reply for the trace and for the job; where its bytes cannot be copied, both are told so.
 fn told_twice(alloc: Global, reply: ActReply) -> (ActReply, ActReply)
     ensures told { IsTold reply result.0 }
@@ -66,7 +113,7 @@ fn advance<H: Host, F: SteppedFs>(
     running: &mut Running,
 ) -> (KeptAct, ActReply)
     requires { is_end (owes (F.plan_of fs.old) running.old.state) ≡ false }
-    ensures made { Made H.does (kept_deed_of result.0) result.1 host.old running.old.seat (F.tables fs.old) host.new running.new.seat (F.tables fs.new) }
+    ensures made { MadeFrom H.does (kept_deed_of result.0) result.1 host.old running.old.seat (F.tables fs.old) host.new running.new.seat (F.tables fs.new) }
     ensures plan { F.plan_of fs.new ≡ F.plan_of fs.old }
     ensures advances { Advances (owes (F.plan_of fs.old) running.old.state) (kept_deed_of result.0) result.1 (owes (F.plan_of fs.old) running.new.state) }
     ensures fewer { steps_left running.new.state < steps_left running.old.state }
@@ -74,9 +121,12 @@ fn advance<H: Host, F: SteppedFs>(
     ensures inserts { inserts_left running.new.state + inserted_in (kept_deed_of result.0) result.1 ≤ inserts_left running.old.state }
 {
     let act = wanted(alloc, fs, running);
-    let reply = make(host, fs, &mut running.seat, &act);
+    let reply = make_from(host, fs, &mut running.seat, &act);
     let (shown, told) = told_twice(alloc, reply);
-    running.state.take(fs.plan(), told, &running.seat);
+    let none = no_seat();
+    running
+        .state
+        .take(fs.plan(), told, seat_or(&running.seat, &none));
     (act, shown)
 }
 

@@ -1,10 +1,10 @@
-ghost use Rattle.std.specs.Prelude.{◌≡◌, ℕ, None, IfOk, length};
+ghost use Rattle.std.specs.Prelude.{◌≡◌, ◌<◌, ◌^◌, ℕ, None, IfOk, length};
 ghost use Rattle.pt_host.specs.Promises.{IsPromised};
 ghost use Rattle.pt_session.specs.Tables.{empty_tables};
 
 use crate::{DriveError, Driven, Job, PassthroughFs, SteppedFs, drive, turns_are_determined};
 use pt_host::{
-    Bytes, Caps, Errno, Fd, Host, HostOp, HostReply, HostSeat, HostValue, ObjIds, Stat, Time,
+    Bytes, Caps, Edit, Errno, Fd, Host, HostOp, HostReply, HostSeat, HostValue, ObjIds, Stat, Time,
 };
 use pt_iface::{Answer, Context, Refusal, Request};
 use pt_req::Config;
@@ -12,10 +12,11 @@ use pt_session::Session;
 use std::alloc::Global;
 use std::test::Fail;
 
-/// A host with one directory, which is empty.
+/// A host with one directory, which is empty until an edit puts one file into it.
 #[derive(Drop)]
 struct OneDirectory {
     refuses: bool,
+    has_file: bool,
 }
 
 impl Host for OneDirectory {
@@ -34,10 +35,24 @@ impl Host for OneDirectory {
                     HostReply::Ok(HostValue::Fd(Fd(4)))
                 }
             }
-            HostOp::OpenAt { .. } => HostReply::Refused(Errno::ENOENT),
+            HostOp::OpenAt { .. } => {
+                if self.has_file {
+                    HostReply::Ok(HostValue::Fd(Fd(5)))
+                } else {
+                    HostReply::Refused(Errno::ENOENT)
+                }
+            }
             HostOp::Reopen { .. } | HostOp::ReadAt { .. } => HostReply::Refused(Errno::EACCES),
-            HostOp::Stat { .. } => HostReply::Ok(HostValue::Stat(a_stat())),
+            HostOp::Stat { fd } => HostReply::Ok(HostValue::Stat(a_stat(u64::from(fd.0)))),
             HostOp::Close { .. } => HostReply::Ok(HostValue::Unit),
+            HostOp::Edit(_) => {
+                if self.has_file {
+                    HostReply::Refused(Errno::EEXIST)
+                } else {
+                    self.has_file = true;
+                    HostReply::Ok(HostValue::Unit)
+                }
+            }
         }
     }
 
@@ -46,10 +61,10 @@ impl Host for OneDirectory {
     ghost lawful = { λ host seat call reply after seat_after done before told. cc };
 }
 
-fn a_stat() -> Stat {
+fn a_stat(ino: u64) -> Stat {
     let never = Time { sec: 0, nsec: 0 };
     let ids = ObjIds {
-        ino: 1,
+        ino,
         dev: 1,
         mnt_id: 1,
     };
@@ -73,11 +88,18 @@ fn a_seat() -> HostSeat {
     HostSeat::new(0, 0, Caps::ALL)
 }
 
+fn a_host(refuses: bool) -> OneDirectory {
+    OneDirectory {
+        refuses,
+        has_file: false,
+    }
+}
+
 fn made(alloc: Global, refuses: bool) -> Result<PassthroughFs, Refusal>
     ensures { IfOk result (λ fs. (limit : ℕ) × (fs.tables ≡ empty_tables limit)) }
 {
     let cfg = Config::new(alloc)?;
-    PassthroughFs::new(alloc, cfg, &mut OneDirectory { refuses }, &mut a_seat())
+    PassthroughFs::new(alloc, cfg, &mut a_host(refuses), &mut a_seat())
 }
 
 fn a_file_system(alloc: Global) -> Result<PassthroughFs, Fail>
@@ -126,16 +148,38 @@ fn two_jobs(alloc: Global) -> Result<Vec<Job>, Fail>
     Ok(jobs)
 }
 
+/// The same and twice the edit that makes the file.
+fn four_jobs(alloc: Global) -> Result<Vec<Job>, Fail>
+    ensures { IfOk result (λ jobs. length jobs.items ≡ 4) }
+{
+    let mut jobs = two_jobs(alloc)?;
+    jobs.push(Job::Edit(a_file(alloc)?))?;
+    jobs.push(Job::Edit(a_file(alloc)?))?;
+    Ok(jobs)
+}
+
+fn a_file(alloc: Global) -> Result<Edit, Fail> {
+    let path = Bytes::from_slice(alloc, b"/a")?;
+    let bytes = Bytes::from_slice(alloc, b"hi")?;
+    Ok(Edit::File {
+        path,
+        mode: 0o644,
+        uid: 0,
+        gid: 0,
+        bytes,
+    })
+}
+
 fn driven(alloc: Global, schedule: &[u32]) -> Result<Driven<PassthroughFs>, Fail> {
-    let fs = a_file_system(alloc)?;
     let jobs = two_jobs(alloc)?;
-    match drive(
-        alloc,
-        fs,
-        &mut OneDirectory { refuses: false },
-        jobs,
-        schedule,
-    ) {
+    driven_by(alloc, jobs, schedule)
+}
+
+fn driven_by(alloc: Global, jobs: Vec<Job>, schedule: &[u32]) -> Result<Driven<PassthroughFs>, Fail>
+    requires { length jobs.items < 2 ^ 32 }
+{
+    let fs = a_file_system(alloc)?;
+    match drive(alloc, fs, &mut a_host(false), jobs, schedule) {
         Ok(driven) => Ok(driven),
         Err(DriveError::Memory(_)) => Err(Fail::from("no memory")),
     }
@@ -163,5 +207,26 @@ fn the_root_comes_before_the_lookup(rt: HostRuntime) -> Result<(), Fail> {
     assert_eq!(rt; driven.answers[0], Answer::Done);
     assert_eq!(rt; driven.answers[1], Answer::Refused(Errno::ENOENT));
     turns_are_determined::<OneDirectory>();
+    Ok(())
+}
+
+#[test]
+fn a_file_is_made_between_the_steps_of_its_lookup(rt: HostRuntime) -> Result<(), Fail> {
+    let jobs = four_jobs(rt.alloc())?;
+    let driven = driven_by(rt.alloc(), jobs, &[0, 0, 0, 0, 0, 1, 1, 2, 2, 3])?;
+    assert_eq!(rt; driven.answers.len(), 4);
+    assert_eq!(rt; driven.answers[0], Answer::Done);
+    match &driven.answers[1] {
+        Answer::Entry(entry) => assert_eq!(rt; entry.inode, 2),
+        _ => return Err(Fail::from("no entry")),
+    }
+    assert_eq!(rt; driven.answers[2], Answer::Edited);
+    assert_eq!(rt; driven.answers[3], Answer::EditRefused(Errno::EEXIST));
+    assert_eq!(rt; driven.seats.len(), 2);
+    let owners = [0, 0, 0, 0, 0, 1, 1, 2, 3, 1, 1, 1, 1, 1, 1, 1];
+    assert_eq!(rt; driven.trace.len(), 16);
+    for (step, owner) in driven.trace.iter().zip(owners.iter()) {
+        assert_eq!(rt; step.job, *owner);
+    }
     Ok(())
 }

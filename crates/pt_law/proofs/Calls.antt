@@ -22,6 +22,7 @@ use Rattle.pt_law.specs.Discipline.{Job, Notes, with_root, without, unless, Move
 use Rattle.pt_law.specs.World.{Past, settled_by, object_of, first_of}
 use Rattle.pt_law.specs.Ledger.{fd_held, row_fd, handle_fd}
 use Rattle.pt_law.proofs.Lists.{total_takes, total_replaces, is_same, is_apart, set_at_same, set_at_other, at_each, each_replaces, each_takes, each_put}
+use Rattle.pt_law.proofs.Growing.{Grows, edit_grows, rows_on, handles_on, knows_on}
 use Rattle.pt_law.proofs.Knowing.{RowOpen, HandleOpen, ToldRight, PinRight, NotedOpen, NotedRight, Knowing, with_entry, rows_open, handles_open, told_open, noted_open, rows_closed, handles_closed, told_closed, noted_closed, unless_apart}
 
 -- what is known of rows and jobs is right
@@ -231,6 +232,14 @@ closes bound tree next past rows handles js j after f told lt h t n z y none = r
         let a = k fd s.0 in
         record { held = let b = a.held in let c = total_takes (fd_held fd.0) t in let d = is_apart f.0 fd.0 s.1 in omega (arith, b, c, d); object = a.object; open_on = a.open_on; judged = a.judged }
 
+-- an edit opens and closes nothing
+grown : (bound : ℕ) (tree after : Tree) (next : ℕ) (past : Past) (rows : List Row) (handles : List HandleRow) (js : ℕ → Job) → Grows tree after → Right bound tree next past rows handles js → Right bound after next past rows handles js
+grown bound tree after next past rows handles js g h = record {
+  shown = rows_on g past rows h.shown;
+  handled = handles_on g past handles h.handled;
+  knows = λ j lt. knows_on g next past j (js j) (h.knows j lt);
+}
+
 -- Each call keeps what is known, where what it closes is no row's and nobody's after, and what it opens anew is what was resolved last.
 pub keeps_call : (bound : ℕ) (tree : Tree) (next : ℕ) (past : Past) (rows : List Row) (handles : List HandleRow) (js : ℕ → Job) (j : ℕ) (after : Job) (a : Call) (r : HostReply) (tree' : Tree) → j < bound → Right bound tree next past rows handles js →
     TreeChanges tree a r tree' → MovesBy (js j) (Calls a) (Host r) after →
@@ -255,14 +264,18 @@ keeps_call bound tree next past rows handles js j after (call.Stat f) (host.Ok (
 keeps_call bound tree next past rows handles js j after (call.Close f) told tree' lt h l m b c =
     let e = c f refl in
     rw l (closes bound tree next past rows handles js j after f m.0.0 lt h m.0.1 m.3 e.0 e.1 e.2)
+keeps_call bound tree next past rows handles js j after (call.Edit edit) (host.Ok value.Unit) tree' lt h l m b c =
+    grown bound tree tree' next past rows handles (set_at j after js) (edit_grows tree edit tree' l) (same_holds bound tree next past rows handles js j after lt h m.3 m.0)
 keeps_call bound tree next past rows handles js j after asked (host.Ok told) tree' lt h l m b c = absurd l
 keeps_call bound tree next past rows handles js j after (call.OpenRoot path flags) (host.Refused e) tree' lt h l m b c = rw l.1 (same_holds bound tree next past rows handles js j after lt h m.3 m.0)
 keeps_call bound tree next past rows handles js j after (call.OpenAt dir name flags mode) (host.Refused e) tree' lt h l m b c = rw l.1 (same_holds bound tree next past rows handles js j after lt h m.3 m.0.1)
 keeps_call bound tree next past rows handles js j after (call.Reopen f flags) (host.Refused e) tree' lt h l m b c = rw l.1 (same_holds bound tree next past rows handles js j after lt h m.3 m.0.1)
 keeps_call bound tree next past rows handles js j after (call.ReadAt f offset size) (host.Refused e) tree' lt h l m b c = rw l.1 (same_holds bound tree next past rows handles js j after lt h m.3 m.0.1)
 keeps_call bound tree next past rows handles js j after (call.Stat f) (host.Refused e) tree' lt h l m b c = rw l.1 (same_holds bound tree next past rows handles js j after lt h m.3 m.0.1)
+keeps_call bound tree next past rows handles js j after (call.Edit edit) (host.Refused e) tree' lt h l m b c = rw l.1 (same_holds bound tree next past rows handles js j after lt h m.3 m.0)
 keeps_call bound tree next past rows handles js j after (call.OpenRoot path flags) told tree' lt h l m b c = rw l (same_holds bound tree next past rows handles js j after lt h m.3 m.0)
 keeps_call bound tree next past rows handles js j after (call.OpenAt dir name flags mode) told tree' lt h l m b c = rw l (same_holds bound tree next past rows handles js j after lt h m.3 m.0.1)
 keeps_call bound tree next past rows handles js j after (call.Reopen f flags) told tree' lt h l m b c = rw l (same_holds bound tree next past rows handles js j after lt h m.3 m.0.1)
 keeps_call bound tree next past rows handles js j after (call.ReadAt f offset size) told tree' lt h l m b c = rw l (same_holds bound tree next past rows handles js j after lt h m.3 m.0.1)
 keeps_call bound tree next past rows handles js j after (call.Stat f) told tree' lt h l m b c = rw l (same_holds bound tree next past rows handles js j after lt h m.3 m.0.1)
+keeps_call bound tree next past rows handles js j after (call.Edit edit) told tree' lt h l m b c = rw l (same_holds bound tree next past rows handles js j after lt h m.3 m.0)

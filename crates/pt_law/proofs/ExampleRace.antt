@@ -24,11 +24,10 @@ use Rattle.pt_session.specs.declared.event.KeptEvent.TheVariants as change
 use Rattle.pt_session.specs.declared.reply.EventReply.{EventReply}
 use Rattle.pt_session.specs.declared.reply.EventReply.TheVariants as event
 use Rattle.pt_iface.specs.declared.answer.Answer.TheVariants as answer
-use Rattle.pt_iface.specs.declared.request.Request.{Request}
 use Rattle.pt_iface.specs.declared.request.Request.TheVariants as request
 use Rattle.pt_req.specs.Deed.{Calls, Changes}
 use Rattle.pt_req.specs.Grammar.{Belongs}
-use Rattle.pt_req.specs.Pattern.{grammar_of}
+use Rattle.pt_req.specs.Pattern.{Asked, Requests, grammar_for}
 use Rattle.pt_req.specs.Requests.{entry_of, path}
 use Rattle.pt_req.specs.declared.act.ActReply.TheVariants.{Event, Host}
 use Rattle.pt_req.specs.declared.finish.Finish.{Finish}
@@ -288,9 +287,9 @@ runs plan root file seat apart =
 
 -- what the jobs asked, and how they ended
 
-abbrev asked : ℕ → Request
-asked zero = request.Root
-asked (suc job) = request.Lookup 1 name
+abbrev asked : ℕ → Asked
+asked zero = Requests request.Root
+asked (suc job) = Requests (request.Lookup 1 name)
 
 abbrev ends : Plan → Stat → Stat → ℕ → Finish
 ends plan root file zero = finish.Answer answer.Done
@@ -306,7 +305,7 @@ answered plan root file = record { owners = owners; jobs = jobs }
         let c : 2 < 3 = omega arith in
         (a, (a, (a, (a, (a, (b, (c, (b, (c, (b, (c, (b, (c, (b, (c, (b, (c, (b, (c, (b, (c, (b, (c, (c, (c, tt)))))))))))))))))))))))))
 
-    jobs : (job : ℕ) → job < 3 → Belongs (grammar_of plan (asked job)) (steps_of job (turns plan root file)) (ends plan root file job)
+    jobs : (job : ℕ) → job < 3 → Belongs (grammar_for plan (asked job)) (steps_of job (turns plan root file)) (ends plan root file job)
     jobs zero l = (refl, inr (refl, inr (refl, inr (refl, inr (refl, inr refl)))))
     jobs (suc zero) l = (refl, inr (refl, inr (refl, inr (refl, inr (refl, inr (refl, inr (refl, inr (refl, inr (refl, refl)))))))))
     jobs (suc (suc zero)) l = (refl, inr (refl, inr (refl, inr (refl, inr (refl, inr (refl, inr (refl, inr (refl, inr (refl, (refl, (refl, refl)))))))))))

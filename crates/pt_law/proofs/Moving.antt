@@ -121,6 +121,7 @@ not_made : (deed : Deed) (holds : List Hold) (notes : Notes) → MayFailToCopy d
     owing_job (held deed NoCopy holds) (closings_in deed NoCopy) (notes_after notes deed NoCopy) ≡ at_job holds notes
 not_made (Calls (call.OpenRoot path flags)) holds notes m = refl
 not_made (Calls (call.OpenAt dir name flags mode)) holds notes m = refl
+not_made (Calls (call.Edit edit)) holds notes m = refl
 not_made (Changes (change.Forget list)) holds notes m = refl
 not_made (Calls asked) holds notes m = absurd m
 not_made (Changes asked) holds notes m = absurd m

@@ -126,6 +126,7 @@ no_bytes (call.Reopen fd flags) (host.Ok (value.Bytes bytes)) before after n h f
 no_bytes (call.ReadAt fd offset size) (host.Ok (value.Bytes bytes)) before after n h f = n tt
 no_bytes (call.Stat fd) (host.Ok (value.Bytes bytes)) before after n h f = f
 no_bytes (call.Close fd) (host.Ok (value.Bytes bytes)) before after n h f = f
+no_bytes (call.Edit edit) (host.Ok (value.Bytes bytes)) before after n h f = f
 no_bytes _ _ before after n h f = absurd h
 
 at_most_one : (fd : ℕ) (tree : Tree) → open_count fd tree ≤ 1
@@ -142,6 +143,7 @@ closed_held job (call.OpenAt dir name flags mode) told after m f l = absurd (ome
 closed_held job (call.Reopen fd flags) told after m f l = absurd (omega arith)
 closed_held job (call.ReadAt fd offset size) told after m f l = absurd (omega arith)
 closed_held job (call.Stat fd) told after m f l = absurd (omega arith)
+closed_held job (call.Edit edit) told after m f l = absurd (omega arith)
 closed_held job (call.Close fd) told after m f l = let a = total_takes (fd_held f) m.0.1 in omega (arith, a, l)
 
 keeps_event : (bound : ℕ) (base had : ℕ → ℕ) (w : World) (js : ℕ → Job) (j : ℕ) (e : Change) (r : EventReply) (t' : Tables) (after : Job) → j < bound → Inv bound base had w js → Happens w.tables e r t' →

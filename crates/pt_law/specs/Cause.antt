@@ -1,6 +1,7 @@
--- The cause of a refusal: the request itself, or one of its steps.
-use Rattle.std.specs.Prelude.{◌≡◌, ◌⊎◌, true, false, List, [], ◌∷◌, Option, Some}
+-- The cause of a refusal: the request itself, or one of its steps; of an edit its one step.
+use Rattle.std.specs.Prelude.{◌≡◌, ◌⊎◌, ◌↔◌, true, false, List, [], ◌∷◌, Option, Some}
 use Rattle.pt_host.specs.Errno.{errno_of, ebadf, eio, einval, enfile, eoverflow}
+use Rattle.pt_host.specs.declared.edit.Edit.{Edit}
 use Rattle.pt_host.specs.declared.ids.Errno.{Errno}
 use Rattle.pt_host.specs.declared.op.KeptHostOp.TheVariants as call
 use Rattle.pt_host.specs.declared.reply.HostReply.TheVariants as host
@@ -12,6 +13,7 @@ use Rattle.pt_iface.specs.declared.answer.Answer.TheVariants as answer
 use Rattle.pt_iface.specs.declared.request.Request.{Request}
 use Rattle.pt_iface.specs.declared.request.Request.TheVariants as request
 use Rattle.pt_req.specs.Deed.{Deed, Calls, Changes, Step}
+use Rattle.pt_req.specs.Pattern.{Asked, Requests, Edits}
 use Rattle.pt_req.specs.Requests.{is_bad_name, is_bad_offset, can_open, IsHeld}
 use Rattle.pt_req.specs.declared.act.ActReply.{ActReply}
 use Rattle.pt_req.specs.declared.act.ActReply.TheVariants.{Event, Host}
@@ -82,3 +84,14 @@ IsCaused asked steps last = Unit {0}
 abbrev pub IsCausedEnd : Request → List Step → Finish → Type 0
 IsCausedEnd asked past (finish.Answer last) = IsCaused asked past last
 IsCausedEnd asked past (finish.Lost errno) = Unit {0}
+
+-- the edit's one step was refused, or failed, with this error number
+abbrev pub EditCauses : Edit → List Step → Errno → Type 0
+EditCauses edit (step ∷ []) cause =
+    (step.deed ≡ Some (Calls (call.Edit edit))) × ((step.reply ≡ Host (host.Refused cause)) ⊎ (step.reply ≡ Host (host.Fault cause)))
+EditCauses edit steps cause = ⊥
+
+-- a request's refusal has its cause, and an edit is refused exactly where its step was
+abbrev pub IsCausedBy : Asked → List Step → Answer → Type 0
+IsCausedBy (Requests asked) steps last = IsCaused asked steps last
+IsCausedBy (Edits edit) steps last = (errno : Errno) → (last ≡ answer.EditRefused errno) ↔ EditCauses edit steps errno

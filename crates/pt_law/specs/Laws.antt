@@ -13,12 +13,11 @@ use Rattle.pt_session.specs.declared.reply.EventReply.TheVariants as event
 use Rattle.pt_req.specs.Deed.{Deed, Calls, Changes}
 use Rattle.pt_req.specs.Grammar.{Belongs}
 use Rattle.pt_req.specs.Held.{fd_of}
-use Rattle.pt_req.specs.Pattern.{grammar_of}
+use Rattle.pt_req.specs.Pattern.{Asked, grammar_for}
 use Rattle.pt_req.specs.declared.act.ActReply.{ActReply}
 use Rattle.pt_req.specs.declared.act.ActReply.TheVariants.{Event}
 use Rattle.pt_req.specs.declared.finish.Finish.{Finish}
 use Rattle.pt_req.specs.declared.plan.Plan.{Plan}
-use Rattle.pt_iface.specs.declared.request.Request.{Request}
 use Rattle.pt_law.specs.Discipline.{Job, idle, Disciplined, Ends}
 use Rattle.pt_law.specs.World.{Turn, World, steps_of, no_past}
 use Rattle.pt_law.specs.Ledger.{kept_slots, row_slot, handle_fd, slots_taken, slots_given, carried, kept_fds, row_fd, fd_held, held_by, open_count}
@@ -33,10 +32,10 @@ pub record AreEnded (bound : ℕ) (turns : List Turn) : Type 0 where
   pub owners : Each (λ turn. turn.job < bound) turns
   pub jobs : (job : ℕ) → job < bound → (end : Finish) × Ends idle (steps_of job turns) end
 
--- each job's steps and end belong to what it asked
-pub record AreAnswered (plan : Plan) (bound : ℕ) (asked : ℕ → Request) (ends : ℕ → Finish) (turns : List Turn) : Type 0 where
+-- each job's steps and end belong to what it asked, a request or an edit
+pub record AreAnswered (plan : Plan) (bound : ℕ) (asked : ℕ → Asked) (ends : ℕ → Finish) (turns : List Turn) : Type 0 where
   pub owners : Each (λ turn. turn.job < bound) turns
-  pub jobs : (job : ℕ) → job < bound → Belongs (grammar_of plan (asked job)) (steps_of job turns) (ends job)
+  pub jobs : (job : ℕ) → job < bound → Belongs (grammar_for plan (asked job)) (steps_of job turns) (ends job)
 
 -- a new session on a host that may have descriptors open
 pub record Starts (limit : ℕ) (world : World) : Type 0 where
@@ -109,7 +108,7 @@ pub record AreKept (start : World) (bound : ℕ) (turns : List Turn) (now : Worl
   pub held : (job : ℕ) → job < bound → Disciplined idle (steps_of job turns) (jobs job)
   pub all : (fd : ℕ) → open_count fd now.tree ≡ kept_fds fd now.tables + held_by bound (fd_held fd) jobs + open_count fd start.tree
 
--- a call names only what is open
+-- a call names only what is open; an edit names no descriptor
 abbrev pub NamesOpen : Tree → Option Deed → Type 0
 NamesOpen tree (Some (Calls (call.OpenAt fd name flags mode))) = (object : ℕ) × IsOpenOn tree fd object
 NamesOpen tree (Some (Calls (call.Reopen fd flags))) = (object : ℕ) × IsOpenOn tree fd object

@@ -1,7 +1,9 @@
-ghost use Rattle.std.specs.Prelude.{◌≡◌, ◌⊎◌, ◌+◌, ℕ, List, [], Option};
+ghost use Rattle.std.specs.Prelude.{◌≡◌, ◌⊎◌, ◌+◌, ℕ, List, [], length, Option};
+ghost use Rattle.pt_host.specs.declared.edit.Edit.{Edit};
 ghost use Rattle.pt_host.specs.declared.ids.Errno.{Errno};
 ghost use Rattle.pt_host.specs.declared.seat.HostSeat.{HostSeat};
 ghost use Rattle.pt_session.specs.Tables.{Tables};
+ghost use Rattle.pt_iface.specs.declared.answer.Answer.{Answer};
 ghost use Rattle.pt_iface.specs.declared.answer.Answer.TheVariants as answer;
 ghost use Rattle.pt_iface.specs.declared.entry.Entry.{Entry};
 ghost use Rattle.pt_iface.specs.declared.request.Request.{Request};
@@ -9,17 +11,18 @@ ghost use Rattle.pt_iface.specs.declared.request.Request.TheVariants as request;
 ghost use Rattle.pt_req.specs.Deed.{Deed, Step};
 ghost use Rattle.pt_req.specs.Made.{Made, RunsAlone};
 ghost use Rattle.pt_req.specs.declared.act.ActReply.{ActReply};
+ghost use Rattle.pt_req.specs.Edit.{edit_grammar};
 ghost use Rattle.pt_req.specs.Grammar.{Belongs};
 ghost use Rattle.pt_req.specs.Frame.{BelongsCut};
 ghost use Rattle.pt_req.specs.Tree.{Tree, framed};
 ghost use Rattle.pt_req.specs.Requests.{tree_of};
-ghost use Rattle.pt_req.specs.Pattern.{grammar_of};
+ghost use Rattle.pt_req.specs.Pattern.{Edits, EditPattern, grammar_of};
 ghost use Rattle.pt_req.specs.declared.finish.Finish.{Finish};
 ghost use Rattle.pt_req.specs.declared.finish.Finish.TheVariants as finish;
 ghost use Rattle.pt_req.specs.declared.plan.Plan.{Plan};
 ghost use Rattle.pt_law.specs.Discipline.{idle, blank, Ends};
 ghost use Rattle.pt_law.specs.Told.{StepMayBeTold, AllMayBeTold};
-ghost use Rattle.pt_law.specs.Cause.{HasCause, IsCausedEnd};
+ghost use Rattle.pt_law.specs.Cause.{HasCause, IsCausedEnd, IsCausedBy};
 ghost use Rattle.pt_law.specs.Fit.{Fit};
 ghost use Rattle.pt_law.specs.Branch.{AreOwn, IsGivenUp, IsOfBranch};
 ghost use Rattle.pt_law.specs.Settled.{all_given, all_returned, entry_count};
@@ -54,6 +57,14 @@ pub fn request_ends()
     ensures opened { (plan : Plan) (parent : ℕ) (name : List ℕ) (entry : Entry) (steps : List Step) →
         Belongs (grammar_of plan (request.Lookup parent name)) steps (finish.Answer (answer.Entry entry)) →
         ((path : List Step) × AreOwn path steps × IsLookedUp plan parent name entry path) }
+{}
+
+/// An edit is one step. It keeps the discipline, whole or left out, and it is refused exactly where its step was refused or failed.
+pub fn edit_ends()
+    ensures one { (edit : Edit) (steps : List Step) (end : Finish) → Belongs (edit_grammar edit) steps end → length steps ≡ 1 }
+    ensures ends { (edit : Edit) (steps : List Step) (end : Finish) → Belongs (edit_grammar edit) steps end → Ends idle steps end }
+    ensures causes { (edit : Edit) (steps : List Step) (last : Answer) → EditPattern edit steps last → IsCausedBy (Edits edit) steps last }
+    ensures cut { (edit : Edit) (steps : List Step) (end : Finish) → BelongsCut (edit_grammar edit) steps end → (steps ≡ []) × (end ≡ finish.Answer answer.Cut) }
 {}
 
 /// What is made of any host and of the tables is told such replies as may come.

@@ -8,10 +8,9 @@ ghost use Rattle.pt_session.specs.declared.row.HandleRow.{HandleRow};
 ghost use Rattle.pt_session.specs.Happens.{IsRow, IsHandleRow};
 ghost use Rattle.pt_iface.specs.declared.answer.Answer.TheVariants as answer;
 ghost use Rattle.pt_iface.specs.declared.entry.Entry.{Entry};
-ghost use Rattle.pt_iface.specs.declared.request.Request.{Request};
 ghost use Rattle.pt_iface.specs.declared.request.Request.TheVariants as request;
 ghost use Rattle.pt_req.specs.Grammar.{Belongs};
-ghost use Rattle.pt_req.specs.Pattern.{grammar_of};
+ghost use Rattle.pt_req.specs.Pattern.{Asked, grammar_of};
 ghost use Rattle.pt_req.specs.declared.finish.Finish.{Finish};
 ghost use Rattle.pt_req.specs.declared.finish.Finish.TheVariants as finish;
 ghost use Rattle.pt_req.specs.declared.plan.Plan.{Plan};
@@ -51,7 +50,7 @@ pub fn every_run()
 pub fn every_told_run()
     ensures tables { (turns : List Turn) (start now : World) → Runs start turns now → TablesRun start.tables turns now.tables }
     ensures cut { (turns more : List Turn) (start end : World) → Runs start (turns ++ more) end → ((now : World) × Runs start turns now × Runs now more end) }
-    ensures ended { (plan : Plan) (bound : ℕ) (asked : ℕ → Request) (ends : ℕ → Finish) (turns : List Turn) (start end : World) →
+    ensures ended { (plan : Plan) (bound : ℕ) (asked : ℕ → Asked) (ends : ℕ → Finish) (turns : List Turn) (start end : World) →
         Runs start turns end → AreAnswered plan bound asked ends turns → AreEnded bound turns }
     ensures distinct { (limit bound : ℕ) (turns more : List Turn) (start now : World) →
         Starts limit start → AreDisciplined bound (turns ++ more) → Runs start turns now → AreDistinct now }
@@ -79,6 +78,6 @@ pub fn every_host<H: Host>()
     ensures world { (turns : List Turn) (start : World) (host after : H) (tables_after : Tables) → H.tree host ≡ Some start.tree → HostRuns H.does turns host start.tables after tables_after →
         ((end : World) × (H.tree after ≡ Some end.tree) × (end.tables ≡ tables_after) × Runs start turns end) }
     ensures told { (job : ℕ) (turns : List Turn) (host after : H) (tables tables_after : Tables) → HostRuns H.does turns host tables after tables_after → AllMayBeTold (steps_of job turns) }
-    ensures ended { (plan : Plan) (bound : ℕ) (asked : ℕ → Request) (ends : ℕ → Finish) (turns : List Turn) (host after : H) (tables tables_after : Tables) →
+    ensures ended { (plan : Plan) (bound : ℕ) (asked : ℕ → Asked) (ends : ℕ → Finish) (turns : List Turn) (host after : H) (tables tables_after : Tables) →
         HostRuns H.does turns host tables after tables_after → AreAnswered plan bound asked ends turns → AreEnded bound turns }
 {}

@@ -6,7 +6,7 @@ ghost use Rattle.pt_host.specs.Errno.{eio};
 ghost use Rattle.pt_host.specs.declared.reply.HostReply.TheVariants as reply;
 
 use crate::{
-    any_request, each_request, every_host, every_run, every_told_run, forgotten_nothing,
+    any_request, each_request, edit_ends, every_host, every_run, every_told_run, forgotten_nothing,
     forgotten_number, one_number, request_ends, steps_told,
 };
 use pt_host::{Errno, Host, HostOp, HostReply, HostSeat};
@@ -36,6 +36,7 @@ fn the_laws_hold_with_no_premise() {
     any_request();
     each_request();
     request_ends();
+    edit_ends();
     steps_told::<Refusing>();
     every_run();
     every_told_run();

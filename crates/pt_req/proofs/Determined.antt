@@ -1,4 +1,4 @@
--- A request leaves nothing open but want of memory.
+-- A job leaves nothing open but want of memory.
 use Rattle.std.proofs.Common.{◌≡◌, ◌≢◌, ◌∙◌, ℕ, zero, suc, Bool, true, false, List, [], ◌∷◌, Option, Some, None, refl, sym, subst, ap, length}
 use Rattle.pt_host.specs.Call.{Call}
 use Rattle.pt_host.specs.declared.ids.Errno.{Errno}
@@ -14,7 +14,6 @@ use Rattle.pt_session.specs.declared.reply.EventReply.TheVariants as event
 use Rattle.pt_session.proofs.Determined.{determined as event_determined}
 use Rattle.pt_session.proofs.Effects.{keeps_agree}
 use Rattle.pt_iface.specs.declared.answer.Answer.TheVariants as answer
-use Rattle.pt_iface.specs.declared.request.Request.{Request}
 use Rattle.pt_req.specs.Calm.{EndsSo}
 use Rattle.pt_req.specs.Deed.{Deed, Calls, Changes, IsStepOf}
 use Rattle.pt_req.specs.Held.{giving, closings_in, taken_in, lost_by, restored, under, passes_with, front, behind, held, refusal}
@@ -22,7 +21,7 @@ use Rattle.pt_req.specs.Grammar.{Grammar, End}
 use Rattle.pt_req.specs.Frame.{give_slot, give_taken, closings, leave, or_lost, shut}
 use Rattle.pt_req.specs.Tree.{Tree, Gives, Refuses, Asks, Shuts, answered, framed}
 use Rattle.pt_req.specs.Requests.{tree_of}
-use Rattle.pt_req.specs.Pattern.{grammar_of}
+use Rattle.pt_req.specs.Pattern.{Asked, Requests, Edits, grammar_for}
 use Rattle.pt_req.specs.Made.{Does, Made}
 use Rattle.pt_req.specs.Determined.{LacksMemory, IsAnsweredInFull, IsDetermined, IsDeterminedHost}
 use Rattle.pt_req.specs.declared.act.ActReply.{ActReply}
@@ -89,8 +88,9 @@ det_framed (Asks deed next) holds = λ reply. (
 )
 det_framed (Shuts passes count rest) holds = det_shut (front passes holds) count (behind passes holds) (λ left. framed rest left) (λ left. det_framed rest left)
 
-pub requests_determined : (plan : Plan) (asked : Request) → IsDetermined (grammar_of plan asked)
-requests_determined plan asked = det_framed (tree_of plan asked) []
+pub jobs_determined : (plan : Plan) (asked : Asked) → IsDetermined (grammar_for plan asked)
+jobs_determined plan (Requests asked) = det_framed (tree_of plan asked) []
+jobs_determined plan (Edits edit) = λ reply. tt
 
 -- a step that found memory was made, and of this deed
 pub whole_step : (deed : Deed) (made : Option Deed) (reply : ActReply) → (LacksMemory reply → ⊥) → IsStepOf deed made reply → made ≡ Some deed

@@ -4,14 +4,14 @@ use Rattle.pt_host.specs.declared.ids.Errno.{Errno}
 use Rattle.pt_host.specs.declared.reply.HostReply.TheVariants as host
 use Rattle.pt_iface.specs.declared.answer.Answer.{Answer}
 use Rattle.pt_iface.specs.declared.answer.Answer.TheVariants as answer
-use Rattle.pt_iface.specs.declared.request.Request.{Request}
 use Rattle.pt_req.specs.Deed.{Step}
 use Rattle.pt_req.specs.Held.{giving, closings_in, taken_in, lost_by, restored, under, passes_with, front, behind, held, refusal}
 use Rattle.pt_req.specs.Grammar.{Grammar, End, Do, May, Belongs, Owed}
 use Rattle.pt_req.specs.Frame.{give_slot, give_taken, closings, leave, or_lost, shut, close_first, cut, BelongsCut}
 use Rattle.pt_req.specs.Tree.{Tree, Gives, Refuses, Asks, Shuts, answered, framed}
 use Rattle.pt_req.specs.Requests.{tree_of}
-use Rattle.pt_req.specs.Pattern.{grammar_of}
+use Rattle.pt_req.specs.Edit.{edit_answer}
+use Rattle.pt_req.specs.Pattern.{Asked, Requests, Edits, grammar_for}
 use Rattle.pt_req.specs.Left.{loss_in}
 use Rattle.pt_req.specs.Calm.{IsAnswered, EndsSo}
 use Rattle.pt_req.specs.declared.act.ActReply.{ActReply}
@@ -138,6 +138,8 @@ calm_framed (Asks deed next) holds (step ∷ steps) end belongs =
 calm_framed (Shuts passes count rest) holds steps end belongs =
     calm_shut (front passes holds) count (behind passes holds) (λ left. framed rest left) (λ left. calm_framed rest left) steps end belongs
 
--- no request of today ends as one that lost its seat
-pub calm : (plan : Plan) (asked : Request) (steps : List Step) (end : Finish) → Belongs (grammar_of plan asked) steps end → (last : Answer) × (end ≡ finish.Answer last)
-calm plan asked steps end belongs = calm_framed (tree_of plan asked) [] steps end belongs
+-- no request of today ends as one that lost its seat, nor does an edit
+pub calm : (plan : Plan) (asked : Asked) (steps : List Step) (end : Finish) → Belongs (grammar_for plan asked) steps end → (last : Answer) × (end ≡ finish.Answer last)
+calm plan (Requests asked) steps end belongs = calm_framed (tree_of plan asked) [] steps end belongs
+calm plan (Edits edit) [] end belongs = absurd belongs
+calm plan (Edits edit) (step ∷ steps) end belongs = calm_end (edit_answer step.reply) steps end belongs.1

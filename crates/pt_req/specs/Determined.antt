@@ -7,11 +7,10 @@ use Rattle.pt_host.specs.declared.reply.HostReply.TheVariants as host
 use Rattle.pt_session.specs.declared.reply.EventRefusal.TheVariants as refused
 use Rattle.pt_session.specs.declared.reply.EventReply.TheVariants as event
 use Rattle.pt_iface.specs.declared.answer.Answer.TheVariants as answer
-use Rattle.pt_iface.specs.declared.request.Request.{Request}
 use Rattle.pt_req.specs.Calm.{EndsSo}
 use Rattle.pt_req.specs.Grammar.{Grammar, End, Do, May}
 use Rattle.pt_req.specs.Made.{Does}
-use Rattle.pt_req.specs.Pattern.{grammar_of}
+use Rattle.pt_req.specs.Pattern.{Asked, grammar_for}
 use Rattle.pt_req.specs.declared.act.ActReply.{ActReply}
 use Rattle.pt_req.specs.declared.act.ActReply.TheVariants.{Event, Host, NoCopy}
 use Rattle.pt_req.specs.declared.finish.Finish.{Finish}
@@ -37,9 +36,9 @@ IsDetermined (End last) = Unit {0}
 IsDetermined (Do deed owed next) = (told : ActReply) → IsDetermined (next told)
 IsDetermined (May one other) = EndsSo (λ end. IsAnsweredInFull end → ⊥) one × IsDetermined other
 
--- so it is in what a request may do
-abbrev pub RequestsAreDetermined : Type 0
-RequestsAreDetermined = (plan : Plan) (asked : Request) → IsDetermined (grammar_of plan asked)
+-- so it is in what a request may do, and an edit
+abbrev pub JobsAreDetermined : Type 0
+JobsAreDetermined = (plan : Plan) (asked : Asked) → IsDetermined (grammar_for plan asked)
 
 -- two steps of a host that make the same call from the same place are alike
 abbrev pub IsDeterminedHost : {H : Type 0} → Does H → Type 0

@@ -6,6 +6,7 @@ pub mod Frame
 pub mod Tree
 pub mod Options
 pub mod Requests
+pub mod Edit
 pub mod Pattern
 pub mod Made
 pub mod Room

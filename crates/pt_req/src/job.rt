@@ -5,6 +5,7 @@ ghost use Rattle.pt_req.specs.Requests.{tree_of};
 ghost use Rattle.pt_req.specs.declared.plan.Plan.{Plan};
 
 use crate::act::{ActReply, Want};
+use crate::edit::Editing;
 use crate::finish::Finish;
 use crate::frame::Framed;
 use crate::plan::Plan;
@@ -12,14 +13,21 @@ use crate::requests::{
     Destroy, Forget, ForgetAt, Forgotten, Init, Lookup, LookupAt, Open, OpenAt, Read, Reading,
     Release, ReleaseAt, RequestBody, Root, Unknown,
 };
-use pt_host::{Errno, HostSeat, OpenFlags};
+use pt_host::{Edit, Errno, HostSeat, OpenFlags};
 use pt_iface::{Context, Request};
 use std::alloc::Global;
 
-/// A request on its way. All calls of one job are given one plan.
+/// A request on its way, or an edit. All calls of one job are given one plan.
 #[derive(Drop)]
 pub struct JobState {
-    framed: Framed<RequestBody>,
+    work: Work,
+}
+
+/// What the job does.
+#[derive(Drop)]
+enum Work {
+    Request(Framed<RequestBody>),
+    Edit(Editing),
 }
 
 fn body_of(request: Request) -> RequestBody
@@ -82,6 +90,7 @@ fn body_of(request: Request) -> RequestBody
 #[tactic(auto, unfolding(crate::specs::Job::owes, crate::specs::Job::steps_left, crate::specs::Job::steps_bound, crate::specs::Job::inserts_left, crate::specs::Job::is_finished, crate::specs::Job::lost_of, crate::specs::Job::is_restoring))]
 impl JobState {
     ghost use Rattle.pt_req.specs.Deed.{Step};
+    ghost use Rattle.pt_req.specs.Edit.{edit_grammar};
     ghost use Rattle.pt_req.specs.Frame.{cut, BelongsCut};
     ghost use Rattle.pt_req.specs.Grammar.{End, Wants, after, owed_by, is_end, Belongs, told_closings, told_inserted};
     ghost use Rattle.pt_req.specs.Pattern.{grammar_of};
@@ -102,15 +111,28 @@ impl JobState {
         ensures back { IfErr result (λ back. back ≡ request) }
     {
         let body = body_of(request);
-        let framed = Framed::start(body);
-        Ok(JobState { framed })
+        let work = Work::Request(Framed::start(body));
+        Ok(JobState { work })
+    }
+
+    /// An edit that has not been made, which is one step.
+    pub fn edit(edit: Edit) -> JobState
+        ensures left { (plan : Plan) → owes plan result ≡ edit_grammar edit }
+        ensures bound { steps_bound result ≡ 1 }
+        ensures inserts { inserts_left result ≡ 0 }
+    {
+        let work = Work::Edit(Editing::Asks(edit));
+        JobState { work }
     }
 
     /// What it wants next, which takes no memory.
     pub fn want<'a>(&'a self, plan: &'a Plan, seat: &HostSeat) -> Want<'a>
         ensures { Wants (owes plan.now self.now) result }
     {
-        self.framed.want(plan, seat)
+        match &self.work {
+            Work::Request(framed) => framed.want(plan, seat),
+            Work::Edit(editing) => editing.want(),
+        }
     }
 
     /// Goes on from the reply of the step that was wanted.
@@ -122,14 +144,20 @@ impl JobState {
         ensures within { steps_bound self.new + 1 ≤ steps_bound self.old + 3 * told_closings (owes plan.now self.old) reply }
         ensures inserts { inserts_left self.new + told_inserted (owes plan.now self.old) reply ≤ inserts_left self.old }
     {
-        self.framed.take(plan, reply, seat);
+        match &mut self.work {
+            Work::Request(framed) => framed.take(plan, reply, seat),
+            Work::Edit(editing) => editing.take(&reply),
+        }
     }
 
     pub fn is_finished(&self) -> bool
         ensures result { result ≡ is_finished self.now }
         ensures end { (plan : Plan) → is_end (owes plan self.now) ≡ result }
     {
-        self.framed.is_finished()
+        match &self.work {
+            Work::Request(framed) => framed.is_finished(),
+            Work::Edit(editing) => editing.is_finished(),
+        }
     }
 
     /// Makes it want only the end of its open scopes, the closings that it owes and its holds; it then finishes with the answer `Cut`.
@@ -139,7 +167,10 @@ impl JobState {
         ensures bound { steps_bound self.new ≤ steps_bound self.old }
         ensures inserts { inserts_left self.new ≡ 0 }
     {
-        self.framed.cut();
+        match &mut self.work {
+            Work::Request(framed) => framed.cut(),
+            Work::Edit(editing) => editing.cut(),
+        }
     }
 
     /// What the first step that was to end a scope and was refused was answered, in a job that was not cut. It then finishes with that.
@@ -147,20 +178,29 @@ impl JobState {
         ensures lost { result ≡ lost_of self.now }
         ensures ends { IfSome result (λ errno. (plan : Plan) (steps : List Step) (end : Finish) → Belongs (owes plan self.now) steps end → end ≡ Lost errno) }
     {
-        self.framed.lost()
+        match &self.work {
+            Work::Request(framed) => framed.lost(),
+            Work::Edit(_) => None,
+        }
     }
 
     /// Whether the wanted step ends a scope.
     pub fn restoring(&self) -> bool
         ensures { result ≡ is_restoring self.now }
     {
-        self.framed.restoring()
+        match &self.work {
+            Work::Request(framed) => framed.restoring(),
+            Work::Edit(_) => false,
+        }
     }
 
     pub fn finish(self) -> Finish
         requires { is_finished self ≡ true }
         ensures { (plan : Plan) → owes plan self ≡ End result }
     {
-        self.framed.finish()
+        match self.work {
+            Work::Request(framed) => framed.finish(),
+            Work::Edit(editing) => editing.finish(),
+        }
     }
 }

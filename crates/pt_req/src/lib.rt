@@ -3,6 +3,7 @@
 
 mod act;
 mod begun;
+mod edit;
 mod finish;
 mod frame;
 mod hold;
@@ -18,5 +19,5 @@ pub use act::{Act, ActReply, KeptAct, Want};
 pub use finish::Finish;
 pub use hold::{Hold, Holds, Taken};
 pub use job::JobState;
-pub use laws::{calm, cut_says_no_more, requests_are_determined};
+pub use laws::{calm, cut_says_no_more, jobs_are_determined};
 pub use plan::{CachePolicy, Config, Plan};

@@ -1,8 +1,8 @@
 use crate::{
     ActReply, CachePolicy, Config, Finish, JobState, Plan, Want, calm, cut_says_no_more,
-    requests_are_determined,
+    jobs_are_determined,
 };
-use pt_host::{Bytes, Caps, Errno, Fd, HostReply, HostSeat, HostValue, ObjIds, Stat, Time};
+use pt_host::{Bytes, Caps, Edit, Errno, Fd, HostReply, HostSeat, HostValue, ObjIds, Stat, Time};
 use pt_iface::{
     Answer, Attr, Context, Entry, ForgetList, FsOptions, OpenOptions, Request, Timeout,
 };
@@ -32,6 +32,14 @@ impl Played {
         };
         let seat = HostSeat::new(0, 0, Caps::ALL);
         Ok(Played { job, plan, seat })
+    }
+
+    /// A job that takes the name `/a` away.
+    fn edit(alloc: Global) -> Result<Played, Fail> {
+        let mut played = Played::start(alloc, Request::Destroy)?;
+        let path = Bytes::from_slice(alloc, b"/a")?;
+        played.job = JobState::edit(Edit::Unlink { path });
+        Ok(played)
     }
 
     fn look_up(alloc: Global, name: &[u8]) -> Result<Played, Fail> {
@@ -283,11 +291,34 @@ fn a_job_that_is_cut_gives_its_count_back_first(rt: HostRuntime) -> Result<(), F
     Ok(())
 }
 
+const UNLINK: &str = "Host(Edit(Unlink { path: Bytes { items: [47, 97] } }))";
+
+#[test]
+fn an_edit_is_one_step(rt: HostRuntime) -> Result<(), Fail> {
+    let alloc = rt.alloc();
+    let mut made = Played::edit(alloc)?;
+    made.step(alloc, UNLINK, gave(HostValue::Unit))?;
+    assert_eq!(&rt; made.finish()?, Finish::Answer(Answer::Edited));
+    let mut failed = Played::edit(alloc)?;
+    failed.step(alloc, UNLINK, ActReply::Host(HostReply::Fault(Errno::EIO)))?;
+    let refused = Answer::EditRefused(Errno::EIO);
+    assert_eq!(&rt; failed.finish()?, Finish::Answer(refused));
+    Ok(())
+}
+
+#[test]
+fn an_edit_that_is_cut_is_not_made(rt: HostRuntime) -> Result<(), Fail> {
+    let mut job = Played::edit(rt.alloc())?;
+    job.cut()?;
+    assert_eq!(&rt; job.finish()?, Finish::Answer(Answer::Cut));
+    Ok(())
+}
+
 #[test]
 fn the_laws_hold_with_no_premise() {
     calm();
     cut_says_no_more();
-    requests_are_determined();
+    jobs_are_determined();
 }
 
 const OPEN_ROOT: &str = "Host(OpenRoot { path: Bytes { items: [47] }, flags: OpenFlags(2752512) })";

@@ -1,7 +1,11 @@
-use Rattle.std.proofs.Common.{◌≡◌, suc, ◌∷◌, ◌∙◌, length, [], append-nil, append_assoc, sym, ap, arith}
+use Rattle.std.proofs.Common.{◌≡◌, suc, List, ◌∷◌, ◌++◌, ◌∙◌, length, map, [], append-nil, append_assoc, sym, ap, arith}
 use Rattle.std.proofs.lemmas.List.{length-append}
 use Rattle.std.specs.Vec.Iter.{into_iter_items}
+use Rattle.pt_host.specs.declared.seat.HostSeat.{HostSeat}
+use Rattle.pt_fs.specs.Owing.{run_seat}
+use Rattle.pt_fs.specs.Trace.{seated}
 use Rattle.pt_fs.proofs.Ended.{nothing_left, answered_more, finished_rest}
+use Rattle.pt_fs.proofs.Traces.{seated_one, seated_few}
 use Rattle.pt_fs.proofs.ends.finish_jobs.Goals as goal
 
 pub loop-run-preserved : goal.loop-run-preserved
@@ -11,11 +15,14 @@ loop-run-preserved c =
     let long : length (into_iter_items c.loop-run.run-iterator) ≡ suc (length (into_iter_items c.next.new.self)) = ap length is in
     let room = c.loop-run.invariant.room_answers in
     let seat_room = c.loop-run.invariant.room_seats in
+    let rest_seats = seated (map run_seat (into_iter_items c.next.new.self)) in
     record {
       answers = rw c.push_within.ensures.items (answered_more _ _ run c.answered.result _ (c.finish.result, c.finish.ensures, c.answered.ensures) (rw is at c.loop-run.invariant.answers));
-      seats = rw (c.push_within-in-loop-run.ensures.items, append_assoc) (rw is at c.loop-run.invariant.seats);
+      seats = rw c.push_seat.ensures.items (
+          append_assoc c.loop-run.seats.items (seated (run.seat ∷ [])) rest_seats ∙ ap (λ (l : List HostSeat). c.loop-run.seats.items ++ l) (seated_one run.seat (map run_seat (into_iter_items c.next.new.self)))
+          ∙ (rw is at c.loop-run.invariant.seats));
       room_answers = let grown = c.push_within.ensures.capacity in let e = ap length c.push_within.ensures.items ∙ length-append c.loop-run.answers.items (c.answered.result ∷ []) in omega arith;
-      room_seats = let grown = c.push_within-in-loop-run.ensures.capacity in let e = ap length c.push_within-in-loop-run.ensures.items ∙ length-append c.loop-run.seats.items (run.seat ∷ []) in omega arith;
+      room_seats = let grown = c.push_seat.ensures.capacity in let e = ap length c.push_seat.ensures.items ∙ length-append c.loop-run.seats.items (seated (run.seat ∷ [])) in let few = seated_few run.seat in omega arith;
       finished = finished_rest run _ (rw is at c.loop-run.invariant.finished);
       count = let one = c.in-Some.ensures.steps.1 in let same = c.loop-run.invariant.count in omega arith;
     }

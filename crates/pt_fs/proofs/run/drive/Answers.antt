@@ -3,7 +3,7 @@ use Rattle.pt_session.specs.Pending.{pending_in}
 use Rattle.pt_fs.specs.Work.{room_of}
 use Rattle.pt_fs.proofs.Ended.{started_length}
 use Rattle.pt_fs.proofs.Works.{started_bounds}
-use Rattle.pt_fs.proofs.Whole.{Whole, runs_whole, order_whole, answers_whole, bounded_whole}
+use Rattle.pt_fs.proofs.Whole.{Whole, jobs_whole, order_whole, answers_whole, bounded_whole}
 use Rattle.pt_fs.proofs.Laws.{ran_whole, keeps, keeps_told}
 use Rattle.pt_fs.proofs.run.drive.Goals as goal
 
@@ -33,11 +33,11 @@ returns g c =
     c.run_all.new.host c.run_all.new.running.items (g.F.SteppedFs.tables c.run_all.new.fs) trace c.finish_jobs.new.answers.items =
     record { none = c.in-Ok.started.1.trace.items; empty = c.in-Ok.ensures.trace; started = c.in-Ok.ensures.started; goes = c.run_all.ensures.goes; finished = c.run_all.ensures.finished; answered = c.finish_jobs.ensures.answers } in
     let seats = c.finish_jobs.ensures.seats in
-    let ran = ran_whole c.finish_jobs.new.seats.items whole seats c.requires.new in
+    let ran = ran_whole whole c.requires.new in
     let kept = keeps g.H.Host.does g.H.Host.faults g.met.H.Host.promised _ _ _ _ _ trace _ _ _ ran in
     let told = keeps_told g.H.Host.does g.H.Host.tree g.H.Host.faults g.met.H.Host.promised g.met.H.Host.lawful _ _ _ _ _ trace _ _ _ ran in
     record {
-      steps = runs_whole _ whole seats;
+      steps = jobs_whole _ whole seats;
       order = order_whole whole;
       answers = answers_whole whole;
       bounded = bounded_whole whole;
