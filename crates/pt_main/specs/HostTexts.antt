@@ -14,6 +14,7 @@ use Rattle.pt_host.specs.declared.reply.HostValue.TheVariants as value
 use Rattle.pt_host.specs.declared.reply.HostReply.{HostReply}
 use Rattle.pt_host.specs.declared.reply.HostReply.TheVariants as reply
 use Rattle.pt_main.specs.Texts.{word, number_text, signed_text, bytes_text}
+use Rattle.pt_main.specs.EditTexts.{edit_text}
 
 abbrev pub errno_text : Errno → List ℕ
 errno_text errno = signed_text errno.0
@@ -48,6 +49,7 @@ call_text (call.Reopen fd flags) = word (codes "Reopen") ++ fd_text fd ++ flags_
 call_text (call.Stat fd) = word (codes "Stat") ++ fd_text fd
 call_text (call.ReadAt fd offset size) = word (codes "ReadAt") ++ fd_text fd ++ number_text offset ++ number_text size
 call_text (call.Close fd) = word (codes "Close") ++ fd_text fd
+call_text (call.Edit edit) = word (codes "Edit") ++ edit_text edit
 
 abbrev pub value_text : HostValue → List ℕ
 value_text value.Unit = word (codes "Unit")

@@ -6,8 +6,10 @@ use Rattle.pt_tree.specs.declared.spec.TreeLine.{TreeLine}
 use Rattle.pt_tree.specs.declared.spec.TreeLine.TheVariants.{Mount, File, Dir}
 use Rattle.pt_text.specs.Words.{words_of}
 use Rattle.pt_main.specs.Fields.{◌>>=◌, number_in, small_in, bytes_in, switch_in, places_in, at_end}
+use Rattle.pt_main.specs.Edit.{edit_in}
 use Rattle.pt_main.specs.Request.{request_in}
 use Rattle.pt_main.specs.declared.line.ScriptJob.{ScriptJob}
+use Rattle.pt_main.specs.declared.line.ScriptJob.TheVariants as script_job
 use Rattle.pt_main.specs.declared.line.Line.{Line}
 use Rattle.pt_main.specs.declared.line.Line.TheVariants.{Set, Tree, Job, Order, End}
 use Rattle.pt_main.specs.declared.settings.Setting.{Setting}
@@ -47,7 +49,11 @@ job_in words = do
   uid ← small_in words
   gid ← small_in uid.rest
   request ← request_in gid.rest
-  Some (record { context = record { uid = uid.value; gid = gid.value }; request = request })
+  Some (script_job.Request (record { uid = uid.value; gid = gid.value }) request)
+
+-- `edit EDIT`
+abbrev pub edit_job_in : List (List ℕ) → Option ScriptJob
+edit_job_in words = option_map script_job.Edit (edit_in words)
 
 -- the value of `guest_fd_limit N`
 abbrev pub limit_in : List (List ℕ) → Option Setting
@@ -71,8 +77,9 @@ line_in [] = None
 line_in (word ∷ fields) =
     if bytes_eq word (codes "set") then option_map Set (setting_in fields)
     else (if bytes_eq word (codes "job") then option_map Job (job_in fields)
+    else (if bytes_eq word (codes "edit") then option_map Job (edit_job_in fields)
     else (if bytes_eq word (codes "order") then option_map Order (places_in fields)
-    else (if bytes_eq word (codes "end") then at_end fields End else option_map Tree (tree_line_in word fields))))
+    else (if bytes_eq word (codes "end") then at_end fields End else option_map Tree (tree_line_in word fields)))))
 
 -- the line that a text is
 abbrev pub line_of : List ℕ → Option Line

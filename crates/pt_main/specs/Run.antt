@@ -32,6 +32,7 @@ use Rattle.pt_main.specs.TableLines.{live_lines, handle_lines, slots_line, Lives
 use Rattle.pt_main.specs.Configured.{IsConfigured}
 use Rattle.pt_main.specs.declared.settings.Settings.{Settings}
 use Rattle.pt_main.specs.declared.line.ScriptJob.{ScriptJob}
+use Rattle.pt_main.specs.declared.line.ScriptJob.TheVariants as script_job
 use Rattle.pt_main.specs.declared.status.Status.{Status}
 use Rattle.pt_main.specs.declared.status.Status.TheVariants as status
 
@@ -59,7 +60,8 @@ job_for who request = job.Request who start_seat request
 
 -- the job of a job's line
 abbrev pub job_of : ScriptJob → Job
-job_of line = job_for line.context line.request
+job_of (script_job.Request who request) = job_for who request
+job_of (script_job.Edit edit) = job.Edit edit
 
 -- the file system is made over this host with the default configuration but for what is set, by one call
 pub record IsOpened (settings : Settings) (before : State) (fs : FileSystem) (after : State) : Type 0 where
@@ -68,12 +70,12 @@ pub record IsOpened (settings : Settings) (before : State) (fs : FileSystem) (af
   pub tables : fs.tables ≡ empty_tables fs.plan.config.guest_fd_limit
 
 -- The jobs of a script run over this host: the trace leads from the new file system to these tables and that host, the steps come in the schedule's
--- order, each job is answered by the pattern of its request, and each clause of `drive` holds.
+-- order, each job is answered by the pattern of its request, or of its edit, and each clause of `drive` holds.
 pub record IsRunFrom (settings : Settings) (start : State) (lines : List ScriptJob) (schedule : List ℕ) (trace : List TraceStep) (answers : List Answer) (tables : Tables) (host : State) : Type 0 where
   pub fs : FileSystem
   pub opened_host : State
   pub opened : IsOpened settings start fs opened_host
-  pub seats : List HostSeat
+  pub seats : List (Option HostSeat)
   pub steps : Runs Does trace opened_host (map job_seat (map job_of lines)) fs.tables host seats tables
   pub order : IsInOrder schedule (length (map job_of lines)) trace
   pub answers_each : AnswersEach fs.plan (map job_of lines) trace answers

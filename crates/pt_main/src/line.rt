@@ -1,12 +1,14 @@
 ghost use Rattle.std.specs.Prelude.{◌≡◌, IfOk, Some, None};
 ghost use Rattle.pt_main.specs.Line.{mount_in, file_in, dir_in, tree_line_in, limit_in, setting_in, job_in, line_in, line_of};
 
+use crate::edit::next_edit;
 use crate::fields::{
     LineError, end, next_bytes, next_number, next_places, next_small, next_switch, next_word,
 };
 use crate::places::Places;
 use crate::request::next_request;
 use crate::settings::Setting;
+use pt_host::Edit;
 use pt_iface::{Context, Request};
 use pt_text::Parts;
 use pt_tree::TreeLine;
@@ -14,9 +16,11 @@ use std::alloc::Global;
 
 /// A job of a script.
 #[derive(Debug, Drop)]
-pub struct ScriptJob {
-    pub context: Context,
-    pub request: Request,
+pub enum ScriptJob {
+    /// A request, and who asks.
+    Request(Context, Request),
+    /// A change of the host's tree beside the requests.
+    Edit(Edit),
 }
 
 /// A line of a script.
@@ -127,8 +131,7 @@ fn next_job(alloc: Global, words: &mut Parts<'_>) -> Result<ScriptJob, LineError
     let uid = next_small(words)?;
     let gid = next_small(words)?;
     let request = next_request(alloc, words)?;
-    let context = Context { uid, gid };
-    Ok(ScriptJob { context, request })
+    Ok(ScriptJob::Request(Context { uid, gid }, request))
 }
 
 /// The line that a text is.
@@ -142,6 +145,8 @@ pub fn read_line(alloc: Global, text: &[u8]) -> Result<Line, LineError>
         Ok(Line::Set(next_setting(&mut words)?))
     } else if word == b"job".as_slice() {
         Ok(Line::Job(next_job(alloc, &mut words)?))
+    } else if word == b"edit".as_slice() {
+        Ok(Line::Job(ScriptJob::Edit(next_edit(alloc, &mut words)?)))
     } else if word == b"order".as_slice() {
         Ok(Line::Order(next_places(alloc, &mut words)?))
     } else if word == b"end".as_slice() {

@@ -1,6 +1,7 @@
 //! The program: reads a script of requests, runs it over a tree in memory and writes the report.
 #![tactic(auto)]
 
+mod edit;
 mod fields;
 mod input;
 mod laws;

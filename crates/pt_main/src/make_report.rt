@@ -29,9 +29,10 @@ fn start_seat() -> HostSeat
 fn job_of(job: ScriptJob) -> Job
     ensures { result ≡ job_of job }
 {
-    match job.request {
-        Request::Root => Job::OpenRoot(start_seat()),
-        request => Job::Request(job.context, start_seat(), request),
+    match job {
+        ScriptJob::Request(_, Request::Root) => Job::OpenRoot(start_seat()),
+        ScriptJob::Request(context, request) => Job::Request(context, start_seat(), request),
+        ScriptJob::Edit(edit) => Job::Edit(edit),
     }
 }
 

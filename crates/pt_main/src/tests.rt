@@ -1,15 +1,18 @@
 ghost use Rattle.std.specs.Prelude.{None};
 
 mod bad_scripts;
+mod edits;
 mod handles;
+mod interleavings;
 mod reports;
 mod requests;
 mod schedules;
 
 use crate::{
-    Failed, InputError, MAX_SCRIPT, MemSink, MemSource, ParseError, Sink, Source, Status,
-    first_bad_line, parse, read_script, run, script_determines_report,
+    Failed, InputError, MAX_SCRIPT, MemSink, MemSource, ParseError, ScriptJob, Sink, Source,
+    Status, first_bad_line, parse, read_script, run, script_determines_report,
 };
+use pt_host::Edit;
 use pt_iface::Request;
 use std::alloc::{AllocError, Global};
 use std::test::Fail;
@@ -138,7 +141,9 @@ fn scripts_are_parsed(rt: HostRuntime) -> Result<(), Fail> {
     match parse(rt.alloc(), b"mount 1 1 / 1\njob 5 6 lookup 1 a\nend\n") {
         Ok(script) => {
             assert_eq!(rt; script.jobs.len(), 1);
-            assert_eq!(rt; script.jobs.as_slice()[0].context.gid, 6);
+            assert!(rt;
+                matches!(&script.jobs.as_slice()[0], ScriptJob::Request(context, _) if context.gid == 6)
+            );
         }
         Err(_) => return Err(Fail::from("no script")),
     }
@@ -160,49 +165,112 @@ fn requests_are_parsed(rt: HostRuntime) -> Result<(), Fail> {
     assert_eq!(rt; script.settings.guest_fd_limit, Some(7));
     assert_eq!(rt; script.jobs.len(), 8);
     let jobs = script.jobs.as_slice();
-    assert!(rt; matches!(&jobs[0].request, Request::Init { capable } if capable.0 == 512));
-    assert!(rt; matches!(&jobs[1].request, Request::Destroy));
     assert!(rt;
-        matches!(&jobs[2].request, Request::BatchForget { list } if list.as_slice() == [(3, 1), (4, 2)].as_slice())
+        matches!(&jobs[0], ScriptJob::Request(_, Request::Init { capable }) if capable.0 == 512)
+    );
+    assert!(rt; matches!(&jobs[1], ScriptJob::Request(_, Request::Destroy)));
+    assert!(rt;
+        matches!(&jobs[2], ScriptJob::Request(_, Request::BatchForget { list }) if list.as_slice() == [(3, 1), (4, 2)].as_slice())
     );
     assert!(rt;
         matches!(
-            &jobs[3].request,
-            Request::Open {
-                inode: 2,
-                kill: true,
-                flags: 1
-            }
-        )
-    );
-    assert!(rt; matches!(&jobs[4].request, Request::OpenDir { inode: 3, flags: 0 }));
-    assert!(rt;
-        matches!(
-            &jobs[5].request,
-            Request::Read {
-                inode: 2,
-                handle: 0,
-                size: 10,
-                offset: 5
-            }
+            &jobs[3],
+            ScriptJob::Request(
+                _,
+                Request::Open {
+                    inode: 2,
+                    kill: true,
+                    flags: 1
+                }
+            )
         )
     );
     assert!(rt;
         matches!(
-            &jobs[6].request,
-            Request::Release {
-                inode: 2,
-                handle: 0
-            }
+            &jobs[4],
+            ScriptJob::Request(_, Request::OpenDir { inode: 3, flags: 0 })
         )
     );
     assert!(rt;
         matches!(
-            &jobs[7].request,
-            Request::ReleaseDir {
-                inode: 3,
-                handle: 1
-            }
+            &jobs[5],
+            ScriptJob::Request(
+                _,
+                Request::Read {
+                    inode: 2,
+                    handle: 0,
+                    size: 10,
+                    offset: 5
+                }
+            )
+        )
+    );
+    assert!(rt;
+        matches!(
+            &jobs[6],
+            ScriptJob::Request(
+                _,
+                Request::Release {
+                    inode: 2,
+                    handle: 0
+                }
+            )
+        )
+    );
+    assert!(rt;
+        matches!(
+            &jobs[7],
+            ScriptJob::Request(
+                _,
+                Request::ReleaseDir {
+                    inode: 3,
+                    handle: 1
+                }
+            )
+        )
+    );
+    Ok(())
+}
+
+#[test]
+fn edits_are_parsed(rt: HostRuntime) -> Result<(), Fail> {
+    let text =
+        b"mount 1 1 / 1\nedit unlink /a\nedit rename /a b/c\nedit file %- 0o7644 1 2 x%20y\nedit dir /d 4294967295 0 0o10\nedit write .. %-\nend\n";
+    let script = match parse(rt.alloc(), text) {
+        Ok(script) => script,
+        Err(_) => return Err(Fail::from("no script")),
+    };
+    let jobs = script.jobs.as_slice();
+    assert_eq!(rt; jobs.len(), 5);
+    assert!(rt;
+        matches!(&jobs[0], ScriptJob::Edit(Edit::Unlink { path }) if path.as_slice() == b"/a".as_slice())
+    );
+    assert!(rt;
+        matches!(
+            &jobs[1],
+            ScriptJob::Edit(Edit::Rename { old, new })
+                if old.as_slice() == b"/a".as_slice() && new.as_slice() == b"b/c".as_slice()
+        )
+    );
+    assert!(rt;
+        matches!(
+            &jobs[2],
+            ScriptJob::Edit(Edit::File { path, mode: 0o7644, uid: 1, gid: 2, bytes })
+                if path.as_slice().is_empty() && bytes.as_slice() == b"x y".as_slice()
+        )
+    );
+    assert!(rt;
+        matches!(
+            &jobs[3],
+            ScriptJob::Edit(Edit::Dir { path, mode: 0xffff_ffff, uid: 0, gid: 8 })
+                if path.as_slice() == b"/d".as_slice()
+        )
+    );
+    assert!(rt;
+        matches!(
+            &jobs[4],
+            ScriptJob::Edit(Edit::Write { path, bytes })
+                if path.as_slice() == b"..".as_slice() && bytes.as_slice().is_empty()
         )
     );
     Ok(())

@@ -120,6 +120,50 @@ fn bad_places_are_named(rt: HostRuntime) -> Result<(), Fail> {
 }
 
 #[test]
+fn bad_edits_are_named(rt: HostRuntime) -> Result<(), Fail> {
+    let table = [
+        ("edit unlink /a\n", TREE, 1),
+        (TREE, "edit\nend\n", 3),
+        (TREE, "edit frob /a\nend\n", 3),
+        (TREE, "job 0 0 edit unlink /a\nend\n", 3),
+        (TREE, "edit unlink\nend\n", 3),
+        (TREE, "edit unlink /a /b\nend\n", 3),
+        (TREE, "edit unlink %61\nend\n", 3),
+        (TREE, "edit rename /a\nend\n", 3),
+        (TREE, "edit rename /a /b /c\nend\n", 3),
+        (TREE, "edit file /b 0o644 0 0\nend\n", 3),
+        (TREE, "edit file /b 0o644 0 0 x y\nend\n", 3),
+        (TREE, "edit file /b 4294967296 0 0 x\nend\n", 3),
+        (TREE, "edit file /b 0o644 -1 0 x\nend\n", 3),
+        (TREE, "edit file /b 0o644 0 x x\nend\n", 3),
+        (TREE, "edit dir /d 0o755 0\nend\n", 3),
+        (TREE, "edit dir /d 0o755 0 0 x\nend\n", 3),
+        (TREE, "edit dir /d 0o755 0 4294967296\nend\n", 3),
+        (TREE, "edit write /a\nend\n", 3),
+        (TREE, "edit write /a x y\nend\n", 3),
+        (TREE, "edit unlink /a\nfile /b 0o644 0 0 z\nend\n", 4),
+        (TREE, "order 0\nedit unlink /a\nend\n", 4),
+        (TREE, "end\nedit unlink /a\n", 4),
+        (TREE, "edit unlink /a\n", 4),
+    ];
+    assert_bad(&rt, rt.alloc(), &table)
+}
+
+// Jobs and edits together are at most 65,536.
+#[test]
+fn one_edit_too_many(rt: HostRuntime) -> Result<(), Fail> {
+    let mut text = TREE.as_bytes().to_vec(rt.alloc())?;
+    for _ in 0..32_768 {
+        text.extend_from_slice(b"edit unlink x\njob 0 0 forget 2 1\n")?;
+    }
+    text.extend_from_slice(b"edit unlink x\nend\n")?;
+    let (status, output) = run_on(rt.alloc(), text, &[])?;
+    assert_eq!(rt; status, Status::BadScript(65_539));
+    assert!(rt; output.as_slice().is_empty());
+    Ok(())
+}
+
+#[test]
 fn bad_jobs_are_named(rt: HostRuntime) -> Result<(), Fail> {
     let table = [
         (TREE, "job x 0 root\nend\n", 3),

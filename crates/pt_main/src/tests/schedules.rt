@@ -197,3 +197,57 @@ fn overtaken_by_init(rt: HostRuntime) -> Result<(), Fail> {
     ];
     assert_report(&rt, rt.alloc(), &script, &want)
 }
+
+// A forget may take back what a lookup beside it has got, but has not told yet: the number is dead though its entry comes.
+#[test]
+fn forgotten_too_much(rt: HostRuntime) -> Result<(), Fail> {
+    let script = [
+        "set guest_fd_limit 2",
+        "mount 1 1 / 1",
+        "file /a 0o644 0 0 hi",
+        "job 0 0 init 0",
+        "job 0 0 lookup 1 a",
+        "job 0 0 lookup 1 a",
+        "job 0 0 forget 2 2",
+        "order 0 0 0 0 0 1 1 1 1 1 1 1 1 1 2 2 2 2 2 3 3 3 3 3",
+        "end",
+    ];
+    let want = [
+        "step 0 Clear = Cleared 1 0",
+        "step 0 OpenRoot / 2752512 = Ok Fd 4",
+        "step 0 Stat 4 = Ok Stat 1 1 1 16877 2 0 0 0 0 4096 0 0 0 0 0 0 0",
+        "step 0 TakeFd = Taken",
+        "step 0 InsertRoot 1 File 4 1 1 1 16877 + 0 0 0 0 = Inserted 1",
+        "step 1 Begin = Began 1 0 0 0 0",
+        "step 1 Resolve 1 = Resolved 0 File 4 1 1 1 16877",
+        "step 1 OpenAt 4 a 2752512 0 = Ok Fd 5",
+        "step 1 Stat 5 = Ok Stat 2 1 1 33188 1 0 0 0 2 4096 1 0 0 0 0 0 0",
+        "step 1 Claim 1 - 2 1 1 = Absent",
+        "step 1 TakeFd = Taken",
+        "step 1 DrawNode = Drawn 2",
+        "step 1 Insert 1 2 File 5 2 1 1 33188 = Inserted 2",
+        "step 1 Unpin 0 = Done 0",
+        "step 2 Begin = Began 1 0 0 0 0",
+        "step 2 Resolve 1 = Resolved 0 File 4 1 1 1 16877",
+        "step 2 OpenAt 4 a 2752512 0 = Ok Fd 6",
+        "step 2 Stat 6 = Ok Stat 2 1 1 33188 1 0 0 0 2 4096 1 0 0 0 0 0 0",
+        "step 2 Claim 1 - 2 1 1 = Claimed 2",
+        "step 3 Begin = Began 1 0 0 0 0",
+        "step 3 Forget 1 2 2 = Done 1",
+        "step 3 TakeClosing = Closing 5 1",
+        "step 3 Close 5 = Ok Unit",
+        "step 3 GiveFd = Given",
+        "step 2 Close 6 = Ok Unit",
+        "step 2 Unpin 0 = Done 0",
+        "answer 0 Inited 3",
+        "answer 1 Entry 2 0 2 2 1 0 0 0 0 0 0 33188 1 0 0 0 4096 0 5 0 5 0",
+        "answer 2 Entry 2 0 2 2 1 0 0 0 0 0 0 33188 1 0 0 0 4096 0 5 0 5 0",
+        "answer 3 NoReply",
+        "live 1 2",
+        "slots 1",
+        "obj / 1 1 1 16877 2 0 0 0 %-",
+        "obj /a 2 1 1 33188 1 0 0 0 hi",
+        "end",
+    ];
+    assert_report(&rt, rt.alloc(), &script, &want)
+}

@@ -113,6 +113,7 @@ impl Text for KeptHostOp {
                 size.write(out)
             }
             KeptHostOp::Close { fd } => push_named(out, b"Close", fd),
+            KeptHostOp::Edit(edit) => push_named(out, b"Edit", edit),
         }
     }
 }
