@@ -17,7 +17,6 @@ mod opening;
 mod path;
 mod permission;
 mod reading;
-mod scratch;
 mod slots;
 mod spec;
 mod start;

@@ -52,7 +52,7 @@ next_found false held next is = cc
 
 step_lives : (nodes : List Node) (at : ℕ) (part : List ℕ) (node : Option Node) (next : ℕ) → slice_get nodes at ≡ node → step_from at part node ≡ led_to next →
     (next ≡ at) ⊎ HasName nodes next
-step_lives nodes at [] node next there is = inl (let e : at ≡ next = cc in sym e)
+step_lives nodes at [] _ next there is = inl (let e : at ≡ next = cc in sym e)
 step_lives nodes at (first ∷ part) None next there is = cc
 step_lives nodes at (first ∷ part) (Some node) next there is =
     inr (

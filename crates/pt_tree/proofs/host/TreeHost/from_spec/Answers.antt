@@ -17,7 +17,11 @@ begun lines nodes slots holds numbers is few none counts table =
     (kept_start lines nodes is few)
 
 pub invariant_of-result : goal.invariant_of-result
-invariant_of-result c = ?
+invariant_of-result c =
+    let long = c.len.ensures ∙ c.in_ok-nodes.nodes.ok.0 in
+    begun c.args.spec.now c.in_ok-nodes.nodes.items c.in_ok-files.files c.in_ok-inodes.inodes.holds.items c.in_ok-inodes.inodes.numbers
+    (ap nodes_of (sym c.as_slice.ensures) ∙ c.in_ok-nodes.ensures.ok) c.requires c.in_ok-files.ensures
+    (c.in_ok-inodes.ensures.holds ∙ ap ones long) (c.in_ok-inodes.ensures.numbers ∙ ap first_numbers long)
 
 pub returns-clause-well_formed : goal.returns-clause-well_formed
-returns-clause-well_formed c = ?
+returns-clause-well_formed c = well_formed _ (invariant_of-result c).sound

@@ -1,0 +1,12 @@
+use Rattle.pt_tree.specs.StoreState.{numbers_of, state_of}
+use Rattle.pt_tree.proofs.Kept.{next_least}
+use Rattle.pt_tree.proofs.store.Store.make_edit.Goals as goal
+
+pub returns-clause-answers : goal.returns-clause-answers
+returns-clause-answers c = λ seat. record {
+  numbers = numbers_of c.args.self.now;
+  least = next_least (state_of c.args.self.now) c.args.self.now.inodes.holds.items c.args.self.now.inodes.numbers c.requires;
+  state = state_of c.edit-reply.new.self;
+  answered = c.edit-reply.ensures.answers;
+  counts = c.count.ensures.counts;
+}
