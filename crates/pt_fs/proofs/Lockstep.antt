@@ -11,14 +11,14 @@ use Rattle.pt_session.specs.declared.event.KeptEvent.{KeptEvent}
 use Rattle.pt_req.specs.Deed.{Deed, Calls, Changes, Step, IsStepOf, kept_deed_of}
 use Rattle.pt_req.specs.Determined.{LacksMemory, IsAnsweredInFull, IsDetermined, IsDeterminedHost}
 use Rattle.pt_req.specs.Grammar.{Grammar, End, Do, May, Belongs}
-use Rattle.pt_req.specs.Made.{Does, Made}
+use Rattle.pt_req.specs.Made.{Does}
 use Rattle.pt_req.specs.declared.act.ActReply.{ActReply}
 use Rattle.pt_req.specs.declared.act.KeptAct.{KeptAct}
 use Rattle.pt_req.specs.declared.act.KeptAct.TheVariants as kept
 use Rattle.pt_req.specs.declared.finish.Finish.{Finish}
 use Rattle.pt_req.proofs.Determined.{whole_step, leads}
 use Rattle.pt_fs.specs.Order.{lowered, rest_of, order, owner, count_of, total}
-use Rattle.pt_fs.specs.Trace.{Runs, MadeAt, step_of, steps_by}
+use Rattle.pt_fs.specs.Trace.{no_seat, MadeFrom, Runs, MadeAt, step_of, steps_by}
 use Rattle.pt_fs.specs.declared.trace.TraceStep.{TraceStep}
 use Rattle.pt_fs.proofs.Orders.{same_function, count_of-append, total_same, lowered-total, rest_other}
 use Rattle.pt_fs.proofs.Traces.{length-steps_by}
@@ -51,7 +51,7 @@ same_step step other j a r =
 -- where a run stands
 pub record Place (H : Type 0) : Type 0 where
   pub host : H
-  pub seats : List HostSeat
+  pub seats : List (Option HostSeat)
   pub tables : Tables
 
 place_same : {H : Type 0} (from to : Place H) → from.host ≡ to.host → from.seats ≡ to.seats → from.tables ≡ to.tables → from ≡ to
@@ -67,6 +67,28 @@ record AreOneStep {H : Type 0} (x y : TraceStep) (to to' : Place H) : Type 0 whe
   places : to ≡ to'
   agree : Agree to.tables
 
+-- two replies to one deed, from the seat of a job or from none, lead to one place
+record Led {H : Type 0} (reply reply' : ActReply) (host host' : H) (seat seat' : Option HostSeat) (tables tables' : Tables) : Type 0 where
+  replies : reply ≡ reply'
+  hosts : host ≡ host'
+  seats : seat ≡ seat'
+  left : tables ≡ tables'
+  agree : Agree tables
+
+led_from : {H : Type 0} (does : Does H) → IsDeterminedHost does → (deed : Deed) (reply reply' : ActReply) (host : H) (seat : Option HostSeat) (tables : Tables) (host1 host2 : H) (seat1 seat2 : Option HostSeat) (tables1 tables2 : Tables) →
+    (LacksMemory reply → ⊥) → (LacksMemory reply' → ⊥) → Agree tables → MadeFrom does (Some deed) reply host seat tables host1 seat1 tables1 → MadeFrom does (Some deed) reply' host seat tables host2 seat2 tables2 →
+    Led reply reply' host1 host2 seat1 seat2 tables1 tables2
+led_from does one deed reply reply' host (Some seat) tables host1 host2 (Some seat1) (Some seat2) tables1 tables2 w w' agree m n =
+    let led = leads does one deed reply reply' host seat tables host1 host2 seat1 seat2 tables1 tables2 w w' agree m n in
+    record { replies = led.replies; hosts = led.hosts; seats = ap (λ (s : HostSeat). Some s) led.seats; left = led.left; agree = led.agree }
+led_from does one deed reply reply' host None tables host1 host2 None None tables1 tables2 w w' agree m n =
+    let led = leads does one deed reply reply' host no_seat tables host1 host2 m.0 n.0 tables1 tables2 w w' agree m.1 n.1 in
+    record { replies = led.replies; hosts = led.hosts; seats = refl; left = led.left; agree = led.agree }
+led_from does one deed reply reply' host (Some seat) tables host1 host2 (Some seat1) None tables1 tables2 w w' agree m n = absurd n
+led_from does one deed reply reply' host (Some seat) tables host1 host2 None seat2 tables1 tables2 w w' agree m n = absurd m
+led_from does one deed reply reply' host None tables host1 host2 None (Some seat2) tables1 tables2 w w' agree m n = absurd n
+led_from does one deed reply reply' host None tables host1 host2 (Some seat1) seat2 tables1 tables2 w w' agree m n = absurd m
+
 -- two steps of one job by one deed
 one_step : {H : Type 0} (does : Does H) → IsDeterminedHost does → (deed : Deed) (x y : TraceStep) (from to to' : Place H) → x.job ≡ y.job → Found x → Found y → Agree from.tables →
     IsStepOf deed (kept_deed_of x.act) x.reply → IsStepOf deed (kept_deed_of y.act) y.reply → Makes does x from to → Makes does y from to' → AreOneStep x y to to'
@@ -74,11 +96,11 @@ one_step {H} does one deed x y from to to' j w w' agree s s' m n =
     let a = whole_step deed (kept_deed_of x.act) x.reply w s in
     let b = whole_step deed (kept_deed_of y.act) y.reply w' s' in
     let seat : n.0 ≡ m.0 = same_Some n.0 m.0 (sym n.2 ∙ ap (λ (k : ℕ). slice_get from.seats k) (sym j) ∙ m.2) in
-    let here : Made does (Some deed) x.reply from.host m.0 from.tables to.host m.1 to.tables = subst (λ (d : Option Deed). Made does d x.reply from.host m.0 from.tables to.host m.1 to.tables) a m.4 in
-    let there : Made does (Some deed) y.reply from.host m.0 from.tables to'.host n.1 to'.tables =
-    subst (λ (z : HostSeat). Made does (Some deed) y.reply from.host z from.tables to'.host n.1 to'.tables) seat (subst (λ (d : Option Deed). Made does d y.reply from.host n.0 from.tables to'.host n.1 to'.tables) b n.4) in
-    let led = leads does one deed x.reply y.reply from.host m.0 from.tables to.host to'.host m.1 n.1 to.tables to'.tables w w' agree here there in
-    let sat : to.seats ≡ to'.seats = m.3 ∙ ap (λ (k : ℕ). slice_set from.seats k m.1) j ∙ ap (λ (z : HostSeat). slice_set from.seats y.job z) led.seats ∙ sym n.3 in
+    let here : MadeFrom does (Some deed) x.reply from.host m.0 from.tables to.host m.1 to.tables = subst (λ (d : Option Deed). MadeFrom does d x.reply from.host m.0 from.tables to.host m.1 to.tables) a m.4 in
+    let there : MadeFrom does (Some deed) y.reply from.host m.0 from.tables to'.host n.1 to'.tables =
+    subst (λ (z : Option HostSeat). MadeFrom does (Some deed) y.reply from.host z from.tables to'.host n.1 to'.tables) seat (subst (λ (d : Option Deed). MadeFrom does d y.reply from.host n.0 from.tables to'.host n.1 to'.tables) b n.4) in
+    let led = led_from does one deed x.reply y.reply from.host m.0 from.tables to.host to'.host m.1 n.1 to.tables to'.tables w w' agree here there in
+    let sat : to.seats ≡ to'.seats = m.3 ∙ ap (λ (k : ℕ). slice_set from.seats k m.1) j ∙ ap (λ (z : Option HostSeat). slice_set from.seats y.job z) led.seats ∙ sym n.3 in
     record { steps = same_step x y j (same_act deed x.act y.act a b) led.replies; places = place_same to to' led.hosts sat led.left; agree = led.agree }
 
 -- What a job does next, want of memory aside: of a choice that side is left whose end is no want of memory.

@@ -1,5 +1,5 @@
 -- Jobs that run in the order of one schedule leave nothing open but want of memory.
-use Rattle.std.specs.Prelude.{◌≡◌, ◌≢◌, ℕ, List, length, map}
+use Rattle.std.specs.Prelude.{◌≡◌, ◌≢◌, ℕ, List, length}
 use Rattle.pt_host.specs.Words.{Each}
 use Rattle.pt_host.specs.declared.seat.HostSeat.{HostSeat}
 use Rattle.pt_session.specs.Tables.{Tables, Agree}
@@ -8,9 +8,8 @@ use Rattle.pt_iface.specs.declared.answer.Answer.TheVariants.{NoMemory}
 use Rattle.pt_req.specs.Determined.{LacksMemory}
 use Rattle.pt_req.specs.Made.{Does}
 use Rattle.pt_req.specs.declared.plan.Plan.{Plan}
-use Rattle.pt_fs.specs.Jobs.{job_seat}
 use Rattle.pt_fs.specs.Order.{IsInOrder}
-use Rattle.pt_fs.specs.Trace.{Runs, AnswersEach}
+use Rattle.pt_fs.specs.Trace.{RunsJobs, AnswersEach}
 use Rattle.pt_fs.specs.declared.job.Job.{Job}
 use Rattle.pt_fs.specs.declared.trace.TraceStep.{TraceStep}
 
@@ -21,7 +20,7 @@ pub record FoundMemory (trace : List TraceStep) (answers : List Answer) : Type 0
 
 -- the jobs ran in the order of the schedule, and never lacked memory
 pub record RanInOrder {H : Type 0} (does : Does H) (plan : Plan) (schedule : List ℕ) (jobs : List Job) (host : H) (tables : Tables) (trace : List TraceStep) (answers : List Answer) (host' : H) (seats' : List HostSeat) (tables' : Tables) : Type 0 where
-  pub steps : Runs does trace host (map job_seat jobs) tables host' seats' tables'
+  pub steps : RunsJobs does jobs trace host tables host' seats' tables'
   pub order : IsInOrder schedule (length jobs) trace
   pub answers_each : AnswersEach plan jobs trace answers
   pub memory : FoundMemory trace answers
