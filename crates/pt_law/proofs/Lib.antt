@@ -28,6 +28,7 @@ pub mod PinnedRows
 pub mod Steps
 pub mod Interleaving
 pub mod Laws
+pub mod Gone
 pub mod Standing
 pub mod HandlesOnce
 pub mod Pinned

@@ -70,6 +70,12 @@ pub record IsStanding (tables : Tables) (handle : ℕ) (amount : ℕ) : Type 0 w
   pub live : 0 < amount → (row : HandleRow) × IsHandleRow tables row × HasHandle handle row
   pub gone : amount ≡ 0 → NoHandle tables (HasHandle handle)
 
+-- the row of this serial, a number's or a handle's, has ended: the serial was drawn, and no row has it
+pub record HasEnded (tables : Tables) (serial : ℕ) : Type 0 where
+  pub drawn : serial < tables.next_row
+  pub number : NoRow tables (λ row. row.serial ≡ serial)
+  pub handle : NoHandle tables (λ row. row.serial ≡ serial)
+
 -- a handle's descriptor is open on the object that its number had when its job resolved that number last before the handle was inserted
 abbrev pub Serves : World → HandleRow → Type 0
 Serves world row = (object : ℕ) × (world.past.objects row.serial ≡ Some object) × IsOpenOn world.tree row.fd object

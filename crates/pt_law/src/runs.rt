@@ -17,7 +17,7 @@ ghost use Rattle.pt_req.specs.declared.plan.Plan.{Plan};
 ghost use Rattle.pt_law.specs.Told.{AllMayBeTold};
 ghost use Rattle.pt_law.specs.World.{World, Turn, Runs, HostRuns, TablesGo, TablesRun, steps_of};
 ghost use Rattle.pt_law.specs.Ledger.{given, inserted, handle_inserted, standing};
-ghost use Rattle.pt_law.specs.Laws.{ObjectOf, AreDisciplined, AreEnded, AreAnswered, Starts, AreDistinct, HasObject, Serves, IsCounted, IsStanding, SlotsAddUp, AreKept, NamesOpen, IsHonoured, IsOvertaken, TellsOvertaken, IsAtRest, LeavesRows};
+ghost use Rattle.pt_law.specs.Laws.{ObjectOf, AreDisciplined, AreEnded, AreAnswered, Starts, AreDistinct, HasObject, Serves, IsCounted, IsStanding, HasEnded, SlotsAddUp, AreKept, NamesOpen, IsHonoured, IsOvertaken, TellsOvertaken, IsAtRest, LeavesRows};
 ghost use Rattle.pt_law.specs.Entered.{IsEntered};
 ghost use Rattle.pt_law.specs.Origins.{WasRoot, WasNamed};
 
@@ -30,6 +30,7 @@ pub fn every_run()
     ensures era { (turns : List Turn) (start now : Tables) → TablesRun start turns now → start.era ≤ now.era }
     ensures counts { (limit : ℕ) (turns : List Turn) (now : Tables) (number : ℕ) → TablesRun (empty_tables limit) turns now → IsCounted now number (given number turns) }
     ensures standing { (limit : ℕ) (turns : List Turn) (now : Tables) (handle : ℕ) → TablesRun (empty_tables limit) turns now → IsStanding now handle (standing handle turns) }
+    ensures ended { (turns : List Turn) (start now : Tables) (serial : ℕ) → TablesRun start turns now → HasEnded start serial → HasEnded now serial }
     ensures once { (limit bound : ℕ) (turns more : List Turn) (now : Tables) (number : ℕ) →
         AreDisciplined bound (turns ++ more) → TablesRun (empty_tables limit) turns now → number ≢ 1 → inserted number turns ≤ 1 }
     ensures handles_once { (limit bound : ℕ) (turns more : List Turn) (now : Tables) (handle : ℕ) →

@@ -1,6 +1,7 @@
 use Rattle.pt_law.proofs.runs.every_run.Goals as goal
 use Rattle.pt_law.proofs.Interleaving.{tables_split}
 use Rattle.pt_law.proofs.Laws.{agree_law, era_grows, counts_law, once_law, slots_law, rest_law, ended_jobs}
+use Rattle.pt_law.proofs.Gone.{ended_law}
 use Rattle.pt_law.proofs.Next.{honoured_law}
 use Rattle.pt_law.proofs.Standing.{standing_law}
 use Rattle.pt_law.proofs.HandlesOnce.{handles_once_law}
@@ -14,6 +15,9 @@ returns-clause-era c = era_grows
 
 pub returns-clause-counts : goal.returns-clause-counts
 returns-clause-counts c = counts_law
+
+pub returns-clause-ended : goal.returns-clause-ended
+returns-clause-ended c = ended_law
 
 pub returns-clause-once : goal.returns-clause-once
 returns-clause-once c = once_law
