@@ -177,25 +177,6 @@ closed_table slots items more capacity room place file table is same keeps enoug
       room = (let was = table.room in omega (arith, was, weighs, longer));
     }
 
-no_free_number : (number : ℕ) → 0 ≡ free_weight (slice_get no_files number)
-no_free_number zero = refl
-no_free_number (suc zero) = refl
-no_free_number (suc (suc zero)) = refl
-no_free_number (suc (suc (suc number))) = refl
-
-pub first_table : (slots : List Slot) (items : List (Reverse ℕ)) (capacity : ℕ) → slots ≡ no_files → items ≡ [] → IsHeap (λ x y. nat_cmp y.0 x.0) items →
-    IsTable slots items capacity
-first_table slots items capacity none empty heap =
-    let long = ap length none in
-    let weights = ap (sum_by open_weight) none in
-    let short = ap length empty in
-    record {
-      heap = heap;
-      each = λ number. ap (times number) empty ∙ no_free_number number ∙ sym (ap (λ table. free_weight (slice_get table number)) none);
-      few = omega (arith, long);
-      room = omega (arith, weights, short);
-    }
-
 pub no_items : (items : List (Reverse ℕ)) → length items ≡ 0 → items ≡ []
 no_items [] none = refl
 no_items (item ∷ items) none = absurd (omega arith)

@@ -57,9 +57,6 @@ gained_names object name v names ordered =
 
 -- ---- over all directories
 
-weight : ℕ → Node → ℕ
-weight object node = names_to object (names_in node.content)
-
 changed_weight : (found_node : Option Node) (place : ℕ) (f : Node → Node) (nodes : List Node) (object : ℕ) (node : Node) → slice_get nodes place ≡ Some node →
     found_node ≡ Some node →
     names_of (changed_where found_node place f nodes) object + names_to object (names_in node.content) ≡ names_of nodes object + names_to object (names_in (f node).content)
@@ -102,7 +99,8 @@ closed_weight object (Some Reserved) s is closed = sym (ap (opens object) (same_
 closed_weight object (Some Free) s is closed = sym (ap (opens object) (same_Some Free s is))
 closed_weight object (Some (Open file)) s is closed = cc
 
-get_there : {A : Type 0} (xs : List A) (k : ℕ) → k < length xs → (x : A) × (slice_get xs k ≡ Some x)
+-- there is an element at each place below the length
+pub get_there : {A : Type 0} (xs : List A) (k : ℕ) → k < length xs → (x : A) × (slice_get xs k ≡ Some x)
 get_there [] k within = absurd (omega arith)
 get_there (x ∷ xs) zero within = (x, refl)
 get_there (x ∷ xs) (suc k) within = get_there xs k (omega arith)

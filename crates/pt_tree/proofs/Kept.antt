@@ -62,10 +62,6 @@ kept_alike state after holds numbers kept sound alike same = record {
   one_device = one_device_alike state.nodes after.nodes alike kept.one_device;
 }
 
-pub kept_counted : (state : State) (holds : List ℕ) (numbers : List Slot) → IsKept state holds numbers → IsKept (counted state) holds numbers
-kept_counted state holds numbers kept =
-    kept_alike state (counted state) holds numbers kept (sound-counted state kept.sound) (alike_itself state.nodes) (λ object. refl)
-
 -- ---- once more
 
 index_is : (xs : List ℕ) (place value : ℕ) → slice_get xs place ≡ Some value → slice_index xs place ≡ value

@@ -37,7 +37,7 @@ use Rattle.pt_tree.specs.Laws.Keeping.{Keeps, keeps_opening, keeps_reading}
 use Rattle.pt_tree.specs.Laws.Soundness.{alike_set, sound-closed, sound-with_node, sound-with_opened}
 use Rattle.pt_tree.specs.Laws.WellFormed.{and_then_some}
 use Rattle.pt_tree.proofs.Alive.{lives_held}
-use Rattle.pt_tree.proofs.Holding.{counts_where, gained_names, is_one, lost_names, names_of-changed, names_of-same, opens_of-closed, opens_of-put}
+use Rattle.pt_tree.proofs.Holding.{counts_where, gained_names, get_there, is_one, lost_names, names_of-changed, names_of-same, opens_of-closed, opens_of-put}
 use Rattle.pt_tree.proofs.Kept.{kept_alike, kept_more, kept_released}
 
 -- ---- calls
@@ -73,16 +73,11 @@ kept_read state holds numbers object node kept there =
     (alike_set state.nodes object node after there keeps)
     (λ o. let names = names_of-set state.nodes object node after o there keeps.names in omega (arith, names))
 
-get_below : (nodes : List Node) (place : ℕ) → place < length nodes → (node : Node) × (slice_get nodes place ≡ Some node)
-get_below [] place within = absurd (omega arith)
-get_below (node ∷ nodes) zero within = (node, refl)
-get_below (node ∷ nodes) (suc place) within = get_below nodes place (omega arith)
-
 pub kept_closed : (state : State) (holds : List ℕ) (numbers : List Slot) (fd : ℕ) (file : OpenFile) → IsKept state holds numbers →
     open_at state.slots fd ≡ Some file →
     IsKept (record state { slots = closed fd state.slots }) (released file.object holds) (given_up (number_at state.nodes file.object) file.object holds numbers)
 kept_closed state holds numbers fd file kept there =
-    let node = get_below state.nodes file.object (kept.sound.opened fd file there) in
+    let node = get_there state.nodes file.object (kept.sound.opened fd file there) in
     subst (λ number. IsKept (record state { slots = closed fd state.slots }) (released file.object holds) (given_up number file.object holds numbers))
     (sym (ap number_in node.1))
     (kept_released state (record state { slots = closed fd state.slots }) holds numbers file.object node.0 kept (sound-closed state fd kept.sound)
@@ -110,7 +105,7 @@ names_of-lost nodes dir name f object led_object loses there =
 
 lives_there : (state : State) (dir : ℕ) (name : List ℕ) (object : ℕ) → IsSound state → name_at state.nodes dir name ≡ Some object →
     (node : Node) × (slice_get state.nodes object ≡ Some node)
-lives_there state dir name object sound there = get_below state.nodes object (sound.named dir name object there)
+lives_there state dir name object sound there = get_there state.nodes object (sound.named dir name object there)
 
 pub kept_unlinked : (state : State) (holds : List ℕ) (numbers : List Slot) (dir : ℕ) (name : List ℕ) (object : ℕ) → IsKept state holds numbers →
     name_at state.nodes dir name ≡ Some object →

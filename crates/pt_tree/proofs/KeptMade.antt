@@ -21,9 +21,10 @@ use Rattle.pt_tree.specs.Laws.EditShapes.{entered}
 use Rattle.pt_tree.specs.Laws.EditSound.{all_ordered, at_place, length_made, sound_made}
 use Rattle.pt_tree.specs.Laws.Lawful.{least_free-closed}
 use Rattle.pt_tree.specs.Laws.SlotTable.{least_free-le-length}
+use Rattle.pt_tree.specs.Laws.Soundness.{open_slot}
 use Rattle.pt_tree.specs.Laws.Updates.{get-push_apart, get-push_here, get-put_apart, get-put_cases, get-put_here}
 use Rattle.pt_tree.proofs.Alive.{held_lives}
-use Rattle.pt_tree.proofs.Holding.{is_none, is_one, names_of-pushed}
+use Rattle.pt_tree.proofs.Holding.{get_there, is_none, is_one, names_of-pushed}
 use Rattle.pt_tree.proofs.Kept.{closed_apart, least_not_0, next_least, next_number, reserved_before, shut}
 use Rattle.pt_tree.proofs.KeptEdits.{names_of-gained}
 
@@ -110,16 +111,11 @@ module _ (state : State) (holds : List ℕ) (numbers : List Slot) (kept : IsKept
   entered_there place that there =
       let within = slice_get_within state.nodes place that there in
       let longer = long_made in
-      let now = get_below (with_made state dir name node).nodes place (omega arith) in
+      let now = get_there (with_made state dir name node).nodes place (omega arith) in
       elim (at_place state dir name node kept.sound into empty serial small least place now.0 now.1) [
         | inl new ↦ absurd (let end = new.0 in omega arith)
         | inr old ↦ (now.0, now.1, old.2 ∙ ap (λ n. n.ids) (same_Some old.0 that (sym old.1 ∙ there)))
       ]
-    where
-      get_below : (nodes : List Node) (k : ℕ) → k < length nodes → (n : Node) × (slice_get nodes k ≡ Some n)
-      get_below [] k within = absurd (omega arith)
-      get_below (n ∷ nodes) zero within = (n, refl)
-      get_below (n ∷ nodes) (suc k) within = get_below nodes k (omega arith)
 
   new_there : slice_get (with_made state dir name node).nodes (length state.nodes) ≡ Some node
   new_there =
@@ -128,12 +124,6 @@ module _ (state : State) (holds : List ℕ) (numbers : List Slot) (kept : IsKept
       let same : length (entered (time_of state) dir name node state.nodes) ≡ length state.nodes = omega arith in
       ap (slice_get (with_made state dir name node).nodes) (sym same) ∙ get-push_here (entered (time_of state) dir name node state.nodes) node
 
-  opened_slot : (slot : Option Slot) (file : OpenFile) → file_of slot ≡ Some file → slot ≡ Some (Open file)
-  opened_slot None file is = cc
-  opened_slot (Some Reserved) file is = cc
-  opened_slot (Some Free) file is = cc
-  opened_slot (Some (Open other)) file is = ap (λ f. Some (Open f)) (same_Some other file is)
-
   same_open : (file other : OpenFile) → Open file ≡ Open other → file ≡ other
   same_open file other is = cc
 
@@ -141,7 +131,7 @@ module _ (state : State) (holds : List ℕ) (numbers : List Slot) (kept : IsKept
       (that : Node) × (slice_get (with_made state dir name node).nodes file.object ≡ Some that) × (that.ids.ino ≡ k) × (0 < held_by (with_made state dir name node) file.object)
   unfolding table
   had_made k file there =
-      elim (get-put_cases (least_free numbers) (Open (having (length state.nodes))) numbers k (Open file) (opened_slot (slice_get table k) file there)) [
+      elim (get-put_cases (least_free numbers) (Open (having (length state.nodes))) numbers k (Open file) (open_slot (slice_get table k) file there)) [
         | inl new ↦ (let same = same_open file (having (length state.nodes)) new.1 in
             let object = ap (λ (f : OpenFile). f.object) same in (
               node,

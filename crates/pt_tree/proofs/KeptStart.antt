@@ -12,6 +12,8 @@ use Rattle.pt_tree.specs.declared.slots.Slot.{Slot}
 use Rattle.pt_tree.specs.declared.slots.Slot.TheVariants.{Reserved, Free, Open}
 use Rattle.pt_tree.specs.declared.spec.TreeLine.{TreeLine}
 use Rattle.pt_tree.specs.Laws.Updates.{get-push_apart, get-push_cases, get-push_here, put_end}
+use Rattle.pt_tree.specs.Laws.Soundness.{open_slot}
+use Rattle.pt_tree.proofs.Holding.{get_there}
 use Rattle.pt_tree.proofs.StartNodes.{sound_nodes, sound_start}
 
 -- ---- the table of the first numbers
@@ -92,17 +94,6 @@ replicate-long (suc count) = ap suc (replicate-long count)
 none_open_yet : (object : ℕ) → opens_of no_files object ≡ 0
 none_open_yet object = refl
 
-opened_entry : (slot : Option Slot) (file : OpenFile) → file_of slot ≡ Some file → slot ≡ Some (Open file)
-opened_entry None file is = cc
-opened_entry (Some Reserved) file is = cc
-opened_entry (Some Free) file is = cc
-opened_entry (Some (Open other)) file is = (let same : other ≡ file = cc in ap (λ f. Some (Open f)) same)
-
-get_below : (nodes : List Node) (place : ℕ) → place < length nodes → (node : Node) × (slice_get nodes place ≡ Some node)
-get_below [] place within = absurd (omega arith)
-get_below (node ∷ nodes) zero within = (node, refl)
-get_below (node ∷ nodes) (suc place) within = get_below nodes place (omega arith)
-
 module _ (lines : List TreeLine) (nodes : List Node) (are : nodes_of lines ≡ Ok nodes) where
   held_once : (object : ℕ) → object < length nodes → held_by (start_with nodes) object ≡ 1
   held_once object within =
@@ -114,11 +105,11 @@ module _ (lines : List TreeLine) (nodes : List Node) (are : nodes_of lines ≡ O
   had_first : (number : ℕ) (file : OpenFile) → open_at (first_numbers (length nodes)) number ≡ Some file →
       (node : Node) × (slice_get nodes file.object ≡ Some node) × (node.ids.ino ≡ number) × (0 < held_by (start_with nodes) file.object)
   had_first number file there =
-      elim (first_cases (length nodes) number (Open file) (opened_entry (slice_get (first_numbers (length nodes)) number) file there)) [
+      elim (first_cases (length nodes) number (Open file) (open_slot (slice_get (first_numbers (length nodes)) number) file there)) [
         | inl first ↦ cc
         | inr (place, within, at, same) ↦ (let e : file ≡ having place = cc in
             let object = ap (λ (f : OpenFile). f.object) e in
-            let node = get_below nodes file.object (let low = within in omega arith) in
+            let node = get_there nodes file.object (let low = within in omega arith) in
             let ino = ((sound_nodes lines nodes are).0.numbered file.object node.0 node.1).ino in (
               node.0,
               node.1,

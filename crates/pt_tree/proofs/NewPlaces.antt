@@ -17,10 +17,6 @@ pub place-bad : (nodes : List Node) (dir : ℕ) (path name : List ℕ) (more : L
     place_in nodes dir (parts path) ≡ None
 place-bad nodes dir path name more first bad = ap (place_in nodes dir) first ∙ bad_first nodes dir name more bad
 
-pub place-last : (nodes : List Node) (dir : ℕ) (path name : List ℕ) → parts path ≡ name ∷ [] → is_good_name name ≡ true →
-    place_in nodes dir (parts path) ≡ cond (takes_name name (slice_get nodes dir)) (Some (dir, name)) None
-place-last nodes dir path name first good = ap (place_in nodes dir) first ∙ rw good refl
-
 goes_on : (nodes : List Node) (dir : ℕ) (name : List ℕ) (more : List (List ℕ)) → 0 < length more → is_good_name name ≡ true →
     new_place nodes dir name more ≡ option_and_then (λ child. place_in nodes child more) (name_at nodes dir name)
 goes_on nodes dir name [] some good = absurd (omega arith)

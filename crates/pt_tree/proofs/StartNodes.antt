@@ -21,6 +21,7 @@ use Rattle.pt_tree.specs.Start.{add_line, add_lines, add_object, first_line, goi
 use Rattle.pt_tree.specs.Laws.Updates.{get-set_cases, get-push_cases}
 use Rattle.pt_tree.specs.Laws.WellFormed.{and_then_some}
 use Rattle.pt_tree.specs.Laws.EditShapes.{no_names, ordered_gained}
+use Rattle.pt_tree.specs.Laws.NameTable.{found-named}
 use Rattle.pt_tree.proofs.Alive.{some_name}
 use Rattle.pt_tree.proofs.Holding.{counts_where, is_none as apart_none, is_one, names_of-pushed}
 use Rattle.pt_tree.proofs.KeptEdits.{gained_weight}
@@ -50,35 +51,9 @@ either_value : (b : Bool) (v object : ℕ) (rest : Option ℕ) → cond b (Some 
 either_value true v object rest is = inl (sym (same_Some v object is))
 either_value false v object rest is = inr is
 
--- at an entry of the same name the value alone is new
-same_key : (b : Bool) (old v object : ℕ) (rest : Option ℕ) → cond b (Some v) rest ≡ Some object → (object ≡ v) ⊎ (cond b (Some old) rest ≡ Some object)
-same_key true old v object rest is = inl (sym (same_Some v object is))
-same_key false old v object rest is = inr is
-
--- past an entry
-past_key : (b : Bool) (old v object : ℕ) (rest before : Option ℕ) → (rest ≡ Some object → (object ≡ v) ⊎ (before ≡ Some object)) →
-    cond b (Some old) rest ≡ Some object → (object ≡ v) ⊎ (cond b (Some old) before ≡ Some object)
-past_key true old v object rest before later is = inr is
-past_key false old v object rest before later is = later is
-
-named_at : (o : Ordering) (q name : List ℕ) (v object : ℕ) (entry : List ℕ × ℕ) (more : List (List ℕ × ℕ)) →
-    (found q (named name v more) ≡ Some object → (object ≡ v) ⊎ (found q more ≡ Some object)) →
-    found q (match_ordering o ((name, v) ∷ entry ∷ more) ((entry.0, v) ∷ more) (entry ∷ named name v more)) ≡ Some object →
-    (object ≡ v) ⊎ (found q (entry ∷ more) ≡ Some object)
-named_at Less q name v object entry more later is = either_value (bytes_eq q name) v object (found q (entry ∷ more)) is
-named_at Equal q name v object entry more later is = same_key (bytes_eq q entry.0) entry.1 v object (found q more) is
-named_at Greater q name v object entry more later is =
-    past_key (bytes_eq q entry.0) entry.1 v object (found q (named name v more)) (found q more) later is
-
-pub found-named : (q name : List ℕ) (v object : ℕ) (names : List (List ℕ × ℕ)) → found q (named name v names) ≡ Some object →
-    (object ≡ v) ⊎ (found q names ≡ Some object)
-found-named q name v object [] is = either_value (bytes_eq q name) v object None is
-found-named q name v object (entry ∷ more) is =
-    named_at (slice_cmp nat_cmp name entry.0) q name v object entry more (found-named q name v object more) is
-
 found-with_name : (q name : List ℕ) (v object : ℕ) (content : Content) → found q (names_in (with_name name v content)) ≡ Some object →
     (object ≡ v) ⊎ (found q (names_in content) ≡ Some object)
-found-with_name q name v object (Directory names) is = found-named q name v object names is
+found-with_name q name v object (Directory names) is = either_value (bytes_eq name q) v object (found q names) (sym (found-named q name v names) ∙ is)
 found-with_name q name v object (Regular bytes) is = inr is
 
 -- ---- one object more

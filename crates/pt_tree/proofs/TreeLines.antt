@@ -16,6 +16,3 @@ lines_below-more (suc depth) nodes path dir some = ap (λ n. flat_map (entry_lin
     less_one : (n : ℕ) → n ≡ suc n - 1
     less_one n = omega arith
 
-pub lines_below-none : (depth : ℕ) (nodes : List Node) (path : List ℕ) (dir : ℕ) → names_at (slice_get nodes dir) ≡ [] → lines_below depth nodes path dir ≡ []
-lines_below-none zero nodes path dir none = refl
-lines_below-none (suc depth) nodes path dir none = ap (flat_map (entry_lines depth nodes path)) none

@@ -113,7 +113,7 @@ fn reopen(fd: u32, flags: u32) -> HostOp<'static> {
     }
 }
 
-fn read(fd: u32, offset: u64, size: u32) -> HostOp<'static> {
+pub fn read(fd: u32, offset: u64, size: u32) -> HostOp<'static> {
     HostOp::ReadAt {
         fd: Fd(fd),
         offset,
@@ -122,7 +122,7 @@ fn read(fd: u32, offset: u64, size: u32) -> HostOp<'static> {
 }
 
 /// Whether the call reads these bytes.
-fn reads(
+pub fn reads(
     host: &mut TreeHost,
     seat: &mut HostSeat,
     op: HostOp<'_>,

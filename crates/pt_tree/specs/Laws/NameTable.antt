@@ -17,17 +17,6 @@ use Rattle.std.proofs.lemmas.Slice.Eq.{bytes_eq-Decides}
 use Rattle.pt_tree.specs.Names.{found, named, unnamed}
 use Rattle.pt_tree.specs.Sound.{AreOrdered}
 
--- two names are one, or they are two
-pub either_name : (a b : List ℕ) → ((bytes_eq a b ≡ true) × (a ≡ b)) ⊎ ((bytes_eq a b ≡ false) × (a ≢ b))
-either_name a b = by_test (bytes_eq a b) refl
-  where
-    by_test : (t : Bool) → bytes_eq a b ≡ t → ((bytes_eq a b ≡ true) × (a ≡ b)) ⊎ ((bytes_eq a b ≡ false) × (a ≢ b))
-    by_test true is = inl (is, (bytes_eq-Decides a b).0 is)
-    by_test false is = inr (is, λ same. (let e : true ≡ false = sym ((bytes_eq-Decides a b).1 same) ∙ is in cc))
-
-same_name : (a : List ℕ) → bytes_eq a a ≡ true
-same_name a = nat_list_eq_equiv.refl a
-
 -- ---- led elsewhere
 
 twice : {A : Type 0} (b : Bool) (x y z : A) → cond b x z ≡ cond b x (cond b y z)
