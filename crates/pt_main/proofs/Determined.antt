@@ -129,7 +129,7 @@ ran_in_order settings start lines schedule trace answers tables host run found =
 end_agrees : (settings : Settings) (start : State) (lines : List ScriptJob) (schedule : List ℕ) (trace : List TraceStep) (answers : List Answer) (tables : Tables) (host : State) → IsRunFrom settings start lines schedule trace answers tables host → Agree tables
 end_agrees settings start lines schedule trace answers tables host run =
     agree_law run.fs.plan.config.guest_fd_limit (turns_of trace) tables
-    (subst (λ (t : Tables). TablesRun t (turns_of trace) tables) run.opened.tables (hosts_tables Does (turns_of trace) run.opened_host run.fs.tables host tables (host_runs Does trace run.opened_host _ run.fs.tables host run.seats tables run.steps)))
+    (subst (λ (t : Tables). TablesRun t (turns_of trace) tables) run.opened.tables (hosts_tables Does (turns_of trace) run.opened_host run.fs.tables host tables (host_runs Does trace run.opened_host _ run.fs.tables host run.steps.seats tables run.steps.runs)))
 
 runs_one : (settings : Settings) (start : State) (lines : List ScriptJob) (schedule : List ℕ) (trace trace' : List TraceStep) (answers answers' : List Answer) (tables tables' : Tables) (host host' : State) →
     (run : IsRunFrom settings start lines schedule trace answers tables host) (run' : IsRunFrom settings start lines schedule trace' answers' tables' host') → FoundMemory trace answers → FoundMemory trace' answers' →
@@ -144,7 +144,7 @@ runs_one settings start lines schedule trace trace' answers answers' tables tabl
     let agree : Agree run.fs.tables = subst Agree (sym run.opened.tables) (agree_law run.fs.plan.config.guest_fd_limit [] (empty_tables run.fs.plan.config.guest_fd_limit) refl) in
     turns_determined Does host_determined run.fs.plan schedule (map job_of lines) run.opened_host run.fs.tables trace trace' answers answers' host host' run.seats run'.seats tables tables' agree here moved
 
-report_same : (trace trace' : List TraceStep) (answers answers' : List Answer) (lives lives' handles handles' : List (ℕ × ℕ)) (seats seats' : List (Option HostSeat)) (tables tables' : Tables) (host host' : State) →
+report_same : (trace trace' : List TraceStep) (answers answers' : List Answer) (lives lives' handles handles' : List (ℕ × ℕ)) (seats seats' : List HostSeat) (tables tables' : Tables) (host host' : State) →
     AreOneRun trace trace' answers answers' host host' seats seats' tables tables' → lives ≡ lives' → handles ≡ handles' → report_of trace answers lives handles tables host ≡ report_of trace' answers' lives' handles' tables' host'
 report_same trace trace' answers answers' lives lives' handles handles' seats seats' tables tables' host host' one l h = λ i. report_of (one.traces i) (one.answered i) (l i) (h i) (one.left i) (one.hosts i)
 

@@ -6,9 +6,10 @@ use Rattle.pt_host.specs.declared.ids.Fd.{Fd}
 use Rattle.pt_host.specs.declared.reply.HostReply.{HostReply}
 use Rattle.pt_host.specs.declared.reply.HostReply.TheVariants as reply
 use Rattle.pt_host.specs.declared.reply.HostValue.TheVariants as value
-use Rattle.pt_tree.specs.Calls.{answer, opening_of}
+use Rattle.pt_tree.specs.Calls.{opening_of}
 use Rattle.pt_tree.specs.Slots.{least_free}
 use Rattle.pt_tree.specs.Start.{nodes_of, StartsAs}
+use Rattle.pt_tree.specs.Table.{answer}
 use Rattle.pt_tree.specs.declared.node.Node.{Node}
 use Rattle.pt_tree.specs.declared.spec.TreeLine.{TreeLine}
 use Rattle.pt_tree.proofs.StartNodes.{sound_nodes}
@@ -30,9 +31,9 @@ opened_well settings before fs after opened =
     (lawful_step before _ _ opened.call.0 after _ does).well_formed (well_formed before does.sound)
 
 -- the host's root is found and opened, since a tree has one
-root_opens : (start : State) (node : Node) → slice_get start.nodes 0 ≡ Some node →
-    (fd : Fd) × ((answer start start_seat opens_root).0 ≡ reply.Ok (value.Fd fd))
-root_opens start node is = (record { 0 = least_free start.slots }, ap (λ (found : Option Node). (opening_of start start_seat path 0 found).0) is)
+root_opens : (start : State) (numbers : ℕ → ℕ) (node : Node) → slice_get start.nodes 0 ≡ Some node →
+    (fd : Fd) × ((answer start numbers start_seat opens_root).0 ≡ reply.Ok (value.Fd fd))
+root_opens start numbers node is = (record { 0 = least_free start.slots }, ap (λ (found : Option Node). (opening_of start start_seat path 0 found).0) is)
 
 some_nodes : (lines : List TreeLine) (nodes : List Node) → nodes_of lines ≡ Ok nodes → 0 < length nodes
 some_nodes [] nodes is = cc
@@ -55,10 +56,10 @@ never_refused lines start errno starts refused =
     let some : 0 < length starts.0 = some_nodes lines starts.0 starts.1 in
     let first = at_below starts.0 0 some in
     let is : slice_get start.nodes 0 ≡ Some first.0 = ap (λ (s : State). slice_get s.nodes 0) starts.2 ∙ first.1 in
-    let opens = root_opens start first.0 is in
     let does = refused.call.1 in
+    let opens = root_opens start does.answers.numbers first.0 is in
     not_opened refused.call.0 refused.fs errno refused.refused
-    (elim does.answers.1 [ inl e ↦ inl (opens.0, ap (λ (told : HostReply × State). told.0) e ∙ opens.1) | inr none ↦ inr none.0 ]) refused.call.2
+    (elim does.answers.answered [ inl e ↦ inl (opens.0, ap (λ (told : HostReply × State). told.0) e ∙ opens.1) | inr none ↦ inr none.0 ]) refused.call.2
 
 -- so no bytes are refused for their configuration
 pub never_bad_config : (bytes : List ℕ) (errno : Errno) → IsNoReport bytes (status.BadConfig errno) → ⊥

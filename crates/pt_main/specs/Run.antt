@@ -17,11 +17,10 @@ use Rattle.pt_iface.specs.declared.request.Context.{Context}
 use Rattle.pt_iface.specs.declared.request.Request.{Request}
 use Rattle.pt_iface.specs.declared.request.Request.TheVariants.{Root}
 use Rattle.pt_fs.specs.FileSystem.{FileSystem, opens_root, IsMadeBy}
-use Rattle.pt_fs.specs.Jobs.{job_seat}
 use Rattle.pt_fs.specs.Keeps.{turns_of, AfterEach, AfterEachTold, LeadsOn, KeepsObjects, KeepsCounts, KeepsHandles, ServesEach, InsertsOnce, OvertakenAsTold, OfEachJob, GivesBack, IsCausedIn, IsNamedIn, NamesOpenOnes, LeavesOpen}
 use Rattle.pt_fs.specs.Order.{IsInOrder}
 use Rattle.pt_law.specs.Laws.{SlotsAddUp, IsAtRest, AreKept}
-use Rattle.pt_fs.specs.Trace.{Runs, AnswersEach, IsBounded}
+use Rattle.pt_fs.specs.Trace.{RunsJobs, AnswersEach, IsBounded}
 use Rattle.pt_fs.specs.declared.job.Job.{Job}
 use Rattle.pt_fs.specs.declared.job.Job.TheVariants as job
 use Rattle.pt_fs.specs.declared.trace.TraceStep.{TraceStep}
@@ -75,8 +74,8 @@ pub record IsRunFrom (settings : Settings) (start : State) (lines : List ScriptJ
   pub fs : FileSystem
   pub opened_host : State
   pub opened : IsOpened settings start fs opened_host
-  pub seats : List (Option HostSeat)
-  pub steps : Runs Does trace opened_host (map job_seat (map job_of lines)) fs.tables host seats tables
+  pub seats : List HostSeat
+  pub steps : RunsJobs Does (map job_of lines) trace opened_host fs.tables host seats tables
   pub order : IsInOrder schedule (length (map job_of lines)) trace
   pub answers_each : AnswersEach fs.plan (map job_of lines) trace answers
   pub bounded : IsBounded (map job_of lines) trace
