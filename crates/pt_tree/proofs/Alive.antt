@@ -1,17 +1,17 @@
 -- What lives is held, and what is held lives.
-use Rattle.std.proofs.Common.{◌≡◌, ◌<◌, ◌+◌, ◌⊎◌, inl, inr, ℕ, zero, suc, Bool, true, false, cond, List, [], ◌∷◌, Option, Some, None, option_map, option_and_then, unwrap_or, sum_by, slice_get, refl, ap, sym, ◌∙◌, subst, arith}
+use Rattle.std.proofs.Common.{◌≡◌, ◌<◌, inl, inr, ℕ, suc, List, [], ◌∷◌, Option, Some, option_map, option_and_then, unwrap_or, sum_by, slice_get, refl, ap, sym, ◌∙◌, arith}
 use Rattle.std.specs.Map.{values_of}
 use Rattle.std.proofs.lemmas.Bool.Decides.{leb_tells}
 use Rattle.std.proofs.lemmas.Cmp.{nat_list_eq_equiv}
 use Rattle.std.proofs.lemmas.List.Sums.{sum_by-cons, get_or-le-sum_by}
 use Rattle.std.proofs.lemmas.Map.Entries.{lookup_from_place}
-use Rattle.std.proofs.lemmas.Option.{same_Some, slice_get_within, slice_get-map, get_or_from_slice_get}
+use Rattle.std.proofs.lemmas.Option.{slice_get_within, slice_get-map, get_or_from_slice_get}
 use Rattle.pt_host.specs.Words.{is}
 use Rattle.pt_tree.specs.Kept.{held_by, names_of, names_to, opens, opens_of}
 use Rattle.pt_tree.specs.Living.{HasName, IsOpened, Lives}
 use Rattle.pt_tree.specs.Names.{found}
-use Rattle.pt_tree.specs.Node.{name_at, names_in}
-use Rattle.pt_tree.specs.Slots.{open_at, file_of}
+use Rattle.pt_tree.specs.Node.{names_in}
+use Rattle.pt_tree.specs.Slots.{file_of}
 use Rattle.pt_tree.specs.Sound.{AreOrdered, IsSound}
 use Rattle.pt_tree.specs.State.{State}
 use Rattle.pt_tree.specs.declared.node.Node.{Node}

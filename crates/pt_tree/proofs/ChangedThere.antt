@@ -1,5 +1,5 @@
 -- The objects with one of them changed, where the place is one of the list and where it is none.
-use Rattle.std.proofs.Common.{◌≡◌, ◌<◌, ◌≤◌, ℕ, zero, suc, List, [], ◌∷◌, length, Option, Some, None, get_or, slice_get, slice_set, refl, ap, ◌∙◌, arith}
+use Rattle.std.proofs.Common.{◌≡◌, ◌<◌, ◌≤◌, ℕ, zero, suc, List, [], ◌∷◌, length, Option, None, get_or, slice_get, slice_set, refl, ap, arith}
 use Rattle.std.proofs.lemmas.Option.{slice_get-get_or}
 use Rattle.pt_tree.specs.Entries.{changed_at, changed_where}
 use Rattle.pt_tree.specs.declared.node.Node.{Node}

@@ -1,8 +1,6 @@
 -- The path of an edit, part by part.
-use Rattle.std.proofs.Common.{◌≡◌, ◌∷◌, [], ◌==◌, ◌||◌, ℕ, Bool, true, false, cond, List, Ok, Err, ap, ◌∙◌, refl, slice_get}
-use Rattle.pt_host.specs.declared.ids.Errno.{Errno}
-use Rattle.pt_tree.specs.Calls.{parts, then_on}
-use Rattle.pt_tree.specs.EditPaths.{goes_on_through, goes_through, past, place_from}
+use Rattle.std.proofs.Common.{◌≡◌, ◌∷◌, [], ◌==◌, ◌||◌, ℕ, true, List, ap}
+use Rattle.pt_tree.specs.EditPaths.{goes_on_through, goes_through, past}
 use Rattle.pt_tree.specs.declared.node.Node.{Node}
 
 pub through_here : (object : ℕ) (nodes : List Node) (at : ℕ × List ℕ) (names : List (List ℕ)) → (at.0 == object) ≡ true → goes_through object nodes at names ≡ true

@@ -1,5 +1,5 @@
 -- The heap of the free numbers through an opening and a close.
-use Rattle.std.proofs.Common.{◌≡◌, ◌≢◌, ◌≤◌, ◌<◌, ◌+◌, ℕ, zero, suc, true, false, cond, List, [], ◌∷◌, ◌++◌, length, Option, Some, None, sum_by, slice_get, slice_set, refl, ap, sym, ◌∙◌, subst, arith, get_or, length-set, ◌^◌, inl, inr}
+use Rattle.std.proofs.Common.{◌≡◌, ◌≢◌, ◌≤◌, ◌<◌, ◌+◌, ℕ, true, false, cond, List, [], ◌∷◌, ◌++◌, length, Option, Some, None, sum_by, slice_get, slice_set, refl, ap, sym, ◌∙◌, subst, arith, get_or, length-set, ◌^◌, inl, inr}
 use Rattle.std.specs.Option.{is_some}
 use Rattle.std.specs.Result.{IsOk, OnOk}
 use Rattle.std.specs.Prelude.{Result, Ok, Err}
@@ -15,7 +15,7 @@ use Rattle.std.proofs.lemmas.List.{length_push}
 use Rattle.std.proofs.lemmas.List.Sums.{sum_by-cons, sum_by-set, sum_by_push, position_or_len_is}
 use Rattle.std.proofs.lemmas.Option.{get_or_from_slice_get, slice_get_within, slice_get-get_or}
 use Rattle.pt_tree.specs.FreeNumbers.{IsTable, times, counts_as, free_weight, open_weight}
-use Rattle.pt_tree.specs.Slots.{file_of, open_at, is_free, least_free, no_files, put_at}
+use Rattle.pt_tree.specs.Slots.{file_of, open_at, is_free, least_free, put_at}
 use Rattle.pt_tree.specs.Laws.Updates.{put_before, get-set_here, get-set_apart, get-push_here, get-push_apart}
 use Rattle.pt_tree.specs.declared.slots.OpenFile.{OpenFile}
 use Rattle.pt_tree.specs.declared.slots.Slot.{Slot}

@@ -1,14 +1,14 @@
 -- How often an object is held, through each change of names and descriptors.
-use Rattle.std.proofs.Common.{◌≡◌, ◌≢◌, ◌<◌, ◌≤◌, ◌+◌, ◌⊎◌, inl, inr, ℕ, zero, suc, Bool, true, false, cond, eqb, List, [], ◌∷◌, ◌++◌, length, map, Option, Some, None, option_map, option_and_then, sum_by, slice_get, slice_set, get_or, refl, ap, sym, ◌∙◌, subst, arith}
+use Rattle.std.proofs.Common.{◌≡◌, ◌≢◌, ◌<◌, ◌+◌, inl, inr, ℕ, zero, suc, Bool, cond, List, [], ◌∷◌, ◌++◌, length, Option, Some, None, option_map, slice_get, refl, ap, sym, ◌∙◌, subst, arith}
 use Rattle.std.specs.Cmp.Lexicographic.{slice_cmp}
-use Rattle.std.specs.Map.{lookup, values_of}
+use Rattle.std.specs.Map.{lookup}
 use Rattle.std.specs.BTreeMap.{is_at}
 use Rattle.std.specs.Option.{unwrap_or}
 use Rattle.std.specs.Ordering.{nat_cmp}
 use Rattle.std.specs.Str.{bytes_eq}
 use Rattle.std.proofs.lemmas.Bool.Decides.{eqb_tells}
 use Rattle.std.proofs.lemmas.Cmp.{nat_list_cmp_total}
-use Rattle.std.proofs.lemmas.List.Sums.{sum_by-cons, sum_by-set, sum_by_push}
+use Rattle.std.proofs.lemmas.List.Sums.{sum_by-set, sum_by_push}
 use Rattle.std.proofs.lemmas.Map.Entries.{sum_by-insert_entry, sum_by-remove_entry}
 use Rattle.std.proofs.lemmas.Map.Text.{is_eq-slice_cmp}
 use Rattle.std.proofs.lemmas.Option.{same_Some, slice_get_within, get_or_from_slice_get}
@@ -16,7 +16,7 @@ use Rattle.pt_host.specs.Words.{is}
 use Rattle.pt_tree.specs.Entries.{changed_at, changed_where}
 use Rattle.pt_tree.specs.Kept.{names_of, names_to, opens, opens_of}
 use Rattle.pt_tree.specs.Names.{found, named, unnamed}
-use Rattle.pt_tree.specs.Node.{name_at, names_in}
+use Rattle.pt_tree.specs.Node.{names_in}
 use Rattle.pt_tree.specs.Slots.{closed, closed_where, file_of, least_free, open_at, put_at}
 use Rattle.pt_tree.specs.Sound.{AreOrdered}
 use Rattle.pt_tree.specs.declared.node.Node.{Node}

@@ -1,25 +1,24 @@
 -- A store goes on knowing what lives.
-use Rattle.std.proofs.Common.{◌≡◌, ◌≢◌, ◌<◌, ◌≤◌, ◌+◌, ◌-◌, ◌⊎◌, inl, inr, ℕ, zero, suc, Bool, true, false, not, cond, eqb, ◌==◌, List, [], ◌∷◌, ◌++◌, length, Option, Some, None, slice_get, slice_set, get_or, refl, ap, sym, ◌∙◌, subst, arith, length-set}
+use Rattle.std.proofs.Common.{◌≡◌, ◌≢◌, ◌<◌, ◌+◌, ◌-◌, ◌⊎◌, inl, inr, ℕ, Bool, true, false, not, cond, ◌==◌, List, [], ◌∷◌, length, Option, Some, None, slice_get, slice_set, get_or, refl, ap, sym, ◌∙◌, subst, arith, length-set}
 use Rattle.std.specs.Prelude.{slice_index}
-use Rattle.std.specs.List.{position_or_len}
-use Rattle.std.proofs.lemmas.Bool.Decides.{eqb_tells, leb_tells}
+use Rattle.std.proofs.lemmas.Bool.Decides.{eqb_tells}
 use Rattle.std.proofs.lemmas.List.Sums.{prefix_len_passes}
 use Rattle.std.proofs.lemmas.Option.{same_Some, slice_get_within, slice_get-get_or, get_or_from_slice_get}
 use Rattle.pt_host.specs.Words.{is}
-use Rattle.pt_tree.specs.Kept.{IsKept, given_up, held_by, names_of, opens_of, released}
-use Rattle.pt_tree.specs.Living.{AreLeastFree, IsLeastFree, IsTaken, Lives}
-use Rattle.pt_tree.specs.Slots.{closed, closed_where, file_of, is_free, least_free, open_at, put_at}
+use Rattle.pt_tree.specs.Kept.{IsKept, given_up, held_by, released}
+use Rattle.pt_tree.specs.Living.{AreLeastFree, IsLeastFree, IsTaken}
+use Rattle.pt_tree.specs.Slots.{closed, closed_where, file_of, is_free, least_free, open_at}
 use Rattle.pt_tree.specs.Sound.{IsSound}
-use Rattle.pt_tree.specs.State.{State, counted}
+use Rattle.pt_tree.specs.State.{State}
 use Rattle.pt_tree.specs.StoreState.{is_of_device, next_numbers}
 use Rattle.pt_tree.specs.declared.node.Node.{Node}
 use Rattle.pt_tree.specs.declared.slots.OpenFile.{OpenFile}
 use Rattle.pt_tree.specs.declared.slots.Slot.{Slot}
 use Rattle.pt_tree.specs.declared.slots.Slot.TheVariants.{Reserved, Free, Open}
-use Rattle.pt_tree.specs.Laws.Changed.{AreAlike, alike_itself}
+use Rattle.pt_tree.specs.Laws.Changed.{AreAlike}
 use Rattle.pt_tree.specs.Laws.Lawful.{least_free-closed}
 use Rattle.pt_tree.specs.Laws.SlotTable.{least_free-le-length}
-use Rattle.pt_tree.specs.Laws.Soundness.{open_slot, sound-counted}
+use Rattle.pt_tree.specs.Laws.Soundness.{open_slot}
 use Rattle.pt_tree.specs.Laws.Updates.{get-set_apart, get-set_cases, get-set_here}
 use Rattle.pt_tree.proofs.Alive.{held_lives, lives_held}
 use Rattle.pt_tree.proofs.Holding.{is_none, is_one}

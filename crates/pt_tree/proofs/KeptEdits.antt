@@ -1,26 +1,25 @@
 -- A store goes on knowing what lives through each call and each edit.
-use Rattle.std.proofs.Common.{◌≡◌, ◌≢◌, ◌<◌, ◌≤◌, ◌+◌, ◌-◌, ◌^◌, ◌⊎◌, inl, inr, ℕ, zero, suc, Bool, true, false, cond, eqb, List, [], ◌∷◌, ◌++◌, length, take, Option, Some, None, option_map, option_and_then, unwrap_or, sum_by, slice_get, slice_set, get_or, refl, ap, sym, ◌∙◌, subst, arith}
+use Rattle.std.proofs.Common.{◌≡◌, ◌+◌, inl, inr, ℕ, Bool, true, false, cond, List, Option, Some, None, option_and_then, slice_get, slice_set, refl, ap, sym, ◌∙◌, subst, arith}
 use Rattle.std.specs.Map.{update}
 use Rattle.std.specs.Prelude.{slice_index}
 use Rattle.std.specs.Str.{bytes_eq}
-use Rattle.std.proofs.lemmas.Bool.Decides.{eqb_tells, leb_tells}
-use Rattle.std.proofs.lemmas.List.{length_push}
+use Rattle.std.proofs.lemmas.Bool.Decides.{eqb_tells}
 use Rattle.std.proofs.lemmas.List.Sums.{sum_by-set}
-use Rattle.std.proofs.lemmas.Option.{same_Some, slice_get_within, slice_get-get_or, get_or_from_slice_get}
+use Rattle.std.proofs.lemmas.Option.{slice_get_within, get_or_from_slice_get}
 use Rattle.pt_host.specs.Words.{is, set_at}
 use Rattle.pt_host.specs.declared.flags.OpenFlags.{OpenFlags}
 use Rattle.pt_host.specs.declared.seat.HostSeat.{HostSeat}
 use Rattle.pt_tree.specs.Calls.{with_opened, with_read}
-use Rattle.pt_tree.specs.Edits.{grown, moved, replaced, rewritten, unlinked, with_made, with_moved, with_rewritten, with_unlinked}
+use Rattle.pt_tree.specs.Edits.{moved, replaced, rewritten, with_moved, with_rewritten, with_unlinked}
 use Rattle.pt_host.specs.declared.ids.Time.{Time}
-use Rattle.pt_tree.specs.Entries.{after_losing, changed_at, is_directory_at, is_directory_where, restamped, touched, with_entry, with_name, without_entry, without_name}
-use Rattle.pt_tree.specs.Kept.{IsKept, given_up, given_up_where, having, held_by, names_of, names_to, opens_of, released, released_where}
+use Rattle.pt_tree.specs.Entries.{after_losing, changed_at, is_directory_at, is_directory_where, restamped, touched, with_name, without_entry, without_name}
+use Rattle.pt_tree.specs.Kept.{IsKept, given_up, given_up_where, names_of, names_to, released, released_where}
 use Rattle.pt_tree.specs.Living.{Lives}
 use Rattle.pt_tree.specs.Names.{found}
 use Rattle.pt_tree.specs.Node.{holds_names, is_directory, name_at, names_in}
 use Rattle.pt_tree.specs.Opening.{after_opening}
 use Rattle.pt_tree.specs.Reading.{after_reading}
-use Rattle.pt_tree.specs.Slots.{closed, least_free, open_at, file_of, put_at}
+use Rattle.pt_tree.specs.Slots.{closed, open_at}
 use Rattle.pt_tree.specs.Sound.{AreOrdered, IsSound}
 use Rattle.pt_tree.specs.State.{State, time_of}
 use Rattle.pt_tree.specs.StoreState.{number_at, number_in, number_where}
@@ -29,15 +28,14 @@ use Rattle.pt_tree.specs.declared.node.Content.{Content}
 use Rattle.pt_tree.specs.declared.node.Content.TheVariants.{Directory, Regular}
 use Rattle.pt_tree.specs.declared.slots.OpenFile.{OpenFile}
 use Rattle.pt_tree.specs.declared.slots.Slot.{Slot}
-use Rattle.pt_tree.specs.declared.slots.Slot.TheVariants.{Reserved, Free, Open}
-use Rattle.pt_tree.specs.Laws.Changed.{AreAlike, alike_itself, led, names-gained, names-same}
-use Rattle.pt_tree.specs.Laws.EditShapes.{alike_moved, alike_rewritten, alike_unlinked, alike_second, ordered_alike, lost, first, second, third, gain, lose, regular_names, regular_there}
+use Rattle.pt_tree.specs.Laws.Changed.{alike_itself, led, names-gained, names-same}
+use Rattle.pt_tree.specs.Laws.EditShapes.{alike_moved, alike_rewritten, alike_unlinked, lost, first, second, third, gain, lose, regular_names, regular_there}
 use Rattle.pt_tree.specs.Laws.EditSound.{all_ordered, sound_moved, sound_rewritten, sound_unlinked}
-use Rattle.pt_tree.specs.Laws.Keeping.{Keeps, keeps_opening, keeps_reading}
+use Rattle.pt_tree.specs.Laws.Keeping.{keeps_opening, keeps_reading}
 use Rattle.pt_tree.specs.Laws.Soundness.{alike_set, sound-closed, sound-with_node, sound-with_opened}
 use Rattle.pt_tree.specs.Laws.WellFormed.{and_then_some}
 use Rattle.pt_tree.proofs.Alive.{lives_held}
-use Rattle.pt_tree.proofs.Holding.{counts_where, gained_names, get_there, is_one, lost_names, names_of-changed, names_of-same, opens_of-closed, opens_of-put}
+use Rattle.pt_tree.proofs.Holding.{counts_where, gained_names, get_there, lost_names, names_of-changed, names_of-same, opens_of-closed, opens_of-put}
 use Rattle.pt_tree.proofs.Kept.{kept_alike, kept_more, kept_released}
 
 -- ---- calls

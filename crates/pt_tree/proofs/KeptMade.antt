@@ -1,12 +1,12 @@
 -- A store goes on knowing what lives where an object is made, or was nearly made.
-use Rattle.std.proofs.Common.{◌≡◌, ◌≢◌, ◌<◌, ◌≤◌, ◌+◌, ◌-◌, ◌^◌, ◌⊎◌, inl, inr, ℕ, zero, suc, Bool, true, false, cond, eqb, List, [], ◌∷◌, ◌++◌, length, take, Option, Some, None, slice_get, refl, ap, sym, ◌∙◌, subst, arith}
+use Rattle.std.proofs.Common.{◌≡◌, ◌≢◌, ◌<◌, ◌+◌, ◌-◌, ◌^◌, inl, inr, ℕ, true, false, List, [], ◌∷◌, ◌++◌, length, take, Some, None, slice_get, refl, ap, sym, ◌∙◌, subst, arith}
 use Rattle.std.proofs.lemmas.Bool.Decides.{eqb_tells, leb_tells}
-use Rattle.std.proofs.lemmas.List.{length_push, take-append-le, take_all}
+use Rattle.std.proofs.lemmas.List.{length_push}
 use Rattle.std.proofs.lemmas.Option.{same_Some, slice_get_within}
 use Rattle.pt_host.specs.Words.{is}
 use Rattle.pt_tree.specs.Edits.{with_made}
 use Rattle.pt_tree.specs.Entries.{is_directory_at, touched, with_entry}
-use Rattle.pt_tree.specs.Kept.{IsKept, having, held_by, names_of}
+use Rattle.pt_tree.specs.Kept.{IsKept, having, held_by}
 use Rattle.pt_tree.specs.Living.{IsLeastFree, Lives}
 use Rattle.pt_tree.specs.Node.{is_directory, name_at, names_in}
 use Rattle.pt_tree.specs.Slots.{closed, file_of, least_free, open_at, put_at}
@@ -16,7 +16,7 @@ use Rattle.pt_tree.specs.StoreState.{next_numbers}
 use Rattle.pt_tree.specs.declared.node.Node.{Node}
 use Rattle.pt_tree.specs.declared.slots.OpenFile.{OpenFile}
 use Rattle.pt_tree.specs.declared.slots.Slot.{Slot}
-use Rattle.pt_tree.specs.declared.slots.Slot.TheVariants.{Reserved, Free, Open}
+use Rattle.pt_tree.specs.declared.slots.Slot.TheVariants.{Reserved, Open}
 use Rattle.pt_tree.specs.Laws.EditShapes.{entered}
 use Rattle.pt_tree.specs.Laws.EditSound.{all_ordered, at_place, length_made, sound_made}
 use Rattle.pt_tree.specs.Laws.Lawful.{least_free-closed}

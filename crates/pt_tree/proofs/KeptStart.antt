@@ -1,9 +1,9 @@
 -- A store knows what lives as it begins.
-use Rattle.std.proofs.Common.{◌≡◌, ◌≢◌, ◌<◌, ◌≤◌, ◌+◌, ◌^◌, ◌⊎◌, inl, inr, ℕ, zero, suc, Bool, true, false, cond, List, [], ◌∷◌, ◌++◌, length, replicate, Option, Some, None, Ok, slice_get, refl, ap, sym, ◌∙◌, subst, arith}
-use Rattle.std.proofs.lemmas.Bool.Decides.{eqb_tells, leb_tells}
+use Rattle.std.proofs.Common.{◌≡◌, ◌≢◌, ◌<◌, ◌+◌, ◌^◌, ◌⊎◌, inl, inr, ℕ, zero, suc, List, [], ◌∷◌, ◌++◌, length, replicate, Some, Ok, slice_get, refl, ap, sym, ◌∙◌, arith}
+use Rattle.std.proofs.lemmas.Bool.Decides.{eqb_tells}
 use Rattle.std.proofs.lemmas.List.{length_push}
 use Rattle.std.proofs.lemmas.Option.{slice_get_within}
-use Rattle.pt_tree.specs.Kept.{IsKept, first_numbers, having, held_by, names_of, opens_of}
+use Rattle.pt_tree.specs.Kept.{IsKept, first_numbers, having, held_by, opens_of}
 use Rattle.pt_tree.specs.Slots.{file_of, least_free, no_files, open_at, put_at}
 use Rattle.pt_tree.specs.Start.{nodes_of, start_with}
 use Rattle.pt_tree.specs.declared.node.Node.{Node}

@@ -1,17 +1,13 @@
 -- The objects that lines describe make a sound start.
 use Rattle.std.proofs.Common.{◌≡◌, ◌<◌, ◌+◌, ◌^◌, ◌&&◌, ◌⊎◌, inl, inr, is_none, ℕ, zero, suc, Bool, true, false, cond, List, [], ◌∷◌, ◌++◌, length, Option, Some, None, Result, Ok, slice_get, slice_set, option_and_then, nat_lt, nat_le, subst, refl, ap, sym, ◌∙◌, arith, length-set}
 use Rattle.std.specs.Str.{bytes_eq}
-use Rattle.std.specs.Ordering.{nat_cmp, match_ordering}
-use Rattle.std.specs.declared.cmp.Ordering.{Ordering}
-use Rattle.std.specs.declared.cmp.Ordering.TheVariants.{Less, Equal, Greater}
-use Rattle.std.specs.Cmp.Lexicographic.{slice_cmp}
 use Rattle.std.proofs.lemmas.List.{length_push}
 use Rattle.std.proofs.lemmas.Bool.Decides.{eqb_tells, leb_tells}
 use Rattle.std.proofs.lemmas.List.Sums.{sum_by-set}
 use Rattle.std.proofs.lemmas.Option.{same_Some, slice_get_within, get_or_from_slice_get}
 use Rattle.pt_host.specs.Words.{is}
 use Rattle.std.proofs.lemmas.Bool.{ltb-true}
-use Rattle.pt_tree.specs.Names.{found, named}
+use Rattle.pt_tree.specs.Names.{found}
 use Rattle.pt_tree.specs.Entries.{new_object, with_entry, with_name}
 use Rattle.pt_tree.specs.Kept.{names_of, names_to}
 use Rattle.pt_tree.specs.Node.{holds_names, is_directory, name_at, names_in}

@@ -1,5 +1,5 @@
 -- The lines below a directory, entry by entry.
-use Rattle.std.proofs.Common.{◌≡◌, ◌<◌, ◌-◌, ◌++◌, ◌∷◌, [], ℕ, zero, suc, List, refl, arith, ap, slice_get}
+use Rattle.std.proofs.Common.{◌≡◌, ◌<◌, ◌-◌, ◌++◌, ◌∷◌, ℕ, zero, suc, List, arith, ap, slice_get}
 use Rattle.std.specs.List.{flat_map}
 use Rattle.pt_tree.specs.Listing.{line_at, lines_below, names_at}
 use Rattle.pt_tree.specs.declared.node.Node.{Node}
@@ -15,4 +15,3 @@ lines_below-more (suc depth) nodes path dir some = ap (λ n. flat_map (entry_lin
   where
     less_one : (n : ℕ) → n ≡ suc n - 1
     less_one n = omega arith
-

@@ -13,7 +13,7 @@ use Rattle.pt_host.specs.declared.reply.HostValue.TheVariants as value
 use Rattle.pt_tree.specs.Names.{found}
 use Rattle.pt_tree.specs.Node.{bytes_in, is_directory, names_in, status_of}
 use Rattle.pt_tree.specs.Permission.{may}
-use Rattle.pt_tree.specs.Slots.{open_at, least_free, put_at, closed}
+use Rattle.pt_tree.specs.Slots.{least_free, put_at, closed}
 use Rattle.pt_tree.specs.State.{State, time_of}
 use Rattle.pt_tree.specs.Opening.{first_refusal, opening_refusal, after_opening}
 use Rattle.pt_tree.specs.Reading.{read_refusal, part_of, after_reading}

@@ -1,5 +1,5 @@
 -- Where the path of an edit leads, after `path_resolution(7)`.
-use Rattle.std.specs.Prelude.{ℕ, ◌==◌, nat_lt, not, ◌||◌, Bool, true, false, List, [], ◌∷◌, length, Option, Some, None, Result, Ok, Err, slice_get, if◌then◌else◌}
+use Rattle.std.specs.Prelude.{ℕ, ◌==◌, nat_lt, not, ◌||◌, Bool, false, List, [], ◌∷◌, length, Option, Some, None, Result, Ok, Err, slice_get, if◌then◌else◌}
 use Rattle.std.specs.Borrow.{Bor}
 use Rattle.pt_host.specs.Errno.{einval, eio, enametoolong, enoent, enotdir}
 use Rattle.pt_host.specs.declared.ids.Errno.{Errno}

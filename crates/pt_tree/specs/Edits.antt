@@ -1,6 +1,6 @@
 -- The edits: what each is refused for, in what order, and what it changes. An edit is answered as its like call is, without a seat and
 -- without permission checks: unlink(2) and rmdir(2), rename(2), open(2) with O_CREAT and O_EXCL, mkdir(2), write(2).
-use Rattle.std.specs.Prelude.{ℕ, ◌+◌, ◌%◌, ◌==◌, nat_lt, not, ◌||◌, ◌&&◌, Bool, true, false, List, [], ◌∷◌, ◌++◌, length, Option, Some, None, is_some, option_and_then, Result, Ok, Err, slice_get, if◌then◌else◌}
+use Rattle.std.specs.Prelude.{ℕ, ◌+◌, ◌%◌, ◌==◌, nat_lt, not, ◌||◌, ◌&&◌, Bool, false, List, [], ◌∷◌, ◌++◌, length, Option, Some, None, is_some, option_and_then, Result, Ok, Err, slice_get, if◌then◌else◌}
 use Rattle.std.specs.Option.{option_map_or}
 use Rattle.pt_host.specs.Errno.{ebusy, eexist, efbig, einval, eio, eisdir, enoent, enotdir, enotempty, exdev}
 use Rattle.pt_host.specs.declared.edit.Edit.{Edit}

@@ -80,11 +80,7 @@ fn edited(host: &mut TreeHost, alloc: Global, change: Change<'_>) -> Result<i64,
 }
 
 /// Whether the edits are answered so, one after another.
-fn edits(
-    host: &mut TreeHost,
-    alloc: Global,
-    table: &[(Change<'_>, i64)],
-) -> Result<bool, Fail> {
+fn edits(host: &mut TreeHost, alloc: Global, table: &[(Change<'_>, i64)]) -> Result<bool, Fail> {
     for (change, expected) in table {
         if edited(host, alloc, *change)? != *expected {
             return Ok(false);
@@ -135,7 +131,10 @@ fn long_names_are_judged(rt: HostRuntime) -> Result<(), Fail> {
     let mut path = [b'n'; 257];
     path[0] = b'/';
     assert_eq!(rt; edited(&mut host, rt.alloc(), Change::Unlink(&path))?, -36);
-    assert_eq!(rt; edited(&mut host, rt.alloc(), Change::Unlink(&path[..256]))?, -2);
+    assert_eq!(rt;
+        edited(&mut host, rt.alloc(), Change::Unlink(&path[..256]))?,
+        -2
+    );
     path[256] = 0;
     assert_eq!(rt; edited(&mut host, rt.alloc(), Change::Unlink(&path))?, -36);
     Ok(())

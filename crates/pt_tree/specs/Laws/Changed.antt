@@ -1,5 +1,5 @@
 -- The objects with one of them changed: what stands where, and where the names lead.
-use Rattle.std.proofs.Common.{◌≡◌, ◌≢◌, ◌<◌, ◌≤◌, ◌+◌, ◌⊎◌, inl, inr, ℕ, Bool, true, false, cond, eqb, List, [], ◌∷◌, ◌++◌, length, map, Option, Some, None, option_map, option_and_then, slice_get, slice_set, refl, ap, sym, ◌∙◌, subst, arith, length-set}
+use Rattle.std.proofs.Common.{◌≡◌, ◌≤◌, ◌⊎◌, inl, inr, ℕ, Bool, true, false, cond, eqb, List, [], ◌∷◌, ◌++◌, length, map, Option, Some, None, option_map, option_and_then, slice_get, slice_set, refl, ap, sym, ◌∙◌, subst, arith, length-set}
 use Rattle.std.specs.Map.{update}
 use Rattle.std.specs.Str.{bytes_eq}
 use Rattle.std.proofs.lemmas.Bool.Decides.{eqb_tells}
@@ -8,14 +8,14 @@ use Rattle.pt_host.specs.Words.{set_at}
 use Rattle.pt_host.specs.Tree.{Tree, Object, Opened}
 use Rattle.pt_host.specs.declared.ids.Time.{Time}
 use Rattle.pt_tree.specs.Entries.{changed_at, changed_where, is_directory_at, is_directory_where, touched, with_entry, with_name, without_entry, without_name}
-use Rattle.pt_tree.specs.Names.{found, named, unnamed}
+use Rattle.pt_tree.specs.Names.{found}
 use Rattle.pt_tree.specs.Node.{name_at, names_in, object_of, holds_names}
 use Rattle.pt_tree.specs.Sound.{AreOrdered}
 use Rattle.pt_tree.specs.declared.node.Node.{Node}
 use Rattle.pt_tree.specs.declared.node.Content.{Content}
 use Rattle.pt_tree.specs.declared.node.Content.TheVariants.{Directory, Regular}
 use Rattle.pt_tree.specs.Laws.Updates.{map-set_same, get-set_here, get-set_apart, get-push_here, get-push_apart}
-use Rattle.pt_tree.specs.Laws.NameTable.{found-named, found-unnamed, ordered-named, ordered-unnamed}
+use Rattle.pt_tree.specs.Laws.NameTable.{found-named, found-unnamed}
 
 pub same_function : {A B : Type 0} (f g : A → B) → ((x : A) → f x ≡ g x) → f ≡ g
 same_function f g h = λ k x. h x k

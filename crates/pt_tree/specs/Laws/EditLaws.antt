@@ -1,8 +1,8 @@
 -- Every edit is lawful.
-use Rattle.std.proofs.Common.{◌≡◌, ◌≢◌, ◌<◌, ◌⊎◌, inl, inr, ℕ, List, [], ◌∷◌, ◌++◌, length, map, Option, Some, None, slice_get, refl, ap, sym, ◌∙◌, subst}
+use Rattle.std.proofs.Common.{◌≡◌, ◌<◌, inl, inr, ℕ, Some, refl, ap, sym, ◌∙◌, subst}
 use Rattle.std.proofs.lemmas.List.{length-map}
 use Rattle.std.proofs.lemmas.Option.{slice_get_within}
-use Rattle.pt_host.specs.Edits.{Edits, MakesObject, Moves, MovesName, TakesName, grown_by, led_to}
+use Rattle.pt_host.specs.Edits.{Edits, MakesObject, Moves, MovesName, TakesName}
 use Rattle.pt_host.specs.LawfulStep.{Changes}
 use Rattle.pt_host.specs.declared.edit.Edit.{Edit}
 use Rattle.pt_host.specs.declared.edit.Edit.TheVariants as edit
@@ -10,7 +10,7 @@ use Rattle.pt_host.specs.declared.op.KeptHostOp.TheVariants as call
 use Rattle.pt_host.specs.declared.reply.HostReply.{HostReply}
 use Rattle.pt_tree.specs.Calls.{Answered}
 use Rattle.pt_tree.specs.Does.{AnswersAs}
-use Rattle.pt_tree.specs.Edits.{edited, made, with_made, with_moved, with_rewritten, with_unlinked}
+use Rattle.pt_tree.specs.Edits.{edited, made}
 use Rattle.pt_tree.specs.Node.{name_at, object_of}
 use Rattle.pt_tree.specs.Sound.{IsSound}
 use Rattle.pt_tree.specs.State.{State, time_of, tree_of}

@@ -1,7 +1,7 @@
 -- What an edit that is made leaves of the objects and the names.
-use Rattle.std.proofs.Common.{◌≡◌, ◌≢◌, ◌+◌, ◌⊎◌, inl, inr, ℕ, Bool, true, false, cond, List, [], ◌∷◌, ◌++◌, length, map, Option, Some, None, slice_get, refl, ap, sym, ◌∙◌, subst, arith}
+use Rattle.std.proofs.Common.{◌≡◌, ℕ, Bool, true, false, List, [], ◌∷◌, ◌++◌, length, map, Option, Some, None, slice_get, refl, ap, sym, ◌∙◌, arith}
 use Rattle.std.specs.List.Sorted.{IsStrictlySortedBy}
-use Rattle.pt_host.specs.Tree.{Tree, Object, Opened}
+use Rattle.pt_host.specs.Tree.{Object}
 use Rattle.pt_host.specs.declared.ids.Time.{Time}
 use Rattle.pt_tree.specs.Entries.{after_losing, changed_at, is_directory_at, is_directory_where, restamped, touched, with_entry, with_name, without_entry, without_name}
 use Rattle.pt_tree.specs.Edits.{grown, is_target_directory, moved, replaced, rewritten, unlinked}

@@ -1,19 +1,19 @@
 -- An edit leaves a sound state.
-use Rattle.std.proofs.Common.{◌≡◌, ◌≢◌, ◌<◌, ◌+◌, ◌%◌, ◌^◌, ◌⊎◌, inl, inr, ℕ, Bool, true, false, List, [], ◌∷◌, ◌++◌, length, Option, Some, None, slice_get, refl, ap, sym, ◌∙◌, subst, arith}
+use Rattle.std.proofs.Common.{◌≡◌, ◌<◌, ◌+◌, ◌^◌, ◌⊎◌, inl, inr, ℕ, true, false, List, [], length, Option, Some, None, slice_get, refl, ap, sym, ◌∙◌, subst, arith}
 use Rattle.std.proofs.lemmas.List.{length_push}
 use Rattle.std.proofs.lemmas.Option.{same_Some, slice_get_within}
 use Rattle.pt_host.specs.declared.edit.Edit.{Edit}
 use Rattle.pt_host.specs.declared.edit.Edit.TheVariants as edit
-use Rattle.pt_tree.specs.Edits.{done, edited, grown, made, moved, unlinked, with_made, with_moved, with_rewritten, with_unlinked}
+use Rattle.pt_tree.specs.Edits.{edited, made, moved, unlinked, with_made, with_moved, with_rewritten, with_unlinked}
 use Rattle.pt_tree.specs.Entries.{is_directory_at}
-use Rattle.pt_tree.specs.Living.{AreLeastFree, HasName, IsLeastFree, Lives}
+use Rattle.pt_tree.specs.Living.{AreLeastFree, IsLeastFree, Lives}
 use Rattle.pt_tree.specs.Node.{name_at, names_in}
 use Rattle.pt_tree.specs.Sound.{AreApart, AreOrdered, IsMade, IsSound}
 use Rattle.pt_tree.specs.State.{State, time_of}
 use Rattle.pt_tree.specs.declared.node.Node.{Node}
 use Rattle.pt_tree.specs.Laws.Changed.{led, led_cases}
 use Rattle.pt_tree.specs.Laws.EditShapes.{alike_entered, alike_moved, alike_rewritten, alike_unlinked, entered, names_grown, names_moved, names_rewritten, names_unlinked, no_names, AllOrdered}
-use Rattle.pt_tree.specs.Laws.Outcomes.{Effect, Makes, MovesTo, Renames, Rewrites, Unlinks, edit_outcome}
+use Rattle.pt_tree.specs.Laws.Outcomes.{Effect, Makes, MovesTo, edit_outcome}
 use Rattle.pt_tree.specs.Laws.Sounding.{NamedBefore, made_stays, opened_still, sound_after}
 use Rattle.pt_tree.specs.Laws.Updates.{get-push_cases}
 

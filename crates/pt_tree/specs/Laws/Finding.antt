@@ -4,7 +4,7 @@ use Rattle.pt_host.specs.Flags.{includes, o_creat, o_excl}
 use Rattle.pt_host.specs.Errno.{eexist, enoent, enotdir, eopnotsupp}
 use Rattle.pt_host.specs.declared.ids.Errno.{Errno}
 use Rattle.pt_host.specs.declared.seat.HostSeat.{HostSeat}
-use Rattle.pt_tree.specs.Living.{HasName, IsOpened, Lives}
+use Rattle.pt_tree.specs.Living.{HasName, Lives}
 use Rattle.pt_tree.specs.Names.{found}
 use Rattle.pt_tree.specs.Node.{is_directory, name_at, names_in}
 use Rattle.pt_tree.specs.Slots.{open_at}

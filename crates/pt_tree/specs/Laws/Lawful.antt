@@ -6,8 +6,8 @@ use Rattle.std.proofs.lemmas.Bool.Decides.{eqb_tells}
 use Rattle.pt_host.specs.Call.{Call}
 use Rattle.pt_host.specs.Words.{set_at}
 use Rattle.pt_host.specs.Flags.{includes, o_creat, o_excl, o_path, o_tmpfile}
-use Rattle.pt_host.specs.Errno.{errno_of, enoent, eexist, eopnotsupp, eio}
-use Rattle.pt_host.specs.Tree.{Tree, Object, Opened, IsOpenOn}
+use Rattle.pt_host.specs.Errno.{errno_of, enoent, eopnotsupp, eio}
+use Rattle.pt_host.specs.Tree.{Tree, Opened, IsOpenOn}
 use Rattle.pt_host.specs.LawfulStep.{LawfulStep, Changes, MayRefuse, Opens, opened_on, closed_at}
 use Rattle.pt_host.specs.declared.ids.Errno.{Errno}
 use Rattle.pt_host.specs.declared.ids.Fd.{Fd}

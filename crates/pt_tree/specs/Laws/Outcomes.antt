@@ -1,5 +1,5 @@
 -- What an edit comes to: it is refused and changes nothing, or it is made and does as its like call.
-use Rattle.std.proofs.Common.{◌≡◌, ◌≢◌, ◌⊎◌, inl, inr, ℕ, Bool, true, false, not, ◌||◌, cond, eqb, List, [], ◌∷◌, length, Option, Some, None, Result, Ok, Err, is_some, slice_get, refl, ap, sym, ◌∙◌, ◌==◌, subst}
+use Rattle.std.proofs.Common.{◌≡◌, ◌≢◌, ◌⊎◌, inl, inr, ℕ, Bool, true, false, not, ◌||◌, cond, List, [], ◌∷◌, length, Option, Some, None, Result, Ok, Err, is_some, slice_get, refl, ap, sym, ◌∙◌, ◌==◌, subst}
 use Rattle.std.proofs.lemmas.Bool.Decides.{eqb_tells}
 use Rattle.std.proofs.lemmas.Option.{same_Some}
 use Rattle.pt_host.specs.Errno.{enoent, eexist}
@@ -8,11 +8,10 @@ use Rattle.pt_host.specs.declared.edit.Edit.TheVariants as edit
 use Rattle.pt_host.specs.declared.ids.Errno.{Errno}
 use Rattle.pt_tree.specs.Node.{is_directory, name_at, names_in, size_of}
 use Rattle.pt_tree.specs.State.{State}
-use Rattle.pt_tree.specs.Opening.{first_refusal}
 use Rattle.pt_tree.specs.Calls.{Answered, refused, unless, then_on, ok_unless, parts}
 use Rattle.pt_tree.specs.Entries.{is_directory_at, is_directory_where}
 use Rattle.pt_tree.specs.EditPaths.{at_root, judged, judged_at, last_refusal, place_from, path_goes_through}
-use Rattle.pt_tree.specs.Edits.{at_name, at_place, done, edited, make_at, make_in, make_refusal, made, move_refusal, node_at, rename_found, rename_judged, rename_object, rename_onto, replace_refusal, unlink_at, unlink_found, unlink_refusal, with_made, with_moved, with_rewritten, with_unlinked, write_found, write_refusal}
+use Rattle.pt_tree.specs.Edits.{at_name, at_place, done, edited, make_at, make_in, make_refusal, made, move_refusal, node_at, rename_found, rename_judged, rename_onto, replace_refusal, unlink_at, unlink_found, unlink_refusal, with_made, with_moved, with_rewritten, with_unlinked, write_found, write_refusal}
 use Rattle.pt_tree.specs.declared.node.Node.{Node}
 use Rattle.pt_tree.specs.declared.node.Content.{Content}
 use Rattle.pt_tree.specs.declared.node.Content.TheVariants.{Directory, Regular}

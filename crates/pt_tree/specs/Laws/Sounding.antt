@@ -1,7 +1,6 @@
 -- A state stays sound where its objects stay what they are and nothing comes to life.
-use Rattle.std.proofs.Common.{◌≡◌, ◌<◌, ◌≤◌, ◌^◌, ◌⊎◌, inl, inr, ℕ, List, length, Some, slice_get, subst, refl, ap, sym, ◌∙◌, arith}
-use Rattle.pt_tree.specs.Living.{HasName, IsOpened, Lives}
-use Rattle.pt_tree.specs.Node.{name_at, names_in}
+use Rattle.std.proofs.Common.{◌≡◌, ◌<◌, ◌^◌, inl, inr, ℕ, List, length, Some, subst, refl, ap, sym, ◌∙◌, arith}
+use Rattle.pt_tree.specs.Living.{HasName, Lives}
 use Rattle.pt_tree.specs.Slots.{open_at}
 use Rattle.pt_tree.specs.Sound.{AreOrdered, IsMade, IsSound}
 use Rattle.pt_tree.specs.State.{State}

@@ -1,5 +1,5 @@
 -- Every answer leaves a sound state.
-use Rattle.std.proofs.Common.{◌≡◌, ◌<◌, ◌^◌, ◌⊎◌, inl, inr, ℕ, List, length, Option, Some, None, Result, Ok, Err, slice_get, slice_set, subst, refl, ap, sym, ◌∙◌, arith, length-set}
+use Rattle.std.proofs.Common.{◌≡◌, ◌<◌, ◌^◌, inl, inr, ℕ, List, length, Option, Some, None, Result, Ok, Err, slice_get, slice_set, subst, refl, ap, sym, ◌∙◌, arith, length-set}
 use Rattle.std.proofs.lemmas.Option.{same_Some, slice_get_within}
 use Rattle.pt_host.specs.Call.{Call}
 use Rattle.pt_host.specs.declared.ids.Errno.{Errno}
@@ -7,7 +7,7 @@ use Rattle.pt_host.specs.declared.flags.OpenFlags.{OpenFlags}
 use Rattle.pt_host.specs.declared.seat.HostSeat.{HostSeat}
 use Rattle.pt_host.specs.declared.op.KeptHostOp.TheVariants as call
 use Rattle.pt_host.specs.declared.reply.HostReply.{HostReply}
-use Rattle.pt_tree.specs.Living.{AreLeastFree, HasName, Lives}
+use Rattle.pt_tree.specs.Living.{AreLeastFree, Lives}
 use Rattle.pt_tree.specs.Names.{found}
 use Rattle.pt_tree.specs.Node.{name_at, names_in}
 use Rattle.pt_tree.specs.Slots.{open_at, file_of, closed, closed_where, least_free}

@@ -1,4 +1,4 @@
-use Rattle.std.proofs.Common.{◌≡◌, ◌<◌, ◌^◌, ℕ, List, length, replicate, Ok, subst, sym, ap, ◌∙◌}
+use Rattle.std.proofs.Common.{◌≡◌, ◌<◌, ◌^◌, ℕ, List, length, Ok, sym, ap, ◌∙◌}
 use Rattle.pt_tree.specs.Kept.{IsKept, first_numbers}
 use Rattle.pt_tree.specs.Laws.WellFormed.{well_formed}
 use Rattle.pt_tree.specs.Slots.{no_files}

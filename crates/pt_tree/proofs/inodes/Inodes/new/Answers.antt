@@ -1,4 +1,4 @@
-use Rattle.std.proofs.Common.{◌≡◌, ◌+◌, ℕ, suc, List, [], ◌∷◌, ◌++◌, replicate, ap, ◌∙◌, arith}
+use Rattle.std.proofs.Common.{◌≡◌, ◌+◌, ℕ, suc, List, [], ◌∷◌, ◌++◌, ap, ◌∙◌, arith}
 use Rattle.pt_tree.specs.Kept.{first_numbers, having}
 use Rattle.pt_tree.specs.Slots.{least_free, put_at}
 use Rattle.pt_tree.specs.declared.slots.Slot.{Slot}

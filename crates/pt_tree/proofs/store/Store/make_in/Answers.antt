@@ -8,7 +8,6 @@ use Rattle.pt_tree.specs.Slots.{closed, least_free, put_at}
 use Rattle.pt_tree.specs.State.{time_of}
 use Rattle.pt_tree.specs.StoreState.{state_of}
 use Rattle.pt_tree.specs.declared.node.Node.{Node}
-use Rattle.pt_tree.specs.declared.slots.Slot.{Slot}
 use Rattle.pt_tree.specs.declared.slots.Slot.TheVariants.{Open}
 use Rattle.pt_tree.proofs.KeptMade.{kept_back}
 use Rattle.pt_tree.proofs.KeptStore.{kept_as, kept_grown, made_here, nodes_in}

@@ -1,10 +1,10 @@
-use Rattle.std.proofs.Common.{◌≡◌, ◌+◌, ℕ, ap, sym, List, ◌∙◌, refl, Some, slice_get, slice_set}
+use Rattle.std.proofs.Common.{◌+◌, ap, sym, List, ◌∙◌, refl, Some, slice_get, slice_set}
 use Rattle.std.specs.Prelude.{slice_index}
 use Rattle.std.proofs.lemmas.Option.{get_or_from_slice_get, slice_get-get_or}
 use Rattle.pt_host.specs.declared.ids.Time.{Time}
 use Rattle.pt_tree.specs.Calls.{with_opened}
 use Rattle.pt_tree.specs.Opening.{after_opening}
-use Rattle.pt_tree.specs.Slots.{least_free, put_at}
+use Rattle.pt_tree.specs.Slots.{put_at}
 use Rattle.pt_tree.specs.State.{time_of}
 use Rattle.pt_tree.specs.StoreState.{state_of}
 use Rattle.pt_tree.specs.declared.node.Node.{Node}

@@ -1,4 +1,4 @@
-use Rattle.std.proofs.Common.{ap, List, ℕ, ◌∙◌, refl, sym, length, slice_get, Option}
+use Rattle.std.proofs.Common.{ap, List, ℕ, ◌∙◌, refl, sym, length, slice_get}
 use Rattle.std.proofs.lemmas.List.{with_items_is}
 use Rattle.pt_host.specs.declared.ids.Time.{Time}
 use Rattle.pt_tree.specs.Edits.{rewritten, with_rewritten, write_refusal}
