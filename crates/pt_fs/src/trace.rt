@@ -1,4 +1,5 @@
 use pt_req::{ActReply, KeptAct};
+use std::mem::size_of;
 
 /// One step of a run, and the job that took it.
 #[derive(Debug, Drop)]
@@ -7,3 +8,6 @@ pub struct TraceStep {
     pub act: KeptAct,
     pub reply: ActReply,
 }
+
+// Room for every step is had before the first one, so this is what a job list costs.
+const _: () = prove!(size_of::<TraceStep>() <= 512);

@@ -103,13 +103,13 @@ fn assert_each_counted(
     beside: &Beside<'_>,
     firsts: Range<u32>,
 ) -> Result<u64, Fail> {
-    let mut orders = 0;
+    let mut orders = 0_u64;
     for mask in 0..beside.masks {
         if mask.count_ones() == beside.steps {
             for first in firsts.start..firsts.end {
                 for second in first + 1..beside.places {
                     assert_counted(rt, alloc, beside, mask, &[first, second])?;
-                    orders += 1;
+                    orders = orders.saturating_add(1);
                 }
             }
         }
@@ -147,11 +147,11 @@ fn lookups_beside_a_forget_of_all(rt: HostRuntime) -> Result<(), Fail> {
 
 #[test]
 fn first_lookups_beside_each_other(rt: HostRuntime) -> Result<(), Fail> {
-    let mut orders = 0;
+    let mut orders = 0_u64;
     for mask in 0..NEW.masks {
         if mask.count_ones() == NEW.steps {
             assert_counted(&rt, rt.alloc(), &NEW, mask, &[])?;
-            orders += 1;
+            orders = orders.saturating_add(1);
         }
     }
     assert_eq!(rt; orders, 48_620);
