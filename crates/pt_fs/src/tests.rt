@@ -213,6 +213,7 @@ fn the_root_comes_before_the_lookup(rt: HostRuntime) -> Result<(), Fail> {
 #[test]
 fn a_file_is_made_between_the_steps_of_its_lookup(rt: HostRuntime) -> Result<(), Fail> {
     let jobs = four_jobs(rt.alloc())?;
+    // The first edit has finished at the second place of job 2, which so does nothing.
     let driven = driven_by(rt.alloc(), jobs, &[0, 0, 0, 0, 0, 1, 1, 2, 2, 3])?;
     assert_eq!(rt; driven.answers.len(), 4);
     assert_eq!(rt; driven.answers[0], Answer::Done);
