@@ -1,5 +1,5 @@
 -- Jobs that run in the order of one schedule leave nothing open but want of memory.
-use Rattle.std.proofs.Common.{◌≡◌, ◌≢◌, inl, inr, ℕ, zero, suc, ◌≤◌, List, [], ◌∷◌, ◌∙◌, Option, Some, None, refl, ap, sym, subst, length, map, slice_get, arith}
+use Rattle.std.proofs.Common.{◌≡◌, ◌≢◌, inl, inr, ℕ, zero, suc, ◌≤◌, List, [], ◌∷◌, ◌∙◌, Option, Some, None, refl, ap, sym, length, map, slice_get, arith}
 use Rattle.std.proofs.lemmas.Bool.{ne_eqb}
 use Rattle.std.proofs.lemmas.List.{length-set, length-map}
 use Rattle.std.proofs.lemmas.Option.{slice_get_within, slice_get_past, slice_get_cases}
