@@ -19,7 +19,7 @@ pub fn assert_report(
 }
 
 #[test]
-fn empty_run(rt: HostRuntime) -> Result<(), Fail> {
+fn a_script_without_jobs(rt: HostRuntime) -> Result<(), Fail> {
     let want = [
         "slots 18446744073709551615",
         "obj / 1 1 1 16877 2 0 0 0 %-",

@@ -3,7 +3,7 @@ use std::test::Fail;
 
 // The places of no job, or of one that has finished, do nothing.
 #[test]
-fn places_of_nobody(rt: HostRuntime) -> Result<(), Fail> {
+fn empty_run(rt: HostRuntime) -> Result<(), Fail> {
     let want = [
         "slots 18446744073709551615",
         "obj / 1 1 1 16877 2 0 0 0 %-",
