@@ -119,6 +119,14 @@ impl Played {
         Ok(job)
     }
 
+    /// A lookup that has claimed its number, and is then cut.
+    fn claimed_and_cut(alloc: Global) -> Result<Played, Fail> {
+        let mut job = Played::opened(alloc)?;
+        job.step(alloc, CLAIM, told(EventReply::Claimed { number: 2 }))?;
+        job.cut()?;
+        Ok(job)
+    }
+
     /// The descriptor, its slot and the pin go back.
     fn gives_all_back(&mut self, alloc: Global) -> Result<(), Fail> {
         let steps = vec![in alloc;
@@ -275,9 +283,7 @@ fn what_is_no_name_is_refused(rt: HostRuntime) -> Result<(), Fail> {
 #[test]
 fn a_job_that_is_cut_gives_its_count_back_first(rt: HostRuntime) -> Result<(), Fail> {
     let alloc = rt.alloc();
-    let mut job = Played::opened(alloc)?;
-    job.step(alloc, CLAIM, told(EventReply::Claimed { number: 2 }))?;
-    job.cut()?;
+    let mut job = Played::claimed_and_cut(alloc)?;
     let steps = vec![in alloc;
         (
             "Event(GiveBack { era: 1, number: 2 })",
@@ -505,29 +511,37 @@ fn what_is_neither_a_file_nor_a_directory_is_not_opened(rt: HostRuntime) -> Resu
     Ok(())
 }
 
-#[test]
-fn a_handle_is_read(rt: HostRuntime) -> Result<(), Fail> {
-    let alloc = rt.alloc();
+/// The steps of a reading that gets these bytes.
+fn reads(alloc: Global, job: &mut Played, bytes: Bytes) -> Result<(), Fail> {
+    let pinned = EventReply::Pinned { row: 3, fd: Fd(5) };
+    let read = "Host(ReadAt { fd: Fd(5), offset: 1, size: 2 })";
+    let steps = vec![in alloc;
+        ("Event(Begin)", told(began())),
+        ("Event(PinHandle { handle: 7, number: 2 })", told(pinned)),
+        (read, gave(HostValue::Bytes(bytes))),
+        ("Event(UnpinHandle { row: 3 })", told(none_to_close())),
+    ]?;
+    job.plays(alloc, steps)
+}
+
+/// A reading that has got them.
+fn has_read(alloc: Global) -> Result<Played, Fail> {
     let read = Request::Read {
         inode: 2,
         handle: 7,
         size: 2,
         offset: 1,
     };
-    let mut job = Played::start(alloc, read)?;
-    let pinned = EventReply::Pinned { row: 3, fd: Fd(5) };
-    let bytes = HostValue::Bytes(Bytes::from_slice(alloc, b"hi")?);
-    let steps = vec![in alloc;
-        ("Event(Begin)", told(began())),
-        ("Event(PinHandle { handle: 7, number: 2 })", told(pinned)),
-        (
-            "Host(ReadAt { fd: Fd(5), offset: 1, size: 2 })",
-            gave(bytes)
-        ),
-        ("Event(UnpinHandle { row: 3 })", told(none_to_close())),
-    ]?;
-    job.plays(alloc, steps)?;
     let bytes = Bytes::from_slice(alloc, b"hi")?;
+    let mut job = Played::start(alloc, read)?;
+    reads(alloc, &mut job, bytes)?;
+    Ok(job)
+}
+
+#[test]
+fn a_handle_is_read(rt: HostRuntime) -> Result<(), Fail> {
+    let bytes = Bytes::from_slice(rt.alloc(), b"hi")?;
+    let job = has_read(rt.alloc())?;
     assert_eq!(&rt; job.finish()?, Finish::Answer(Answer::Read(bytes)));
     Ok(())
 }
