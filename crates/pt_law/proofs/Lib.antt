@@ -39,5 +39,6 @@ pub mod Cuts
 pub mod Entries
 pub mod Hosts
 pub mod Reliance
+pub mod Forgotten
 pub mod Tracing
 pub mod ExampleRace

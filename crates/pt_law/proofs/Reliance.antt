@@ -126,7 +126,7 @@ comes_step n t (Some (Changes e)) (Event r) t' a z c g i =
     omega (arith, k, m, b, i)
 comes_step n t (Some (Changes e)) told t' a z c g i = absurd g
 
-stays_gone : (n : ℕ) (turns : List Turn) (t last : Tables) → Agree t → live_count n t ≡ 0 → TablesRun t turns last → inserted n turns ≡ 0 → NoRow last (HasNumber n)
+pub stays_gone : (n : ℕ) (turns : List Turn) (t last : Tables) → Agree t → live_count n t ≡ 0 → TablesRun t turns last → inserted n turns ≡ 0 → NoRow last (HasNumber n)
 stays_gone n [] t last a c r i = rw r ((counted n t a).gone c)
 stays_gone n (s ∷ ss) t last a c r i =
     let z = (counted n t a).gone c in
@@ -137,17 +137,18 @@ tables_append : (turns more : List Turn) (t mid last : Tables) → TablesRun t t
 tables_append [] more t mid last r k = subst (λ z. TablesRun z more last) r k
 tables_append (s ∷ ss) more t mid last r k = (r.0, r.1, tables_append ss more r.0 mid last r.2 k)
 
-inserted_append : (n : ℕ) (turns more : List Turn) → inserted n (turns ++ more) ≡ inserted n turns + inserted n more
+pub inserted_append : (n : ℕ) (turns more : List Turn) → inserted n (turns ++ more) ≡ inserted n turns + inserted n more
 inserted_append n [] more = omega arith
 inserted_append n (s ∷ ss) more = let h = inserted_append n ss more in omega (arith, h)
 
 pub never_again_law : (limit bound : ℕ) (turns later more : List Turn) (was now : Tables) (number : ℕ) → number ≢ 1 →
     AreDisciplined bound ((turns ++ later) ++ more) → TablesRun (empty_tables limit) turns was → TablesRun was later now →
-    0 < inserted number turns → NoRow was (HasNumber number) → NoRow now (HasNumber number)
+    0 < inserted number turns → NoRow was (HasNumber number) → NoRow now (HasNumber number) × (inserted number later ≡ 0)
 never_again_law limit bound turns later more was now n ne d r k some none =
     let once = once_law limit bound (turns ++ later) more now n d (tables_append turns later (empty_tables limit) was now r k) ne in
     let all = inserted_append n turns later in
-    stays_gone n later was now (agree_law limit turns was r) (none_other n was.rows none) k (omega (arith, once, all, some))
+    let not_again : inserted n later ≡ 0 = omega (arith, once, all, some) in
+    (stays_gone n later was now (agree_law limit turns was r) (none_other n was.rows none) k not_again, not_again)
 
 pub refused_law : (before after : Tables) (number : ℕ) (told : EventReply) → NoRow before (HasNumber number) → Happens before (change.Resolve number) told after → (told ≡ event.Refused NotLive) × (after ≡ before)
 refused_law before after n (event.Resolved serial form ids mode) z h = absurd (each_replaced (λ row. HasNumber n row → ⊥) h.7.1 z h.1)

@@ -68,13 +68,13 @@ gave_up : (path : List Step) (last : Answer) (end : Finish) → Along (Refuses N
 gave_up [] last end a e = subst IsGivenUp (sym (e ∙ ap finish.Answer a)) tt
 gave_up (step ∷ path) last end a e = absurd a
 
-lacks : (holds : List Hold) (steps : List Step) (end : Finish) → Belongs (leave holds (finish.Answer answer.NoMemory)) steps end → IsGivenUp end
+pub lacks : (holds : List Hold) (steps : List Step) (end : Finish) → Belongs (leave holds (finish.Answer answer.NoMemory)) steps end → IsGivenUp end
 lacks holds steps end b = elim (branch (Refuses NoCopy) holds steps end b) [
   | inl g ↦ g
   | inr r ↦ gave_up r.0 r.1 end r.4 r.3
 ]
 
-no_closings : (count : ℕ) (holds : List Hold) (rest : Grammar) (steps : List Step) (end : Finish) → count ≡ 0 → Belongs (closings count holds rest) steps end → Belongs rest steps end
+pub no_closings : (count : ℕ) (holds : List Hold) (rest : Grammar) (steps : List Step) (end : Finish) → count ≡ 0 → Belongs (closings count holds rest) steps end → Belongs rest steps end
 no_closings count holds rest steps end e b = subst (λ n. Belongs (closings n holds rest) steps end) e b
 
 straight : (tree : Tree) (holds : List Hold) (steps : List Step) (end : Finish) → IsStraight tree → Belongs (framed tree holds) steps end → IsGivenUp end ⊎ Begins tree end steps
