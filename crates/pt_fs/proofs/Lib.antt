@@ -5,6 +5,7 @@ pub mod Pending
 pub mod Works
 pub mod Going
 pub mod Ended
+pub mod Advancing
 pub mod Whole
 pub mod Laws
 pub mod Lockstep

@@ -1,5 +1,7 @@
 ghost use Rattle.std.specs.Prelude.{◌≡◌, ◌<◌, ◌^◌, ℕ, None, IfOk, length};
-ghost use Rattle.pt_host.specs.Promises.{IsPromised};
+ghost use Rattle.pt_host.specs.Call.{call_of};
+ghost use Rattle.pt_host.specs.Contents.{no_contents};
+ghost use Rattle.pt_host.specs.Promises.{IsAllowed, FailsFitly, IsPromised};
 ghost use Rattle.pt_session.specs.Tables.{empty_tables};
 
 use crate::{DriveError, Driven, Job, PassthroughFs, SteppedFs, drive, turns_are_determined};
@@ -19,14 +21,12 @@ struct OneDirectory {
     has_file: bool,
 }
 
-impl Host for OneDirectory {
-    ghost tree = { λ host. None };
-
-    ghost faults = { λ host. 0 };
-
-    ghost does = { λ host seat call reply after seat_after. IsPromised 0 seat call reply 0 seat_after };
-
-    fn call(&mut self, _seat: &mut HostSeat, op: &HostOp<'_>) -> HostReply {
+impl OneDirectory {
+    /// What it answers to a call that is not the seat's own.
+    fn answer(&mut self, op: &HostOp<'_>) -> HostReply
+        ensures allowed { IsAllowed 0 (call_of op.now) result 0 }
+        ensures fails { FailsFitly (call_of op.now) result }
+    {
         match op {
             HostOp::OpenRoot { .. } => {
                 if self.refuses {
@@ -42,7 +42,6 @@ impl Host for OneDirectory {
                     HostReply::Refused(Errno::ENOENT)
                 }
             }
-            HostOp::Reopen { .. } | HostOp::ReadAt { .. } => HostReply::Refused(Errno::EACCES),
             HostOp::Stat { fd } => HostReply::Ok(HostValue::Stat(a_stat(u64::from(fd.0)))),
             HostOp::Close { .. } => HostReply::Ok(HostValue::Unit),
             HostOp::Edit(_) => {
@@ -53,6 +52,25 @@ impl Host for OneDirectory {
                     HostReply::Ok(HostValue::Unit)
                 }
             }
+            _ => HostReply::Refused(Errno::EACCES),
+        }
+    }
+}
+
+impl Host for OneDirectory {
+    ghost tree = { λ host. None };
+
+    ghost contents = { λ host. no_contents };
+
+    ghost faults = { λ host. 0 };
+
+    ghost does = { λ host seat call reply after seat_after. IsPromised 0 seat call reply 0 seat_after };
+
+    #[tactic(auto, using(pt_law::proofs::Answering::plain))]
+    fn call(&mut self, seat: &mut HostSeat, op: &HostOp<'_>) -> HostReply {
+        match seat.answer(op) {
+            Some(told) => told,
+            None => self.answer(op),
         }
     }
 

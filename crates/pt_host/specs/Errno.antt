@@ -17,8 +17,14 @@ eio = errno_of 5
 abbrev pub enxio : Errno
 enxio = errno_of 6
 
+abbrev pub e2big : Errno
+e2big = errno_of 7
+
 abbrev pub ebadf : Errno
 ebadf = errno_of 9
+
+abbrev pub enomem : Errno
+enomem = errno_of 12
 
 abbrev pub eacces : Errno
 eacces = errno_of 13
@@ -47,8 +53,17 @@ enfile = errno_of 23
 abbrev pub efbig : Errno
 efbig = errno_of 27
 
+abbrev pub erofs : Errno
+erofs = errno_of 30
+
+abbrev pub erange : Errno
+erange = errno_of 34
+
 abbrev pub enametoolong : Errno
 enametoolong = errno_of 36
+
+abbrev pub enosys : Errno
+enosys = errno_of 38
 
 abbrev pub enotempty : Errno
 enotempty = errno_of 39
@@ -56,8 +71,17 @@ enotempty = errno_of 39
 abbrev pub eloop : Errno
 eloop = errno_of 40
 
+abbrev pub enodata : Errno
+enodata = errno_of 61
+
+abbrev pub eproto : Errno
+eproto = errno_of 71
+
 abbrev pub eoverflow : Errno
 eoverflow = errno_of 75
 
 abbrev pub eopnotsupp : Errno
 eopnotsupp = errno_of 95
+
+abbrev pub estale : Errno
+estale = errno_of 116

@@ -1,4 +1,4 @@
--- The flags of `open(2)` that the rules name.
+-- The flags of `open(2)` and the capabilities that the rules name.
 use Rattle.std.specs.Prelude.{ℕ, Bool, ◌==◌}
 use Rattle.std.specs.Int.RustNames.{bit_and}
 
@@ -27,3 +27,9 @@ o_tmpfile = 4259840
 -- `O_PATH | O_NOFOLLOW | O_CLOEXEC`
 abbrev pub path_flags : ℕ
 path_flags = 2752512
+
+abbrev pub cap_setgid : ℕ
+cap_setgid = 32
+
+abbrev pub cap_setuid : ℕ
+cap_setuid = 64

@@ -1,18 +1,24 @@
--- What one call may do to a host that tells its tree. After the manual pages of open(2), stat(2) and close(2).
-use Rattle.std.specs.Prelude.{◌≡◌, ◌<◌, ℕ, false, ◌&&◌, not, List, length, Some, None}
+-- What one call may do to a host that tells its tree. After the manual pages of open(2), open_by_handle_at(2), name_to_handle_at(2), stat(2),
+-- close(2) and xattr(7).
+use Rattle.std.specs.Prelude.{◌≡◌, ◌<◌, ◌⊎◌, ℕ, true, false, ◌&&◌, not, List, length, Some, None}
 use Rattle.pt_host.specs.Words.{set_at}
-use Rattle.pt_host.specs.Flags.{includes, o_creat, o_path, o_tmpfile}
-use Rattle.pt_host.specs.Errno.{enoent}
+use Rattle.pt_host.specs.Flags.{includes, o_creat, o_excl, o_path, o_tmpfile}
+use Rattle.pt_host.specs.Errno.{ebadf, eexist, enoent, eopnotsupp, eoverflow}
 use Rattle.pt_host.specs.Call.{Call}
-use Rattle.pt_host.specs.Tree.{Tree, Object, IsObject, IsOpenOn, IsWellFormed, Tells}
+use Rattle.pt_host.specs.Tree.{Tree, Object, IsObject, IsOpenOn, IsPathOnly, IsWellFormed, Tells}
 use Rattle.pt_host.specs.Edits.{Edits}
+use Rattle.pt_host.specs.Names.{TakesNameAt, MakesObjectAt, LinksName, Renames}
+use Rattle.pt_host.specs.Promises.{FitsCall}
+use Rattle.pt_host.specs.SeatStep.{SeatStep}
 use Rattle.pt_host.specs.declared.ids.Fd.{Fd}
 use Rattle.pt_host.specs.declared.ids.Errno.{Errno}
 use Rattle.pt_host.specs.declared.flags.OpenFlags.{OpenFlags}
+use Rattle.pt_host.specs.declared.handle.CFileHandle.{CFileHandle}
 use Rattle.pt_host.specs.declared.seat.HostSeat.{HostSeat}
 use Rattle.pt_host.specs.declared.op.KeptHostOp.TheVariants as call
 use Rattle.pt_host.specs.declared.reply.HostReply.{HostReply}
 use Rattle.pt_host.specs.declared.reply.HostReply.TheVariants as reply
+use Rattle.pt_host.specs.declared.reply.HostValue.{HostValue}
 use Rattle.pt_host.specs.declared.reply.HostValue.TheVariants as value
 
 -- the tree with one more descriptor
@@ -35,30 +41,91 @@ pub record Opens (tree : Tree) (object : ℕ) (flags : OpenFlags) (fd : Fd) (aft
 abbrev pub LeadsTo : Tree → Fd → List ℕ → ℕ → Type 0
 LeadsTo tree fd name object = (dir : ℕ) × IsOpenOn tree fd dir × (tree.names dir name ≡ Some object)
 
--- `ENOENT` is answered to the opening of a name only where the name is not there
+-- what the name leads to is opened; not where a new object is asked for
+abbrev pub OpensFound : Tree → Fd → List ℕ → OpenFlags → Fd → Tree → Type 0
+OpensFound tree dir name flags fd after =
+    (object : ℕ) × ((includes flags.0 o_creat && includes flags.0 o_excl) ≡ false) × LeadsTo tree dir name object × Opens tree object flags fd after
+
+-- a new object is put under the name, which was free, and opened
+abbrev pub OpensMade : Tree → Fd → List ℕ → OpenFlags → Fd → Tree → Type 0
+OpensMade tree dir name flags fd after =
+    (made : Tree) × (includes flags.0 o_creat ≡ true) × MakesObjectAt tree dir name made × Opens made (length tree.objects) flags fd after
+
+-- the object has this handle, on the mount of what the descriptor is open on
+pub record HasHandle (tree : Tree) (mount : Fd) (handle : CFileHandle) (object : ℕ) : Type 0 where
+  pub on : ℕ
+  pub place : Object
+  pub what : Object
+  pub opened : IsOpenOn tree mount on
+  pub is_place : IsObject tree on place
+  pub is_object : IsObject tree object what
+  pub has : what.handle ≡ Some handle
+  pub same_mount : what.ids.mnt_id ≡ place.ids.mnt_id
+
+-- What a call that is Ok tells, and the tree that it leaves. What is not named here opens and closes nothing and changes no name.
+abbrev pub Succeeds : Tree → Call → HostValue → Tree → Type 0
+Succeeds tree (call.OpenRoot path flags) (value.Fd fd) after = (object : ℕ) × Opens tree object flags fd after
+Succeeds tree (call.OpenPath dir path flags) (value.Fd fd) after = (object : ℕ) × Opens tree object flags fd after
+Succeeds tree (call.OpenAt dir name flags mode) (value.Fd fd) after = OpensFound tree dir name flags fd after ⊎ OpensMade tree dir name flags fd after
+Succeeds tree (call.Reopen fd flags) (value.Fd opened) after = (object : ℕ) × IsOpenOn tree fd object × Opens tree object flags opened after
+Succeeds tree (call.OpenByHandle fd handle flags) (value.Fd opened) after =
+    (object : ℕ) × HasHandle tree fd handle object × Opens tree object flags opened after
+Succeeds tree (call.Stat fd) (value.Stat stat) after =
+    (object : ℕ) × (what : Object) × IsOpenOn tree fd object × IsObject tree object what × Tells what stat × (after ≡ tree)
+Succeeds tree (call.HandleOf fd) (value.Handle handle) after =
+    (object : ℕ) × (what : Object) × IsOpenOn tree fd object × IsObject tree object what × (what.handle ≡ Some handle.handle)
+    × (handle.mnt_id ≡ what.ids.mnt_id) × (after ≡ tree)
+Succeeds tree (call.MakeDir fd name mode) value.Unit after = MakesObjectAt tree fd name after
+Succeeds tree (call.MakeNode fd name mode rdev) value.Unit after = MakesObjectAt tree fd name after
+Succeeds tree (call.SymLink fd name target) value.Unit after = MakesObjectAt tree fd name after
+Succeeds tree (call.MakeLink from fd name) value.Unit after = LinksName tree from fd name after
+Succeeds tree (call.Unlink fd name) value.Unit after = TakesNameAt tree fd name after
+Succeeds tree (call.RemoveDir fd name) value.Unit after = TakesNameAt tree fd name after
+Succeeds tree (call.Rename fd name fd2 name2 flags) value.Unit after = Renames tree fd name fd2 name2 flags after
+Succeeds tree (call.Edit edit) value.Unit after = Edits tree edit after
+Succeeds tree asked told after = FitsCall asked told × (after ≡ tree)
+
+-- `ENOENT` is answered to the opening of a name only where the name is not there, and `EEXIST` to the making of a new one only where it is
+pub record RefusesName (tree : Tree) (fd : Fd) (name : List ℕ) (flags : OpenFlags) (errno : Errno) : Type 0 where
+  pub missing : includes flags.0 o_creat ≡ false → errno ≡ enoent → (dir : ℕ) → IsOpenOn tree fd dir → tree.names dir name ≡ None
+  pub exists : (includes flags.0 o_creat && includes flags.0 o_excl) ≡ true → errno ≡ eexist → (dir : ℕ) → IsOpenOn tree fd dir →
+      ((object : ℕ) × (tree.names dir name ≡ Some object))
+
+-- these say that the object has no handle
+abbrev pub RefusesHandle : Tree → Fd → Errno → Type 0
+RefusesHandle tree fd errno =
+    (errno ≡ eopnotsupp) ⊎ (errno ≡ eoverflow) → (object : ℕ) (what : Object) → IsOpenOn tree fd object → IsObject tree object what →
+    what.handle ≡ None
+
 abbrev pub MayRefuse : Tree → Call → Errno → Type 0
-MayRefuse tree (call.OpenAt fd name flags mode) errno =
-    includes flags.0 o_creat ≡ false → errno ≡ enoent → (dir : ℕ) → IsOpenOn tree fd dir → tree.names dir name ≡ None
+MayRefuse tree (call.OpenAt fd name flags mode) errno = RefusesName tree fd name flags errno
+MayRefuse tree (call.HandleOf fd) errno = RefusesHandle tree fd errno
 MayRefuse tree asked errno = Unit {0}
 
 -- what the call may be answered, and the tree that it leaves; `Close` ends its descriptor whatever it answers, and any other call that is
 -- refused, fails or finds no memory changes nothing
 abbrev pub Changes : Tree → Call → HostReply → Tree → Type 0
-Changes tree (call.OpenRoot path flags) (reply.Ok (value.Fd fd)) after = (object : ℕ) × Opens tree object flags fd after
-Changes tree (call.OpenAt dir name flags mode) (reply.Ok (value.Fd fd)) after =
-    (object : ℕ) × (includes flags.0 o_creat ≡ false) × LeadsTo tree dir name object × Opens tree object flags fd after
-Changes tree (call.Reopen fd flags) (reply.Ok (value.Fd opened)) after = (object : ℕ) × IsOpenOn tree fd object × Opens tree object flags opened after
-Changes tree (call.ReadAt fd offset size) (reply.Ok (value.Bytes bytes)) after = after ≡ tree
-Changes tree (call.Stat fd) (reply.Ok (value.Stat stat)) after =
-    (object : ℕ) × (what : Object) × IsOpenOn tree fd object × IsObject tree object what × Tells what stat × (after ≡ tree)
 Changes tree (call.Close fd) told after = after ≡ closed_at tree fd
-Changes tree (call.Edit edit) (reply.Ok value.Unit) after = Edits tree edit after
-Changes tree asked (reply.Ok told) after = ⊥
+Changes tree asked (reply.Ok told) after = Succeeds tree asked told after
 Changes tree asked (reply.Refused errno) after = MayRefuse tree asked errno × (after ≡ tree)
 Changes tree asked told after = after ≡ tree
 
+-- an attribute call goes by a path-only descriptor itself, and not through its link
+abbrev pub AsksPathOnly : Tree → Call → Type 0
+AsksPathOnly tree (call.SetXattr fd through name bytes flags) = (through ≡ false) × IsPathOnly tree fd
+AsksPathOnly tree (call.GetXattr fd through name size) = (through ≡ false) × IsPathOnly tree fd
+AsksPathOnly tree (call.ListXattr fd through size) = (through ≡ false) × IsPathOnly tree fd
+AsksPathOnly tree (call.RemoveXattr fd through name) = (through ≡ false) × IsPathOnly tree fd
+AsksPathOnly tree asked = ⊥
+
+-- the call is not Ok, and a refusal of it is `EBADF`
+abbrev pub IsBadFd : HostReply → Type 0
+IsBadFd (reply.Ok told) = ⊥
+IsBadFd (reply.Refused errno) = errno ≡ ebadf
+IsBadFd told = Unit {0}
+
 pub record LawfulStep (tree : Tree) (seat : HostSeat) (asked : Call) (told : HostReply) (after : Tree) (seat_after : HostSeat) : Type 0 where
   pub changes : Changes tree asked told after
-  -- no call of these changes a seat
-  pub same_seat : seat_after ≡ seat
+  pub seats : SeatStep seat asked told seat_after
+  pub path_only : AsksPathOnly tree asked → IsBadFd told
   pub well_formed : IsWellFormed tree → IsWellFormed after

@@ -4,7 +4,12 @@ pub mod Errno
 pub mod Call
 pub mod Reply
 pub mod Seat
+pub mod SeatStep
+pub mod SeatAnswer
 pub mod Tree
 pub mod Edits
-pub mod LawfulStep
+pub mod Names
 pub mod Promises
+pub mod LawfulStep
+pub mod Contents
+pub mod LawfulContents

@@ -1,5 +1,5 @@
 -- What a host holds: objects, names, opened descriptors. After the manual pages of open(2), stat(2) and name_to_handle_at(2).
-use Rattle.std.specs.Prelude.{◌≡◌, ◌<◌, ◌/◌, ℕ, Bool, List, length, Option, Some, slice_get}
+use Rattle.std.specs.Prelude.{◌≡◌, ◌<◌, ◌/◌, ℕ, Bool, true, List, length, Option, Some, slice_get}
 use Rattle.pt_host.specs.declared.ids.Fd.{Fd}
 use Rattle.pt_host.specs.declared.ids.ObjIds.{ObjIds}
 use Rattle.pt_host.specs.declared.handle.CFileHandle.{CFileHandle}
@@ -35,15 +35,19 @@ IsObject tree object what = slice_get tree.objects object ≡ Some what
 abbrev pub IsOpenOn : Tree → Fd → ℕ → Type 0
 IsOpenOn tree fd object = (opened : Opened) × (tree.opened fd.0 ≡ Some opened) × (opened.object ≡ object)
 
+-- the descriptor was opened by `O_PATH`
+abbrev pub IsPathOnly : Tree → Fd → Type 0
+IsPathOnly tree fd = (opened : Opened) × (tree.opened fd.0 ≡ Some opened) × (opened.path_only ≡ true)
+
 pub record IsWellFormed (tree : Tree) : Type 0 where
   pub named : (dir : ℕ) (name : List ℕ) (object : ℕ) → tree.names dir name ≡ Some object → (dir < length tree.objects) × (object < length tree.objects)
   pub opened : (fd : ℕ) (open_as : Opened) → tree.opened fd ≡ Some open_as → open_as.object < length tree.objects
   -- two descriptors that tell the same ids are open on one object
   pub apart : (fd other : Fd) (object another : ℕ) (what that : Object) → IsOpenOn tree fd object → IsOpenOn tree other another →
       IsObject tree object what → IsObject tree another that → what.ids ≡ that.ids → object ≡ another
-  -- no file handle belongs to two objects
+  -- no file handle belongs to two objects of one mount
   pub handles : (object another : ℕ) (what that : Object) (handle : CFileHandle) → IsObject tree object what → IsObject tree another that →
-      what.handle ≡ Some handle → that.handle ≡ Some handle → object ≡ another
+      what.ids.mnt_id ≡ that.ids.mnt_id → what.handle ≡ Some handle → that.handle ≡ Some handle → object ≡ another
 
 -- the status tells the object's ids and kind
 pub record Tells (what : Object) (stat : Stat) : Type 0 where

@@ -1,4 +1,4 @@
-ghost use Rattle.std.specs.Prelude.{◌≡◌, ◌≤◌, length, IfSome, IsSome, ◌↔◌};
+ghost use Rattle.std.specs.Prelude.{◌≡◌, ◌≤◌, ◌↔◌, length, replicate, pos, IfSome, IsSome};
 
 use arrayvec::ArrayVec;
 use std::marker::Model;
@@ -26,6 +26,15 @@ impl HandleBytes {
         match ArrayVec::try_from(bytes) {
             Ok(kept) => Some(HandleBytes { kept }),
             Err(_) => None,
+        }
+    }
+
+    /// 128 zero bytes.
+    fn zeros() -> HandleBytes
+        ensures { result ≡ replicate 128 0 }
+    {
+        HandleBytes {
+            kept: ArrayVec::from([0; 128]),
         }
     }
 
@@ -83,6 +92,18 @@ impl CFileHandle {
         CFileHandle {
             handle_type: self.handle_type,
             bytes: self.bytes.copy(),
+        }
+    }
+}
+
+/// Room for any handle: no type, and 128 zero bytes.
+impl Default for CFileHandle {
+    ghost is_default = { λ handle. (handle.handle_type ≡ pos 0) × (handle.bytes ≡ replicate 128 0) };
+
+    fn default() -> Self {
+        CFileHandle {
+            handle_type: 0,
+            bytes: HandleBytes::zeros(),
         }
     }
 }

@@ -13,6 +13,10 @@ impl Errno {
 
     pub const EIO: Errno = Errno(5);
 
+    pub const ENXIO: Errno = Errno(6);
+
+    pub const E2BIG: Errno = Errno(7);
+
     pub const EBADF: Errno = Errno(9);
 
     pub const ENOMEM: Errno = Errno(12);
@@ -56,8 +60,6 @@ impl Errno {
     pub const EOPNOTSUPP: Errno = Errno(95);
 
     pub const ESTALE: Errno = Errno(116);
-
-    pub const ENXIO: Errno = Errno(6);
 }
 
 /// The id of a mount, as `statx(2)` tells it.
@@ -79,4 +81,14 @@ pub struct ObjIds {
 pub struct Time {
     pub sec: i64,
     pub nsec: u32,
+}
+
+/// What `utimensat(2)` does with one of the times.
+#[derive(Clone, Copy, Debug, PartialEq, Eq)]
+pub enum TimeSet {
+    /// It stays.
+    Omit,
+    /// It becomes the time of the call.
+    Now,
+    At(Time),
 }

@@ -3,14 +3,21 @@
 #![tactic(auto)]
 
 mod bytes;
+#[cfg(test)]
+mod call_tests;
 mod edit;
 mod flags;
+mod groups;
 mod handle;
 mod host;
 mod ids;
+mod kept;
 mod op;
 mod reply;
 mod seat;
+mod seat_call;
+#[cfg(test)]
+mod seat_tests;
 mod stat;
 #[cfg(test)]
 mod tests;
@@ -18,10 +25,11 @@ mod tests;
 pub use bytes::Bytes;
 pub use edit::Edit;
 pub use flags::{Caps, OpenFlags};
+pub use groups::{GroupList, Groups};
 pub use handle::{CFileHandle, FileHandle, HandleBytes};
 pub use host::Host;
-pub use ids::{Errno, Fd, Inode, MountId, ObjIds, Time};
+pub use ids::{Errno, Fd, Inode, MountId, ObjIds, Time, TimeSet};
 pub use op::{HostOp, KeptHostOp};
 pub use reply::{HostReply, HostValue};
-pub use seat::{Groups, HostSeat};
+pub use seat::HostSeat;
 pub use stat::{FsStat, Stat, StatExt};

@@ -2,8 +2,9 @@ ghost use Rattle.std.specs.Prelude.{◌≡◌, IfOk, OnErr};
 ghost use Rattle.pt_host.specs.Reply.{ValueHoldsBytes, ReplyHoldsBytes};
 
 use crate::bytes::Bytes;
+use crate::handle::FileHandle;
 use crate::ids::{Errno, Fd};
-use crate::stat::Stat;
+use crate::stat::{FsStat, Stat};
 use std::alloc::{AllocError, Global};
 
 /// What a call that succeeds tells.
@@ -12,7 +13,10 @@ pub enum HostValue {
     Unit,
     Fd(Fd),
     Stat(Stat),
+    Handle(FileHandle),
+    FsStat(FsStat),
     Bytes(Bytes),
+    Count(u64),
 }
 
 /// What the host answers to a call.
@@ -35,10 +39,13 @@ impl HostValue {
             HostValue::Unit => Ok(HostValue::Unit),
             HostValue::Fd(fd) => Ok(HostValue::Fd(*fd)),
             HostValue::Stat(stat) => Ok(HostValue::Stat(*stat)),
+            HostValue::Handle(handle) => Ok(HostValue::Handle(handle.copy())),
+            HostValue::FsStat(stat) => Ok(HostValue::FsStat(*stat)),
             HostValue::Bytes(bytes) => match bytes.copy(alloc) {
                 Ok(copy) => Ok(HostValue::Bytes(copy)),
                 Err(error) => Err(error),
             },
+            HostValue::Count(count) => Ok(HostValue::Count(*count)),
         }
     }
 }

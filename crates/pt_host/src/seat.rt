@@ -1,57 +1,14 @@
-ghost use Rattle.std.specs.Prelude.{◌≡◌, ◌<◌, ◌++◌, ◌∷◌, [], length, IsTrue, ◌↔◌};
-ghost use Rattle.pt_host.specs.Seat.{IsStartingSeat};
+ghost use Rattle.std.specs.Prelude.{◌≡◌, true, false, OnOk, IfErr};
+ghost use Rattle.pt_host.specs.Errno.{eperm};
+ghost use Rattle.pt_host.specs.Seat.{IsStartingSeat, may_set_euid, with_euid, may_set_egid, with_egid, may_set_groups, groups_errno, with_groups, may_raise, with_raised, with_dropped, with_umask, caps_as};
 
 use crate::flags::Caps;
-use arrayvec::ArrayVec;
-use std::marker::Model;
+use crate::groups::Groups;
+use crate::ids::Errno;
+use bitflags::Flags;
 
-/// A list of supplementary groups, 32 at most.
-#[derive(Debug, Drop)]
-pub struct Groups {
-    kept: ArrayVec<u32, 32>,
-}
-
-impl Model for Groups {
-    ghost use Rattle.std.specs.Prelude.{List, ℕ};
-
-    ghost Value = { List ℕ };
-
-    ghost view = { λ groups. groups.kept.items };
-}
-
-impl Groups {
-    pub fn new() -> Self
-        ensures { result ≡ [] }
-    {
-        Groups {
-            kept: ArrayVec::new(),
-        }
-    }
-
-    pub fn push(&mut self, group: u32)
-        requires { length self.old < 32 }
-        ensures { self.new ≡ self.old ++ group ∷ [] }
-    {
-        self.kept.push(group);
-    }
-
-    pub fn as_slice(&self) -> &[u32]
-        ensures { result.now ≡ self.now }
-    {
-        self.kept.as_slice()
-    }
-
-    /// The same groups once more, which takes no memory.
-    pub fn copy(&self) -> Groups
-        ensures { result ≡ self.now }
-    {
-        let mut kept = ArrayVec::new();
-        for group in self.kept.as_slice() {
-            kept.push(*group);
-        }
-        Groups { kept }
-    }
-}
+/// The id that leaves an id as it is.
+const KEPT_ID: u32 = u32::MAX;
 
 /// The identity under which a host's calls are made, as `credentials(7)` and `capabilities(7)` have it of a thread.
 #[derive(Debug, Drop)]
@@ -106,5 +63,119 @@ impl HostSeat {
             perm_caps: self.perm_caps,
             umask: self.umask,
         }
+    }
+
+    fn may_set_euid(&self, uid: u32) -> bool
+        ensures { result ≡ may_set_euid self.now uid }
+    {
+        self.eff_caps.includes(Caps::SETUID)
+            || uid == KEPT_ID
+            || uid == self.real_uid
+            || uid == self.eff_uid
+            || uid == self.saved_uid
+    }
+
+    fn may_set_egid(&self, gid: u32) -> bool
+        ensures { result ≡ may_set_egid self.now gid }
+    {
+        self.eff_caps.includes(Caps::SETGID)
+            || gid == KEPT_ID
+            || gid == self.real_gid
+            || gid == self.eff_gid
+            || gid == self.saved_gid
+    }
+
+    /// The effective capabilities under this effective uid.
+    fn caps_as(&self, uid: u32) -> Caps
+        ensures { result ≡ caps_as self.now uid }
+    {
+        match (self.eff_uid == 0, uid == 0) {
+            (true, false) => Caps(0),
+            (false, true) => self.perm_caps,
+            _ => self.eff_caps,
+        }
+    }
+
+    /// `seteuid(2)`. The effective capabilities go when root is left, and come back when it is entered.
+    pub fn set_euid(&mut self, uid: u32) -> Result<(), Errno>
+        ensures ok { OnOk result ((may_set_euid self.old uid ≡ true)
+            × (self.new ≡ with_euid self.old uid)) }
+        ensures err { IfErr result (λ errno. (errno ≡ eperm)
+            × (may_set_euid self.old uid ≡ false) × (self.new ≡ self.old)) }
+    {
+        if !self.may_set_euid(uid) {
+            return Err(Errno::EPERM);
+        }
+        if uid != KEPT_ID {
+            self.eff_caps = self.caps_as(uid);
+            self.eff_uid = uid;
+        }
+        Ok(())
+    }
+
+    /// `setegid(2)`.
+    pub fn set_egid(&mut self, gid: u32) -> Result<(), Errno>
+        ensures ok { OnOk result ((may_set_egid self.old gid ≡ true)
+            × (self.new ≡ with_egid self.old gid)) }
+        ensures err { IfErr result (λ errno. (errno ≡ eperm)
+            × (may_set_egid self.old gid ≡ false) × (self.new ≡ self.old)) }
+    {
+        if !self.may_set_egid(gid) {
+            return Err(Errno::EPERM);
+        }
+        if gid != KEPT_ID {
+            self.eff_gid = gid;
+        }
+        Ok(())
+    }
+
+    /// `setgroups(2)`, of 32 groups at most.
+    pub fn set_groups(&mut self, groups: &[u32]) -> Result<(), Errno>
+        ensures ok { OnOk result ((may_set_groups self.old groups.now ≡ true)
+            × (self.new ≡ with_groups self.old groups.now)) }
+        ensures err { IfErr result (λ errno. (errno ≡ groups_errno self.old)
+            × (may_set_groups self.old groups.now ≡ false) × (self.new ≡ self.old)) }
+    {
+        if !self.eff_caps.includes(Caps::SETGID) {
+            return Err(Errno::EPERM);
+        }
+        match Groups::from_slice(groups) {
+            Some(groups) => {
+                self.groups = groups;
+                Ok(())
+            }
+            None => Err(Errno::EINVAL),
+        }
+    }
+
+    /// Makes capabilities effective, as `capset(2)` does of permitted ones.
+    pub fn raise_cap(&mut self, caps: Caps) -> Result<(), Errno>
+        ensures ok { OnOk result ((may_raise self.old caps ≡ true)
+            × (self.new ≡ with_raised self.old caps)) }
+        ensures err { IfErr result (λ errno. (errno ≡ eperm)
+            × (may_raise self.old caps ≡ false) × (self.new ≡ self.old)) }
+    {
+        if !self.perm_caps.includes(caps) {
+            return Err(Errno::EPERM);
+        }
+        self.eff_caps = self.eff_caps.union(caps);
+        Ok(())
+    }
+
+    /// Makes capabilities not effective, as `capset(2)`.
+    pub fn drop_cap(&mut self, caps: Caps)
+        ensures { self.new ≡ with_dropped self.old caps }
+    {
+        self.eff_caps = self.eff_caps.difference(caps);
+    }
+
+    /// `umask(2)`: answers the old one, and keeps the permission bits of the new one.
+    pub fn set_umask(&mut self, mask: u32) -> u32
+        ensures old { result ≡ self.old.umask }
+        ensures new { self.new ≡ with_umask self.old mask }
+    {
+        let old = self.umask;
+        self.umask = mask & 0o777;
+        old
     }
 }

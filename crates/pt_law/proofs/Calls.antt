@@ -23,6 +23,7 @@ use Rattle.pt_law.specs.World.{Past, settled_by, object_of, first_of}
 use Rattle.pt_law.specs.Ledger.{fd_held, row_fd, handle_fd}
 use Rattle.pt_law.proofs.Lists.{total_takes, total_replaces, is_same, is_apart, set_at_same, set_at_other, at_each, each_replaces, each_takes, each_put}
 use Rattle.pt_law.proofs.Growing.{Grows, edit_grows, rows_on, handles_on, knows_on}
+use Rattle.pt_law.proofs.Found.{found_only}
 use Rattle.pt_law.proofs.Knowing.{RowOpen, HandleOpen, ToldRight, PinRight, NotedOpen, NotedRight, Knowing, with_entry, rows_open, handles_open, told_open, noted_open, rows_closed, handles_closed, told_closed, noted_closed, unless_apart}
 
 -- what is known of rows and jobs is right
@@ -250,12 +251,13 @@ keeps_call bound tree next past rows handles js j after (call.OpenRoot path flag
     let o = l.1 in
     rw o.adds (opens_root bound tree next past rows handles js j after l.0 flags new lt h o.fresh m.0 m.3 (object_of ((opened_on tree l.0 flags new).opened new.0)) (object_opened tree l.0 flags new))
 keeps_call bound tree next past rows handles js j after (call.OpenAt dir name flags mode) (host.Ok (value.Fd new)) tree' lt h l m b c =
-    let o = l.3 in
-    rw o.adds (opens_at bound tree next past rows handles js j after l.0 flags new lt h o.fresh m.0.1 m.3 (object_of ((opened_on tree l.0 flags new).opened new.0)) (object_opened tree l.0 flags new))
+    let f = found_only tree dir name flags new tree' m.1.1 l in
+    let o = f.3 in
+    rw o.adds (opens_at bound tree next past rows handles js j after f.0 flags new lt h o.fresh m.0.1 m.3 (object_of ((opened_on tree f.0 flags new).opened new.0)) (object_opened tree f.0 flags new))
 keeps_call bound tree next past rows handles js j after (call.Reopen f flags) (host.Ok (value.Fd new)) tree' lt h l m b c =
     let o = l.2 in
     rw o.adds (opens_anew bound tree next past rows handles js j after l.0 flags new lt h o.fresh m.0.1 m.3 (b f flags l.0 refl l.1))
-keeps_call bound tree next past rows handles js j after (call.ReadAt f offset size) (host.Ok (value.Bytes bytes)) tree' lt h l m b c = rw l (same_holds bound tree next past rows handles js j after lt h m.3 m.0.1)
+keeps_call bound tree next past rows handles js j after (call.ReadAt f offset size) (host.Ok (value.Bytes bytes)) tree' lt h l m b c = rw l.1 (same_holds bound tree next past rows handles js j after lt h m.3 m.0.1)
 keeps_call bound tree next past rows handles js j after (call.Stat f) (host.Ok (value.Stat stat)) tree' lt h l m b c =
     rw l.5 (quiet bound tree next past rows handles js j after lt h m.3
     (each_replaces (ToldRight tree) m.0.1 (λ _. (l.0, record { open_on = l.2; what = l.1; is_object = l.3; same_ids = sym l.4.ids })) (h.knows j lt).told)
@@ -266,7 +268,12 @@ keeps_call bound tree next past rows handles js j after (call.Close f) told tree
     rw l (closes bound tree next past rows handles js j after f m.0.0 lt h m.0.1 m.3 e.0 e.1 e.2)
 keeps_call bound tree next past rows handles js j after (call.Edit edit) (host.Ok value.Unit) tree' lt h l m b c =
     grown bound tree tree' next past rows handles (set_at j after js) (edit_grows tree edit tree' l) (same_holds bound tree next past rows handles js j after lt h m.3 m.0)
-keeps_call bound tree next past rows handles js j after asked (host.Ok told) tree' lt h l m b c = absurd l
+keeps_call bound tree next past rows handles js j after (call.OpenRoot path flags) (host.Ok told) tree' lt h l m b c = absurd l.0
+keeps_call bound tree next past rows handles js j after (call.OpenAt dir name flags mode) (host.Ok told) tree' lt h l m b c = absurd l.0
+keeps_call bound tree next past rows handles js j after (call.Reopen f flags) (host.Ok told) tree' lt h l m b c = absurd l.0
+keeps_call bound tree next past rows handles js j after (call.ReadAt f offset size) (host.Ok told) tree' lt h l m b c = absurd l.0
+keeps_call bound tree next past rows handles js j after (call.Stat f) (host.Ok told) tree' lt h l m b c = absurd l.0
+keeps_call bound tree next past rows handles js j after (call.Edit edit) (host.Ok told) tree' lt h l m b c = absurd l.0
 keeps_call bound tree next past rows handles js j after (call.OpenRoot path flags) (host.Refused e) tree' lt h l m b c = rw l.1 (same_holds bound tree next past rows handles js j after lt h m.3 m.0)
 keeps_call bound tree next past rows handles js j after (call.OpenAt dir name flags mode) (host.Refused e) tree' lt h l m b c = rw l.1 (same_holds bound tree next past rows handles js j after lt h m.3 m.0.1)
 keeps_call bound tree next past rows handles js j after (call.Reopen f flags) (host.Refused e) tree' lt h l m b c = rw l.1 (same_holds bound tree next past rows handles js j after lt h m.3 m.0.1)
@@ -279,3 +286,4 @@ keeps_call bound tree next past rows handles js j after (call.Reopen f flags) to
 keeps_call bound tree next past rows handles js j after (call.ReadAt f offset size) told tree' lt h l m b c = rw l (same_holds bound tree next past rows handles js j after lt h m.3 m.0.1)
 keeps_call bound tree next past rows handles js j after (call.Stat f) told tree' lt h l m b c = rw l (same_holds bound tree next past rows handles js j after lt h m.3 m.0.1)
 keeps_call bound tree next past rows handles js j after (call.Edit edit) told tree' lt h l m b c = rw l (same_holds bound tree next past rows handles js j after lt h m.3 m.0)
+keeps_call bound tree next past rows handles js j after asked told tree' lt h l m b c = absurd m.0

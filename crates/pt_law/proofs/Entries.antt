@@ -1,8 +1,8 @@
 -- An entry names what its name led to.
-use Rattle.std.proofs.Common.{◌≡◌, ◌≢◌, ◌⊎◌, ⊎_elim, inl, inr, ℕ, ◌<◌, List, [], ◌∷◌, ◌++◌, refl, sym, ap, ap₂, subst, ◌∙◌, arith, Option, Some, None, append_assoc}
+use Rattle.std.proofs.Common.{◌≡◌, ◌≢◌, ◌⊎◌, ⊎_elim, inl, inr, ℕ, ◌<◌, List, [], ◌∷◌, ◌++◌, false, refl, sym, ap, ap₂, subst, ◌∙◌, arith, Option, Some, None, append_assoc}
 use Rattle.std.proofs.lemmas.Bool.{cases_eq}
 use Rattle.pt_host.specs.Words.{Each, Takes}
-use Rattle.pt_host.specs.Flags.{includes, o_path}
+use Rattle.pt_host.specs.Flags.{includes, o_creat, o_path}
 use Rattle.pt_host.specs.Tree.{Tree, Object, IsObject, IsWellFormed}
 use Rattle.pt_host.specs.declared.ids.Fd.{Fd}
 use Rattle.pt_host.specs.declared.ids.ObjIds.{ObjIds}
@@ -43,6 +43,7 @@ use Rattle.pt_law.proofs.Steps.{Inv, turned}
 use Rattle.pt_law.proofs.Interleaving.{steps_append, disciplined_split}
 use Rattle.pt_law.proofs.Laws.{reach, step_stays}
 use Rattle.pt_law.proofs.Pinned.{pinned_open}
+use Rattle.pt_law.proofs.Found.{found_only}
 use Rattle.pt_law.proofs.Cuts.{Cut, cut, runs_append, steps_at, steps_past}
 use Rattle.pt_law.proofs.Straight.{entry_steps}
 
@@ -170,12 +171,12 @@ resolve_at bound base had w js j parent row mode form ids next v g =
     (o.object, ap w.past.numbers (sym h.1.1) ∙ o.numbered h.1.0, ap w.past.objects (sym h.2) ∙ o.placed, (let d = s.drawn in let e = h.2 in omega (arith, d, e)))
 
 -- what the job opened in the directory that it has pinned
-open_at : (bound : ℕ) (base had : ℕ → ℕ) (w : World) (js : ℕ → Job) (j row mode : ℕ) (dir : Fd) (name : List ℕ) (flags : OpenFlags) (new : Fd) (next : World) {rest : List Hold} (directory : ℕ) → j < bound → Inv bound base had w js →
+open_at : (bound : ℕ) (base had : ℕ → ℕ) (w : World) (js : ℕ → Job) (j row mode : ℕ) (dir : Fd) (name : List ℕ) (flags : OpenFlags) (new : Fd) (next : World) {rest : List Hold} (directory : ℕ) → includes flags.0 o_creat ≡ false → j < bound → Inv bound base had w js →
     Takes (hold.Pin row dir) (js j).holds rest → w.past.objects row ≡ Some directory → Goes w (turn_of j (opening_at dir name flags mode new)) next →
     (object : ℕ) × (w.tree.names directory name ≡ Some object) × (next.past.latest j ≡ Some object)
-open_at bound base had w js j row mode dir name flags new next directory lt v t e g =
+open_at bound base had w js j row mode dir name flags new next directory free lt v t e g =
     let p = pinned_open bound base had w js j row dir lt v t in
-    let l = g.made.0.0.changes in
+    let l = found_only w.tree dir name flags new next.tree free g.made.0.0.changes in
     let leads = l.2 in
     let here : leads.0 ≡ directory = one_object w.tree dir leads.0 p.0 leads.1 p.1 ∙ (let x = p.2 in cc) in
     let now : object_of (next.tree.opened new.0) ≡ Some l.0 = ap (λ (z : Tree). object_of (z.opened new.0)) l.3.adds ∙ ap object_of (set_at_same w.tree.opened new.0 (Some (record { object = l.0; path_only = includes flags.0 o_path }))) in
@@ -227,11 +228,11 @@ record Facts (start end : World) (turns : List Turn) (j parent : ℕ) (name : Li
   is_object : IsObject after_give.tree object what
   same_ids : what.ids ≡ ids
 
-facts : (limit bound : ℕ) (turns : List Turn) (start end : World) (j parent row mode how : ℕ) (form : RowForm) (its ids : ObjIds) (name : List ℕ) (flags : OpenFlags) (new : Fd) (number : ℕ) (first : List Step) (give : Step) (middle : List Step) →
+facts : (limit bound : ℕ) (turns : List Turn) (start end : World) (j parent row mode how : ℕ) (form : RowForm) (its ids : ObjIds) (name : List ℕ) (flags : OpenFlags) (new : Fd) (number : ℕ) (first : List Step) (give : Step) (middle : List Step) → includes flags.0 o_creat ≡ false →
     Starts limit start → AreDisciplined bound turns → j < bound → GivesBy number ids give.deed give.reply → Each (λ (step : Step). OpensNone step.deed) middle →
     Cut start end turns j first (resolving parent row form its mode) (opening_at (fd_of form) name flags how new) give middle →
     Facts start end turns j parent name number ids (resolving parent row form its mode) (opening_at (fd_of form) name flags how new) give
-facts limit bound turns start end j parent row mode how form its ids name flags new number first give middle s d lt gave quiet c =
+facts limit bound turns start end j parent row mode how form its ids name flags new number first give middle free s d lt gave quiet c =
     let a = resolving parent row form its mode in
     let b = opening_at (fd_of form) name flags how new in
     let end2 : List Turn = turn_of j give ∷ c.behind in
@@ -245,7 +246,7 @@ facts limit bound turns start end j parent row mode how form its ids name flags 
     let own1 = own_to j c.before c.between a first c.own0 c.own1 in
     let pinned = last_move first a idle (v1.0 j) (subst (λ z. Disciplined idle z (v1.0 j)) own1 (v1.2 j lt).0) in
     let kept = row_stays c.w0 (turn_of j a) c.w1 c.between c.w2 row directory.0 v0.1.tabled.agree c.g0 c.r1 directory.3 directory.2 in
-    let o = open_at bound _ _ c.w2 v1.0 j row how (fd_of form) name flags new c.w3 directory.0 lt v1.1 pinned.1.0 kept c.g1 in
+    let o = open_at bound _ _ c.w2 v1.0 j row how (fd_of form) name flags new c.w3 directory.0 free lt v1.1 pinned.1.0 kept c.g1 in
     let front2 : List Turn = front1 ++ (turn_of j b ∷ c.later) in
     let run2 : Runs start front2 c.w4 = runs_append front1 (turn_of j b ∷ c.later) start c.w2 c.w4 run1 (c.w3, c.g1, c.r2) in
     let v2 = reach limit bound front2 end2 start c.w4 s (subst (AreDisciplined bound) (regroup turns front1 c.later end2 (turn_of j b) cut1) d) run2 in
@@ -324,7 +325,7 @@ entered_law limit bound plan turns start end j parent name entry s d r lt b =
     let o = opening_at (fd_of l.form) name path 0 l.fd in
     let all : steps_of j turns ≡ (begin ∷ []) ++ a ∷ (o ∷ (g.middle ++ g.give ∷ e.1)) =
     e.2 ∙ ap (λ z. z ++ e.1) (l.in_turn ∙ ap (λ z. begin ∷ a ∷ o ∷ z) g.are) ∙ ap (λ z. begin ∷ a ∷ o ∷ z) (append_assoc g.middle (g.give ∷ []) e.1) in
-    let f = facts limit bound turns start end j parent l.row l.mode 0 l.form l.ids l.stat.ids name path l.fd entry.inode (begin ∷ []) g.give g.middle s d lt g.gives g.quiet (cut start end turns j (begin ∷ []) a o g.give g.middle e.1 r all) in
+    let f = facts limit bound turns start end j parent l.row l.mode 0 l.form l.ids l.stat.ids name path l.fd entry.inode (begin ∷ []) g.give g.middle refl s d lt g.gives g.quiet (cut start end turns j (begin ∷ []) a o g.give g.middle e.1 r all) in
     record {
       own = e.0;
       back = e.1;

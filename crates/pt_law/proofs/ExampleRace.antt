@@ -6,14 +6,16 @@ use Rattle.pt_host.specs.Words.{Each, Replaces.{at, past}, set_at}
 use Rattle.pt_host.specs.Call.{Call}
 use Rattle.pt_host.specs.Flags.{includes, o_path}
 use Rattle.pt_host.specs.Tree.{Tree, Object, Opened, IsWellFormed, kind_of}
-use Rattle.pt_host.specs.LawfulStep.{Changes as TreeChanges}
-use Rattle.pt_host.specs.Promises.{IsAllowed}
+use Rattle.pt_host.specs.LawfulStep.{Changes as TreeChanges, AsksPathOnly}
+use Rattle.pt_host.specs.Promises.{FitsCall}
+use Rattle.pt_host.specs.SeatStep.{SeatGoes}
 use Rattle.pt_host.specs.declared.ids.Fd.{Fd}
 use Rattle.pt_host.specs.declared.seat.HostSeat.{HostSeat}
 use Rattle.pt_host.specs.declared.stat.Stat.{Stat}
 use Rattle.pt_host.specs.declared.op.KeptHostOp.TheVariants as call
 use Rattle.pt_host.specs.declared.reply.HostReply.{HostReply}
 use Rattle.pt_host.specs.declared.reply.HostReply.TheVariants as host
+use Rattle.pt_host.specs.declared.reply.HostValue.{HostValue}
 use Rattle.pt_host.specs.declared.reply.HostValue.TheVariants as value
 use Rattle.pt_session.specs.Change.{Change}
 use Rattle.pt_session.specs.Happens.{Happens}
@@ -112,7 +114,7 @@ well root file apart opened small = record {
   named = leads;
   opened = small;
   apart = λ f g n m what that x y a b e. same_object root file apart n m what that a b e;
-  handles = λ n m what that handle a b e g. let k = no_handle root file n what a in absurd (cc);
+  handles = λ n m what that handle a b mount e g. let k = no_handle root file n what a in absurd (cc);
 }
 
 -- one step after another, and where they lead
@@ -142,16 +144,25 @@ event_then seat world job asked told tables turns h rest = record {
   run = (after_event world job asked told tables, record { seat = seat; seat_after = seat; made = (h, refl, refl); past = refl }, rest.run);
 }
 
-call_then : (seat : HostSeat) (world : World) (job : ℕ) (asked : Call) (told : HostReply) (tree : Tree) (turns : List Turn) → TreeChanges world.tree asked told tree → IsAllowed 0 asked told 0 → IsWellFormed tree →
-    Leads (after_call world job asked told tree) turns → Leads world (turn_of job (made (Calls asked) (Host told)) ∷ turns)
-call_then seat world job asked told tree turns h allowed well rest = record {
+-- a call that leaves the seat and names no path-only descriptor, and is Ok
+call_then : (seat : HostSeat) (world : World) (job : ℕ) (asked : Call) (what : HostValue) (tree : Tree) (turns : List Turn) → TreeChanges world.tree asked (host.Ok what) tree → FitsCall asked what → SeatGoes seat asked what seat → (AsksPathOnly world.tree asked → ⊥) →
+    IsWellFormed tree → Leads (after_call world job asked (host.Ok what) tree) turns → Leads world (turn_of job (made (Calls asked) (Host (host.Ok what))) ∷ turns)
+call_then seat world job asked what tree turns h fits stays unasked well rest = record {
   last = rest.last;
   run = (
-    after_call world job asked told tree,
+    after_call world job asked (host.Ok what) tree,
     record {
       seat = seat;
       seat_after = seat;
-      made = ((record { changes = h; same_seat = refl; well_formed = λ _. well }, 0, 0, record { never_falls = omega arith; allowed = allowed; same_seat = refl }), refl);
+      made = (
+        (
+          record { changes = h; seats = stays; path_only = λ asks. absurd (unasked asks); well_formed = λ _. well },
+          0,
+          0,
+          record { never_falls = omega arith; allowed = fits; fails = tt; seats = stays },
+        ),
+        refl,
+      );
       past = refl;
     },
     rest.run,
@@ -257,18 +268,18 @@ runs plan root file seat apart =
     let at_end = well root file apart closed (small_close five 5 small_five) in
     let slot : 2 < 5 = omega arith in
     event_then seat _ 0 change.Begin (event.Began 0 nothing_agreed) (empty_tables 5) _ (refl, refl, refl) (
-    call_then seat _ 0 (call.OpenRoot plan.config.root_dir path) (host.Ok (value.Fd (fd 3))) (tree root file three) _ (0, record { listed = omega arith; fresh = refl; allowed = refl; adds = refl }) tt at_three (
-    call_then seat _ 0 (call.Stat (fd 3)) (host.Ok (value.Stat root)) (tree root file three) _ (0, object root, (_, refl, refl), refl, record { ids = refl; kind = refl }, refl) tt at_three (
+    call_then seat _ 0 (call.OpenRoot plan.config.root_dir path) (value.Fd (fd 3)) (tree root file three) _ (0, record { listed = omega arith; fresh = refl; allowed = refl; adds = refl }) tt refl (λ asks. asks) at_three (
+    call_then seat _ 0 (call.Stat (fd 3)) (value.Stat root) (tree root file three) _ (0, object root, (_, refl, refl), refl, record { ids = refl; kind = refl }, refl) tt refl (λ asks. asks) at_three (
     event_then seat _ 0 change.TakeFd event.Taken (tables 2 0 4 []) _ (4, refl, refl) (
     event_then seat _ 0 (change.InsertRoot 0 (File (fd 3)) root.ids root.mode None) (event.Inserted 1) (tables 2 1 4 (row root 0 ∷ [])) _ (refl, (tt, tt), omega arith, refl, refl) (
     event_then seat _ 1 change.Begin (event.Began 0 nothing_agreed) (tables 2 1 4 (row root 0 ∷ [])) _ (refl, refl, refl) (
     event_then seat _ 2 change.Begin (event.Began 0 nothing_agreed) (tables 2 1 4 (row root 0 ∷ [])) _ (refl, refl, refl) (
     event_then seat _ 1 (change.Resolve 1) (event.Resolved 0 (File (fd 3)) root.ids root.mode) (tables 2 1 4 (row root 1 ∷ [])) _ (row root 0, (refl, refl), refl, refl, refl, refl, omega arith, (row root 1 ∷ [], at, refl)) (
     event_then seat _ 2 (change.Resolve 1) (event.Resolved 0 (File (fd 3)) root.ids root.mode) (tables 2 1 4 (row root 2 ∷ [])) _ (row root 1, (refl, refl), refl, refl, refl, refl, omega arith, (row root 2 ∷ [], at, refl)) (
-    call_then seat _ 1 (call.OpenAt (fd 3) name path 0) (host.Ok (value.Fd (fd 4))) (tree root file four) _ (1, refl, (0, (_, refl, refl), refl), record { listed = omega arith; fresh = refl; allowed = refl; adds = refl }) tt at_four (
-    call_then seat _ 2 (call.OpenAt (fd 3) name path 0) (host.Ok (value.Fd (fd 5))) (tree root file five) _ (1, refl, (0, (_, refl, refl), refl), record { listed = omega arith; fresh = refl; allowed = refl; adds = refl }) tt at_five (
-    call_then seat _ 1 (call.Stat (fd 4)) (host.Ok (value.Stat file)) (tree root file five) _ (1, object file, (_, refl, refl), refl, record { ids = refl; kind = refl }, refl) tt at_five (
-    call_then seat _ 2 (call.Stat (fd 5)) (host.Ok (value.Stat file)) (tree root file five) _ (1, object file, (_, refl, refl), refl, record { ids = refl; kind = refl }, refl) tt at_five (
+    call_then seat _ 1 (call.OpenAt (fd 3) name path 0) (value.Fd (fd 4)) (tree root file four) _ (inl (1, refl, (0, (_, refl, refl), refl), record { listed = omega arith; fresh = refl; allowed = refl; adds = refl })) tt refl (λ asks. asks) at_four (
+    call_then seat _ 2 (call.OpenAt (fd 3) name path 0) (value.Fd (fd 5)) (tree root file five) _ (inl (1, refl, (0, (_, refl, refl), refl), record { listed = omega arith; fresh = refl; allowed = refl; adds = refl })) tt refl (λ asks. asks) at_five (
+    call_then seat _ 1 (call.Stat (fd 4)) (value.Stat file) (tree root file five) _ (1, object file, (_, refl, refl), refl, record { ids = refl; kind = refl }, refl) tt refl (λ asks. asks) at_five (
+    call_then seat _ 2 (call.Stat (fd 5)) (value.Stat file) (tree root file five) _ (1, object file, (_, refl, refl), refl, record { ids = refl; kind = refl }, refl) tt refl (λ asks. asks) at_five (
     event_then seat _ 1 (change.Claim 0 None file.ids) event.Absent (tables 2 1 4 (row root 2 ∷ [])) _ (refl, ((λ h. apart h.1), tt), refl) (
     event_then seat _ 2 (change.Claim 0 None file.ids) event.Absent (tables 2 1 4 (row root 2 ∷ [])) _ (refl, ((λ h. apart h.1), tt), refl) (
     event_then seat _ 1 change.TakeFd event.Taken (tables 2 1 3 (row root 2 ∷ [])) _ (3, refl, refl) (
@@ -280,7 +291,7 @@ runs plan root file seat apart =
     event_then seat _ 2 (change.Insert 0 3 (File (fd 5)) file.ids file.mode) (event.Found 2) (tables 4 2 2 (added file 2 ∷ row root 2 ∷ [])) _
     (refl, (added file 1, (refl, refl), refl, omega arith, (added file 2 ∷ row root 2 ∷ [], at, refl))) (
     event_then seat _ 1 (change.Unpin 0) (event.Done 0) (tables 4 2 2 (added file 2 ∷ row root 1 ∷ [])) _ (row root 2, 1, refl, refl, inr (inl refl, refl, (added file 2 ∷ row root 1 ∷ [], past at, refl))) (
-    call_then seat _ 2 (call.Close (fd 5)) (host.Ok value.Unit) (tree root file closed) _ refl tt at_end (
+    call_then seat _ 2 (call.Close (fd 5)) value.Unit (tree root file closed) _ refl tt refl (λ asks. asks) at_end (
     event_then seat _ 2 change.GiveFd event.Given (tables 4 2 3 (added file 2 ∷ row root 1 ∷ [])) _ (slot, refl) (
     event_then seat _ 2 (change.Unpin 0) (event.Done 0) (tables 4 2 3 (added file 2 ∷ row root 0 ∷ [])) _ (row root 1, 0, refl, refl, inr (inl refl, refl, (added file 2 ∷ row root 0 ∷ [], past at, refl))) (
     record { last = _; run = refl })))))))))))))))))))))))))

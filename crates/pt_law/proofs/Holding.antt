@@ -21,9 +21,10 @@ use Rattle.pt_req.specs.Held.{taken_in, brought}
 use Rattle.pt_req.specs.declared.act.ActReply.{ActReply}
 use Rattle.pt_req.specs.declared.act.ActReply.TheVariants.{Event, Host}
 use Rattle.pt_req.specs.declared.hold.Hold.{Hold}
-use Rattle.pt_law.specs.Discipline.{Shifts}
+use Rattle.pt_law.specs.Discipline.{Job, Shifts, MovesBy}
 use Rattle.pt_law.specs.Ledger.{form_slot, fd_held, open_count, some_count}
 use Rattle.pt_law.proofs.Growing.{edit_grows}
+use Rattle.pt_law.proofs.Found.{found_only}
 use Rattle.pt_law.proofs.Flows.{fd_in, fd_out, fd_made, fd_ended, slot_in, slot_out, pin_made, pin_ended, handle_pin_made, handle_pin_ended, pin_held, handle_pin_held, slot_held}
 use Rattle.pt_law.proofs.Lists.{total_takes, total_replaces, is_same, is_apart, set_at_same, set_at_other}
 
@@ -94,6 +95,7 @@ handed holds (Calls (call.Stat fd)) (Host (host.Ok (value.Stat stat))) after m =
 handed holds (Calls (call.Stat fd)) told after m = keeps _ _ holds after m.1 (λ _. refl) refl (λ _. refl) (λ _. refl)
 handed holds (Calls (call.Close fd)) told after m = loses (Calls (call.Close fd)) told m.1 (λ _. omega arith) (omega arith) (λ _. omega arith) (λ _. omega arith)
 handed holds (Calls (call.Edit edit)) told after m = keeps _ _ holds after m (λ _. refl) refl (λ _. refl) (λ _. refl)
+handed holds (Calls asked) told after m = absurd m
 handed holds (Changes change.Begin) told after m = keeps _ _ holds after m (λ _. refl) refl (λ _. refl) (λ _. refl)
 handed holds (Changes (change.Resolve number)) (Event (event.Resolved row form ids mode)) after m =
     gains (Changes (change.Resolve number)) (Event (event.Resolved row form ids mode)) m (λ _. omega arith) (omega arith) (λ _. omega arith) (λ _. omega arith)
@@ -165,21 +167,35 @@ closes tree f after e one fd = rw e (
     let b = ap (λ n. is f.0 fd * n) one in
     omega (arith, a, b))
 
--- what is opened and closed; what is closed was open
-pub in_tree : (tree : Tree) (a : Call) (r : HostReply) (after : Tree) → TreeChanges tree a r after → ((f : ℕ) → 0 < fd_ended f (Calls a) (Host r) → open_count f tree ≡ 1) →
+-- what a job's call opens and closes; what is closed was open
+pub in_tree : (job next : Job) (tree : Tree) (a : Call) (r : HostReply) (after : Tree) → MovesBy job (Calls a) (Host r) next → TreeChanges tree a r after → ((f : ℕ) → 0 < fd_ended f (Calls a) (Host r) → open_count f tree ≡ 1) →
     (fd : ℕ) → open_count fd after + fd_ended fd (Calls a) (Host r) ≡ open_count fd tree + fd_made fd (Calls a) (Host r)
-in_tree tree (call.OpenRoot path flags) (host.Ok (value.Fd new)) after l c fd = let a = opens tree l.0 flags new after l.1 fd in omega (arith, a)
-in_tree tree (call.OpenAt dir name flags mode) (host.Ok (value.Fd new)) after l c fd = let a = opens tree l.0 flags new after l.3 fd in omega (arith, a)
-in_tree tree (call.Reopen f flags) (host.Ok (value.Fd new)) after l c fd = let a = opens tree l.0 flags new after l.2 fd in omega (arith, a)
-in_tree tree (call.ReadAt f offset size) (host.Ok (value.Bytes bytes)) after l c fd = ap (λ t. open_count fd t + 0) l
-in_tree tree (call.Stat f) (host.Ok (value.Stat stat)) after l c fd = ap (λ t. open_count fd t + 0) l.5
-in_tree tree (call.Close f) told after l c fd = let a = closes tree f after l (c f.0 (let k = is_same f.0 in omega (arith, k))) fd in omega (arith, a)
-in_tree tree (call.Edit edit) (host.Ok value.Unit) after l c fd = let g = edit_grows tree edit after l in ap (λ (o : ℕ → Option Opened). some_count (o fd) + 0) g.same_open
-in_tree tree asked (host.Ok told) after l c fd = absurd l
-in_tree tree (call.OpenRoot path flags) (host.Refused e) after l c fd = ap (λ t. open_count fd t + 0) l.1
-in_tree tree (call.OpenAt dir name flags mode) (host.Refused e) after l c fd = ap (λ t. open_count fd t + 0) l.1
-in_tree tree (call.Reopen f flags) (host.Refused e) after l c fd = ap (λ t. open_count fd t + 0) l.1
-in_tree tree (call.ReadAt f offset size) (host.Refused e) after l c fd = ap (λ t. open_count fd t + 0) l.1
-in_tree tree (call.Stat f) (host.Refused e) after l c fd = ap (λ t. open_count fd t + 0) l.1
-in_tree tree (call.Edit edit) (host.Refused e) after l c fd = ap (λ t. open_count fd t + 0) l.1
-in_tree tree asked told after l c fd = ap (λ t. open_count fd t + 0) l
+in_tree job next tree (call.OpenRoot path flags) (host.Ok (value.Fd new)) after m l c fd = let a = opens tree l.0 flags new after l.1 fd in omega (arith, a)
+in_tree job next tree (call.OpenAt dir name flags mode) (host.Ok (value.Fd new)) after m l c fd =
+    let f = found_only tree dir name flags new after m.1.1 l in
+    let a = opens tree f.0 flags new after f.3 fd in
+    omega (arith, a)
+in_tree job next tree (call.Reopen f flags) (host.Ok (value.Fd new)) after m l c fd = let a = opens tree l.0 flags new after l.2 fd in omega (arith, a)
+in_tree job next tree (call.ReadAt f offset size) (host.Ok (value.Bytes bytes)) after m l c fd = ap (λ t. open_count fd t + 0) l.1
+in_tree job next tree (call.Stat f) (host.Ok (value.Stat stat)) after m l c fd = ap (λ t. open_count fd t + 0) l.5
+in_tree job next tree (call.Close f) told after m l c fd = let a = closes tree f after l (c f.0 (let k = is_same f.0 in omega (arith, k))) fd in omega (arith, a)
+in_tree job next tree (call.Edit edit) (host.Ok value.Unit) after m l c fd = let g = edit_grows tree edit after l in ap (λ (o : ℕ → Option Opened). some_count (o fd) + 0) g.same_open
+in_tree job next tree (call.OpenRoot path flags) (host.Ok told) after m l c fd = absurd l.0
+in_tree job next tree (call.OpenAt dir name flags mode) (host.Ok told) after m l c fd = absurd l.0
+in_tree job next tree (call.Reopen f flags) (host.Ok told) after m l c fd = absurd l.0
+in_tree job next tree (call.ReadAt f offset size) (host.Ok told) after m l c fd = absurd l.0
+in_tree job next tree (call.Stat f) (host.Ok told) after m l c fd = absurd l.0
+in_tree job next tree (call.Edit edit) (host.Ok told) after m l c fd = absurd l.0
+in_tree job next tree (call.OpenRoot path flags) (host.Refused e) after m l c fd = ap (λ t. open_count fd t + 0) l.1
+in_tree job next tree (call.OpenAt dir name flags mode) (host.Refused e) after m l c fd = ap (λ t. open_count fd t + 0) l.1
+in_tree job next tree (call.Reopen f flags) (host.Refused e) after m l c fd = ap (λ t. open_count fd t + 0) l.1
+in_tree job next tree (call.ReadAt f offset size) (host.Refused e) after m l c fd = ap (λ t. open_count fd t + 0) l.1
+in_tree job next tree (call.Stat f) (host.Refused e) after m l c fd = ap (λ t. open_count fd t + 0) l.1
+in_tree job next tree (call.Edit edit) (host.Refused e) after m l c fd = ap (λ t. open_count fd t + 0) l.1
+in_tree job next tree (call.OpenRoot path flags) told after m l c fd = ap (λ t. open_count fd t + 0) l
+in_tree job next tree (call.OpenAt dir name flags mode) told after m l c fd = ap (λ t. open_count fd t + 0) l
+in_tree job next tree (call.Reopen f flags) told after m l c fd = ap (λ t. open_count fd t + 0) l
+in_tree job next tree (call.ReadAt f offset size) told after m l c fd = ap (λ t. open_count fd t + 0) l
+in_tree job next tree (call.Stat f) told after m l c fd = ap (λ t. open_count fd t + 0) l
+in_tree job next tree (call.Edit edit) told after m l c fd = ap (λ t. open_count fd t + 0) l
+in_tree job next tree asked told after m l c fd = absurd m.0

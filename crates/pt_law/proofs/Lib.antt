@@ -10,6 +10,7 @@ pub mod Requests
 pub mod Opened
 pub mod Settled
 pub mod Told
+pub mod Answering
 pub mod Edits
 pub mod Asked
 pub mod ExampleJob
@@ -18,6 +19,7 @@ pub mod Flows
 pub mod Balance
 pub mod Knowing
 pub mod Growing
+pub mod Found
 pub mod Holding
 pub mod Counting
 pub mod Numbers

@@ -65,8 +65,8 @@ may_move : (deed : Deed) (told : ActReply) (holds : List Hold) (notes : Notes) �
     MovesBy (at_job holds notes) deed told (owing_job (held deed told holds) (closings_in deed told) (notes_after notes deed told))
 may_move (Calls (call.OpenRoot path flags)) (Host (host.Ok (value.Fd fd))) holds notes m = (takes_laid (hold.Fd fd None) holds, tt, omega arith, refl)
 may_move (Calls (call.OpenAt dir name flags mode)) (Host (host.Ok (value.Fd fd))) holds notes m =
-    (((hold.Pin m.0.row dir, m.1, m.3, refl), takes_laid (hold.Fd fd None) holds), m, omega arith, refl)
-may_move (Calls (call.OpenAt dir name flags mode)) told holds notes m = (((hold.Pin m.0.row dir, m.1, m.3, refl), refl), m, omega arith, refl)
+    (((hold.Pin m.0.0.row dir, m.0.1, m.0.3, refl), takes_laid (hold.Fd fd None) holds), m, omega arith, refl)
+may_move (Calls (call.OpenAt dir name flags mode)) told holds notes m = (((hold.Pin m.0.0.row dir, m.0.1, m.0.3, refl), refl), m, omega arith, refl)
 may_move (Calls (call.Reopen fd flags)) (Host (host.Ok (value.Fd new))) holds notes m =
     (((hold.Pin m.0.row fd, m.1, m.3, refl), takes_laid (hold.Fd new None) holds), m, omega arith, refl)
 may_move (Calls (call.Reopen fd flags)) told holds notes m = (((hold.Pin m.0.row fd, m.1, m.3, refl), refl), m, omega arith, refl)
@@ -75,7 +75,8 @@ may_move (Calls (call.Stat fd)) (Host (host.Ok (value.Stat stat))) (hold.Fd same
     ((was, subst (λ (f : Fd). Replaces (hold.Fd f was) (hold.Fd f (Some stat.ids)) (hold.Fd same was ∷ holds) (hold.Fd same (Some stat.ids) ∷ holds)) m at), tt, omega arith, refl)
 may_move (Calls (call.Stat fd)) told (hold.Fd same was ∷ holds) notes m = (((hold.Fd same was, holds, here, m), refl), tt, omega arith, refl)
 may_move (Calls (call.Stat fd)) told holds notes m = absurd m
-may_move (Calls (call.Close fd)) told holds notes m = absurd m
+may_move (Calls (call.OpenRoot path flags)) told holds notes m = (refl, tt, omega arith, refl)
+may_move (Calls asked) told holds notes m = absurd m
 may_move (Changes change.Begin) told holds notes m = (refl, m, omega arith, refl)
 may_move (Changes change.Clear) (Event (event.Cleared era closings)) holds notes m = (refl, m, omega arith, refl)
 may_move (Changes change.Clear) told holds notes m = (refl, m, omega arith, refl)
@@ -119,11 +120,10 @@ may_move deed told holds notes m = (refl, tt, omega arith, refl)
 -- what could not be copied was not made, and moves nothing
 not_made : (deed : Deed) (holds : List Hold) (notes : Notes) → MayFailToCopy deed →
     owing_job (held deed NoCopy holds) (closings_in deed NoCopy) (notes_after notes deed NoCopy) ≡ at_job holds notes
-not_made (Calls (call.OpenRoot path flags)) holds notes m = refl
-not_made (Calls (call.OpenAt dir name flags mode)) holds notes m = refl
-not_made (Calls (call.Edit edit)) holds notes m = refl
+not_made (Calls (call.Stat fd)) holds notes m = absurd m
+not_made (Calls (call.Close fd)) holds notes m = absurd m
+not_made (Calls asked) holds notes m = refl
 not_made (Changes (change.Forget list)) holds notes m = refl
-not_made (Calls asked) holds notes m = absurd m
 not_made (Changes asked) holds notes m = absurd m
 
 pub may_step : (deed : Deed) (made : Option Deed) (told : ActReply) (holds : List Hold) (notes : Notes) → IsStepOf deed made told → MayMake deed holds notes →

@@ -5,6 +5,7 @@ use Rattle.pt_host.specs.Errno.{einval}
 use Rattle.pt_host.specs.declared.ids.Fd.{Fd}
 use Rattle.pt_host.specs.declared.ids.ObjIds.{ObjIds}
 use Rattle.pt_host.specs.declared.stat.Stat.{Stat}
+use Rattle.pt_host.specs.Flags.{includes, o_creat}
 use Rattle.pt_host.specs.declared.flags.OpenFlags.{OpenFlags}
 use Rattle.pt_host.specs.declared.op.KeptHostOp.TheVariants as call
 use Rattle.pt_host.specs.declared.reply.HostReply.TheVariants as host
@@ -85,11 +86,11 @@ ask_open_root asked dir flags next holds notes path f = (
 )
 
 pub ask_open_at : (asked : Request) (dir : Fd) (name : List ℕ) (flags : OpenFlags) (mode : ℕ) (row number : ℕ) (next : Fd → Tree) (holds : List Hold) (notes : Notes) (path : List Step) →
-    notes.resolved ≡ Some (record { number = number; row = row }) →
+    includes flags.0 o_creat ≡ false → notes.resolved ≡ Some (record { number = number; row = row }) →
     ((fd : Fd) (path : List Step) → Fit asked (next fd) (hold.Fd fd None ∷ hold.Pin row dir ∷ holds) (record notes { latest = Some fd }) path) →
     Fit asked (Asks (Calls (call.OpenAt dir name flags mode)) (on_fd next)) (hold.Pin row dir ∷ holds) notes path
-ask_open_at asked dir name flags mode row number next holds notes path r f = (
-  (record { number = number; row = row }, holds, r, here),
+ask_open_at asked dir name flags mode row number next holds notes path free r f = (
+  ((record { number = number; row = row }, holds, r, here), free),
   elim [
     | Host (host.Ok (value.Fd fd)) ↦ λ m. on_top asked (next fd) (hold.Fd fd None) (hold.Pin row dir ∷ holds) (record notes { latest = Some fd }) _ (f fd _)
     | Host (host.Refused errno) ↦ λ m. inr (inl refl)

@@ -63,7 +63,7 @@ fit_opened : (asked : Request) (plan : Plan) (session : Session) (parent : ObjId
     notes.era ≡ Some session.era → notes.resolved ≡ Some (record { number = number; row = row }) → Entered asked session next holds notes →
     Fit asked (opened_in plan session parent dir name next) (hold.Pin row dir ∷ holds) notes path
 fit_opened asked plan session parent row number dir name next holds notes steps e r f =
-    ask_open_at asked dir name path 0 row number (λ fd. told_of plan session parent fd next) holds notes steps r
+    ask_open_at asked dir name path 0 row number (λ fd. told_of plan session parent fd next) holds notes steps refl r
     (λ fd steps. ask_stat asked fd None _ (hold.Pin row dir ∷ holds) (record notes { latest = Some fd }) steps
     (λ stat steps. fit_numbered asked session fd stat (λ number. next (entry_of plan session.agreed parent stat number)) row dir holds (record notes { latest = Some fd }) steps e refl
     (λ number later steps m. f (entry_of plan session.agreed parent stat number) later steps m)))

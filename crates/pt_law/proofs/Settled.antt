@@ -43,6 +43,9 @@ one_given n (Calls (call.ReadAt fd offset size)) told holds after s = let k = ap
 one_given n (Calls (call.Stat fd)) (Host (host.Ok (value.Stat stat))) holds after s = let k = total_replaces (count_of n) s.1 in omega (arith, k)
 one_given n (Calls (call.Stat fd)) told holds after s = let k = ap (total (count_of n)) s.1 in omega (arith, k)
 one_given n (Calls (call.Close fd)) told holds after s = let k = total_takes (count_of n) s.1 in omega (arith, k)
+one_given n (Calls (call.OpenRoot path flags)) told holds after s = let k = ap (total (count_of n)) s in omega (arith, k)
+one_given n (Calls (call.Edit edit)) told holds after s = let k = ap (total (count_of n)) s in omega (arith, k)
+one_given n (Calls asked) told holds after s = absurd s
 one_given n (Changes (change.Resolve number)) (Event (event.Resolved row form ids mode)) holds after s = let k = total_takes (count_of n) s in omega (arith, k)
 one_given n (Changes (change.Unpin row)) told holds after s = let k = total_takes (count_of n) s.1 in omega (arith, k)
 one_given n (Changes (change.Claim era handle ids)) (Event (event.Claimed number)) holds after s = let k = total_takes (count_of n) s in omega (arith, k)

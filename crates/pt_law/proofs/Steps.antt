@@ -1,5 +1,5 @@
 -- What holds before and after each step, whatever the other jobs do.
-use Rattle.std.proofs.Common.{◌≡◌, ◌≢◌, ⊎_elim, ℕ, ◌+◌, ◌<◌, ◌≤◌, refl, sym, ap, subst, ◌∙◌, arith, Option, Some, None}
+use Rattle.std.proofs.Common.{◌≡◌, ◌≢◌, ⊎_elim, ℕ, ◌+◌, ◌<◌, ◌≤◌, refl, sym, ap, subst, ◌∙◌, arith, List, Option, Some, None}
 use Rattle.std.proofs.lemmas.Bool.{cases_eq}
 use Rattle.pt_host.specs.Words.{total, set_at}
 use Rattle.pt_host.specs.Call.{Call}
@@ -24,7 +24,8 @@ use Rattle.pt_req.specs.Deed.{Deed, Calls, Changes}
 use Rattle.pt_req.specs.Made.{Does, Made}
 use Rattle.pt_req.specs.declared.act.ActReply.{ActReply}
 use Rattle.pt_req.specs.declared.act.ActReply.TheVariants.{Event, Host, NoCopy}
-use Rattle.pt_law.specs.Discipline.{Job, Resolution, Moves, MovesIf, MovesBy}
+use Rattle.pt_req.specs.declared.hold.Hold.{Hold}
+use Rattle.pt_law.specs.Discipline.{Job, Resolution, Shifts, Moves, MovesIf, MovesBy}
 use Rattle.pt_law.specs.World.{World, Turn, TablesGo, Goes, IsLawful, settled_if, settled_by}
 use Rattle.pt_law.specs.Ledger.{open_count, kept_fds, held_by, fd_held, some_count, slot_taken, slot_given, inserted_if, inserted_as}
 use Rattle.pt_law.proofs.Flows.{fd_ended, slot_in, slot_out, IsHonest, unmade}
@@ -114,20 +115,21 @@ turned does (Some (Calls a)) NoCopy from seat t to seat' t' h = h.1
 turned does None NoCopy from seat t to seat' t' h = h.2
 turned does _ _ from seat t to seat' t' h = absurd h
 
--- reading alone tells bytes, so each other reply could be copied
+-- of what a job calls reading alone tells bytes, so each other reply could be copied
 abbrev Reads : Call → Type 0
 Reads (call.ReadAt fd offset size) = Unit {0}
 Reads a = ⊥
 
-no_bytes : (a : Call) (r : HostReply) (before after : ℕ) → (Reads a → ⊥) → ReplyHoldsBytes r → IsAllowed before a r after → ⊥
-no_bytes (call.OpenRoot path flags) (host.Ok (value.Bytes bytes)) before after n h f = f
-no_bytes (call.OpenAt dir name flags mode) (host.Ok (value.Bytes bytes)) before after n h f = f
-no_bytes (call.Reopen fd flags) (host.Ok (value.Bytes bytes)) before after n h f = f
-no_bytes (call.ReadAt fd offset size) (host.Ok (value.Bytes bytes)) before after n h f = n tt
-no_bytes (call.Stat fd) (host.Ok (value.Bytes bytes)) before after n h f = f
-no_bytes (call.Close fd) (host.Ok (value.Bytes bytes)) before after n h f = f
-no_bytes (call.Edit edit) (host.Ok (value.Bytes bytes)) before after n h f = f
-no_bytes _ _ before after n h f = absurd h
+no_bytes : (a : Call) (r : HostReply) (before after : ℕ) (holds next : List Hold) → (Reads a → ⊥) → Shifts holds (Calls a) NoCopy next → ReplyHoldsBytes r → IsAllowed before a r after → ⊥
+no_bytes (call.OpenRoot path flags) (host.Ok (value.Bytes bytes)) before after holds next n s h f = f
+no_bytes (call.OpenAt dir name flags mode) (host.Ok (value.Bytes bytes)) before after holds next n s h f = f
+no_bytes (call.Reopen fd flags) (host.Ok (value.Bytes bytes)) before after holds next n s h f = f
+no_bytes (call.ReadAt fd offset size) (host.Ok (value.Bytes bytes)) before after holds next n s h f = n tt
+no_bytes (call.Stat fd) (host.Ok (value.Bytes bytes)) before after holds next n s h f = f
+no_bytes (call.Close fd) (host.Ok (value.Bytes bytes)) before after holds next n s h f = f
+no_bytes (call.Edit edit) (host.Ok (value.Bytes bytes)) before after holds next n s h f = f
+no_bytes asked (host.Ok (value.Bytes bytes)) before after holds next n s h f = s
+no_bytes _ _ before after holds next n s h f = absurd h
 
 at_most_one : (fd : ℕ) (tree : Tree) → open_count fd tree ≤ 1
 at_most_one fd tree = go (tree.opened fd)
@@ -145,6 +147,7 @@ closed_held job (call.ReadAt fd offset size) told after m f l = absurd (omega ar
 closed_held job (call.Stat fd) told after m f l = absurd (omega arith)
 closed_held job (call.Edit edit) told after m f l = absurd (omega arith)
 closed_held job (call.Close fd) told after m f l = let a = total_takes (fd_held f) m.0.1 in omega (arith, a, l)
+closed_held job asked told after m f l = absurd m.0
 
 keeps_event : (bound : ℕ) (base had : ℕ → ℕ) (w : World) (js : ℕ → Job) (j : ℕ) (e : Change) (r : EventReply) (t' : Tables) (after : Job) → j < bound → Inv bound base had w js → Happens w.tables e r t' →
     MovesBy (js j) (Changes e) (Event r) after →
@@ -175,7 +178,7 @@ keeps_host : (bound : ℕ) (base had : ℕ → ℕ) (w : World) (js : ℕ → Jo
     LawfulStep w.tree seat a r tree' seat' → MovesBy (js j) (Calls a) (Host r) after →
     Inv bound base (λ n. had n + inserted_as n (Calls a) (Host r)) (record { tree = tree'; tables = w.tables; past = settled_by w.past j (Calls a) (Host r) w.tables.next_row tree' }) (set_at j after js)
 keeps_host bound base had w js j a r seat seat' tree' after lt v l m =
-    let opened = in_tree w.tree a r tree' l.changes (λ f q. let x = closed_held (js j) a (Host r) after m f q in let y = v.fds f in let z = part (fd_held f) js bound j lt in let u = at_most_one f w.tree in omega (arith, x, y, z, u)) in
+    let opened = in_tree (js j) after w.tree a r tree' m l.changes (λ f q. let x = closed_held (js j) a (Host r) after m f q in let y = v.fds f in let z = part (fd_held f) js bound j lt in let u = at_most_one f w.tree in omega (arith, x, y, z, u)) in
     let fds : (fd : ℕ) → open_count fd tree' ≡ kept_fds fd w.tables + held_by bound (fd_held fd) (set_at j after js) + base fd = (λ fd.
     let x = v.fds fd in
     let y = (handed (js j).holds (Calls a) (Host r) after.holds m.0).fds fd in
@@ -215,7 +218,7 @@ keeps_bytes bound base had w js j (call.ReadAt fd offset size) (host.Ok (value.B
     let same : next ≡ record { tree = next.tree; tables = w.tables; past = w.past } = λ i. record { tree = next.tree; tables = t i; past = p i } in
     rw same (keeps_host bound base had w js j (call.ReadAt fd offset size) (host.Ok (value.Bytes bytes)) seat seat' next.tree after lt v l m)
 keeps_bytes bound base had w js j (call.ReadAt fd offset size) r seat seat' next after faults later lt v h f l t p m = absurd h
-keeps_bytes bound base had w js j a r seat seat' next after faults later lt v h f l t p m = absurd (no_bytes a r faults later (λ no. no) h f)
+keeps_bytes bound base had w js j a r seat seat' next after faults later lt v h f l t p m = absurd (no_bytes a r faults later (js j).holds after.holds (λ no. no) m.0 h f)
 
 keeps_by : (bound : ℕ) (base had : ℕ → ℕ) (w : World) (js : ℕ → Job) (j : ℕ) (deed : Option Deed) (told : ActReply) (seat seat' : HostSeat) (next : World) (after : Job) → j < bound → Inv bound base had w js →
     Made IsLawful deed told w.tree seat w.tables next.tree seat' next.tables → next.past ≡ settled_if w.past j deed told w.tables.next_row next.tree → MovesIf (js j) deed told after →

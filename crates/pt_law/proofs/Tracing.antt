@@ -18,6 +18,7 @@ use Rattle.pt_law.proofs.Lists.{at_each, set_at_same}
 use Rattle.pt_law.proofs.Knowing.{one_object}
 use Rattle.pt_law.proofs.Steps.{Inv}
 use Rattle.pt_law.proofs.Laws.{reach}
+use Rattle.pt_law.proofs.Found.{found_only}
 use Rattle.pt_law.proofs.Pinned.{pinned_open}
 use Rattle.pt_law.proofs.Next.{owner_of, next_move}
 use Rattle.pt_law.proofs.Cuts.{runs_append}
@@ -98,8 +99,8 @@ traced_by : (bound : ℕ) (base had : ℕ → ℕ) (start : World) (turns : List
 traced_by bound base had start turns w js j (Some (Calls (call.OpenAt dir name flags mode))) (Host (host.Ok (value.Fd fd))) next after lt v r g m t =
     let turn = turn_by j (Some (Calls (call.OpenAt dir name flags mode))) (Host (host.Ok (value.Fd fd))) in
     let x = object_of (next.tree.opened fd.0) in
-    let l = g.made.0.0.changes in
-    let fit = m.1 in
+    let l = found_only w.tree dir name flags fd next.tree m.1.1 g.made.0.0.changes in
+    let fit = m.1.0 in
     let p = pinned_open bound base had w js j fit.0.row dir lt v fit.3 in
     let here : l.2.0 ≡ p.0 = one_object w.tree dir l.2.0 p.0 l.2.1 p.1 in
     let now : x ≡ Some l.0 = ap (λ (z : Tree). object_of (z.opened fd.0)) l.3.adds ∙ ap object_of (set_at_same w.tree.opened fd.0 (Some (record { object = l.0; path_only = includes flags.0 o_path }))) in

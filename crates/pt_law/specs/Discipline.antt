@@ -1,6 +1,7 @@
 -- What a job holds, owes and knows between its steps, whichever request it serves.
 use Rattle.std.specs.Prelude.{◌≡◌, ℕ, ◌+◌, ◌-◌, ◌<◌, ◌==◌, Bool, true, false, if◌then◌else◌, List, [], ◌∷◌, ◌++◌, Option, None, Some}
 use Rattle.pt_host.specs.Words.{Takes, Replaces}
+use Rattle.pt_host.specs.Flags.{includes, o_creat}
 use Rattle.pt_host.specs.declared.ids.Fd.{Fd}
 use Rattle.pt_host.specs.declared.ids.ObjIds.{ObjIds}
 use Rattle.pt_host.specs.declared.op.KeptHostOp.TheVariants as call
@@ -32,7 +33,8 @@ Knows holds fd = (one : Hold) × (rest : List Hold) × Takes one holds rest × N
 abbrev pub Gains : Hold → List Hold → List Hold → Type 0
 Gains one holds after = Takes one after holds
 
--- What is held before and after a deed, by its reply; the order is of no account. What gives a hold back ends it, whatever it is told.
+-- What is held before and after a deed, by its reply; the order is of no account. What gives a hold back ends it, whatever it is told. No job of
+-- today makes another call.
 abbrev pub Shifts : List Hold → Deed → ActReply → List Hold → Type 0
 Shifts holds (Calls (call.OpenRoot path flags)) (Host (host.Ok (value.Fd fd))) after = Gains (hold.Fd fd None) holds after
 Shifts holds (Calls (call.OpenAt dir name flags mode)) (Host (host.Ok (value.Fd fd))) after = Knows holds dir × Gains (hold.Fd fd None) holds after
@@ -43,6 +45,9 @@ Shifts holds (Calls (call.ReadAt fd offset size)) told after = Knows holds fd ×
 Shifts holds (Calls (call.Stat fd)) (Host (host.Ok (value.Stat stat))) after = (was : Option ObjIds) × Replaces (hold.Fd fd was) (hold.Fd fd (Some stat.ids)) holds after
 Shifts holds (Calls (call.Stat fd)) told after = Knows holds fd × (after ≡ holds)
 Shifts holds (Calls (call.Close fd)) told after = (was : Option ObjIds) × Takes (hold.Fd fd was) holds after
+Shifts holds (Calls (call.OpenRoot path flags)) told after = after ≡ holds
+Shifts holds (Calls (call.Edit edit)) told after = after ≡ holds
+Shifts holds (Calls asked) told after = ⊥
 Shifts holds (Changes (change.Resolve number)) (Event (event.Resolved row form ids mode)) after = Gains (hold.Pin row (fd_of form)) holds after
 Shifts holds (Changes (change.Unpin row)) told after = (fd : Fd) × Takes (hold.Pin row fd) holds after
 Shifts holds (Changes (change.Claim era handle ids)) (Event (event.Claimed number)) after = Gains (hold.Count era number) holds after
@@ -142,12 +147,12 @@ PinsLatest job fd = (was : Resolution) × (rest : List Hold) × (job.notes.resol
 
 -- Whether the job may make this deed, what it holds aside. A job begins once, in the era that there is or in a new one; a number is asked or
 -- inserted only for what was opened last, in the era of the job; an inserted one was drawn; number 1 is only for the first root that was opened;
--- a name is opened in what was resolved last, and that is opened anew, while its row is pinned; a handle that was drawn is inserted for it; and a closing is taken only where
--- one is owed.
+-- a name is opened in what was resolved last, and no object is made under it; what was resolved last is opened anew, while its row is pinned; a handle
+-- that was drawn is inserted for it; and a closing is taken only where one is owed.
 abbrev pub Fits : Job → Deed → Type 0
 Fits job (Changes change.Begin) = job.notes.era ≡ None
 Fits job (Changes change.Clear) = job.notes.era ≡ None
-Fits job (Calls (call.OpenAt dir name flags mode)) = PinsLatest job dir
+Fits job (Calls (call.OpenAt dir name flags mode)) = PinsLatest job dir × (includes flags.0 o_creat ≡ false)
 Fits job (Calls (call.Reopen fd flags)) = PinsLatest job fd
 Fits job (Changes (change.InsertHandle era handle number fd)) =
     (row : ℕ) × (job.notes.era ≡ Some era) × (job.notes.handle ≡ Some handle) × (job.notes.resolved ≡ Some (record { number = number; row = row }))

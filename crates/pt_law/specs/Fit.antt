@@ -15,14 +15,16 @@ use Rattle.pt_law.specs.Discipline.{Knows, Notes, notes_after, Fits, at_job}
 use Rattle.pt_law.specs.Told.{MayBeTold}
 use Rattle.pt_law.specs.Cause.{IsCaused}
 
--- A request's own part may make this deed, whatever it is then told. What gives a hold back, and the closings, are the frame's.
+-- A request's own part may make this deed, whatever it is then told. What gives a hold back, and the closings, are the frame's; no request of today makes
+-- another call.
 abbrev pub MayMake : Deed → List Hold → Notes → Type 0
 MayMake (Calls (call.OpenAt dir name flags mode)) holds notes = Fits (at_job holds notes) (Calls (call.OpenAt dir name flags mode))
 MayMake (Calls (call.Reopen fd flags)) holds notes = Fits (at_job holds notes) (Calls (call.Reopen fd flags))
 MayMake (Calls (call.ReadAt fd offset size)) holds notes = Knows holds fd
 MayMake (Calls (call.Stat fd)) (hold.Fd same was ∷ holds) notes = same ≡ fd
 MayMake (Calls (call.Stat fd)) holds notes = ⊥
-MayMake (Calls (call.Close fd)) holds notes = ⊥
+MayMake (Calls (call.OpenRoot path flags)) holds notes = Unit {0}
+MayMake (Calls asked) holds notes = ⊥
 MayMake (Changes change.Begin) holds notes = notes.era ≡ None
 MayMake (Changes change.Clear) holds notes = notes.era ≡ None
 MayMake (Changes (change.Claim era handle ids)) holds notes = Fits (at_job holds notes) (Changes (change.Claim era handle ids))

@@ -1,9 +1,6 @@
-ghost use Rattle.std.specs.Prelude.{◌≡◌, None};
-ghost use Rattle.std.proofs.Common.{sym, subst, arith};
-ghost use Rattle.pt_host.specs.Promises.{IsAllowed};
-ghost use Rattle.pt_host.specs.declared.reply.HostReply.{HostReply};
-ghost use Rattle.pt_host.specs.Errno.{eio};
-ghost use Rattle.pt_host.specs.declared.reply.HostReply.TheVariants as reply;
+ghost use Rattle.std.specs.Prelude.{None};
+ghost use Rattle.pt_host.specs.Contents.{no_contents};
+ghost use Rattle.pt_host.specs.Promises.{IsPromised};
 
 use crate::{
     any_request, each_request, edit_ends, every_host, every_run, every_told_run, forgotten_nothing,
@@ -11,22 +8,27 @@ use crate::{
 };
 use pt_host::{Errno, Host, HostOp, HostReply, HostSeat};
 
-/// A host that refuses every call.
+/// A host that refuses every call but those of the seat.
 struct Refusing;
 
 impl Host for Refusing {
     ghost tree = { λ host. None };
 
+    ghost contents = { λ host. no_contents };
+
     ghost faults = { λ host. 0 };
 
-    ghost does = { λ host seat call told after seat_after. (told ≡ reply.Refused eio) × (after ≡ host) × (seat_after ≡ seat) };
+    ghost does = { λ host seat call told after seat_after. IsPromised 0 seat call told 0 seat_after };
 
+    #[tactic(auto, using(crate::proofs::Answering::plain))]
     fn call(&mut self, seat: &mut HostSeat, op: &HostOp<'_>) -> HostReply {
-        HostReply::Refused(Errno::EIO)
+        match seat.answer(op) {
+            Some(told) => told,
+            None => HostReply::Refused(Errno::EIO),
+        }
     }
 
-    ghost promised = { λ host seat call told after seat_after does.
-        record { never_falls = Prim.omega arith; allowed = subst (λ (t : HostReply). IsAllowed 0 call t 0) (sym does.0) tt; same_seat = does.2 } };
+    ghost promised = { λ host seat call told after seat_after does. does };
 
     ghost lawful = { λ host seat call told after seat_after does before is. absurd (Prim.cc) };
 }

@@ -1,12 +1,11 @@
 -- A script alone determines its report, want of memory aside.
-use Rattle.std.proofs.Common.{◌≡◌, ◌≢◌, ℕ, ◌≤◌, List, [], ◌∷◌, ◌∙◌, Option, Some, None, Ok, refl, ap, sym, subst, map, arith}
+use Rattle.std.proofs.Common.{◌≡◌, ◌≢◌, ℕ, ◌≤◌, List, [], ◌∷◌, ◌∙◌, Option, Some, None, Ok, refl, ap, sym, subst, arith}
 use Rattle.pt_host.specs.declared.reply.HostReply.{HostReply}
 use Rattle.pt_host.specs.declared.reply.HostReply.TheVariants as reply
 use Rattle.pt_host.specs.declared.reply.HostValue.TheVariants as value
 use Rattle.pt_host.specs.declared.seat.HostSeat.{HostSeat}
 use Rattle.pt_tree.specs.Does.{Does}
 use Rattle.pt_tree.specs.State.{State}
-use Rattle.pt_tree.specs.Start.{StartsAs, start_with}
 use Rattle.pt_tree.specs.Laws.Determined.{determined as host_determined}
 use Rattle.pt_tree.specs.declared.spec.TreeLine.{TreeLine}
 use Rattle.pt_session.specs.LiveAfter.{IsLiveAbove, IsHandleAbove, IsLiveAfter, IsHandleAfter}
@@ -28,11 +27,13 @@ use Rattle.pt_fs.specs.Keeps.{turns_of}
 use Rattle.pt_fs.specs.declared.trace.TraceStep.{TraceStep}
 use Rattle.pt_fs.proofs.Determined.{turns_determined}
 use Rattle.pt_fs.proofs.Laws.{host_runs}
+use Rattle.pt_main.specs.Begins.{planned_all, BeginsAs}
 use Rattle.pt_main.specs.Configured.{IsConfigured, configured}
 use Rattle.pt_main.specs.Determined.{IsFull, IsOnly, DeterminesReport}
-use Rattle.pt_main.specs.Run.{start_seat, job_of, IsOpened, IsRunFrom, IsReportOf, AreLive, report_of}
+use Rattle.pt_main.specs.Run.{start_seat, jobs_of, IsOpened, IsRunFrom, IsReportOf, AreLive, report_of}
 use Rattle.pt_main.specs.Script.{Begun}
 use Rattle.pt_main.specs.TableLines.{AllAbove}
+use Rattle.pt_main.specs.declared.line.PlannedFault.{PlannedFault}
 use Rattle.pt_main.specs.declared.line.ScriptJob.{ScriptJob}
 use Rattle.pt_main.specs.declared.settings.Settings.{Settings}
 
@@ -78,9 +79,9 @@ handles_one tables agree above (Some one) (Some other) h k =
     let same : h.0.0 ≡ k.0.0 = (takes_one AreHandlesApart (HasHandle h.0.0.handle) (handle_one h.0.0.handle) agree.handles_apart h.0.1.1 k.0.1.1 (h.0.2.0, refl) (k.0.2.0, e)).0 in
     pair_same one other (sym c ∙ sym e ∙ d) (sym h.0.4 ∙ ap (λ (row : HandleRow). row.number) same ∙ k.0.4)
 
--- the lines tell one tree
-start_one : (lines : List TreeLine) (start other : State) → StartsAs lines start → StartsAs lines other → start ≡ other
-start_one lines start other h k = let e : h.0 ≡ k.0 = let f = h.1 in let g = k.1 in cc in h.2 ∙ ap start_with e ∙ sym k.2
+-- the lines tell one host
+start_one : (lines : List TreeLine) (faults : List PlannedFault) (start other : State) → BeginsAs lines faults start → BeginsAs lines faults other → start ≡ other
+start_one lines faults start other h k = let e : h.0 ≡ k.0 = let f = h.1 in let g = k.1 in cc in h.2 ∙ ap (planned_all faults) e ∙ sym k.2
 
 default_one : (config other : Config) → IsDefault config → IsDefault other → config ≡ other
 default_one config other d e = λ i. record {
@@ -114,7 +115,8 @@ opened_one : (settings : Settings) (before : State) (fs other : FileSystem) (aft
 opened_one settings before fs other after after' h k =
     let told = h.call.0 in
     let told' = k.call.0 in
-    let same = host_determined before after after' start_seat start_seat start_seat opens_root told told' (made_memory told fs h.call.2) (made_memory told' other k.call.2) h.call.1 k.call.1 in
+    let seat = start_seat settings in
+    let same = host_determined before after after' seat seat seat opens_root told told' (made_memory told fs h.call.2) (made_memory told' other k.call.2) h.call.1 k.call.1 in
     let made : IsMadeBy told (Ok other) = subst (λ (t : HostReply). IsMadeBy t (Ok other)) (sym same.0) k.call.2 in
     let root : fs.root ≡ other.root = made_root told fs other h.call.2 made in
     let config : fs.plan.config ≡ other.plan.config = configured_one settings fs.plan.config other.plan.config h.plan k.plan in
@@ -123,7 +125,7 @@ opened_one settings before fs other after after' h k =
 
 -- the run as one of jobs in order
 ran_in_order : (settings : Settings) (start : State) (lines : List ScriptJob) (schedule : List ℕ) (trace : List TraceStep) (answers : List Answer) (tables : Tables) (host : State) → (run : IsRunFrom settings start lines schedule trace answers tables host) →
-    FoundMemory trace answers → RanInOrder Does run.fs.plan schedule (map job_of lines) run.opened_host run.fs.tables trace answers host run.seats tables
+    FoundMemory trace answers → RanInOrder Does run.fs.plan schedule (jobs_of settings lines) run.opened_host run.fs.tables trace answers host run.seats tables
 ran_in_order settings start lines schedule trace answers tables host run found = record { steps = run.steps; order = run.order; answers_each = run.answers_each; memory = found }
 
 end_agrees : (settings : Settings) (start : State) (lines : List ScriptJob) (schedule : List ℕ) (trace : List TraceStep) (answers : List Answer) (tables : Tables) (host : State) → IsRunFrom settings start lines schedule trace answers tables host → Agree tables
@@ -138,11 +140,11 @@ runs_one settings start lines schedule trace trace' answers answers' tables tabl
     let same = opened_one settings start run.fs run'.fs run.opened_host run'.opened_host run.opened run'.opened in
     let here = ran_in_order settings start lines schedule trace answers tables host run found in
     let there = ran_in_order settings start lines schedule trace' answers' tables' host' run' found' in
-    let moved : RanInOrder Does run.fs.plan schedule (map job_of lines) run.opened_host run.fs.tables trace' answers' host' run'.seats tables' =
-    subst (λ (fs : FileSystem). RanInOrder Does fs.plan schedule (map job_of lines) run.opened_host fs.tables trace' answers' host' run'.seats tables') (sym same.made)
-    (subst (λ (state : State). RanInOrder Does run'.fs.plan schedule (map job_of lines) state run'.fs.tables trace' answers' host' run'.seats tables') (sym same.hosts) there) in
+    let moved : RanInOrder Does run.fs.plan schedule (jobs_of settings lines) run.opened_host run.fs.tables trace' answers' host' run'.seats tables' =
+    subst (λ (fs : FileSystem). RanInOrder Does fs.plan schedule (jobs_of settings lines) run.opened_host fs.tables trace' answers' host' run'.seats tables') (sym same.made)
+    (subst (λ (state : State). RanInOrder Does run'.fs.plan schedule (jobs_of settings lines) state run'.fs.tables trace' answers' host' run'.seats tables') (sym same.hosts) there) in
     let agree : Agree run.fs.tables = subst Agree (sym run.opened.tables) (agree_law run.fs.plan.config.guest_fd_limit [] (empty_tables run.fs.plan.config.guest_fd_limit) refl) in
-    turns_determined Does host_determined run.fs.plan schedule (map job_of lines) run.opened_host run.fs.tables trace trace' answers answers' host host' run.seats run'.seats tables tables' agree here moved
+    turns_determined Does host_determined run.fs.plan schedule (jobs_of settings lines) run.opened_host run.fs.tables trace trace' answers answers' host host' run.seats run'.seats tables tables' agree here moved
 
 report_same : (trace trace' : List TraceStep) (answers answers' : List Answer) (lives lives' handles handles' : List (ℕ × ℕ)) (seats seats' : List HostSeat) (tables tables' : Tables) (host host' : State) →
     AreOneRun trace trace' answers answers' host host' seats seats' tables tables' → lives ≡ lives' → handles ≡ handles' → report_of trace answers lives handles tables host ≡ report_of trace' answers' lives' handles' tables' host'
@@ -151,8 +153,8 @@ report_same trace trace' answers answers' lives lives' handles handles' seats se
 determined : (bytes report other : List ℕ) (ran : IsReportOf bytes report) (again : IsReportOf bytes other) → IsFull ran → IsFull again → report ≡ other
 determined bytes report other ran again full full' =
     let begun : again.begun ≡ ran.begun = let e = ran.script in let f = again.script in cc in
-    let starts : StartsAs ran.begun.tree again.start = subst (λ (b : Begun). StartsAs b.tree again.start) begun again.starts in
-    let start : again.start ≡ ran.start = start_one ran.begun.tree again.start ran.start starts ran.starts in
+    let starts : BeginsAs ran.begun.tree ran.begun.faults again.start = subst (λ (b : Begun). BeginsAs b.tree b.faults again.start) begun again.starts in
+    let start : again.start ≡ ran.start = start_one ran.begun.tree ran.begun.faults again.start ran.start starts ran.starts in
     let run : IsRunFrom ran.begun.settings ran.start ran.begun.jobs ran.begun.order again.trace again.answers again.tables again.host =
     subst (λ (s : State). IsRunFrom ran.begun.settings s ran.begun.jobs ran.begun.order again.trace again.answers again.tables again.host) start
     (subst (λ (b : Begun). IsRunFrom b.settings again.start b.jobs b.order again.trace again.answers again.tables again.host) begun again.run) in

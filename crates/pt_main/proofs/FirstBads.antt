@@ -7,7 +7,8 @@ use Rattle.pt_main.specs.Script.{Begun, is_empty, may_stand, added, keeps_tree, 
 use Rattle.pt_main.specs.FirstBad.{whole_lines, BeginScript, NamesFirstBad}
 use Rattle.pt_main.specs.Line.{line_of}
 use Rattle.pt_main.specs.declared.line.Line.{Line}
-use Rattle.pt_main.specs.declared.line.Line.TheVariants.{Set, Tree, Job, Order, End}
+use Rattle.pt_main.specs.declared.line.Line.TheVariants.{Set, Tree, Fault, Job, Order, End}
+use Rattle.pt_main.specs.declared.line.PlannedFault.{PlannedFault}
 use Rattle.pt_main.specs.declared.settings.Settings.{Settings}
 use Rattle.pt_main.specs.declared.line.ScriptJob.{ScriptJob}
 
@@ -88,7 +89,7 @@ no_clash false e f = cc
 
 -- before the first line of a tree nothing but settings stands
 abbrev OnlySets : Begun → Type 0
-OnlySets begun = is_empty begun.tree ≡ true → (begun.ended ≡ false) × (is_empty begun.jobs ≡ true) × (is_empty begun.order ≡ true)
+OnlySets begun = is_empty begun.tree ≡ true → (begun.ended ≡ false) × (is_empty begun.faults ≡ true) × (is_empty begun.jobs ≡ true) × (is_empty begun.order ≡ true)
 
 only_sets : (begun after : Begun) (text : List ℕ) → OnlySets begun → with_text begun text ≡ Some after → OnlySets after
 only_sets begun after text start is = go (line_of text) is
@@ -96,6 +97,7 @@ only_sets begun after text start is = go (line_of text) is
     at : (line : Line) → may_stand begun line ≡ true → OnlySets (added begun line)
     at (Set setting) may = start
     at (Tree y) may = λ e. absurd (cc (sym (is_empty-push begun.tree y) ∙ e))
+    at (Fault fault) may = λ e. absurd (no_clash (is_empty begun.tree) (and_true (not (is_empty begun.tree)) _ (and_true (not begun.ended) _ may).1).0 e)
     at (Job job) may = λ e. absurd (no_clash (is_empty begun.tree) (and_true (not (is_empty begun.tree)) _ (and_true (not begun.ended) _ may).1).0 e)
     at (Order places) may = λ e. absurd (no_clash (is_empty begun.tree) (and_true (not (is_empty begun.tree)) _ (and_true (not begun.ended) _ may).1).0 e)
     at End may = λ e. absurd (no_clash (is_empty begun.tree) (and_true (not begun.ended) _ may).1 e)
@@ -121,14 +123,14 @@ open_end false false e f = refl
 open_end true b e f = cc
 open_end false true e f = cc
 
-abbrev begun_of : Settings → List TreeLine → List ScriptJob → List ℕ → Bool → Begun
-begun_of settings tree jobs order ended = record { settings = settings; tree = tree; jobs = jobs; order = order; ended = ended }
+abbrev begun_of : Settings → List TreeLine → List PlannedFault → List ScriptJob → List ℕ → Bool → Begun
+begun_of settings tree faults jobs order ended = record { settings = settings; tree = tree; faults = faults; jobs = jobs; order = order; ended = ended }
 
 abbrev settings_alone : Settings → Begun
-settings_alone settings = begun_of settings [] [] [] false
+settings_alone settings = begun_of settings [] [] [] [] false
 
-same_begun : (begun : Begun) → begun.tree ≡ [] → begun.jobs ≡ [] → begun.order ≡ [] → begun.ended ≡ false → settings_alone begun.settings ≡ begun
-same_begun begun tree jobs order ended = λ i. begun_of begun.settings (sym tree i) (sym jobs i) (sym order i) (sym ended i)
+same_begun : (begun : Begun) → begun.tree ≡ [] → begun.faults ≡ [] → begun.jobs ≡ [] → begun.order ≡ [] → begun.ended ≡ false → settings_alone begun.settings ≡ begun
+same_begun begun tree faults jobs order ended = λ i. begun_of begun.settings (sym tree i) (sym faults i) (sym jobs i) (sym order i) (sym ended i)
 
 empty_is : {A : Type 0} (xs : List A) → is_empty xs ≡ true → xs ≡ []
 empty_is [] e = refl
@@ -140,14 +142,14 @@ CanEnd after = (more : List (List ℕ)) × (last : Begun) × (fold after more �
 -- settings can be followed by a tree and an end
 settings_end : (settings : Settings) → CanEnd (settings_alone settings)
 settings_end settings =
-    (codes "mount 1 1 / 1" ∷ codes "end" ∷ [], record { settings = settings; tree = Mount 1 1 (47 ∷ []) true ∷ []; jobs = []; order = []; ended = true }, refl, refl)
+    (codes "mount 1 1 / 1" ∷ codes "end" ∷ [], record { settings = settings; tree = Mount 1 1 (47 ∷ []) true ∷ []; faults = []; jobs = []; order = []; ended = true }, refl, refl)
 
 -- good lines can be ended
 ends : (after : Begun) → OnlySets after → CanEnd after
 ends after only = go after.ended refl
   where
     tree_at : (b : Bool) → after.ended ≡ false → is_empty after.tree ≡ b → CanEnd after
-    tree_at true e none = let all = only none in subst CanEnd (same_begun after (empty_is after.tree none) (empty_is after.jobs all.1) (empty_is after.order all.2) e) (settings_end after.settings)
+    tree_at true e none = let all = only none in subst CanEnd (same_begun after (empty_is after.tree none) (empty_is after.faults all.1) (empty_is after.jobs all.2) (empty_is after.order all.3) e) (settings_end after.settings)
     tree_at false e some = (
       codes "end" ∷ [],
       record after { ended = true },
@@ -161,7 +163,7 @@ ends after only = go after.ended refl
 
 begins : (lines : List (List ℕ)) (after : Begun) → fold nothing lines ≡ Some after → BeginScript lines
 begins lines after is =
-    let e = ends after (fold-only_sets lines nothing after (λ none. (refl, refl, refl)) is) in
+    let e = ends after (fold-only_sets lines nothing after (λ none. (refl, refl, refl, refl)) is) in
     (e.0, (e.1, script-from_fold (lines ++ e.0) 1 nothing e.1 (append-fold lines e.0 nothing after e.1 is e.2) e.3))
 
 -- the first bad line of a text that is no script

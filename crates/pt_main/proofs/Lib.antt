@@ -7,5 +7,6 @@ pub mod Outputs
 pub mod PairLines
 pub mod CommandWords
 pub mod FirstBads
+pub mod Rooted
 pub mod Opening
 pub mod Determined

@@ -1,43 +1,47 @@
--- The host's tree as the jobs of a script find it.
-use Rattle.std.proofs.Common.{◌≡◌, ◌<◌, ◌⊎◌, inl, inr, ◌∙◌, ℕ, List, [], ◌∷◌, length, Option, Some, Result, Ok, Err, ap, subst, arith, slice_get}
+-- The host's tree as the jobs of a script find it, and why there is none.
+use Rattle.std.proofs.Common.{◌≡◌, ◌⊎◌, inl, inr, ◌∙◌, ℕ, List, Option, Some, None, Result, Ok, Err, refl, ap, sym, subst, slice_get}
 use Rattle.pt_host.specs.Tree.{IsWellFormed}
 use Rattle.pt_host.specs.declared.ids.Errno.{Errno}
 use Rattle.pt_host.specs.declared.ids.Fd.{Fd}
+use Rattle.pt_host.specs.declared.seat.HostSeat.{HostSeat}
 use Rattle.pt_host.specs.declared.reply.HostReply.{HostReply}
 use Rattle.pt_host.specs.declared.reply.HostReply.TheVariants as reply
 use Rattle.pt_host.specs.declared.reply.HostValue.TheVariants as value
 use Rattle.pt_tree.specs.Calls.{opening_of}
+use Rattle.pt_tree.specs.Does.{Answers, AnswersCall}
+use Rattle.pt_tree.specs.Faults.{failure_of}
 use Rattle.pt_tree.specs.Slots.{least_free}
-use Rattle.pt_tree.specs.Start.{nodes_of, StartsAs}
-use Rattle.pt_tree.specs.Table.{answer}
+use Rattle.pt_tree.specs.State.{State, tree_of}
+use Rattle.pt_tree.specs.Table.{Outcome, answer}
 use Rattle.pt_tree.specs.declared.node.Node.{Node}
-use Rattle.pt_tree.specs.declared.spec.TreeLine.{TreeLine}
-use Rattle.pt_tree.proofs.StartNodes.{sound_nodes}
+use Rattle.pt_tree.specs.Laws.Lawful.{does_lawful}
+use Rattle.pt_tree.specs.Laws.WellFormed.{well_formed}
 use Rattle.pt_iface.specs.declared.answer.Refusal.{Refusal}
 use Rattle.pt_iface.specs.declared.answer.Refusal.TheVariants as refusal
-use Rattle.pt_fs.proofs.Ended.{at_below}
-use Rattle.pt_tree.specs.State.{State, tree_of}
-use Rattle.pt_tree.specs.Laws.Lawful.{lawful_step}
-use Rattle.pt_tree.specs.Laws.WellFormed.{well_formed}
 use Rattle.pt_fs.specs.FileSystem.{FileSystem, IsMadeBy, opens_root, path}
-use Rattle.pt_main.specs.Run.{IsOpened, IsRefused, IsNoReport, start_seat}
-use Rattle.pt_main.specs.declared.status.Status.TheVariants as status
+use Rattle.pt_main.specs.Run.{IsOpened, IsRefused, IsNotOpened, IsNoReport, start_seat}
+use Rattle.pt_main.specs.Scan.{IsScriptOf}
+use Rattle.pt_main.proofs.Rooted.{begun_root}
+use Rattle.pt_main.specs.declared.line.ScriptJob.{ScriptJob}
 use Rattle.pt_main.specs.declared.settings.Settings.{Settings}
+use Rattle.pt_main.specs.declared.status.Status.{Status}
+use Rattle.pt_main.specs.declared.status.Status.TheVariants as status
+
+some_same : {A : Type 0} (x y : A) → Some x ≡ Some y → x ≡ y
+some_same x y e = cc
 
 -- it is well formed, since the host was sound as the file system was made
 pub opened_well : (settings : Settings) (before : State) (fs : FileSystem) (after : State) → IsOpened settings before fs after → IsWellFormed (tree_of after)
 opened_well settings before fs after opened =
-    let does = opened.call.1 in
-    (lawful_step before _ _ opened.call.0 after _ does).well_formed (well_formed before does.sound)
+    let call = opened.call in
+    let seat = start_seat settings in
+    let lawful = does_lawful before seat opens_root call.0 after seat call.1 (tree_of before) refl in
+    subst IsWellFormed (sym (some_same (tree_of after) lawful.0 lawful.1)) (lawful.2.well_formed (well_formed before call.1.sound))
 
--- the host's root is found and opened, since a tree has one
-root_opens : (start : State) (numbers : ℕ → ℕ) (node : Node) → slice_get start.nodes 0 ≡ Some node →
-    (fd : Fd) × ((answer start numbers start_seat opens_root).0 ≡ reply.Ok (value.Fd fd))
-root_opens start numbers node is = (record { 0 = least_free start.slots }, ap (λ (found : Option Node). (opening_of start start_seat path 0 found).0) is)
-
-some_nodes : (lines : List TreeLine) (nodes : List Node) → nodes_of lines ≡ Ok nodes → 0 < length nodes
-some_nodes [] nodes is = cc
-some_nodes (line ∷ lines) nodes is = let same = (sound_nodes (line ∷ lines) nodes is).1 in omega arith
+-- the host's root is found and opened, where there is one
+root_opens : (start : State) (numbers : ℕ → ℕ) (seat : HostSeat) (node : Node) → slice_get start.nodes 0 ≡ Some node →
+    (fd : Fd) × ((answer start numbers seat opens_root).0 ≡ reply.Ok (value.Fd fd))
+root_opens start numbers seat node is = (record { 0 = least_free start.slots }, ap (λ (found : Option Node). (opening_of start seat path 0 found).0) is)
 
 -- an answer that opened the root, or found no memory, is no refusal
 not_opened : (given : HostReply) (fs : Result FileSystem Refusal) (errno : Errno) → fs ≡ Err (refusal.Errno errno) →
@@ -50,17 +54,36 @@ not_opened given fs errno refused (inr none) made =
     let why : refusal.Errno errno ≡ refusal.Memory = subst (λ (f : Result FileSystem Refusal). IsMadeBy reply.NoMemory f) refused at in
     cc
 
--- over the tree of a script the making of the file system is never refused
-pub never_refused : (lines : List TreeLine) (start : State) (errno : Errno) → StartsAs lines start → IsRefused start errno → ⊥
-never_refused lines start errno starts refused =
-    let some : 0 < length starts.0 = some_nodes lines starts.0 starts.1 in
-    let first = at_below starts.0 0 some in
-    let is : slice_get start.nodes 0 ≡ Some first.0 = ap (λ (s : State). slice_get s.nodes 0) starts.2 ∙ first.1 in
-    let does = refused.call.1 in
-    let opens = root_opens start does.answers.numbers first.0 is in
-    not_opened refused.call.0 refused.fs errno refused.refused
-    (elim does.answers.answered [ inl e ↦ inl (opens.0, ap (λ (told : HostReply × State). told.0) e ∙ opens.1) | inr none ↦ inr none.0 ]) refused.call.2
+-- a refusal by a fault has its error
+refused_by : (given : HostReply) (fs : Result FileSystem Refusal) (fault errno : Errno) → fs ≡ Err (refusal.Errno errno) → given ≡ reply.Fault fault → IsMadeBy given fs → fault ≡ errno
+refused_by given fs fault errno refused is made =
+    let at : IsMadeBy (reply.Fault fault) fs = subst (λ (r : HostReply). IsMadeBy r fs) is made in
+    let why : refusal.Errno errno ≡ refusal.Errno fault = subst (λ (f : Result FileSystem Refusal). IsMadeBy (reply.Fault fault) f) refused at in
+    cc
 
--- so no bytes are refused for their configuration
-pub never_bad_config : (bytes : List ℕ) (errno : Errno) → IsNoReport bytes (status.BadConfig errno) → ⊥
-never_bad_config bytes errno why = never_refused why.0.tree why.2 errno why.3 why.4
+-- over a host with a root the making of the file system is refused only where its first call was planned to fail
+planned_refusal : (settings : Settings) (start : State) (errno : Errno) (root : Node) → slice_get start.nodes 0 ≡ Some root → IsRefused settings start errno → failure_of start opens_root ≡ Some errno
+planned_refusal settings start errno root is refused = go (failure_of start opens_root) refl answers.answered
+  where
+    answers : Answers start (start_seat settings) opens_root refused.call.0 refused.after (start_seat settings)
+    answers = refused.call.1.answers
+
+    opens : (fd : Fd) × ((answer start answers.numbers (start_seat settings) opens_root).0 ≡ reply.Ok (value.Fd fd))
+    opens = root_opens start answers.numbers (start_seat settings) root is
+
+    go : (failing : Option Errno) → failure_of start opens_root ≡ failing →
+        AnswersCall failing start answers.numbers (start_seat settings) opens_root refused.call.0 answers.state (start_seat settings) → failure_of start opens_root ≡ Some errno
+    go None e (inl told) = absurd (not_opened refused.call.0 refused.fs errno refused.refused (inl (opens.0, ap (λ (o : Outcome). o.0) told ∙ opens.1)) refused.call.2)
+    go None e (inr none) = absurd (not_opened refused.call.0 refused.fs errno refused.refused (inr (ap (λ (o : Outcome). o.0) none.1)) refused.call.2)
+    go (Some fault) e told = e ∙ ap Some (refused_by refused.call.0 refused.fs fault errno refused.refused (ap (λ (o : Outcome). o.0) told) refused.call.2)
+
+-- a script whose file system was not made shows no report
+pub shows_none : (bytes : List ℕ) (settings : Settings) (host : State) (jobs : List ScriptJob) (schedule : List ℕ) (why : Status) →
+    IsScriptOf bytes settings host jobs schedule → IsNotOpened settings host why → IsNoReport bytes why
+shows_none bytes settings host jobs schedule (status.BadConfig errno) script refused =
+    let begins = script.3 in
+    let root = begun_root script.0.tree script.0.faults host begins in
+    let here : IsRefused script.0.settings host errno = subst (λ (s : Settings). IsRefused s host errno) script.2 refused in
+    (script.0, script.1, host, begins, (here, planned_refusal script.0.settings host errno root.0 root.1 here))
+shows_none bytes settings host jobs schedule status.NoMemory script refused = tt
+shows_none bytes settings host jobs schedule why script refused = absurd refused

@@ -1,9 +1,13 @@
 -- The edits of a script, and their fields.
 use Rattle.std.specs.Prelude.{ℕ, List, [], ◌∷◌, Option, None, if◌then◌else◌, codes}
+use Rattle.std.specs.Option.{option_map}
 use Rattle.std.specs.Str.{bytes_eq}
 use Rattle.pt_host.specs.declared.edit.Edit.{Edit}
 use Rattle.pt_host.specs.declared.edit.Edit.TheVariants.{Unlink, Rename, File, Dir, Write}
-use Rattle.pt_main.specs.Fields.{◌>>=◌, small_in, bytes_in, at_end}
+use Rattle.pt_main.specs.Fields.{◌>>=◌, bytes_in, at_end}
+use Rattle.pt_main.specs.NewObjects.{new_file_in, new_dir_in}
+use Rattle.pt_main.specs.declared.new_objects.NewFile.{NewFile}
+use Rattle.pt_main.specs.declared.new_objects.NewDir.{NewDir}
 
 -- `unlink PATH`
 abbrev pub unlink_in : List (List ℕ) → Option Edit
@@ -18,24 +22,11 @@ rename_in words = do
   new ← bytes_in old.rest
   at_end new.rest (Rename old.value new.value)
 
--- `file PATH MODE UID GID BYTES`
-abbrev pub new_file_in : List (List ℕ) → Option Edit
-new_file_in words = do
-  path ← bytes_in words
-  mode ← small_in path.rest
-  uid ← small_in mode.rest
-  gid ← small_in uid.rest
-  bytes ← bytes_in gid.rest
-  at_end bytes.rest (File path.value mode.value uid.value gid.value bytes.value)
+abbrev pub file_edit : NewFile → Edit
+file_edit file = File file.path file.mode file.uid file.gid file.bytes
 
--- `dir PATH MODE UID GID`
-abbrev pub new_dir_in : List (List ℕ) → Option Edit
-new_dir_in words = do
-  path ← bytes_in words
-  mode ← small_in path.rest
-  uid ← small_in mode.rest
-  gid ← small_in uid.rest
-  at_end gid.rest (Dir path.value mode.value uid.value gid.value)
+abbrev pub dir_edit : NewDir → Edit
+dir_edit dir = Dir dir.path dir.mode dir.uid dir.gid
 
 -- `write PATH BYTES`
 abbrev pub write_in : List (List ℕ) → Option Edit
@@ -48,8 +39,8 @@ abbrev pub edit_as : List ℕ → List (List ℕ) → Option Edit
 edit_as word fields =
     if bytes_eq word (codes "unlink") then unlink_in fields
     else (if bytes_eq word (codes "rename") then rename_in fields
-    else (if bytes_eq word (codes "file") then new_file_in fields
-    else (if bytes_eq word (codes "dir") then new_dir_in fields
+    else (if bytes_eq word (codes "file") then option_map file_edit (new_file_in fields)
+    else (if bytes_eq word (codes "dir") then option_map dir_edit (new_dir_in fields)
     else (if bytes_eq word (codes "write") then write_in fields else None))))
 
 abbrev pub edit_in : List (List ℕ) → Option Edit

@@ -1,6 +1,8 @@
 -- The fields of a line: each is the front of the words that are left.
-use Rattle.std.specs.Prelude.{ℕ, zero, suc, ◌^◌, Bool, true, false, List, [], ◌∷◌, Option, Some, None, if◌then◌else◌, option_and_then}
+use Rattle.std.specs.Prelude.{ℕ, zero, suc, ◌^◌, Bool, true, false, ◌&&◌, nat_lt, List, [], ◌∷◌, Option, Some, None, if◌then◌else◌, option_and_then}
 use Rattle.std.specs.Str.{bytes_eq}
+use Rattle.pt_host.specs.Errno.{errno_of}
+use Rattle.pt_host.specs.declared.ids.Errno.{Errno}
 use Rattle.pt_text.specs.Number.{number_of, below}
 use Rattle.pt_text.specs.ByteWord.{bytes_of}
 
@@ -28,6 +30,13 @@ number_in words = first_as (λ word. below (2 ^ 64) (number_of word)) words
 
 abbrev pub small_in : List (List ℕ) → Option (Field ℕ)
 small_in words = first_as (λ word. below (2 ^ 32) (number_of word)) words
+
+-- an error number, from 1 to 133
+abbrev pub errno_where : ℕ → Option Errno
+errno_where number = if nat_lt 0 number && nat_lt number 134 then Some (errno_of number) else None
+
+abbrev pub errno_in : List (List ℕ) → Option (Field Errno)
+errno_in words = first_as (λ word. option_and_then errno_where (below (2 ^ 64) (number_of word))) words
 
 abbrev pub bytes_in : List (List ℕ) → Option (Field (List ℕ))
 bytes_in words = first_as bytes_of words

@@ -1,13 +1,12 @@
 -- A run of a script, and its report.
 use Rattle.std.specs.Prelude.{◌≡◌, ◌≤◌, ℕ, List, [], ◌∷◌, ◌++◌, Option, Some, None, Result, Ok, Err, length, map, codes}
-use Rattle.pt_host.specs.declared.flags.Caps.{Caps}
 use Rattle.pt_host.specs.declared.ids.Errno.{Errno}
 use Rattle.pt_host.specs.declared.reply.HostReply.{HostReply}
 use Rattle.pt_host.specs.declared.seat.HostSeat.{HostSeat}
 use Rattle.pt_host.specs.Tree.{IsWellFormed}
 use Rattle.pt_tree.specs.State.{State, tree_of}
-use Rattle.pt_tree.specs.Start.{StartsAs}
 use Rattle.pt_tree.specs.Does.{Does}
+use Rattle.pt_tree.specs.Faults.{failure_of}
 use Rattle.pt_tree.specs.Listing.{listing_of}
 use Rattle.pt_session.specs.Tables.{Tables, empty_tables}
 use Rattle.pt_iface.specs.declared.answer.Answer.{Answer}
@@ -28,43 +27,56 @@ use Rattle.pt_main.specs.Script.{Begun, script_of}
 use Rattle.pt_main.specs.Streams.{IsAll}
 use Rattle.pt_main.specs.Report.{step_lines, answer_lines}
 use Rattle.pt_main.specs.TableLines.{live_lines, handle_lines, slots_line, LivesAbove, HandlesAbove}
+use Rattle.pt_main.specs.Begins.{BeginsAs}
 use Rattle.pt_main.specs.Configured.{IsConfigured}
+use Rattle.pt_main.specs.Settings.{identity_in}
+use Rattle.pt_main.specs.declared.settings.Identity.{Identity}
 use Rattle.pt_main.specs.declared.settings.Settings.{Settings}
 use Rattle.pt_main.specs.declared.line.ScriptJob.{ScriptJob}
 use Rattle.pt_main.specs.declared.line.ScriptJob.TheVariants as script_job
 use Rattle.pt_main.specs.declared.status.Status.{Status}
 use Rattle.pt_main.specs.declared.status.Status.TheVariants as status
 
-abbrev pub all_caps : Caps
-all_caps = record { 0 = 511 }
-
--- the seat of the daemon and of each job: the superuser with all capabilities
-abbrev pub start_seat : HostSeat
-start_seat = record {
-  real_uid = 0;
-  eff_uid = 0;
-  saved_uid = 0;
-  real_gid = 0;
-  eff_gid = 0;
-  saved_gid = 0;
+-- a seat that begins as this
+abbrev pub seat_of : Identity → HostSeat
+seat_of who = record {
+  real_uid = who.uid;
+  eff_uid = who.uid;
+  saved_uid = who.uid;
+  real_gid = who.gid;
+  eff_gid = who.gid;
+  saved_gid = who.gid;
   groups = [];
-  eff_caps = all_caps;
-  perm_caps = all_caps;
+  eff_caps = who.caps;
+  perm_caps = who.caps;
   umask = 0;
 }
 
-abbrev pub job_for : Context → Request → Job
-job_for who Root = job.OpenRoot start_seat
-job_for who request = job.Request who start_seat request
+-- the seat with which the daemon and each job begin
+abbrev pub start_seat : Settings → HostSeat
+start_seat settings = seat_of (identity_in settings)
+
+abbrev pub job_for : HostSeat → Context → Request → Job
+job_for seat who Root = job.OpenRoot seat
+job_for seat who request = job.Request who seat request
 
 -- the job of a job's line
-abbrev pub job_of : ScriptJob → Job
-job_of (script_job.Request who request) = job_for who request
-job_of (script_job.Edit edit) = job.Edit edit
+abbrev pub job_of : HostSeat → ScriptJob → Job
+job_of seat (script_job.Request who request) = job_for seat who request
+job_of seat (script_job.Edit edit) = job.Edit edit
+
+-- the jobs of a script's lines
+abbrev pub jobs_of : Settings → List ScriptJob → List Job
+jobs_of settings lines = map (job_of (start_seat settings)) lines
+
+-- one call was made, the opening of the host's root, and its answer makes the file system or is its refusal
+abbrev pub IsAsked : Settings → State → Result FileSystem Refusal → State → Type 0
+IsAsked settings before made after =
+    (reply : HostReply) × Does before (start_seat settings) opens_root reply after (start_seat settings) × IsMadeBy reply made
 
 -- the file system is made over this host with the default configuration but for what is set, by one call
 pub record IsOpened (settings : Settings) (before : State) (fs : FileSystem) (after : State) : Type 0 where
-  pub call : (reply : HostReply) × Does before start_seat opens_root reply after start_seat × IsMadeBy reply (Ok fs)
+  pub call : IsAsked settings before (Ok fs) after
   pub plan : IsConfigured settings fs.plan.config
   pub tables : fs.tables ≡ empty_tables fs.plan.config.guest_fd_limit
 
@@ -75,26 +87,26 @@ pub record IsRunFrom (settings : Settings) (start : State) (lines : List ScriptJ
   pub opened_host : State
   pub opened : IsOpened settings start fs opened_host
   pub seats : List HostSeat
-  pub steps : RunsJobs Does (map job_of lines) trace opened_host fs.tables host seats tables
-  pub order : IsInOrder schedule (length (map job_of lines)) trace
-  pub answers_each : AnswersEach fs.plan (map job_of lines) trace answers
-  pub bounded : IsBounded (map job_of lines) trace
-  pub causes : OfEachJob (map job_of lines) answers (IsCausedIn trace)
-  pub gives_back : OfEachJob (map job_of lines) answers (GivesBack trace)
+  pub steps : RunsJobs Does (jobs_of settings lines) trace opened_host fs.tables host seats tables
+  pub order : IsInOrder schedule (length (jobs_of settings lines)) trace
+  pub answers_each : AnswersEach fs.plan (jobs_of settings lines) trace answers
+  pub bounded : IsBounded (jobs_of settings lines) trace
+  pub causes : OfEachJob (jobs_of settings lines) answers (IsCausedIn trace)
+  pub gives_back : OfEachJob (jobs_of settings lines) answers (GivesBack trace)
   pub counts : AfterEach fs.tables trace KeepsCounts
   pub handles : AfterEach fs.tables trace KeepsHandles
   pub once : InsertsOnce trace
   pub overtaken : OvertakenAsTold trace
-  pub slots : AfterEach fs.tables trace (SlotsAddUp fs.tables.limit (length (map job_of lines)))
-  pub at_rest : IsAtRest fs.tables.limit (length (map job_of lines)) (turns_of trace) tables
+  pub slots : AfterEach fs.tables trace (SlotsAddUp fs.tables.limit (length (jobs_of settings lines)))
+  pub at_rest : IsAtRest fs.tables.limit (length (jobs_of settings lines)) (turns_of trace) tables
   -- the host tells its tree, which is well formed; so what is said of objects holds
   pub well_formed : IsWellFormed (tree_of opened_host)
   pub told : LeadsOn (Some (tree_of opened_host)) fs.tables trace (Some (tree_of host)) tables
   pub distinct : AfterEachTold (Some (tree_of opened_host)) fs.tables trace (λ start so_far now. KeepsObjects now)
   pub serves : AfterEachTold (Some (tree_of opened_host)) fs.tables trace (λ start so_far now. ServesEach now)
-  pub entries : OfEachJob (map job_of lines) answers (IsNamedIn fs.plan (Some (tree_of opened_host)) fs.tables trace)
+  pub entries : OfEachJob (jobs_of settings lines) answers (IsNamedIn fs.plan (Some (tree_of opened_host)) fs.tables trace)
   pub names_open : NamesOpenOnes (Some (tree_of opened_host)) fs.tables trace
-  pub descriptors : AfterEachTold (Some (tree_of opened_host)) fs.tables trace (λ start so_far now. AreKept start (length (map job_of lines)) so_far now)
+  pub descriptors : AfterEachTold (Some (tree_of opened_host)) fs.tables trace (λ start so_far now. AreKept start (length (jobs_of settings lines)) so_far now)
   pub leaves_open : LeavesOpen (Some (tree_of opened_host)) fs.tables trace
 
 -- these are the live numbers and handles of tables, each ascending
@@ -116,7 +128,7 @@ pub record IsReportOf (bytes report : List ℕ) : Type 0 where
   pub tables : Tables
   pub host : State
   pub start : State
-  pub starts : StartsAs begun.tree start
+  pub starts : BeginsAs begun.tree begun.faults start
   pub run : IsRunFrom begun.settings start begun.jobs begun.order trace answers tables host
   pub lives : List (ℕ × ℕ)
   pub handles : List (ℕ × ℕ)
@@ -124,22 +136,28 @@ pub record IsReportOf (bytes report : List ℕ) : Type 0 where
   pub text : report ≡ report_of trace answers lives handles tables host
 
 -- the making of a file system over this host was refused with this error
-pub record IsRefused (before : State) (errno : Errno) : Type 0 where
+pub record IsRefused (settings : Settings) (before : State) (errno : Errno) : Type 0 where
   pub after : State
   pub fs : Result FileSystem Refusal
-  pub call : (reply : HostReply) × Does before start_seat opens_root reply after start_seat × IsMadeBy reply fs
+  pub call : IsAsked settings before fs after
   pub refused : fs ≡ Err (refusal.Errno errno)
 
 -- why none was made
-abbrev pub IsNotOpened : State → Status → Type 0
-IsNotOpened before (status.BadConfig errno) = IsRefused before errno
-IsNotOpened before status.NoMemory = Unit {0}
-IsNotOpened before other = ⊥
+abbrev pub IsNotOpened : Settings → State → Status → Type 0
+IsNotOpened settings before (status.BadConfig errno) = IsRefused settings before errno
+IsNotOpened settings before status.NoMemory = Unit {0}
+IsNotOpened settings before other = ⊥
 
--- why there is no report of these bytes: they are no script, or no file system was made over its tree
+-- no file system was made over this host, since its first call was planned to fail with this error
+abbrev pub IsPlannedRefusal : Settings → State → Errno → Type 0
+IsPlannedRefusal settings start errno = IsRefused settings start errno × (failure_of start opens_root ≡ Some errno)
+
+-- why there is no report of these bytes: they are no script, or no file system was made over its host
 abbrev pub IsNoReport : List ℕ → Status → Type 0
 IsNoReport bytes (status.BadScript line) = script_of bytes ≡ Err line
-IsNoReport bytes (status.BadConfig errno) = (begun : Begun) × (script_of bytes ≡ Ok begun) × (start : State) × StartsAs begun.tree start × IsRefused start errno
+IsNoReport bytes (status.BadConfig errno) =
+    (begun : Begun) × (script_of bytes ≡ Ok begun) × (start : State) × BeginsAs begun.tree begun.faults start
+    × IsPlannedRefusal begun.settings start errno
 IsNoReport bytes status.NoMemory = Unit {0}
 IsNoReport bytes other = ⊥
 

@@ -1,12 +1,12 @@
 -- A script read without the rules of trees, which the host judges when it is made.
 use Rattle.std.specs.Prelude.{◌≡◌, ℕ, ◌+◌, ◌&&◌, List, [], ◌∷◌, Option, Some, None, Result, Ok, Err, if◌then◌else◌, option_and_then}
-use Rattle.pt_tree.specs.Start.{nodes_of, StartsAs}
+use Rattle.pt_tree.specs.Start.{start_of}
 use Rattle.pt_tree.specs.State.{State}
 use Rattle.pt_main.specs.declared.line.ScriptJob.{ScriptJob}
-use Rattle.pt_tree.specs.declared.node.Node.{Node}
 use Rattle.pt_text.specs.Words.{lines_of}
 use Rattle.pt_main.specs.Line.{line_of}
 use Rattle.pt_main.specs.Script.{Begun, nothing, is_empty, may_stand, added, script_of}
+use Rattle.pt_main.specs.Begins.{BeginsAs}
 use Rattle.pt_main.specs.declared.line.Line.{Line}
 use Rattle.pt_main.specs.declared.settings.Settings.{Settings}
 use Rattle.pt_main.specs.Settings.{set_lines}
@@ -37,15 +37,15 @@ scan_of bytes = scan_from 1 nothing (lines_of bytes)
 
 -- the script that was read, judged by the rules of trees too: a line that breaks these stands above any other bad one, and behind the lines
 -- that set something
-abbrev pub judged_by : Begun → Result (List Node) ℕ → Option ℕ → Result Begun ℕ
+abbrev pub judged_by : Begun → Result State ℕ → Option ℕ → Result Begun ℕ
 judged_by begun (Err line) bad = Err (set_lines begun.settings + line)
-judged_by begun (Ok nodes) (Some line) = Err line
-judged_by begun (Ok nodes) None = Ok begun
+judged_by begun (Ok start) (Some line) = Err line
+judged_by begun (Ok start) None = Ok begun
 
 abbrev pub judged : Scanned → Result Begun ℕ
-judged scanned = judged_by scanned.begun (nodes_of scanned.begun.tree) scanned.bad
+judged scanned = judged_by scanned.begun (start_of scanned.begun.tree) scanned.bad
 
 -- settings, a host, jobs and a schedule that are those of the script that these bytes are
 abbrev pub IsScriptOf : List ℕ → Settings → State → List ScriptJob → List ℕ → Type 0
 IsScriptOf bytes settings host jobs schedule =
-    (begun : Begun) × (script_of bytes ≡ Ok begun) × (settings ≡ begun.settings) × StartsAs begun.tree host × (jobs ≡ begun.jobs) × (schedule ≡ begun.order)
+    (begun : Begun) × (script_of bytes ≡ Ok begun) × (settings ≡ begun.settings) × BeginsAs begun.tree begun.faults host × (jobs ≡ begun.jobs) × (schedule ≡ begun.order)

@@ -1,12 +1,13 @@
 -- A script: its lines in order, each ended by a line feed.
-use Rattle.std.specs.Prelude.{ℕ, ◌+◌, nat_lt, ◌&&◌, not, Bool, true, false, List, [], ◌∷◌, ◌++◌, length, Option, Some, None, Result, Ok, Err, is_ok, if◌then◌else◌, option_and_then}
+use Rattle.std.specs.Prelude.{ℕ, ◌+◌, ◌-◌, nat_lt, ◌&&◌, not, Bool, true, false, List, [], ◌∷◌, ◌++◌, length, Option, Some, None, Result, Ok, Err, is_ok, if◌then◌else◌, option_and_then, slice_get}
 use Rattle.pt_tree.specs.declared.spec.TreeLine.{TreeLine}
-use Rattle.pt_tree.specs.Start.{nodes_of}
+use Rattle.pt_tree.specs.Start.{start_of}
 use Rattle.pt_text.specs.Words.{lines_of}
 use Rattle.pt_main.specs.Line.{line_of}
 use Rattle.pt_main.specs.declared.line.ScriptJob.{ScriptJob}
 use Rattle.pt_main.specs.declared.line.Line.{Line}
-use Rattle.pt_main.specs.declared.line.Line.TheVariants.{Set, Tree, Job, Order, End}
+use Rattle.pt_main.specs.declared.line.Line.TheVariants.{Set, Tree, Fault, Job, Order, End}
+use Rattle.pt_main.specs.declared.line.PlannedFault.{PlannedFault}
 use Rattle.pt_main.specs.declared.settings.Settings.{Settings}
 use Rattle.pt_main.specs.Settings.{no_settings, may_set, with_setting}
 
@@ -14,13 +15,15 @@ use Rattle.pt_main.specs.Settings.{no_settings, may_set, with_setting}
 pub record Begun : Type 0 where
   pub settings : Settings
   pub tree : List TreeLine
+  -- the calls that are to fail
+  pub faults : List PlannedFault
   pub jobs : List ScriptJob
   -- the places of the schedule
   pub order : List ℕ
   pub ended : Bool
 
 abbrev pub nothing : Begun
-nothing = record { settings = no_settings; tree = []; jobs = []; order = []; ended = false }
+nothing = record { settings = no_settings; tree = []; faults = []; jobs = []; order = []; ended = false }
 
 abbrev pub max_jobs : ℕ
 max_jobs = 65536
@@ -32,11 +35,26 @@ abbrev pub is_empty : {A : Type 0} → List A → Bool
 is_empty [] = true
 is_empty (x ∷ xs) = false
 
--- first what is set, then the lines of a tree, then jobs, then lines with places of the schedule, one at least each, then the
--- end, and nothing behind it
+-- the fault that stands last
+abbrev pub last_fault : List PlannedFault → Option PlannedFault
+last_fault faults = slice_get faults (length faults - 1)
+
+-- it comes behind this one
+abbrev pub is_later : Option PlannedFault → PlannedFault → Bool
+is_later None fault = true
+is_later (Some last) fault = nat_lt last.call fault.call
+
+-- no job and no place of the schedule stands yet
+abbrev pub is_before_jobs : Begun → Bool
+is_before_jobs begun = is_empty begun.jobs && is_empty begun.order
+
+-- first what is set, then the lines of a tree, then faults by ascending calls, then jobs, then lines with places of the schedule, one at least
+-- each, then the end, and nothing behind it
 abbrev pub may_stand : Begun → Line → Bool
 may_stand begun (Set setting) = is_empty begun.tree && may_set begun.settings setting
-may_stand begun (Tree line) = not begun.ended && (is_empty begun.jobs && is_empty begun.order)
+may_stand begun (Tree line) = not begun.ended && (is_empty begun.faults && is_before_jobs begun)
+may_stand begun (Fault fault) =
+    not begun.ended && (not (is_empty begun.tree) && (is_before_jobs begun && is_later (last_fault begun.faults) fault))
 may_stand begun (Job job) = not begun.ended && (not (is_empty begun.tree) && (is_empty begun.order && nat_lt (length begun.jobs) max_jobs))
 may_stand begun (Order places) =
     not begun.ended && (not (is_empty begun.tree) && (not (is_empty places) && not (nat_lt max_places (length begun.order + length places))))
@@ -45,13 +63,14 @@ may_stand begun End = not begun.ended && not (is_empty begun.tree)
 abbrev pub added : Begun → Line → Begun
 added begun (Set setting) = record begun { settings = with_setting begun.settings setting }
 added begun (Tree line) = record begun { tree = begun.tree ++ line ∷ [] }
+added begun (Fault fault) = record begun { faults = begun.faults ++ fault ∷ [] }
 added begun (Job job) = record begun { jobs = begun.jobs ++ job ∷ [] }
 added begun (Order places) = record begun { order = begun.order ++ places }
 added begun End = record begun { ended = true }
 
 -- a line of a tree keeps the rules of trees, with those above it
 abbrev pub keeps_tree : Begun → Line → Bool
-keeps_tree begun (Tree line) = is_ok (nodes_of (begun.tree ++ line ∷ []))
+keeps_tree begun (Tree line) = is_ok (start_of (begun.tree ++ line ∷ []))
 keeps_tree begun other = true
 
 -- what stands after one line more, where it may stand there

@@ -1,6 +1,5 @@
 -- The texts of the events of the tables and of their replies.
 use Rattle.std.specs.Prelude.{ℕ, List, ◌++◌, codes, length}
-use Rattle.pt_host.specs.declared.handle.FileHandle.{FileHandle}
 use Rattle.pt_host.specs.declared.ids.Fd.{Fd}
 use Rattle.pt_host.specs.declared.ids.ObjIds.{ObjIds}
 use Rattle.pt_session.specs.declared.form.RowForm.{RowForm}
@@ -12,11 +11,8 @@ use Rattle.pt_session.specs.declared.reply.EventRefusal.{EventRefusal}
 use Rattle.pt_session.specs.declared.reply.EventRefusal.TheVariants as refusal
 use Rattle.pt_session.specs.declared.reply.EventReply.{EventReply}
 use Rattle.pt_session.specs.declared.reply.EventReply.TheVariants as reply
-use Rattle.pt_main.specs.Texts.{word, number_text, signed_text, bytes_text, switch_text, option_text, items_text}
-use Rattle.pt_main.specs.HostTexts.{fd_text, ids_text}
-
-abbrev pub handle_text : FileHandle → List ℕ
-handle_text handle = number_text handle.mnt_id ++ signed_text handle.handle.handle_type ++ bytes_text handle.handle.bytes
+use Rattle.pt_main.specs.Texts.{word, number_text, switch_text, option_text, items_text}
+use Rattle.pt_main.specs.HostTexts.{fd_text, handle_text, ids_text}
 
 abbrev pub form_text : RowForm → List ℕ
 form_text (File fd) = word (codes "File") ++ fd_text fd

@@ -1,7 +1,8 @@
 ghost use Rattle.std.specs.Prelude.{◌≡◌, IfOk, Some, None};
-ghost use Rattle.pt_main.specs.Edit.{unlink_in, rename_in, new_file_in, new_dir_in, write_in, edit_as, edit_in};
+ghost use Rattle.pt_main.specs.Edit.{unlink_in, rename_in, file_edit, dir_edit, write_in, edit_as, edit_in};
 
-use crate::fields::{LineError, end, next_bytes, next_small, next_word};
+use crate::fields::{LineError, end, next_bytes, next_word};
+use crate::new_objects::{NewDir, NewFile, next_new_dir, next_new_file};
 use pt_host::Edit;
 use pt_text::Parts;
 use std::alloc::Global;
@@ -25,40 +26,27 @@ fn next_rename(alloc: Global, words: &mut Parts<'_>) -> Result<Edit, LineError>
     Ok(Edit::Rename { old, new })
 }
 
-fn next_new_file(alloc: Global, words: &mut Parts<'_>) -> Result<Edit, LineError>
-    ensures ok { IfOk result (λ edit. new_file_in words.old ≡ Some edit) }
-    ensures bad { result ≡ Err LineError.Bad → new_file_in words.old ≡ None }
+fn file_edit(file: NewFile) -> Edit
+    ensures { result ≡ file_edit file }
 {
-    let path = next_bytes(alloc, words)?;
-    let mode = next_small(words)?;
-    let uid = next_small(words)?;
-    let gid = next_small(words)?;
-    let bytes = next_bytes(alloc, words)?;
-    end(words)?;
-    Ok(Edit::File {
-        path,
-        mode,
-        uid,
-        gid,
-        bytes,
-    })
+    Edit::File {
+        path: file.path,
+        mode: file.mode,
+        uid: file.uid,
+        gid: file.gid,
+        bytes: file.bytes,
+    }
 }
 
-fn next_new_dir(alloc: Global, words: &mut Parts<'_>) -> Result<Edit, LineError>
-    ensures ok { IfOk result (λ edit. new_dir_in words.old ≡ Some edit) }
-    ensures bad { result ≡ Err LineError.Bad → new_dir_in words.old ≡ None }
+fn dir_edit(dir: NewDir) -> Edit
+    ensures { result ≡ dir_edit dir }
 {
-    let path = next_bytes(alloc, words)?;
-    let mode = next_small(words)?;
-    let uid = next_small(words)?;
-    let gid = next_small(words)?;
-    end(words)?;
-    Ok(Edit::Dir {
-        path,
-        mode,
-        uid,
-        gid,
-    })
+    Edit::Dir {
+        path: dir.path,
+        mode: dir.mode,
+        uid: dir.uid,
+        gid: dir.gid,
+    }
 }
 
 fn next_write(alloc: Global, words: &mut Parts<'_>) -> Result<Edit, LineError>
@@ -81,9 +69,9 @@ fn next_edit_as(alloc: Global, word: &[u8], words: &mut Parts<'_>) -> Result<Edi
     } else if word == b"rename".as_slice() {
         next_rename(alloc, words)
     } else if word == b"file".as_slice() {
-        next_new_file(alloc, words)
+        Ok(file_edit(next_new_file(alloc, words)?))
     } else if word == b"dir".as_slice() {
-        next_new_dir(alloc, words)
+        Ok(dir_edit(next_new_dir(alloc, words)?))
     } else if word == b"write".as_slice() {
         next_write(alloc, words)
     } else {

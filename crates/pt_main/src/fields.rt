@@ -1,9 +1,18 @@
 ghost use Rattle.std.specs.Prelude.{◌≡◌, IfOk, OnOk, Some, None, ◌≢◌, ◌∷◌, ◌++◌, []};
 ghost use Rattle.std.specs.Str.{bytes_eq};
-ghost use Rattle.pt_main.specs.Fields.{number_in, small_in, bytes_in, switch_in, switch_of, pair_in, pairs_in, places_in};
+ghost use Rattle.pt_main.specs.Fields.{
+  number_in,
+  small_in,
+  errno_in,
+  bytes_in,
+  switch_in,
+  pair_in,
+  pairs_in,
+  places_in,
+};
 
 use crate::places::Places;
-use pt_host::Bytes;
+use pt_host::{Bytes, Errno};
 use pt_text::{Parts, read_byte_word, read_number};
 use std::alloc::Global;
 
@@ -42,6 +51,18 @@ pub fn next_small(words: &mut Parts<'_>) -> Result<u32, LineError>
     let word = next_word(words)?;
     match read_number(word) {
         Some(number) if number <= 0xffff_ffff => Ok(number as u32),
+        _ => Err(LineError::Bad),
+    }
+}
+
+/// An error number, from 1 to 133.
+pub fn next_errno(words: &mut Parts<'_>) -> Result<Errno, LineError>
+    ensures ok { IfOk result (λ errno. errno_in words.old ≡ Some (record { value = errno; rest = words.new })) }
+    ensures bad { result ≡ Err LineError.Bad → errno_in words.old ≡ None }
+{
+    let word = next_word(words)?;
+    match read_number(word) {
+        Some(number) if number > 0 && number < 134 => Ok(Errno(number as i32)),
         _ => Err(LineError::Bad),
     }
 }

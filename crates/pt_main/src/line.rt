@@ -1,14 +1,13 @@
 ghost use Rattle.std.specs.Prelude.{◌≡◌, IfOk, Some, None};
-ghost use Rattle.pt_main.specs.Line.{mount_in, file_in, dir_in, tree_line_in, limit_in, setting_in, job_in, line_in, line_of};
+ghost use Rattle.pt_main.specs.Line.{limit_in, seat_in, setting_as, setting_in, fault_in, job_in, line_of};
 
 use crate::edit::next_edit;
-use crate::fields::{
-    LineError, end, next_bytes, next_number, next_places, next_small, next_switch, next_word,
-};
+use crate::fields::{LineError, end, next_errno, next_number, next_places, next_small, next_word};
 use crate::places::Places;
 use crate::request::next_request;
-use crate::settings::Setting;
-use pt_host::Edit;
+use crate::settings::{Identity, Setting};
+use crate::tree_line::next_tree_line;
+use pt_host::{Caps, Edit, Errno};
 use pt_iface::{Context, Request};
 use pt_text::Parts;
 use pt_tree::TreeLine;
@@ -23,84 +22,23 @@ pub enum ScriptJob {
     Edit(Edit),
 }
 
+/// A call of the host, by its number from 1, that is to fail with this error.
+#[derive(Clone, Copy, Debug, PartialEq, Eq)]
+pub struct PlannedFault {
+    pub call: u64,
+    pub errno: Errno,
+}
+
 /// A line of a script.
 #[derive(Debug, Drop)]
 pub enum Line {
     Set(Setting),
     Tree(TreeLine),
+    Fault(PlannedFault),
     Job(ScriptJob),
     /// Places of the schedule.
     Order(Places),
     End,
-}
-
-fn next_mount(alloc: Global, words: &mut Parts<'_>) -> Result<TreeLine, LineError>
-    ensures ok { IfOk result (λ line. mount_in words.old ≡ Some line) }
-    ensures bad { result ≡ Err LineError.Bad → mount_in words.old ≡ None }
-{
-    let id = next_number(words)?;
-    let dev = next_number(words)?;
-    let path = next_bytes(alloc, words)?;
-    let handles = next_switch(words)?;
-    end(words)?;
-    Ok(TreeLine::Mount {
-        id,
-        dev,
-        path,
-        handles,
-    })
-}
-
-fn next_file(alloc: Global, words: &mut Parts<'_>) -> Result<TreeLine, LineError>
-    ensures ok { IfOk result (λ line. file_in words.old ≡ Some line) }
-    ensures bad { result ≡ Err LineError.Bad → file_in words.old ≡ None }
-{
-    let path = next_bytes(alloc, words)?;
-    let mode = next_small(words)?;
-    let uid = next_small(words)?;
-    let gid = next_small(words)?;
-    let bytes = next_bytes(alloc, words)?;
-    end(words)?;
-    Ok(TreeLine::File {
-        path,
-        mode,
-        uid,
-        gid,
-        bytes,
-    })
-}
-
-fn next_dir(alloc: Global, words: &mut Parts<'_>) -> Result<TreeLine, LineError>
-    ensures ok { IfOk result (λ line. dir_in words.old ≡ Some line) }
-    ensures bad { result ≡ Err LineError.Bad → dir_in words.old ≡ None }
-{
-    let path = next_bytes(alloc, words)?;
-    let mode = next_small(words)?;
-    let uid = next_small(words)?;
-    let gid = next_small(words)?;
-    end(words)?;
-    Ok(TreeLine::Dir {
-        path,
-        mode,
-        uid,
-        gid,
-    })
-}
-
-// The line of a tree that begins with this word.
-fn next_tree_line(alloc: Global, word: &[u8], words: &mut Parts<'_>) -> Result<TreeLine, LineError>
-    ensures ok { IfOk result (λ line. tree_line_in word.now words.old ≡ Some line) }
-    ensures bad { result ≡ Err LineError.Bad → tree_line_in word.now words.old ≡ None }
-{
-    if word == b"mount".as_slice() {
-        next_mount(alloc, words)
-    } else if word == b"dir".as_slice() {
-        next_dir(alloc, words)
-    } else if word == b"file".as_slice() {
-        next_file(alloc, words)
-    } else {
-        Err(LineError::Bad)
-    }
 }
 
 fn next_limit(words: &mut Parts<'_>) -> Result<Setting, LineError>
@@ -112,16 +50,47 @@ fn next_limit(words: &mut Parts<'_>) -> Result<Setting, LineError>
     Ok(Setting::GuestFdLimit(limit))
 }
 
+fn next_seat(words: &mut Parts<'_>) -> Result<Setting, LineError>
+    ensures ok { IfOk result (λ setting. seat_in words.old ≡ Some setting) }
+    ensures bad { result ≡ Err LineError.Bad → seat_in words.old ≡ None }
+{
+    let uid = next_small(words)?;
+    let gid = next_small(words)?;
+    let caps = Caps(next_small(words)?);
+    end(words)?;
+    Ok(Setting::Seat(Identity { uid, gid, caps }))
+}
+
+// The setting of this key.
+fn next_setting_as(key: &[u8], words: &mut Parts<'_>) -> Result<Setting, LineError>
+    ensures ok { IfOk result (λ setting. setting_as key.now words.old ≡ Some setting) }
+    ensures bad { result ≡ Err LineError.Bad → setting_as key.now words.old ≡ None }
+{
+    if key == b"guest_fd_limit".as_slice() {
+        next_limit(words)
+    } else if key == b"seat".as_slice() {
+        next_seat(words)
+    } else {
+        Err(LineError::Bad)
+    }
+}
+
 fn next_setting(words: &mut Parts<'_>) -> Result<Setting, LineError>
     ensures ok { IfOk result (λ setting. setting_in words.old ≡ Some setting) }
     ensures bad { result ≡ Err LineError.Bad → setting_in words.old ≡ None }
 {
     let key = next_word(words)?;
-    if key == b"guest_fd_limit".as_slice() {
-        next_limit(words)
-    } else {
-        Err(LineError::Bad)
-    }
+    next_setting_as(key, words)
+}
+
+fn next_fault(words: &mut Parts<'_>) -> Result<PlannedFault, LineError>
+    ensures ok { IfOk result (λ fault. fault_in words.old ≡ Some fault) }
+    ensures bad { result ≡ Err LineError.Bad → fault_in words.old ≡ None }
+{
+    let call = next_number(words)?;
+    let errno = next_errno(words)?;
+    end(words)?;
+    Ok(PlannedFault { call, errno })
 }
 
 fn next_job(alloc: Global, words: &mut Parts<'_>) -> Result<ScriptJob, LineError>
@@ -149,6 +118,8 @@ pub fn read_line(alloc: Global, text: &[u8]) -> Result<Line, LineError>
         Ok(Line::Job(ScriptJob::Edit(next_edit(alloc, &mut words)?)))
     } else if word == b"order".as_slice() {
         Ok(Line::Order(next_places(alloc, &mut words)?))
+    } else if word == b"fault".as_slice() {
+        Ok(Line::Fault(next_fault(&mut words)?))
     } else if word == b"end".as_slice() {
         end(&words)?;
         Ok(Line::End)

@@ -8,6 +8,7 @@ mod laws;
 mod line;
 mod make_report;
 mod mem;
+mod new_objects;
 mod output;
 mod places;
 mod program;
@@ -23,14 +24,15 @@ mod table_lines;
 #[cfg(test)]
 mod tests;
 mod texts;
+mod tree_line;
 
 pub use input::{InputError, MAX_SCRIPT, read_script};
 pub use laws::{first_bad_line, script_determines_report};
-pub use line::{Line, ScriptJob};
+pub use line::{Line, PlannedFault, ScriptJob};
 pub use mem::{MemSink, MemSource};
 pub use program::run;
 pub use script::{ParseError, Script, parse};
-pub use settings::{Setting, Settings};
+pub use settings::{Identity, Setting, Settings};
 pub use status::Status;
 use std::alloc::AllocError;
 use std::process::ExitCode;

@@ -1,8 +1,8 @@
-ghost use Rattle.std.specs.Prelude.{◌≡◌, ◌≤◌, ◌+◌, ◌<◌, ◌^◌, ◌++◌, List, ℕ, IfOk, IfErr, OnOk, map, length};
+ghost use Rattle.std.specs.Prelude.{◌≡◌, ◌≤◌, ◌+◌, ◌<◌, ◌^◌, ◌++◌, List, ℕ, IfOk, IfErr, OnOk, length};
 ghost use Rattle.pt_tree.specs.Listing.{listing_of};
 ghost use Rattle.pt_main.specs.TableLines.{live_lines, handle_lines, slots_line};
 ghost use Rattle.pt_main.specs.Configured.{configured};
-ghost use Rattle.pt_main.specs.Run.{job_of, start_seat, report_of, AreLive, IsOpened, IsNotOpened, IsRunFrom, IsReportOf, IsNoReport};
+ghost use Rattle.pt_main.specs.Run.{job_of, jobs_of, start_seat, report_of, AreLive, IsOpened, IsNotOpened, IsRunFrom, IsReportOf, IsNoReport};
 
 use crate::input::MAX_SCRIPT;
 use crate::line::ScriptJob;
@@ -12,34 +12,39 @@ use crate::settings::Settings;
 use crate::status::Status;
 use crate::table_lines::{push_handles, push_lives, push_slots};
 use pt_fs::{Driven, Job, PassthroughFs, SteppedFs, drive};
-use pt_host::{Caps, HostSeat};
+use pt_host::HostSeat;
 use pt_iface::{Refusal, Request};
 use pt_req::Config;
 use pt_text::push_text;
 use pt_tree::TreeHost;
 use std::alloc::{AllocError, Global};
 
-// The seat of the daemon and of each job.
-fn start_seat() -> HostSeat
-    ensures { result ≡ start_seat }
+// The seat with which the daemon and each job begin.
+fn start_seat(settings: Settings) -> HostSeat
+    ensures { result ≡ start_seat settings }
 {
-    HostSeat::new(0, 0, Caps::ALL)
+    let who = settings.identity();
+    HostSeat::new(who.uid, who.gid, who.caps)
 }
 
-fn job_of(job: ScriptJob) -> Job
-    ensures { result ≡ job_of job }
+fn job_of(settings: Settings, job: ScriptJob) -> Job
+    ensures { result ≡ job_of (start_seat settings) job }
 {
     match job {
-        ScriptJob::Request(_, Request::Root) => Job::OpenRoot(start_seat()),
-        ScriptJob::Request(context, request) => Job::Request(context, start_seat(), request),
+        ScriptJob::Request(_, Request::Root) => Job::OpenRoot(start_seat(settings)),
+        ScriptJob::Request(context, request) => {
+            Job::Request(context, start_seat(settings), request)
+        }
         ScriptJob::Edit(edit) => Job::Edit(edit),
     }
 }
 
-fn jobs_of(alloc: Global, jobs: Vec<ScriptJob>) -> Result<Vec<Job>, AllocError>
-    ensures { IfOk result (λ made. made.items ≡ map job_of jobs.items) }
+fn jobs_of(alloc: Global, settings: Settings, jobs: Vec<ScriptJob>) -> Result<Vec<Job>, AllocError>
+    ensures { IfOk result (λ made. made.items ≡ jobs_of settings jobs.items) }
 {
-    jobs.into_iter().map(|job| job_of(job)).collect(alloc)
+    jobs.into_iter()
+        .map(|job| job_of(settings, job))
+        .collect(alloc)
 }
 
 // The configuration with what is set in place of the defaults.
@@ -55,13 +60,13 @@ fn configured(settings: Settings, mut config: Config) -> Config
 // The file system over a host, with the default configuration but for what is set.
 fn open_fs(alloc: Global, settings: Settings, host: &mut TreeHost) -> Result<PassthroughFs, Status>
     ensures ok { IfOk result (λ fs. IsOpened settings host.old fs host.new) }
-    ensures err { IfErr result (λ status. IsNotOpened host.old status) }
+    ensures err { IfErr result (λ status. IsNotOpened settings host.old status) }
 {
     let Ok(config) = Config::new(alloc) else {
         return Err(Status::NoMemory);
     };
     let config = configured(settings, config);
-    match PassthroughFs::new(alloc, config, host, &mut start_seat()) {
+    match PassthroughFs::new(alloc, config, host, &mut start_seat(settings)) {
         Ok(fs) => Ok(fs),
         Err(Refusal::Errno(errno)) => Err(Status::BadConfig(errno)),
         Err(Refusal::Memory) => Err(Status::NoMemory),
@@ -119,10 +124,10 @@ fn run_jobs(
 ) -> Result<Driven<PassthroughFs>, Status>
     requires { length jobs.items < 2 ^ 32 }
     ensures ok { IfOk result (λ driven. IsRunFrom settings host.old jobs.items schedule.now driven.trace.items driven.answers.items driven.fs.tables host.new) }
-    ensures err { IfErr result (λ status. IsNotOpened host.old status) }
+    ensures err { IfErr result (λ status. IsNotOpened settings host.old status) }
 {
     let fs = open_fs(alloc, settings, host)?;
-    let Ok(jobs) = jobs_of(alloc, jobs) else {
+    let Ok(jobs) = jobs_of(alloc, settings, jobs) else {
         return Err(Status::NoMemory);
     };
     match drive(alloc, fs, host, jobs, schedule) {

@@ -1,6 +1,6 @@
 ghost use Rattle.std.specs.Prelude.{◌≡◌, ◌≤◌, ◌++◌, ◌∷◌, [], List, ℕ, Option, OnOk, OnErr, Err, codes};
 ghost use Rattle.pt_host.specs.Promises.{HasRisen};
-ghost use Rattle.pt_main.specs.Output.{IsWritten, IsFrontWritten, IsBuffered};
+ghost use Rattle.pt_main.specs.Output.{IsWritten, IsFrontWritten};
 
 use crate::streams::{Failed, Sink};
 

@@ -29,7 +29,6 @@ fn write_report<O: Sink>(alloc: Global, bytes: &[u8], output: &mut O) -> Status
     ensures write_fault { result ≡ Status.WriteFault → (report : List ℕ) × IsReportOf bytes.now report × IsFrontWritten (O.written output.old) report (O.written output.new) }
     ensures write_fault_rose { result ≡ Status.WriteFault → HasRisen (O.faults output.old) (O.faults output.new) }
     ensures others { result ≢ Status.Done → result ≢ Status.WriteFault → IsNoReport bytes.now result }
-    ensures no_bad_config { (errno : Errno) → result ≢ Status.BadConfig errno }
     ensures nothing_written { result ≢ Status.Done → result ≢ Status.WriteFault → O.written output.new ≡ O.written output.old }
     ensures never_falls { O.faults output.old ≤ O.faults output.new }
 {
@@ -61,7 +60,8 @@ pub fn run<I: Source, O: Sink>(
     ensures usage { (result ≡ Status.Usage) ↔ (IsScriptWord (map string_bytes words.now) → ⊥) }
     ensures too_long { result ≡ Status.TooLong → IsLonger MAX_SCRIPT (I.left input.old) }
     ensures bad_script { (line : ℕ) → result ≡ Status.BadScript line → IsNoReportFrom (I.left input.old) (Status.BadScript line) }
-    ensures no_bad_config { (errno : Errno) → result ≢ Status.BadConfig errno }
+    // The first call of the host is the one that makes the file system, and it was planned to fail.
+    ensures bad_config { (errno : Errno) → result ≡ Status.BadConfig errno → IsNoReportFrom (I.left input.old) (Status.BadConfig errno) }
     ensures read_fault { result ≡ Status.ReadFault → HasRisen (I.faults input.old) (I.faults input.new) }
 
     // A front of the report of one run stands in the output.

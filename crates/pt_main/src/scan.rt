@@ -1,10 +1,10 @@
 ghost use Rattle.std.specs.Prelude.{◌≡◌, ◌≤◌, ◌+◌, not, nat_lt, IfOk, OnOk, OnErr, Some, None, true, false, length};
-ghost use Rattle.pt_main.specs.Script.{may_stand, added, nothing, max_places};
+ghost use Rattle.pt_main.specs.Script.{may_stand, added, nothing, max_places, is_before_jobs, last_fault, is_later};
 ghost use Rattle.pt_main.specs.Scan.{allowed, scan_of};
 
 use crate::fields::LineError;
 use crate::input::MAX_SCRIPT;
-use crate::line::{Line, ScriptJob, read_line};
+use crate::line::{Line, PlannedFault, ScriptJob, read_line};
 use crate::places::Places;
 use crate::settings::Settings;
 use pt_text::Parts;
@@ -23,6 +23,7 @@ pub const MAX_PLACES: usize = 1_048_576;
 pub struct Lines {
     settings: Settings,
     tree: Vec<TreeLine>,
+    faults: Vec<PlannedFault>,
     jobs: Vec<ScriptJob>,
     order: Places,
     ended: bool,
@@ -33,7 +34,7 @@ impl Model for Lines {
 
     ghost Value = { Begun };
 
-    ghost view = { λ lines. record { settings = lines.settings; tree = lines.tree.items; jobs = lines.jobs.items; order = lines.order; ended = lines.ended } };
+    ghost view = { λ lines. record { settings = lines.settings; tree = lines.tree.items; faults = lines.faults.items; jobs = lines.jobs.items; order = lines.order; ended = lines.ended } };
 }
 
 impl Lines {
@@ -43,6 +44,7 @@ impl Lines {
         Lines {
             settings: Settings::none(),
             tree: Vec::new(alloc),
+            faults: Vec::new(alloc),
             jobs: Vec::new(alloc),
             order: Places::new(alloc),
             ended: false,
@@ -61,7 +63,13 @@ impl Lines {
     {
         match line {
             Line::Set(setting) => self.tree.is_empty() && self.settings.may_set(*setting),
-            Line::Tree(_) => !self.ended && self.jobs.is_empty() && self.order.is_empty(),
+            Line::Tree(_) => !self.ended && self.faults.is_empty() && self.is_before_jobs(),
+            Line::Fault(fault) => {
+                !self.ended
+                    && !self.tree.is_empty()
+                    && self.is_before_jobs()
+                    && self.is_later(*fault)
+            }
             Line::Job(_) => {
                 !self.ended
                     && !self.tree.is_empty()
@@ -75,6 +83,23 @@ impl Lines {
                     && self.has_place_for(places.len())
             }
             Line::End => !self.ended && !self.tree.is_empty(),
+        }
+    }
+
+    // Whether no job and no place of the schedule stands yet.
+    fn is_before_jobs(&self) -> bool
+        ensures { result ≡ is_before_jobs self.now }
+    {
+        self.jobs.is_empty() && self.order.is_empty()
+    }
+
+    // Whether the fault's call comes behind those that are to fail already.
+    fn is_later(&self, fault: PlannedFault) -> bool
+        ensures { result ≡ is_later (last_fault self.now.faults) fault }
+    {
+        match self.faults.last() {
+            None => true,
+            Some(last) => last.call < fault.call,
         }
     }
 
@@ -94,6 +119,7 @@ impl Lines {
         match line {
             Line::Set(setting) => self.settings = self.settings.with_setting(setting),
             Line::Tree(line) => self.tree.push(line)?,
+            Line::Fault(fault) => self.faults.push(fault)?,
             Line::Job(job) => self.jobs.push(job)?,
             Line::Order(places) => self.order.append(&places)?,
             Line::End => self.ended = true,
@@ -108,13 +134,15 @@ impl Lines {
         self.settings
     }
 
-    /// The lines of the tree, the jobs and the schedule, which takes no memory.
-    pub fn into_parts(self) -> (TreeSpec, Vec<ScriptJob>, Places)
+    /// The lines of the tree, the faults, the jobs and the schedule, which takes no memory.
+    pub fn into_parts(self) -> (TreeSpec, Vec<PlannedFault>, Vec<ScriptJob>, Places)
         ensures tree { result.0 ≡ self.tree }
-        ensures jobs { result.1.items ≡ self.jobs }
-        ensures schedule { result.2 ≡ self.order }
+        ensures faults { result.1.items ≡ self.faults }
+        ensures jobs { result.2.items ≡ self.jobs }
+        ensures schedule { result.3 ≡ self.order }
     {
-        (TreeSpec::from_vec(self.tree), self.jobs, self.order)
+        let tree = TreeSpec::from_vec(self.tree);
+        (tree, self.faults, self.jobs, self.order)
     }
 
     // Puts the line that a text is behind these, and tells whether it is one and may stand there.

@@ -1,17 +1,18 @@
-ghost use Rattle.std.specs.Prelude.{◌≡◌, ◌≤◌, ◌<◌, ◌+◌, ◌^◌, IfOk, IfErr, length};
+ghost use Rattle.std.specs.Prelude.{◌≡◌, ◌≤◌, ◌<◌, ◌+◌, ◌^◌, IfOk, IfErr, OnOk, length};
 ghost use Rattle.pt_tree.specs.Start.{StartsAs};
+ghost use Rattle.pt_main.specs.Begins.{planned_all};
 ghost use Rattle.pt_main.specs.Parse.{IsBadLine, IsBadTree, place_of, error_behind};
 ghost use Rattle.pt_main.specs.Scan.{IsScriptOf};
 
 use crate::input::MAX_SCRIPT;
-use crate::line::ScriptJob;
+use crate::line::{PlannedFault, ScriptJob};
 use crate::places::Places;
 use crate::scan::scan_lines;
 use crate::settings::Settings;
 use pt_tree::{SpecError, TreeHost, TreeSpec};
 use std::alloc::Global;
 
-/// A script: what it sets, the host that holds its tree, its jobs in order, and the order of their steps.
+/// A script: what it sets, the host that holds its tree, with the faults that are planned, its jobs in order, and the order of their steps.
 #[derive(Drop)]
 pub struct Script {
     pub settings: Settings,
@@ -39,20 +40,36 @@ pub fn parse(alloc: Global, bytes: &[u8]) -> Result<Script, ParseError>
         return Err(ParseError::Memory);
     };
     let settings = scan.lines.settings();
-    let (tree, jobs, schedule) = scan.lines.into_parts();
-    let host = match host_of(alloc, settings.lines(), &tree) {
+    let (tree, faults, jobs, schedule) = scan.lines.into_parts();
+    let mut host = match host_of(alloc, settings.lines(), &tree) {
         Ok(host) => host,
         Err(error) => return Err(error),
     };
     match scan.bad {
         Some(line) => Err(ParseError::BadScript(line)),
-        None => Ok(Script {
-            settings,
-            host,
-            jobs,
-            schedule,
-        }),
+        None => match plan_faults(&mut host, faults.as_slice()) {
+            Ok(()) => Ok(Script {
+                settings,
+                host,
+                jobs,
+                schedule,
+            }),
+            Err(_) => Err(ParseError::Memory),
+        },
     }
+}
+
+// Plans these faults.
+fn plan_faults(host: &mut TreeHost, faults: &[PlannedFault]) -> Result<(), SpecError>
+    ensures { OnOk result (host.new ≡ planned_all faults.now host.old) }
+{
+    for fault in faults {
+        match host.plan_fault(fault.call, fault.errno) {
+            Ok(()) => {}
+            Err(error) => return Err(error),
+        }
+    }
+    Ok(())
 }
 
 // The host that holds the tree, whose lines stand behind so many others.

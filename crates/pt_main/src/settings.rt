@@ -1,17 +1,30 @@
 ghost use Rattle.std.specs.Prelude.{◌≡◌, ◌≤◌};
-ghost use Rattle.pt_main.specs.Settings.{no_settings, may_set, with_setting, set_lines};
+ghost use Rattle.pt_main.specs.Settings.{no_settings, may_set, with_setting, set_lines, identity_in};
+
+use pt_host::Caps;
+
+/// Who a seat begins as: one uid, one gid and its capabilities.
+#[derive(Clone, Copy, Debug, PartialEq, Eq)]
+pub struct Identity {
+    pub uid: u32,
+    pub gid: u32,
+    pub caps: Caps,
+}
 
 /// One setting of a script.
 #[derive(Clone, Copy, Debug, PartialEq, Eq)]
 pub enum Setting {
     /// How many descriptors the guest may hold.
     GuestFdLimit(u64),
+    /// Who the daemon and each job begin as.
+    Seat(Identity),
 }
 
 /// The settings of a script, each set once at most.
 #[derive(Clone, Copy, Debug, PartialEq, Eq)]
 pub struct Settings {
     pub guest_fd_limit: Option<u64>,
+    pub seat: Option<Identity>,
 }
 
 impl Settings {
@@ -21,6 +34,7 @@ impl Settings {
     {
         Settings {
             guest_fd_limit: None,
+            seat: None,
         }
     }
 
@@ -30,24 +44,44 @@ impl Settings {
     {
         match setting {
             Setting::GuestFdLimit(_) => self.guest_fd_limit.is_none(),
+            Setting::Seat(_) => self.seat.is_none(),
         }
     }
 
-    pub fn with_setting(self, setting: Setting) -> Settings
+    pub fn with_setting(mut self, setting: Setting) -> Settings
         ensures { result ≡ with_setting self setting }
     {
         match setting {
-            Setting::GuestFdLimit(limit) => Settings {
-                guest_fd_limit: Some(limit),
-            },
+            Setting::GuestFdLimit(limit) => self.guest_fd_limit = Some(limit),
+            Setting::Seat(who) => self.seat = Some(who),
         }
+        self
     }
 
     /// How many lines set them.
     pub fn lines(&self) -> u32
         ensures lines { result ≡ set_lines self.now }
-        ensures few { result ≤ 1 }
+        ensures few { result ≤ 2 }
     {
-        if self.guest_fd_limit.is_some() { 1 } else { 0 }
+        match (self.guest_fd_limit, self.seat) {
+            (None, None) => 0,
+            (Some(_), None) => 1,
+            (None, Some(_)) => 1,
+            (Some(_), Some(_)) => 2,
+        }
+    }
+
+    /// Who the daemon and each job begin as: the superuser with all capabilities, where nobody else is set.
+    pub fn identity(&self) -> Identity
+        ensures { result ≡ identity_in self.now }
+    {
+        match self.seat {
+            Some(who) => who,
+            None => Identity {
+                uid: 0,
+                gid: 0,
+                caps: Caps::ALL,
+            },
+        }
     }
 }

@@ -3,6 +3,7 @@ ghost use Rattle.std.specs.Prelude.{None};
 mod bad_scripts;
 mod edits;
 mod handles;
+mod hosts;
 mod interleavings;
 mod reports;
 mod requests;

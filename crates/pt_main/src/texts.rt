@@ -2,6 +2,7 @@ ghost use Rattle.std.specs.Prelude.{◌≡◌, ◌++◌, ℕ, List, OnOk};
 
 mod act;
 mod answer;
+mod call;
 mod edit;
 mod host;
 mod plain;

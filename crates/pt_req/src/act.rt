@@ -6,7 +6,7 @@ use pt_session::{Event, EventReply, KeptEvent};
 use std::alloc::{AllocError, Global};
 
 /// One step: an event of the tables, or a call of the host.
-#[derive(Clone, Copy)]
+#[derive(Drop)]
 pub enum Act<'a> {
     Event(Event<'a>),
     Host(HostOp<'a>),
@@ -30,7 +30,7 @@ pub enum ActReply {
 }
 
 /// What a job wants.
-#[derive(Clone, Copy)]
+#[derive(Drop)]
 pub enum Want<'a> {
     Step(Act<'a>),
     Finished,

@@ -1,5 +1,5 @@
 -- The heap of the free numbers through an opening and a close.
-use Rattle.std.proofs.Common.{◌≡◌, ◌≢◌, ◌≤◌, ◌<◌, ◌+◌, ℕ, true, false, cond, List, [], ◌∷◌, ◌++◌, length, Option, Some, None, sum_by, slice_get, slice_set, refl, ap, sym, ◌∙◌, subst, arith, get_or, length-set, ◌^◌, inl, inr}
+use Rattle.std.proofs.Common.{◌≡◌, ◌≢◌, ◌≤◌, ◌<◌, ◌+◌, ◌-◌, ℕ, suc, true, false, cond, List, [], ◌∷◌, ◌++◌, length, Option, Some, None, sum_by, take, slice_get, slice_set, refl, ap, sym, ◌∙◌, subst, arith, get_or, length-set, ◌^◌, inl, inr}
 use Rattle.std.specs.Option.{is_some}
 use Rattle.std.specs.Result.{IsOk, OnOk}
 use Rattle.std.specs.Prelude.{Result, Ok, Err}
@@ -207,3 +207,57 @@ open_slot_of slots fd some = is_open (slice_get slots fd) some
 pub when_ok : {T E : Type 0} (result : Result T E) (P : Type 0) → IsOk result → OnOk result P → P
 when_ok (Ok value) P ok holds = holds
 when_ok (Err error) P ok holds = cc
+
+-- an open descriptor goes on elsewhere
+pub reopened_table : (slots : List Slot) (items : List (Reverse ℕ)) (capacity place : ℕ) (file after : OpenFile) → IsTable slots items capacity →
+    slice_get slots place ≡ Some (Open file) → IsTable (slice_set slots place (Open after)) items capacity
+reopened_table slots items capacity place file after table is =
+    let within = slice_get_within slots place (Open file) is in
+    let weights = sum_by-set open_weight slots place (Open after) Reserved within in
+    let was = ap open_weight (get_or_from_slice_get slots place (Open file) Reserved is) in
+    let long = length-set slots place (Open after) in
+    record {
+      heap = table.heap;
+      each = λ number. elim (eqb_tells number place) [
+        | inl e ↦ table.each number ∙ ap free_weight (ap (slice_get slots) e.1 ∙ is)
+            ∙ sym (ap free_weight (ap (slice_get (slice_set slots place (Open after))) e.1 ∙ get-set_here slots place (Open after) within))
+        | inr e ↦ table.each number ∙ sym (ap free_weight (get-set_apart slots place (Open after) number e.1))
+      ];
+      few = (let few = table.few in omega (arith, few, long));
+      room = (let room = table.room in omega (arith, room, weights, was));
+    }
+
+none_at_end : (slots : List Slot) → slice_get slots (length slots) ≡ None
+none_at_end [] = refl
+none_at_end (slot ∷ slots) = none_at_end slots
+
+shorter_table : (front : List Slot) (file : OpenFile) (items : List (Reverse ℕ)) (capacity : ℕ) → IsTable (front ++ Open file ∷ []) items capacity →
+    IsTable front items capacity
+shorter_table front file items capacity table =
+    let long = length_push front (Open file) in
+    let weights = sum_by_push open_weight front (Open file) in
+    record {
+      heap = table.heap;
+      each = λ number. elim (eqb_tells number (length front)) [
+        | inl e ↦ table.each number ∙ ap free_weight (ap (slice_get (front ++ Open file ∷ [])) e.1 ∙ get-push_here front (Open file))
+            ∙ sym (ap free_weight (ap (slice_get front) e.1 ∙ none_at_end front))
+        | inr e ↦ table.each number ∙ ap free_weight (get-push_apart front (Open file) number e.1)
+      ];
+      few = (let few = table.few in omega (arith, few, long));
+      room = (let room = table.room in omega (arith, room, weights));
+    }
+
+last_slot : (slots : List Slot) (slot : Slot) → slice_get slots (length slots - 1) ≡ Some slot → slots ≡ take (length slots - 1) slots ++ slot ∷ []
+last_slot [] slot is = cc
+last_slot (first ∷ []) slot is = (let same : first ≡ slot = cc in ap (λ s. s ∷ []) same)
+last_slot (first ∷ next ∷ slots) slot is =
+    let n : length (first ∷ next ∷ slots) - 1 ≡ suc (length (next ∷ slots) - 1) = omega arith in
+    let later = last_slot (next ∷ slots) slot (ap (slice_get (first ∷ next ∷ slots)) (sym n) ∙ is) in
+    ap (λ more. first ∷ more) later ∙ ap (λ k. take k (first ∷ next ∷ slots) ++ slot ∷ []) (sym n)
+
+-- the last number is there no more
+pub popped_last : (slots : List Slot) (items : List (Reverse ℕ)) (capacity : ℕ) (file : OpenFile) → IsTable slots items capacity →
+    slice_get slots (length slots - 1) ≡ Some (Open file) → IsTable (take (length slots - 1) slots) items capacity
+popped_last slots items capacity file table is =
+    shorter_table (take (length slots - 1) slots) file items capacity
+    (subst (λ (all : List Slot). IsTable all items capacity) (last_slot slots (Open file) is) table)

@@ -1,5 +1,5 @@
 -- How often an object is held, through each change of names and descriptors.
-use Rattle.std.proofs.Common.{◌≡◌, ◌≢◌, ◌<◌, ◌+◌, inl, inr, ℕ, zero, suc, Bool, cond, List, [], ◌∷◌, ◌++◌, length, Option, Some, None, option_map, slice_get, refl, ap, sym, ◌∙◌, subst, arith}
+use Rattle.std.proofs.Common.{◌≡◌, ◌<◌, ◌+◌, inl, inr, ℕ, zero, suc, Bool, List, [], ◌∷◌, ◌++◌, length, Option, Some, None, option_map, slice_get, refl, ap, sym, ◌∙◌, subst, arith}
 use Rattle.std.specs.Cmp.Lexicographic.{slice_cmp}
 use Rattle.std.specs.Map.{lookup}
 use Rattle.std.specs.BTreeMap.{is_at}
@@ -23,21 +23,11 @@ use Rattle.pt_tree.specs.declared.node.Node.{Node}
 use Rattle.pt_tree.specs.declared.slots.OpenFile.{OpenFile}
 use Rattle.pt_tree.specs.declared.slots.Slot.{Slot}
 use Rattle.pt_tree.specs.declared.slots.Slot.TheVariants.{Reserved, Free, Open}
-use Rattle.pt_tree.specs.Laws.Lawful.{least_free-closed}
+pub use Rattle.pt_tree.specs.Laws.Held.{is_none, is_one, is_some_one}
+use Rattle.pt_tree.specs.Laws.Opens.{least_free-closed}
 use Rattle.pt_tree.specs.Laws.SlotTable.{least_free-le-length}
 use Rattle.pt_tree.specs.Laws.Soundness.{open_slot}
 use Rattle.pt_tree.specs.Laws.Updates.{put_before, put_end}
-
-pub is_one : (a b : ℕ) → a ≡ b → is a b ≡ 1
-unfolding is
-is_one a b same = elim (eqb_tells a b) [ inl e ↦ ap (λ t. cond t 1 0) e.0 | inr apart ↦ absurd (apart.1 same) ]
-
-pub is_none : (a b : ℕ) → a ≢ b → is a b ≡ 0
-unfolding is
-is_none a b apart = elim (eqb_tells a b) [ inl e ↦ absurd (apart e.1) | inr other ↦ ap (λ t. cond t 1 0) other.0 ]
-
-pub is_some_one : (a b : ℕ) → 0 < is a b → a ≡ b
-is_some_one a b some = elim (eqb_tells a b) [ inl e ↦ e.1 | inr apart ↦ absurd (let none = is_none a b apart.1 in omega arith) ]
 
 -- how often the object is the one that is there
 abbrev pub counts_where : ℕ → Option ℕ → ℕ

@@ -4,32 +4,23 @@ use Rattle.std.specs.Prelude.{slice_index}
 use Rattle.std.proofs.lemmas.Bool.Decides.{eqb_tells}
 use Rattle.std.proofs.lemmas.List.Sums.{prefix_len_passes}
 use Rattle.std.proofs.lemmas.Option.{same_Some, slice_get_within, slice_get-get_or, get_or_from_slice_get}
-use Rattle.pt_host.specs.Words.{is}
-use Rattle.pt_tree.specs.Kept.{IsKept, given_up, held_by, released}
+use Rattle.pt_host.specs.Words.{is, set_at}
+use Rattle.pt_tree.specs.Kept.{AreNumbered, IsKept, freed, given_up, held_by, released}
 use Rattle.pt_tree.specs.Living.{AreLeastFree, IsLeastFree, IsTaken}
 use Rattle.pt_tree.specs.Slots.{closed, closed_where, file_of, is_free, least_free, open_at}
 use Rattle.pt_tree.specs.Sound.{IsSound}
 use Rattle.pt_tree.specs.State.{State}
-use Rattle.pt_tree.specs.StoreState.{is_of_device, next_numbers}
 use Rattle.pt_tree.specs.declared.node.Node.{Node}
 use Rattle.pt_tree.specs.declared.slots.OpenFile.{OpenFile}
 use Rattle.pt_tree.specs.declared.slots.Slot.{Slot}
 use Rattle.pt_tree.specs.declared.slots.Slot.TheVariants.{Reserved, Free, Open}
 use Rattle.pt_tree.specs.Laws.Changed.{AreAlike}
-use Rattle.pt_tree.specs.Laws.Lawful.{least_free-closed}
+use Rattle.pt_tree.specs.Laws.Opens.{least_free-closed}
 use Rattle.pt_tree.specs.Laws.SlotTable.{least_free-le-length}
 use Rattle.pt_tree.specs.Laws.Soundness.{open_slot}
 use Rattle.pt_tree.specs.Laws.Updates.{get-set_apart, get-set_cases, get-set_here}
 use Rattle.pt_tree.proofs.Alive.{held_lives, lives_held}
 use Rattle.pt_tree.proofs.Holding.{is_none, is_one}
-
-one_device_alike : (before after : List Node) → AreAlike before after →
-    ((object another : ℕ) (node that : Node) → slice_get before object ≡ Some node → slice_get before another ≡ Some that → node.ids.dev ≡ that.ids.dev) →
-    (object another : ℕ) (node that : Node) → slice_get after object ≡ Some node → slice_get after another ≡ Some that → node.ids.dev ≡ that.ids.dev
-one_device_alike before after alike one object another node that is too =
-    let was = alike.each object node is in
-    let other = alike.each another that too in
-    ap (λ i. i.dev) was.2.ids ∙ one object another was.0 other.0 was.1 other.1 ∙ sym (ap (λ i. i.dev) other.2.ids)
 
 -- what stood at a place, and has become alike
 pub alike_there : (before after : List Node) (place : ℕ) (node : Node) → AreAlike before after → slice_get before place ≡ Some node →
@@ -42,23 +33,39 @@ alike_there before after place node alike is =
 
 -- ---- as often as before
 
-pub kept_alike : (state after : State) (holds : List ℕ) (numbers : List Slot) → IsKept state holds numbers → IsSound after → AreAlike state.nodes after.nodes →
-    ((object : ℕ) → held_by after object ≡ held_by state object) → IsKept after holds numbers
-kept_alike state after holds numbers kept sound alike same = record {
+-- what is held on the device is what was held
+pub numbered_alike : (state after : State) (dev : ℕ) (numbers : List Slot) → AreNumbered state dev numbers → AreAlike state.nodes after.nodes →
+    ((object : ℕ) (node : Node) → slice_get state.nodes object ≡ Some node → node.ids.dev ≡ dev → 0 < held_by after object → 0 < held_by state object) →
+    ((object : ℕ) (node : Node) → slice_get state.nodes object ≡ Some node → node.ids.dev ≡ dev → 0 < held_by state object → 0 < held_by after object) →
+    AreNumbered after dev numbers
+numbered_alike state after dev numbers are alike back on = record {
+  has = λ object node there of some.
+      let was = alike.each object node there in
+      let was_of : was.0.ids.dev ≡ dev = sym (ap (λ ids. ids.dev) was.2.ids) ∙ of in
+      let file = are.has object was.0 was.1 was_of (back object was.0 was.1 was_of some) in
+      (file.0, ap (λ ids. open_at numbers ids.ino) was.2.ids ∙ file.1, file.2);
+  had = λ number file there.
+      let held = are.had number file there in
+      let that = alike_there state.nodes after.nodes file.object held.0 alike held.1 in (
+        that.0,
+        that.1,
+        ap (λ ids. ids.dev) that.2 ∙ held.2,
+        ap (λ ids. ids.ino) that.2 ∙ held.3,
+        on file.object held.0 held.1 held.2 held.4,
+      );
+  from_one = are.from_one;
+  no_other = are.no_other;
+}
+
+pub kept_alike : (state after : State) (holds : List ℕ) (tables : ℕ → List Slot) → IsKept state holds tables → IsSound after → AreAlike state.nodes after.nodes →
+    ((object : ℕ) → held_by after object ≡ held_by state object) → IsKept after holds tables
+kept_alike state after holds tables kept sound alike same = record {
   sound = sound;
   long = kept.long ∙ sym alike.long;
   held = λ object within. kept.held object (subst (λ n. object < n) alike.long within) ∙ ap (λ n. Some n) (sym (same object));
-  has = λ object node is some.
-      let was = alike.each object node is in
-      let file = kept.has object was.0 was.1 (subst (λ n. 0 < n) (same object) some) in
-      (file.0, ap (λ ids. open_at numbers ids.ino) was.2.ids ∙ file.1, file.2);
-  had = λ number file is.
-      let node = kept.had number file is in
-      let that = alike_there state.nodes after.nodes file.object node.0 alike node.1 in
-      (that.0, that.1, ap (λ ids. ids.ino) that.2 ∙ node.2, subst (λ n. 0 < n) (sym (same file.object)) node.3);
-  from_one = kept.from_one;
-  no_other = kept.no_other;
-  one_device = one_device_alike state.nodes after.nodes alike kept.one_device;
+  numbered = λ dev. numbered_alike state after dev (tables dev) (kept.numbered dev) alike
+      (λ object node there of some. subst (λ n. 0 < n) (same object) some)
+      (λ object node there of some. subst (λ n. 0 < n) (sym (same object)) some);
 }
 
 -- ---- once more
@@ -75,13 +82,13 @@ held_value holds object value other count after is here there = elim (eqb_tells 
   | inr apart ↦ get-set_apart holds object value other apart.1 ∙ is ∙ ap (λ n. Some n) (sym (there apart.1))
 ]
 
-module _ (state after : State) (holds : List ℕ) (numbers : List Slot) (object : ℕ) (kept : IsKept state holds numbers) (sound : IsSound after)
+module _ (state after : State) (holds : List ℕ) (tables : ℕ → List Slot) (object : ℕ) (kept : IsKept state holds tables) (sound : IsSound after)
     (alike : AreAlike state.nodes after.nodes) (within : object < length state.nodes) where
   held_before : slice_index holds object ≡ held_by state object
   held_before = index_is holds object (held_by state object) (kept.held object within)
 
   pub kept_more : 0 < held_by state object → ((o : ℕ) → held_by after o ≡ held_by state o + is o object) →
-      IsKept after (slice_set holds object (slice_index holds object + 1)) numbers
+      IsKept after (slice_set holds object (slice_index holds object + 1)) tables
   kept_more lives more = record {
     sound = sound;
     long = length-set holds object (slice_index holds object + 1) ∙ kept.long ∙ sym alike.long;
@@ -89,17 +96,9 @@ module _ (state after : State) (holds : List ℕ) (numbers : List Slot) (object 
         held_value holds object (slice_index holds object + 1) o (held_by state o) (held_by after o) (kept.held o (subst (λ n. o < n) alike.long below))
         (λ same. let a = more o in let one = is_one o object same in let e = ap (held_by state) same in let h = held_before in omega arith)
         (λ apart. let a = more o in let none = is_none o object apart in omega arith);
-    has = λ o node there some.
-        let was = alike.each o node there in
-        let file = kept.has o was.0 was.1 (still_held o some) in
-        (file.0, ap (λ ids. open_at numbers ids.ino) was.2.ids ∙ file.1, file.2);
-    had = λ number file there.
-        let node = kept.had number file there in
-        let that = alike_there state.nodes after.nodes file.object node.0 alike node.1 in
-        (that.0, that.1, ap (λ ids. ids.ino) that.2 ∙ node.2, (let a = more file.object in let some = node.3 in omega arith));
-    from_one = kept.from_one;
-    no_other = kept.no_other;
-    one_device = one_device_alike state.nodes after.nodes alike kept.one_device;
+    numbered = λ dev. numbered_alike state after dev (tables dev) (kept.numbered dev) alike
+        (λ o node there of some. still_held o some)
+        (λ o node there of some. let a = more o in omega arith);
   }
     where
       still_held : (o : ℕ) → 0 < held_by after o → 0 < held_by state o
@@ -141,9 +140,19 @@ still_open_at number k numbers file there = elim (eqb_tells k number) [
   | inr apart ↦ (apart.1, sym (ap file_of (closed_apart (open_at numbers number) number numbers k apart.1)) ∙ there)
 ]
 
+-- ---- the table of one device changes
+
+pub numbered_put : (state : State) (dev : ℕ) (table : List Slot) (tables : ℕ → List Slot) → AreNumbered state dev table →
+    ((other : ℕ) → other ≢ dev → AreNumbered state other (tables other)) → (other : ℕ) → AreNumbered state other (set_at dev table tables other)
+unfolding set_at
+numbered_put state dev table tables here there other = elim (eqb_tells other dev) [
+  | inl e ↦ subst (λ b. AreNumbered state other (cond b table (tables other))) (sym e.0) (subst (λ k. AreNumbered state k table) (sym e.1) here)
+  | inr apart ↦ subst (λ b. AreNumbered state other (cond b table (tables other))) (sym apart.0) (there other apart.1)
+]
+
 -- ---- once less
 
-module _ (state after : State) (holds : List ℕ) (numbers : List Slot) (object : ℕ) (node : Node) (kept : IsKept state holds numbers) (sound : IsSound after)
+module _ (state after : State) (holds : List ℕ) (tables : ℕ → List Slot) (object : ℕ) (node : Node) (kept : IsKept state holds tables) (sound : IsSound after)
     (alike : AreAlike state.nodes after.nodes) (here : slice_get state.nodes object ≡ Some node)
     (less : (o : ℕ) → held_by after o + is o object ≡ held_by state o) where
   below : object < length state.nodes
@@ -165,22 +174,14 @@ module _ (state after : State) (holds : List ℕ) (numbers : List Slot) (object 
   more_before o some = let a = less o in omega arith
 
   -- it is still held
-  kept_less : held_by state object ≢ 1 → IsKept after (released object holds) numbers
+  kept_less : held_by state object ≢ 1 → IsKept after (released object holds) tables
   kept_less many = record {
     sound = sound;
     long = long_less;
     held = held_less;
-    has = λ o that there some.
-        let was = alike.each o that there in
-        let file = kept.has o was.0 was.1 (more_before o some) in
-        (file.0, ap (λ ids. open_at numbers ids.ino) was.2.ids ∙ file.1, file.2);
-    had = λ number file there.
-        let held = kept.had number file there in
-        let that = alike_there state.nodes after.nodes file.object held.0 alike held.1 in
-        (that.0, that.1, ap (λ ids. ids.ino) that.2 ∙ held.2, still_held file.object held.3);
-    from_one = kept.from_one;
-    no_other = kept.no_other;
-    one_device = one_device_alike state.nodes after.nodes alike kept.one_device;
+    numbered = λ dev. numbered_alike state after dev (tables dev) (kept.numbered dev) alike
+        (λ o that there of some. more_before o some)
+        (λ o that there of some. still_held o some);
   }
     where
       still_held : (o : ℕ) → 0 < held_by state o → 0 < held_by after o
@@ -190,49 +191,63 @@ module _ (state after : State) (holds : List ℕ) (numbers : List Slot) (object 
         | inr apart ↦ (let a = less o in let none = is_none o object apart.1 in omega arith)
       ]
 
+  -- what stands on another device is another object
+  on_other : (dev o : ℕ) (that : Node) → dev ≢ node.ids.dev → slice_get state.nodes o ≡ Some that → that.ids.dev ≡ dev → o ≢ object
+  on_other dev o that apart there of same =
+      apart (sym of ∙ ap (λ (n : Node). n.ids.dev) (same_Some that node (sym there ∙ ap (slice_get state.nodes) same ∙ here)))
+
   -- it is dead
-  kept_dead : held_by state object ≡ 1 → IsKept after (released object holds) (closed node.ids.ino numbers)
-  kept_dead last = record {
-    sound = sound;
-    long = long_less;
-    held = held_less;
-    has = λ o that there some.
+  numbered_dead : held_by state object ≡ 1 → AreNumbered after node.ids.dev (closed node.ids.ino (tables node.ids.dev))
+  numbered_dead last = record {
+    has = λ o that there of some.
         let was = alike.each o that there in
-        let file = kept.has o was.0 was.1 (more_before o some) in
+        let was_of : was.0.ids.dev ≡ node.ids.dev = sym (ap (λ ids. ids.dev) was.2.ids) ∙ of in
+        let file = (kept.numbered node.ids.dev).has o was.0 was.1 was_of (more_before o some) in
         let apart : was.0.ids.ino ≢ node.ids.ino = λ same. other_object o some
-        (sym file.2 ∙ ap (λ (f : OpenFile). f.object) (same_Some file.0 mine.0 (sym file.1 ∙ ap (open_at numbers) same ∙ mine.1)) ∙ mine.2) in (
+        (sym file.2 ∙ ap (λ (f : OpenFile). f.object) (same_Some file.0 mine.0 (sym file.1 ∙ ap (open_at (tables node.ids.dev)) same ∙ mine.1)) ∙ mine.2) in (
           file.0,
-          ap (λ ids. open_at (closed node.ids.ino numbers) ids.ino) was.2.ids
-              ∙ ap file_of (closed_apart (open_at numbers node.ids.ino) node.ids.ino numbers was.0.ids.ino apart) ∙ file.1,
+          ap (λ ids. open_at (closed node.ids.ino (tables node.ids.dev)) ids.ino) was.2.ids
+              ∙ ap file_of (closed_apart (open_at (tables node.ids.dev) node.ids.ino) node.ids.ino (tables node.ids.dev) was.0.ids.ino apart) ∙ file.1,
           file.2,
         );
     had = λ number file there.
-        let open_still = still_open_at node.ids.ino number numbers file there in
-        let held = kept.had number file open_still.1 in
+        let open_still = still_open_at node.ids.ino number (tables node.ids.dev) file there in
+        let held = (kept.numbered node.ids.dev).had number file open_still.1 in
         let that = alike_there state.nodes after.nodes file.object held.0 alike held.1 in
-        let apart : file.object ≢ object = λ same. open_still.0 (sym held.2 ∙ ap (λ n. n.ids.ino) (same_Some held.0 node (sym held.1 ∙ ap (slice_get state.nodes) same ∙ here))) in (
+        let apart : file.object ≢ object = λ same. open_still.0 (sym held.3 ∙ ap (λ n. n.ids.ino) (same_Some held.0 node (sym held.1 ∙ ap (slice_get state.nodes) same ∙ here))) in (
           that.0,
           that.1,
-          ap (λ ids. ids.ino) that.2 ∙ held.2,
-          (let a = less file.object in let none = is_none file.object object apart in let some = held.3 in omega arith),
+          ap (λ ids. ids.dev) that.2 ∙ held.2,
+          ap (λ ids. ids.ino) that.2 ∙ held.3,
+          (let a = less file.object in let none = is_none file.object object apart in let some = held.4 in omega arith),
         );
-    from_one = reserved_still (open_at numbers node.ids.ino) node.ids.ino numbers 0 refl kept.from_one;
-    no_other = λ number some there. kept.no_other number some (reserved_before (open_at numbers node.ids.ino) node.ids.ino numbers number there);
-    one_device = one_device_alike state.nodes after.nodes alike kept.one_device;
+    from_one = reserved_still (open_at (tables node.ids.dev) node.ids.ino) node.ids.ino (tables node.ids.dev) 0 refl (kept.numbered node.ids.dev).from_one;
+    no_other = λ number some there. (kept.numbered node.ids.dev).no_other number some (reserved_before (open_at (tables node.ids.dev) node.ids.ino) node.ids.ino (tables node.ids.dev) number there);
   }
     where
-      mine : (file : OpenFile) × (open_at numbers node.ids.ino ≡ Some file) × (file.object ≡ object)
-      mine = kept.has object node here (omega arith)
+      mine : (file : OpenFile) × (open_at (tables node.ids.dev) node.ids.ino ≡ Some file) × (file.object ≡ object)
+      mine = (kept.numbered node.ids.dev).has object node here refl (omega arith)
 
       other_object : (o : ℕ) → 0 < held_by after o → o ≡ object → ⊥
       other_object o some same = let a = less o in let one = is_one o object same in let e = ap (held_by state) same in omega arith
 
+  kept_dead : held_by state object ≡ 1 → IsKept after (released object holds) (freed node.ids.dev node.ids.ino tables)
+  kept_dead last = record {
+    sound = sound;
+    long = long_less;
+    held = held_less;
+    numbered = numbered_put after node.ids.dev (closed node.ids.ino (tables node.ids.dev)) tables (numbered_dead last)
+        (λ dev apart. numbered_alike state after dev (tables dev) (kept.numbered dev) alike
+        (λ o that there of some. more_before o some)
+        (λ o that there of some. let a = less o in let none = is_none o object (on_other dev o that apart there of) in omega arith));
+  }
+
   by_count : (b : Bool) → (b ≡ true → held_by state object ≡ 1) → (b ≡ false → held_by state object ≢ 1) →
-      IsKept after (released object holds) (cond b (closed node.ids.ino numbers) numbers)
+      IsKept after (released object holds) (cond b (freed node.ids.dev node.ids.ino tables) tables)
   by_count true last many = kept_dead (last refl)
   by_count false last many = kept_less (many refl)
 
-  pub kept_released : IsKept after (released object holds) (given_up node.ids.ino object holds numbers)
+  pub kept_released : IsKept after (released object holds) (given_up node.ids.dev node.ids.ino object holds tables)
   kept_released = elim (eqb_tells (slice_index holds object) 1) [
     | inl e ↦ by_count (slice_index holds object == 1) (λ _. sym count_is ∙ e.1) (λ f. absurd (let g : true ≡ false = sym e.0 ∙ f in cc))
     | inr apart ↦ by_count (slice_index holds object == 1) (λ f. absurd (let g : true ≡ false = sym f ∙ apart.0 in cc)) (λ _ one. apart.1 (count_is ∙ one))
@@ -261,63 +276,30 @@ taken_below numbers k low =
     let within : k < length numbers = (let le = least_free-le-length numbers in omega arith) in
     (get_or numbers k Reserved, slice_get-get_or numbers k Reserved within, not_true (is_free (get_or numbers k Reserved)) (prefix_len_passes (λ s. not (is_free s)) numbers k Reserved low))
 
-module _ (state : State) (holds : List ℕ) (numbers : List Slot) (kept : IsKept state holds numbers) where
-  taken_open : (dev : ℕ) (root : Node) → slice_get state.nodes 0 ≡ Some root → root.ids.dev ≡ dev → (number : ℕ) (file : OpenFile) →
-      open_at numbers number ≡ Some file → IsTaken state dev number
-  taken_open dev root there of number file is_open =
-      let held = kept.had number file is_open in
-      (file.object, held.0, held.1, held_lives state file.object kept.sound held.3, kept.one_device file.object 0 held.0 root held.1 there ∙ of, held.2)
+module _ (state : State) (dev : ℕ) (numbers : List Slot) (are : AreNumbered state dev numbers) (sound : IsSound state) where
+  taken_open : (number : ℕ) (file : OpenFile) → open_at numbers number ≡ Some file → IsTaken state dev number
+  taken_open number file is_open =
+      let held = are.had number file is_open in
+      (file.object, held.0, held.1, held_lives state file.object sound held.4, held.2, held.3)
 
-  taken_other : (dev : ℕ) (root : Node) → slice_get state.nodes 0 ≡ Some root → root.ids.dev ≡ dev → (number : ℕ) → 0 < number → (slot : Slot) →
-      slice_get numbers number ≡ Some slot → (slot ≡ Reserved) ⊎ ((file : OpenFile) × (slot ≡ Open file)) → IsTaken state dev number
-  taken_other dev root there of number some slot is (inl reserved) = absurd (kept.no_other number some (is ∙ ap (λ (s : Slot). Some s) reserved))
-  taken_other dev root there of number some slot is (inr (file, open_on)) =
-      taken_open dev root there of number file (ap file_of (is ∙ ap (λ (s : Slot). Some s) open_on))
+  taken_other : (number : ℕ) → 0 < number → (slot : Slot) → slice_get numbers number ≡ Some slot →
+      (slot ≡ Reserved) ⊎ ((file : OpenFile) × (slot ≡ Open file)) → IsTaken state dev number
+  taken_other number some slot is (inl reserved) = absurd (are.no_other number some (is ∙ ap (λ (s : Slot). Some s) reserved))
+  taken_other number some slot is (inr (file, open_on)) = taken_open number file (ap file_of (is ∙ ap (λ (s : Slot). Some s) open_on))
 
-  least_kept : (dev : ℕ) (root : Node) → slice_get state.nodes 0 ≡ Some root → root.ids.dev ≡ dev → IsLeastFree state dev (least_free numbers)
-  least_kept dev root there of = record {
-    from_one = least_not_0 numbers kept.from_one;
+  pub least_numbered : IsLeastFree state dev (least_free numbers)
+  least_numbered = record {
+    from_one = least_not_0 numbers are.from_one;
     free = λ taken.
-        let file = kept.has taken.0 taken.1 taken.2 (lives_held state taken.0 taken.3) in
+        let file = are.has taken.0 taken.1 taken.2 taken.4 (lives_held state taken.0 taken.3) in
         let a : open_at numbers (least_free numbers) ≡ Some file.0 = sym (ap (open_at numbers) taken.5) ∙ file.1 in
         let b : Some file.0 ≡ None = sym a ∙ least_free-closed numbers in
         cc;
     least = λ other some low.
         let slot = taken_below numbers other low in
-        taken_other dev root there of other some slot.0 slot.1 (taken_slot slot.0 slot.2);
+        taken_other other some slot.0 slot.1 (taken_slot slot.0 slot.2);
   }
 
-  first_of_other : (dev : ℕ) → ((object : ℕ) (node : Node) → slice_get state.nodes object ≡ Some node → node.ids.dev ≢ dev) → IsLeastFree state dev 1
-  first_of_other dev none = record {
-    from_one = omega arith;
-    free = λ taken. none taken.0 taken.1 taken.2 taken.4;
-    least = λ other some low. absurd (omega arith);
-  }
-
-  no_objects : (nodes : List Node) → slice_get nodes 0 ≡ None → (object : ℕ) (node : Node) → slice_get nodes object ≡ Some node → ⊥
-  no_objects [] there object node is = cc
-  no_objects (first ∷ nodes) there object node is = cc
-
-  next_by_root : (dev : ℕ) (root : Option Node) → slice_get state.nodes 0 ≡ root → IsLeastFree state dev (cond (is_of_device dev root) (least_free numbers) 1)
-  next_by_root dev None there = first_of_other dev (λ object node is. absurd (no_objects state.nodes there object node is))
-  next_by_root dev (Some root) there = elim (eqb_tells root.ids.dev dev) [
-    | inl same ↦ subst (λ b. IsLeastFree state dev (cond b (least_free numbers) 1)) (sym same.0) (least_kept dev root there same.1)
-    | inr apart ↦ subst (λ b. IsLeastFree state dev (cond b (least_free numbers) 1)) (sym apart.0)
-        (first_of_other dev (λ object node is of. apart.1 (kept.one_device 0 object root node there is ∙ of)))
-  ]
-
-  -- the numbers that new objects get are the least
-  pub next_least : AreLeastFree state (next_numbers state.nodes numbers)
-  next_least dev = next_by_root dev (slice_get state.nodes 0) refl
-
-  next_of_root : (dev : ℕ) (root : Option Node) → slice_get state.nodes 0 ≡ root → (object : ℕ) (node : Node) → slice_get state.nodes object ≡ Some node →
-      node.ids.dev ≡ dev → cond (is_of_device dev root) (least_free numbers) 1 ≡ least_free numbers
-  next_of_root dev None there object node is of = absurd (no_objects state.nodes there object node is)
-  next_of_root dev (Some root) there object node is of = elim (eqb_tells root.ids.dev dev) [
-    | inl same ↦ ap (λ b. cond b (least_free numbers) 1) same.0
-    | inr apart ↦ absurd (apart.1 (kept.one_device 0 object root node there is ∙ of))
-  ]
-
-  -- on the device of an object it is the least of the table
-  pub next_number : (object : ℕ) (node : Node) → slice_get state.nodes object ≡ Some node → next_numbers state.nodes numbers node.ids.dev ≡ least_free numbers
-  next_number object node is = next_of_root node.ids.dev (slice_get state.nodes 0) refl object node is refl
+-- the numbers that new objects get are the least
+pub next_least : (state : State) (holds : List ℕ) (tables : ℕ → List Slot) → IsKept state holds tables → AreLeastFree state (λ dev. least_free (tables dev))
+next_least state holds tables kept dev = least_numbered state dev (tables dev) (kept.numbered dev) kept.sound

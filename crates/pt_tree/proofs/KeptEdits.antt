@@ -1,18 +1,15 @@
 -- A store goes on knowing what lives through each call and each edit.
-use Rattle.std.proofs.Common.{◌≡◌, ◌+◌, inl, inr, ℕ, Bool, true, false, cond, List, Option, Some, None, option_and_then, slice_get, slice_set, refl, ap, sym, ◌∙◌, subst, arith}
-use Rattle.std.specs.Map.{update}
+use Rattle.std.proofs.Common.{◌≡◌, ◌+◌, ℕ, Bool, true, false, cond, List, Option, Some, None, option_and_then, slice_get, slice_set, refl, ap, sym, ◌∙◌, subst, arith}
 use Rattle.std.specs.Prelude.{slice_index}
-use Rattle.std.specs.Str.{bytes_eq}
-use Rattle.std.proofs.lemmas.Bool.Decides.{eqb_tells}
 use Rattle.std.proofs.lemmas.List.Sums.{sum_by-set}
 use Rattle.std.proofs.lemmas.Option.{slice_get_within, get_or_from_slice_get}
-use Rattle.pt_host.specs.Words.{is, set_at}
+use Rattle.pt_host.specs.Words.{is}
 use Rattle.pt_host.specs.declared.flags.OpenFlags.{OpenFlags}
 use Rattle.pt_host.specs.declared.seat.HostSeat.{HostSeat}
-use Rattle.pt_tree.specs.Calls.{with_opened, with_read}
-use Rattle.pt_tree.specs.Edits.{moved, replaced, rewritten, with_moved, with_rewritten, with_unlinked}
+use Rattle.pt_tree.specs.Calls.{begun_on, with_opened, with_read}
+use Rattle.pt_tree.specs.Edits.{moved, replaced, with_moved, with_rewritten, with_unlinked}
 use Rattle.pt_host.specs.declared.ids.Time.{Time}
-use Rattle.pt_tree.specs.Entries.{after_losing, changed_at, is_directory_at, is_directory_where, restamped, touched, with_name, without_entry, without_name}
+use Rattle.pt_tree.specs.Entries.{after_losing, changed_at, is_directory_at, is_directory_where, restamped, rewritten, touched, with_name, without_entry, without_name}
 use Rattle.pt_tree.specs.Kept.{IsKept, given_up, given_up_where, names_of, names_to, released, released_where}
 use Rattle.pt_tree.specs.Living.{Lives}
 use Rattle.pt_tree.specs.Names.{found}
@@ -22,14 +19,14 @@ use Rattle.pt_tree.specs.Reading.{after_reading}
 use Rattle.pt_tree.specs.Slots.{closed, open_at}
 use Rattle.pt_tree.specs.Sound.{AreOrdered, IsSound}
 use Rattle.pt_tree.specs.State.{State, time_of}
-use Rattle.pt_tree.specs.StoreState.{number_at, number_in, number_where}
+use Rattle.pt_tree.specs.StoreState.{device_at, device_in, device_where, number_at, number_in, number_where}
 use Rattle.pt_tree.specs.declared.node.Node.{Node}
 use Rattle.pt_tree.specs.declared.node.Content.{Content}
-use Rattle.pt_tree.specs.declared.node.Content.TheVariants.{Directory, Regular}
+use Rattle.pt_tree.specs.declared.node.Content.TheVariants.{Directory}
 use Rattle.pt_tree.specs.declared.slots.OpenFile.{OpenFile}
 use Rattle.pt_tree.specs.declared.slots.Slot.{Slot}
-use Rattle.pt_tree.specs.Laws.Changed.{alike_itself, led, names-gained, names-same}
-use Rattle.pt_tree.specs.Laws.EditShapes.{alike_moved, alike_rewritten, alike_unlinked, lost, first, second, third, gain, lose, regular_names, regular_there}
+use Rattle.pt_tree.specs.Laws.Changed.{alike_itself, led_still, names-gained, names-same}
+use Rattle.pt_tree.specs.Laws.EditShapes.{alike_moved, alike_rewritten, alike_unlinked, lost, first, second, third, gain, lose, names_rewritten_in}
 use Rattle.pt_tree.specs.Laws.EditSound.{all_ordered, sound_moved, sound_rewritten, sound_unlinked}
 use Rattle.pt_tree.specs.Laws.Keeping.{keeps_opening, keeps_reading}
 use Rattle.pt_tree.specs.Laws.Soundness.{alike_set, sound-closed, sound-with_node, sound-with_opened}
@@ -40,7 +37,7 @@ use Rattle.pt_tree.proofs.Kept.{kept_alike, kept_more, kept_released}
 
 -- ---- calls
 
-names_of-set : (nodes : List Node) (place : ℕ) (node after : Node) (object : ℕ) → slice_get nodes place ≡ Some node → names_in after.content ≡ names_in node.content →
+pub names_of-set : (nodes : List Node) (place : ℕ) (node after : Node) (object : ℕ) → slice_get nodes place ≡ Some node → names_in after.content ≡ names_in node.content →
     names_of (slice_set nodes place after) object ≡ names_of nodes object
 names_of-set nodes place node after object there same =
     let sums = sum_by-set (λ (n : Node). names_to object (names_in n.content)) nodes place after node (slice_get_within nodes place node there) in
@@ -48,37 +45,38 @@ names_of-set nodes place node after object there same =
     let e = ap (names_to object) same in
     omega (arith, sums, was, e)
 
-pub kept_opened : (state : State) (holds : List ℕ) (numbers : List Slot) (seat : HostSeat) (flags : OpenFlags) (object : ℕ) (node : Node) →
-    IsKept state holds numbers → slice_get state.nodes object ≡ Some node → Lives state object →
-    IsKept (with_opened state seat flags object node) (slice_set holds object (slice_index holds object + 1)) numbers
-kept_opened state holds numbers seat flags object node kept there lives =
+pub kept_opened : (state : State) (holds : List ℕ) (tables : ℕ → List Slot) (seat : HostSeat) (flags : OpenFlags) (object : ℕ) (node : Node) →
+    IsKept state holds tables → slice_get state.nodes object ≡ Some node → Lives state object →
+    IsKept (with_opened state seat flags object node) (slice_set holds object (slice_index holds object + 1)) tables
+kept_opened state holds tables seat flags object node kept there lives =
     let keeps = keeps_opening seat (time_of state) flags.0 node in
     let after = after_opening seat (time_of state) flags.0 node in
-    kept_more state (with_opened state seat flags object node) holds numbers object kept
+    kept_more state (with_opened state seat flags object node) holds tables object kept
     (sound-with_opened state seat flags object node kept.sound there lives) (alike_set state.nodes object node after there keeps)
     (slice_get_within state.nodes object node there) (lives_held state object lives)
     (λ o.
     let names = names_of-set state.nodes object node after o there keeps.names in
-    let opens = opens_of-put state.slots (record { object = object; flags = flags }) o in
+    let opens = opens_of-put state.slots (begun_on flags object) o in
     omega (arith, names, opens))
 
-pub kept_read : (state : State) (holds : List ℕ) (numbers : List Slot) (object : ℕ) (node : Node) → IsKept state holds numbers →
-    slice_get state.nodes object ≡ Some node → IsKept (with_read state object node) holds numbers
-kept_read state holds numbers object node kept there =
+pub kept_read : (state : State) (holds : List ℕ) (tables : ℕ → List Slot) (object : ℕ) (node : Node) → IsKept state holds tables →
+    slice_get state.nodes object ≡ Some node → IsKept (with_read state object node) holds tables
+kept_read state holds tables object node kept there =
     let keeps = keeps_reading (time_of state) node in
     let after = after_reading (time_of state) node in
-    kept_alike state (with_read state object node) holds numbers kept (sound-with_node state object node after kept.sound there keeps)
+    kept_alike state (with_read state object node) holds tables kept (sound-with_node state object node after kept.sound there keeps)
     (alike_set state.nodes object node after there keeps)
     (λ o. let names = names_of-set state.nodes object node after o there keeps.names in omega (arith, names))
 
-pub kept_closed : (state : State) (holds : List ℕ) (numbers : List Slot) (fd : ℕ) (file : OpenFile) → IsKept state holds numbers →
+pub kept_closed : (state : State) (holds : List ℕ) (tables : ℕ → List Slot) (fd : ℕ) (file : OpenFile) → IsKept state holds tables →
     open_at state.slots fd ≡ Some file →
-    IsKept (record state { slots = closed fd state.slots }) (released file.object holds) (given_up (number_at state.nodes file.object) file.object holds numbers)
-kept_closed state holds numbers fd file kept there =
+    IsKept (record state { slots = closed fd state.slots }) (released file.object holds)
+    (given_up (device_at state.nodes file.object) (number_at state.nodes file.object) file.object holds tables)
+kept_closed state holds tables fd file kept there =
     let node = get_there state.nodes file.object (kept.sound.opened fd file there) in
-    subst (λ number. IsKept (record state { slots = closed fd state.slots }) (released file.object holds) (given_up number file.object holds numbers))
-    (sym (ap number_in node.1))
-    (kept_released state (record state { slots = closed fd state.slots }) holds numbers file.object node.0 kept (sound-closed state fd kept.sound)
+    subst (λ at. IsKept (record state { slots = closed fd state.slots }) (released file.object holds) (given_up (device_in at) (number_in at) file.object holds tables))
+    (sym node.1)
+    (kept_released state (record state { slots = closed fd state.slots }) holds tables file.object node.0 kept (sound-closed state fd kept.sound)
     (alike_itself state.nodes) node.1
     (λ o. let opens = opens_of-closed state.slots fd file o there in omega (arith, opens)))
 
@@ -87,7 +85,7 @@ kept_closed state holds numbers fd file kept there =
 lost_weight : (object : ℕ) (name : List ℕ) (content : Content) →
     names_to object (names_in (without_name name content)) + counts_where object (found name (names_in content)) ≡ names_to object (names_in content)
 lost_weight object name (Directory names) = lost_names object name names
-lost_weight object name (Regular bytes) = refl
+lost_weight object name content = refl
 
 -- a directory that loses a name
 names_of-lost : (nodes : List Node) (dir : ℕ) (name : List ℕ) (f : Node → Node) (object led_object : ℕ) →
@@ -105,14 +103,15 @@ lives_there : (state : State) (dir : ℕ) (name : List ℕ) (object : ℕ) → I
     (node : Node) × (slice_get state.nodes object ≡ Some node)
 lives_there state dir name object sound there = get_there state.nodes object (sound.named dir name object there)
 
-pub kept_unlinked : (state : State) (holds : List ℕ) (numbers : List Slot) (dir : ℕ) (name : List ℕ) (object : ℕ) → IsKept state holds numbers →
+pub kept_unlinked : (state : State) (holds : List ℕ) (tables : ℕ → List Slot) (dir : ℕ) (name : List ℕ) (object : ℕ) → IsKept state holds tables →
     name_at state.nodes dir name ≡ Some object →
-    IsKept (with_unlinked state dir name object) (released object holds) (given_up (number_at state.nodes object) object holds numbers)
-kept_unlinked state holds numbers dir name object kept there =
+    IsKept (with_unlinked state dir name object) (released object holds)
+    (given_up (device_at state.nodes object) (number_at state.nodes object) object holds tables)
+kept_unlinked state holds tables dir name object kept there =
     let node = lives_there state dir name object kept.sound there in
     let now = time_of state in
-    subst (λ number. IsKept (with_unlinked state dir name object) (released object holds) (given_up number object holds numbers)) (sym (ap number_in node.1))
-    (kept_released state (with_unlinked state dir name object) holds numbers object node.0 kept (sound_unlinked state dir name object kept.sound)
+    subst (λ at. IsKept (with_unlinked state dir name object) (released object holds) (given_up (device_in at) (number_in at) object holds tables)) (sym node.1)
+    (kept_released state (with_unlinked state dir name object) holds tables object node.0 kept (sound_unlinked state dir name object kept.sound)
     (alike_unlinked now dir name object state.nodes) node.1
     (λ o.
     let same = names_of-same object (after_losing now) (lost now dir name object state.nodes) o (λ n is. refl) in
@@ -124,7 +123,7 @@ kept_unlinked state holds numbers dir name object kept there =
 pub gained_weight : (object : ℕ) (name : List ℕ) (v : ℕ) (content : Content) → holds_names content ≡ true → AreOrdered (names_in content) →
     names_to object (names_in (with_name name v content)) + counts_where object (found name (names_in content)) ≡ names_to object (names_in content) + is object v
 gained_weight object name v (Directory names) holds ordered = gained_names object name v names ordered
-gained_weight object name v (Regular bytes) holds ordered = cc
+gained_weight object name v content holds ordered = cc
 
 directory_there : (nodes : List Node) (dir : ℕ) → is_directory_at nodes dir ≡ true → (node : Node) × (slice_get nodes dir ≡ Some node) × (is_directory node ≡ true)
 directory_there nodes dir into = by_node (slice_get nodes dir) refl into
@@ -146,18 +145,6 @@ names_of-gained nodes dir name v f object there gains ordered into is =
     let same : found name (names_in at.0.content) ≡ there = sym (ap (option_and_then (λ (n : Node). found name (names_in n.content))) at.1) ∙ is in
     let one = ap (counts_where object) same in
     omega (arith, sums, more, now, one)
-
-led_still : (dir : ℕ) (name : List ℕ) (object : ℕ) (names : ℕ → List ℕ → Option ℕ) (d : ℕ) (q : List ℕ) → names d q ≡ Some object →
-    led dir name (Some object) names d q ≡ Some object
-unfolding set_at
-led_still dir name object names d q there = elim (eqb_tells d dir) [
-  | inl e ↦ ap (λ b. cond b (update bytes_eq (names dir) name (Some object)) (names d) q) e.0 ∙ in_dir (bytes_eq name q) (sym (ap (λ k. names k q) e.1) ∙ there)
-  | inr apart ↦ ap (λ b. cond b (update bytes_eq (names dir) name (Some object)) (names d) q) apart.0 ∙ there
-]
-  where
-    in_dir : (b : Bool) → names dir q ≡ Some object → cond b (Some object) (names dir q) ≡ Some object
-    in_dir true is = refl
-    in_dir false is = is
 
 replaced_same : (now : Time) (target : Option ℕ) (nodes : List Node) (object : ℕ) → names_of (replaced now target nodes) object ≡ names_of nodes object
 replaced_same now None nodes object = refl
@@ -184,29 +171,30 @@ module _ (state : State) (from to : ℕ × List ℕ) (object : ℕ) (target : Op
       let d = names_of-gained state.nodes to.0 to.1 object (gain (time_of state) from to object target state.nodes) o target (λ n. refl) (all_ordered state sound) into at_target in
       omega (arith, a, b, c, d)
 
-pub kept_moved : (state : State) (holds : List ℕ) (numbers : List Slot) (from to : ℕ × List ℕ) (object : ℕ) (target : Option ℕ) → IsKept state holds numbers →
+pub kept_moved : (state : State) (holds : List ℕ) (tables : ℕ → List Slot) (from to : ℕ × List ℕ) (object : ℕ) (target : Option ℕ) → IsKept state holds tables →
     name_at state.nodes from.0 from.1 ≡ Some object → is_directory_at state.nodes to.0 ≡ true → name_at state.nodes to.0 to.1 ≡ target →
-    IsKept (with_moved state from to object target) (released_where target holds) (given_up_where (number_where state.nodes target) target holds numbers)
-kept_moved state holds numbers from to object None kept there into at_target =
-    kept_alike state (with_moved state from to object None) holds numbers kept (sound_moved state from to object None kept.sound there into)
+    IsKept (with_moved state from to object target) (released_where target holds)
+    (given_up_where (device_where state.nodes target) (number_where state.nodes target) target holds tables)
+kept_moved state holds tables from to object None kept there into at_target =
+    kept_alike state (with_moved state from to object None) holds tables kept (sound_moved state from to object None kept.sound there into)
     (alike_moved (time_of state) from to object None state.nodes)
     (λ o. let names = moved_names state from to object None kept.sound there into at_target o in omega (arith, names))
-kept_moved state holds numbers from to object (Some target) kept there into at_target =
+kept_moved state holds tables from to object (Some target) kept there into at_target =
     let node = lives_there state to.0 to.1 target kept.sound at_target in
-    subst (λ number. IsKept (with_moved state from to object (Some target)) (released target holds) (given_up number target holds numbers)) (sym (ap number_in node.1))
-    (kept_released state (with_moved state from to object (Some target)) holds numbers target node.0 kept
+    subst (λ at. IsKept (with_moved state from to object (Some target)) (released target holds) (given_up (device_in at) (number_in at) target holds tables)) (sym node.1)
+    (kept_released state (with_moved state from to object (Some target)) holds tables target node.0 kept
     (sound_moved state from to object (Some target) kept.sound there into) (alike_moved (time_of state) from to object (Some target) state.nodes) node.1
     (λ o. let names = moved_names state from to object (Some target) kept.sound there into at_target o in omega (arith, names)))
 
 -- ---- Write
 
-pub kept_rewritten : (state : State) (holds : List ℕ) (numbers : List Slot) (object : ℕ) (bytes : List ℕ) → IsKept state holds numbers →
-    is_directory_at state.nodes object ≡ false → IsKept (with_rewritten state object bytes) holds numbers
-kept_rewritten state holds numbers object bytes kept regular =
+pub kept_rewritten : (state : State) (holds : List ℕ) (tables : ℕ → List Slot) (object : ℕ) (bytes : List ℕ) → IsKept state holds tables →
+    IsKept (with_rewritten state object bytes) holds tables
+kept_rewritten state holds tables object bytes kept =
     let now = time_of state in
-    kept_alike state (with_rewritten state object bytes) holds numbers kept (sound_rewritten state object bytes kept.sound regular)
-    (alike_rewritten now bytes object state.nodes regular)
+    kept_alike state (with_rewritten state object bytes) holds tables kept (sound_rewritten state object bytes kept.sound)
+    (alike_rewritten now bytes object state.nodes)
     (λ o.
     let names = names_of-same object (rewritten now bytes) state.nodes o
-    (λ n is. regular_names n.content (regular_there now bytes object state.nodes regular n is)) in
+    (λ n is. names_rewritten_in bytes n.content) in
     omega (arith, names))

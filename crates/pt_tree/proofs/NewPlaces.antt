@@ -1,10 +1,14 @@
 -- The place that a path leads to, part by part.
 use Rattle.std.proofs.Common.{◌≡◌, ◌&&◌, ◌∷◌, [], ◌==◌, ℕ, Bool, true, false, List, Option, Some, None, option_and_then, slice_get, ap, ◌∙◌, cond, length, arith, ◌<◌, refl, subst}
+use Rattle.std.specs.Option.{is_none}
+use Rattle.std.proofs.lemmas.Bool.{and_parts}
 use Rattle.std.proofs.lemmas.Option.{same_Some}
 use Rattle.std.proofs.lemmas.List.Splits.{length-slice_split}
 use Rattle.pt_tree.specs.Calls.{parts}
-use Rattle.pt_tree.specs.Node.{name_at}
-use Rattle.pt_tree.specs.Start.{is_good_name, takes_name, new_place, place_in, place_of}
+use Rattle.pt_tree.specs.Entries.{is_directory_at, is_directory_where}
+use Rattle.pt_tree.specs.Names.{found}
+use Rattle.pt_tree.specs.Node.{is_directory, name_at, names_in}
+use Rattle.pt_tree.specs.NewPlace.{is_good_name, takes_name, new_place, place_in, place_of}
 use Rattle.pt_tree.specs.Laws.WellFormed.{and_then_some}
 use Rattle.pt_tree.specs.declared.node.Node.{Node}
 
@@ -55,3 +59,21 @@ in_takes nodes dir (name ∷ more) place is = new_takes nodes dir name more plac
 pub place_takes : (nodes : List Node) (path : List ℕ) (place : ℕ × List ℕ) → place_of nodes path ≡ Some place → takes_name place.1 (slice_get nodes place.0) ≡ true
 place_takes nodes [] place is = cc
 place_takes nodes (first ∷ path) place is = in_takes nodes 0 (parts path) place (past_good (first == 47) (place_in nodes 0 (parts path)) place is)
+
+-- a directory takes a name that is free in it
+takes_both : (nodes : List Node) (dir : ℕ) (name : List ℕ) (at : Option Node) → slice_get nodes dir ≡ at → takes_name name at ≡ true →
+    (is_directory_at nodes dir ≡ true) × (name_at nodes dir name ≡ None)
+takes_both nodes dir name None there takes = cc
+takes_both nodes dir name (Some node) there takes =
+    let both = and_parts (is_directory node) (is_none (found name (names_in node.content))) takes in (
+      ap is_directory_where there ∙ both.0,
+      ap (option_and_then (λ (n : Node). found name (names_in n.content))) there ∙ none_of (found name (names_in node.content)) both.1,
+    )
+  where
+    none_of : (held : Option ℕ) → is_none held ≡ true → held ≡ None
+    none_of None is = refl
+    none_of (Some object) is = cc
+
+pub place_free : (nodes : List Node) (path : List ℕ) (place : ℕ × List ℕ) → place_of nodes path ≡ Some place →
+    (is_directory_at nodes place.0 ≡ true) × (name_at nodes place.0 place.1 ≡ None)
+place_free nodes path place is = takes_both nodes place.0 place.1 (slice_get nodes place.0) refl (place_takes nodes path place is)

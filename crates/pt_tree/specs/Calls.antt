@@ -2,8 +2,9 @@
 use Rattle.std.specs.Prelude.{ℕ, ◌==◌, nat_lt, not, ◌&&◌, Bool, List, [], ◌∷◌, length, Option, Some, None, Result, Ok, Err, ok_or, slice_get, slice_set, if◌then◌else◌}
 use Rattle.std.specs.List.{slice_split}
 use Rattle.pt_host.specs.Flags.{includes, o_creat, o_excl}
-use Rattle.pt_host.specs.Errno.{ebadf, eacces, eexist, eio, enoent, enotdir, enametoolong, eopnotsupp}
+use Rattle.pt_host.specs.Errno.{ebadf, eacces, eexist, eio, enoent, enotdir, enametoolong}
 use Rattle.pt_host.specs.declared.ids.Errno.{Errno}
+use Rattle.pt_host.specs.declared.ids.Fd.{Fd}
 use Rattle.pt_host.specs.declared.flags.OpenFlags.{OpenFlags}
 use Rattle.pt_host.specs.declared.seat.HostSeat.{HostSeat}
 use Rattle.pt_host.specs.declared.reply.HostReply.{HostReply}
@@ -13,7 +14,7 @@ use Rattle.pt_host.specs.declared.reply.HostValue.TheVariants as value
 use Rattle.pt_tree.specs.Names.{found}
 use Rattle.pt_tree.specs.Node.{bytes_in, is_directory, names_in, status_of}
 use Rattle.pt_tree.specs.Permission.{may}
-use Rattle.pt_tree.specs.Slots.{least_free, put_at, closed}
+use Rattle.pt_tree.specs.Slots.{least_free, open_at, put_at, closed}
 use Rattle.pt_tree.specs.State.{State, time_of}
 use Rattle.pt_tree.specs.Opening.{first_refusal, opening_refusal, after_opening}
 use Rattle.pt_tree.specs.Reading.{read_refusal, part_of, after_reading}
@@ -37,11 +38,39 @@ abbrev pub unless : State → Option Errno → Answered → Answered
 unless state None otherwise = otherwise
 unless state (Some errno) otherwise = refused state errno
 
+abbrev pub done : State → Answered
+done state = tells state value.Unit
+
+-- the call on an object; one that is not there is a failure of the host, which never comes
+abbrev pub on_node : State → Option Node → (Node → Answered) → Answered
+on_node state None rest = refused state eio
+on_node state (Some node) rest = rest node
+
+abbrev pub on_file : State → Option OpenFile → (OpenFile → Node → Answered) → Answered
+on_file state None rest = refused state ebadf
+on_file state (Some file) rest = on_node state (slice_get state.nodes file.object) (rest file)
+
+-- the call on what the descriptor is open on
+abbrev pub on_fd : State → Fd → (OpenFile → Node → Answered) → Answered
+on_fd state fd rest = on_file state (open_at state.slots fd.0) rest
+
+-- refused by the first of these tests that holds, else as said
+abbrev pub checked : State → List (Bool × Errno) → Answered → Answered
+checked state checks otherwise = unless state (first_refusal checks) otherwise
+
+-- the state with this object as it has become
+abbrev pub with_node : State → ℕ → Node → State
+with_node state object node = record state { nodes = slice_set state.nodes object node }
+
+-- a descriptor begins at the start
+abbrev pub begun_on : OpenFlags → ℕ → OpenFile
+begun_on flags object = record { object = object; flags = flags; position = 0 }
+
 -- the state with the object opened at the least free number
 abbrev pub with_opened : State → HostSeat → OpenFlags → ℕ → Node → State
 with_opened state seat flags object node = record state {
   nodes = slice_set state.nodes object (after_opening seat (time_of state) flags.0 node);
-  slots = put_at (least_free state.slots) (Open (record { object = object; flags = flags })) state.slots;
+  slots = put_at (least_free state.slots) (Open (begun_on flags object)) state.slots;
 }
 
 -- the opening of an object; one that is not there is a failure of the host, which never comes
@@ -96,19 +125,22 @@ name_checks seat dir name =
 abbrev pub name_refusal : HostSeat → Node → List ℕ → Option Errno
 name_refusal seat dir name = first_refusal (name_checks seat dir name)
 
+-- the call on a name in the directory that the descriptor is open on
+abbrev pub on_name : State → HostSeat → Fd → List ℕ → (ℕ → Node → Answered) → Answered
+on_name state seat fd name rest = on_fd state fd (λ file dir. unless state (name_refusal seat dir name) (rest file.object dir))
+
 abbrev pub ok_unless : {A : Type 0} → Option Errno → Result A Errno → Result A Errno
 ok_unless None otherwise = otherwise
 ok_unless (Some errno) otherwise = Err errno
 
--- the object that the name leads to; making one is not offered
-abbrev pub find_in : HostSeat → List ℕ → ℕ → Option Node → Result ℕ Errno
-find_in seat name flags None = Err eio
-find_in seat name flags (Some dir) = ok_unless (name_refusal seat dir name)
-    (if includes flags o_creat then Err eopnotsupp else ok_or (found name (names_in dir.content)) enoent)
+-- the object that the name leads to
+abbrev pub find_in : HostSeat → List ℕ → Option Node → Result ℕ Errno
+find_in seat name None = Err eio
+find_in seat name (Some dir) = ok_unless (name_refusal seat dir name) (ok_or (found name (names_in dir.content)) enoent)
 
-abbrev pub find_name : List Node → HostSeat → List ℕ → ℕ → Option OpenFile → Result ℕ Errno
-find_name nodes seat name flags None = Err ebadf
-find_name nodes seat name flags (Some dir) = find_in seat name flags (slice_get nodes dir.object)
+abbrev pub find_name : List Node → HostSeat → List ℕ → Option OpenFile → Result ℕ Errno
+find_name nodes seat name None = Err ebadf
+find_name nodes seat name (Some dir) = find_in seat name (slice_get nodes dir.object)
 
 -- the object of a descriptor, to be opened anew; `O_CREAT` with `O_EXCL` asks for a new one
 abbrev pub find_open : ℕ → Option OpenFile → Result ℕ Errno

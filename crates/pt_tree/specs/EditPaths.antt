@@ -6,7 +6,7 @@ use Rattle.pt_host.specs.declared.ids.Errno.{Errno}
 use Rattle.pt_tree.specs.Node.{is_directory}
 use Rattle.pt_tree.specs.Opening.{first_refusal}
 use Rattle.pt_tree.specs.Calls.{ok_unless, parts, step_from, then_on}
-use Rattle.pt_tree.specs.Start.{has_nul, is_dots}
+use Rattle.pt_tree.specs.NewPlace.{has_nul, is_dots}
 use Rattle.pt_tree.specs.declared.node.Node.{Node}
 
 -- A place is a directory and a name in it; the empty name stands for the directory itself. On from a place by one part of a path: an empty

@@ -2,17 +2,16 @@
 -- without permission checks: unlink(2) and rmdir(2), rename(2), open(2) with O_CREAT and O_EXCL, mkdir(2), write(2).
 use Rattle.std.specs.Prelude.{ℕ, ◌+◌, ◌%◌, ◌==◌, nat_lt, not, ◌||◌, ◌&&◌, Bool, false, List, [], ◌∷◌, ◌++◌, length, Option, Some, None, is_some, option_and_then, Result, Ok, Err, slice_get, if◌then◌else◌}
 use Rattle.std.specs.Option.{option_map_or}
-use Rattle.pt_host.specs.Errno.{ebusy, eexist, efbig, einval, eio, eisdir, enoent, enotdir, enotempty, exdev}
+use Rattle.pt_host.specs.Errno.{ebusy, eexist, efbig, einval, eio, eisdir, eloop, enoent, enotdir, enotempty, enxio, exdev}
 use Rattle.pt_host.specs.declared.edit.Edit.{Edit}
 use Rattle.pt_host.specs.declared.edit.Edit.TheVariants as edit
 use Rattle.pt_host.specs.declared.ids.Errno.{Errno}
 use Rattle.pt_host.specs.declared.ids.Time.{Time}
-use Rattle.pt_host.specs.declared.reply.HostValue.TheVariants as value
-use Rattle.pt_tree.specs.Node.{is_directory, name_at, names_in, size_of}
+use Rattle.pt_tree.specs.Node.{is_directory, is_link, is_special, name_at, names_in, size_of}
 use Rattle.pt_tree.specs.State.{State, time_of}
 use Rattle.pt_tree.specs.Opening.{first_refusal}
-use Rattle.pt_tree.specs.Calls.{Answered, refused, tells, unless}
-use Rattle.pt_tree.specs.Entries.{after_losing, changed_at, is_directory_at, new_object, restamped, touched, with_entry, without_entry}
+use Rattle.pt_tree.specs.Calls.{Answered, done, refused, unless}
+use Rattle.pt_tree.specs.Entries.{after_losing, changed_at, is_directory_at, new_object, restamped, rewritten, touched, with_entry, without_entry}
 use Rattle.pt_tree.specs.EditPaths.{judged, path_goes_through}
 use Rattle.pt_tree.specs.declared.node.Node.{Node}
 use Rattle.pt_tree.specs.declared.node.Content.{Content}
@@ -26,9 +25,6 @@ at_name state root dir (first ∷ name) edited = edited dir (first ∷ name)
 abbrev pub at_place : State → Errno → Result (ℕ × List ℕ) Errno → (ℕ → List ℕ → Answered) → Answered
 at_place state root (Err errno) edited = refused state errno
 at_place state root (Ok place) edited = at_name state root place.0 place.1 edited
-
-abbrev pub done : State → Answered
-done state = tells state value.Unit
 
 -- ---- Unlink
 
@@ -143,36 +139,39 @@ abbrev pub grown : Time → ℕ → List ℕ → Node → List Node → List Nod
 grown now dir name node nodes =
     changed_at dir (λ parent. touched now (with_entry name (length nodes) (is_directory node) false parent)) nodes ++ node ∷ []
 
--- the object that the edit makes: its serial is one more than that of the last one made, and its mode is cut to permissions
-abbrev pub made : State → (ℕ → ℕ) → ℕ → ℕ → ℕ → Content → Node → Node
-made state numbers mode uid gid content dir =
-    new_object (time_of state) (numbers dir.ids.dev) (length state.nodes + 1) dir (mode % 4096) uid gid content
+-- an object that is made in this directory: its serial is one more than that of the last one made
+abbrev pub made : State → (ℕ → ℕ) → ℕ → ℕ → ℕ → ℕ → Content → Node → Node
+made state numbers permissions uid gid rdev content dir =
+    new_object (time_of state) (numbers dir.ids.dev) (length state.nodes + 1) dir permissions uid gid rdev content
 
 abbrev pub with_made : State → ℕ → List ℕ → Node → State
 with_made state dir name node = record state { nodes = grown (time_of state) dir name node state.nodes }
 
-abbrev pub make_in : State → (ℕ → ℕ) → ℕ → List ℕ → ℕ → ℕ → ℕ → Content → Option Node → Answered
-make_in state numbers dir name mode uid gid content None = refused state eio
-make_in state numbers dir name mode uid gid content (Some parent) =
-    done (with_made state dir name (made state numbers mode uid gid content parent))
+abbrev pub make_in : State → (ℕ → ℕ) → ℕ → List ℕ → ℕ → ℕ → ℕ → ℕ → Content → Option Node → Answered
+make_in state numbers dir name permissions uid gid rdev content None = refused state eio
+make_in state numbers dir name permissions uid gid rdev content (Some parent) =
+    done (with_made state dir name (made state numbers permissions uid gid rdev content parent))
 
+-- the mode is cut to permissions
 abbrev pub make_at : State → (ℕ → ℕ) → ℕ → ℕ → ℕ → Content → ℕ → List ℕ → Answered
 make_at state numbers mode uid gid content dir name = unless state (make_refusal (name_at state.nodes dir name) (size_of content))
-    (make_in state numbers dir name mode uid gid content (slice_get state.nodes dir))
+    (make_in state numbers dir name (mode % 4096) uid gid 0 content (slice_get state.nodes dir))
 
 -- ---- Write
 
 abbrev pub write_checks : Node → ℕ → List (Bool × Errno)
-write_checks node size = (is_directory node, eisdir) ∷ (nat_lt 1048576 size, efbig) ∷ []
+write_checks node size =
+    (is_directory node, eisdir)
+    ∷ (is_link node, eloop)
+    ∷ (is_special node, enxio)
+    ∷ (nat_lt 1048576 size, efbig)
+    ∷ []
 
 abbrev pub write_refusal : Option Node → ℕ → Option Errno
 write_refusal None size = Some eio
 write_refusal (Some node) size = first_refusal (write_checks node size)
 
--- a regular file with new contents; its permissions stay
-abbrev pub rewritten : Time → List ℕ → Node → Node
-rewritten now bytes node = touched now (record node { content = Regular bytes })
-
+-- the permissions of the file stay
 abbrev pub with_rewritten : State → ℕ → List ℕ → State
 with_rewritten state object bytes = record state { nodes = changed_at object (rewritten (time_of state) bytes) state.nodes }
 

@@ -12,16 +12,21 @@ number_word number = 32 ∷ decimal number
 -- inode number, device, mount, mode, number of links, owner, group, device of a special file
 abbrev pub numbers_of : Node → List ℕ
 numbers_of node =
-    node.ids.ino ∷ node.ids.dev ∷ node.ids.mnt_id ∷ mode_of node ∷ node.nlink ∷ node.uid ∷ node.gid ∷ 0 ∷ []
+    node.ids.ino ∷ node.ids.dev ∷ node.ids.mnt_id ∷ mode_of node ∷ node.nlink ∷ node.uid ∷ node.gid ∷ node.rdev ∷ []
 
 -- `obj PATH`, the numbers and what it holds
 abbrev pub object_line : List ℕ → Node → List ℕ
 object_line path node =
     codes "obj " ++ (byte_word path ++ (flat_map number_word (numbers_of node) ++ (32 ∷ byte_word (bytes_in node.content) ++ 10 ∷ [])))
 
+-- `xattr PATH NAME VALUE`
+abbrev pub xattr_line : List ℕ → List ℕ × List ℕ → List ℕ
+xattr_line path entry = codes "xattr " ++ (byte_word path ++ (32 ∷ byte_word entry.0 ++ (32 ∷ byte_word entry.1 ++ 10 ∷ [])))
+
+-- the object's line and those of its attributes
 abbrev pub line_at : List ℕ → Option Node → List ℕ
 line_at path None = []
-line_at path (Some node) = object_line path node
+line_at path (Some node) = object_line path node ++ flat_map (xattr_line path) node.xattrs
 
 abbrev pub names_at : Option Node → List (List ℕ × ℕ)
 names_at None = []

@@ -1,15 +1,15 @@
 -- When an object may be opened and what that changes, after `open(2)`.
 use Rattle.std.specs.Prelude.{ℕ, ◌%◌, ◌-◌, Bool, not, ◌&&◌, ◌||◌, ◌==◌, ◌∷◌, [], List, Option, Some, None, if◌then◌else◌}
 use Rattle.pt_host.specs.Flags.{includes, o_directory, o_path, o_tmpfile, o_trunc}
-use Rattle.pt_host.specs.Errno.{eopnotsupp, enotdir, einval, eisdir, eacces}
+use Rattle.pt_host.specs.Errno.{eopnotsupp, enotdir, einval, eisdir, eacces, eloop, enxio}
 use Rattle.pt_host.specs.declared.ids.Errno.{Errno}
 use Rattle.pt_host.specs.declared.ids.Time.{Time}
 use Rattle.pt_host.specs.declared.seat.HostSeat.{HostSeat}
-use Rattle.pt_tree.specs.Node.{is_directory}
+use Rattle.pt_tree.specs.Node.{is_directory, is_link, is_special}
 use Rattle.pt_tree.specs.Permission.{may, fsetid}
 use Rattle.pt_tree.specs.declared.node.Node.{Node}
 use Rattle.pt_tree.specs.declared.node.Content.{Content}
-use Rattle.pt_tree.specs.declared.node.Content.TheVariants.{Directory, Regular}
+use Rattle.pt_tree.specs.declared.node.Content.TheVariants.{Directory, Regular, Link, Special}
 use Rattle.pt_tree.specs.declared.permission.Right.TheVariants.{Read, Write}
 
 -- the error of the first test that holds
@@ -36,8 +36,10 @@ abbrev pub open_checks : HostSeat → Node → ℕ → List (Bool × Errno)
 open_checks seat node flags =
     (includes flags o_tmpfile, eopnotsupp)
     ∷ (flags % 4 == 3, einval)
+    ∷ (is_link node, eloop)
     ∷ (misses_directory node flags, enotdir)
     ∷ (is_directory node && (wants_write flags || includes flags o_trunc), eisdir)
+    ∷ (is_special node, enxio)
     ∷ (wants_read flags && not (may seat node Read), eacces)
     ∷ (wants_write flags && not (may seat node Write), eacces)
     ∷ []
@@ -63,6 +65,8 @@ abbrev pub emptied : HostSeat → Time → Node → Content → Node
 emptied seat now node (Regular bytes) =
     record node { permissions = permissions_after seat node.permissions; mtime = now; ctime = now; content = Regular [] }
 emptied seat now node (Directory names) = node
+emptied seat now node (Link target) = node
+emptied seat now node (Special kind) = node
 
 -- the object after its opening
 abbrev pub after_opening : HostSeat → Time → ℕ → Node → Node

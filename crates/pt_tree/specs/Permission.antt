@@ -13,8 +13,17 @@ dac_override = 2
 abbrev pub dac_read_search : ℕ
 dac_read_search = 4
 
+abbrev pub chown : ℕ
+chown = 1
+
+abbrev pub fowner : ℕ
+fowner = 8
+
 abbrev pub fsetid : ℕ
 fsetid = 16
+
+abbrev pub mknod : ℕ
+mknod = 128
 
 -- the bit of a mode that grants it
 abbrev pub bit_of : Right → ℕ
@@ -36,3 +45,7 @@ overrides caps other = includes caps dac_override || includes caps dac_read_sear
 
 abbrev pub may : HostSeat → Node → Right → Bool
 may seat node right = overrides seat.eff_caps.0 right || includes (class_bits seat node) (bit_of right)
+
+-- the owner's rights on the object's status
+abbrev pub owns : HostSeat → Node → Bool
+owns seat node = (seat.eff_uid == node.uid) || includes seat.eff_caps.0 fowner

@@ -1,5 +1,5 @@
 -- The table of descriptors. What stands at place n is the descriptor n.
-use Rattle.std.specs.Prelude.{ℕ, Bool, true, false, ◌==◌, ◌∷◌, [], ◌++◌, List, length, Option, Some, None, slice_get, slice_set, if◌then◌else◌}
+use Rattle.std.specs.Prelude.{ℕ, Bool, true, false, ◌==◌, ◌-◌, nat_lt, take, ◌∷◌, [], ◌++◌, List, length, Option, Some, None, slice_get, slice_set, if◌then◌else◌}
 use Rattle.std.specs.List.{position_or_len}
 use Rattle.pt_tree.specs.declared.slots.OpenFile.{OpenFile}
 use Rattle.pt_tree.specs.declared.slots.Slot.{Slot}
@@ -32,6 +32,18 @@ closed_where None fd slots = slots
 
 abbrev pub closed : ℕ → List Slot → List Slot
 closed fd slots = closed_where (open_at slots fd) fd slots
+
+-- the table without its last opening, before which it was so long
+abbrev pub taken_back : ℕ → ℕ → List Slot → List Slot
+taken_back fd long slots = if nat_lt long (length slots) then take (length slots - 1) slots else closed fd slots
+
+-- the table after the descriptor went to another position
+abbrev pub placed_where : Option OpenFile → ℕ → ℕ → List Slot → List Slot
+placed_where (Some file) fd position slots = slice_set slots fd (Open (record file { position = position }))
+placed_where None fd position slots = slots
+
+abbrev pub placed_at : ℕ → ℕ → List Slot → List Slot
+placed_at fd position slots = placed_where (open_at slots fd) fd position slots
 
 -- the numbers of standard input, standard output and standard error, which are open elsewhere
 abbrev pub no_files : List Slot

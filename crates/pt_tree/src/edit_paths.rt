@@ -1,6 +1,6 @@
 ghost use Rattle.std.specs.Prelude.{◌≡◌, slice_get};
 ghost use Rattle.pt_tree.specs.Calls.{parts, then_on};
-ghost use Rattle.pt_tree.specs.Start.{seen_place};
+ghost use Rattle.pt_tree.specs.NewPlace.{seen_place};
 ghost use Rattle.pt_tree.specs.EditPaths.{
   at_root,
   goes_through,

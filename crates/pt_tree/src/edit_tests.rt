@@ -312,7 +312,7 @@ fn opens(host: &mut TreeHost, seat: &mut HostSeat, paths: &[&[u8]]) -> Result<bo
     let mut fd = 3;
     for path in paths {
         let flags = OpenFlags(0);
-        if opened(host, seat, HostOp::OpenRoot { path, flags })? != fd {
+        if opened(host, seat, &HostOp::OpenRoot { path, flags })? != fd {
             return Ok(false);
         }
         fd = fd.wrapping_add(1);

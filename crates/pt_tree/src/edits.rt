@@ -1,8 +1,8 @@
-ghost use Rattle.std.specs.Prelude.{◌≡◌, ◌≢◌, Some, None, Ok, OnErr, OnOk, [], slice_get, true};
+ghost use Rattle.std.specs.Prelude.{◌≡◌, ◌≢◌, ◌<◌, Some, None, Ok, OnErr, OnOk, [], slice_get, true};
 ghost use Rattle.pt_host.specs.Errno.{ebusy, eexist, eisdir};
-ghost use Rattle.pt_tree.specs.StoreState.{IsKeptBy, number_where, numbers_of, state_of};
+ghost use Rattle.pt_tree.specs.StoreState.{IsKeptBy, device_where, number_where, numbers_of, state_of};
 ghost use Rattle.pt_tree.specs.Node.{name_at, names_in};
-ghost use Rattle.pt_tree.specs.Start.{seen_place};
+ghost use Rattle.pt_tree.specs.NewPlace.{seen_place};
 ghost use Rattle.pt_tree.specs.Does.{AnswersAs};
 ghost use Rattle.pt_tree.specs.Entries.{is_directory_at};
 ghost use Rattle.pt_tree.specs.EditPaths.{judged};
@@ -17,9 +17,19 @@ use crate::node_edits::{
     write_refusal,
 };
 use crate::path::name_at;
-use crate::store::{Store, number_at};
+use crate::store::{Store, device_at, number_at};
 use pt_host::{Bytes, Edit, Errno, HostReply, HostValue, Time};
 use std::alloc::AllocError;
+
+/// The device of an object that may be none.
+fn device_where(nodes: &[Node], object: Option<usize>) -> u64
+    ensures { result ≡ device_where nodes.now object }
+{
+    match object {
+        None => 0,
+        Some(object) => device_at(nodes, object),
+    }
+}
 
 /// The inode number of an object that may be none.
 fn number_where(nodes: &[Node], object: Option<usize>) -> u64
@@ -32,7 +42,7 @@ fn number_where(nodes: &[Node], object: Option<usize>) -> u64
 }
 
 /// A new object at the end, to which the name in this directory leads.
-fn add_node(
+pub fn add_node(
     nodes: &mut Vec<Node>,
     dir: usize,
     name: Vec<u8>,
@@ -51,16 +61,17 @@ fn add_node(
 
 impl Store {
     /// The object loses this name, which leads to it.
-    fn take_name(&mut self, dir: usize, name: &[u8], object: usize)
+    pub fn take_name(&mut self, dir: usize, name: &[u8], object: usize)
         requires kept { IsKeptBy self.old }
         requires leads { name_at self.old.nodes.items dir name.now ≡ Some object }
         ensures state { state_of self.new ≡ with_unlinked (state_of self.old) dir name.now object }
         ensures kept { IsKeptBy self.new }
     {
         let now = self.now();
+        let dev = device_at(&self.nodes, object);
         let number = number_at(&self.nodes, object);
         unlink(&mut self.nodes, now, dir, name, object);
-        self.inodes.release(object, number);
+        self.inodes.release(object, dev, number);
     }
 
     fn unlink_at(&mut self, dir: usize, name: &[u8]) -> HostReply
@@ -112,13 +123,14 @@ impl Store {
         ensures kept { IsKeptBy self.new }
     {
         let now = self.now();
+        let dev = device_where(&self.nodes, target);
         let number = number_where(&self.nodes, target);
         rename(self.alloc, &mut self.nodes, now, from, to, object, target)?;
-        self.inodes.release_where(target, number);
+        self.inodes.release_where(target, dev, number);
         Ok(())
     }
 
-    fn rename_onto(
+    pub fn rename_onto(
         &mut self,
         from: (usize, &[u8]),
         to: (usize, &[u8]),
@@ -196,20 +208,23 @@ impl Store {
         }
     }
 
-    fn make_in(
+    /// A new object under a name that is free in the directory.
+    pub fn make_in(
         &mut self,
         dir: usize,
         name: &[u8],
-        mode: u32,
+        permissions: u32,
         uid: u32,
         gid: u32,
+        rdev: u32,
         content: Content,
     ) -> HostReply
         requires kept { IsKeptBy self.old }
         requires into { is_directory_at self.old.nodes.items dir ≡ true }
         requires free { name_at self.old.nodes.items dir name.now ≡ None }
         requires empty { names_in content ≡ [] }
-        ensures answers { AnswersAs (make_in (state_of self.old) (numbers_of self.old) dir name.now mode uid gid content (slice_get self.old.nodes.items dir)) (state_of self.old) result (state_of self.new) }
+        requires small { permissions < 4096 }
+        ensures answers { AnswersAs (make_in (state_of self.old) (numbers_of self.old) dir name.now permissions uid gid rdev content (slice_get self.old.nodes.items dir)) (state_of self.old) result (state_of self.new) }
         ensures kept { IsKeptBy self.new }
     {
         let now = self.now();
@@ -220,15 +235,27 @@ impl Store {
         let Ok(name) = name.to_vec(self.alloc) else {
             return HostReply::NoMemory;
         };
-        let Ok(number) = self.inodes.add(object) else {
+        let dev = parent.ids.dev;
+        let Ok(number) = self.inodes.add(self.alloc, dev, object) else {
             return HostReply::NoMemory;
         };
         let serial = object as u64 + 1;
-        let node = new_object(now, number, serial, parent, mode % 4096, uid, gid, content);
+        let node = new_object(
+            self.alloc,
+            now,
+            number,
+            serial,
+            parent,
+            permissions,
+            uid,
+            gid,
+            rdev,
+            content,
+        );
         match add_node(&mut self.nodes, dir, name, node, now) {
             Ok(()) => HostReply::Ok(HostValue::Unit),
             Err(_) => {
-                self.inodes.take_back(number);
+                self.inodes.take_back(dev, number);
                 HostReply::NoMemory
             }
         }
@@ -255,7 +282,7 @@ impl Store {
         if content.size() > FILE_MAX as u64 {
             return HostReply::Refused(Errno::EFBIG);
         }
-        self.make_in(dir, name, mode, uid, gid, content)
+        self.make_in(dir, name, mode % 4096, uid, gid, 0, content)
     }
 
     fn make(&mut self, path: &[u8], mode: u32, uid: u32, gid: u32, content: Content) -> HostReply

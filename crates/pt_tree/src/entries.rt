@@ -1,5 +1,8 @@
-ghost use Rattle.std.specs.Prelude.{◌≡◌, OnOk, OnErr};
+ghost use Rattle.std.specs.Prelude.{◌≡◌, OnOk, OnErr, is_some, true};
+ghost use Rattle.pt_tree.specs.Names.{found};
+ghost use Rattle.pt_tree.specs.Node.{names_in};
 ghost use Rattle.pt_tree.specs.Entries.{
+  after_gaining,
   after_losing,
   fewer_links,
   first_links,
@@ -7,16 +10,19 @@ ghost use Rattle.pt_tree.specs.Entries.{
   links_without,
   new_object,
   restamped,
+  rewritten,
   touched,
+  with_bytes,
   with_entry,
   with_name,
   without_entry,
   without_name,
 };
 
+use crate::attributes::Attributes;
 use crate::node::{Content, Node};
-use pt_host::{ObjIds, Time};
-use std::alloc::AllocError;
+use pt_host::{Bytes, ObjIds, Time};
+use std::alloc::{AllocError, Global};
 
 fn links_with(directory: bool, links: u32) -> u32
     ensures { result ≡ links_with directory links }
@@ -45,7 +51,7 @@ impl Content {
     {
         match self {
             Content::Directory(_) => 2,
-            Content::Regular(_) => 1,
+            Content::Regular(_) | Content::Link(_) | Content::Special(_) => 1,
         }
     }
 
@@ -55,7 +61,9 @@ impl Content {
     {
         match self {
             Content::Directory(_) => links,
-            Content::Regular(_) => links.saturating_sub(1),
+            Content::Regular(_) | Content::Link(_) | Content::Special(_) => {
+                links.saturating_sub(1)
+            }
         }
     }
 
@@ -65,7 +73,25 @@ impl Content {
     {
         match self {
             Content::Directory(names) => names.insert(name, object),
-            Content::Regular(_) => Ok(()),
+            Content::Regular(_) | Content::Link(_) | Content::Special(_) => Ok(()),
+        }
+    }
+
+    fn lead_name(&mut self, name: &[u8], object: usize)
+        requires { is_some (found name.now (names_in self.old)) ≡ true }
+        ensures { self.new ≡ with_name name.now object self.old }
+    {
+        if let Content::Directory(names) = self {
+            names.lead(name, object);
+        }
+    }
+
+    /// A regular file with other bytes.
+    fn set_bytes(&mut self, bytes: Bytes)
+        ensures { self.new ≡ with_bytes bytes self.old }
+    {
+        if let Content::Regular(_) = self {
+            *self = Content::Regular(bytes);
         }
     }
 
@@ -93,6 +119,15 @@ impl Node {
         self.content.add_name(name, object)?;
         self.nlink = links_with(directory, links_without(replaced, self.nlink));
         Ok(())
+    }
+
+    /// The name, which is there, leads to this object.
+    pub fn lead(&mut self, name: &[u8], object: usize, directory: bool, replaced: bool)
+        requires { is_some (found name.now (names_in self.old.content)) ≡ true }
+        ensures { self.new ≡ with_entry name.now object directory replaced self.old }
+    {
+        self.content.lead_name(name, object);
+        self.nlink = links_with(directory, links_without(replaced, self.nlink));
     }
 
     /// The name, which led to a directory or not, leads nowhere any more.
@@ -127,8 +162,27 @@ impl Node {
     }
 }
 
+impl Node {
+    /// The file has other contents.
+    pub fn rewrite(&mut self, bytes: Bytes, now: Time)
+        ensures { self.new ≡ rewritten now bytes self.old }
+    {
+        self.content.set_bytes(bytes);
+        self.touch(now);
+    }
+
+    /// It has one name more.
+    pub fn gain_name(&mut self, now: Time)
+        ensures { self.new ≡ after_gaining now self.old }
+    {
+        self.nlink = self.nlink.saturating_add(1);
+        self.restamp(now);
+    }
+}
+
 /// An object that is made now, with this number and serial, on the mount of this directory.
 pub fn new_object(
+    alloc: Global,
     now: Time,
     number: u64,
     serial: u64,
@@ -136,9 +190,10 @@ pub fn new_object(
     permissions: u32,
     uid: u32,
     gid: u32,
+    rdev: u32,
     content: Content,
 ) -> Node
-    ensures { result ≡ new_object now number serial dir.now permissions uid gid content }
+    ensures { result ≡ new_object now number serial dir.now permissions uid gid rdev content }
 {
     Node {
         ids: ObjIds {
@@ -152,9 +207,11 @@ pub fn new_object(
         nlink: content.first_links(),
         uid,
         gid,
+        rdev,
         atime: now,
         mtime: now,
         ctime: now,
         content,
+        xattrs: Attributes::new(alloc),
     }
 }

@@ -1,15 +1,13 @@
-ghost use Rattle.std.specs.Prelude.{◌≡◌, ◌<◌, ◌++◌, ◌∷◌, [], OnOk, IfOk, IfErr, codes, slice_get, unwrap_or};
+ghost use Rattle.std.specs.Prelude.{◌≡◌, ◌<◌, ◌++◌, ◌∷◌, [], OnOk, IfOk, IfErr, codes, slice_get};
 ghost use Rattle.std.specs.List.{flat_map};
-ghost use Rattle.std.specs.Option.{option_copied};
-ghost use Rattle.pt_text.specs.ByteWord.{byte_word};
 ghost use Rattle.pt_tree.specs.Sound.{HavePermissions};
-ghost use Rattle.pt_tree.specs.Node.{bytes_in, mode_of};
-ghost use Rattle.pt_tree.specs.Listing.{line_at, lines_below, listing_of, names_at, number_word, numbers_of, object_line};
+ghost use Rattle.pt_tree.specs.Listing.{line_at, lines_below, listing_of, number_word, numbers_of, object_line, xattr_line};
 ghost use Rattle.pt_tree.specs.declared.spec.SpecError.TheVariants.{Memory};
 
+use crate::attributes::Attributes;
 use crate::host::TreeHost;
-use crate::names::Names;
-use crate::node::{Content, Node};
+use crate::node::Node;
+use crate::path::names_of;
 use crate::spec::SpecError;
 use pt_host::Bytes;
 use pt_text::{push_byte_word, push_decimal, push_text};
@@ -37,7 +35,7 @@ fn push_object_numbers(out: &mut Vec<u8>, node: &Node) -> Result<(), AllocError>
         u64::from(node.nlink),
         u64::from(node.uid),
         u64::from(node.gid),
-        0,
+        u64::from(node.rdev),
     ];
     push_numbers(out, &numbers)
 }
@@ -54,6 +52,27 @@ fn push_object(out: &mut Vec<u8>, path: &[u8], node: &Node) -> Result<(), AllocE
     push_text(out, b"\n")
 }
 
+fn push_xattr(out: &mut Vec<u8>, path: &[u8], name: &[u8], value: &[u8]) -> Result<(), AllocError>
+    ensures { OnOk result (out.new.items ≡ out.old.items ++ xattr_line path.now (name.now, value.now)) }
+{
+    push_text(out, b"xattr ")?;
+    push_byte_word(out, path)?;
+    push_text(out, b" ")?;
+    push_byte_word(out, name)?;
+    push_text(out, b" ")?;
+    push_byte_word(out, value)?;
+    push_text(out, b"\n")
+}
+
+fn push_xattrs(out: &mut Vec<u8>, path: &[u8], xattrs: &Attributes) -> Result<(), AllocError>
+    ensures { OnOk result (out.new.items ≡ out.old.items ++ flat_map (xattr_line path.now) xattrs.now) }
+{
+    for (name, value) in xattrs.kept.iter() {
+        push_xattr(out, path, name, value.as_slice())?;
+    }
+    Ok(())
+}
+
 fn push_line_at(
     out: &mut Vec<u8>,
     path: &[u8],
@@ -65,17 +84,11 @@ fn push_line_at(
 {
     match nodes.get(object) {
         None => Ok(()),
-        Some(node) => push_object(out, path, node),
-    }
-}
-
-/// The names of the directory at this place.
-fn names_of(nodes: &[Node], dir: usize) -> Option<&Names>
-    ensures { unwrap_or (option_copied result) [] ≡ names_at (slice_get nodes.now dir) }
-{
-    match &nodes.get(dir)?.content {
-        Content::Directory(names) => Some(names),
-        Content::Regular(_) => None,
+        Some(node) => {
+            push_object(out, path, node)?;
+            push_xattrs(out, path, &node.xattrs)?;
+            Ok(())
+        }
     }
 }
 
@@ -110,7 +123,8 @@ fn push_below(
 
 impl TreeHost {
     /// A line for each object: `obj`, its path, inode number, device, mount, mode, number of links, owner, group, device of
-    /// a special file, and what it holds.
+    /// a special file, and what it holds; after it a line for each of its attributes: `xattr`, its path, a name and the
+    /// value.
     pub fn listing(&self, alloc: Global) -> Result<Bytes, SpecError>
         ensures ok { IfOk result (λ bytes. bytes ≡ listing_of self.now) }
         ensures err { IfErr result (λ error. error ≡ Memory) }

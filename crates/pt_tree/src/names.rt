@@ -1,4 +1,8 @@
-ghost use Rattle.std.specs.Prelude.{◌≡◌, ◌==◌, [], OnOk, OnErr, length};
+ghost use Rattle.std.specs.Prelude.{◌≡◌, ◌==◌, [], OnOk, OnErr, is_some, length, true};
+ghost use Rattle.std.specs.BTreeMap.{IsOrdered, is_at};
+ghost use Rattle.std.specs.Cmp.Lexicographic.{slice_cmp};
+ghost use Rattle.std.specs.Map.{lookup, set_value};
+ghost use Rattle.std.specs.Ordering.{nat_cmp};
 ghost use Rattle.pt_tree.specs.Names.{found, named, unnamed};
 
 use std::alloc::{AllocError, Global};
@@ -17,6 +21,17 @@ impl Model for Names {
     ghost Value = { List (List ℕ × ℕ) };
 
     ghost view = { λ names. map (λ entry. (entry.0.items, entry.1)) names.kept.entries };
+}
+
+/// Leads a name that is there elsewhere.
+fn lead_in(kept: &mut BTreeMap<Vec<u8>, usize>, name: &[u8], object: usize)
+    requires { is_some (lookup (is_at (λ key. slice_cmp nat_cmp name.now key.items)) kept.old.entries) ≡ true }
+    ensures entries { kept.new.entries ≡ set_value (is_at (λ key. slice_cmp nat_cmp name.now key.items)) kept.old.entries object }
+    ensures ordered { IsOrdered (λ one other. slice_cmp nat_cmp one.items other.items) kept.old }
+{
+    if let Some(led) = kept.get_mut(name) {
+        *led = object;
+    }
 }
 
 impl Names {
@@ -48,6 +63,14 @@ impl Names {
     {
         self.kept.insert(name, object)?;
         Ok(())
+    }
+
+    /// The name, which is there, leads elsewhere. This takes no memory.
+    pub fn lead(&mut self, name: &[u8], object: usize)
+        requires { is_some (found name.now self.old) ≡ true }
+        ensures { self.new ≡ named name.now object self.old }
+    {
+        lead_in(&mut self.kept, name, object);
     }
 
     /// The name leads nowhere any more.

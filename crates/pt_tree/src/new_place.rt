@@ -1,6 +1,6 @@
 ghost use Rattle.std.specs.Prelude.{◌≡◌, slice_get, option_map};
 ghost use Rattle.pt_tree.specs.Calls.{parts};
-ghost use Rattle.pt_tree.specs.Start.{has_nul, is_dots, is_good_name, place_in, place_of, seen_place, takes_name};
+ghost use Rattle.pt_tree.specs.NewPlace.{has_nul, is_dots, is_good_name, place_in, place_of, seen_place, takes_name};
 
 use crate::node::Node;
 use crate::path::{cut, name_at};

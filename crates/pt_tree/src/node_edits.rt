@@ -1,15 +1,19 @@
-ghost use Rattle.std.specs.Prelude.{◌≡◌, OnOk, OnErr, false, slice_get};
+ghost use Rattle.std.specs.Prelude.{◌≡◌, OnOk, OnErr, Some, false, true, is_some, slice_get};
+ghost use Rattle.pt_tree.specs.Names.{found};
+ghost use Rattle.pt_tree.specs.Node.{name_at, names_in};
+ghost use Rattle.pt_tree.specs.NameCalls.{exchanged, linked};
 ghost use Rattle.std.specs.Option.{option_map_or};
 ghost use Rattle.pt_tree.specs.Entries.{
   after_losing,
   changed_at,
   is_directory_at,
   restamped,
+  rewritten,
   touched,
   with_entry,
   without_entry,
 };
-ghost use Rattle.pt_tree.specs.Start.{seen_place};
+ghost use Rattle.pt_tree.specs.NewPlace.{seen_place};
 ghost use Rattle.pt_tree.specs.Edits.{
   holds_any,
   is_mounted,
@@ -19,7 +23,6 @@ ghost use Rattle.pt_tree.specs.Edits.{
   node_at,
   replace_refusal,
   replaced,
-  rewritten,
   unlink_refusal,
   unlinked,
   write_refusal,
@@ -38,17 +41,17 @@ pub fn is_directory_at(nodes: &[Node], place: usize) -> bool
     }
 }
 
-fn holds_any(node: &Node) -> bool
+pub fn holds_any(node: &Node) -> bool
     ensures { result ≡ holds_any node.now }
 {
     match &node.content {
         Content::Directory(names) => !names.is_empty(),
-        Content::Regular(_) => false,
+        Content::Regular(_) | Content::Link(_) | Content::Special(_) => false,
     }
 }
 
 /// Whether what stands under a name of this directory is the root of another mount.
-fn is_mounted(dir: &Node, node: &Node) -> bool
+pub fn is_mounted(dir: &Node, node: &Node) -> bool
     ensures { result ≡ is_mounted dir.now node.now }
 {
     node.ids.mnt_id != dir.ids.mnt_id
@@ -96,7 +99,7 @@ pub fn move_refusal(
     }
 }
 
-fn is_mounted_at(nodes: &[Node], dir: &Node, target: Option<usize>) -> bool
+pub fn is_mounted_at(nodes: &[Node], dir: &Node, target: Option<usize>) -> bool
     ensures { result ≡ option_map_or (is_mounted dir.now) (node_at nodes.now target) false }
 {
     match target {
@@ -135,6 +138,10 @@ pub fn write_refusal(nodes: &[Node], object: usize, size: usize) -> Option<Errno
     };
     if node.is_directory() {
         Some(Errno::EISDIR)
+    } else if node.is_link() {
+        Some(Errno::ELOOP)
+    } else if node.is_special() {
+        Some(Errno::ENXIO)
     } else if size > FILE_MAX {
         Some(Errno::EFBIG)
     } else {
@@ -147,6 +154,14 @@ impl Node {
         ensures { self.new ≡ touched now (without_entry name.now directory self.old) }
     {
         self.remove_entry(name, directory);
+        self.touch(now);
+    }
+
+    fn lead_entry(&mut self, name: &[u8], object: usize, directory: bool, replaced: bool, now: Time)
+        requires { is_some (found name.now (names_in self.old.content)) ≡ true }
+        ensures { self.new ≡ touched now (with_entry name.now object directory replaced self.old) }
+    {
+        self.lead(name, object, directory, replaced);
         self.touch(now);
     }
 
@@ -164,13 +179,6 @@ impl Node {
         self.add_entry(name, object, directory, replaced)?;
         self.touch(now);
         Ok(())
-    }
-
-    fn rewrite(&mut self, bytes: Bytes, now: Time)
-        ensures { self.new ≡ rewritten now bytes self.old }
-    {
-        self.content = Content::Regular(bytes);
-        self.touch(now);
     }
 }
 
@@ -273,4 +281,61 @@ pub fn rename(
     lose_entry(nodes, from.0, from.1, directory, now);
     restamp(nodes, object, now);
     Ok(())
+}
+
+/// The name in this directory, which is there, leads to the object.
+fn lead_entry(
+    nodes: &mut [Node],
+    dir: usize,
+    name: &[u8],
+    object: usize,
+    directory: bool,
+    replaced: bool,
+    now: Time,
+)
+    requires { is_some (name_at nodes.old dir name.now) ≡ true }
+    ensures { nodes.new ≡ changed_at dir (λ at. touched now (with_entry name.now object directory replaced at)) nodes.old }
+{
+    if dir < nodes.len() {
+        nodes[dir].lead_entry(name, object, directory, replaced, now);
+    }
+}
+
+/// The object gets this name too.
+pub fn link(
+    nodes: &mut [Node],
+    now: Time,
+    dir: usize,
+    name: Vec<u8>,
+    object: usize,
+) -> Result<(), AllocError>
+    ensures ok { OnOk result (nodes.new ≡ linked now dir name.items object nodes.old) }
+    ensures err { OnErr result (nodes.new ≡ nodes.old) }
+{
+    gain_entry(nodes, dir, name, object, false, false, now)?;
+    if object < nodes.len() {
+        nodes[object].gain_name(now);
+    }
+    Ok(())
+}
+
+/// The two objects, which have these names, get each other's.
+pub fn exchange(
+    nodes: &mut [Node],
+    now: Time,
+    from: (usize, &[u8]),
+    to: (usize, &[u8]),
+    object: usize,
+    other: usize,
+)
+    requires there { name_at nodes.old from.0 from.1.now ≡ Some object }
+    requires too { name_at nodes.old to.0 to.1.now ≡ Some other }
+    ensures { nodes.new ≡ exchanged now (seen_place from.entry) (seen_place to.entry) object other nodes.old }
+{
+    let directory = is_directory_at(nodes, object);
+    let another = is_directory_at(nodes, other);
+    lead_entry(nodes, to.0, to.1, object, directory, another, now);
+    lead_entry(nodes, from.0, from.1, other, another, directory, now);
+    restamp(nodes, object, now);
+    restamp(nodes, other, now);
 }

@@ -20,7 +20,8 @@ pub fn wants_read(flags: OpenFlags) -> bool
     flags.0 % 4 == 0 || flags.0 % 4 == 2
 }
 
-fn wants_write(flags: OpenFlags) -> bool
+/// Whether the access mode lets write.
+pub fn wants_write(flags: OpenFlags) -> bool
     ensures { result ≡ wants_write flags.0 }
 {
     flags.0 % 4 == 1 || flags.0 % 4 == 2
@@ -44,11 +45,17 @@ pub fn opening_refusal(seat: &HostSeat, node: &Node, flags: OpenFlags) -> Option
     if flags.0 % 4 == 3 {
         return Some(Errno::EINVAL);
     }
+    if node.is_link() {
+        return Some(Errno::ELOOP);
+    }
     if misses_directory {
         return Some(Errno::ENOTDIR);
     }
     if node.is_directory() && (wants_write(flags) || flags.includes(OpenFlags::O_TRUNC)) {
         return Some(Errno::EISDIR);
+    }
+    if node.is_special() {
+        return Some(Errno::ENXIO);
     }
     if wants_read(flags) && !may(seat, node, Right::Read) {
         return Some(Errno::EACCES);
@@ -60,7 +67,7 @@ pub fn opening_refusal(seat: &HostSeat, node: &Node, flags: OpenFlags) -> Option
 }
 
 /// The permissions of a file whose contents this seat changed.
-fn permissions_after(seat: &HostSeat, permissions: u32) -> u32
+pub fn permissions_after(seat: &HostSeat, permissions: u32) -> u32
     ensures { result ≡ permissions_after seat.now permissions }
 {
     if seat.eff_caps.includes(Caps::FSETID) {

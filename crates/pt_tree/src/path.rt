@@ -1,10 +1,14 @@
 ghost use Rattle.std.specs.Prelude.{◌≡◌, ◌<◌, ◌∷◌, [], Ok, MatchOption, OnSome, IfSome, length};
 ghost use Rattle.pt_tree.specs.Node.{name_at, names_in};
 ghost use Rattle.pt_tree.specs.Names.{found};
+ghost use Rattle.pt_tree.specs.OpeningCalls.{walk_from};
+ghost use Rattle.pt_tree.specs.Start.{object_below, object_named};
 ghost use Rattle.pt_tree.specs.Calls.{parts, parts_after, step_from, walk, walk_root};
-ghost use Rattle.std.specs.Prelude.{slice_get, position, ◌==◌};
+ghost use Rattle.std.specs.Prelude.{slice_get, position, unwrap_or, ◌==◌};
+ghost use Rattle.pt_tree.specs.Listing.{names_at};
 ghost use Rattle.std.specs.Option.{option_copied};
 
+use crate::names::Names;
 use crate::node::{Content, Node};
 use pt_host::Errno;
 
@@ -26,14 +30,34 @@ pub fn cut(path: &[u8]) -> (&[u8], Option<&[u8]>)
 }
 
 impl Content {
+    /// The names in it, where this is a directory.
+    pub fn names(&self) -> Option<&Names>
+        ensures { unwrap_or (option_copied result) [] ≡ names_in self.now }
+    {
+        match self {
+            Content::Directory(names) => Some(names),
+            Content::Regular(_) | Content::Link(_) | Content::Special(_) => None,
+        }
+    }
+
     /// The object that the name leads to, where this is a directory.
     pub fn lookup(&self, name: &[u8]) -> Option<usize>
         ensures { result ≡ found name.now (names_in self.now) }
     {
         match self {
             Content::Directory(names) => names.get(name),
-            Content::Regular(_) => None,
+            Content::Regular(_) | Content::Link(_) | Content::Special(_) => None,
         }
+    }
+}
+
+/// The names of the directory at this place.
+pub fn names_of(nodes: &[Node], dir: usize) -> Option<&Names>
+    ensures { unwrap_or (option_copied result) [] ≡ names_at (slice_get nodes.now dir) }
+{
+    match &nodes.get(dir)?.content {
+        Content::Directory(names) => Some(names),
+        Content::Regular(_) | Content::Link(_) | Content::Special(_) => None,
     }
 }
 
@@ -65,10 +89,10 @@ pub fn step_from(nodes: &[Node], at: usize, part: &[u8]) -> Result<usize, Errno>
     }
 }
 
-fn walk(nodes: &[Node], path: &[u8]) -> Result<usize, Errno>
-    ensures { result ≡ walk nodes.now 0 (parts path.now) }
+fn walk(nodes: &[Node], from: usize, path: &[u8]) -> Result<usize, Errno>
+    ensures { result ≡ walk nodes.now from (parts path.now) }
 {
-    let mut at = 0;
+    let mut at = from;
     let mut left = path;
     loop {
         let (part, rest) = cut(left);
@@ -88,9 +112,58 @@ pub fn walk_root(nodes: &[Node], path: &[u8]) -> Result<usize, Errno>
         None => Err(Errno::ENOENT),
         Some((first, rest)) => {
             if *first == b'/' {
-                walk(nodes, rest)
+                walk(nodes, 0, rest)
             } else {
                 Err(Errno::ENOENT)
+            }
+        }
+    }
+}
+
+/// The object that a path leads to, from the root where it begins with a slash, and else from here.
+pub fn walk_from(nodes: &[Node], here: usize, path: &[u8]) -> Result<usize, Errno>
+    ensures { result ≡ walk_from nodes.now here path.now }
+{
+    match path.split_first() {
+        None => Ok(here),
+        Some((first, rest)) => {
+            if *first == b'/' {
+                walk(nodes, 0, rest)
+            } else {
+                walk(nodes, here, path)
+            }
+        }
+    }
+}
+
+fn object_below(nodes: &[Node], path: &[u8]) -> Option<usize>
+    ensures { result ≡ object_below nodes.now 0 (parts path.now) }
+{
+    let mut at = 0;
+    let mut left = path;
+    loop {
+        let (part, rest) = cut(left);
+        at = name_at(nodes, at, part)?;
+        match rest {
+            None => return Some(at),
+            Some(rest) => left = rest,
+        }
+    }
+}
+
+/// What stands at the end of a path, which begins at the root with a slash.
+pub fn object_named(nodes: &[Node], path: &[u8]) -> Option<usize>
+    ensures { result ≡ object_named nodes.now path.now }
+{
+    match path.split_first() {
+        None => None,
+        Some((first, rest)) => {
+            if *first != b'/' {
+                None
+            } else if rest.is_empty() {
+                Some(0)
+            } else {
+                object_below(nodes, rest)
             }
         }
     }

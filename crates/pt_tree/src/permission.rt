@@ -1,6 +1,6 @@
 ghost use Rattle.std.specs.Prelude.{◌≡◌, ◌==◌, ◌||◌};
 ghost use Rattle.std.specs.List.{list_any};
-ghost use Rattle.pt_tree.specs.Permission.{bit_of, class_bits, overrides, may};
+ghost use Rattle.pt_tree.specs.Permission.{bit_of, class_bits, overrides, may, owns};
 
 use crate::node::Node;
 use pt_host::{Caps, HostSeat};
@@ -67,4 +67,11 @@ pub fn may(seat: &HostSeat, node: &Node, right: Right) -> bool
 {
     let bit = right.bit();
     right.is_overridden(seat.eff_caps) || class_bits(seat, node) & bit == bit
+}
+
+/// Whether the seat has the owner's rights on the object's status.
+pub fn owns(seat: &HostSeat, node: &Node) -> bool
+    ensures { result ≡ owns seat.now node.now }
+{
+    seat.eff_uid == node.uid || seat.eff_caps.includes(Caps::FOWNER)
 }

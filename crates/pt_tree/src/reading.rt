@@ -19,7 +19,7 @@ pub fn read_refusal(node: &Node, flags: OpenFlags) -> Option<Errno>
 }
 
 /// The bytes from the offset on, up to the size or the end.
-pub fn part_of(bytes: &[u8], offset: u64, size: u32) -> &[u8]
+pub fn part_of(bytes: &[u8], offset: u64, size: u64) -> &[u8]
     ensures { result.now ≡ part_of offset size bytes.now }
 {
     let start = bytes.len().min(offset as usize);

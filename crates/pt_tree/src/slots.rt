@@ -1,5 +1,14 @@
-ghost use Rattle.std.specs.Prelude.{◌≡◌, ◌≤◌, ◌<◌, IfOk, OnErr, length, position};
-ghost use Rattle.pt_tree.specs.Slots.{is_free, open_at, least_free, put_at, closed, no_files, no_numbers};
+ghost use Rattle.std.specs.Prelude.{◌≡◌, ◌≤◌, ◌<◌, ◌-◌, IfOk, OnErr, is_some, length, position, true};
+ghost use Rattle.pt_tree.specs.Slots.{
+  open_at,
+  least_free,
+  placed_at,
+  put_at,
+  taken_back,
+  closed,
+  no_files,
+  no_numbers,
+};
 ghost use Rattle.pt_tree.specs.declared.slots.Slot.TheVariants.{Open};
 
 use pt_host::{Fd, OpenFlags};
@@ -14,6 +23,8 @@ pub struct OpenFile {
     /// The object's place.
     pub object: usize,
     pub flags: OpenFlags,
+    /// Where it goes on.
+    pub position: u64,
 }
 
 /// What stands at a descriptor's number.
@@ -97,6 +108,36 @@ impl Descriptors {
                 self.slots.push(Slot::Open(file))?;
                 Ok(Fd(fd))
             }
+        }
+    }
+
+    /// How many numbers there are.
+    pub fn len(&self) -> usize
+        ensures { result ≡ length self.now }
+    {
+        self.slots.len()
+    }
+
+    /// Takes back the opening of this descriptor, before which there were so many numbers.
+    pub fn take_back(&mut self, fd: Fd, before: usize)
+        requires { before < length self.old → is_some (open_at self.old (length self.old - 1)) ≡ true }
+        ensures { self.new ≡ taken_back fd.0 before self.old }
+    {
+        if self.slots.len() > before {
+            let _ = self.slots.pop();
+        } else {
+            self.close(fd.0 as usize);
+        }
+    }
+
+    /// The descriptor goes on at another place, where it is open.
+    pub fn go_to(&mut self, fd: Fd, position: u64)
+        ensures { self.new ≡ placed_at fd.0 position self.old }
+    {
+        let number = fd.0 as usize;
+        if let Some(file) = file_at(&self.slots, number) {
+            let placed = OpenFile { position, ..file };
+            self.slots[number] = Slot::Open(placed);
         }
     }
 

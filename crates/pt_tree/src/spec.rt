@@ -8,8 +8,8 @@ use std::marker::Model;
 /// One line of the description of a tree.
 #[derive(Debug, Drop)]
 pub enum TreeLine {
-    /// A mount with its id and device, and whether its objects have file handles. One mount is built, that of `/`, and
-    /// it stands first.
+    /// A mount with its id and device, and whether its objects have file handles. That of `/` stands first; another one
+    /// makes the directory that its path names.
     Mount {
         id: u64,
         dev: u64,
@@ -30,6 +30,32 @@ pub enum TreeLine {
         mode: u32,
         uid: u32,
         gid: u32,
+    },
+    /// A symbolic link: its path from the root, its owner and where it leads, at most 4,095 bytes.
+    Link {
+        path: Bytes,
+        uid: u32,
+        gid: u32,
+        target: Bytes,
+    },
+    /// A pipe, a socket or a device, by the kind bits of its mode.
+    Spec {
+        path: Bytes,
+        mode: u32,
+        uid: u32,
+        gid: u32,
+        rdev: u32,
+    },
+    /// A second name of an object that is no directory.
+    Hard {
+        path: Bytes,
+        old: Bytes,
+    },
+    /// An extended attribute. A later line of the same name replaces it.
+    Xattr {
+        path: Bytes,
+        name: Bytes,
+        value: Bytes,
     },
 }
 

@@ -1,13 +1,13 @@
 ghost use Rattle.std.specs.Prelude.{◌≡◌, ℕ, Ok};
-ghost use Rattle.pt_host.specs.Call.{call_of};
 ghost use Rattle.pt_host.specs.declared.op.KeptHostOp.TheVariants as call;
 ghost use Rattle.pt_host.specs.declared.seat.HostSeat.{HostSeat};
-ghost use Rattle.pt_tree.specs.StoreState.{IsKeptBy, number_at, numbers_of, state_of};
-ghost use Rattle.pt_tree.specs.State.{time_of, counted};
+ghost use Rattle.pt_tree.specs.StoreState.{IsKeptBy, device_at, number_at, state_of};
+ghost use Rattle.pt_tree.specs.State.{time_of};
 ghost use Rattle.pt_tree.specs.Living.{Lives};
-ghost use Rattle.pt_tree.specs.Does.{Answers, AnswersAs, AnswersCall};
+ghost use Rattle.pt_tree.specs.Does.{AnswersAs};
 ghost use Rattle.pt_tree.specs.Slots.{open_at};
 ghost use Rattle.pt_tree.specs.Calls.{
+  begun_on,
   close_file,
   name_refusal,
   find_name,
@@ -20,10 +20,12 @@ ghost use Rattle.pt_tree.specs.Calls.{
 };
 
 use crate::inodes::Inodes;
+use crate::mounts::Mounts;
 use crate::node::Node;
 use crate::opening::{apply_opening, opening_refusal};
 use crate::path::walk_root;
 use crate::permission::{Right, may};
+use crate::plans::Plans;
 use crate::reading::{part_of, read_refusal};
 use crate::slots::{Descriptors, OpenFile};
 use pt_host::{Bytes, Edit, Errno, Fd, HostOp, HostReply, HostSeat, HostValue, OpenFlags, Time};
@@ -39,12 +41,18 @@ pub struct Store {
     /// The objects in the order of their making, the root first.
     pub nodes: Vec<Node>,
     pub files: Descriptors,
+    pub mounts: Mounts,
     pub inodes: Inodes,
     /// How many calls were answered.
     pub calls: u64,
+    /// The calls that are to fail.
+    pub plans: Plans,
+    /// How many of them did.
+    pub faults: u64,
 }
 
-fn name_refusal(seat: &HostSeat, dir: &Node, name: &[u8]) -> Option<Errno>
+/// The error for which no call on this name in the directory is answered, where there is one.
+pub fn name_refusal(seat: &HostSeat, dir: &Node, name: &[u8]) -> Option<Errno>
     ensures { result ≡ name_refusal seat.now dir.now name.now }
 {
     if !dir.is_directory() {
@@ -55,6 +63,17 @@ fn name_refusal(seat: &HostSeat, dir: &Node, name: &[u8]) -> Option<Errno>
         Some(Errno::EACCES)
     } else {
         None
+    }
+}
+
+/// A descriptor that begins at the start.
+pub fn begun_on(flags: OpenFlags, object: usize) -> OpenFile
+    ensures { result ≡ begun_on flags object }
+{
+    OpenFile {
+        object,
+        flags,
+        position: 0,
     }
 }
 
@@ -70,7 +89,7 @@ impl Store {
     }
 
     /// Opens an object that lives.
-    fn open(&mut self, seat: &HostSeat, flags: OpenFlags, object: usize) -> HostReply
+    pub fn open(&mut self, seat: &HostSeat, flags: OpenFlags, object: usize) -> HostReply
         requires kept { IsKeptBy self.old }
         requires lives { Lives (state_of self.old) object }
         ensures answers { AnswersAs (opening (state_of self.old) seat.now flags object) (state_of self.old) result (state_of self.new) }
@@ -86,7 +105,7 @@ impl Store {
             return HostReply::NoMemory;
         };
         let now = self.now();
-        match self.files.open(OpenFile { object, flags }) {
+        match self.files.open(begun_on(flags, object)) {
             Ok(fd) => {
                 apply_opening(self.alloc, seat, now, flags, &mut self.nodes[object]);
                 self.inodes.holds[object] = holds;
@@ -96,7 +115,7 @@ impl Store {
         }
     }
 
-    fn open_found(
+    pub fn open_found(
         &mut self,
         seat: &HostSeat,
         flags: OpenFlags,
@@ -114,16 +133,13 @@ impl Store {
     }
 
     /// The object that a name leads to from a descriptor's directory.
-    fn find(&self, seat: &HostSeat, fd: Fd, name: &[u8], flags: OpenFlags) -> Result<usize, Errno>
-        ensures { result ≡ find_name self.now.nodes.items seat.now name.now flags.0 (open_at self.now.files fd.0) }
+    fn find(&self, seat: &HostSeat, fd: Fd, name: &[u8]) -> Result<usize, Errno>
+        ensures { result ≡ find_name self.now.nodes.items seat.now name.now (open_at self.now.files fd.0) }
     {
         let dir = self.files.get(fd).ok_or(Errno::EBADF)?;
         let dir = self.nodes.get(dir.object).ok_or(Errno::EIO)?;
         if let Some(errno) = name_refusal(seat, dir, name) {
             return Err(errno);
-        }
-        if flags.includes(OpenFlags::O_CREAT) {
-            return Err(Errno::EOPNOTSUPP);
         }
         dir.content.lookup(name).ok_or(Errno::ENOENT)
     }
@@ -139,7 +155,7 @@ impl Store {
         Ok(file.object)
     }
 
-    fn stat(&self, fd: Fd) -> HostReply
+    pub fn stat(&self, fd: Fd) -> HostReply
         requires { IsKeptBy self.now }
         ensures { (result, state_of self.now) ≡ tell_status (state_of self.now) (open_at self.now.files fd.0) }
     {
@@ -152,7 +168,7 @@ impl Store {
         }
     }
 
-    fn read(&mut self, fd: Fd, offset: u64, size: u32) -> HostReply
+    pub fn read(&mut self, fd: Fd, offset: u64, size: u32) -> HostReply
         requires { IsKeptBy self.old }
         ensures answers { AnswersAs (read_file (state_of self.old) offset size (open_at self.old.files fd.0)) (state_of self.old) result (state_of self.new) }
         ensures kept { IsKeptBy self.new }
@@ -167,7 +183,10 @@ impl Store {
             return HostReply::Refused(errno);
         }
         let now = self.now();
-        match Bytes::from_slice(self.alloc, part_of(node.content.bytes(), offset, size)) {
+        match Bytes::from_slice(
+            self.alloc,
+            part_of(node.content.bytes(), offset, u64::from(size)),
+        ) {
             Ok(bytes) => {
                 self.nodes[file.object].atime = now;
                 HostReply::Ok(HostValue::Bytes(bytes))
@@ -176,7 +195,7 @@ impl Store {
         }
     }
 
-    fn close(&mut self, fd: Fd) -> HostReply
+    pub fn close(&mut self, fd: Fd) -> HostReply
         requires { IsKeptBy self.old }
         ensures answers { (result, state_of self.new) ≡ close_file (state_of self.old) fd.0 (open_at self.old.files fd.0) }
         ensures kept { IsKeptBy self.new }
@@ -184,13 +203,14 @@ impl Store {
         let Some(file) = self.files.get(fd) else {
             return HostReply::Refused(Errno::EBADF);
         };
+        let dev = device_at(&self.nodes, file.object);
         let number = number_at(&self.nodes, file.object);
         self.files.close(fd.0 as usize);
-        self.inodes.release(file.object, number);
+        self.inodes.release(file.object, dev, number);
         HostReply::Ok(HostValue::Unit)
     }
 
-    fn open_root(&mut self, seat: &HostSeat, path: &[u8], flags: OpenFlags) -> HostReply
+    pub fn open_root(&mut self, seat: &HostSeat, path: &[u8], flags: OpenFlags) -> HostReply
         requires { IsKeptBy self.old }
         ensures answers { AnswersAs (open_walked (state_of self.old) seat.now flags (walk_root self.old.nodes.items path.now)) (state_of self.old) result (state_of self.new) }
         ensures kept { IsKeptBy self.new }
@@ -199,16 +219,23 @@ impl Store {
         self.open_found(seat, flags, found)
     }
 
-    fn open_name(&mut self, seat: &HostSeat, fd: Fd, name: &[u8], flags: OpenFlags) -> HostReply
+    /// Opens what the name leads to.
+    pub fn open_found_name(
+        &mut self,
+        seat: &HostSeat,
+        fd: Fd,
+        name: &[u8],
+        flags: OpenFlags,
+    ) -> HostReply
         requires { IsKeptBy self.old }
-        ensures answers { AnswersAs (open_walked (state_of self.old) seat.now flags (find_name self.old.nodes.items seat.now name.now flags.0 (open_at self.old.files fd.0))) (state_of self.old) result (state_of self.new) }
+        ensures answers { AnswersAs (open_walked (state_of self.old) seat.now flags (find_name self.old.nodes.items seat.now name.now (open_at self.old.files fd.0))) (state_of self.old) result (state_of self.new) }
         ensures kept { IsKeptBy self.new }
     {
-        let found = self.find(seat, fd, name, flags);
+        let found = self.find(seat, fd, name);
         self.open_found(seat, flags, found)
     }
 
-    fn reopen(&mut self, seat: &HostSeat, fd: Fd, flags: OpenFlags) -> HostReply
+    pub fn reopen(&mut self, seat: &HostSeat, fd: Fd, flags: OpenFlags) -> HostReply
         requires { IsKeptBy self.old }
         ensures answers { AnswersAs (open_walked (state_of self.old) seat.now flags (find_open flags.0 (open_at self.old.files fd.0))) (state_of self.old) result (state_of self.new) }
         ensures kept { IsKeptBy self.new }
@@ -216,58 +243,15 @@ impl Store {
         let object = self.find_open(fd, flags);
         self.open_found(seat, flags, object)
     }
+}
 
-    /// Answers a call, which is not counted yet.
-    fn answer(&mut self, seat: &HostSeat, op: &HostOp<'_>) -> HostReply
-        requires { IsKeptBy self.old }
-        ensures answers { AnswersCall (state_of self.old) (numbers_of self.old) seat.now (call_of op.now) result (state_of self.new) }
-        ensures kept { IsKeptBy self.new }
-    {
-        match *op {
-            HostOp::OpenRoot { path, flags } => self.open_root(seat, path, flags),
-            HostOp::OpenAt {
-                fd,
-                name,
-                flags,
-                ..
-            } => self.open_name(seat, fd, name, flags),
-            HostOp::Reopen { fd, flags } => self.reopen(seat, fd, flags),
-            HostOp::Stat { fd } => self.stat(fd),
-            HostOp::ReadAt { fd, offset, size } => self.read(fd, offset, size),
-            HostOp::Close { fd } => self.close(fd),
-            HostOp::Edit(edit) => self.edit(edit),
-        }
-    }
-
-    /// Counts the call, up to where a time in seconds ends.
-    fn count(&mut self)
-        requires { IsKeptBy self.old }
-        ensures counts { state_of self.new ≡ counted (state_of self.old) }
-        ensures kept { IsKeptBy self.new }
-    {
-        self.calls = self.calls.saturating_add(1).min(i64::MAX as u64);
-    }
-
-    /// Answers a call and counts it.
-    pub fn call(&mut self, seat: &HostSeat, op: &HostOp<'_>) -> HostReply
-        requires { IsKeptBy self.old }
-        ensures answers { Answers (state_of self.old) seat.now (call_of op.now) result (state_of self.new) }
-        ensures kept { IsKeptBy self.new }
-    {
-        let reply = self.answer(seat, op);
-        self.count();
-        reply
-    }
-
-    /// Makes an edit and counts it.
-    pub fn make_edit(&mut self, edit: &Edit) -> HostReply
-        requires { IsKeptBy self.old }
-        ensures answers { (seat : HostSeat) → Answers (state_of self.old) seat (call.Edit edit.now) result (state_of self.new) }
-        ensures kept { IsKeptBy self.new }
-    {
-        let reply = self.edit(edit);
-        self.count();
-        reply
+/// The device of the object at this place.
+pub fn device_at(nodes: &[Node], object: usize) -> u64
+    ensures { result ≡ device_at nodes.now object }
+{
+    match nodes.get(object) {
+        None => 0,
+        Some(node) => node.ids.dev,
     }
 }
 

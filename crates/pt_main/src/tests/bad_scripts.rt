@@ -5,7 +5,7 @@ use std::process::Abort;
 use std::test::Fail;
 
 // Each text, which comes in two parts, is refused at this line.
-fn assert_bad(rt: &impl Abort, alloc: Global, table: &[(&str, &str, u32)]) -> Result<(), Fail> {
+pub fn assert_bad(rt: &impl Abort, alloc: Global, table: &[(&str, &str, u32)]) -> Result<(), Fail> {
     for row in table {
         let (head, rest, line) = *row;
         let mut bytes = head.as_bytes().to_vec(alloc)?;
@@ -54,7 +54,7 @@ fn bad_lines_of_trees_are_named(rt: HostRuntime) -> Result<(), Fail> {
         ("mount 1 1 / 1 1\n", "", 1),
         ("mount 1 1 / 1\n", "file /a 0o10000 0 0 z\nend\n", 2),
         (TREE, "file /a 0o644 0 0 z\nend\n", 3),
-        (TREE, "mount 2 2 /m 0\nend\n", 3),
+        (TREE, "mount 1 2 /m 0\nend\n", 3),
         (TREE, "file b 0o644 0 0 z\nend\n", 3),
         (TREE, "file /b 0o648 0 0 z\nend\n", 3),
         (TREE, "file /b 0o644 -1 0 z\nend\n", 3),

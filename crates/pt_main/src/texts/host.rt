@@ -1,8 +1,10 @@
-ghost use Rattle.pt_main.specs.HostTexts.{errno_text, fd_text, flags_text, ids_text, time_text, stat_text, fs_stat_text, call_text, value_text, host_reply_text};
+ghost use Rattle.pt_main.specs.HostTexts.{errno_text, fd_text, flags_text, ids_text, time_text, stat_text, fs_stat_text, c_handle_text, handle_text, value_text, host_reply_text};
 
 use crate::texts::Text;
-use crate::texts::plain::{push_named, push_word};
-use pt_host::{Errno, Fd, FsStat, HostReply, HostValue, KeptHostOp, ObjIds, OpenFlags, Stat, Time};
+use crate::texts::plain::{push_bytes, push_named, push_word};
+use pt_host::{
+    CFileHandle, Errno, Fd, FileHandle, FsStat, HostReply, HostValue, ObjIds, OpenFlags, Stat, Time,
+};
 use std::alloc::AllocError;
 
 impl Text for Errno {
@@ -82,39 +84,21 @@ impl Text for FsStat {
     }
 }
 
-impl Text for KeptHostOp {
-    ghost text = { call_text };
+impl Text for CFileHandle {
+    ghost text = { c_handle_text };
 
     fn write(&self, out: &mut Vec<u8>) -> Result<(), AllocError> {
-        match self {
-            KeptHostOp::OpenRoot { path, flags } => {
-                push_named(out, b"OpenRoot", path)?;
-                flags.write(out)
-            }
-            KeptHostOp::OpenAt {
-                fd,
-                name,
-                flags,
-                mode,
-            } => {
-                push_named(out, b"OpenAt", fd)?;
-                name.write(out)?;
-                flags.write(out)?;
-                mode.write(out)
-            }
-            KeptHostOp::Reopen { fd, flags } => {
-                push_named(out, b"Reopen", fd)?;
-                flags.write(out)
-            }
-            KeptHostOp::Stat { fd } => push_named(out, b"Stat", fd),
-            KeptHostOp::ReadAt { fd, offset, size } => {
-                push_named(out, b"ReadAt", fd)?;
-                offset.write(out)?;
-                size.write(out)
-            }
-            KeptHostOp::Close { fd } => push_named(out, b"Close", fd),
-            KeptHostOp::Edit(edit) => push_named(out, b"Edit", edit),
-        }
+        self.handle_type.write(out)?;
+        push_bytes(out, self.as_bytes())
+    }
+}
+
+impl Text for FileHandle {
+    ghost text = { handle_text };
+
+    fn write(&self, out: &mut Vec<u8>) -> Result<(), AllocError> {
+        self.mnt_id.write(out)?;
+        self.handle.write(out)
     }
 }
 
@@ -126,7 +110,10 @@ impl Text for HostValue {
             HostValue::Unit => push_word(out, b"Unit"),
             HostValue::Fd(fd) => push_named(out, b"Fd", fd),
             HostValue::Stat(stat) => push_named(out, b"Stat", stat),
+            HostValue::Handle(handle) => push_named(out, b"Handle", handle),
+            HostValue::FsStat(stat) => push_named(out, b"FsStat", stat),
             HostValue::Bytes(bytes) => push_named(out, b"Bytes", bytes),
+            HostValue::Count(count) => push_named(out, b"Count", count),
         }
     }
 }

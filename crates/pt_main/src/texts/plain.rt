@@ -22,6 +22,67 @@ pub fn push_named<T: Text>(out: &mut Vec<u8>, name: &[u8], value: &T) -> Result<
     value.write(out)
 }
 
+/// Appends a name and two values.
+pub fn push_two<A: Text, B: Text>(
+    out: &mut Vec<u8>,
+    name: &[u8],
+    first: &A,
+    second: &B,
+) -> Result<(), AllocError>
+    ensures { OnOk result (out.new.items ≡ out.old.items ++ (word name.now ++ A.text first.now ++ B.text second.now)) }
+{
+    push_named(out, name, first)?;
+    second.write(out)
+}
+
+/// Appends a name and three values.
+pub fn push_three<A: Text, B: Text, C: Text>(
+    out: &mut Vec<u8>,
+    name: &[u8],
+    first: &A,
+    second: &B,
+    third: &C,
+) -> Result<(), AllocError>
+    ensures { OnOk result (out.new.items ≡ out.old.items ++ (word name.now ++ A.text first.now ++ B.text second.now ++ C.text third.now)) }
+{
+    push_two(out, name, first, second)?;
+    third.write(out)
+}
+
+/// Appends a name and four values.
+pub fn push_four<A: Text, B: Text, C: Text, D: Text>(
+    out: &mut Vec<u8>,
+    name: &[u8],
+    first: &A,
+    second: &B,
+    third: &C,
+    fourth: &D,
+) -> Result<(), AllocError>
+    ensures { OnOk result (out.new.items
+        ≡ out.old.items ++ (word name.now ++ A.text first.now ++ B.text second.now ++ C.text third.now ++ D.text fourth.now)) }
+{
+    push_three(out, name, first, second, third)?;
+    fourth.write(out)
+}
+
+/// Appends a name and five values.
+pub fn push_five<A: Text, B: Text, C: Text, D: Text, E: Text>(
+    out: &mut Vec<u8>,
+    name: &[u8],
+    first: &A,
+    second: &B,
+    third: &C,
+    fourth: &D,
+    fifth: &E,
+) -> Result<(), AllocError>
+    ensures { OnOk result (out.new.items
+        ≡ out.old.items
+        ++ (word name.now ++ A.text first.now ++ B.text second.now ++ C.text third.now ++ D.text fourth.now ++ E.text fifth.now)) }
+{
+    push_four(out, name, first, second, third, fourth)?;
+    fifth.write(out)
+}
+
 impl Text for u64 {
     ghost text = { number_text };
 

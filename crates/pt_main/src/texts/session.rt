@@ -1,21 +1,11 @@
 ghost use Rattle.std.specs.Prelude.{◌≡◌, ◌++◌, OnOk};
-ghost use Rattle.pt_main.specs.SessionTexts.{handle_text, form_text, row_text, negotiated_text, pair_text, forgets_text, new_handle_text, event_text, refusal_text, event_reply_text};
+ghost use Rattle.pt_main.specs.SessionTexts.{form_text, row_text, negotiated_text, pair_text, forgets_text, new_handle_text, event_text, refusal_text, event_reply_text};
 
 use crate::texts::Text;
-use crate::texts::plain::{push_bytes, push_named, push_word};
-use pt_host::{Fd, FileHandle, ObjIds};
+use crate::texts::plain::{push_named, push_word};
+use pt_host::{Fd, ObjIds};
 use pt_session::{EventRefusal, EventReply, ForgetList, KeptEvent, Negotiated, RowForm};
 use std::alloc::AllocError;
-
-impl Text for FileHandle {
-    ghost text = { handle_text };
-
-    fn write(&self, out: &mut Vec<u8>) -> Result<(), AllocError> {
-        self.mnt_id.write(out)?;
-        self.handle.handle_type.write(out)?;
-        push_bytes(out, self.handle.as_bytes())
-    }
-}
 
 impl Text for RowForm {
     ghost text = { form_text };

@@ -1,19 +1,20 @@
 -- The objects with one of them changed: what stands where, and where the names lead.
-use Rattle.std.proofs.Common.{◌≡◌, ◌≤◌, ◌⊎◌, inl, inr, ℕ, Bool, true, false, cond, eqb, List, [], ◌∷◌, ◌++◌, length, map, Option, Some, None, option_map, option_and_then, slice_get, slice_set, refl, ap, sym, ◌∙◌, subst, arith, length-set}
+use Rattle.std.proofs.Common.{◌≡◌, ◌<◌, ◌⊎◌, inl, inr, ℕ, Bool, true, false, cond, eqb, List, [], ◌∷◌, ◌++◌, length, map, Option, Some, None, option_map, option_and_then, slice_get, slice_set, refl, ap, sym, ◌∙◌, subst, length-set}
 use Rattle.std.specs.Map.{update}
 use Rattle.std.specs.Str.{bytes_eq}
 use Rattle.std.proofs.lemmas.Bool.Decides.{eqb_tells}
 use Rattle.std.proofs.lemmas.Option.{same_Some, slice_get_within}
+use Rattle.std.proofs.lemmas.Slice.Eq.{bytes_eq-Decides}
 use Rattle.pt_host.specs.Words.{set_at}
 use Rattle.pt_host.specs.Tree.{Tree, Object, Opened}
 use Rattle.pt_host.specs.declared.ids.Time.{Time}
 use Rattle.pt_tree.specs.Entries.{changed_at, changed_where, is_directory_at, is_directory_where, touched, with_entry, with_name, without_entry, without_name}
 use Rattle.pt_tree.specs.Names.{found}
-use Rattle.pt_tree.specs.Node.{name_at, names_in, object_of, holds_names}
+use Rattle.pt_tree.specs.Node.{is_directory, name_at, names_in, object_of, holds_names}
 use Rattle.pt_tree.specs.Sound.{AreOrdered}
 use Rattle.pt_tree.specs.declared.node.Node.{Node}
 use Rattle.pt_tree.specs.declared.node.Content.{Content}
-use Rattle.pt_tree.specs.declared.node.Content.TheVariants.{Directory, Regular}
+use Rattle.pt_tree.specs.declared.node.Content.TheVariants.{Directory}
 use Rattle.pt_tree.specs.Laws.Updates.{map-set_same, get-set_here, get-set_apart, get-push_here, get-push_apart}
 use Rattle.pt_tree.specs.Laws.NameTable.{found-named, found-unnamed}
 
@@ -70,11 +71,11 @@ objects-changed place f nodes same = map_where (slice_get nodes place) place f n
 pub record Stays (before after : Node) : Type 0 where
   pub ids : after.ids ≡ before.ids
   pub serial : after.serial ≡ before.serial
-  pub permissions : after.permissions ≤ before.permissions
+  pub permissions : before.permissions < 4096 → after.permissions < 4096
   pub ordered : AreOrdered (names_in before.content) → AreOrdered (names_in after.content)
 
 pub stays_itself : (node : Node) → Stays node node
-stays_itself node = record { ids = refl; serial = refl; permissions = omega arith; ordered = λ o. o }
+stays_itself node = record { ids = refl; serial = refl; permissions = λ small. small; ordered = λ o. o }
 
 pub record AreAlike (before after : List Node) : Type 0 where
   pub long : length after ≡ length before
@@ -94,7 +95,7 @@ alike_on first next last one two = record {
         record {
           ids = later.2.ids ∙ before.2.ids;
           serial = later.2.serial ∙ before.2.serial;
-          permissions = (let a = later.2.permissions in let b = before.2.permissions in omega arith);
+          permissions = λ small. later.2.permissions (before.2.permissions small);
           ordered = λ o. later.2.ordered (before.2.ordered o);
         },
       );
@@ -161,7 +162,7 @@ none_either false = refl
 lost_in : (q name : List ℕ) (content : Content) → AreOrdered (names_in content) →
     found q (names_in (without_name name content)) ≡ update bytes_eq (λ k. found k (names_in content)) name None q
 lost_in q name (Directory names) ordered = found-unnamed q name names ordered
-lost_in q name (Regular bytes) ordered = sym (none_either (bytes_eq name q))
+lost_in q name content ordered = sym (none_either (bytes_eq name q))
 
 lost_from : (q name : List ℕ) (directory : Bool) (now : Time) (node : Option Node) → ((n : Node) → node ≡ Some n → AreOrdered (names_in n.content)) →
     names_from q (option_map (λ at. touched now (without_entry name directory at)) node) ≡ update bytes_eq (λ k. names_from k node) name None q
@@ -178,7 +179,7 @@ names-lost now dir name directory nodes ordered =
 gained_in : (q name : List ℕ) (object : ℕ) (content : Content) → holds_names content ≡ true →
     found q (names_in (with_name name object content)) ≡ update bytes_eq (λ k. found k (names_in content)) name (Some object) q
 gained_in q name object (Directory names) holds = found-named q name object names
-gained_in q name object (Regular bytes) holds = cc
+gained_in q name object content holds = cc
 
 gained_from : (q name : List ℕ) (object : ℕ) (directory replaced : Bool) (now : Time) (node : Option Node) → is_directory_where node ≡ true →
     names_from q (option_map (λ at. touched now (with_entry name object directory replaced at)) node)
@@ -234,3 +235,54 @@ led_cases dir name object names d q o is = elim (eqb_tells d dir) [
     in_dir : (b : Bool) → cond b object (names dir q) ≡ Some o → names d q ≡ names dir q → (object ≡ Some o) ⊎ (names d q ≡ Some o)
     in_dir true there same = inl there
     in_dir false there same = inr (same ∙ there)
+
+-- a name that leads to the object does so after any name was led there
+pub led_still : (dir : ℕ) (name : List ℕ) (object : ℕ) (names : ℕ → List ℕ → Option ℕ) (d : ℕ) (q : List ℕ) → names d q ≡ Some object →
+    led dir name (Some object) names d q ≡ Some object
+unfolding set_at
+led_still dir name object names d q there = elim (eqb_tells d dir) [
+  | inl e ↦ ap (λ b. cond b (update bytes_eq (names dir) name (Some object)) (names d) q) e.0 ∙ in_dir (bytes_eq name q) (sym (ap (λ k. names k q) e.1) ∙ there)
+  | inr apart ↦ ap (λ b. cond b (update bytes_eq (names dir) name (Some object)) (names d) q) apart.0 ∙ there
+]
+  where
+    in_dir : (b : Bool) → names dir q ≡ Some object → cond b (Some object) (names dir q) ≡ Some object
+    in_dir true is = refl
+    in_dir false is = is
+
+-- a name leads where it is led
+pub led_here : (dir : ℕ) (name : List ℕ) (object : Option ℕ) (names : ℕ → List ℕ → Option ℕ) → led dir name object names dir name ≡ object
+unfolding set_at
+led_here dir name object names = elim (eqb_tells dir dir) [
+  | inl same ↦ ap (λ b. cond b (update bytes_eq (names dir) name object) (names dir) name) same.0
+      ∙ ap (λ b. cond b object (names dir name)) ((bytes_eq-Decides name name).1 refl)
+  | inr apart ↦ absurd (apart.1 refl)
+]
+
+same_value : (b : Bool) (name q : List ℕ) (object : Option ℕ) (names : List ℕ → Option ℕ) → bytes_eq name q ≡ b → names name ≡ object →
+    cond b object (names q) ≡ names q
+same_value true name q object names is there = sym there ∙ ap names ((bytes_eq-Decides name q).0 is)
+same_value false name q object names is there = refl
+
+-- a name that is led where it led stays
+pub led_same : (dir : ℕ) (name : List ℕ) (object : Option ℕ) (names : ℕ → List ℕ → Option ℕ) → names dir name ≡ object → led dir name object names ≡ names
+unfolding set_at
+led_same dir name object names there =
+    same_function _ _ (λ d. same_function _ _ (λ q. elim (eqb_tells d dir) [
+      | inl is ↦ ap (λ b. cond b (update bytes_eq (names dir) name object) (names d) q) is.0
+          ∙ same_value (bytes_eq name q) name q object (names dir) refl there ∙ sym (ap (λ k. names k q) is.1)
+      | inr apart ↦ ap (λ b. cond b (update bytes_eq (names dir) name object) (names d) q) apart.0
+    ]))
+
+directory_where : (f : Node → Node) → ((node : Node) → is_directory (f node) ≡ is_directory node) → (node : Option Node) →
+    is_directory_where (option_map f node) ≡ is_directory_where node
+directory_where f same None = refl
+directory_where f same (Some node) = same node
+
+-- a change by which no kind changes leaves directories what they are
+pub directory-changed : (place : ℕ) (f : Node → Node) (nodes : List Node) (k : ℕ) → ((node : Node) → is_directory (f node) ≡ is_directory node) →
+    is_directory_at (changed_at place f nodes) k ≡ is_directory_at nodes k
+directory-changed place f nodes k same = ap is_directory_where (get-changed place f nodes k) ∙ elim (eqb_tells k place) [
+  | inl is ↦ ap (λ b. is_directory_where (cond b (option_map f (slice_get nodes place)) (slice_get nodes k))) is.0
+      ∙ directory_where f same (slice_get nodes place) ∙ sym (ap (λ j. is_directory_where (slice_get nodes j)) is.1)
+  | inr apart ↦ ap (λ b. is_directory_where (cond b (option_map f (slice_get nodes place)) (slice_get nodes k))) apart.0
+]

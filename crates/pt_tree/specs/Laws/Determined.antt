@@ -1,32 +1,16 @@
 -- A tree host leaves nothing open but want of memory.
-use Rattle.std.proofs.Common.{◌≡◌, ◌≢◌, ℕ, inl, inr, ap, sym, ◌∙◌, arith}
+use Rattle.std.proofs.Common.{◌≡◌, ◌≢◌, ℕ, inl, inr, Option, Some, None, ap, sym, ◌∙◌, arith}
 use Rattle.std.proofs.lemmas.Bool.Decides.{leb_tells}
 use Rattle.pt_host.specs.Call.{Call}
+use Rattle.pt_host.specs.declared.ids.Errno.{Errno}
 use Rattle.pt_host.specs.declared.seat.HostSeat.{HostSeat}
-use Rattle.pt_host.specs.declared.op.KeptHostOp.TheVariants as call
 use Rattle.pt_host.specs.declared.reply.HostReply.{HostReply}
 use Rattle.pt_host.specs.declared.reply.HostReply.TheVariants.{NoMemory}
+use Rattle.pt_tree.specs.Faults.{failure_of, past_plan}
 use Rattle.pt_tree.specs.Living.{AreLeastFree, IsLeastFree}
 use Rattle.pt_tree.specs.State.{State, counted}
-use Rattle.pt_tree.specs.Calls.{Answered}
-use Rattle.pt_tree.specs.Table.{answer}
-use Rattle.pt_tree.specs.Does.{AnswersAs, AnswersCall, Does}
-
-as_said : (said : Answered) (before after : State) (told : HostReply) → told ≢ NoMemory → AnswersAs said before told after → (told ≡ said.0) × (after ≡ said.1)
-as_said said before after told w (inl is) = (ap (λ (both : Answered). both.0) is, ap (λ (both : Answered). both.1) is)
-as_said said before after told w (inr none) = absurd (w none.0)
-
--- what is answered is the table's
-by_table : (before after : State) (numbers : ℕ → ℕ) (seat : HostSeat) (asked : Call) (told : HostReply) → told ≢ NoMemory →
-    AnswersCall before numbers seat asked told after → (told ≡ (answer before numbers seat asked).0) × (after ≡ (answer before numbers seat asked).1)
-by_table before after numbers seat (call.OpenRoot path flags) told w h = as_said (answer before numbers seat (call.OpenRoot path flags)) before after told w h
-by_table before after numbers seat (call.OpenAt fd name flags mode) told w h =
-    as_said (answer before numbers seat (call.OpenAt fd name flags mode)) before after told w h
-by_table before after numbers seat (call.Reopen fd flags) told w h = as_said (answer before numbers seat (call.Reopen fd flags)) before after told w h
-by_table before after numbers seat (call.ReadAt fd offset size) told w h = as_said (answer before numbers seat (call.ReadAt fd offset size)) before after told w h
-by_table before after numbers seat (call.Edit edit) told w h = as_said (answer before numbers seat (call.Edit edit)) before after told w h
-by_table before after numbers seat (call.Stat fd) told w h = as_said (answer before numbers seat (call.Stat fd)) before after told w (inl h)
-by_table before after numbers seat (call.Close fd) told w h = as_said (answer before numbers seat (call.Close fd)) before after told w (inl h)
+use Rattle.pt_tree.specs.Table.{Outcome, outcome}
+use Rattle.pt_tree.specs.Does.{AnswersCall, Does}
 
 -- a device has one least free number
 one_least : (state : State) (dev m n : ℕ) → IsLeastFree state dev m → IsLeastFree state dev n → m ≡ n
@@ -41,14 +25,23 @@ one_least state dev m n one other = elim (leb_tells m n) [
 same_numbers : (state : State) (numbers other : ℕ → ℕ) → AreLeastFree state numbers → AreLeastFree state other → numbers ≡ other
 same_numbers state numbers other least too = λ k dev. one_least state dev (numbers dev) (other dev) (least dev) (too dev) k
 
+-- what comes of a call, want of memory aside
+same_outcome : (failing : Option Errno) (before : State) (numbers other : ℕ → ℕ) (seat : HostSeat) (asked : Call) (told told' : HostReply) (after after' : State)
+    (left left' : HostSeat) → told ≢ NoMemory → told' ≢ NoMemory → numbers ≡ other → AnswersCall failing before numbers seat asked told after left →
+    AnswersCall failing before other seat asked told' after' left' → (told ≡ told') × (after ≡ after') × (left ≡ left')
+same_outcome (Some errno) before numbers other seat asked told told' after after' left left' w w' same h k =
+    let e = h ∙ sym k in (ap (λ (o : Outcome). o.0) e, ap (λ (o : Outcome). o.1) e, ap (λ (o : Outcome). o.2) e)
+same_outcome None before numbers other seat asked told told' after after' left left' w w' same (inr none) k = absurd (w (ap (λ (o : Outcome). o.0) none.1))
+same_outcome None before numbers other seat asked told told' after after' left left' w w' same (inl h) (inr none) = absurd (w' (ap (λ (o : Outcome). o.0) none.1))
+same_outcome None before numbers other seat asked told told' after after' left left' w w' same (inl h) (inl k) =
+    let e = h ∙ ap (λ (n : ℕ → ℕ). outcome before n seat asked) same ∙ sym k in
+    (ap (λ (o : Outcome). o.0) e, ap (λ (o : Outcome). o.1) e, ap (λ (o : Outcome). o.2) e)
+
 -- two steps from the same state and seat are alike
 pub determined : (before after after' : State) (seat left left' : HostSeat) (asked : Call) (told told' : HostReply) → told ≢ NoMemory → told' ≢ NoMemory →
     Does before seat asked told after left → Does before seat asked told' after' left' → (told ≡ told') × (after ≡ after') × (left ≡ left')
 determined before after after' seat left left' asked told told' w w' h k =
-    let one = by_table before h.answers.state h.answers.numbers seat asked told w h.answers.answered in
-    let two = by_table before k.answers.state k.answers.numbers seat asked told' w' k.answers.answered in
-    let same = ap (λ (numbers : ℕ → ℕ). answer before numbers seat asked) (same_numbers before h.answers.numbers k.answers.numbers h.answers.least k.answers.least) in (
-      one.0 ∙ ap (λ (both : Answered). both.0) same ∙ sym two.0,
-      h.answers.counts ∙ ap counted (one.1 ∙ ap (λ (both : Answered). both.1) same ∙ sym two.1) ∙ sym k.answers.counts,
-      h.same_seat ∙ sym k.same_seat,
-    )
+    let same = same_numbers before h.answers.numbers k.answers.numbers h.answers.least k.answers.least in
+    let alike = same_outcome (failure_of before asked) before h.answers.numbers k.answers.numbers seat asked told told' h.answers.state k.answers.state left left'
+    w w' same h.answers.answered k.answers.answered in
+    (alike.0, h.answers.counts ∙ ap (λ (s : State). counted (past_plan s)) alike.1 ∙ sym k.answers.counts, alike.2)

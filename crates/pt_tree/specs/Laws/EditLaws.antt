@@ -10,7 +10,7 @@ use Rattle.pt_host.specs.declared.op.KeptHostOp.TheVariants as call
 use Rattle.pt_host.specs.declared.reply.HostReply.{HostReply}
 use Rattle.pt_tree.specs.Calls.{Answered}
 use Rattle.pt_tree.specs.Does.{AnswersAs}
-use Rattle.pt_tree.specs.Edits.{edited, made}
+use Rattle.pt_tree.specs.Edits.{edited}
 use Rattle.pt_tree.specs.Node.{name_at, object_of}
 use Rattle.pt_tree.specs.Sound.{IsSound}
 use Rattle.pt_tree.specs.State.{State, time_of, tree_of}
@@ -19,7 +19,7 @@ use Rattle.pt_tree.specs.Laws.EditShapes.{names_grown, names_moved, names_rewrit
 use Rattle.pt_tree.specs.Laws.EditSound.{all_ordered}
 use Rattle.pt_tree.specs.Laws.Outcomes.{Effect, Makes, MovesTo, Outcome, Renames, Rewrites, Unlinks, edit_outcome}
 
-takes_name : (state after : State) → IsSound state → Unlinks state after → TakesName (tree_of state) (tree_of after)
+abbrev pub takes_name : (state after : State) → IsSound state → Unlinks state after → TakesName (tree_of state) (tree_of after)
 takes_name state after sound does = record {
   dir = does.dir;
   name = does.name;
@@ -30,7 +30,7 @@ takes_name state after sound does = record {
       (names_unlinked (time_of state) does.dir does.name does.object state.nodes (all_ordered state sound)) refl;
 }
 
-moves : (state after : State) (does : Renames state after) → IsSound state → MovesTo state does.from does.to does.object does.target after →
+pub moves : (state after : State) (does : Renames state after) → IsSound state → MovesTo state does.from does.to does.object does.target after →
     Moves (tree_of state) does.from.0 does.from.1 does.to.0 does.to.1 does.object (tree_of after)
 moves state after does sound (inl same) = inl (does.at_target ∙ same.0, ap tree_of same.1)
 moves state after does sound (inr other) =
@@ -41,7 +41,7 @@ moves state after does sound (inr other) =
           (names_moved (time_of state) does.from does.to does.object does.target state.nodes (all_ordered state sound) does.into) refl,
     )
 
-moves_name : (state after : State) → IsSound state → Renames state after → MovesName (tree_of state) (tree_of after)
+abbrev pub moves_name : (state after : State) → IsSound state → Renames state after → MovesName (tree_of state) (tree_of after)
 moves_name state after sound does = record {
   dir = does.from.0;
   name = does.from.1;
@@ -52,9 +52,9 @@ moves_name state after sound does = record {
   moves = moves state after does sound does.moves;
 }
 
-makes_object : (state : State) (numbers : ℕ → ℕ) (after : State) → Makes state numbers after → MakesObject (tree_of state) (tree_of after)
+abbrev pub makes_object : (state : State) (numbers : ℕ → ℕ) (after : State) → Makes state numbers after → MakesObject (tree_of state) (tree_of after)
 makes_object state numbers after does =
-    let node = made state numbers does.mode does.uid does.gid does.content does.parent in
+    let node = does.node in
     record {
       dir = does.dir;
       name = does.name;
@@ -70,8 +70,8 @@ makes_object state numbers after does =
 rewrites : (state after : State) → Rewrites state after → tree_of after ≡ tree_of state
 rewrites state after does =
     ap tree_of does.leaves
-    ∙ same_tree _ _ _ _ _ _ (objects_rewritten (time_of state) does.bytes does.object state.nodes does.regular)
-    (names_rewritten (time_of state) does.bytes does.object state.nodes does.regular) refl
+    ∙ same_tree _ _ _ _ _ _ (objects_rewritten (time_of state) does.bytes does.object state.nodes)
+    (names_rewritten (time_of state) does.bytes does.object state.nodes) refl
 
 effect_edits : (state : State) (numbers : ℕ → ℕ) (asked : Edit) (after : State) → IsSound state → Effect state numbers asked after → Edits (tree_of state) asked (tree_of after)
 effect_edits state numbers (edit.Unlink path) after sound does = takes_name state after sound does
@@ -80,7 +80,7 @@ effect_edits state numbers (edit.File path mode uid gid bytes) after sound does 
 effect_edits state numbers (edit.Dir path mode uid gid) after sound does = makes_object state numbers after does
 effect_edits state numbers (edit.Write path bytes) after sound does = rewrites state after does
 
-outcome_changes : (state : State) (numbers : ℕ → ℕ) (asked : Edit) (told : Answered) → IsSound state → Outcome state told (Effect state numbers asked) →
+pub outcome_changes : (state : State) (numbers : ℕ → ℕ) (asked : Edit) (told : Answered) → IsSound state → Outcome state told (Effect state numbers asked) →
     Changes (tree_of state) (call.Edit asked) told.0 (tree_of told.1)
 outcome_changes state numbers asked told sound (inl refused) =
     subst (λ (both : Answered). Changes (tree_of state) (call.Edit asked) both.0 (tree_of both.1)) (sym refused.1) (tt, refl)

@@ -1,11 +1,11 @@
 -- What an edit that is made leaves of the objects and the names.
-use Rattle.std.proofs.Common.{◌≡◌, ℕ, Bool, true, false, List, [], ◌∷◌, ◌++◌, length, map, Option, Some, None, slice_get, refl, ap, sym, ◌∙◌, arith}
+use Rattle.std.proofs.Common.{◌≡◌, ℕ, Bool, true, false, List, [], ◌∷◌, ◌++◌, length, map, Option, Some, None, slice_get, refl, ap, sym, subst, ◌∙◌}
 use Rattle.std.specs.List.Sorted.{IsStrictlySortedBy}
 use Rattle.pt_host.specs.Tree.{Object}
 use Rattle.pt_host.specs.declared.ids.Time.{Time}
-use Rattle.pt_tree.specs.Entries.{after_losing, changed_at, is_directory_at, is_directory_where, restamped, touched, with_entry, with_name, without_entry, without_name}
-use Rattle.pt_tree.specs.Edits.{grown, is_target_directory, moved, replaced, rewritten, unlinked}
-use Rattle.pt_tree.specs.Node.{holds_names, is_directory, kind_number, name_at, names_in, object_of}
+use Rattle.pt_tree.specs.Entries.{after_losing, changed_at, is_directory_at, restamped, touched, rewritten, with_bytes, with_entry, with_name, without_entry, without_name}
+use Rattle.pt_tree.specs.Edits.{grown, is_target_directory, moved, replaced, unlinked}
+use Rattle.pt_tree.specs.Node.{is_directory, kind_number, name_at, names_in, object_of}
 use Rattle.pt_tree.specs.Sound.{AreOrdered}
 use Rattle.pt_tree.specs.declared.node.Node.{Node}
 use Rattle.pt_tree.specs.declared.node.Content.{Content}
@@ -17,43 +17,51 @@ use Rattle.pt_tree.specs.Laws.NameTable.{ordered-named, ordered-unnamed}
 
 pub ordered_gained : (name : List ℕ) (object : ℕ) (content : Content) → AreOrdered (names_in content) → AreOrdered (names_in (with_name name object content))
 ordered_gained name object (Directory names) ordered = ordered-named name object names ordered
-ordered_gained name object (Regular bytes) ordered = ordered
+ordered_gained name object content ordered = ordered
 
 ordered_lost : (name : List ℕ) (content : Content) → AreOrdered (names_in content) → AreOrdered (names_in (without_name name content))
 ordered_lost name (Directory names) ordered = ordered-unnamed name names ordered
-ordered_lost name (Regular bytes) ordered = ordered
+ordered_lost name content ordered = ordered
 
 pub stays_gained : (now : Time) (name : List ℕ) (object : ℕ) (directory gone : Bool) (node : Node) → Stays node (touched now (with_entry name object directory gone node))
-stays_gained now name object directory gone node = record { ids = refl; serial = refl; permissions = omega arith; ordered = ordered_gained name object node.content }
+stays_gained now name object directory gone node = record { ids = refl; serial = refl; permissions = λ small. small; ordered = ordered_gained name object node.content }
 
 pub stays_lost : (now : Time) (name : List ℕ) (directory : Bool) (node : Node) → Stays node (touched now (without_entry name directory node))
-stays_lost now name directory node = record { ids = refl; serial = refl; permissions = omega arith; ordered = ordered_lost name node.content }
+stays_lost now name directory node = record { ids = refl; serial = refl; permissions = λ small. small; ordered = ordered_lost name node.content }
 
 pub stays_losing : (now : Time) (node : Node) → Stays node (after_losing now node)
-stays_losing now node = record { ids = refl; serial = refl; permissions = omega arith; ordered = λ ordered. ordered }
+stays_losing now node = record { ids = refl; serial = refl; permissions = λ small. small; ordered = λ ordered. ordered }
 
 pub stays_restamped : (now : Time) (node : Node) → Stays node (restamped now node)
-stays_restamped now node = record { ids = refl; serial = refl; permissions = omega arith; ordered = λ ordered. ordered }
+stays_restamped now node = record { ids = refl; serial = refl; permissions = λ small. small; ordered = λ ordered. ordered }
 
 pub no_names : AreOrdered []
 unfolding IsStrictlySortedBy
 no_names = tt
 
+pub names_rewritten_in : (bytes : List ℕ) (content : Content) → names_in (with_bytes bytes content) ≡ names_in content
+names_rewritten_in bytes (Regular old) = refl
+names_rewritten_in bytes content = refl
+
+pub kind_rewritten_in : (bytes : List ℕ) (content : Content) → kind_number (with_bytes bytes content) ≡ kind_number content
+kind_rewritten_in bytes (Regular old) = refl
+kind_rewritten_in bytes content = refl
+
 pub stays_rewritten : (now : Time) (bytes : List ℕ) (node : Node) → Stays node (rewritten now bytes node)
-stays_rewritten now bytes node = record { ids = refl; serial = refl; permissions = omega arith; ordered = λ ordered. no_names }
+stays_rewritten now bytes node = record { ids = refl; serial = refl; permissions = λ small. small; ordered = λ ordered. subst AreOrdered (sym (names_rewritten_in bytes node.content)) ordered }
 
 same_kind : (node : Node) (content : Content) → kind_number content ≡ kind_number node.content → object_of (record node { content = content }) ≡ object_of node
 same_kind node content same = ap (λ (kind : ℕ). record (object_of node) { kind = kind }) same
 
 kind_gained : (name : List ℕ) (object : ℕ) (content : Content) → kind_number (with_name name object content) ≡ kind_number content
 kind_gained name object (Directory names) = refl
-kind_gained name object (Regular bytes) = refl
+kind_gained name object content = refl
 
 kind_lost : (name : List ℕ) (content : Content) → kind_number (without_name name content) ≡ kind_number content
 kind_lost name (Directory names) = refl
-kind_lost name (Regular bytes) = refl
+kind_lost name content = refl
 
-object_gained : (now : Time) (name : List ℕ) (object : ℕ) (directory gone : Bool) (node : Node) → object_of (touched now (with_entry name object directory gone node)) ≡ object_of node
+pub object_gained : (now : Time) (name : List ℕ) (object : ℕ) (directory gone : Bool) (node : Node) → object_of (touched now (with_entry name object directory gone node)) ≡ object_of node
 object_gained now name object directory gone node = same_kind node (with_name name object node.content) (kind_gained name object node.content)
 
 object_lost : (now : Time) (name : List ℕ) (directory : Bool) (node : Node) → object_of (touched now (without_entry name directory node)) ≡ object_of node
@@ -173,24 +181,13 @@ module _ (now : Time) (dir : ℕ) (name : List ℕ) (node : Node) (nodes : List 
 
 -- ---- Write
 
-regular_kind : (content : Content) → holds_names content ≡ false → 8 ≡ kind_number content
-regular_kind (Directory names) is = cc
-regular_kind (Regular bytes) is = refl
-
-pub regular_names : (content : Content) → holds_names content ≡ false → [] ≡ names_in content
-regular_names (Directory names) is = cc
-regular_names (Regular bytes) is = refl
-
-module _ (now : Time) (bytes : List ℕ) (object : ℕ) (nodes : List Node) (regular : is_directory_at nodes object ≡ false) where
-  pub regular_there : (node : Node) → slice_get nodes object ≡ Some node → holds_names node.content ≡ false
-  regular_there node is = sym (ap is_directory_where is) ∙ regular
-
+module _ (now : Time) (bytes : List ℕ) (object : ℕ) (nodes : List Node) where
   pub alike_rewritten : AreAlike nodes (changed_at object (rewritten now bytes) nodes)
   alike_rewritten = alike_changed object (rewritten now bytes) nodes (stays_rewritten now bytes)
 
   pub names_rewritten : name_at (changed_at object (rewritten now bytes) nodes) ≡ name_at nodes
-  names_rewritten = names-same object (rewritten now bytes) nodes (λ node is. regular_names node.content (regular_there node is))
+  names_rewritten = names-same object (rewritten now bytes) nodes (λ node is. names_rewritten_in bytes node.content)
 
   pub objects_rewritten : map object_of (changed_at object (rewritten now bytes) nodes) ≡ map object_of nodes
   objects_rewritten =
-      objects-changed object (rewritten now bytes) nodes (λ node is. same_kind node (Regular bytes) (regular_kind node.content (regular_there node is)))
+      objects-changed object (rewritten now bytes) nodes (λ node is. same_kind node (with_bytes bytes node.content) (kind_rewritten_in bytes node.content))

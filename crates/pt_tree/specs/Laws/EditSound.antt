@@ -14,7 +14,7 @@ use Rattle.pt_tree.specs.declared.node.Node.{Node}
 use Rattle.pt_tree.specs.Laws.Changed.{led, led_cases}
 use Rattle.pt_tree.specs.Laws.EditShapes.{alike_entered, alike_moved, alike_rewritten, alike_unlinked, entered, names_grown, names_moved, names_rewritten, names_unlinked, no_names, AllOrdered}
 use Rattle.pt_tree.specs.Laws.Outcomes.{Effect, Makes, MovesTo, edit_outcome}
-use Rattle.pt_tree.specs.Laws.Sounding.{NamedBefore, made_stays, opened_still, sound_after}
+use Rattle.pt_tree.specs.Laws.Sounding.{NamedBefore, made_stays, named_still, opened_still, sound_after}
 use Rattle.pt_tree.specs.Laws.Updates.{get-push_cases}
 
 pub all_ordered : (state : State) → IsSound state → AllOrdered state.nodes
@@ -23,7 +23,10 @@ all_ordered state sound place node is = (sound.made place node is).ordered
 pub named_unlinked : (state : State) (dir : ℕ) (name : List ℕ) (object : ℕ) → IsSound state → NamedBefore state (with_unlinked state dir name object).nodes
 named_unlinked state dir name object sound o (d, q, is) =
     let names = names_unlinked (time_of state) dir name object state.nodes (all_ordered state sound) in
-    elim (led_cases dir name None (name_at state.nodes) d q o (sym (ap (λ at. at d q) names) ∙ is)) [ inl none ↦ cc | inr was ↦ (d, q, was) ]
+    elim (led_cases dir name None (name_at state.nodes) d q o (sym (ap (λ at. at d q) names) ∙ is)) [
+      | inl none ↦ cc
+      | inr was ↦ named_still state sound o (d, q, was)
+    ]
 
 pub sound_unlinked : (state : State) (dir : ℕ) (name : List ℕ) (object : ℕ) → IsSound state → IsSound (with_unlinked state dir name object)
 sound_unlinked state dir name object sound =
@@ -37,8 +40,8 @@ named_moved state from to object target sound there into o (d, q, is) =
     elim (led_cases from.0 from.1 None (led to.0 to.1 (Some object) (name_at state.nodes)) d q o (sym (ap (λ at. at d q) names) ∙ is)) [
       | inl none ↦ cc
       | inr gained ↦ elim (led_cases to.0 to.1 (Some object) (name_at state.nodes) d q o gained) [
-        | inl same ↦ (from.0, from.1, there ∙ same)
-        | inr was ↦ (d, q, was)
+        | inl same ↦ named_still state sound o (from.0, from.1, there ∙ same)
+        | inr was ↦ named_still state sound o (d, q, was)
       ]
     ]
 
@@ -48,11 +51,11 @@ sound_moved state from to object target sound there into =
     sound_after state (moved (time_of state) from to object target state.nodes) state.slots sound (alike_moved (time_of state) from to object target state.nodes)
     (named_moved state from to object target sound there into) (opened_still state sound)
 
-pub sound_rewritten : (state : State) (object : ℕ) (bytes : List ℕ) → IsSound state → is_directory_at state.nodes object ≡ false → IsSound (with_rewritten state object bytes)
-sound_rewritten state object bytes sound regular =
-    let names = names_rewritten (time_of state) bytes object state.nodes regular in
-    sound_after state (with_rewritten state object bytes).nodes state.slots sound (alike_rewritten (time_of state) bytes object state.nodes regular)
-    (λ o has. (has.0, has.1, sym (ap (λ at. at has.0 has.1) names) ∙ has.2)) (opened_still state sound)
+pub sound_rewritten : (state : State) (object : ℕ) (bytes : List ℕ) → IsSound state → IsSound (with_rewritten state object bytes)
+sound_rewritten state object bytes sound =
+    let names = names_rewritten (time_of state) bytes object state.nodes in
+    sound_after state (with_rewritten state object bytes).nodes state.slots sound (alike_rewritten (time_of state) bytes object state.nodes)
+    (λ o has. named_still state sound o (has.0, has.1, sym (ap (λ at. at has.0 has.1) names) ∙ has.2)) (opened_still state sound)
 
 -- ---- a new object
 
@@ -148,12 +151,12 @@ sound_moves : (state after : State) (from to : ℕ × List ℕ) (object : ℕ) (
 sound_moves state after from to object target sound there into (inl same) = subst IsSound (sym same.1) sound
 sound_moves state after from to object target sound there into (inr other) = subst IsSound (sym other.1) (sound_moved state from to object target sound there into)
 
-sound_makes : (state : State) (numbers : ℕ → ℕ) (after : State) → IsSound state → AreLeastFree state numbers → length after.nodes < 2 ^ 63 →
+pub sound_makes : (state : State) (numbers : ℕ → ℕ) (after : State) → IsSound state → AreLeastFree state numbers → length after.nodes < 2 ^ 63 →
     Makes state numbers after → IsSound after
 sound_makes state numbers after sound least few does =
-    let node = made state numbers does.mode does.uid does.gid does.content does.parent in
     subst IsSound (sym does.leaves)
-    (sound_made state does.dir does.name node sound does.into does.empty refl (let m = does.mode in omega arith) (least does.parent.ids.dev)
+    (sound_made state does.dir does.name does.node sound does.into does.empty does.serial does.small
+    (subst (IsLeastFree state does.node.ids.dev) (sym does.number) (least does.node.ids.dev))
     (subst (λ (s : State). length s.nodes < 2 ^ 63) does.leaves few))
 
 pub sound_effect : (state : State) (numbers : ℕ → ℕ) (asked : Edit) (after : State) → IsSound state → AreLeastFree state numbers → length after.nodes < 2 ^ 63 →
@@ -165,7 +168,7 @@ sound_effect state numbers (edit.Rename old new) after sound least few does =
 sound_effect state numbers (edit.File path mode uid gid bytes) after sound least few does = sound_makes state numbers after sound least few does
 sound_effect state numbers (edit.Dir path mode uid gid) after sound least few does = sound_makes state numbers after sound least few does
 sound_effect state numbers (edit.Write path bytes) after sound least few does =
-    subst IsSound (sym does.leaves) (sound_rewritten state does.object does.bytes sound does.regular)
+    subst IsSound (sym does.leaves) (sound_rewritten state does.object does.bytes sound)
 
 pub sound_edited : (state : State) (numbers : ℕ → ℕ) (asked : Edit) → IsSound state → AreLeastFree state numbers →
     length (edited state numbers asked).1.nodes < 2 ^ 63 → IsSound (edited state numbers asked).1

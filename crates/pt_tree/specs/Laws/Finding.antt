@@ -1,7 +1,7 @@
 -- What is found lives: at the end of a path, under a name, by a descriptor.
 use Rattle.std.proofs.Common.{◌≡◌, ◌⊎◌, inl, inr, ℕ, Bool, true, false, ◌&&◌, cond, ◌==◌, List, [], ◌∷◌, Option, Some, None, Result, Ok, Err, ok_or, slice_get, option_and_then, refl, ap, sym, ◌∙◌, subst}
 use Rattle.pt_host.specs.Flags.{includes, o_creat, o_excl}
-use Rattle.pt_host.specs.Errno.{eexist, enoent, enotdir, eopnotsupp}
+use Rattle.pt_host.specs.Errno.{eexist, enoent, enotdir}
 use Rattle.pt_host.specs.declared.ids.Errno.{Errno}
 use Rattle.pt_host.specs.declared.seat.HostSeat.{HostSeat}
 use Rattle.pt_tree.specs.Living.{HasName, Lives}
@@ -13,25 +13,20 @@ use Rattle.pt_tree.specs.Calls.{find_in, find_name, find_open, name_refusal, ok_
 use Rattle.pt_tree.specs.declared.node.Node.{Node}
 use Rattle.pt_tree.specs.declared.slots.OpenFile.{OpenFile}
 
-found_where : (refusal : Option Errno) (creates : Bool) (held : Option ℕ) (object : ℕ) →
-    ok_unless refusal (cond creates (Err eopnotsupp) (ok_or held enoent)) ≡ Ok object → (held ≡ Some object) × (creates ≡ false)
-found_where (Some errno) creates held object is = cc
-found_where None true held object is = cc
-found_where None false None object is = cc
-found_where None false (Some other) object is = (let e : other ≡ object = cc in ap (λ o. Some o) e, refl)
+found_where : (refusal : Option Errno) (held : Option ℕ) (object : ℕ) → ok_unless refusal (ok_or held enoent) ≡ Ok object → held ≡ Some object
+found_where (Some errno) held object is = cc
+found_where None None object is = cc
+found_where None (Some other) object is = (let e : other ≡ object = cc in ap (λ o. Some o) e)
 
-found_in : (seat : HostSeat) (name : List ℕ) (flags object : ℕ) (dir : Option Node) → find_in seat name flags dir ≡ Ok object →
-    (option_and_then (λ node. found name (names_in node.content)) dir ≡ Some object) × (includes flags o_creat ≡ false)
-found_in seat name flags object None is = cc
-found_in seat name flags object (Some dir) is = found_where (name_refusal seat dir name) (includes flags o_creat) (found name (names_in dir.content)) object is
+found_in : (seat : HostSeat) (name : List ℕ) (object : ℕ) (dir : Option Node) → find_in seat name dir ≡ Ok object →
+    option_and_then (λ node. found name (names_in node.content)) dir ≡ Some object
+found_in seat name object None is = cc
+found_in seat name object (Some dir) is = found_where (name_refusal seat dir name) (found name (names_in dir.content)) object is
 
-pub found_name : (nodes : List Node) (seat : HostSeat) (name : List ℕ) (flags object : ℕ) (file : Option OpenFile) →
-    find_name nodes seat name flags file ≡ Ok object →
-    (dir : OpenFile) × (file ≡ Some dir) × (name_at nodes dir.object name ≡ Some object) × (includes flags o_creat ≡ false)
-found_name nodes seat name flags object None is = cc
-found_name nodes seat name flags object (Some dir) is =
-    let held = found_in seat name flags object (slice_get nodes dir.object) is in
-    (dir, refl, held.0, held.1)
+pub found_name : (nodes : List Node) (seat : HostSeat) (name : List ℕ) (object : ℕ) (file : Option OpenFile) → find_name nodes seat name file ≡ Ok object →
+    (dir : OpenFile) × (file ≡ Some dir) × (name_at nodes dir.object name ≡ Some object)
+found_name nodes seat name object None is = cc
+found_name nodes seat name object (Some dir) is = (dir, refl, found_in seat name object (slice_get nodes dir.object) is)
 
 pub found_open : (asks_new : Bool) (there object : ℕ) → cond asks_new (Err eexist) (Ok there) ≡ Ok object → there ≡ object
 found_open true there object is = cc
@@ -92,9 +87,9 @@ root_lives state [] object is = cc
 root_lives state (first ∷ path) object is =
     has_lives state object (walk_lives state.nodes 0 (parts path) object (if_led (first == 47) (walk state.nodes 0 (parts path)) object is))
 
-pub name_lives : (state : State) (seat : HostSeat) (name : List ℕ) (flags object : ℕ) (file : Option OpenFile) → find_name state.nodes seat name flags file ≡ Ok object → Lives state object
-name_lives state seat name flags object file is =
-    let there = found_name state.nodes seat name flags object file is in
+pub name_lives : (state : State) (seat : HostSeat) (name : List ℕ) (object : ℕ) (file : Option OpenFile) → find_name state.nodes seat name file ≡ Ok object → Lives state object
+name_lives state seat name object file is =
+    let there = found_name state.nodes seat name object file is in
     inr (inl (there.0.object, name, there.2))
 
 pub open_lives : (state : State) (fd flags object : ℕ) (file : Option OpenFile) → open_at state.slots fd ≡ file → find_open flags file ≡ Ok object → Lives state object

@@ -1,5 +1,5 @@
 -- What an opening and a reading leave of their object.
-use Rattle.std.proofs.Common.{◌≡◌, ◌≤◌, ◌-◌, ℕ, Bool, true, false, cond, refl, ap, sym, arith, ◌&&◌, not}
+use Rattle.std.proofs.Common.{◌≡◌, ◌<◌, ◌≤◌, ◌-◌, ℕ, Bool, true, false, cond, refl, ap, sym, arith, ◌&&◌, not}
 use Rattle.pt_host.specs.declared.ids.Time.{Time}
 use Rattle.pt_host.specs.declared.seat.HostSeat.{HostSeat}
 use Rattle.pt_host.specs.Flags.{includes, o_trunc, o_path}
@@ -9,17 +9,17 @@ use Rattle.pt_tree.specs.Opening.{emptied, after_opening, permissions_after, wit
 use Rattle.pt_tree.specs.Reading.{after_reading}
 use Rattle.pt_tree.specs.declared.node.Node.{Node}
 use Rattle.pt_tree.specs.declared.node.Content.{Content}
-use Rattle.pt_tree.specs.declared.node.Content.TheVariants.{Directory, Regular}
+use Rattle.pt_tree.specs.declared.node.Content.TheVariants.{Directory, Regular, Link, Special}
 
 pub record Keeps (before after : Node) : Type 0 where
   pub ids : after.ids ≡ before.ids
   pub serial : after.serial ≡ before.serial
   pub object : object_of after ≡ object_of before
   pub names : names_in after.content ≡ names_in before.content
-  pub permissions : after.permissions ≤ before.permissions
+  pub permissions : before.permissions < 4096 → after.permissions < 4096
 
 pub keeps_itself : (node : Node) → Keeps node node
-keeps_itself node = record { ids = refl; serial = refl; object = refl; names = refl; permissions = omega arith }
+keeps_itself node = record { ids = refl; serial = refl; object = refl; names = refl; permissions = λ small. small }
 
 le-less_where : (b : Bool) (m n : ℕ) → cond b (m - n) m ≤ m
 le-less_where b m n = elim b as (λ v. cond v (m - n) m ≤ m) [ true ↦ omega arith | false ↦ omega arith ]
@@ -36,12 +36,14 @@ permissions-le seat permissions =
 
 pub keeps_emptied : (seat : HostSeat) (now : Time) (node : Node) (content : Content) → node.content ≡ content → Keeps node (emptied seat now node content)
 keeps_emptied seat now node (Directory names) held = keeps_itself node
+keeps_emptied seat now node (Link target) held = keeps_itself node
+keeps_emptied seat now node (Special kind) held = keeps_itself node
 keeps_emptied seat now node (Regular bytes) held = record {
   ids = refl;
   serial = refl;
   object = ap (λ (kind : ℕ). record (object_of node) { kind = kind }) (sym (ap kind_number held));
   names = sym (ap names_in held);
-  permissions = permissions-le seat node.permissions;
+  permissions = λ small. let less = permissions-le seat node.permissions in omega arith;
 }
 
 keeps_where : (b : Bool) (before after : Node) → Keeps before after → Keeps before (cond b after before)
@@ -52,4 +54,4 @@ keeps_opening seat now flags node =
     keeps_where (includes flags o_trunc && not (includes flags o_path)) node (emptied seat now node node.content) (keeps_emptied seat now node node.content refl)
 
 pub keeps_reading : (now : Time) (node : Node) → Keeps node (after_reading now node)
-keeps_reading now node = record { ids = refl; serial = refl; object = refl; names = refl; permissions = omega arith }
+keeps_reading now node = record { ids = refl; serial = refl; object = refl; names = refl; permissions = λ small. small }

@@ -1,414 +1,254 @@
 -- Every step is lawful.
-use Rattle.std.proofs.Common.{◌≡◌, ◌≢◌, ◌<◌, ◌+◌, ◌⊎◌, inl, inr, ℕ, suc, Bool, true, false, not, ◌&&◌, cond, eqb, List, [], ◌∷◌, Option, Some, None, Result, Ok, Err, ok_or, slice_get, slice_set, option_map, option_and_then, subst, refl, ap, sym, ◌∙◌, arith, pos, ◌*◌, ◌/◌}
-use Rattle.std.proofs.lemmas.List.{length-map}
-use Rattle.std.proofs.lemmas.Option.{same_Some, slice_get_within, slice_get-map}
-use Rattle.std.proofs.lemmas.Bool.Decides.{eqb_tells}
+use Rattle.std.proofs.Common.{◌≡◌, ◌<◌, ◌^◌, inl, inr, ℕ, Bool, true, false, length, Option, Some, None, refl, sym, subst}
+use Rattle.std.proofs.lemmas.Option.{same_Some}
 use Rattle.pt_host.specs.Call.{Call}
-use Rattle.pt_host.specs.Words.{set_at}
-use Rattle.pt_host.specs.Flags.{includes, o_creat, o_excl, o_path, o_tmpfile}
-use Rattle.pt_host.specs.Errno.{errno_of, enoent, eopnotsupp, eio}
-use Rattle.pt_host.specs.Tree.{Tree, Opened, IsOpenOn}
-use Rattle.pt_host.specs.LawfulStep.{LawfulStep, Changes, MayRefuse, Opens, opened_on, closed_at}
+use Rattle.pt_host.specs.LawfulContents.{KeepsAll, LawfulContents, opening_flags}
+use Rattle.pt_host.specs.LawfulStep.{AsksPathOnly, Changes, IsBadFd, LawfulStep}
+use Rattle.pt_host.specs.SeatStep.{SeatStep}
+use Rattle.pt_host.specs.Tree.{IsWellFormed, Tree}
 use Rattle.pt_host.specs.declared.ids.Errno.{Errno}
-use Rattle.pt_host.specs.declared.ids.Fd.{Fd}
-use Rattle.pt_host.specs.declared.flags.OpenFlags.{OpenFlags}
 use Rattle.pt_host.specs.declared.seat.HostSeat.{HostSeat}
 use Rattle.pt_host.specs.declared.op.KeptHostOp.TheVariants as call
 use Rattle.pt_host.specs.declared.reply.HostReply.{HostReply}
 use Rattle.pt_host.specs.declared.reply.HostReply.TheVariants as reply
 use Rattle.pt_host.specs.declared.reply.HostValue.TheVariants as value
-use Rattle.pt_tree.specs.Names.{found}
-use Rattle.pt_tree.specs.Node.{bytes_in, name_at, names_in, object_of, kind_number}
-use Rattle.pt_tree.specs.Slots.{open_at, file_of, least_free, put_at, closed_where}
-use Rattle.pt_tree.specs.State.{State, tree_of, opened_as, time_of}
-use Rattle.pt_tree.specs.Opening.{first_refusal, path_checks, open_checks, opening_refusal, after_opening}
-use Rattle.pt_tree.specs.Reading.{after_reading, part_of, read_refusal}
-use Rattle.pt_tree.specs.Calls.{tells, unless, with_opened, opening_of, open_walked, find_in, find_name, find_open, name_refusal, name_checks, ok_unless, tell_node, tell_status, with_read, read_node, read_file, close_file, walk_root}
-use Rattle.pt_tree.specs.Does.{AnswersCall, Does}
+use Rattle.pt_host.specs.Errno.{enosys, eperm}
+use Rattle.pt_host.specs.Seat.{groups_errno, may_raise, may_set_egid, may_set_euid, may_set_groups, with_dropped, with_egid, with_euid, with_groups, with_raised, with_umask}
+use Rattle.pt_tree.specs.Slots.{open_at}
+use Rattle.pt_tree.specs.Laws.Opens.{closed_tree}
+use Rattle.pt_tree.specs.Laws.Soundness.{sound-closed}
+use Rattle.pt_tree.specs.Living.{AreLeastFree}
+use Rattle.pt_tree.specs.State.{State, contents_of, tree_of}
+use Rattle.pt_tree.specs.Does.{AnswersCall, Does, TakesMemory, without_memory}
+use Rattle.pt_tree.specs.Faults.{after_failing, failure_of, faulted}
+use Rattle.pt_tree.specs.SeatCalls.{Seated, allowed, seated}
 use Rattle.pt_tree.specs.Sound.{IsSound}
-use Rattle.pt_tree.specs.declared.node.Node.{Node}
-use Rattle.pt_tree.specs.declared.slots.OpenFile.{OpenFile}
-use Rattle.pt_tree.specs.declared.slots.Slot.{Slot}
-use Rattle.pt_tree.specs.declared.slots.Slot.TheVariants.{Reserved, Free, Open}
-use Rattle.pt_tree.specs.Laws.SlotTable.{least_free-le-length}
-use Rattle.pt_tree.specs.Laws.Updates.{map-set_same, get-put_here, get-put_apart, get-set_here, get-set_apart}
-use Rattle.pt_tree.specs.Laws.Keeping.{Keeps, keeps_opening, keeps_reading}
-use Rattle.pt_tree.specs.Laws.Changed.{same_function, same_tree}
-use Rattle.pt_tree.specs.Laws.Finding.{found_name, found_open as found_where_open}
-use Rattle.pt_tree.specs.Laws.EditLaws.{edit_changes}
-use Rattle.pt_tree.specs.Laws.Soundness.{same_names, sound-answers, open_slot}
-use Rattle.pt_tree.specs.Laws.WellFormed.{well_formed, file_of_open}
+use Rattle.pt_tree.specs.Table.{Outcome, answer, failing_outcome, outcome_where}
+use Rattle.pt_tree.specs.Laws.Fair.{IsFair, fair_refused, no_flags, stays_same}
+use Rattle.pt_tree.specs.Laws.EditFair.{fair_edit}
+use Rattle.pt_tree.specs.Laws.CopyFair.{fair_copy}
+use Rattle.pt_tree.specs.Laws.HandleFair.{fair_by_handle, fair_handle_of}
+use Rattle.pt_tree.specs.Laws.LinkFair.{fair_make_link}
+use Rattle.pt_tree.specs.Laws.OpenAtFair.{fair_open_at}
+use Rattle.pt_tree.specs.Laws.RenameFair.{fair_rename}
+use Rattle.pt_tree.specs.Laws.MoveFair.{fair_list, fair_seek}
+use Rattle.pt_tree.specs.Laws.PathOnly.{path_only_bad}
+use Rattle.pt_tree.specs.Laws.SeatLaws.{other_seat, own_seat, some_seated}
+use Rattle.pt_tree.specs.Laws.WellFormed.{well_formed}
+use Rattle.pt_tree.specs.Laws.NameFair.{fair_make_dir, fair_make_node, fair_remove_dir, fair_symlink, fair_unlink}
+use Rattle.pt_tree.specs.Laws.OpenFair.{closed_description, fair_close, fair_open_path, fair_reopen, fair_root, fair_stat}
+use Rattle.pt_tree.specs.Laws.PlainCalls.{fair_allocate, fair_fd_path, fair_flush, fair_get_xattr, fair_list_xattr, fair_mode, fair_mount_info, fair_owner, fair_read, fair_read_link, fair_remove_xattr, fair_set_xattr, fair_stat_fs, fair_sync, fair_sync_fs, fair_times, fair_truncate, fair_write}
 
-one_more : (n : ℕ) → 1 + n ≡ suc n
-one_more n = omega arith
+abbrev made_outcome : HostReply → State → HostSeat → Outcome
+made_outcome given after seat = (given, after, seat)
 
--- the least free number is not open
-pub least_free-closed : (slots : List Slot) → open_at slots (least_free slots) ≡ None
-least_free-closed [] = refl
-least_free-closed (Reserved ∷ slots) = ap (λ k. open_at (Reserved ∷ slots) k) (one_more (least_free slots)) ∙ least_free-closed slots
-least_free-closed (Free ∷ slots) = refl
-least_free-closed (Open file ∷ slots) = ap (λ k. open_at (Open file ∷ slots) k) (one_more (least_free slots)) ∙ least_free-closed slots
+-- what is to be shown of each call on the tree
+pub fair_answer : (state : State) (numbers : ℕ → ℕ) (seat : HostSeat) (asked : Call) → IsSound state → AreLeastFree state numbers →
+    IsFair state asked (answer state numbers seat asked)
+fair_answer state numbers seat (call.OpenRoot path flags) sound least = fair_root state seat path flags sound
+fair_answer state numbers seat (call.StatFs fd) sound least = fair_stat_fs state fd sound
+fair_answer state numbers seat (call.FdPath fd) sound least = fair_fd_path state fd sound
+fair_answer state numbers seat call.MountInfo sound least = fair_mount_info state sound
+fair_answer state numbers seat (call.ReadLink fd) sound least = fair_read_link state fd sound
+fair_answer state numbers seat (call.Flush fd) sound least = fair_flush state fd sound
+fair_answer state numbers seat (call.Truncate fd size) sound least = fair_truncate state seat fd size sound
+fair_answer state numbers seat (call.WriteAt fd offset bytes append) sound least = fair_write state seat fd offset bytes append sound
+fair_answer state numbers seat (call.ChMod fd through mode) sound least = fair_mode state seat fd through mode sound
+fair_answer state numbers seat (call.ChOwn fd uid gid) sound least = fair_owner state seat fd uid gid sound
+fair_answer state numbers seat (call.SetTimes fd through atime mtime) sound least = fair_times state seat fd through atime mtime sound
+fair_answer state numbers seat (call.SetXattr fd through name value flags) sound least = fair_set_xattr state fd through name value flags sound
+fair_answer state numbers seat (call.RemoveXattr fd through name) sound least = fair_remove_xattr state fd through name sound
+fair_answer state numbers seat (call.Sync fd datasync) sound least = fair_sync state fd datasync sound
+fair_answer state numbers seat (call.SyncFs fd) sound least = fair_sync_fs state fd sound
+fair_answer state numbers seat (call.Allocate fd mode offset size) sound least = fair_allocate state fd mode offset size sound
+fair_answer state numbers seat (call.MakeDir fd name mode) sound least = fair_make_dir state numbers seat fd name mode sound least
+fair_answer state numbers seat (call.Reopen fd flags) sound least = fair_reopen state seat fd flags sound
+fair_answer state numbers seat (call.Close fd) sound least = fair_close state fd sound
+fair_answer state numbers seat (call.Stat fd) sound least = fair_stat state fd sound
+fair_answer state numbers seat (call.ReadAt fd offset size) sound least = fair_read state fd offset size sound
+fair_answer state numbers seat (call.MakeNode fd name mode rdev) sound least = fair_make_node state numbers seat fd name mode rdev sound least
+fair_answer state numbers seat (call.SymLink fd name target) sound least = fair_symlink state numbers seat fd name target sound least
+fair_answer state numbers seat (call.Unlink fd name) sound least = fair_unlink state seat fd name sound
+fair_answer state numbers seat (call.RemoveDir fd name) sound least = fair_remove_dir state seat fd name sound
+fair_answer state numbers seat (call.OpenPath fd path flags) sound least = fair_open_path state seat fd path flags sound
+fair_answer state numbers seat (call.Edit edit) sound least = fair_edit state numbers edit sound least
+fair_answer state numbers seat (call.SetGroups list) sound least = fair_refused state (call.SetGroups list) enosys sound (tt, refl)
+fair_answer state numbers seat (call.SetEgid gid) sound least = fair_refused state (call.SetEgid gid) enosys sound (tt, refl)
+fair_answer state numbers seat (call.SetEuid uid) sound least = fair_refused state (call.SetEuid uid) enosys sound (tt, refl)
+fair_answer state numbers seat (call.RaiseCap caps) sound least = fair_refused state (call.RaiseCap caps) enosys sound (tt, refl)
+fair_answer state numbers seat (call.DropCap caps) sound least = fair_refused state (call.DropCap caps) enosys sound (tt, refl)
+fair_answer state numbers seat (call.SetUmask mask) sound least = fair_refused state (call.SetUmask mask) enosys sound (tt, refl)
+fair_answer state numbers seat (call.GetXattr fd through name size) sound least = fair_get_xattr state fd through name size sound
+fair_answer state numbers seat (call.ListXattr fd through size) sound least = fair_list_xattr state fd through size sound
+fair_answer state numbers seat (call.HandleOf fd) sound least = fair_handle_of state fd sound
+fair_answer state numbers seat (call.Seek fd offset whence) sound least = fair_seek state fd offset whence sound
+fair_answer state numbers seat (call.ListAt fd offset size) sound least = fair_list state fd offset size sound
+fair_answer state numbers seat (call.CopyRange fd offset fd2 offset2 size flags) sound least =
+    fair_copy state seat fd offset fd2 offset2 size flags sound
+fair_answer state numbers seat (call.MakeLink from fd name) sound least = fair_make_link state seat from fd name sound
+fair_answer state numbers seat (call.OpenByHandle fd handle flags) sound least = fair_by_handle state seat fd handle flags sound
+fair_answer state numbers seat (call.OpenAt fd name flags mode) sound least = fair_open_at state numbers seat fd name flags mode sound least
+fair_answer state numbers seat (call.Rename fd name fd2 name2 flags) sound least = fair_rename state seat fd name fd2 name2 flags sound
 
-pub opened-put : (file : OpenFile) (slots : List Slot) (fd : ℕ) →
-    option_map opened_as (open_at (put_at (least_free slots) (Open file) slots) fd)
-    ≡ set_at (least_free slots) (Some (opened_as file)) (λ k. option_map opened_as (open_at slots k)) fd
-unfolding set_at
-opened-put file slots fd = elim (eqb_tells fd (least_free slots)) [
-  | inl same ↦ ap (λ k. option_map opened_as (open_at (put_at (least_free slots) (Open file) slots) k)) same.1
-      ∙ ap (λ slot. option_map opened_as (file_of slot)) (get-put_here (least_free slots) (Open file) slots (least_free-le-length slots))
-      ∙ sym (ap (λ b. cond b (Some (opened_as file)) (option_map opened_as (open_at slots fd))) same.0)
-  | inr apart ↦ ap (λ slot. option_map opened_as (file_of slot)) (get-put_apart (least_free slots) (Open file) slots fd apart.1)
-      ∙ sym (ap (λ b. cond b (Some (opened_as file)) (option_map opened_as (open_at slots fd))) apart.0)
-]
+-- the seat's own calls leave the tree and what is beside it
+own_where : (tree : Tree) (asked : Call) (seat : HostSeat) (may : Bool) (errno : Errno) (after : HostSeat) → Changes tree asked (reply.Ok value.Unit) tree →
+    Changes tree asked (reply.Refused errno) tree → Changes tree asked (allowed seat may errno after).0 tree
+own_where tree asked seat true errno after passes refuses = passes
+own_where tree asked seat false errno after passes refuses = refuses
 
-leads_kept : (nodes : List Node) (object : ℕ) (node after : Node) → slice_get nodes object ≡ Some node → Keeps node after →
-    name_at (slice_set nodes object after) ≡ name_at nodes
-leads_kept nodes object node after is keeps =
-    same_function (name_at (slice_set nodes object after)) (name_at nodes)
-    (λ dir. same_function (name_at (slice_set nodes object after) dir) (name_at nodes dir) (λ name. same_names nodes object node after is keeps dir name))
+own_told : (tree : Tree) (asked : Call) (said told : Seated) → some_seated said ≡ some_seated told → Changes tree asked said.0 tree → Changes tree asked told.0 tree
+own_told tree asked said told is changes = subst (λ (s : Seated). Changes tree asked s.0 tree) (same_Some said told is) changes
 
--- the tree does not tell the object from what it has become
-pub tree-with_node : (state : State) (object : ℕ) (node after : Node) → slice_get state.nodes object ≡ Some node → Keeps node after →
-    tree_of (record state { nodes = slice_set state.nodes object after }) ≡ tree_of state
-tree-with_node state object node after is keeps =
-    same_tree _ _ _ _ _ _ (map-set_same object_of state.nodes object node after is keeps.object) (leads_kept state.nodes object node after is keeps) refl
+own_changes : (tree : Tree) (seat : HostSeat) (asked : Call) (told : Seated) → seated seat asked ≡ Some told → Changes tree asked told.0 tree
+own_changes tree seat (call.SetGroups list) told is =
+    own_told tree (call.SetGroups list) (allowed seat (may_set_groups seat list) (groups_errno seat) (with_groups seat list)) told is
+    (own_where tree (call.SetGroups list) seat (may_set_groups seat list) (groups_errno seat) (with_groups seat list) (tt, refl) (tt, refl))
+own_changes tree seat (call.SetEgid gid) told is =
+    own_told tree (call.SetEgid gid) (allowed seat (may_set_egid seat gid) eperm (with_egid seat gid)) told is
+    (own_where tree (call.SetEgid gid) seat (may_set_egid seat gid) eperm (with_egid seat gid) (tt, refl) (tt, refl))
+own_changes tree seat (call.SetEuid uid) told is =
+    own_told tree (call.SetEuid uid) (allowed seat (may_set_euid seat uid) eperm (with_euid seat uid)) told is
+    (own_where tree (call.SetEuid uid) seat (may_set_euid seat uid) eperm (with_euid seat uid) (tt, refl) (tt, refl))
+own_changes tree seat (call.RaiseCap caps) told is =
+    own_told tree (call.RaiseCap caps) (allowed seat (may_raise seat caps) eperm (with_raised seat caps)) told is
+    (own_where tree (call.RaiseCap caps) seat (may_raise seat caps) eperm (with_raised seat caps) (tt, refl) (tt, refl))
+own_changes tree seat (call.DropCap caps) told is =
+    own_told tree (call.DropCap caps) (reply.Ok value.Unit, with_dropped seat caps) told is (tt, refl)
+own_changes tree seat (call.SetUmask mask) told is =
+    own_told tree (call.SetUmask mask) (reply.Ok (value.Count seat.umask), with_umask seat mask) told is (tt, refl)
+own_changes tree seat asked told is = cc
 
-pub tree-with_opened : (state : State) (seat : HostSeat) (flags : OpenFlags) (object : ℕ) (node : Node) → slice_get state.nodes object ≡ Some node →
-    tree_of (with_opened state seat flags object node) ≡ opened_on (tree_of state) object flags (record { 0 = least_free state.slots })
-tree-with_opened state seat flags object node is =
-    let after = after_opening seat (time_of state) flags.0 node in
-    let keeps = keeps_opening seat (time_of state) flags.0 node in
-    same_tree _ _ _ _ _ _
-    (map-set_same object_of state.nodes object node after is keeps.object)
-    (leads_kept state.nodes object node after is keeps)
-    (same_function _ _ (λ fd. opened-put (record { object = object; flags = flags }) state.slots fd))
+own_opens : (seat : HostSeat) (asked : Call) (told : Seated) → seated seat asked ≡ Some told → opening_flags asked ≡ None
+own_opens seat (call.SetGroups list) told is = refl
+own_opens seat (call.SetEgid gid) told is = refl
+own_opens seat (call.SetEuid uid) told is = refl
+own_opens seat (call.RaiseCap caps) told is = refl
+own_opens seat (call.DropCap caps) told is = refl
+own_opens seat (call.SetUmask mask) told is = refl
+own_opens seat asked told is = cc
 
--- errors of different numbers are different
-pub errnos_apart : (m n : ℕ) → eqb m n ≡ false → errno_of m ≢ errno_of n
-errnos_apart m n apart same =
-    let e : errno_of m ≡ errno_of n = same in
-    let numbers : pos m ≡ pos n = ap (λ errno. errno.0) e in
-    let equal : m ≡ n = cc in
-    apart_from m n apart equal
-  where
-    apart_from : (m n : ℕ) → eqb m n ≡ false → m ≡ n → ⊥
-    apart_from m n apart equal = elim (eqb_tells m n) [ inl same ↦ (let e : true ≡ false = sym same.0 ∙ apart in cc) | inr differ ↦ differ.1 equal ]
-
--- no test of these refuses with ENOENT
-abbrev pub NoneMissing : List (Bool × Errno) → Type 0
-NoneMissing [] = Unit {0}
-NoneMissing (check ∷ checks) = (check.1 ≢ enoent) × NoneMissing checks
-
-other_first : (b : Bool) (here : Errno) (rest : Option Errno) (errno : Errno) → here ≢ enoent → (rest ≡ Some errno → errno ≢ enoent) →
-    cond b (Some here) rest ≡ Some errno → errno ≢ enoent
-other_first true here rest errno apart later is = λ e. apart (same_Some here errno is ∙ e)
-other_first false here rest errno apart later is = later is
-
-pub refused_otherwise : (checks : List (Bool × Errno)) (errno : Errno) → NoneMissing checks → first_refusal checks ≡ Some errno → errno ≢ enoent
-refused_otherwise [] errno none is = λ e. cc
-refused_otherwise (check ∷ checks) errno none is =
-    other_first check.0 check.1 (first_refusal checks) errno none.0 (λ later. refused_otherwise checks errno none.1 later) is
-
-either : (b : Bool) (one other : Option Errno) (errno : Errno) → (one ≡ Some errno → errno ≢ enoent) → (other ≡ Some errno → errno ≢ enoent) →
-    cond b one other ≡ Some errno → errno ≢ enoent
-either true one other errno first second is = first is
-either false one other errno first second is = second is
-
-pub opening_refused : (seat : HostSeat) (node : Node) (flags : ℕ) (errno : Errno) → opening_refusal seat node flags ≡ Some errno → errno ≢ enoent
-opening_refused seat node flags errno is =
-    let for_path : NoneMissing (path_checks node flags) = (errnos_apart 20 2 refl, tt) in
-    let for_other : NoneMissing (open_checks seat node flags) = (
-      errnos_apart 95 2 refl,
-      (
-        errnos_apart 22 2 refl,
-        (
-          errnos_apart 20 2 refl,
-          (errnos_apart 21 2 refl, (errnos_apart 13 2 refl, (errnos_apart 13 2 refl, tt))),
-        ),
-      ),
-    ) in
-    either (includes flags o_path) (first_refusal (path_checks node flags)) (first_refusal (open_checks seat node flags)) errno
-    (refused_otherwise (path_checks node flags) errno for_path)
-    (refused_otherwise (open_checks seat node flags) errno for_other)
-    is
-
-allowed_where : (path tmpfile : Bool) (one rest : Option Errno) (errno : Errno) → cond path one (cond tmpfile (Some errno) rest) ≡ None →
-    (tmpfile && not path) ≡ false
-allowed_where true true one rest errno is = refl
-allowed_where true false one rest errno is = refl
-allowed_where false true one rest errno is = cc
-allowed_where false false one rest errno is = refl
-
-pub opening_allowed : (seat : HostSeat) (node : Node) (flags : ℕ) → opening_refusal seat node flags ≡ None → (includes flags o_tmpfile && not (includes flags o_path)) ≡ false
-opening_allowed seat node flags is = allowed_where (includes flags o_path) (includes flags o_tmpfile) _ _ eopnotsupp is
-
--- refused, with another error than that the name is not there
-abbrev pub Refuses : State → HostReply → State → Type 0
-Refuses before given after = (errno : Errno) × (given ≡ reply.Refused errno) × (errno ≢ enoent) × (after ≡ before)
-
-abbrev pub HasOpened : State → OpenFlags → ℕ → HostReply → State → Type 0
-HasOpened before flags object given after = (fd : Fd) × (given ≡ reply.Ok (value.Fd fd)) × Opens (tree_of before) object flags fd (tree_of after)
-
-opened_unless : (before : State) (seat : HostSeat) (flags : OpenFlags) (object : ℕ) (node : Node) (errno : Option Errno) (given : HostReply) (after : State) →
-    opening_refusal seat node flags.0 ≡ errno → slice_get before.nodes object ≡ Some node →
-    (given, after) ≡ unless before errno (tells (with_opened before seat flags object node) (value.Fd (record { 0 = least_free before.slots }))) →
-    Refuses before given after ⊎ HasOpened before flags object given after
-opened_unless before seat flags object node (Some errno) given after refusal is told =
-    inl (errno, ap (λ both. both.0) told, opening_refused seat node flags.0 errno refusal, ap (λ both. both.1) told)
-opened_unless before seat flags object node None given after refusal is told =
-    inr (
-      record { 0 = least_free before.slots },
-      ap (λ both. both.0) told,
-      record {
-        listed = subst (λ n. object < n) (sym (length-map before.nodes object_of)) (slice_get_within before.nodes object node is);
-        fresh = ap (option_map opened_as) (least_free-closed before.slots);
-        allowed = opening_allowed seat node flags.0 refusal;
-        adds = ap tree_of (ap (λ both. both.1) told) ∙ tree-with_opened before seat flags object node is;
-      },
-    )
-
-opened_cases : (before : State) (seat : HostSeat) (flags : OpenFlags) (object : ℕ) (node : Option Node) (given : HostReply) (after : State) →
-    slice_get before.nodes object ≡ node → (given, after) ≡ opening_of before seat flags object node →
-    Refuses before given after ⊎ HasOpened before flags object given after
-opened_cases before seat flags object None given after is told =
-    inl (eio, ap (λ both. both.0) told, errnos_apart 5 2 refl, ap (λ both. both.1) told)
-opened_cases before seat flags object (Some node) given after is told =
-    opened_unless before seat flags object node (opening_refusal seat node flags.0) given after refl is told
-
--- where a walk led nowhere it is refused so
-abbrev pub LedNowhere : State → Result ℕ Errno → HostReply → State → Type 0
-LedNowhere before led given after = (errno : Errno) × (led ≡ Err errno) × (given ≡ reply.Refused errno) × (after ≡ before)
-
-abbrev pub LedTo : State → OpenFlags → Result ℕ Errno → HostReply → State → Type 0
-LedTo before flags led given after = (object : ℕ) × (led ≡ Ok object) × (Refuses before given after ⊎ HasOpened before flags object given after)
-
-pub walked_cases : (before : State) (seat : HostSeat) (flags : OpenFlags) (led : Result ℕ Errno) (given : HostReply) (after : State) →
-    (given, after) ≡ open_walked before seat flags led → LedNowhere before led given after ⊎ LedTo before flags led given after
-walked_cases before seat flags (Err errno) given after told = inl (errno, refl, ap (λ both. both.0) told, ap (λ both. both.1) told)
-walked_cases before seat flags (Ok object) given after told =
-    inr (object, refl, opened_cases before seat flags object (slice_get before.nodes object) given after refl told)
-
-abbrev failed : Errno → Result ℕ Errno
-failed errno = Err errno
-
-same_error : (errno other : Errno) → failed errno ≡ failed other → errno ≡ other
-same_error errno other is = cc
-
-missing_where : (checks : List (Bool × Errno)) (refusal : Option Errno) (creates : Bool) (held : Option ℕ) → NoneMissing checks →
-    first_refusal checks ≡ refusal → ok_unless refusal (cond creates (Err eopnotsupp) (ok_or held enoent)) ≡ Err enoent → held ≡ None
-missing_where checks (Some errno) creates held none first is = absurd (refused_otherwise checks errno none first (same_error errno enoent is))
-missing_where checks None true held none first is = absurd (errnos_apart 95 2 refl (same_error eopnotsupp enoent is))
-missing_where checks None false None none first is = refl
-missing_where checks None false (Some other) none first is = cc
-
-missing_in : (seat : HostSeat) (name : List ℕ) (flags : ℕ) (dir : Option Node) → find_in seat name flags dir ≡ Err enoent →
-    option_and_then (λ node. found name (names_in node.content)) dir ≡ None
-missing_in seat name flags None is = refl
-missing_in seat name flags (Some dir) is =
-    let none : NoneMissing (name_checks seat dir name) = (errnos_apart 20 2 refl, (errnos_apart 36 2 refl, (errnos_apart 13 2 refl, tt))) in
-    missing_where (name_checks seat dir name) (name_refusal seat dir name) (includes flags o_creat) (found name (names_in dir.content)) none refl is
-
-pub missing_name : (nodes : List Node) (seat : HostSeat) (name : List ℕ) (flags : ℕ) (file : Option OpenFile) →
-    find_name nodes seat name flags file ≡ Err enoent → (dir : OpenFile) → file ≡ Some dir → name_at nodes dir.object name ≡ None
-missing_name nodes seat name flags None is dir held = cc
-missing_name nodes seat name flags (Some other) is dir held =
-    let same : other ≡ dir = same_Some other dir held in
-    subst (λ (file : OpenFile). name_at nodes file.object name ≡ None) same (missing_in seat name flags (slice_get nodes other.object) is)
-
--- ---- what each call changes
-
-pub root_changes : (before : State) (numbers : ℕ → ℕ) (seat : HostSeat) (path : List ℕ) (flags : OpenFlags) (given : HostReply) (after : State) →
-    AnswersCall before numbers seat (call.OpenRoot path flags) given after → Changes (tree_of before) (call.OpenRoot path flags) given (tree_of after)
-root_changes before numbers seat path flags given after (inr none) =
-    subst (λ reply. Changes (tree_of before) (call.OpenRoot path flags) reply (tree_of after)) (sym none.0) (ap tree_of none.1)
-root_changes before numbers seat path flags given after (inl told) = elim (walked_cases before seat flags (walk_root before.nodes path) given after told) [
-  | inl (errno, led, is, same) ↦ subst (λ reply. Changes (tree_of before) (call.OpenRoot path flags) reply (tree_of after)) (sym is) (tt, ap tree_of same)
-  | inr (object, led, inl (errno, is, other, same)) ↦
-      subst (λ reply. Changes (tree_of before) (call.OpenRoot path flags) reply (tree_of after)) (sym is) (tt, ap tree_of same)
-  | inr (object, led, inr (fd, is, opens)) ↦
-      subst (λ reply. Changes (tree_of before) (call.OpenRoot path flags) reply (tree_of after)) (sym is) (object, opens)
-]
-
--- the descriptor's own object
-pub open_there : (state : State) (fd : Fd) (file : OpenFile) → open_at state.slots fd.0 ≡ Some file → IsOpenOn (tree_of state) fd file.object
-open_there state fd file is = (opened_as file, ap (option_map opened_as) is, refl)
-
-pub same_open : (state : State) (fd : Fd) (dir : ℕ) → IsOpenOn (tree_of state) fd dir → (file : OpenFile) × (open_at state.slots fd.0 ≡ Some file) × (file.object ≡ dir)
-same_open state fd dir (open_as, is, object) =
-    let held = file_of_open state fd.0 open_as is in
-    (held.0, held.1, ap (λ (o : Opened). o.object) held.2 ∙ object)
-
-at_refused : (before : State) (seat : HostSeat) (fd : Fd) (name : List ℕ) (flags : OpenFlags) (mode : ℕ) (errno : Errno) →
-    find_name before.nodes seat name flags.0 (open_at before.slots fd.0) ≡ Err errno → MayRefuse (tree_of before) (call.OpenAt fd name flags mode) errno
-at_refused before seat fd name flags mode errno led keeps is dir on =
-    let held = same_open before fd dir on in
-    let e : find_name before.nodes seat name flags.0 (open_at before.slots fd.0) ≡ Err enoent = led ∙ ap (λ number. Err number) is in
-    subst (λ place. name_at before.nodes place name ≡ None) held.2
-    (missing_name before.nodes seat name flags.0 (open_at before.slots fd.0) e held.0 held.1)
-
-at_opened : (before : State) (seat : HostSeat) (fd : Fd) (name : List ℕ) (flags : OpenFlags) (mode object : ℕ) (new : Fd) (after : State) →
-    find_name before.nodes seat name flags.0 (open_at before.slots fd.0) ≡ Ok object → Opens (tree_of before) object flags new (tree_of after) →
-    Changes (tree_of before) (call.OpenAt fd name flags mode) (reply.Ok (value.Fd new)) (tree_of after)
-at_opened before seat fd name flags mode object new after led opens =
-    let there = found_name before.nodes seat name flags.0 object (open_at before.slots fd.0) led in
-    (object, there.3, (there.0.object, open_there before fd there.0 there.1, there.2), opens)
-
-pub at_changes : (before : State) (numbers : ℕ → ℕ) (seat : HostSeat) (fd : Fd) (name : List ℕ) (flags : OpenFlags) (mode : ℕ) (given : HostReply) (after : State) →
-    AnswersCall before numbers seat (call.OpenAt fd name flags mode) given after → Changes (tree_of before) (call.OpenAt fd name flags mode) given (tree_of after)
-at_changes before numbers seat fd name flags mode given after (inr none) =
-    subst (λ reply. Changes (tree_of before) (call.OpenAt fd name flags mode) reply (tree_of after)) (sym none.0) (ap tree_of none.1)
-at_changes before numbers seat fd name flags mode given after (inl told) =
-    elim (walked_cases before seat flags (find_name before.nodes seat name flags.0 (open_at before.slots fd.0)) given after told) [
-      | inl (errno, led, is, same) ↦ subst (λ reply. Changes (tree_of before) (call.OpenAt fd name flags mode) reply (tree_of after)) (sym is)
-          (at_refused before seat fd name flags mode errno led, ap tree_of same)
-      | inr (object, led, inl (errno, is, other, same)) ↦
-          subst (λ reply. Changes (tree_of before) (call.OpenAt fd name flags mode) reply (tree_of after)) (sym is)
-          ((λ keeps missing dir on. absurd (other missing)), ap tree_of same)
-      | inr (object, led, inr (new, is, opens)) ↦
-          subst (λ reply. Changes (tree_of before) (call.OpenAt fd name flags mode) reply (tree_of after)) (sym is)
-          (at_opened before seat fd name flags mode object new after led opens)
-    ]
-
--- an object that is opened anew is that of the descriptor
-found_open : (before : State) (fd : Fd) (flags object : ℕ) (file : Option OpenFile) → open_at before.slots fd.0 ≡ file → find_open flags file ≡ Ok object →
-    IsOpenOn (tree_of before) fd object
-found_open before fd flags object None on is = cc
-found_open before fd flags object (Some file) on is =
-    (opened_as file, ap (option_map opened_as) on, found_where_open (includes flags o_creat && includes flags o_excl) file.object object is)
-
-pub reopen_changes : (before : State) (numbers : ℕ → ℕ) (seat : HostSeat) (fd : Fd) (flags : OpenFlags) (given : HostReply) (after : State) →
-    AnswersCall before numbers seat (call.Reopen fd flags) given after → Changes (tree_of before) (call.Reopen fd flags) given (tree_of after)
-reopen_changes before numbers seat fd flags given after (inr none) =
-    subst (λ reply. Changes (tree_of before) (call.Reopen fd flags) reply (tree_of after)) (sym none.0) (ap tree_of none.1)
-reopen_changes before numbers seat fd flags given after (inl told) =
-    elim (walked_cases before seat flags (find_open flags.0 (open_at before.slots fd.0)) given after told) [
-      | inl (errno, led, is, same) ↦ subst (λ reply. Changes (tree_of before) (call.Reopen fd flags) reply (tree_of after)) (sym is) (tt, ap tree_of same)
-      | inr (object, led, inl (errno, is, other, same)) ↦
-          subst (λ reply. Changes (tree_of before) (call.Reopen fd flags) reply (tree_of after)) (sym is) (tt, ap tree_of same)
-      | inr (object, led, inr (new, is, opens)) ↦
-          subst (λ reply. Changes (tree_of before) (call.Reopen fd flags) reply (tree_of after)) (sym is)
-          (object, found_open before fd flags.0 object (open_at before.slots fd.0) refl led, opens)
-    ]
-
-kind_from : (kind permissions : ℕ) → permissions < 4096 → (4096 * kind + permissions) / 4096 ≡ kind
-kind_from kind permissions small = omega arith
-
-told_node : (before : State) (fd : Fd) (file : OpenFile) (node : Option Node) (given : HostReply) (after : State) → IsSound before →
-    open_at before.slots fd.0 ≡ Some file → slice_get before.nodes file.object ≡ node → (given, after) ≡ tell_node before node →
-    Changes (tree_of before) (call.Stat fd) given (tree_of after)
-told_node before fd file None given after sound on is told =
-    subst (λ reply. Changes (tree_of before) (call.Stat fd) reply (tree_of after)) (sym (ap (λ both. both.0) told)) (tt, ap tree_of (ap (λ both. both.1) told))
-told_node before fd file (Some node) given after sound on is told =
-    subst (λ reply. Changes (tree_of before) (call.Stat fd) reply (tree_of after)) (sym (ap (λ both. both.0) told)) (
-      file.object,
-      object_of node,
-      open_there before fd file on,
-      slice_get-map object_of before.nodes file.object ∙ ap (option_map object_of) is,
-      record { ids = refl; kind = kind_from (kind_number node.content) node.permissions (sound.made file.object node is).permissions },
-      ap tree_of (ap (λ both. both.1) told),
-    )
-
-told_status : (before : State) (fd : Fd) (file : Option OpenFile) (given : HostReply) (after : State) → IsSound before →
-    open_at before.slots fd.0 ≡ file → (given, after) ≡ tell_status before file → Changes (tree_of before) (call.Stat fd) given (tree_of after)
-told_status before fd None given after sound on told =
-    subst (λ reply. Changes (tree_of before) (call.Stat fd) reply (tree_of after)) (sym (ap (λ both. both.0) told)) (tt, ap tree_of (ap (λ both. both.1) told))
-told_status before fd (Some file) given after sound on told =
-    told_node before fd file (slice_get before.nodes file.object) given after sound on refl told
-
-read_unless : (before : State) (fd : Fd) (offset size : ℕ) (file : OpenFile) (node : Node) (refusal : Option Errno) (given : HostReply) (after : State) →
-    slice_get before.nodes file.object ≡ Some node →
-    (given, after) ≡ unless before refusal (tells (with_read before file.object node) (value.Bytes (part_of offset size (bytes_in node.content)))) →
-    Changes (tree_of before) (call.ReadAt fd offset size) given (tree_of after)
-read_unless before fd offset size file node (Some errno) given after is told =
-    subst (λ reply. Changes (tree_of before) (call.ReadAt fd offset size) reply (tree_of after)) (sym (ap (λ both. both.0) told))
-    (tt, ap tree_of (ap (λ both. both.1) told))
-read_unless before fd offset size file node None given after is told =
-    subst (λ reply. Changes (tree_of before) (call.ReadAt fd offset size) reply (tree_of after)) (sym (ap (λ both. both.0) told))
-    (ap tree_of (ap (λ both. both.1) told)
-    ∙ tree-with_node before file.object node (after_reading (time_of before) node) is (keeps_reading (time_of before) node))
-
-read_there : (before : State) (fd : Fd) (offset size : ℕ) (file : OpenFile) (node : Option Node) (given : HostReply) (after : State) →
-    slice_get before.nodes file.object ≡ node → (given, after) ≡ read_node before offset size file node →
-    Changes (tree_of before) (call.ReadAt fd offset size) given (tree_of after)
-read_there before fd offset size file None given after is told =
-    subst (λ reply. Changes (tree_of before) (call.ReadAt fd offset size) reply (tree_of after)) (sym (ap (λ both. both.0) told))
-    (tt, ap tree_of (ap (λ both. both.1) told))
-read_there before fd offset size file (Some node) given after is told =
-    read_unless before fd offset size file node (read_refusal node file.flags.0) given after is told
-
-read_open : (before : State) (fd : Fd) (offset size : ℕ) (file : Option OpenFile) (given : HostReply) (after : State) →
-    (given, after) ≡ read_file before offset size file → Changes (tree_of before) (call.ReadAt fd offset size) given (tree_of after)
-read_open before fd offset size None given after told =
-    subst (λ reply. Changes (tree_of before) (call.ReadAt fd offset size) reply (tree_of after)) (sym (ap (λ both. both.0) told))
-    (tt, ap tree_of (ap (λ both. both.1) told))
-read_open before fd offset size (Some file) given after told =
-    read_there before fd offset size file (slice_get before.nodes file.object) given after refl told
-
-pub read_changes : (before : State) (numbers : ℕ → ℕ) (seat : HostSeat) (fd : Fd) (offset size : ℕ) (given : HostReply) (after : State) →
-    AnswersCall before numbers seat (call.ReadAt fd offset size) given after → Changes (tree_of before) (call.ReadAt fd offset size) given (tree_of after)
-read_changes before numbers seat fd offset size given after (inr none) =
-    subst (λ reply. Changes (tree_of before) (call.ReadAt fd offset size) reply (tree_of after)) (sym none.0) (ap tree_of none.1)
-read_changes before numbers seat fd offset size given after (inl told) = read_open before fd offset size (open_at before.slots fd.0) given after told
-
-none_opened : (o : Option OpenFile) → o ≡ None → option_map opened_as o ≡ None
-none_opened o is = ap (option_map opened_as) is
-
-pub opened-closed : (file : Option OpenFile) (fd : ℕ) (slots : List Slot) (k : ℕ) → open_at slots fd ≡ file →
-    option_map opened_as (open_at (closed_where file fd slots) k) ≡ set_at fd None (λ j. option_map opened_as (open_at slots j)) k
-unfolding set_at
-opened-closed None fd slots k is = elim (eqb_tells k fd) [
-  | inl same ↦ ap (λ j. option_map opened_as (open_at slots j)) same.1 ∙ none_opened (open_at slots fd) is
-      ∙ sym (ap (λ b. cond b None (option_map opened_as (open_at slots k))) same.0)
-  | inr apart ↦ sym (ap (λ b. cond b None (option_map opened_as (open_at slots k))) apart.0)
-]
-opened-closed (Some file) fd slots k is =
-    let within = slice_get_within slots fd (Open file) (open_slot (slice_get slots fd) file is) in
-    elim (eqb_tells k fd) [
-      | inl same ↦ ap (λ j. option_map opened_as (open_at (slice_set slots fd Free) j)) same.1
-          ∙ ap (λ slot. option_map opened_as (file_of slot)) (get-set_here slots fd Free within)
-          ∙ sym (ap (λ b. cond b None (option_map opened_as (open_at slots k))) same.0)
-      | inr apart ↦ ap (λ slot. option_map opened_as (file_of slot)) (get-set_apart slots fd Free k apart.1)
-          ∙ sym (ap (λ b. cond b None (option_map opened_as (open_at slots k))) apart.0)
-    ]
-
-closed_tree : (before : State) (fd : Fd) (file : Option OpenFile) → open_at before.slots fd.0 ≡ file →
-    tree_of (record before { slots = closed_where file fd.0 before.slots }) ≡ closed_at (tree_of before) fd
-closed_tree before fd file is =
-    same_tree _ _ _ _ _ _ refl refl (same_function _ _ (λ k. opened-closed file fd.0 before.slots k is))
-
-told_closed : (before : State) (fd : Fd) (file : Option OpenFile) (given : HostReply) (after : State) →
-    open_at before.slots fd.0 ≡ file → (given, after) ≡ close_file before fd.0 file → tree_of after ≡ closed_at (tree_of before) fd
-told_closed before fd None given after is told = ap tree_of (ap (λ both. both.1) told) ∙ closed_tree before fd None is
-told_closed before fd (Some file) given after is told =
-    ap tree_of (ap (λ both. both.1) told)
-    ∙ ap (λ held. tree_of (record before { slots = closed_where held fd.0 before.slots })) is ∙ closed_tree before fd (Some file) is
-
-pub changes : (before : State) (numbers : ℕ → ℕ) (seat : HostSeat) (asked : Call) (given : HostReply) (after : State) → IsSound before →
-    AnswersCall before numbers seat asked given after → Changes (tree_of before) asked given (tree_of after)
-changes before numbers seat (call.OpenRoot path flags) given after sound answers = root_changes before numbers seat path flags given after answers
-changes before numbers seat (call.OpenAt fd name flags mode) given after sound answers = at_changes before numbers seat fd name flags mode given after answers
-changes before numbers seat (call.Reopen fd flags) given after sound answers = reopen_changes before numbers seat fd flags given after answers
-changes before numbers seat (call.ReadAt fd offset size) given after sound answers = read_changes before numbers seat fd offset size given after answers
-changes before numbers seat (call.Edit edit) given after sound answers = edit_changes before numbers edit given after sound answers
-changes before numbers seat (call.Stat fd) given after sound answers = told_status before fd (open_at before.slots fd.0) given after sound refl answers
-changes before numbers seat (call.Close fd) given after sound answers = told_closed before fd (open_at before.slots fd.0) given after refl answers
-
-pub lawful_step : (before : State) (seat : HostSeat) (asked : Call) (given : HostReply) (after : State) (seat_after : HostSeat) →
-    Does before seat asked given after seat_after → LawfulStep (tree_of before) seat asked given (tree_of after) seat_after
-lawful_step before seat asked given after seat_after does = record {
-  changes = subst (λ state. Changes (tree_of before) asked given (tree_of state)) (sym does.answers.counts)
-      (changes before does.answers.numbers seat asked given does.answers.state does.sound does.answers.answered);
-  same_seat = does.same_seat;
-  well_formed = λ was. well_formed after (sound-answers before seat asked given after does.answers does.sound does.few);
+contents_same : (state : State) (asked : Call) (given : HostReply) → opening_flags asked ≡ None →
+    LawfulContents (tree_of state) (contents_of state) asked given (tree_of state) (contents_of state)
+contents_same state asked (reply.Ok told) opens = record {
+  objects = λ object within may. stays_same _ _ refl;
+  openings = λ flags object asks within may. refl;
+  positions = λ fd open_still may. refl;
+  accesses = λ fd open_still. refl;
+  begins = λ flags fd asks is. absurd (no_flags asked flags opens asks);
 }
+contents_same state asked (reply.Refused errno) opens = record { objects = λ object within. refl; descriptions = λ fd open_still. refl }
+contents_same state asked (reply.Fault errno) opens = record { objects = λ object within. refl; descriptions = λ fd open_still. refl }
+contents_same state asked reply.NoMemory opens = record { objects = λ object within. refl; descriptions = λ fd open_still. refl }
+
+own_path_only : (state : State) (seat : HostSeat) (asked : Call) (told : Seated) → seated seat asked ≡ Some told → AsksPathOnly (tree_of state) asked → IsBadFd told.0
+own_path_only state seat (call.SetGroups list) told is asks = absurd asks
+own_path_only state seat (call.SetEgid gid) told is asks = absurd asks
+own_path_only state seat (call.SetEuid uid) told is asks = absurd asks
+own_path_only state seat (call.RaiseCap caps) told is asks = absurd asks
+own_path_only state seat (call.DropCap caps) told is asks = absurd asks
+own_path_only state seat (call.SetUmask mask) told is asks = absurd asks
+own_path_only state seat asked told is asks = cc
+
+-- ---- a call that fails as planned
+
+failing_changes : (state : State) (asked : Call) (errno : Errno) → Changes (tree_of state) asked (reply.Fault errno) (tree_of (faulted (after_failing state asked)))
+failing_changes state (call.Close fd) errno = closed_tree state fd (open_at state.slots fd.0) refl
+failing_changes state asked errno = refl
+
+failing_contents : (state : State) (asked : Call) →
+    KeepsAll (tree_of state) (contents_of state) (tree_of (faulted (after_failing state asked))) (contents_of (faulted (after_failing state asked)))
+failing_contents state (call.Close fd) = record { objects = λ object within. refl; descriptions = λ k open_still. closed_description state fd k open_still }
+failing_contents state asked = record { objects = λ object within. refl; descriptions = λ k open_still. refl }
+
+faulted_sound : (state : State) → IsSound state → IsSound (faulted state)
+faulted_sound state sound = record {
+  timely = sound.timely;
+  few = sound.few;
+  made = sound.made;
+  named = sound.named;
+  opened = sound.opened;
+  apart = sound.apart;
+}
+
+failing_sound : (state : State) (asked : Call) → IsSound state → IsSound (after_failing state asked)
+failing_sound state (call.Close fd) sound = sound-closed state fd.0 sound
+failing_sound state asked sound = sound
+
+-- ---- a call without memory
+
+memory_changes : (tree : Tree) (asked : Call) → TakesMemory asked → Changes tree asked reply.NoMemory tree
+memory_changes tree (call.Close fd) takes = absurd takes
+memory_changes tree asked takes = refl
+
+-- what is to be shown of a step, before it is counted
+pub record IsLawful (state : State) (seat : HostSeat) (asked : Call) (told : Outcome) : Type 0 where
+  pub changes : Changes (tree_of state) asked told.0 (tree_of told.1)
+  pub seats : SeatStep seat asked told.0 told.2
+  pub path_only : AsksPathOnly (tree_of state) asked → IsBadFd told.0
+  pub contents : LawfulContents (tree_of state) (contents_of state) asked told.0 (tree_of told.1) (contents_of told.1)
+  pub sound : length told.1.nodes < 2 ^ 63 → IsSound told.1
+
+module _ (state : State) (seat : HostSeat) (asked : Call) (numbers : ℕ → ℕ) (sound : IsSound state) (least : AreLeastFree state numbers) where
+  lawful_outcome : (own : Option Seated) → seated seat asked ≡ own → IsLawful state seat asked (outcome_where state numbers seat asked own)
+  lawful_outcome (Some told) is = record {
+    changes = own_changes (tree_of state) seat asked told is;
+    seats = own_seat asked seat told is;
+    path_only = own_path_only state seat asked told is;
+    contents = contents_same state asked told.0 (own_opens seat asked told is);
+    sound = λ few. sound;
+  }
+  lawful_outcome None is =
+      let fair = fair_answer state numbers seat asked sound least in
+      record {
+        changes = fair.changes;
+        seats = other_seat asked seat (answer state numbers seat asked).0 is;
+        path_only = path_only_bad state numbers seat asked sound;
+        contents = fair.contents;
+        sound = fair.sound;
+      }
+
+  lawful_failing : (errno : Errno) → IsLawful state seat asked (failing_outcome state seat asked errno)
+  lawful_failing errno = record {
+    changes = failing_changes state asked errno;
+    seats = refl;
+    path_only = λ asks. tt;
+    contents = failing_contents state asked;
+    sound = λ few. faulted_sound (after_failing state asked) (failing_sound state asked sound);
+  }
+
+  lawful_without_memory : TakesMemory asked → IsLawful state seat asked (without_memory state seat)
+  lawful_without_memory takes = record {
+    changes = memory_changes (tree_of state) asked takes;
+    seats = refl;
+    path_only = λ asks. tt;
+    contents = record { objects = λ object within. refl; descriptions = λ fd open_still. refl };
+    sound = λ few. sound;
+  }
+
+  lawful_by : (failing : Option Errno) (given : HostReply) (after : State) (seat_after : HostSeat) →
+      AnswersCall failing state numbers seat asked given after seat_after → IsLawful state seat asked (made_outcome given after seat_after)
+  lawful_by (Some errno) given after seat_after told = subst (IsLawful state seat asked) (sym told) (lawful_failing errno)
+  lawful_by None given after seat_after (inl told) = subst (IsLawful state seat asked) (sym told) (lawful_outcome (seated seat asked) refl)
+  lawful_by None given after seat_after (inr (takes, told)) = subst (IsLawful state seat asked) (sym told) (lawful_without_memory takes)
 
 -- the law of a host that tells its tree
 pub does_lawful : (host : State) (seat : HostSeat) (asked : Call) (given : HostReply) (after : State) (seat_after : HostSeat) →
     Does host seat asked given after seat_after → (before : Tree) → Some (tree_of host) ≡ Some before →
     (later : Tree) × (Some (tree_of after) ≡ Some later) × LawfulStep before seat asked given later seat_after
-does_lawful host seat asked given after seat_after does before told = (
-  tree_of after,
-  refl,
-  subst (λ tree. LawfulStep tree seat asked given (tree_of after) seat_after) (same_Some (tree_of host) before told)
-      (lawful_step host seat asked given after seat_after does),
-)
+    × LawfulContents before (contents_of host) asked given later (contents_of after)
+does_lawful host seat asked given after seat_after does before told =
+    let answers = does.answers in
+    let lawful = lawful_by host seat asked answers.numbers does.sound answers.least (failure_of host asked) given answers.state seat_after answers.answered in
+    let e : tree_of host ≡ before = same_Some (tree_of host) before told in
+    let few : length answers.state.nodes < 2 ^ 63 = subst (λ (s : State). length s.nodes < 2 ^ 63) answers.counts does.few in (
+      tree_of after,
+      refl,
+      subst (λ (tree : Tree). LawfulStep tree seat asked given (tree_of after) seat_after) e (record {
+        changes = subst (λ (s : State). Changes (tree_of host) asked given (tree_of s)) (sym answers.counts) lawful.changes;
+        seats = lawful.seats;
+        path_only = lawful.path_only;
+        well_formed = λ was. subst (λ (s : State). IsWellFormed (tree_of s)) (sym answers.counts) (well_formed answers.state (lawful.sound few));
+      }),
+      subst (λ (tree : Tree). LawfulContents tree (contents_of host) asked given (tree_of after) (contents_of after)) e
+          (subst (λ (s : State). LawfulContents (tree_of host) (contents_of host) asked given (tree_of s) (contents_of s)) (sym answers.counts) lawful.contents),
+    )

@@ -1,5 +1,5 @@
 -- What an edit comes to: it is refused and changes nothing, or it is made and does as its like call.
-use Rattle.std.proofs.Common.{◌≡◌, ◌≢◌, ◌⊎◌, inl, inr, ℕ, Bool, true, false, not, ◌||◌, cond, List, [], ◌∷◌, length, Option, Some, None, Result, Ok, Err, is_some, slice_get, refl, ap, sym, ◌∙◌, ◌==◌, subst}
+use Rattle.std.proofs.Common.{◌≡◌, ◌≢◌, ◌<◌, ◌+◌, ◌%◌, ◌⊎◌, inl, inr, ℕ, Bool, true, false, not, ◌||◌, cond, List, [], ◌∷◌, length, Option, Some, None, Result, Ok, Err, is_some, slice_get, refl, ap, sym, ◌∙◌, ◌==◌, subst, arith}
 use Rattle.std.proofs.lemmas.Bool.Decides.{eqb_tells}
 use Rattle.std.proofs.lemmas.Option.{same_Some}
 use Rattle.pt_host.specs.Errno.{enoent, eexist}
@@ -8,10 +8,10 @@ use Rattle.pt_host.specs.declared.edit.Edit.TheVariants as edit
 use Rattle.pt_host.specs.declared.ids.Errno.{Errno}
 use Rattle.pt_tree.specs.Node.{is_directory, name_at, names_in, size_of}
 use Rattle.pt_tree.specs.State.{State}
-use Rattle.pt_tree.specs.Calls.{Answered, refused, unless, then_on, ok_unless, parts}
+use Rattle.pt_tree.specs.Calls.{Answered, done, refused, unless, then_on, ok_unless, parts}
 use Rattle.pt_tree.specs.Entries.{is_directory_at, is_directory_where}
 use Rattle.pt_tree.specs.EditPaths.{at_root, judged, judged_at, last_refusal, place_from, path_goes_through}
-use Rattle.pt_tree.specs.Edits.{at_name, at_place, done, edited, make_at, make_in, make_refusal, made, move_refusal, node_at, rename_found, rename_judged, rename_onto, replace_refusal, unlink_at, unlink_found, unlink_refusal, with_made, with_moved, with_rewritten, with_unlinked, write_found, write_refusal}
+use Rattle.pt_tree.specs.Edits.{at_name, at_place, edited, make_at, make_in, make_refusal, made, move_refusal, node_at, rename_found, rename_judged, rename_onto, replace_refusal, unlink_at, unlink_found, unlink_refusal, with_made, with_moved, with_rewritten, with_unlinked, write_found, write_refusal}
 use Rattle.pt_tree.specs.declared.node.Node.{Node}
 use Rattle.pt_tree.specs.declared.node.Content.{Content}
 use Rattle.pt_tree.specs.declared.node.Content.TheVariants.{Directory, Regular}
@@ -40,21 +40,20 @@ pub record Renames (state after : State) : Type 0 where
 pub record Makes (state : State) (numbers : ℕ → ℕ) (after : State) : Type 0 where
   pub dir : ℕ
   pub name : List ℕ
-  pub mode : ℕ
-  pub uid : ℕ
-  pub gid : ℕ
-  pub content : Content
+  pub node : Node
   pub parent : Node
   pub into : is_directory_at state.nodes dir ≡ true
   pub free : name_at state.nodes dir name ≡ None
   pub at_dir : slice_get state.nodes dir ≡ Some parent
-  pub empty : names_in content ≡ []
-  pub leaves : after ≡ with_made state dir name (made state numbers mode uid gid content parent)
+  pub empty : names_in node.content ≡ []
+  pub serial : node.serial ≡ length state.nodes + 1
+  pub small : node.permissions < 4096
+  pub number : node.ids.ino ≡ numbers node.ids.dev
+  pub leaves : after ≡ with_made state dir name node
 
 pub record Rewrites (state after : State) : Type 0 where
   pub object : ℕ
   pub bytes : List ℕ
-  pub regular : is_directory_at state.nodes object ≡ false
   pub leaves : after ≡ with_rewritten state object bytes
 
 -- what the edit has done where it is made
@@ -186,26 +185,26 @@ pub none_there : (there : Option ℕ) → is_some there ≡ false → there ≡ 
 none_there None is = refl
 none_there (Some object) is = cc
 
-made_in : (state : State) (numbers : ℕ → ℕ) (mode uid gid : ℕ) (content : Content) (dir : ℕ) (name : List ℕ) (parent : Option Node) →
-    slice_get state.nodes dir ≡ parent → is_directory_at state.nodes dir ≡ true → name_at state.nodes dir name ≡ None → names_in content ≡ [] →
-    Outcome state (make_in state numbers dir name mode uid gid content parent) (Makes state numbers)
-made_in state numbers mode uid gid content dir name None is into free empty = inl (_, refl)
-made_in state numbers mode uid gid content dir name (Some parent) is into free empty =
+pub made_in : (state : State) (numbers : ℕ → ℕ) (permissions uid gid rdev : ℕ) (content : Content) (dir : ℕ) (name : List ℕ) (parent : Option Node) →
+    permissions < 4096 → slice_get state.nodes dir ≡ parent → is_directory_at state.nodes dir ≡ true → name_at state.nodes dir name ≡ None → names_in content ≡ [] →
+    Outcome state (make_in state numbers dir name permissions uid gid rdev content parent) (Makes state numbers)
+made_in state numbers permissions uid gid rdev content dir name None small is into free empty = inl (_, refl)
+made_in state numbers permissions uid gid rdev content dir name (Some parent) small is into free empty =
     inr (
-      with_made state dir name (made state numbers mode uid gid content parent),
+      with_made state dir name (made state numbers permissions uid gid rdev content parent),
       refl,
       record {
         dir = dir;
         name = name;
-        mode = mode;
-        uid = uid;
-        gid = gid;
-        content = content;
+        node = made state numbers permissions uid gid rdev content parent;
         parent = parent;
         into = into;
         free = free;
         at_dir = is;
         empty = empty;
+        serial = refl;
+        small = small;
+        number = refl;
         leaves = refl;
       },
     )
@@ -214,13 +213,9 @@ make_outcome : (state : State) (numbers : ℕ → ℕ) (mode uid gid : ℕ) (con
     is_directory_at state.nodes dir ≡ true → names_in content ≡ [] → Outcome state (make_at state numbers mode uid gid content dir name) (Makes state numbers)
 make_outcome state numbers mode uid gid content dir name into empty =
     unless_refused state (make_refusal (name_at state.nodes dir name) (size_of content))
-    (make_in state numbers dir name mode uid gid content (slice_get state.nodes dir)) (Makes state numbers)
-    (λ none. made_in state numbers mode uid gid content dir name (slice_get state.nodes dir) refl into
+    (make_in state numbers dir name (mode % 4096) uid gid 0 content (slice_get state.nodes dir)) (Makes state numbers)
+    (λ none. made_in state numbers (mode % 4096) uid gid 0 content dir name (slice_get state.nodes dir) (omega arith) refl into
     (none_there (name_at state.nodes dir name) (passes_first (is_some (name_at state.nodes dir name)) eexist _ none).0) empty)
-
-pub not_directory : (node : Option Node) (size : ℕ) → write_refusal node size ≡ None → is_directory_where node ≡ false
-not_directory None size is = cc
-not_directory (Some node) size is = (passes_first (is_directory node) _ _ is).0
 
 write_outcome : (state : State) (bytes : List ℕ) (object : Option ℕ) → Outcome state (write_found state bytes object) (Rewrites state)
 write_outcome state bytes None = inl (enoent, refl)
@@ -232,7 +227,6 @@ write_outcome state bytes (Some object) =
       record {
         object = object;
         bytes = bytes;
-        regular = not_directory (slice_get state.nodes object) (length bytes) none;
         leaves = refl;
       },
     ))

@@ -1,5 +1,5 @@
 -- A state stays sound where its objects stay what they are and nothing comes to life.
-use Rattle.std.proofs.Common.{◌≡◌, ◌<◌, ◌^◌, inl, inr, ℕ, List, length, Some, subst, refl, ap, sym, ◌∙◌, arith}
+use Rattle.std.proofs.Common.{◌≡◌, ◌<◌, ◌^◌, inl, inr, ℕ, List, length, Some, subst, refl, ap, sym, ◌∙◌}
 use Rattle.pt_tree.specs.Living.{HasName, Lives}
 use Rattle.pt_tree.specs.Slots.{open_at}
 use Rattle.pt_tree.specs.Sound.{AreOrdered, IsMade, IsSound}
@@ -21,25 +21,25 @@ stays_kept before after keeps = record {
 pub made_stays : (place : ℕ) (before after : Node) → Stays before after → IsMade place before → IsMade place after
 made_stays place before after stays made = record {
   serial = stays.serial ∙ made.serial;
-  permissions = (let less = stays.permissions in let small = made.permissions in omega arith);
+  permissions = stays.permissions made.permissions;
   ordered = stays.ordered made.ordered;
 }
 
--- what a name leads to had a name
+-- what a name leads to lived, and is there
 abbrev pub NamedBefore : State → List Node → Type 0
-NamedBefore before nodes = (object : ℕ) → HasName nodes object → HasName before.nodes object
+NamedBefore before nodes = (object : ℕ) → HasName nodes object → Lives before object × (object < length before.nodes)
 
 -- what a descriptor is open on lived, and is there
 abbrev pub OpenedBefore : State → List Slot → Type 0
 OpenedBefore before slots = (fd : ℕ) (file : OpenFile) → open_at slots fd ≡ Some file → Lives before file.object × (file.object < length before.nodes)
 
 abbrev pub state_with : State → List Node → List Slot → State
-state_with before nodes slots = record { nodes = nodes; slots = slots; calls = before.calls }
+state_with before nodes slots = record before { nodes = nodes; slots = slots }
 
 pub lived : (before : State) (nodes : List Node) (slots : List Slot) (object : ℕ) → NamedBefore before nodes → OpenedBefore before slots →
     Lives (state_with before nodes slots) object → Lives before object
 lived before nodes slots object named opened (inl root) = inl root
-lived before nodes slots object named opened (inr (inl has)) = inr (inl (named object has))
+lived before nodes slots object named opened (inr (inl has)) = (named object has).0
 lived before nodes slots object named opened (inr (inr (fd, file, is, same))) = subst (Lives before) same (opened fd file is).0
 
 pub sound_after : (before : State) (nodes : List Node) (slots : List Slot) → IsSound before → AreAlike before.nodes nodes → NamedBefore before nodes →
@@ -50,9 +50,7 @@ sound_after before nodes slots sound alike named opened = record {
   made = λ place node is.
       let was = alike.each place node is in
       made_stays place was.0 node was.2 (sound.made place was.0 was.1);
-  named = λ dir name object is.
-      let has = named object (dir, name, is) in
-      subst (λ n. object < n) (sym alike.long) (sound.named has.0 has.1 object has.2);
+  named = λ dir name object is. subst (λ n. object < n) (sym alike.long) (named object (dir, name, is)).1;
   opened = λ fd file is. subst (λ n. file.object < n) (sym alike.long) (opened fd file is).1;
   apart = λ object another node that is other lives lives_too dev ino.
       let was = alike.each object node is in
@@ -62,6 +60,10 @@ sound_after before nodes slots sound alike named opened = record {
       (sym (ap (λ ids. ids.dev) was.2.ids) ∙ dev ∙ ap (λ ids. ids.dev) before_that.2.ids)
       (sym (ap (λ ids. ids.ino) was.2.ids) ∙ ino ∙ ap (λ ids. ids.ino) before_that.2.ids);
 }
+
+-- the names of before
+pub named_still : (before : State) → IsSound before → NamedBefore before before.nodes
+named_still before sound object has = (inr (inl has), sound.named has.0 has.1 object has.2)
 
 -- the descriptors of before
 pub opened_still : (before : State) → IsSound before → OpenedBefore before before.slots

@@ -82,5 +82,5 @@ well_formed state sound = record {
       let ids = ap (λ o. o.ids) one.2 ∙ same ∙ sym (ap (λ o. o.ids) two.2) in
       sound.apart object another one.0 two.0 one.1 two.1 (open_on_lives state fd object on) (open_on_lives state other another also)
       (ap (λ i. i.dev) ids) (ap (λ i. i.ino) ids);
-  handles = λ object another what that handle is too told also. same_handle state object another what that handle sound is too told also;
+  handles = λ object another what that handle is too mount told also. same_handle state object another what that handle sound is too told also;
 }

@@ -1,5 +1,6 @@
 use Rattle.std.proofs.Common.{◌≡◌, ◌≤◌, ap, length, vec_capacity, arith, rules}
 use Rattle.pt_session.specs.Pending.{pending_in}
+use Rattle.pt_law.proofs.Hosts.{Tells}
 use Rattle.pt_fs.specs.Work.{room_of}
 use Rattle.pt_fs.proofs.Ended.{started_length}
 use Rattle.pt_fs.proofs.Works.{started_bounds}
@@ -35,7 +36,8 @@ returns g c =
     let seats = c.finish_jobs.ensures.seats in
     let ran = ran_whole whole c.requires.new in
     let kept = keeps g.H.Host.does g.H.Host.faults g.met.H.Host.promised _ _ _ _ _ trace _ _ _ ran in
-    let told = keeps_told g.H.Host.does g.H.Host.tree g.H.Host.faults g.met.H.Host.promised g.met.H.Host.lawful _ _ _ _ _ trace _ _ _ ran in
+    let lawful : Tells g.H.Host.does g.H.Host.tree = λ from seat asked reply to seat_after made before at. let l = g.met.H.Host.lawful from seat asked reply to seat_after made before at in (l.0, l.1, l.2) in
+    let told = keeps_told g.H.Host.does g.H.Host.tree g.H.Host.faults g.met.H.Host.promised lawful _ _ _ _ _ trace _ _ _ ran in
     record {
       steps = jobs_whole _ whole seats;
       order = order_whole whole;

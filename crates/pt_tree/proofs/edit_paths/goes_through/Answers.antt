@@ -1,6 +1,6 @@
 use Rattle.std.proofs.Common.{eq-eqb, sym, ◌∙◌}
 use Rattle.pt_tree.specs.Calls.{parts}
-use Rattle.pt_tree.specs.Start.{seen_place}
+use Rattle.pt_tree.specs.NewPlace.{seen_place}
 use Rattle.pt_tree.proofs.EditParts.{through_here}
 use Rattle.pt_tree.proofs.edit_paths.goes_through.Goals as goal
 

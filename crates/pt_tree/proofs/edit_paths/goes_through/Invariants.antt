@@ -1,7 +1,7 @@
 use Rattle.std.proofs.Common.{◌≡◌, length}
 use Rattle.pt_tree.specs.Calls.{parts}
 use Rattle.pt_tree.specs.EditPaths.{at_root, goes_through}
-use Rattle.pt_tree.specs.Start.{seen_place}
+use Rattle.pt_tree.specs.NewPlace.{seen_place}
 use Rattle.pt_tree.proofs.edit_paths.goes_through.Given as goal
 
 abbrev pub invariant-loop-at : goal.invariant-loop-at

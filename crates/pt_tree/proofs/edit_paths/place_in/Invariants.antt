@@ -1,7 +1,7 @@
 use Rattle.std.proofs.Common.{◌≡◌, length}
 use Rattle.pt_tree.specs.Calls.{parts}
 use Rattle.pt_tree.specs.EditPaths.{at_root, place_from}
-use Rattle.pt_tree.specs.Start.{seen_place}
+use Rattle.pt_tree.specs.NewPlace.{seen_place}
 use Rattle.pt_tree.proofs.edit_paths.place_in.Given as goal
 
 abbrev pub invariant-loop-at : goal.invariant-loop-at

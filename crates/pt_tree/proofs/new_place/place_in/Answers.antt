@@ -1,6 +1,6 @@
 use Rattle.std.proofs.Common.{sym, ap, ◌∙◌, ◌≡◌, ◌∷◌, option_and_then}
 use Rattle.pt_tree.specs.Calls.{parts}
-use Rattle.pt_tree.specs.Start.{place_in}
+use Rattle.pt_tree.specs.NewPlace.{place_in}
 use Rattle.pt_tree.proofs.NewPlaces.{place-bad, place-next}
 use Rattle.pt_tree.proofs.new_place.place_in.Goals as goal
 

@@ -1,6 +1,6 @@
 use Rattle.std.proofs.Common.{◌≡◌, length}
 use Rattle.pt_tree.specs.Calls.{parts}
-use Rattle.pt_tree.specs.Start.{place_in}
+use Rattle.pt_tree.specs.NewPlace.{place_in}
 use Rattle.pt_tree.proofs.new_place.place_in.Given as goal
 
 abbrev pub invariant-loop-name : goal.invariant-loop-name

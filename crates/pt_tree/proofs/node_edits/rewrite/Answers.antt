@@ -1,5 +1,5 @@
 use Rattle.std.proofs.Common.{ap, sym, slice_set, ◌∙◌}
-use Rattle.pt_tree.specs.Edits.{rewritten}
+use Rattle.pt_tree.specs.Entries.{rewritten}
 use Rattle.pt_tree.proofs.ChangedThere.{changed_past, changed_there}
 use Rattle.pt_tree.proofs.node_edits.rewrite.Goals as goal
 

@@ -3,7 +3,7 @@ use Rattle.pt_tree.specs.Calls.{parts, walk}
 use Rattle.pt_tree.proofs.path.walk.Given as goal
 
 abbrev pub invariant-loop-at : goal.invariant-loop-at
-invariant-loop-at l = walk l.fn.nodes 0 (parts l.fn.path) ≡ walk l.nodes l.at (parts l.left)
+invariant-loop-at l = walk l.fn.nodes l.fn.from (parts l.fn.path) ≡ walk l.nodes l.at (parts l.left)
 
 abbrev pub decreases-loop-at : goal.decreases-loop-at
 decreases-loop-at l = length l.left

@@ -1,0 +1,16 @@
+use Rattle.std.proofs.Common.{List, sym, subst, arith, ℕ}
+use Rattle.std.proofs.lemmas.Grind.{common_steps}
+use Rattle.pt_tree.specs.Kept.{IsKept, table_in}
+use Rattle.pt_tree.specs.State.{State}
+use Rattle.pt_tree.specs.StoreState.{state_of}
+use Rattle.pt_tree.proofs.KeptCalls.{kept_counted}
+use Rattle.pt_tree.proofs.store.Store.count.Goals as goal
+
+pub returns-clause-counts : goal.returns-clause-counts
+returns-clause-counts c = grind (arith, common_steps)
+
+pub returns-clause-kept : goal.returns-clause-kept
+returns-clause-kept c =
+    let holds = c.args.self.now.inodes.holds.items in
+    let tables = table_in c.args.self.now.inodes.tables.items in
+    subst (λ (s : State). IsKept s holds tables) (sym (returns-clause-counts c)) (kept_counted (state_of c.args.self.now) holds tables c.requires)
