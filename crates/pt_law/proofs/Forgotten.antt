@@ -34,6 +34,7 @@ use Rattle.pt_law.specs.Branch.{IsGivenUp}
 use Rattle.pt_law.specs.Uses.{IsOn}
 use Rattle.pt_law.proofs.Cuts.{located}
 use Rattle.pt_law.proofs.Givings.{live_count, none_other}
+use Rattle.pt_law.proofs.Interleaving.{tables_split}
 use Rattle.pt_law.proofs.Laws.{agree_law}
 use Rattle.pt_law.proofs.Reliance.{stays_gone, inserted_append, refused_law}
 use Rattle.pt_law.proofs.Straight.{lacks, no_closings}
@@ -109,10 +110,6 @@ resolves plan (request.Lookup parent name) number on = subst (λ n. Resolves n (
 resolves plan (request.Open inode kill flags) number on = subst (λ n. Resolves n (tree_of plan (request.Open inode kill flags))) on (on_open plan inode flags)
 resolves plan (request.OpenDir inode flags) number on = subst (λ n. Resolves n (tree_of plan (request.OpenDir inode flags))) on (on_open plan inode (with_bits flags o_directory))
 resolves plan what number on = absurd on
-
-tables_split : (front back : List Turn) (t last : Tables) → TablesRun t (front ++ back) last → (mid : Tables) × TablesRun t front mid × TablesRun mid back last
-tables_split [] back t last r = (t, refl, r)
-tables_split (s ∷ front) back t last r = let k = tables_split front back r.0 last r.2 in (k.0, (r.0, r.1, k.1), k.2)
 
 -- each step of a job is made while the number is gone
 record Gone (number : ℕ) (step : Step) : Type 0 where
