@@ -1,4 +1,4 @@
-ghost use Rattle.std.specs.Prelude.{ℕ, ◌≡◌, ◌+◌, ◌++◌, ◌∷◌, [], ◌-◌, ◌==◌, IfOk, IfSome, OnErr, length, nat_lt, position, slice_get, slice_index, take, Some};
+ghost use Rattle.std.specs.Prelude.{ℕ, ◌≡◌, ◌+◌, ◌++◌, ◌∷◌, [], ◌-◌, ◌==◌, ◌<◌, ◌^◌, IfOk, SomeIff, OnErr, length, nat_lt, position, slice_get, slice_index, take, Some};
 ghost use Rattle.pt_host.specs.Words.{set_at};
 ghost use Rattle.pt_tree.specs.Slots.{least_free, put_at};
 ghost use Rattle.pt_tree.specs.declared.slots.Slot.TheVariants.{Open};
@@ -128,7 +128,7 @@ impl Inodes {
 
     /// How often the object is held after one hold more, where that can be counted.
     pub fn one_more(&self, object: usize) -> Option<usize>
-        ensures { IfSome result (λ more. more ≡ slice_index self.now.holds.items object + 1) }
+        ensures { SomeIff result ((object < length self.now.holds.items) × (slice_index self.now.holds.items object + 1 < 2 ^ 64)) (slice_index self.now.holds.items object + 1) }
     {
         match self.holds.get(object) {
             None => None,

@@ -10,7 +10,7 @@ use Rattle.pt_host.specs.Tree.{Tree, Object, Opened}
 use Rattle.pt_host.specs.declared.ids.Time.{Time}
 use Rattle.pt_tree.specs.Entries.{changed_at, changed_where, is_directory_at, is_directory_where, touched, with_entry, with_name, without_entry, without_name}
 use Rattle.pt_tree.specs.Names.{found}
-use Rattle.pt_tree.specs.Node.{is_directory, name_at, names_in, object_of, holds_names}
+use Rattle.pt_tree.specs.Node.{name_at, names_in, object_of, holds_names}
 use Rattle.pt_tree.specs.Sound.{AreOrdered}
 use Rattle.pt_tree.specs.declared.node.Node.{Node}
 use Rattle.pt_tree.specs.declared.node.Content.{Content}
@@ -272,17 +272,3 @@ led_same dir name object names there =
           ∙ same_value (bytes_eq name q) name q object (names dir) refl there ∙ sym (ap (λ k. names k q) is.1)
       | inr apart ↦ ap (λ b. cond b (update bytes_eq (names dir) name object) (names d) q) apart.0
     ]))
-
-directory_where : (f : Node → Node) → ((node : Node) → is_directory (f node) ≡ is_directory node) → (node : Option Node) →
-    is_directory_where (option_map f node) ≡ is_directory_where node
-directory_where f same None = refl
-directory_where f same (Some node) = same node
-
--- a change by which no kind changes leaves directories what they are
-pub directory-changed : (place : ℕ) (f : Node → Node) (nodes : List Node) (k : ℕ) → ((node : Node) → is_directory (f node) ≡ is_directory node) →
-    is_directory_at (changed_at place f nodes) k ≡ is_directory_at nodes k
-directory-changed place f nodes k same = ap is_directory_where (get-changed place f nodes k) ∙ elim (eqb_tells k place) [
-  | inl is ↦ ap (λ b. is_directory_where (cond b (option_map f (slice_get nodes place)) (slice_get nodes k))) is.0
-      ∙ directory_where f same (slice_get nodes place) ∙ sym (ap (λ j. is_directory_where (slice_get nodes j)) is.1)
-  | inr apart ↦ ap (λ b. is_directory_where (cond b (option_map f (slice_get nodes place)) (slice_get nodes k))) apart.0
-]

@@ -1,7 +1,7 @@
 -- `MakeLink`: what it leaves of the tree and beside it.
-use Rattle.std.proofs.Common.{◌≡◌, ◌<◌, ◌==◌, inl, inr, ℕ, true, false, not, List, length, map, Some, None, is_some, slice_get, refl, ap, sym, ◌∙◌, subst}
+use Rattle.std.proofs.Common.{◌≡◌, ◌<◌, ◌==◌, inl, inr, ℕ, false, not, List, map, Some, None, is_some, slice_get, refl, sym, ◌∙◌, subst}
 use Rattle.std.proofs.lemmas.List.{length-map}
-use Rattle.std.proofs.lemmas.Option.{same_Some, slice_get_within}
+use Rattle.std.proofs.lemmas.Option.{slice_get_within}
 use Rattle.pt_host.specs.Tree.{IsOpenOn}
 use Rattle.pt_host.specs.declared.ids.Errno.{Errno}
 use Rattle.pt_host.specs.declared.ids.Fd.{Fd}
@@ -10,60 +10,28 @@ use Rattle.pt_host.specs.declared.seat.HostSeat.{HostSeat}
 use Rattle.pt_host.specs.declared.op.KeptHostOp.TheVariants as call
 use Rattle.pt_host.specs.declared.reply.HostValue.TheVariants as value
 use Rattle.pt_tree.specs.Calls.{done, name_refusal, refused}
-use Rattle.pt_tree.specs.Entries.{after_gaining, changed_at, is_directory_at, touched, with_entry}
-use Rattle.pt_tree.specs.Living.{Lives}
+use Rattle.pt_tree.specs.Entries.{after_gaining, changed_at, touched, with_entry}
 use Rattle.pt_tree.specs.NameCalls.{link_checks, linked, make_link, there_in, with_linked}
-use Rattle.pt_tree.specs.Node.{is_directory, name_at, object_of}
+use Rattle.pt_tree.specs.Node.{is_directory, object_of}
 use Rattle.pt_tree.specs.Slots.{open_at}
 use Rattle.pt_tree.specs.Sound.{IsSound}
 use Rattle.pt_tree.specs.State.{State, time_of, tree_of}
 use Rattle.pt_tree.specs.declared.node.Node.{Node}
 use Rattle.pt_tree.specs.declared.slots.OpenFile.{OpenFile}
 use Rattle.pt_tree.specs.Laws.Cases.{by_checks, by_fd, by_name}
-use Rattle.pt_tree.specs.Laws.Changed.{AreAlike, Stays, alike_changed, alike_on, led, led_cases, names-gained, names-same, objects-changed, same_tree}
-use Rattle.pt_tree.specs.Laws.EditShapes.{object_gained, stays_gained}
+use Rattle.pt_tree.specs.Laws.Changed.{objects-changed, same_tree}
+use Rattle.pt_tree.specs.Laws.EditShapes.{object_gained}
 use Rattle.pt_tree.specs.Laws.Fair.{IsFair, fair_refused}
 use Rattle.pt_tree.specs.Laws.NameFair.{asked_there, changed_other, keeps_others, there_at}
+use Rattle.pt_tree.specs.Laws.NamesLed.{names_linked, sound_linked, with_link}
 use Rattle.pt_tree.specs.Laws.Opens.{open_there}
 use Rattle.pt_tree.specs.Laws.Outcomes.{none_there, passes_first}
-use Rattle.pt_tree.specs.Laws.Sounding.{NamedBefore, named_still, opened_still, sound_after}
-
-stays_gaining : (now : Time) (node : Node) → Stays node (after_gaining now node)
-stays_gaining now node = record { ids = refl; serial = refl; permissions = λ small. small; ordered = λ ordered. ordered }
 
 module _ (now : Time) (dir : ℕ) (name : List ℕ) (object : ℕ) (nodes : List Node) where
-  -- the objects with the name, before the object is told
-  abbrev entered : List Node
-  entered = changed_at dir (λ at. touched now (with_entry name object false false at)) nodes
-
-  alike_linked : AreAlike nodes (linked now dir name object nodes)
-  alike_linked = alike_on nodes entered (linked now dir name object nodes)
-      (alike_changed dir (λ at. touched now (with_entry name object false false at)) nodes (stays_gained now name object false false))
-      (alike_changed object (after_gaining now) entered (stays_gaining now))
-
-  names_linked : is_directory_at nodes dir ≡ true → name_at (linked now dir name object nodes) ≡ led dir name (Some object) (name_at nodes)
-  names_linked into = names-same object (after_gaining now) entered (λ node is. refl) ∙ names-gained now dir name object false false nodes into
-
   objects_linked : map object_of (linked now dir name object nodes) ≡ map object_of nodes
   objects_linked =
-      objects-changed object (after_gaining now) entered (λ node is. refl)
+      objects-changed object (after_gaining now) (with_link now dir name object nodes) (λ node is. refl)
       ∙ objects-changed dir (λ at. touched now (with_entry name object false false at)) nodes (λ node is. object_gained now name object false false node)
-
--- what got the name lived, by its descriptor
-module _ (state : State) (dir : ℕ) (name : List ℕ) (object : ℕ) (sound : IsSound state) (into : is_directory_at state.nodes dir ≡ true)
-    (lives : Lives state object) (within : object < length state.nodes) where
-  named_linked : NamedBefore state (with_linked state dir name object).nodes
-  named_linked o (d, q, is) =
-      let names = names_linked (time_of state) dir name object state.nodes into in
-      elim (led_cases dir name (Some object) (name_at state.nodes) d q o (sym (ap (λ at. at d q) names) ∙ is)) [
-        | inl new ↦ (subst (Lives state) (same_Some object o new) lives, subst (λ n. n < length state.nodes) (same_Some object o new) within)
-        | inr was ↦ named_still state sound o (d, q, was)
-      ]
-
-  sound_linked : IsSound (with_linked state dir name object)
-  sound_linked =
-      sound_after state (linked (time_of state) dir name object state.nodes) state.slots sound (alike_linked (time_of state) dir name object state.nodes)
-      named_linked (opened_still state sound)
 
 module _ (state : State) (seat : HostSeat) (from fd : Fd) (name : List ℕ) (sound : IsSound state) where
   link_refuses : (errno : Errno) → IsFair state (call.MakeLink from fd name) (refused state errno)

@@ -16,88 +16,52 @@ use Rattle.pt_host.specs.declared.op.KeptHostOp.TheVariants as call
 use Rattle.pt_host.specs.declared.reply.HostValue.TheVariants as value
 use Rattle.pt_tree.specs.Calls.{done, refused, unless}
 use Rattle.pt_tree.specs.Edits.{moved, node_at, replace_refusal, replaced, with_moved, rename_onto}
-use Rattle.pt_tree.specs.Entries.{after_losing, changed_at, is_directory_at, restamped, touched, with_entry, with_name}
+use Rattle.pt_tree.specs.Entries.{after_losing, is_directory_at, restamped}
 use Rattle.pt_tree.specs.NameCalls.{cannot_write, exchange, exchanged, moves_into_itself, noreplace, rename, rename_found, rename_refusal, rename_refusal_of, rename_to, with_exchanged}
-use Rattle.pt_tree.specs.Node.{holds_names, name_at, object_of}
+use Rattle.pt_tree.specs.Node.{name_at, object_of}
 use Rattle.pt_tree.specs.Slots.{open_at}
 use Rattle.pt_tree.specs.Sound.{IsSound}
 use Rattle.pt_tree.specs.State.{State, time_of, tree_of}
 use Rattle.pt_tree.specs.declared.node.Node.{Node}
-use Rattle.pt_tree.specs.declared.node.Content.{Content}
-use Rattle.pt_tree.specs.declared.node.Content.TheVariants.{Directory}
 use Rattle.pt_tree.specs.declared.slots.OpenFile.{OpenFile}
 use Rattle.pt_tree.specs.Laws.Cases.{by_fd, by_name, by_refusal}
-use Rattle.pt_tree.specs.Laws.Changed.{AreAlike, alike_changed, alike_on, directory-changed, led, led_cases, led_same, names-gained, names-same, objects-changed, same_tree}
+use Rattle.pt_tree.specs.Laws.Changed.{led, led_same, objects-changed, same_tree}
 use Rattle.pt_tree.specs.Laws.EditLaws.{moves_name}
-use Rattle.pt_tree.specs.Laws.EditShapes.{first, object_gained, second, stays_gained, stays_restamped, third}
+use Rattle.pt_tree.specs.Laws.EditShapes.{first, object_gained, second, third}
 use Rattle.pt_tree.specs.Laws.EditSound.{sound_moved}
 use Rattle.pt_tree.specs.Laws.Fair.{IsFair, fair_refused}
 use Rattle.pt_tree.specs.Laws.NameFair.{asked_there, changed_other, keeps_others}
+use Rattle.pt_tree.specs.Laws.NamesLed.{names_exchanged, put_back, put_there, sound_exchanged, with_both, with_one, with_stamp}
 use Rattle.pt_tree.specs.Laws.Opens.{open_there}
 use Rattle.pt_tree.specs.Laws.Outcomes.{MovesTo, Renames as Moved, none_there, passes_first}
-use Rattle.pt_tree.specs.Laws.Sounding.{NamedBefore, named_still, opened_still, sound_after}
 
 -- ---- two names exchanged
 
-holds_gained : (name : List ℕ) (object : ℕ) (content : Content) → holds_names (with_name name object content) ≡ holds_names content
-holds_gained name object (Directory names) = refl
-holds_gained name object content = refl
-
 module _ (now : Time) (from to : ℕ × List ℕ) (object other : ℕ) (nodes : List Node) where
-  abbrev gets_object : Node → Node
-  gets_object dir = touched now (with_entry to.1 object (is_directory_at nodes object) (is_directory_at nodes other) dir)
-
-  abbrev gets_other : Node → Node
-  gets_other dir = touched now (with_entry from.1 other (is_directory_at nodes other) (is_directory_at nodes object) dir)
-
-  abbrev given : List Node
-  given = changed_at to.0 gets_object nodes
+  abbrev stamped : List Node
+  stamped = with_stamp now from to object other nodes
 
   abbrev crossed : List Node
-  crossed = changed_at from.0 gets_other given
+  crossed = with_both now from to object other nodes
 
-  abbrev stamped : List Node
-  stamped = changed_at object (restamped now) crossed
-
-  alike_given : AreAlike nodes given
-  alike_given = alike_changed to.0 gets_object nodes (stays_gained now to.1 object (is_directory_at nodes object) (is_directory_at nodes other))
-
-  alike_crossed : AreAlike nodes crossed
-  alike_crossed = alike_on nodes given crossed alike_given
-      (alike_changed from.0 gets_other given (stays_gained now from.1 other (is_directory_at nodes other) (is_directory_at nodes object)))
-
-  alike_stamped : AreAlike nodes stamped
-  alike_stamped = alike_on nodes crossed stamped alike_crossed (alike_changed object (restamped now) crossed (stays_restamped now))
-
-  alike_exchanged : AreAlike nodes (exchanged now from to object other nodes)
-  alike_exchanged = alike_on nodes stamped (exchanged now from to object other nodes) alike_stamped
-      (alike_changed other (restamped now) stamped (stays_restamped now))
-
-  still_directory : is_directory_at nodes from.0 ≡ true → is_directory_at given from.0 ≡ true
-  still_directory is = directory-changed to.0 gets_object nodes from.0 (λ node. holds_gained to.1 object node.content) ∙ is
-
-  names_exchanged : is_directory_at nodes from.0 ≡ true → is_directory_at nodes to.0 ≡ true →
-      name_at (exchanged now from to object other nodes) ≡ led from.0 from.1 (Some other) (led to.0 to.1 (Some object) (name_at nodes))
-  names_exchanged out into =
-      names-same other (restamped now) stamped (λ node is. refl)
-      ∙ names-same object (restamped now) crossed (λ node is. refl)
-      ∙ names-gained now from.0 from.1 other (is_directory_at nodes other) (is_directory_at nodes object) given (still_directory out)
-      ∙ ap (led from.0 from.1 (Some other)) (names-gained now to.0 to.1 object (is_directory_at nodes object) (is_directory_at nodes other) nodes into)
+  abbrev given : List Node
+  given = with_one now from to object other nodes
 
   objects_exchanged : map object_of (exchanged now from to object other nodes) ≡ map object_of nodes
   objects_exchanged =
       objects-changed other (restamped now) stamped (λ node is. refl)
       ∙ objects-changed object (restamped now) crossed (λ node is. refl)
-      ∙ objects-changed from.0 gets_other given
+      ∙ objects-changed from.0 (put_back now from to object other nodes) given
       (λ node is. object_gained now from.1 other (is_directory_at nodes other) (is_directory_at nodes object) node)
-      ∙ objects-changed to.0 gets_object nodes
+      ∙ objects-changed to.0 (put_there now from to object other nodes) nodes
       (λ node is. object_gained now to.1 object (is_directory_at nodes object) (is_directory_at nodes other) node)
 
   -- none else is changed
   exchanged_other : (o : ℕ) → o ≢ from.0 → o ≢ to.0 → o ≢ object → o ≢ other → slice_get (exchanged now from to object other nodes) o ≡ slice_get nodes o
   exchanged_other o a b c d =
       changed_other other (restamped now) stamped o d ∙ changed_other object (restamped now) crossed o c
-      ∙ changed_other from.0 gets_other given o a ∙ changed_other to.0 gets_object nodes o b
+      ∙ changed_other from.0 (put_back now from to object other nodes) given o a
+      ∙ changed_other to.0 (put_there now from to object other nodes) nodes o b
 
 -- ---- one name moved
 
@@ -244,23 +208,11 @@ module _ (state : State) (seat : HostSeat) (fd : Fd) (name : List ℕ) (fd2 : Fd
         })
         (inl (refl, refl))) refl refl (λ o none. refl)
 
-    named_exchanged : (other : ℕ) → name_at state.nodes file2.object name2 ≡ Some other → NamedBefore state (with_exchanged state from to object other).nodes
-    named_exchanged other at o (d, q, leads) =
-        let names = names_exchanged (time_of state) from to object other state.nodes out into in
-        elim (led_cases file.object name (Some other) (led file2.object name2 (Some object) (name_at state.nodes)) d q o (sym (ap (λ n. n d q) names) ∙ leads)) [
-          | inl second_led ↦ named_still state sound o (file2.object, name2, at ∙ second_led)
-          | inr gained ↦ elim (led_cases file2.object name2 (Some object) (name_at state.nodes) d q o gained) [
-            | inl first_led ↦ named_still state sound o (file.object, name, there ∙ first_led)
-            | inr was ↦ named_still state sound o (d, q, was)
-          ]
-        ]
-
     fair_exchanged : (other : ℕ) → flags ≡ 2 → name_at state.nodes file2.object name2 ≡ Some other →
         IsFair state (call.Rename fd name fd2 name2 flags) (done (with_exchanged state from to object other))
     fair_exchanged other two at =
         fair_renamed (with_exchanged state from to object other)
-        (λ n. sound_after state (exchanged (time_of state) from to object other state.nodes) state.slots sound
-        (alike_exchanged (time_of state) from to object other state.nodes) (named_exchanged other at) (opened_still state sound))
+        (λ n. sound_exchanged state from to object other sound there at)
         (inr (inr (
           two,
           record {
@@ -273,7 +225,7 @@ module _ (state : State) (seat : HostSeat) (fd : Fd) (name : List ℕ) (fd2 : Fd
             there = there;
             also = at;
             exchanges = same_tree _ _ _ _ _ _ (objects_exchanged (time_of state) from to object other state.nodes)
-                (names_exchanged (time_of state) from to object other state.nodes out into) refl;
+                (names_exchanged (time_of state) from to object other state.nodes there at) refl;
           },
         )))
         refl refl

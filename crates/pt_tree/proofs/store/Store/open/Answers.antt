@@ -37,5 +37,5 @@ returns-in-Ok-clause-kept c =
     kept_as (with_opened state c.args.seat.now c.args.flags object node) _ (slice_set holds object (slice_index holds object + 1)) _ tables _
     (ap (λ (ns : List Node). parts_in state ns c.open.new.self) nodes
     ∙ ap (λ (ss : List Slot). parts_in state (slice_set state.nodes object (after_opening c.args.seat.now (time_of state) c.args.flags.0 node)) ss) slots)
-    (ap (slice_set holds object) c.in-Some-one_more.ensures) refl
+    (ap (slice_set holds object) c.in-Some-one_more.ensures.1) refl
     (kept_opened state holds tables c.args.seat.now c.args.flags object node c.requires.kept there c.requires.lives)
