@@ -1,6 +1,9 @@
 //! The program: reads a script of requests, runs it over a tree in memory and writes the report.
 #![tactic(auto)]
 
+ghost use Rattle.std.specs.Prelude.{◌≡◌, ◌⊎◌, IfErr, drop};
+ghost use Rattle.pt_main.specs.declared.status.Status.TheVariants.{NoMemory, Usage};
+
 mod edit;
 mod fields;
 mod input;
@@ -41,24 +44,35 @@ pub use std_streams::{StdSink, StdSource};
 pub use streams::{Failed, Sink, Source};
 pub use texts::Text;
 
-// The words after the program's name. One that is not UTF-8 is none that the program knows.
-fn command_words(rt: &HostRuntime) -> Result<Vec<String>, Status> {
-    let mut args = match env::args(rt) {
+// All words of the command line, the program's name first. Where one is not UTF-8, they are none that the program knows.
+fn command_line(rt: &HostRuntime) -> Result<Vec<String>, Status>
+    ensures err { IfErr result (λ status. (status ≡ Usage) ⊎ (status ≡ NoMemory)) }
+{
+    let args = match env::args(rt) {
         Ok(args) => args,
         Err(error) if error.kind() == io::ErrorKind::OutOfMemory => return Err(Status::NoMemory),
         Err(_) => return Err(Status::Usage),
     };
-    args.next();
     args.collect(rt.alloc())
         .map_err(|_: AllocError| Status::NoMemory)
 }
 
+fn words_after_name(words: &[String]) -> &[String]
+    ensures { result.now ≡ drop 1 words.now }
+{
+    match words {
+        [_, rest @ ..] => rest,
+        [] => words,
+    }
+}
+
 fn main(rt: HostRuntime) -> ExitCode {
-    let status = match command_words(&rt) {
+    let status = match command_line(&rt) {
         Ok(words) => {
+            let words = words_after_name(words.as_slice());
             let mut input = StdSource::new(rt.reader());
             let mut output = StdSink::new(io::writer(&rt));
-            run(rt.alloc(), words.as_slice(), &mut input, &mut output)
+            run(rt.alloc(), words, &mut input, &mut output)
         }
         Err(status) => status,
     };

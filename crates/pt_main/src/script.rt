@@ -10,7 +10,7 @@ use crate::places::Places;
 use crate::scan::scan_lines;
 use crate::settings::Settings;
 use pt_tree::{SpecError, TreeHost, TreeSpec};
-use std::alloc::Global;
+use std::alloc::{AllocError, Global};
 
 /// A script: what it sets, the host that holds its tree, with the faults that are planned, its jobs in order, and the order of their steps.
 #[derive(Drop)]
@@ -60,13 +60,13 @@ pub fn parse(alloc: Global, bytes: &[u8]) -> Result<Script, ParseError>
 }
 
 // Plans these faults.
-fn plan_faults(host: &mut TreeHost, faults: &[PlannedFault]) -> Result<(), SpecError>
+fn plan_faults(host: &mut TreeHost, faults: &[PlannedFault]) -> Result<(), AllocError>
     ensures { OnOk result (host.new ≡ planned_all faults.now host.old) }
 {
     for fault in faults {
         match host.plan_fault(fault.call, fault.errno) {
             Ok(()) => {}
-            Err(error) => return Err(error),
+            Err(_) => return Err(AllocError),
         }
     }
     Ok(())
