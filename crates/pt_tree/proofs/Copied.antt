@@ -1,5 +1,5 @@
 -- What a copy between files and a seek are answered, as the code comes to it.
-use Rattle.std.proofs.Common.{◌≡◌, ◌<◌, ℕ, ℤ, List, ◌∷◌, [], length, Option, Some, None, Result, Bool, true, false, get_or, refl, ap, sym, ◌∙◌, inl, inr, arith, slice_get, slice_set, length-set}
+use Rattle.std.proofs.Common.{◌≡◌, ◌<◌, ℕ, ℤ, List, [], length, Option, Some, None, Result, Bool, get_or, ap, sym, ◌∙◌, inl, inr, arith, slice_get, slice_set, length-set}
 use Rattle.std.proofs.lemmas.Option.{same_Some, slice_get-get_or, slice_get_within}
 use Rattle.pt_host.specs.declared.ids.Errno.{Errno}
 use Rattle.pt_host.specs.declared.ids.Fd.{Fd}

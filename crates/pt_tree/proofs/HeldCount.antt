@@ -1,5 +1,5 @@
 -- How often a store says that an object is held.
-use Rattle.std.proofs.Common.{◌≡◌, ℕ, Bool, List, Some, nat_lt, slice_get, ap}
+use Rattle.std.proofs.Common.{◌≡◌, ℕ, List, Some, nat_lt, slice_get, ap}
 use Rattle.std.specs.Prelude.{slice_index}
 use Rattle.std.proofs.lemmas.Option.{get_or_from_slice_get, slice_get_within}
 use Rattle.pt_tree.specs.Kept.{IsKept, held_by}

@@ -1,5 +1,5 @@
 -- What is kept of a state is kept of the same state, as code comes to it.
-use Rattle.std.proofs.Common.{◌≡◌, ℕ, true, List, [], ◌∷◌, refl, subst, sym}
+use Rattle.std.proofs.Common.{◌≡◌, ℕ, List, subst, sym}
 use Rattle.pt_tree.specs.Kept.{IsKept}
 use Rattle.pt_tree.specs.State.{State}
 use Rattle.pt_tree.specs.declared.node.Node.{Node}

@@ -1,5 +1,5 @@
 -- The records of a directory, entry by entry.
-use Rattle.std.proofs.Common.{◌≡◌, ◌<◌, ◌≤◌, ◌+◌, ◌-◌, ◌%◌, ◌/◌, ◌++◌, ◌∷◌, [], ℕ, zero, suc, Bool, true, false, cond, List, drop, length, nat_le, refl, ap, sym, ◌∙◌, arith, append_assoc, slice_get}
+use Rattle.std.proofs.Common.{◌≡◌, ◌<◌, ◌≤◌, ◌+◌, ◌-◌, ◌%◌, ◌/◌, ◌++◌, ◌∷◌, [], ℕ, suc, true, false, cond, List, drop, length, nat_le, refl, ap, sym, ◌∙◌, arith, append_assoc, slice_get}
 use Rattle.std.specs.Int.{to_le_bytes, w16}
 use Rattle.pt_tree.specs.ListCalls.{before_others, record_at, record_size, records}
 use Rattle.pt_tree.specs.declared.node.Node.{Node}

@@ -1,6 +1,6 @@
 -- The calls on what files hold: pwritev2(2), ftruncate(2), fallocate(2), lseek(2), copy_file_range(2), fsync(2) and syncfs(2), with the set-id
 -- bits that they clear and the times that they set, after inode(7).
-use Rattle.std.specs.Prelude.{ℕ, ◌+◌, ◌-◌, ◌^◌, ◌==◌, nat_lt, not, ◌||◌, ◌&&◌, Bool, true, false, List, [], ◌∷◌, ◌++◌, length, take, drop, replicate, ℤ, pos, negsuc, ◌+ℤ◌, Option, Some, None, Result, Ok, Err, ok_or, option_map, if◌then◌else◌}
+use Rattle.std.specs.Prelude.{ℕ, ◌+◌, ◌-◌, ◌^◌, ◌==◌, nat_lt, not, ◌||◌, ◌&&◌, Bool, List, [], ◌∷◌, ◌++◌, length, take, drop, replicate, ℤ, pos, negsuc, ◌+ℤ◌, Option, Some, None, Result, Ok, Err, ok_or, option_map, if◌then◌else◌}
 use Rattle.pt_host.specs.Errno.{ebadf, efbig, einval, eisdir, enxio, eopnotsupp, eoverflow}
 use Rattle.pt_host.specs.Flags.{includes, o_path}
 use Rattle.pt_host.specs.declared.ids.Errno.{Errno}

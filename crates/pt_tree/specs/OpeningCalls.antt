@@ -1,6 +1,6 @@
 -- The calls that open objects and tell what they are: openat(2), open_by_handle_at(2), name_to_handle_at(2), fstatvfs(3), readlinkat(2), and
 -- the links and the mountinfo of `/proc`, after proc(5).
-use Rattle.std.specs.Prelude.{ℕ, zero, suc, ◌+◌, ◌%◌, ◌==◌, not, ◌||◌, ◌&&◌, Bool, true, false, List, [], ◌∷◌, ◌++◌, length, codes, decimal, fold, pos, Option, Some, None, is_some, option_map, Result, Ok, ok_or, unwrap_or, slice_get, Vec, if◌then◌else◌}
+use Rattle.std.specs.Prelude.{ℕ, zero, suc, ◌%◌, ◌==◌, not, ◌||◌, ◌&&◌, Bool, false, List, [], ◌∷◌, ◌++◌, length, codes, decimal, fold, Option, Some, None, is_some, option_map, Result, Ok, ok_or, unwrap_or, slice_get, Vec, if◌then◌else◌}
 use Rattle.std.specs.List.{enumerate_from, find, flat_map}
 use Rattle.std.specs.Ordering.{int_eq, is_lt, nat_cmp}
 use Rattle.std.specs.declared.alloc.Global.{Global}

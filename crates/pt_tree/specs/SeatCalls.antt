@@ -1,5 +1,5 @@
 -- The seat's own calls, after seteuid(2), setegid(2), setgroups(2), capset(2) and umask(2): what each is answered, and the seat that it leaves.
-use Rattle.std.specs.Prelude.{◌≡◌, ℕ, Bool, List, Option, Some, None, Result, Ok, Err, ⊤, if◌then◌else◌}
+use Rattle.std.specs.Prelude.{◌≡◌, Bool, Option, Some, None, Result, Ok, Err, ⊤, if◌then◌else◌}
 use Rattle.pt_host.specs.Call.{Call}
 use Rattle.pt_host.specs.Errno.{eperm}
 use Rattle.pt_host.specs.Seat.{groups_errno, may_raise, may_set_egid, may_set_euid, may_set_groups, with_dropped, with_egid, with_euid, with_groups, with_raised, with_umask}

@@ -1,10 +1,10 @@
 -- An edit leaves a sound state.
-use Rattle.std.proofs.Common.{◌≡◌, ◌<◌, ◌+◌, ◌^◌, ◌⊎◌, inl, inr, ℕ, true, false, List, [], length, Option, Some, None, slice_get, refl, ap, sym, ◌∙◌, subst, arith}
+use Rattle.std.proofs.Common.{◌≡◌, ◌<◌, ◌+◌, ◌^◌, ◌⊎◌, inl, inr, ℕ, true, List, [], length, Option, Some, None, slice_get, ap, sym, ◌∙◌, subst, arith}
 use Rattle.std.proofs.lemmas.List.{length_push}
 use Rattle.std.proofs.lemmas.Option.{same_Some, slice_get_within}
 use Rattle.pt_host.specs.declared.edit.Edit.{Edit}
 use Rattle.pt_host.specs.declared.edit.Edit.TheVariants as edit
-use Rattle.pt_tree.specs.Edits.{edited, made, moved, unlinked, with_made, with_moved, with_rewritten, with_unlinked}
+use Rattle.pt_tree.specs.Edits.{edited, moved, unlinked, with_made, with_moved, with_rewritten, with_unlinked}
 use Rattle.pt_tree.specs.Entries.{is_directory_at}
 use Rattle.pt_tree.specs.Living.{AreLeastFree, IsLeastFree, Lives}
 use Rattle.pt_tree.specs.Node.{name_at, names_in}

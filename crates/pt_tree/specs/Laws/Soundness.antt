@@ -1,5 +1,5 @@
 -- Openings, closings and what changes one object alone leave a sound state.
-use Rattle.std.proofs.Common.{◌≡◌, ◌<◌, inl, inr, ℕ, List, length, Option, Some, None, Result, slice_get, slice_set, subst, refl, ap, sym, ◌∙◌, arith, length-set}
+use Rattle.std.proofs.Common.{◌≡◌, ◌<◌, inl, inr, ℕ, List, length, Option, Some, None, slice_get, slice_set, subst, ap, sym, ◌∙◌, arith, length-set}
 use Rattle.std.proofs.lemmas.Option.{same_Some, slice_get_within}
 use Rattle.pt_host.specs.declared.ids.Errno.{Errno}
 use Rattle.pt_host.specs.declared.flags.OpenFlags.{OpenFlags}

@@ -1,4 +1,4 @@
-use Rattle.std.proofs.Common.{◌≡◌, ◌++◌, ◌∷◌, []}
+use Rattle.std.proofs.Common.{◌≡◌, ◌++◌}
 use Rattle.pt_tree.specs.Attributes.{names_listed}
 use Rattle.pt_tree.proofs.NameOrder.{seen}
 use Rattle.pt_tree.proofs.attribute_calls.names_listed.Given as goal

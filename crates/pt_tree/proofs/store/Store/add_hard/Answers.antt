@@ -1,4 +1,4 @@
-use Rattle.std.proofs.Common.{◌≡◌, ℕ, List, ap, sym, ◌∙◌, subst}
+use Rattle.std.proofs.Common.{◌≡◌, List, ap, sym, ◌∙◌, subst}
 use Rattle.pt_tree.specs.Kept.{IsKept, table_in}
 use Rattle.pt_tree.specs.NameCalls.{with_linked}
 use Rattle.pt_tree.specs.NewPlace.{place_of}

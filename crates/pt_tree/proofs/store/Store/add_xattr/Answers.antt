@@ -1,4 +1,4 @@
-use Rattle.std.proofs.Common.{◌<◌, ap, sym, length, ◌∙◌, refl, slice_set, subst, arith, List, ℕ}
+use Rattle.std.proofs.Common.{◌<◌, ap, sym, length, ◌∙◌, slice_set, subst, arith, List, ℕ}
 use Rattle.std.proofs.lemmas.Option.{get_or_from_slice_get}
 use Rattle.pt_tree.specs.Attributes.{with_value}
 use Rattle.pt_tree.specs.Kept.{table_in}

@@ -1,4 +1,4 @@
-use Rattle.std.proofs.Common.{List, sym, subst, arith, ℕ}
+use Rattle.std.proofs.Common.{sym, subst, arith}
 use Rattle.std.proofs.lemmas.Grind.{common_steps}
 use Rattle.pt_tree.specs.Kept.{IsKept, table_in}
 use Rattle.pt_tree.specs.State.{State}

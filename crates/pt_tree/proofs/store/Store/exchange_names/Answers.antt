@@ -1,4 +1,4 @@
-use Rattle.std.proofs.Common.{ap, List, ◌∙◌, refl}
+use Rattle.std.proofs.Common.{ap, ◌∙◌, refl}
 use Rattle.std.proofs.lemmas.List.{with_items_is}
 use Rattle.pt_host.specs.declared.ids.Time.{Time}
 use Rattle.pt_tree.specs.Kept.{table_in}

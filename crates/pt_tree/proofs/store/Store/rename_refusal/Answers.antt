@@ -1,4 +1,4 @@
-use Rattle.std.proofs.Common.{◌==◌, not, ℕ, Bool, List, Option, Some, slice_get, ap, sym, ◌∙◌}
+use Rattle.std.proofs.Common.{◌==◌, not, Bool, List, Option, Some, slice_get, ap, sym, ◌∙◌}
 use Rattle.std.proofs.lemmas.Option.{slice_get-get_or}
 use Rattle.pt_tree.specs.Edits.{node_at}
 use Rattle.pt_tree.specs.NameCalls.{is_mount_moved, is_unwritable, moves_into_itself, rename_refusal_of, rename_tests}

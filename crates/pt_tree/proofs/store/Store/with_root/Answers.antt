@@ -1,4 +1,4 @@
-use Rattle.std.proofs.Common.{ℕ, List, [], ◌∷◌, ◌++◌, ap, ◌∙◌, refl}
+use Rattle.std.proofs.Common.{ℕ, List, [], ◌∷◌, ◌++◌, ap, ◌∙◌}
 use Rattle.pt_host.specs.Words.{set_at}
 use Rattle.pt_host.specs.declared.ids.Errno.{Errno}
 use Rattle.pt_tree.specs.Kept.{having, table_in}
