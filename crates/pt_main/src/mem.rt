@@ -1,17 +1,49 @@
-ghost use Rattle.std.specs.Prelude.{◌≡◌, [], Some, min, length, take};
-ghost use Rattle.pt_main.specs.Streams.{MemLeft};
+ghost use Rattle.std.specs.Prelude.{◌≡◌, ◌≤◌, ◌<◌, [], Some, IfOk, OnErr, IsErr, IsTrue, is_err, min, length, take};
+ghost use Rattle.pt_host.specs.Promises.{HasRisen};
+ghost use Rattle.pt_main.specs.Streams.{MemLeft, IsPulled, IsPushed, counted, is_failing};
 
 use crate::streams::{Failed, Sink, Source};
 use std::alloc::Global;
 use std::marker::Model;
+
+// Calls that were made, and which are to fail, counted from 1.
+#[derive(Drop)]
+struct PlannedCalls {
+    calls: u64,
+    failing: Vec<u64>,
+}
+
+impl Model for PlannedCalls {
+    ghost use Rattle.pt_main.specs.Streams.{Planned};
+
+    ghost Value = { Planned };
+
+    ghost view = { λ planned. record { calls = planned.calls; failing = planned.failing.items } };
+}
+
+impl PlannedCalls {
+    fn new(failing: Vec<u64>) -> Self
+        ensures { result ≡ record { calls = 0; failing = failing.items } }
+    {
+        PlannedCalls { calls: 0, failing }
+    }
+
+    /// Counts a call, and answers whether it is to fail.
+    fn next_fails(&mut self) -> bool
+        ensures fails { result ≡ is_failing self.old }
+        ensures counts { self.new ≡ counted self.old }
+    {
+        self.calls = self.calls.saturating_add(1);
+        self.failing.contains(&self.calls)
+    }
+}
 
 /// Bytes in memory as a source. Its calls, counted from 1, fail where they are listed.
 #[derive(Drop)]
 pub struct MemSource {
     bytes: Vec<u8>,
     place: usize,
-    calls: u64,
-    failing: Vec<u64>,
+    planned: PlannedCalls,
     faults: u64,
 }
 
@@ -21,20 +53,19 @@ impl Model for MemSource {
 
     ghost Value = { MemLeft };
 
-    ghost view = { λ source. record { left = drop source.place source.bytes.items; faults = source.faults } };
+    ghost view = { λ source. record { left = drop source.place source.bytes.items; planned = source.planned; faults = source.faults } };
 
     ghost invariant = { λ source. source.place ≤ vec_len source.bytes };
 }
 
 impl MemSource {
     pub fn new(bytes: Vec<u8>, failing: Vec<u64>) -> Self
-        ensures { result ≡ record { left = bytes.items; faults = 0 } }
+        ensures { result ≡ record { left = bytes.items; planned = record { calls = 0; failing = failing.items }; faults = 0 } }
     {
         MemSource {
             bytes,
             place: 0,
-            calls: 0,
-            failing,
+            planned: PlannedCalls::new(failing),
             faults: 0,
         }
     }
@@ -45,9 +76,16 @@ impl Source for MemSource {
 
     ghost faults = { λ source. source.faults };
 
-    fn pull(&mut self, buf: &mut [u8]) -> Result<usize, Failed> {
-        self.calls = self.calls.saturating_add(1);
-        if self.failing.contains(&self.calls) {
+    fn pull(&mut self, buf: &mut [u8]) -> Result<usize, Failed>
+        ensures fails { is_err result ≡ is_failing self.old.planned }
+        ensures counts { self.new.planned ≡ counted self.old.planned }
+        ensures within { IfOk result (λ count. count ≤ length buf.old) }
+        ensures pulled { IfOk result (λ count. IsPulled (Some self.old.left) buf.new count (Some self.new.left)) }
+        ensures kept { OnErr result (self.new.left ≡ self.old.left) }
+        ensures fault { OnErr result (HasRisen self.old.faults self.new.faults) }
+        ensures never_falls { self.old.faults ≤ self.new.faults }
+    {
+        if self.planned.next_fails() {
             self.faults = self.faults.saturating_add(1);
             return Err(Failed);
         }
@@ -70,8 +108,7 @@ fn copy_front(from: &[u8], to: &mut [u8]) -> usize
 #[derive(Drop)]
 pub struct MemSink {
     bytes: Vec<u8>,
-    calls: u64,
-    failing: Vec<u64>,
+    planned: PlannedCalls,
     faults: u64,
 }
 
@@ -80,17 +117,16 @@ impl Model for MemSink {
 
     ghost Value = { MemWritten };
 
-    ghost view = { λ sink. record { written = sink.bytes.items; faults = sink.faults } };
+    ghost view = { λ sink. record { written = sink.bytes.items; planned = sink.planned; faults = sink.faults } };
 }
 
 impl MemSink {
     pub fn new(alloc: Global, failing: Vec<u64>) -> Self
-        ensures { result ≡ record { written = []; faults = 0 } }
+        ensures { result ≡ record { written = []; planned = record { calls = 0; failing = failing.items }; faults = 0 } }
     {
         MemSink {
             bytes: Vec::new(alloc),
-            calls: 0,
-            failing,
+            planned: PlannedCalls::new(failing),
             faults: 0,
         }
     }
@@ -108,9 +144,17 @@ impl Sink for MemSink {
 
     ghost faults = { λ sink. sink.faults };
 
-    fn push(&mut self, piece: &[u8]) -> Result<usize, Failed> {
-        self.calls = self.calls.saturating_add(1);
-        if self.failing.contains(&self.calls) || self.bytes.extend_from_slice(piece).is_err() {
+    fn push(&mut self, piece: &[u8]) -> Result<usize, Failed>
+        ensures fails { IsTrue (is_failing self.old.planned) → IsErr result }
+        ensures counts { self.new.planned ≡ counted self.old.planned }
+        ensures within { IfOk result (λ count. count ≤ length piece.now) }
+        ensures some { 0 < length piece.now → IfOk result (λ count. 0 < count) }
+        ensures pushed { IfOk result (λ count. IsPushed (Some self.old.written) piece.now count (Some self.new.written)) }
+        ensures kept { OnErr result (self.new.written ≡ self.old.written) }
+        ensures fault { OnErr result (HasRisen self.old.faults self.new.faults) }
+        ensures never_falls { self.old.faults ≤ self.new.faults }
+    {
+        if self.planned.next_fails() || self.bytes.extend_from_slice(piece).is_err() {
             self.faults = self.faults.saturating_add(1);
             return Err(Failed);
         }
