@@ -3,8 +3,6 @@
 #![tactic(auto)]
 
 mod bytes;
-#[cfg(test)]
-mod call_tests;
 mod edit;
 mod flags;
 mod groups;
@@ -16,11 +14,7 @@ mod op;
 mod reply;
 mod seat;
 mod seat_call;
-#[cfg(test)]
-mod seat_tests;
 mod stat;
-#[cfg(test)]
-mod tests;
 
 pub use bytes::Bytes;
 pub use edit::Edit;

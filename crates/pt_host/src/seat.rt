@@ -1,14 +1,21 @@
 ghost use Rattle.std.specs.Prelude.{◌≡◌, true, false, OnOk, IfErr};
 ghost use Rattle.pt_host.specs.Errno.{eperm};
-ghost use Rattle.pt_host.specs.Seat.{IsStartingSeat, may_set_euid, with_euid, may_set_egid, with_egid, may_set_groups, groups_errno, with_groups, may_raise, with_raised, with_dropped, with_umask, caps_as};
+ghost use Rattle.pt_host.specs.Seat.{IsStartingSeat, may_set_euid, with_euid, may_set_egid, with_egid, may_set_groups, groups_errno, with_groups, may_raise, with_raised, with_dropped, with_umask, caps_as, leaves_id};
 
 use crate::flags::Caps;
 use crate::groups::Groups;
 use crate::ids::Errno;
 use bitflags::Flags;
 
-/// The id that leaves an id as it is.
+/// The id that leaves an id as it is, unless it is the real one.
 const KEPT_ID: u32 = u32::MAX;
+
+/// Whether this id, asked for under this real one, leaves the effective id as it is.
+fn leaves_id(real: u32, id: u32) -> bool
+    ensures { result ≡ leaves_id real id }
+{
+    id == KEPT_ID && real != KEPT_ID
+}
 
 /// The identity under which a host's calls are made, as `credentials(7)` and `capabilities(7)` have it of a thread.
 #[derive(Debug, Drop)]
@@ -106,7 +113,7 @@ impl HostSeat {
         if !self.may_set_euid(uid) {
             return Err(Errno::EPERM);
         }
-        if uid != KEPT_ID {
+        if !leaves_id(self.real_uid, uid) {
             self.eff_caps = self.caps_as(uid);
             self.eff_uid = uid;
         }
@@ -123,7 +130,7 @@ impl HostSeat {
         if !self.may_set_egid(gid) {
             return Err(Errno::EPERM);
         }
-        if gid != KEPT_ID {
+        if !leaves_id(self.real_gid, gid) {
             self.eff_gid = gid;
         }
         Ok(())
@@ -169,13 +176,13 @@ impl HostSeat {
         self.eff_caps = self.eff_caps.difference(caps);
     }
 
-    /// `umask(2)`: answers the old one, and keeps the permission bits of the new one.
+    /// `umask(2)`: answers the old one. The new one is kept whole, so that the old one can be put back.
     pub fn set_umask(&mut self, mask: u32) -> u32
         ensures old { result ≡ self.old.umask }
         ensures new { self.new ≡ with_umask self.old mask }
     {
         let old = self.umask;
-        self.umask = mask & 0o777;
+        self.umask = mask;
         old
     }
 }
