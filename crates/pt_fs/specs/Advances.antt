@@ -1,4 +1,4 @@
--- One step of a job: what it wants, what it is told, and how its grammar goes on.
+-- Inner. One step of a job: what it wants, what it is told, and how its grammar goes on.
 use Rattle.std.specs.Prelude.{◌≡◌, ◌⊎◌, ℕ, List, ◌∷◌, Option, Some, None}
 use Rattle.pt_req.specs.Deed.{Deed, Step, MayFailToCopy, HoldsReplyBytes}
 use Rattle.pt_req.specs.Grammar.{Grammar, Do, Belongs}

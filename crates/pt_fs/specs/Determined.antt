@@ -1,4 +1,4 @@
--- Jobs that run in the order of one schedule leave nothing open but want of memory.
+-- Believed. Jobs that run in the order of one schedule leave nothing open but want of memory.
 use Rattle.std.specs.Prelude.{◌≡◌, ◌≢◌, ℕ, List, length}
 use Rattle.pt_host.specs.Words.{Each}
 use Rattle.pt_host.specs.declared.seat.HostSeat.{HostSeat}

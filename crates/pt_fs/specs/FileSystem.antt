@@ -1,4 +1,4 @@
--- A file system as contracts see it, and how it is made.
+-- Believed. A file system as contracts see it, and how it is made.
 use Rattle.std.specs.Prelude.{◌≡◌, ℕ, [], ◌∷◌, Option, Some, Result, Ok, Err}
 use Rattle.pt_host.specs.Call.{Call}
 use Rattle.pt_host.specs.Flags.{path_flags}

@@ -1,4 +1,4 @@
--- What any number of steps does to host, jobs, tables and trace.
+-- Inner. What any number of steps does to host, jobs, tables and trace.
 use Rattle.std.specs.Prelude.{◌≡◌, ℕ, List, ◌++◌, map}
 use Rattle.pt_session.specs.Tables.{Tables}
 use Rattle.pt_req.specs.Made.{Does}

@@ -1,4 +1,4 @@
--- What a job is: its seat, who asks, and what is asked.
+-- Believed. What a job is: its seat, who asks, and what is asked.
 use Rattle.std.specs.Prelude.{List, Option, Some, None}
 use Rattle.pt_host.specs.declared.seat.HostSeat.{HostSeat}
 use Rattle.pt_iface.specs.declared.answer.Answer.{Answer}

@@ -1,4 +1,4 @@
--- What a run keeps after every step and at its end, in whatever order its jobs took their steps.
+-- Believed. What a run keeps after every step and at its end, in whatever order its jobs took their steps.
 use Rattle.std.specs.Prelude.{◌≡◌, ◌≢◌, ◌≤◌, ◌+◌, ℕ, true, List, ◌∷◌, ◌++◌, Option, Some, map, slice_get}
 use Rattle.pt_host.specs.Tree.{Tree, IsWellFormed}
 use Rattle.pt_session.specs.Tables.{Tables}

@@ -1,3 +1,4 @@
+-- Inner. The files of definitions, lowest first.
 pub mod FileSystem
 pub mod Jobs
 pub mod Trace

@@ -1,4 +1,4 @@
--- Whom the steps of a trace belong to.
+-- Believed. Whom the steps of a trace belong to.
 use Rattle.std.specs.Prelude.{◌≡◌, ℕ, zero, suc, ◌+◌, ◌-◌, ◌<◌, ◌≤◌, ◌==◌, nat_lt, true, false, List, [], ◌∷◌, ◌++◌, Some, length, map, replicate, slice_get, if◌then◌else◌}
 use Rattle.pt_req.specs.Job.{is_finished}
 use Rattle.pt_fs.specs.declared.trace.TraceStep.{TraceStep}

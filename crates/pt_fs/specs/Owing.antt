@@ -1,4 +1,4 @@
--- What the jobs still owe, after the steps so far.
+-- Inner. What the jobs still owe, after the steps so far.
 use Rattle.std.specs.Prelude.{◌≡◌, ◌≤◌, ◌+◌, ◌*◌, ℕ, List, ◌++◌, Option, Some, length, slice_get}
 use Rattle.pt_host.specs.declared.seat.HostSeat.{HostSeat}
 use Rattle.pt_req.specs.Deed.{Step}

@@ -1,4 +1,4 @@
--- One step of one of the jobs.
+-- Inner. One step of one of the jobs.
 use Rattle.std.specs.Prelude.{◌+◌, ◌*◌, ◌≤◌, ◌≡◌, ◌<◌, ◌⊎◌, None, ℕ, List, [], ◌∷◌, ◌++◌, Option, Some, true, false, slice_get, slice_set}
 use Rattle.pt_session.specs.Tables.{Tables}
 use Rattle.pt_req.specs.Deed.{kept_deed_of}

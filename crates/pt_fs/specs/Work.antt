@@ -1,4 +1,4 @@
--- A bound on all steps that are left.
+-- Inner. A bound on all steps that are left.
 use Rattle.std.specs.Prelude.{ℕ, ◌+◌, ◌*◌, List, [], ◌∷◌}
 use Rattle.pt_session.specs.Pending.{pending_in}
 use Rattle.pt_session.specs.Tables.{Tables}

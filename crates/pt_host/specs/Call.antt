@@ -1,4 +1,4 @@
--- A call as plain data: what it asks, and not where its bytes lie.
+-- Believed. A call as plain data: what it asks, and not where its bytes lie.
 use Rattle.pt_host.specs.declared.op.HostOp.{HostOp}
 use Rattle.pt_host.specs.declared.op.HostOp.TheVariants as borrowed
 use Rattle.pt_host.specs.declared.op.KeptHostOp.{KeptHostOp}

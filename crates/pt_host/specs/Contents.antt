@@ -1,4 +1,5 @@
--- What a host holds beside objects, names and descriptors. After the manual pages of inode(7), xattr(7), open(2) and lseek(2).
+-- Believed. What a host holds beside objects, names and descriptors. After the manual pages of inode(7), xattr(7),
+-- open(2) and lseek(2).
 use Rattle.std.specs.Prelude.{ℕ, List, [], Option, None, pos}
 use Rattle.pt_host.specs.declared.ids.Time.{Time}
 

@@ -1,4 +1,5 @@
--- What an edit does to a host's tree: as its like call, or to contents alone. After the manual pages of unlink(2), rmdir(2), rename(2),
+-- Believed. What an edit does to a host's tree: as its like call, or to contents alone. After the manual pages of
+-- unlink(2), rmdir(2), rename(2),
 -- open(2), mkdir(2) and write(2).
 use Rattle.std.specs.Prelude.{◌≡◌, ◌≢◌, ◌<◌, ◌⊎◌, ℕ, List, [], ◌∷◌, ◌++◌, length, Option, Some, None}
 use Rattle.std.specs.Str.{bytes_eq}

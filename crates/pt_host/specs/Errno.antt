@@ -1,4 +1,4 @@
--- The error numbers of Linux on x86-64 that the rules name.
+-- Believed. The error numbers of Linux on x86-64 that the rules name.
 use Rattle.std.specs.Prelude.{ℕ, pos}
 use Rattle.pt_host.specs.declared.ids.Errno.{Errno}
 

@@ -1,4 +1,4 @@
--- The flags of `open(2)` and the capabilities that the rules name.
+-- Believed. The flags of `open(2)` and the capabilities that the rules name.
 use Rattle.std.specs.Prelude.{ℕ, Bool, ◌==◌}
 use Rattle.std.specs.Int.RustNames.{bit_and}
 

@@ -1,4 +1,4 @@
--- What one call may do to what the objects and the open descriptors of a tree have beside it.
+-- Believed. What one call may do to what the objects and the open descriptors of a tree have beside it.
 use Rattle.std.specs.Prelude.{◌≡◌, ◌<◌, ◌⊎◌, ℕ, true, not, ◌&&◌, List, length, Option, Some, None}
 use Rattle.std.specs.Int.RustNames.{bit_and}
 use Rattle.pt_host.specs.Flags.{includes, o_creat, o_path, o_trunc}

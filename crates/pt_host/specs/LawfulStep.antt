@@ -1,4 +1,5 @@
--- What one call may do to a host that tells its tree. After the manual pages of open(2), open_by_handle_at(2), name_to_handle_at(2), stat(2),
+-- Believed. What one call may do to a host that tells its tree. After the manual pages of open(2),
+-- open_by_handle_at(2), name_to_handle_at(2), stat(2),
 -- close(2) and xattr(7).
 use Rattle.std.specs.Prelude.{◌≡◌, ◌<◌, ◌⊎◌, ℕ, true, false, ◌&&◌, not, List, length, Some, None}
 use Rattle.pt_host.specs.Words.{set_at}

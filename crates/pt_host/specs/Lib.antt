@@ -1,3 +1,4 @@
+-- Inner. The files of definitions, lowest first.
 pub mod Words
 pub mod Flags
 pub mod Errno

@@ -1,4 +1,5 @@
--- What the calls on directories do to names. After the manual pages of mkdir(2), mknod(2), symlink(2), link(2), unlink(2), rmdir(2) and
+-- Believed. What the calls on directories do to names. After the manual pages of mkdir(2), mknod(2), symlink(2),
+-- link(2), unlink(2), rmdir(2) and
 -- rename(2).
 use Rattle.std.specs.Prelude.{◌≡◌, ◌<◌, ◌⊎◌, ℕ, List, length, Some, None}
 use Rattle.pt_host.specs.Tree.{Tree, IsOpenOn}

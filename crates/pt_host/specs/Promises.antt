@@ -1,4 +1,4 @@
--- What every host keeps, whether it tells its tree or not.
+-- Believed. What every host keeps, whether it tells its tree or not.
 use Rattle.std.specs.Prelude.{◌≡◌, ◌≢◌, ◌≤◌, ◌+◌, ◌-◌, ◌^◌, ℕ, min}
 use Rattle.pt_host.specs.Errno.{eoverflow, eopnotsupp}
 use Rattle.pt_host.specs.Call.{Call}

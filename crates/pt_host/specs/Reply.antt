@@ -1,4 +1,4 @@
--- What a reply holds.
+-- Believed. What a reply holds.
 use Rattle.pt_host.specs.declared.reply.HostValue.{HostValue}
 use Rattle.pt_host.specs.declared.reply.HostValue.TheVariants as value
 use Rattle.pt_host.specs.declared.reply.HostReply.{HostReply}

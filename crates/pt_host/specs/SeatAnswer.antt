@@ -1,4 +1,4 @@
--- What a seat answers to its own calls, where nothing but the rules refuses them.
+-- Believed. What a seat answers to its own calls, where nothing but the rules refuses them.
 use Rattle.std.specs.Prelude.{Bool, Option, Some, None, Result, Ok, Err, if◌then◌else◌}
 use Rattle.pt_host.specs.Errno.{eperm}
 use Rattle.pt_host.specs.Call.{Call}

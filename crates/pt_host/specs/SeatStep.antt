@@ -1,4 +1,4 @@
--- What a call may do to its seat: the seat's own calls alone change it, and only where they are Ok.
+-- Believed. What a call may do to its seat: the seat's own calls alone change it, and only where they are Ok.
 use Rattle.std.specs.Prelude.{◌≡◌, ◌≢◌, true, false}
 use Rattle.pt_host.specs.Call.{Call}
 use Rattle.pt_host.specs.Seat.{may_set_euid, with_euid, may_set_egid, with_egid, may_set_groups, with_groups, may_raise, with_raised, with_dropped, with_umask}

@@ -1,4 +1,5 @@
--- What a host holds: objects, names, opened descriptors. After the manual pages of open(2), stat(2) and name_to_handle_at(2).
+-- Believed. What a host holds: objects, names, opened descriptors. After the manual pages of open(2), stat(2) and
+-- name_to_handle_at(2).
 use Rattle.std.specs.Prelude.{◌≡◌, ◌<◌, ◌/◌, ℕ, Bool, true, List, length, Option, Some, slice_get}
 use Rattle.pt_host.specs.declared.ids.Fd.{Fd}
 use Rattle.pt_host.specs.declared.ids.ObjIds.{ObjIds}

@@ -1,4 +1,4 @@
--- Words on lists and functions that several crates use.
+-- Believed. Words on lists and functions that several crates use.
 use Rattle.std.specs.Prelude.{ℕ, zero, suc, ◌+◌, List, [], ◌∷◌, cond, eqb}
 
 -- 1 where the two are the same, else 0

@@ -1,4 +1,4 @@
--- How long replies are, after the structures of `linux/fuse.h`.
+-- Believed. How long replies are, after the structures of `linux/fuse.h`.
 use Rattle.std.specs.Prelude.{ℕ, ◌+◌, ◌-◌, ◌^◌, min, length, sum_by}
 use Rattle.std.specs.Int.{next_multiple_of}
 use Rattle.pt_iface.specs.declared.answer.Answer.{Answer}

@@ -1,1 +1,2 @@
+-- Inner. The files of definitions, lowest first.
 pub mod Length

@@ -8,8 +8,6 @@ mod flags;
 mod forget;
 mod length;
 mod request;
-#[cfg(test)]
-mod tests;
 
 pub use answer::{Answer, GetxattrReply, ListxattrReply, Refusal};
 pub use directory::{DirEntries, DirEntry};

@@ -1,4 +1,4 @@
--- A branch of a tree: the steps of the request's own part, from the first to the answer.
+-- Inner. A branch of a tree: the steps of the request's own part, from the first to the answer.
 use Rattle.std.specs.Prelude.{◌≡◌, List, [], ◌∷◌, Option, Some}
 use Rattle.pt_host.specs.declared.op.KeptHostOp.TheVariants as call
 use Rattle.pt_session.specs.declared.event.KeptEvent.TheVariants as change

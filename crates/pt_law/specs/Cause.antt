@@ -1,4 +1,4 @@
--- The cause of a refusal: the request itself, or one of its steps; of an edit its one step.
+-- Believed. The cause of a refusal: the request itself, or one of its steps; of an edit its one step.
 use Rattle.std.specs.Prelude.{◌≡◌, ◌⊎◌, ◌↔◌, true, false, List, [], ◌∷◌, Option, Some}
 use Rattle.pt_host.specs.Errno.{errno_of, ebadf, eio, einval, enfile, eoverflow}
 use Rattle.pt_host.specs.declared.edit.Edit.{Edit}

@@ -1,4 +1,4 @@
--- What a job holds, owes and knows between its steps, whichever request it serves.
+-- Believed. What a job holds, owes and knows between its steps, whichever request it serves.
 use Rattle.std.specs.Prelude.{◌≡◌, ℕ, ◌+◌, ◌-◌, ◌<◌, ◌==◌, Bool, true, false, if◌then◌else◌, List, [], ◌∷◌, ◌++◌, Option, None, Some}
 use Rattle.pt_host.specs.Words.{Takes, Replaces}
 use Rattle.pt_host.specs.Flags.{includes, o_creat}

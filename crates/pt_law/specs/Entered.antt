@@ -1,4 +1,4 @@
--- Which object an entry names.
+-- Believed. Which object an entry names.
 use Rattle.std.specs.Prelude.{◌≡◌, ℕ, List, [], ◌∷◌, ◌++◌, Option, Some}
 use Rattle.pt_host.specs.Tree.{Object, IsObject}
 use Rattle.pt_host.specs.declared.ids.ObjIds.{ObjIds}

@@ -1,4 +1,4 @@
--- A tree whose deeds may be made where they stand, and whose refusals have a cause.
+-- Inner. A tree whose deeds may be made where they stand, and whose refusals have a cause.
 use Rattle.std.specs.Prelude.{◌≡◌, ℕ, zero, suc, List, ◌∷◌, None, Some}
 use Rattle.pt_host.specs.declared.op.KeptHostOp.TheVariants as call
 use Rattle.pt_session.specs.declared.event.KeptEvent.TheVariants as change

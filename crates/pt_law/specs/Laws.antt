@@ -1,4 +1,4 @@
--- What holds of every run whose jobs keep the discipline, after every step and at the end.
+-- Believed. What holds of every run whose jobs keep the discipline, after every step and at the end.
 use Rattle.std.specs.Prelude.{◌≡◌, ◌≢◌, ◌<◌, ◌≤◌, ℕ, ◌+◌, true, List, [], ◌∷◌, ◌++◌, length, Option, Some}
 use Rattle.pt_host.specs.Words.{total, sum_to, Each}
 use Rattle.pt_host.specs.Tree.{Tree, IsOpenOn, IsWellFormed}

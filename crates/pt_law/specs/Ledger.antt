@@ -1,4 +1,4 @@
--- Who has what: tables, jobs and host; and what was given of each number.
+-- Believed. Who has what: tables, jobs and host; and what was given of each number.
 use Rattle.std.specs.Prelude.{ℕ, ◌+◌, ◌-◌, ◌*◌, Bool, true, false, List, [], ◌∷◌, length, Option, None, Some}
 use Rattle.pt_host.specs.Words.{is, total, sum_to}
 use Rattle.pt_host.specs.Tree.{Tree}

@@ -1,3 +1,4 @@
+-- Inner. The files of definitions, lowest first.
 pub mod Discipline
 pub mod Told
 pub mod Cause

@@ -1,4 +1,4 @@
--- The steps by which a lookup came to its entry.
+-- Believed. The steps by which a lookup came to its entry.
 use Rattle.std.specs.Prelude.{◌≡◌, ◌⊎◌, ℕ, List, [], ◌∷◌, None, Some}
 use Rattle.pt_host.specs.declared.ids.Fd.{Fd}
 use Rattle.pt_host.specs.declared.ids.ObjIds.{ObjIds}

@@ -1,4 +1,4 @@
--- Where a numbered object comes from.
+-- Believed. Where a numbered object comes from.
 use Rattle.std.specs.Prelude.{◌≡◌, ℕ, List, ◌∷◌, ◌++◌, Some}
 use Rattle.pt_host.specs.Tree.{IsOpenOn}
 use Rattle.pt_host.specs.declared.ids.Fd.{Fd}

@@ -1,4 +1,4 @@
--- How often a job was given a number, and gave it back.
+-- Believed. How often a job was given a number, and gave it back.
 use Rattle.std.specs.Prelude.{ℕ, List, Option, Some}
 use Rattle.pt_host.specs.Words.{is, total}
 use Rattle.pt_session.specs.declared.event.KeptEvent.TheVariants as change

@@ -1,4 +1,4 @@
--- What a guest may rely on.
+-- Believed. What a guest may rely on.
 use Rattle.std.specs.Prelude.{◌≡◌, ℕ, false, ◌+◌, ◌*◌, List, [], ◌∷◌, ◌++◌}
 use Rattle.pt_host.specs.Words.{is}
 use Rattle.pt_iface.specs.declared.request.Request.{Request}

@@ -1,4 +1,4 @@
--- Runs: the steps of all jobs in the order in which they were made, and where they lead.
+-- Believed. Runs: the steps of all jobs in the order in which they were made, and where they lead.
 use Rattle.std.specs.Prelude.{◌≡◌, ℕ, ◌==◌, if◌then◌else◌, List, [], ◌∷◌, Option, None, Some}
 use Rattle.pt_host.specs.Words.{set_at}
 use Rattle.pt_host.specs.Tree.{Tree, Opened}

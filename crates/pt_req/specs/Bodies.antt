@@ -1,4 +1,4 @@
--- What is left of the bodies of requests.
+-- Inner. What is left of the bodies of requests.
 use Rattle.std.specs.Prelude.{ℕ, List}
 use Rattle.pt_session.specs.declared.event.KeptEvent.TheVariants as change
 use Rattle.pt_iface.specs.declared.answer.Answer.TheVariants as answer

@@ -1,4 +1,4 @@
--- How a request ends.
+-- Inner. How a request ends.
 use Rattle.std.specs.Prelude.{◌≡◌, List}
 use Rattle.pt_iface.specs.declared.answer.Answer.{Answer}
 use Rattle.pt_req.specs.Deed.{Step}

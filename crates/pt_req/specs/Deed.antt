@@ -1,4 +1,4 @@
--- Steps as plain data: a call of the host or an event of the tables, and its reply.
+-- Believed. Steps as plain data: a call of the host or an event of the tables, and its reply.
 use Rattle.std.specs.Prelude.{◌≡◌, ℕ, List, Option, Some, None}
 use Rattle.pt_host.specs.Call.{Call, call_of, HoldsBytes}
 use Rattle.pt_host.specs.Reply.{ReplyHoldsBytes}

@@ -1,4 +1,4 @@
--- What is left open: want of memory alone.
+-- Believed. What is left open: want of memory alone.
 use Rattle.std.specs.Prelude.{◌≡◌, ◌≢◌}
 use Rattle.pt_host.specs.Call.{Call}
 use Rattle.pt_host.specs.declared.seat.HostSeat.{HostSeat}

@@ -1,4 +1,5 @@
--- What an edit's job does: one step, answered by its reply. It holds nothing, and it is outside the frame: the reply alone says whether memory was there.
+-- Believed. What an edit's job does: one step, answered by its reply. It holds nothing, and it is outside the
+-- frame: the reply alone says whether memory was there.
 use Rattle.std.specs.Prelude.{ℕ, Bool, true, false, []}
 use Rattle.pt_host.specs.declared.edit.Edit.{Edit}
 use Rattle.pt_host.specs.declared.op.KeptHostOp.TheVariants as call

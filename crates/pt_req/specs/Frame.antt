@@ -1,4 +1,5 @@
--- The frame round every request: closings follow at once, holds go back last first, scopes end with their call, a job may be cut.
+-- Believed. The frame round every request: closings follow at once, holds go back last first, scopes end with
+-- their call, a job may be cut.
 use Rattle.std.specs.Prelude.{ℕ, Bool, true, false, zero, suc, List, [], ◌∷◌, Option, Some, None, ◌⊎◌}
 use Rattle.pt_host.specs.declared.ids.Errno.{Errno}
 use Rattle.pt_host.specs.declared.op.KeptHostOp.TheVariants as call

@@ -1,4 +1,4 @@
--- Which step lists a job may make, and how it then ends.
+-- Believed. Which step lists a job may make, and how it then ends.
 use Rattle.std.specs.Prelude.{◌≡◌, ◌⊎◌, ℕ, Bool, true, false, List, [], ◌∷◌}
 use Rattle.pt_req.specs.Deed.{Deed, Step, IsStepOf, deed_of}
 use Rattle.pt_req.specs.Held.{closings_in, inserted_by}

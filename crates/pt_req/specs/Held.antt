@@ -1,4 +1,4 @@
--- What a job holds, as its deeds and their replies say.
+-- Believed. What a job holds, as its deeds and their replies say.
 use Rattle.std.specs.Prelude.{ℕ, zero, suc, Bool, true, false, if◌then◌else◌, List, [], ◌∷◌, Option, Some, None}
 use Rattle.pt_host.specs.Errno.{ebadf, eio, enfile, eoverflow}
 use Rattle.pt_host.specs.declared.ids.Fd.{Fd}

@@ -1,4 +1,4 @@
--- What a job is to do, and how much of it.
+-- Inner. What a job is to do, and how much of it.
 use Rattle.std.specs.Prelude.{ℕ, ◌+◌, Bool, false, List, length, Option, None}
 use Rattle.pt_host.specs.declared.ids.Errno.{Errno}
 use Rattle.pt_req.specs.Edit.{edit_left, edit_steps, is_edit_over}

@@ -1,4 +1,4 @@
--- What is left of a job in its frame.
+-- Inner. What is left of a job in its frame.
 use Rattle.std.specs.Prelude.{ℕ, zero, suc, ◌+◌, ◌*◌, ◌^◌, Bool, true, false, List, [], ◌∷◌, Option, Some, None, length}
 use Rattle.pt_host.specs.declared.ids.Errno.{Errno}
 use Rattle.pt_iface.specs.declared.answer.Answer.{Answer}

@@ -1,3 +1,4 @@
+-- Inner. The files of definitions, lowest first.
 pub mod Plan
 pub mod Deed
 pub mod Held

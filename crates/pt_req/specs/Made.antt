@@ -1,4 +1,4 @@
--- What a step does to host, seat and tables, and where a list of steps leads.
+-- Believed. What a step does to host, seat and tables, and where a list of steps leads.
 use Rattle.std.specs.Prelude.{◌≡◌, List, [], ◌∷◌, Option, Some, None}
 use Rattle.pt_host.specs.Call.{Call}
 use Rattle.pt_host.specs.Reply.{ReplyHoldsBytes}

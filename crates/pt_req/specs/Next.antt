@@ -1,4 +1,4 @@
--- What a body does after a reply.
+-- Inner. What a body does after a reply.
 use Rattle.std.specs.Prelude.{◌≡◌, ℕ}
 use Rattle.pt_session.specs.declared.event.KeptEvent.TheVariants as change
 use Rattle.pt_req.specs.Deed.{Deed, Changes, deed_of}

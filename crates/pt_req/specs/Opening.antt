@@ -1,4 +1,4 @@
--- What is left of an opening.
+-- Inner. What is left of an opening.
 use Rattle.std.specs.Prelude.{ℕ, false}
 use Rattle.pt_host.specs.Errno.{ebadf}
 use Rattle.pt_host.specs.declared.ids.Fd.{Fd}

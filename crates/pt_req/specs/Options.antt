@@ -1,4 +1,4 @@
--- The bits of openings and sessions: which flags the host is given, and which options the guest is answered.
+-- Believed. The bits of openings and sessions: which flags the host is given, and which options the guest is answered.
 use Rattle.std.specs.Prelude.{ℕ, ◌+◌, ◌-◌, ◌^◌, Bool, true, false, bit_and, bit_or, if◌then◌else◌}
 use Rattle.pt_host.specs.Flags.{includes, o_directory}
 use Rattle.pt_host.specs.declared.flags.OpenFlags.{OpenFlags}

@@ -1,4 +1,4 @@
--- What is left of the parts of bodies.
+-- Inner. What is left of the parts of bodies.
 use Rattle.std.specs.Prelude.{ℕ, true, List}
 use Rattle.pt_host.specs.declared.op.KeptHostOp.TheVariants as call
 use Rattle.pt_session.specs.declared.form.RowForm.TheVariants.{File}

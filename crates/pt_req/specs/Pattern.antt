@@ -1,4 +1,4 @@
--- Which step lists and answers belong to a request, or to an edit.
+-- Believed. Which step lists and answers belong to a request, or to an edit.
 use Rattle.std.specs.Prelude.{ℕ, List, []}
 use Rattle.pt_host.specs.declared.edit.Edit.{Edit}
 use Rattle.pt_host.specs.declared.seat.HostSeat.{HostSeat}

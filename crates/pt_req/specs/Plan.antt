@@ -1,4 +1,4 @@
--- The defaults of the configuration.
+-- Believed. The defaults of the configuration.
 use Rattle.std.specs.Prelude.{◌≡◌, ◌-◌, ◌^◌, true, false, [], ◌∷◌}
 use Rattle.pt_iface.specs.declared.entry.Timeout.{Timeout}
 use Rattle.pt_req.specs.declared.plan.CachePolicy.TheVariants.{Auto}

@@ -1,4 +1,5 @@
--- The requests, by their parts. After virtiofsd's passthrough file system: `init`, `open_root_node`, `do_lookup`, `forget`, `open_inode`,
+-- Believed. The requests, by their parts. After virtiofsd's passthrough file system: `init`, `open_root_node`,
+-- `do_lookup`, `forget`, `open_inode`,
 -- `do_open`, `do_release`, `read`.
 use Rattle.std.specs.Prelude.{ℕ, ◌-◌, ◌^◌, Bool, true, false, ◌&&◌, ◌||◌, not, ◌==◌, nat_lt, if◌then◌else◌, List, [], ◌∷◌, Some, None, Option}
 use Rattle.std.specs.List.{list_any}

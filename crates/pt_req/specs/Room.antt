@@ -1,4 +1,4 @@
--- How many holds there may be.
+-- Inner. How many holds there may be.
 use Rattle.std.specs.Prelude.{ℕ, Option, Some, None}
 use Rattle.pt_host.specs.declared.op.KeptHostOp.TheVariants as call
 use Rattle.pt_session.specs.declared.event.KeptEvent.TheVariants as change

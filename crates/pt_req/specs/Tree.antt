@@ -1,4 +1,4 @@
--- What a request does, its frame aside, and what it does in its frame.
+-- Believed. What a request does, its frame aside, and what it does in its frame.
 use Rattle.std.specs.Prelude.{ℕ, Bool, true, Some, List, ◌∷◌, length}
 use Rattle.pt_iface.specs.declared.answer.Answer.{Answer}
 use Rattle.pt_iface.specs.declared.answer.Answer.TheVariants as answer

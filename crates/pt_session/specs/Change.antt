@@ -1,4 +1,4 @@
--- An event as plain data: what it changes, and not where its list lies.
+-- Believed. An event as plain data: what it changes, and not where its list lies.
 use Rattle.std.specs.Option.{option_copied}
 use Rattle.pt_session.specs.declared.event.Event.{Event}
 use Rattle.pt_session.specs.declared.event.Event.TheVariants as borrowed

@@ -1,4 +1,4 @@
--- The few ways in which an event changes the tables.
+-- Believed. The few ways in which an event changes the tables.
 use Rattle.std.specs.Prelude.{◌≡◌, ◌≤◌, ℕ, true, List, [], ◌∷◌, ◌++◌}
 use Rattle.pt_host.specs.Words.{Takes, Replaces}
 use Rattle.pt_session.specs.declared.form.Negotiated.{Negotiated}

@@ -1,4 +1,5 @@
--- One event of the tables: what it may be answered, and the tables that it leaves. A refused event changes nothing.
+-- Believed. One event of the tables: what it may be answered, and the tables that it leaves. A refused event
+-- changes nothing.
 use Rattle.std.specs.Prelude.{◌≡◌, ◌≢◌, ◌<◌, ◌≤◌, ◌⊎◌, ◌+◌, ◌-◌, ◌^◌, ℕ, suc, true, false, List, [], ◌∷◌, ◌++◌, Option, Some, None}
 use Rattle.pt_host.specs.Words.{Each, Takes, Replaces}
 use Rattle.pt_host.specs.declared.ids.ObjIds.{ObjIds}

@@ -1,4 +1,4 @@
--- The rows by serial, and where a number, an object or a handle has its row.
+-- Inner. The rows by serial, and where a number, an object or a handle has its row.
 use Rattle.std.specs.Prelude.{◌≡◌, ◌≢◌, ◌⊎◌, ◌≤◌, ◌+◌, ℕ, Bool, true, false, List, Option, Some, None, length}
 use Rattle.std.specs.declared.cmp.Ordering.{Ordering}
 use Rattle.std.specs.Ordering.{nat_cmp, ordering_then}

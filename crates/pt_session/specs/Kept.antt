@@ -1,4 +1,4 @@
--- The tables as they are kept in memory, and what parts of events do to them.
+-- Inner. The tables as they are kept in memory, and what parts of events do to them.
 use Rattle.std.specs.Prelude.{◌≡◌, ◌<◌, ◌≤◌, ℕ}
 use Rattle.pt_host.specs.declared.ids.ObjIds.{ObjIds}
 use Rattle.pt_session.specs.declared.tables.SessionTables.{SessionTables}

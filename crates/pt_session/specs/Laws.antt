@@ -1,4 +1,4 @@
--- What holds of every event, whatever it is.
+-- Believed. What holds of every event, whatever it is.
 use Rattle.std.specs.Prelude.{◌≡◌, ◌≤◌, ◌+◌, ℕ, true}
 use Rattle.pt_session.specs.Change.{Change}
 use Rattle.pt_session.specs.Tables.{Tables, Agree, nothing_agreed, empty_tables}

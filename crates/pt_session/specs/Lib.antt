@@ -1,3 +1,4 @@
+-- Inner. The files of definitions, lowest first.
 pub mod Change
 pub mod Tables
 pub mod Store

@@ -1,4 +1,4 @@
--- Which live number or handle comes next.
+-- Believed. Which live number or handle comes next.
 use Rattle.std.specs.Prelude.{◌≡◌, ◌<◌, ◌≤◌, ℕ, true, List, Option, Some, None}
 use Rattle.pt_host.specs.Words.{Each}
 use Rattle.pt_session.specs.Tables.{Row, HandleRow}

@@ -1,4 +1,4 @@
--- How many descriptors may still be put on the closing list, and how many slots are held.
+-- Believed. How many descriptors may still be put on the closing list, and how many slots are held.
 use Rattle.std.specs.Prelude.{◌≡◌, ℕ, ◌+◌, List, length, Bool, true}
 use Rattle.std.specs.List.{count_by}
 use Rattle.pt_session.specs.Change.{Change}

@@ -1,4 +1,4 @@
--- The rows and the closing list, as they are kept together.
+-- Inner. The rows and the closing list, as they are kept together.
 use Rattle.std.specs.Prelude.{◌≡◌, ◌≢◌, ◌<◌, ℕ, true, false, List}
 use Rattle.pt_host.specs.Words.{Each, Takes}
 use Rattle.pt_session.specs.Tables.{Row, HandleRow, Closing}

@@ -1,4 +1,4 @@
--- The session's tables as lists, and when they fit together.
+-- Believed. The session's tables as lists, and when they fit together.
 use Rattle.std.specs.Prelude.{◌≡◌, ◌≢◌, ◌<◌, ◌≤◌, ℕ, true, false, List, []}
 use Rattle.pt_host.specs.Words.{Each, EachTwo}
 use Rattle.pt_host.specs.declared.ids.ObjIds.{ObjIds}

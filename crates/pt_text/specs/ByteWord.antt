@@ -1,4 +1,5 @@
--- Bytes as a word: a byte from 0x21 to 0x7e but for `%` stands for itself, and any other is `%` and two lower-case
+-- Believed. Bytes as a word: a byte from 0x21 to 0x7e but for `%` stands for itself, and any other is `%` and two
+-- lower-case
 -- hexadecimal digits. `%-` is the word of no bytes.
 use Rattle.std.specs.Prelude.{ℕ, ◌+◌, ◌*◌, ◌/◌, ◌%◌, List, [], ◌∷◌, Bool, Option, Some, None, if◌then◌else◌, nat_le, ◌==◌, ◌&&◌, ◌||◌, not}
 use Rattle.std.specs.List.{flat_map}

@@ -1,4 +1,4 @@
--- What words mean, whatever reads and writes them.
+-- Believed. What words mean, whatever reads and writes them.
 use Rattle.std.specs.Prelude.{◌≡◌, ◌<◌, ℕ, List, Some}
 use Rattle.std.specs.List.{AllByRecursion}
 use Rattle.pt_text.specs.ByteWord.{byte_word, bytes_of}

@@ -1,4 +1,4 @@
--- Numbers as words: decimal digits without a needless leading zero, or octal ones likewise behind `0o`.
+-- Believed. Numbers as words: decimal digits without a needless leading zero, or octal ones likewise behind `0o`.
 use Rattle.std.specs.Prelude.{ℕ, ◌+◌, ◌*◌, List, [], ◌∷◌, Option, Some, None, if◌then◌else◌, nat_lt, ◌==◌, ◌&&◌}
 use Rattle.std.specs.Char.{digit_value}
 

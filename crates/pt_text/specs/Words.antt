@@ -1,4 +1,5 @@
--- The words of a line, which one space parts, and the lines of a text, which a line feed parts: what stands behind the
+-- Believed. The words of a line, which one space parts, and the lines of a text, which a line feed parts: what
+-- stands behind the
 -- last line feed counts as a line, also where it is empty.
 use Rattle.std.specs.Prelude.{ℕ, List, [], ◌==◌, Option, Some, None}
 use Rattle.std.specs.Borrow.{Bor}

@@ -5,8 +5,6 @@ mod byte_word;
 mod laws;
 mod number;
 mod parts;
-#[cfg(test)]
-mod tests;
 mod write;
 
 pub use byte_word::read_byte_word;

@@ -1,0 +1,36 @@
+//! Calls the leaf functions that lines name, and prints behind each line what it gives.
+#![tactic(auto)]
+
+mod copies;
+mod flags;
+mod lengths;
+mod seats;
+mod texts;
+
+use pt_host::{Caps, HostSeat};
+use std::alloc::{AllocError, Global};
+use std::io;
+
+/// What the line's call gives, or that there is no such call.
+fn answer(alloc: Global, seat: &mut HostSeat, words: &[&str]) -> Result<String, AllocError> {
+    match words {
+        ["text", rest @ ..] => texts::answer(alloc, rest),
+        ["flag", rest @ ..] => flags::answer(alloc, rest),
+        ["length", rest @ ..] => lengths::answer(alloc, rest),
+        ["copy", rest @ ..] => copies::answer(alloc, rest),
+        ["seat", rest @ ..] => seats::answer(alloc, seat, rest),
+        _ => String::from_str(alloc, "no call"),
+    }
+}
+
+fn main(rt: HostRuntime) -> io::Result<()> {
+    let alloc = rt.alloc();
+    let mut seat = HostSeat::new(0, 0, Caps(0));
+    for line in rt.lines(alloc) {
+        let line = line?;
+        let words: Vec<&str> = line.as_str().split(' ').collect(alloc)?;
+        let told = answer(alloc, &mut seat, words.as_slice())?;
+        println!(rt; "{line} = {told}")?;
+    }
+    Ok(())
+}
