@@ -1,0 +1,383 @@
+"""The grammar of scripts: reads one line after another and says why a line is bad.
+
+It restates docs/SCRIPT.md apart from the program. What the program prints decides; this only says why.
+"""
+import re
+from collections.abc import Callable, Iterator
+from dataclasses import dataclass, field
+
+U32, U64 = 2**32 - 1, 2**64 - 1
+MOST_BYTES, MOST_JOBS, MOST_PLACES = 16_777_216, 65_536, 1_048_576
+FILE_MAX, TARGET_MAX, NAME_MAX, VALUE_MAX = 1_048_576, 4_095, 255, 65_536
+KINDS = {0o10000, 0o20000, 0o60000, 0o140000}
+
+
+class Bad(Exception):
+    """Why a line is no line of a script."""
+
+
+def number(word: str, most: int, what: str) -> int:
+    if re.fullmatch(r"0|[1-9][0-9]*", word):
+        value = int(word)
+    elif re.fullmatch(r"0o(0|[1-7][0-7]*)", word):
+        value = int(word[2:], 8)
+    elif re.fullmatch(r"0[0-9]+", word) or re.fullmatch(r"0o0[0-7]+", word):
+        raise Bad(f"{what} has a needless leading zero: {word!r} (octal numbers begin with 0o)")
+    else:
+        raise Bad(f"{what} is no number: {word!r}")
+    if value > most:
+        raise Bad(f"{what} is past {most}: {word}")
+    return value
+
+
+def switch(word: str, what: str) -> bool:
+    if word not in ("0", "1"):
+        raise Bad(f"{what} is a switch, 0 or 1, and not {word!r}")
+    return word == "1"
+
+
+def byte_word(word: str, what: str, most: int | None = None) -> bytes:
+    if word == "":
+        raise Bad(f"{what} is empty: no bytes are written %- (and words are parted by one space)")
+    if word == "%-":
+        return b""
+    out, at = bytearray(), 0
+    while at < len(word):
+        char = word[at]
+        if char == "%":
+            digits = word[at + 1 : at + 3]
+            if not re.fullmatch(r"[0-9a-f]{2}", digits):
+                raise Bad(f"{what}: % wants two lower-case hexadecimal digits behind it, and not {digits!r}")
+            byte = int(digits, 16)
+            if 0x21 <= byte <= 0x7E and byte != 0x25:
+                raise Bad(f"{what}: %{digits} has one spelling, {chr(byte)!r}")
+            out.append(byte)
+            at += 3
+        elif "!" <= char <= "~":
+            out.append(ord(char))
+            at += 1
+        else:
+            raise Bad(f"{what}: the byte {char!r} is written as %xx")
+    if most is not None and len(out) > most:
+        raise Bad(f"{what} has {len(out)} bytes, and {most} are the most")
+    return bytes(out)
+
+
+def wants(words: list[str], count: int, form: str) -> None:
+    if len(words) != count:
+        raise Bad(f"it has {len(words)} words, and {count} are wanted: {form}")
+
+
+def u32(what: str) -> Callable[[str], int]:
+    return lambda word: number(word, U32, what)
+
+
+def u64(what: str) -> Callable[[str], int]:
+    return lambda word: number(word, U64, what)
+
+
+def name(what: str) -> Callable[[str], bytes]:
+    return lambda word: byte_word(word, what)
+
+
+# the fields of each request behind its word
+REQUESTS: dict[str, list[Callable]] = {
+    "root": [],
+    "destroy": [],
+    "init": [u32("CAPABLE")],
+    "lookup": [u64("PARENT"), name("NAME")],
+    "forget": [u64("INODE"), u64("COUNT")],
+    "open": [u64("INODE"), lambda word: switch(word, "KILL"), u32("FLAGS")],
+    "opendir": [u64("INODE"), u32("FLAGS")],
+    "read": [u64("INODE"), u64("HANDLE"), u32("SIZE"), u64("OFFSET")],
+    "release": [u64("INODE"), u64("HANDLE")],
+    "releasedir": [u64("INODE"), u64("HANDLE")],
+}
+
+EDITS: dict[str, list[Callable]] = {
+    "unlink": [name("PATH")],
+    "rename": [name("OLD"), name("NEW")],
+    "file": [name("PATH"), u32("MODE"), u32("UID"), u32("GID"), name("BYTES")],
+    "dir": [name("PATH"), u32("MODE"), u32("UID"), u32("GID")],
+    "write": [name("PATH"), name("BYTES")],
+}
+
+
+@dataclass
+class Node:
+    kind: str
+    mount: int
+    children: dict[bytes, "Node"] = field(default_factory=dict)
+
+
+@dataclass
+class Tree:
+    """The tree of the lines so far."""
+
+    root: Node | None = None
+    ids: set[int] = field(default_factory=set)
+    devices: set[int] = field(default_factory=set)
+
+    def place(self, path: bytes) -> tuple[Node, bytes]:
+        """The directory and the new name of a path."""
+        if not path.startswith(b"/"):
+            raise Bad("a path begins with a slash")
+        parts = path[1:].split(b"/")
+        for part in parts:
+            if part in (b"", b".", b".."):
+                raise Bad(f"a path has no part {part.decode()!r}")
+            if b"\0" in part:
+                raise Bad("a path has no NUL")
+            if len(part) > NAME_MAX:
+                raise Bad(f"a name has {len(part)} bytes, and {NAME_MAX} are the most")
+        at = self.root
+        for part in parts[:-1]:
+            at = at.children.get(part)
+            if at is None or at.kind != "dir":
+                raise Bad("its parent is no directory that stands above it")
+        if parts[-1] in at.children:
+            raise Bad("its name is there already")
+        return at, parts[-1]
+
+    def find(self, path: bytes) -> Node:
+        if path == b"/":
+            return self.root
+        at = self.root
+        for part in path[1:].split(b"/") if path.startswith(b"/") else [b"\0"]:
+            at = at.children.get(part) if at.kind == "dir" else None
+            if at is None:
+                raise Bad("there is no such object above it")
+        return at
+
+    def put(self, path: bytes, kind: str, mount: int | None = None) -> None:
+        parent, last = self.place(path)
+        parent.children[last] = Node(kind, parent.mount if mount is None else mount)
+
+
+def permissions(word: str) -> int:
+    mode = number(word, U32, "MODE")
+    if mode > 0o7777:
+        raise Bad(f"MODE has other bits than 0o7777: {word} is {mode:#o}")
+    return mode
+
+
+def ids_of(words: list[str]) -> None:
+    number(words[0], U32, "UID")
+    number(words[1], U32, "GID")
+
+
+def mount_line(tree: Tree, words: list[str]) -> None:
+    wants(words, 5, "mount ID DEV PATH HANDLES")
+    mount, device = number(words[1], U64, "ID"), number(words[2], U64, "DEV")
+    path = byte_word(words[3], "PATH")
+    switch(words[4], "HANDLES")
+    if mount == 0 or device == 0:
+        raise Bad("ID and DEV are positive")
+    if mount in tree.ids or device in tree.devices:
+        raise Bad("ID and DEV stand once each")
+    if any(not 0x21 <= byte <= 0x7E for byte in path):
+        raise Bad("the path of a mount has bytes from 0x21 to 0x7e alone")
+    if tree.root is None:
+        if path != b"/":
+            raise Bad("the first line of a tree is the mount of /")
+        tree.root = Node("dir", mount)
+    else:
+        tree.put(path, "dir", mount)
+    tree.ids.add(mount)
+    tree.devices.add(device)
+
+
+def object_line(tree: Tree, words: list[str]) -> None:
+    match words[0]:
+        case "dir":
+            wants(words, 5, "dir PATH MODE UID GID")
+            path = byte_word(words[1], "PATH")
+            permissions(words[2])
+            ids_of(words[3:])
+            tree.put(path, "dir")
+        case "file":
+            wants(words, 6, "file PATH MODE UID GID BYTES (contents are one word)")
+            path = byte_word(words[1], "PATH")
+            permissions(words[2])
+            ids_of(words[3:])
+            byte_word(words[5], "BYTES", FILE_MAX)
+            tree.put(path, "file")
+        case "link":
+            wants(words, 5, "link PATH UID GID TARGET")
+            path = byte_word(words[1], "PATH")
+            ids_of(words[2:])
+            byte_word(words[4], "TARGET", TARGET_MAX)
+            tree.put(path, "link")
+        case "spec":
+            wants(words, 6, "spec PATH MODE UID GID RDEV")
+            path = byte_word(words[1], "PATH")
+            mode = number(words[2], U32, "MODE")
+            ids_of(words[3:])
+            number(words[5], U32, "RDEV")
+            if mode & ~0o7777 not in KINDS:
+                raise Bad(f"MODE wants the bits of one kind beside 0o7777: {', '.join(f'{kind:#o}' for kind in sorted(KINDS))}")
+            tree.put(path, "spec")
+        case "hard":
+            wants(words, 3, "hard PATH OLD")
+            old = tree.find(byte_word(words[2], "OLD"))
+            parent, last = tree.place(byte_word(words[1], "PATH"))
+            if old.kind == "dir":
+                raise Bad("OLD is a directory, which has one name")
+            if old.mount != parent.mount:
+                raise Bad("OLD lies on another mount")
+            parent.children[last] = old
+        case "xattr":
+            wants(words, 4, "xattr PATH NAME VALUE")
+            tree.find(byte_word(words[1], "PATH"))
+            byte_word(words[2], "NAME", NAME_MAX)
+            byte_word(words[3], "VALUE", VALUE_MAX)
+
+
+def fields(form: str, words: list[str], kinds: list[Callable]) -> None:
+    if len(words) != len(kinds):
+        raise Bad(f"{form} has {len(kinds)} fields, and here are {len(words)}")
+    for kind, word in zip(kinds, words):
+        kind(word)
+
+
+def request(words: list[str]) -> None:
+    wants(words[:3], 3, "job UID GID REQUEST FIELDS")
+    number(words[0], U32, "UID")
+    number(words[1], U32, "GID")
+    if words[2] == "batch_forget":
+        count = number(words[3] if len(words) > 3 else "", U64, "N")
+        if len(words) - 4 != 2 * count:
+            raise Bad(f"{count} pairs of INODE and COUNT are to follow, and here are {len(words) - 4} words")
+        for word in words[4:]:
+            number(word, U64, "a number")
+    elif words[2] in REQUESTS:
+        fields(words[2], words[3:], REQUESTS[words[2]])
+    else:
+        raise Bad(f"there is no request {words[2]!r} (yet)")
+
+
+class Reader:
+    """Reads the lines in their order, each kind of them behind those that may stand before it."""
+
+    ORDER = ["set", "tree", "fault", "job", "order", "end"]
+
+    def __init__(self) -> None:
+        self.tree, self.keys = Tree(), set()
+        self.at = 0
+        self.last_fault = -1
+        self.jobs = self.places = 0
+
+    def stand(self, kind: str) -> None:
+        place = self.ORDER.index(kind)
+        if self.at == len(self.ORDER) - 1:
+            raise Bad("nothing follows end")
+        if place < self.at:
+            raise Bad(f"a {kind} line stands before the {self.ORDER[self.at]} lines")
+        if place > 0 and self.tree.root is None and kind != "tree":
+            raise Bad("a script has a tree, and its first line is the mount of /")
+        self.at = place
+
+    def line(self, text: str) -> None:
+        words = text.split(" ")
+        match words[0]:
+            case "set":
+                self.stand("set")
+                self.setting(words)
+            case "mount" | "dir" | "file" | "link" | "spec" | "hard" | "xattr":
+                if words[0] != "mount" and self.tree.root is None:
+                    raise Bad("the first line of a tree is the mount of /")
+                self.stand("tree")
+                (mount_line if words[0] == "mount" else object_line)(self.tree, words)
+            case "fault":
+                self.stand("fault")
+                self.fault(words)
+            case "job" | "edit":
+                self.stand("job")
+                self.job(words)
+            case "order":
+                self.stand("order")
+                self.order(words[1:])
+            case "end":
+                self.stand("end")
+                wants(words, 1, "end")
+            case "":
+                raise Bad("there are no blank lines")
+            case other:
+                raise Bad(f"no line begins with {other!r}")
+
+    def setting(self, words: list[str]) -> None:
+        key = words[1] if len(words) > 1 else ""
+        match key:
+            case "guest_fd_limit":
+                wants(words, 3, "set guest_fd_limit N")
+                number(words[2], U64, "N")
+            case "seat":
+                wants(words, 5, "set seat UID GID CAPS")
+                for word, what in zip(words[2:], ("UID", "GID", "CAPS")):
+                    number(word, U32, what)
+            case _:
+                raise Bad(f"there is no key {key!r} (yet)")
+        if key in self.keys:
+            raise Bad(f"{key} is set once already")
+        self.keys.add(key)
+
+    def fault(self, words: list[str]) -> None:
+        wants(words, 3, "fault CALL ERRNO")
+        call = number(words[1], U64, "CALL")
+        error = number(words[2], U32, "ERRNO")
+        if not 1 <= error <= 133:
+            raise Bad("ERRNO is from 1 to 133")
+        if call <= self.last_fault:
+            raise Bad("the calls of fault lines ascend")
+        self.last_fault = call
+
+    def job(self, words: list[str]) -> None:
+        if words[0] == "job":
+            request(words[1:])
+        elif len(words) > 1 and words[1] in EDITS:
+            fields(f"edit {words[1]}", words[2:], EDITS[words[1]])
+        else:
+            raise Bad(f"there is no edit {words[1] if len(words) > 1 else ''!r}")
+        self.jobs += 1
+        if self.jobs > MOST_JOBS:
+            raise Bad(f"there are {MOST_JOBS} jobs and edits at the most")
+
+    def order(self, places: list[str]) -> None:
+        if not places:
+            raise Bad("an order line has a place at least")
+        for place in places:
+            number(place, U32, "a place")
+        self.places += len(places)
+        if self.places > MOST_PLACES:
+            raise Bad(f"there are {MOST_PLACES} places at the most")
+
+
+def complaint(text: bytes) -> tuple[int, str] | None:
+    """The number of the first bad line and why it is bad; None for a script."""
+    reader = Reader()
+    lines = text.split(b"\n")
+    last = lines.pop()
+    for place, line in enumerate(lines, 1):
+        try:
+            reader.line(line.decode("latin-1"))
+        except Bad as why:
+            return place, str(why)
+    if last:
+        try:
+            reader.line(last.decode("latin-1"))
+        except Bad as why:
+            return len(lines) + 1, str(why)
+        return len(lines) + 2, "the last line is not ended by a line feed"
+    if reader.at != len(reader.ORDER) - 1:
+        return len(lines) + 1, "the input ends before the line end"
+    return None
+
+
+def jobs_of(text: bytes) -> Iterator[str]:
+    """The jobs of a script as it writes them, without their first word."""
+    for line in text.decode("latin-1").split("\n"):
+        word, _, rest = line.partition(" ")
+        if word == "job":
+            yield " ".join(rest.split(" ")[2:])
+        elif word == "edit":
+            yield line
