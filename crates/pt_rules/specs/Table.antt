@@ -1,0 +1,82 @@
+-- Believed. The table of the calls.
+use Rattle.std.specs.Prelude.{ℕ, Option, Some, None}
+use Rattle.pt_host.specs.Call.{Call}
+use Rattle.pt_host.specs.Errno.{enosys}
+use Rattle.pt_host.specs.declared.ids.Errno.{Errno}
+use Rattle.pt_host.specs.declared.seat.HostSeat.{HostSeat}
+use Rattle.pt_host.specs.declared.op.KeptHostOp.TheVariants as call
+use Rattle.pt_host.specs.declared.reply.HostReply.{HostReply}
+use Rattle.pt_host.specs.declared.reply.HostReply.TheVariants as reply
+use Rattle.pt_rules.specs.State.{State}
+use Rattle.pt_rules.specs.Calls.{Answered, close_file, open_walked, read_file, refused, reopen, tell_status}
+use Rattle.pt_node.specs.Paths.{walk_root}
+use Rattle.pt_rules.specs.NameCalls.{make_dir, make_link, make_node, make_symlink, remove_dir, rename, unlink}
+use Rattle.pt_rules.specs.OpeningCalls.{open_at_name, open_by_handle, open_path, read_link, tell_fs, tell_handle, tell_mounts, tell_path}
+use Rattle.pt_rules.specs.ContentCalls.{allocate, copy_range, flush, seek, sync, truncate, write_bytes}
+use Rattle.pt_rules.specs.AttributeCalls.{change_mode, change_owner, get_xattr, list_xattr, remove_xattr, set_times, set_xattr}
+use Rattle.pt_rules.specs.ListCalls.{list_at}
+use Rattle.pt_host.specs.SeatAnswer.{seat_answer}
+use Rattle.pt_rules.specs.Faults.{after_failing, faulted}
+use Rattle.pt_rules.specs.Edits.{edited}
+
+-- What a call on the tree is answered and the state that it leaves, before it is counted; `numbers` has for each device the inode number that a
+-- new object of it gets. The calls that are not here are the seat's own.
+abbrev pub answer : State → (ℕ → ℕ) → HostSeat → Call → Answered
+answer state numbers seat (call.OpenRoot path flags) = open_walked state seat flags (walk_root state.nodes path)
+answer state numbers seat (call.OpenPath fd path flags) = open_path state seat fd path flags
+answer state numbers seat (call.OpenAt fd name flags mode) = open_at_name state numbers seat fd name flags mode
+answer state numbers seat (call.Reopen fd flags) = reopen state seat fd flags
+answer state numbers seat (call.OpenByHandle fd handle flags) = open_by_handle state seat fd handle flags
+answer state numbers seat (call.Close fd) = close_file state fd
+answer state numbers seat (call.Stat fd) = tell_status state fd
+answer state numbers seat (call.HandleOf fd) = tell_handle state fd
+answer state numbers seat (call.StatFs fd) = tell_fs state fd
+answer state numbers seat (call.ReadLink fd) = read_link state fd
+answer state numbers seat (call.FdPath fd) = tell_path state fd
+answer state numbers seat call.MountInfo = tell_mounts state
+answer state numbers seat (call.MakeDir fd name mode) = make_dir state numbers seat fd name mode
+answer state numbers seat (call.MakeNode fd name mode rdev) = make_node state numbers seat fd name mode rdev
+answer state numbers seat (call.MakeLink from fd name) = make_link state seat from fd name
+answer state numbers seat (call.SymLink fd name target) = make_symlink state numbers seat fd name target
+answer state numbers seat (call.Unlink fd name) = unlink state seat fd name
+answer state numbers seat (call.RemoveDir fd name) = remove_dir state seat fd name
+answer state numbers seat (call.Rename fd name fd2 name2 flags) = rename state seat fd name fd2 name2 flags
+answer state numbers seat (call.ReadAt fd offset size) = read_file state fd offset size
+answer state numbers seat (call.WriteAt fd offset bytes append) = write_bytes state seat fd offset bytes append
+answer state numbers seat (call.Truncate fd size) = truncate state seat fd size
+answer state numbers seat (call.Allocate fd mode offset length) = allocate state fd mode offset length
+answer state numbers seat (call.Seek fd offset whence) = seek state fd offset whence
+answer state numbers seat (call.CopyRange fd offset fd2 offset2 length flags) = copy_range state seat fd offset fd2 offset2 length flags
+answer state numbers seat (call.ListAt fd offset size) = list_at state fd offset size
+answer state numbers seat (call.Flush fd) = flush state fd
+answer state numbers seat (call.Sync fd datasync) = sync state fd
+answer state numbers seat (call.SyncFs fd) = sync state fd
+answer state numbers seat (call.ChMod fd through mode) = change_mode state seat fd through mode
+answer state numbers seat (call.ChOwn fd uid gid) = change_owner state seat fd uid gid
+answer state numbers seat (call.SetTimes fd through atime mtime) = set_times state seat fd through atime mtime
+answer state numbers seat (call.SetXattr fd through name value flags) = set_xattr state fd through name value flags
+answer state numbers seat (call.GetXattr fd through name size) = get_xattr state fd through name size
+answer state numbers seat (call.ListXattr fd through size) = list_xattr state fd through size
+answer state numbers seat (call.RemoveXattr fd through name) = remove_xattr state fd through name
+answer state numbers seat (call.Edit edit) = edited state numbers edit
+answer state numbers seat asked = refused state enosys
+
+-- a reply, with the state and the seat that the call leaves
+abbrev pub Outcome : Type 0
+Outcome = HostReply × State × HostSeat
+
+-- what one of the seat's own calls is answered, and the seat that it leaves
+abbrev pub Seated : Type 0
+Seated = HostReply × HostSeat
+
+-- the seat's own calls change the seat alone, and all others leave it as it is
+abbrev pub outcome_where : State → (ℕ → ℕ) → HostSeat → Call → Option Seated → Outcome
+outcome_where state numbers seat asked (Some told) = (told.0, state, told.1)
+outcome_where state numbers seat asked None = ((answer state numbers seat asked).0, (answer state numbers seat asked).1, seat)
+
+abbrev pub outcome : State → (ℕ → ℕ) → HostSeat → Call → Outcome
+outcome state numbers seat asked = outcome_where state numbers seat asked (seat_answer seat asked)
+
+-- a call that is planned to fail does so
+abbrev pub failing_outcome : State → HostSeat → Call → Errno → Outcome
+failing_outcome state seat asked errno = (reply.Fault errno, faulted (after_failing state asked), seat)
