@@ -1,7 +1,14 @@
 ghost use Rattle.std.specs.Prelude.{◌≡◌, IfOk};
 ghost use Rattle.pt_node.specs.Opening.{first_refusal};
 ghost use Rattle.pt_node.specs.Attributes.{value_of, names_listed};
-ghost use Rattle.pt_rules.specs.AttributeCalls.{chmod_checks, does_not_serve, is_no_time, set_xattr_checks, SizedAs, times_checks};
+ghost use Rattle.pt_rules.specs.AttributeCalls.{
+  chmod_checks,
+  does_not_serve,
+  is_no_time,
+  set_xattr_checks,
+  SizedAs,
+  times_checks,
+};
 
 use pt_host::{Bytes, Errno, HostReply, HostSeat, HostValue, OpenFlags, TimeSet};
 use pt_node::attributes::Attributes;

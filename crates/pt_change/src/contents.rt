@@ -1,6 +1,35 @@
-ghost use Rattle.std.specs.Prelude.{◌≡◌, ◌≤◌, ◌+◌, ◌++◌, ◌+ℤ◌, IfOk, OnOk, drop, length, nat_lt, pos, replicate};
+ghost use Rattle.std.specs.Prelude.{
+  ℤ,
+  ◌≡◌,
+  ◌≤◌,
+  ◌+◌,
+  ◌++◌,
+  ◌+ℤ◌,
+  IfOk,
+  OnOk,
+  drop,
+  length,
+  nat_lt,
+  pos,
+  replicate,
+};
 ghost use Rattle.pt_node.specs.Opening.{first_refusal};
-ghost use Rattle.pt_rules.specs.ContentCalls.{allocate_checks, as_offset, as_position, copy_checks, is_path_only, is_unreadable, is_unwritable, lengthens, overlap, resized, sought, truncate_checks, write_checks, written};
+ghost use Rattle.pt_rules.specs.ContentCalls.{
+  allocate_checks,
+  as_offset,
+  as_position,
+  copy_checks,
+  is_path_only,
+  is_unreadable,
+  is_unwritable,
+  lengthens,
+  overlap,
+  resized,
+  sought,
+  truncate_checks,
+  write_checks,
+  written,
+};
 ghost use Rattle.pt_node.specs.Limits.{file_max};
 
 use pt_host::{Bytes, Errno, OpenFlags};

@@ -1,7 +1,17 @@
 ghost use Rattle.std.specs.Prelude.{◌≡◌, slice_get};
 ghost use Rattle.pt_node.specs.Paths.{parts, then_on};
 ghost use Rattle.pt_node.specs.NewPlace.{seen_place};
-ghost use Rattle.pt_rules.specs.EditPaths.{at_root, goes_through, judged, judged_at, last_refusal, past, path_goes_through, place_from, seen_judged};
+ghost use Rattle.pt_rules.specs.EditPaths.{
+  at_root,
+  goes_through,
+  judged,
+  judged_at,
+  last_refusal,
+  past,
+  path_goes_through,
+  place_from,
+  seen_judged,
+};
 
 use pt_host::Errno;
 use pt_node::names::NAME_MAX;

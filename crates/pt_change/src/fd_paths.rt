@@ -1,5 +1,14 @@
 ghost use Rattle.std.specs.Prelude.{◌≡◌, None, OnOk, IfOk, fold};
-ghost use Rattle.pt_rules.specs.OpeningCalls.{deleted_path, is_before, kept_path, least_path, lesser, lesser_where, paths_below, paths_to};
+ghost use Rattle.pt_rules.specs.OpeningCalls.{
+  deleted_path,
+  is_before,
+  kept_path,
+  least_path,
+  lesser,
+  lesser_where,
+  paths_below,
+  paths_to,
+};
 
 use pt_node::node::Node;
 use pt_node::path::names_of;

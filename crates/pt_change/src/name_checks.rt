@@ -1,8 +1,21 @@
 ghost use Rattle.std.specs.Prelude.{◌≡◌, ◌<◌};
 ghost use Rattle.pt_node.specs.Opening.{first_refusal};
-ghost use Rattle.pt_rules.specs.NameCalls.{cannot_write, content_of_kind, is_device, kind_bits, lies_below, lies_in, link_checks, make_checks, masked, node_checks, remove_checks, special_kind, symlink_checks, take_checks};
-ghost use Rattle.std.specs.Prelude.{◌≡◌};
-ghost use Rattle.pt_host.specs.declared.op.KeptHostOp.TheVariants as call;
+ghost use Rattle.pt_rules.specs.NameCalls.{
+  cannot_write,
+  content_of_kind,
+  is_device,
+  kind_bits,
+  lies_below,
+  lies_in,
+  link_checks,
+  make_checks,
+  masked,
+  node_checks,
+  remove_checks,
+  special_kind,
+  symlink_checks,
+  take_checks,
+};
 ghost use Rattle.pt_rules.specs.Calls.{name_refusal};
 
 use crate::node_edits::{holds_any, is_mounted};

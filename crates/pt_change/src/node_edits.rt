@@ -1,13 +1,32 @@
-ghost use Rattle.std.specs.Prelude.{◌≡◌, OnOk, OnErr, Some, false, true, is_some, slice_get};
+ghost use Rattle.std.specs.Prelude.{◌≡◌, OnOk, OnErr, Some, false, true, is_some, slice_get, ◌<◌, None, Ok};
+ghost use Rattle.std.specs.Option.{option_map_or};
 ghost use Rattle.pt_node.specs.Node.{name_at};
 ghost use Rattle.pt_rules.specs.NameCalls.{exchanged, linked};
-ghost use Rattle.std.specs.Option.{option_map_or};
-ghost use Rattle.pt_node.specs.Entries.{after_losing, changed_at, is_directory_at, restamped, rewritten, touched, with_entry, without_entry};
+ghost use Rattle.pt_node.specs.Entries.{
+  after_losing,
+  changed_at,
+  is_directory_at,
+  restamped,
+  rewritten,
+  touched,
+  with_entry,
+  without_entry,
+};
 ghost use Rattle.pt_node.specs.NewPlace.{seen_place};
-ghost use Rattle.pt_rules.specs.Edits.{holds_any, is_mounted, is_target_directory, move_refusal, moved, node_at, replace_refusal, replaced, unlink_refusal, unlinked, write_refusal};
-ghost use Rattle.std.specs.Prelude.{◌≡◌, ◌<◌, Some, None, Ok, OnErr, OnOk, slice_get, true};
-ghost use Rattle.pt_node.specs.Entries.{is_directory_at};
-ghost use Rattle.pt_rules.specs.Edits.{grown};
+ghost use Rattle.pt_rules.specs.Edits.{
+  holds_any,
+  is_mounted,
+  is_target_directory,
+  move_refusal,
+  moved,
+  node_at,
+  replace_refusal,
+  replaced,
+  unlink_refusal,
+  unlinked,
+  write_refusal,
+  grown,
+};
 
 use pt_host::{Bytes, Errno, Time};
 use pt_node::node::{Content, FILE_MAX, Node};

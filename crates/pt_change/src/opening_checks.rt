@@ -1,4 +1,4 @@
-ghost use Rattle.std.specs.Prelude.{◌≡◌, ◌<◌, ◌^◌, ℕ, Some, None};
+ghost use Rattle.std.specs.Prelude.{◌≡◌, ◌<◌, ◌^◌, Some, None, ℕ};
 ghost use Rattle.pt_node.specs.Opening.{first_refusal};
 ghost use Rattle.pt_node.specs.Node.{handle_bytes, handle_of};
 ghost use Rattle.pt_rules.specs.OpeningCalls.{created_checks, creating_checks, same_handle};

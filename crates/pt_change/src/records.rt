@@ -2,7 +2,16 @@ ghost use Rattle.std.specs.Prelude.{◌≡◌, ◌++◌, IfOk, OnOk, slice_get};
 ghost use Rattle.std.specs.Int.{to_le_bytes, w16};
 ghost use Rattle.pt_node.specs.Node.{kind_number};
 ghost use Rattle.pt_node.specs.Opening.{first_refusal};
-ghost use Rattle.pt_rules.specs.ListCalls.{does_not_fit, list_checks, names_from, record_at, record_head, record_of, record_size, records};
+ghost use Rattle.pt_rules.specs.ListCalls.{
+  does_not_fit,
+  list_checks,
+  names_from,
+  record_at,
+  record_head,
+  record_of,
+  record_size,
+  records,
+};
 
 use crate::contents::{is_path_only, push_zeros};
 use pt_host::Errno;

@@ -1,7 +1,15 @@
 ghost use Rattle.std.specs.Prelude.{◌≡◌, OnErr, OnOk};
 ghost use Rattle.pt_node.specs.Entries.{restamped};
-ghost use Rattle.pt_node.specs.Changes.{id_after, moded, owned, time_after, timed, unvalued, valued};
-ghost use Rattle.pt_node.specs.Changes.{refilled};
+ghost use Rattle.pt_node.specs.Changes.{
+  id_after,
+  moded,
+  owned,
+  time_after,
+  timed,
+  unvalued,
+  valued,
+  refilled,
+};
 
 use crate::node::Node;
 use crate::opening::permissions_after;
@@ -64,9 +72,7 @@ impl Node {
         self.xattrs.remove(name);
         self.restamp(now);
     }
-}
 
-impl Node {
     /// The file gets contents that this seat wrote, which clears set-id bits.
     pub fn refill(&mut self, seat: &HostSeat, bytes: Bytes, now: Time)
         ensures { self.new ≡ refilled seat.now now bytes self.old }

@@ -1,9 +1,23 @@
 ghost use Rattle.std.specs.Prelude.{◌≡◌, OnOk, OnErr, is_some, true};
 ghost use Rattle.pt_node.specs.Names.{found};
 ghost use Rattle.pt_node.specs.Node.{names_in};
-ghost use Rattle.pt_node.specs.Entries.{after_gaining, after_losing, fewer_links, first_links, links_with, links_without, new_object, restamped, rewritten, touched, with_bytes, with_entry, with_name, without_entry, without_name};
-ghost use Rattle.std.specs.Prelude.{◌≡◌, OnOk, OnErr, true, is_some};
-ghost use Rattle.pt_node.specs.Entries.{after_losing, restamped, rewritten, touched, with_entry, without_entry};
+ghost use Rattle.pt_node.specs.Entries.{
+  after_gaining,
+  after_losing,
+  fewer_links,
+  first_links,
+  links_with,
+  links_without,
+  new_object,
+  restamped,
+  rewritten,
+  touched,
+  with_bytes,
+  with_entry,
+  with_name,
+  without_entry,
+  without_name,
+};
 
 use crate::attributes::Attributes;
 use crate::node::{Content, Node};

@@ -1,8 +1,36 @@
-ghost use Rattle.std.specs.Prelude.{ℕ, ◌≡◌, ◌+◌, ◌++◌, ◌∷◌, [], ◌-◌, ◌==◌, ◌<◌, ◌^◌, IfOk, SomeIff, OnErr, length, nat_lt, position, slice_index, take, Some};
+ghost use Rattle.std.specs.Prelude.{
+  ℕ,
+  ◌≡◌,
+  ◌+◌,
+  ◌++◌,
+  ◌∷◌,
+  [],
+  ◌-◌,
+  ◌==◌,
+  ◌<◌,
+  ◌^◌,
+  IfOk,
+  SomeIff,
+  OnErr,
+  length,
+  nat_lt,
+  position,
+  slice_index,
+  take,
+  Some,
+};
 ghost use Rattle.pt_host.specs.Words.{set_at};
 ghost use Rattle.pt_node.specs.Slots.{least_free, put_at};
 ghost use Rattle.pt_node.specs.declared.slots.Slot.TheVariants.{Open};
-ghost use Rattle.pt_node.specs.Numbers.{freed, given_up, given_up_where, having, released, released_where, table_in};
+ghost use Rattle.pt_node.specs.Numbers.{
+  freed,
+  given_up,
+  given_up_where,
+  having,
+  released,
+  released_where,
+  table_in,
+};
 
 use crate::slots::{Descriptors, OpenFile};
 use pt_host::OpenFlags;

@@ -1,14 +1,16 @@
-ghost use Rattle.std.specs.Prelude.{◌≡◌, ◌==◌, [], OnOk, OnErr, is_some, length, true};
+ghost use Rattle.std.specs.Prelude.{◌≡◌, ◌==◌, [], OnOk, OnErr, is_some, length, true, Ok, ℕ};
 ghost use Rattle.std.specs.BTreeMap.{IsOrdered, is_at};
 ghost use Rattle.std.specs.Cmp.Lexicographic.{slice_cmp};
 ghost use Rattle.std.specs.Map.{lookup, set_value};
 ghost use Rattle.std.specs.Ordering.{nat_cmp};
 ghost use Rattle.pt_node.specs.Names.{found, named, unnamed};
-ghost use Rattle.std.specs.Prelude.{◌≡◌, ℕ, Ok};
 
 use std::alloc::{AllocError, Global};
 use std::collections::BTreeMap;
 use std::marker::Model;
+
+/// The longest name of a file.
+pub const NAME_MAX: usize = 255;
 
 /// The names of a directory, each with the object that it leads to.
 #[derive(Drop)]
@@ -81,6 +83,3 @@ impl Names {
         let _ = self.kept.remove(name);
     }
 }
-
-/// The longest name of a file.
-pub const NAME_MAX: usize = 255;

@@ -1,6 +1,14 @@
 ghost use Rattle.std.specs.Prelude.{◌≡◌, slice_get, option_map};
 ghost use Rattle.pt_node.specs.Paths.{parts};
-ghost use Rattle.pt_node.specs.NewPlace.{has_nul, is_dots, is_good_name, place_in, place_of, seen_place, takes_name};
+ghost use Rattle.pt_node.specs.NewPlace.{
+  has_nul,
+  is_dots,
+  is_good_name,
+  place_in,
+  place_of,
+  seen_place,
+  takes_name,
+};
 
 use crate::names::NAME_MAX;
 use crate::node::Node;

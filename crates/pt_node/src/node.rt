@@ -1,5 +1,15 @@
 ghost use Rattle.std.specs.Prelude.{◌≡◌, ◌<◌};
-ghost use Rattle.pt_node.specs.Node.{bytes_in, is_directory, is_link, is_special, kind_number, mode_of, size_of, special_number, status_of};
+ghost use Rattle.pt_node.specs.Node.{
+  bytes_in,
+  is_directory,
+  is_link,
+  is_special,
+  kind_number,
+  mode_of,
+  size_of,
+  special_number,
+  status_of,
+};
 
 use crate::attributes::Attributes;
 use crate::names::Names;

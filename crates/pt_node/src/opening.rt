@@ -1,5 +1,12 @@
 ghost use Rattle.std.specs.Prelude.{◌≡◌};
-ghost use Rattle.pt_node.specs.Opening.{after_opening, emptied, opening_refusal, permissions_after, wants_read, wants_write};
+ghost use Rattle.pt_node.specs.Opening.{
+  after_opening,
+  emptied,
+  opening_refusal,
+  permissions_after,
+  wants_read,
+  wants_write,
+};
 
 use crate::node::{Content, Node};
 use crate::permission::{Right, may};

@@ -1,12 +1,30 @@
-ghost use Rattle.std.specs.Prelude.{◌≡◌, ◌<◌, ◌∷◌, [], Ok, IfSome, length};
+ghost use Rattle.std.specs.Prelude.{
+  ◌≡◌,
+  ◌<◌,
+  ◌∷◌,
+  [],
+  Ok,
+  IfSome,
+  length,
+  slice_get,
+  position,
+  unwrap_or,
+  ◌==◌,
+};
+ghost use Rattle.std.specs.Option.{option_copied};
 ghost use Rattle.pt_node.specs.Node.{name_at, names_in};
 ghost use Rattle.pt_node.specs.Names.{found};
-ghost use Rattle.pt_node.specs.Paths.{walk_from};
-ghost use Rattle.pt_node.specs.Paths.{object_below, object_named};
-ghost use Rattle.pt_node.specs.Paths.{parts, parts_after, step_from, walk, walk_root};
-ghost use Rattle.std.specs.Prelude.{slice_get, position, unwrap_or, ◌==◌};
-ghost use Rattle.pt_node.specs.Paths.{names_at};
-ghost use Rattle.std.specs.Option.{option_copied};
+ghost use Rattle.pt_node.specs.Paths.{
+  walk_from,
+  object_below,
+  object_named,
+  parts,
+  parts_after,
+  step_from,
+  walk,
+  walk_root,
+  names_at,
+};
 
 use crate::names::Names;
 use crate::node::{Content, Node};

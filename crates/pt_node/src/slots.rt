@@ -1,5 +1,14 @@
 ghost use Rattle.std.specs.Prelude.{◌≡◌, ◌<◌, ◌-◌, IfOk, OnErr, is_some, length, position, true};
-ghost use Rattle.pt_node.specs.Slots.{open_at, least_free, placed_at, put_at, taken_back, closed, no_files, no_numbers};
+ghost use Rattle.pt_node.specs.Slots.{
+  open_at,
+  least_free,
+  placed_at,
+  put_at,
+  taken_back,
+  closed,
+  no_files,
+  no_numbers,
+};
 ghost use Rattle.pt_node.specs.declared.slots.Slot.TheVariants.{Open};
 
 use pt_host::{Fd, OpenFlags};
