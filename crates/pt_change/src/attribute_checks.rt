@@ -6,11 +6,12 @@ ghost use Rattle.pt_rules.specs.AttributeCalls.{
   does_not_serve,
   is_no_time,
   set_xattr_checks,
-  SizedAs,
+  is_too_long,
+  sized,
   times_checks,
 };
 
-use pt_host::{Bytes, Errno, HostReply, HostSeat, HostValue, OpenFlags, TimeSet};
+use pt_host::{Bytes, Errno, HostSeat, HostValue, OpenFlags, TimeSet};
 use pt_node::attributes::Attributes;
 use pt_node::node::Node;
 use pt_node::permission::owns;
@@ -107,20 +108,21 @@ pub fn set_xattr_refusal(
     }
 }
 
-/// Bytes where they fit in the size, and how many there are where the size is 0.
-pub fn sized(alloc: Global, bytes: &[u8], size: u32) -> HostReply
-    ensures { SizedAs bytes.now size result }
+/// Whether there are more bytes than the size holds. A size of 0 asks for their number alone.
+pub fn is_too_long(bytes: &[u8], size: u32) -> bool
+    ensures { result ≡ is_too_long size bytes.now }
+{
+    size != 0 && bytes.len() > size as usize
+}
+
+/// The bytes, or how many there are where the size is 0.
+pub fn sized(alloc: Global, bytes: &[u8], size: u32) -> Result<HostValue, AllocError>
+    ensures { IfOk result (λ told. told ≡ sized size bytes.now) }
 {
     if size == 0 {
-        return HostReply::Ok(HostValue::Count(bytes.len() as u64));
+        return Ok(HostValue::Count(bytes.len() as u64));
     }
-    if bytes.len() > size as usize {
-        return HostReply::Refused(Errno::ERANGE);
-    }
-    match Bytes::from_slice(alloc, bytes) {
-        Ok(bytes) => HostReply::Ok(HostValue::Bytes(bytes)),
-        Err(_) => HostReply::NoMemory,
-    }
+    Ok(HostValue::Bytes(Bytes::from_slice(alloc, bytes)?))
 }
 
 /// The names one after another, each with a NUL at its end.

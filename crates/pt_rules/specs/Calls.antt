@@ -10,12 +10,11 @@ use Rattle.pt_host.specs.declared.reply.HostReply.{HostReply}
 use Rattle.pt_host.specs.declared.reply.HostReply.TheVariants as reply
 use Rattle.pt_host.specs.declared.reply.HostValue.{HostValue}
 use Rattle.pt_host.specs.declared.reply.HostValue.TheVariants as value
-use Rattle.pt_node.specs.Node.{bytes_in, is_directory, status_of}
+use Rattle.pt_node.specs.Node.{is_directory, status_of}
 use Rattle.pt_node.specs.Permission.{may}
 use Rattle.pt_node.specs.Slots.{least_free, open_at, put_at, closed}
 use Rattle.pt_rules.specs.State.{State, time_of}
 use Rattle.pt_node.specs.Opening.{first_refusal, opening_refusal, after_opening}
-use Rattle.pt_node.specs.Reading.{read_refusal, part_of, after_reading}
 use Rattle.pt_node.specs.declared.node.Node.{Node}
 use Rattle.pt_node.specs.declared.slots.OpenFile.{OpenFile}
 use Rattle.pt_node.specs.declared.slots.Slot.TheVariants.{Open}
@@ -103,7 +102,7 @@ name_refusal seat dir name = first_refusal (name_checks seat dir name)
 abbrev pub on_name : State → HostSeat → Fd → List ℕ → (ℕ → Node → Answered) → Answered
 on_name state seat fd name rest = on_fd state fd (λ file dir. unless state (name_refusal seat dir name) (rest file.object dir))
 
--- ---- Reopen, Close, Stat, ReadAt
+-- ---- Reopen, Close, Stat
 
 -- the call on what stands in the table of descriptors, if anything
 abbrev pub on_slot : State → Option OpenFile → (OpenFile → Answered) → Answered
@@ -120,11 +119,3 @@ close_file state fd = on_slot state (open_at state.slots fd.0) (λ file. done (r
 
 abbrev pub tell_status : State → Fd → Answered
 tell_status state fd = on_fd state fd (λ file node. tells state (value.Stat (status_of node)))
-
--- the state after this object was read
-abbrev pub with_read : State → ℕ → Node → State
-with_read state object node = record state { nodes = slice_set state.nodes object (after_reading (time_of state) node) }
-
-abbrev pub read_file : State → Fd → ℕ → ℕ → Answered
-read_file state fd offset size = on_fd state fd (λ file node. unless state (read_refusal node file.flags.0)
-    (tells (with_read state file.object node) (value.Bytes (part_of offset size (bytes_in node.content)))))

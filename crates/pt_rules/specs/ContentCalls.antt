@@ -12,13 +12,14 @@ use Rattle.pt_node.specs.Node.{bytes_in, is_directory, size_of}
 use Rattle.pt_node.specs.Slots.{placed_at}
 use Rattle.pt_rules.specs.State.{State, time_of}
 use Rattle.pt_node.specs.Opening.{wants_read, wants_write}
-use Rattle.pt_node.specs.Reading.{after_reading, part_of}
-use Rattle.pt_rules.specs.Calls.{Answered, checked, done, on_fd, refused, tells, with_node}
+use Rattle.pt_node.specs.Reading.{after_reading, part_of, read_checks}
+use Rattle.pt_rules.specs.Calls.{Answered, checked, on_fd, refused, tells, with_node}
 use Rattle.pt_node.specs.Entries.{changed_at, rewritten}
 use Rattle.pt_node.specs.declared.node.Node.{Node}
 use Rattle.pt_node.specs.declared.slots.OpenFile.{OpenFile}
 use Rattle.pt_node.specs.Changes.{refilled}
 use Rattle.pt_node.specs.Limits.{file_max}
+use Rattle.pt_rules.specs.Rows.{Effect, Row, Stays, row, Becomes}
 
 abbrev pub is_path_only : OpenFile → Bool
 is_path_only file = includes file.flags.0 o_path
@@ -55,10 +56,14 @@ with_written state seat object start [] = state
 with_written state seat object start (byte ∷ bytes) =
     record state { nodes = changed_at object (after_writing seat (time_of state) start (byte ∷ bytes)) state.nodes }
 
-abbrev pub write_bytes : State → HostSeat → Fd → ℕ → List ℕ → Bool → Answered
-write_bytes state seat fd offset bytes append = on_fd state fd
-    (λ file node. checked state (write_checks file (write_start offset append node) (length bytes))
-    (tells (with_written state seat file.object (write_start offset append node) bytes) (value.Count (length bytes))))
+abbrev pub becomes_written : State → HostSeat → ℕ → List ℕ → Node → Effect
+becomes_written state seat start [] node = Stays
+becomes_written state seat start (byte ∷ bytes) node = Becomes (after_writing seat (time_of state) start (byte ∷ bytes) node)
+
+abbrev pub write_row : State → HostSeat → ℕ → List ℕ → Bool → OpenFile → Node → Row
+write_row state seat offset bytes append file node =
+    row (write_checks file (write_start offset append node) (length bytes)) (value.Count (length bytes))
+    (becomes_written state seat (write_start offset append node) bytes node)
 
 -- ---- Truncate
 
@@ -74,9 +79,9 @@ abbrev pub resized : ℕ → List ℕ → List ℕ
 resized size bytes = take size (padded size bytes)
 
 -- the times and the set-id bits change where the size stays too
-abbrev pub truncate : State → HostSeat → Fd → ℕ → Answered
-truncate state seat fd size = on_fd state fd (λ file node. checked state (truncate_checks file size)
-    (done (with_node state file.object (refilled seat (time_of state) (resized size (bytes_in node.content)) node))))
+abbrev pub truncate_row : State → HostSeat → ℕ → OpenFile → Node → Row
+truncate_row state seat size file node =
+    row (truncate_checks file size) value.Unit (Becomes (refilled seat (time_of state) (resized size (bytes_in node.content)) node))
 
 -- ---- Allocate
 
@@ -94,14 +99,10 @@ abbrev pub lengthens : ℕ → ℕ → ℕ → Bool
 lengthens mode size end = (mode == 0) && nat_lt size end
 
 -- only what is lengthened changes
-abbrev pub with_allocated : State → ℕ → Node → ℕ → ℕ → State
-with_allocated state object node mode end =
-    if lengthens mode (size_of node.content) end
-    then with_node state object (rewritten (time_of state) (padded end (bytes_in node.content)) node) else state
-
-abbrev pub allocate : State → Fd → ℕ → ℕ → ℕ → Answered
-allocate state fd mode offset size = on_fd state fd
-    (λ file node. checked state (allocate_checks file mode offset size) (done (with_allocated state file.object node mode (offset + size))))
+abbrev pub allocate_row : State → ℕ → ℕ → ℕ → OpenFile → Node → Row
+allocate_row state mode offset size file node =
+    row (allocate_checks file mode offset size) value.Unit (if lengthens mode (size_of node.content) (offset + size)
+    then Becomes (rewritten (time_of state) (padded (offset + size) (bytes_in node.content)) node) else Stays)
 
 -- ---- Seek
 
@@ -175,10 +176,14 @@ copy_range state seat fd offset fd2 offset2 size flags = on_fd state fd (λ file
     (λ file2 node2. checked state (copy_checks file node file2 offset offset2 (length (copied offset size node)) flags)
     (tells (with_copied state seat file.object node file2.object offset2 (copied offset size node)) (value.Count (length (copied offset size node))))))
 
--- ---- Flush, Sync, SyncFs
+-- ---- ReadAt, Flush, Sync, SyncFs
 
-abbrev pub flush : State → Fd → Answered
-flush state fd = on_fd state fd (λ file node. done state)
+abbrev pub read_row : State → ℕ → ℕ → OpenFile → Node → Row
+read_row state offset size file node =
+    row (read_checks node file.flags.0) (value.Bytes (part_of offset size (bytes_in node.content))) (Becomes (after_reading (time_of state) node))
 
-abbrev pub sync : State → Fd → Answered
-sync state fd = on_fd state fd (λ file node. checked state ((is_path_only file, ebadf) ∷ []) (done state))
+abbrev pub flush_row : OpenFile → Node → Row
+flush_row file node = row [] value.Unit Stays
+
+abbrev pub sync_row : OpenFile → Node → Row
+sync_row file node = row ((is_path_only file, ebadf) ∷ []) value.Unit Stays

@@ -1,5 +1,6 @@
 pub mod AttributeCalls
 pub mod Calls
+pub mod Rows
 pub mod Finding
 pub mod ContentCalls
 pub mod Does

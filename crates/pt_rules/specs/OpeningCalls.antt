@@ -23,7 +23,7 @@ use Rattle.pt_node.specs.Permission.{dac_read_search}
 use Rattle.pt_node.specs.Slots.{least_free}
 use Rattle.pt_rules.specs.State.{State, time_of}
 use Rattle.pt_node.specs.Reading.{after_reading}
-use Rattle.pt_rules.specs.Calls.{Answered, checked, on_fd, on_name, opening, open_walked, refused, tells, with_descriptor, with_node}
+use Rattle.pt_rules.specs.Calls.{Answered, checked, on_fd, on_name, opening, open_walked, refused, tells, with_descriptor}
 use Rattle.pt_rules.specs.Edits.{made, with_made}
 use Rattle.pt_rules.specs.NameCalls.{cannot_write, masked, names_where, there_in}
 use Rattle.pt_node.specs.declared.node.Node.{Node}
@@ -31,6 +31,7 @@ use Rattle.pt_node.specs.declared.node.Content.TheVariants.{Regular}
 use Rattle.pt_node.specs.declared.slots.OpenFile.{OpenFile}
 use Rattle.pt_node.specs.Paths.{walk_from}
 use Rattle.pt_node.specs.Limits.{name_max}
+use Rattle.pt_rules.specs.Rows.{Row, row, Becomes, Stays}
 
 -- ---- OpenPath
 
@@ -125,14 +126,14 @@ fs_status state dev = record {
   frsize = 4096;
 }
 
-abbrev pub tell_fs : State → Fd → Answered
-tell_fs state fd = on_fd state fd (λ file node. tells state (value.FsStat (fs_status state node.ids.dev)))
+abbrev pub stat_fs_row : State → OpenFile → Node → Row
+stat_fs_row state file node = row [] (value.FsStat (fs_status state node.ids.dev)) Stays
 
 -- ---- ReadLink
 
-abbrev pub read_link : State → Fd → Answered
-read_link state fd = on_fd state fd (λ file node. checked state ((not (is_link node), einval) ∷ [])
-    (tells (with_node state file.object (after_reading (time_of state) node)) (value.Bytes (bytes_in node.content))))
+abbrev pub read_link_row : State → OpenFile → Node → Row
+read_link_row state file node =
+    row ((not (is_link node), einval) ∷ []) (value.Bytes (bytes_in node.content)) (Becomes (after_reading (time_of state) node))
 
 -- ---- FdPath
 
@@ -176,8 +177,8 @@ deleted_path node = 47 ∷ decimal node.serial ++ codes " (deleted)"
 abbrev pub least_path : Node → List (List ℕ) → List ℕ
 least_path node paths = unwrap_or (fold lesser None paths) (deleted_path node)
 
-abbrev pub tell_path : State → Fd → Answered
-tell_path state fd = on_fd state fd (λ file node. tells state (value.Bytes (least_path node (paths_to state.nodes file.object))))
+abbrev pub fd_path_row : State → OpenFile → Node → Row
+fd_path_row state file node = row [] (value.Bytes (least_path node (paths_to state.nodes file.object))) Stays
 
 -- ---- MountInfo
 

@@ -8,16 +8,17 @@ use Rattle.pt_host.specs.declared.op.KeptHostOp.TheVariants as call
 use Rattle.pt_host.specs.declared.reply.HostReply.{HostReply}
 use Rattle.pt_host.specs.declared.reply.HostReply.TheVariants as reply
 use Rattle.pt_rules.specs.State.{State}
-use Rattle.pt_rules.specs.Calls.{Answered, close_file, open_walked, read_file, refused, reopen, tell_status}
+use Rattle.pt_rules.specs.Calls.{Answered, close_file, open_walked, refused, reopen, tell_status}
 use Rattle.pt_node.specs.Paths.{walk_root}
 use Rattle.pt_rules.specs.NameCalls.{make_dir, make_link, make_node, make_symlink, remove_dir, rename, unlink}
-use Rattle.pt_rules.specs.OpeningCalls.{open_at_name, open_by_handle, open_path, read_link, tell_fs, tell_handle, tell_mounts, tell_path}
-use Rattle.pt_rules.specs.ContentCalls.{allocate, copy_range, flush, seek, sync, truncate, write_bytes}
-use Rattle.pt_rules.specs.AttributeCalls.{change_mode, change_owner, get_xattr, list_xattr, remove_xattr, set_times, set_xattr}
+use Rattle.pt_rules.specs.OpeningCalls.{open_at_name, open_by_handle, open_path, tell_handle, tell_mounts, stat_fs_row, read_link_row, fd_path_row}
+use Rattle.pt_rules.specs.ContentCalls.{copy_range, seek, read_row, write_row, truncate_row, allocate_row, flush_row, sync_row}
 use Rattle.pt_rules.specs.ListCalls.{list_at}
 use Rattle.pt_host.specs.SeatAnswer.{seat_answer}
 use Rattle.pt_rules.specs.Faults.{after_failing, faulted}
 use Rattle.pt_rules.specs.Edits.{edited}
+use Rattle.pt_rules.specs.Rows.{on_row}
+use Rattle.pt_rules.specs.AttributeCalls.{chmod_row, chown_row, times_row, set_xattr_row, get_xattr_row, list_xattr_row, remove_xattr_row}
 
 -- What a call on the tree is answered and the state that it leaves, before it is counted; `numbers` has for each device the inode number that a
 -- new object of it gets. The calls that are not here are the seat's own.
@@ -30,9 +31,9 @@ answer state numbers seat (call.OpenByHandle fd handle flags) = open_by_handle s
 answer state numbers seat (call.Close fd) = close_file state fd
 answer state numbers seat (call.Stat fd) = tell_status state fd
 answer state numbers seat (call.HandleOf fd) = tell_handle state fd
-answer state numbers seat (call.StatFs fd) = tell_fs state fd
-answer state numbers seat (call.ReadLink fd) = read_link state fd
-answer state numbers seat (call.FdPath fd) = tell_path state fd
+answer state numbers seat (call.StatFs fd) = on_row state fd (stat_fs_row state)
+answer state numbers seat (call.ReadLink fd) = on_row state fd (read_link_row state)
+answer state numbers seat (call.FdPath fd) = on_row state fd (fd_path_row state)
 answer state numbers seat call.MountInfo = tell_mounts state
 answer state numbers seat (call.MakeDir fd name mode) = make_dir state numbers seat fd name mode
 answer state numbers seat (call.MakeNode fd name mode rdev) = make_node state numbers seat fd name mode rdev
@@ -41,23 +42,23 @@ answer state numbers seat (call.SymLink fd name target) = make_symlink state num
 answer state numbers seat (call.Unlink fd name) = unlink state seat fd name
 answer state numbers seat (call.RemoveDir fd name) = remove_dir state seat fd name
 answer state numbers seat (call.Rename fd name fd2 name2 flags) = rename state seat fd name fd2 name2 flags
-answer state numbers seat (call.ReadAt fd offset size) = read_file state fd offset size
-answer state numbers seat (call.WriteAt fd offset bytes append) = write_bytes state seat fd offset bytes append
-answer state numbers seat (call.Truncate fd size) = truncate state seat fd size
-answer state numbers seat (call.Allocate fd mode offset length) = allocate state fd mode offset length
+answer state numbers seat (call.ReadAt fd offset size) = on_row state fd (read_row state offset size)
+answer state numbers seat (call.WriteAt fd offset bytes append) = on_row state fd (write_row state seat offset bytes append)
+answer state numbers seat (call.Truncate fd size) = on_row state fd (truncate_row state seat size)
+answer state numbers seat (call.Allocate fd mode offset length) = on_row state fd (allocate_row state mode offset length)
 answer state numbers seat (call.Seek fd offset whence) = seek state fd offset whence
 answer state numbers seat (call.CopyRange fd offset fd2 offset2 length flags) = copy_range state seat fd offset fd2 offset2 length flags
 answer state numbers seat (call.ListAt fd offset size) = list_at state fd offset size
-answer state numbers seat (call.Flush fd) = flush state fd
-answer state numbers seat (call.Sync fd datasync) = sync state fd
-answer state numbers seat (call.SyncFs fd) = sync state fd
-answer state numbers seat (call.ChMod fd through mode) = change_mode state seat fd through mode
-answer state numbers seat (call.ChOwn fd uid gid) = change_owner state seat fd uid gid
-answer state numbers seat (call.SetTimes fd through atime mtime) = set_times state seat fd through atime mtime
-answer state numbers seat (call.SetXattr fd through name value flags) = set_xattr state fd through name value flags
-answer state numbers seat (call.GetXattr fd through name size) = get_xattr state fd through name size
-answer state numbers seat (call.ListXattr fd through size) = list_xattr state fd through size
-answer state numbers seat (call.RemoveXattr fd through name) = remove_xattr state fd through name
+answer state numbers seat (call.Flush fd) = on_row state fd flush_row
+answer state numbers seat (call.Sync fd datasync) = on_row state fd sync_row
+answer state numbers seat (call.SyncFs fd) = on_row state fd sync_row
+answer state numbers seat (call.ChMod fd through mode) = on_row state fd (chmod_row state seat through mode)
+answer state numbers seat (call.ChOwn fd uid gid) = on_row state fd (chown_row state seat uid gid)
+answer state numbers seat (call.SetTimes fd through atime mtime) = on_row state fd (times_row state seat through atime mtime)
+answer state numbers seat (call.SetXattr fd through name value flags) = on_row state fd (set_xattr_row state through name value flags)
+answer state numbers seat (call.GetXattr fd through name size) = on_row state fd (get_xattr_row through name size)
+answer state numbers seat (call.ListXattr fd through size) = on_row state fd (list_xattr_row through size)
+answer state numbers seat (call.RemoveXattr fd through name) = on_row state fd (remove_xattr_row state through name)
 answer state numbers seat (call.Edit edit) = edited state numbers edit
 answer state numbers seat asked = refused state enosys
 

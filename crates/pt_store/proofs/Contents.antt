@@ -3,7 +3,8 @@ use Rattle.std.proofs.Common.{◌≡◌, ◌<◌, ◌≤◌, ◌+◌, ◌-◌, �
 use Rattle.std.proofs.lemmas.Bool.{cases_lt}
 use Rattle.std.proofs.Math.Seq.{take-append-add}
 use Rattle.pt_host.specs.declared.seat.HostSeat.{HostSeat}
-use Rattle.pt_rules.specs.ContentCalls.{after_writing, resized, with_written, written}
+use Rattle.pt_rules.specs.ContentCalls.{after_writing, becomes_written, resized, with_written, written}
+use Rattle.pt_rules.specs.Rows.{left_by}
 use Rattle.pt_node.specs.Changes.{refilled}
 use Rattle.pt_node.specs.Node.{bytes_in}
 use Rattle.pt_rules.specs.State.{State, time_of}
@@ -60,4 +61,11 @@ pub written_there : (state : State) (seat : HostSeat) (object start : ℕ) (byte
     ≡ nodes_in state (slice_set state.nodes object (refilled seat (time_of state) (written start bytes (bytes_in node.content)) node))
 written_there state seat object start [] node some there = absurd (omega arith)
 written_there state seat object start (byte ∷ bytes) node some there =
+    ap (nodes_in state) (changed_is object (after_writing seat (time_of state) start (byte ∷ bytes)) state.nodes node there)
+
+-- a write, by what becomes of its object
+pub written_left : (state : State) (seat : HostSeat) (object start : ℕ) (bytes : List ℕ) (node : Node) → slice_get state.nodes object ≡ Some node →
+    with_written state seat object start bytes ≡ left_by state object (becomes_written state seat start bytes node)
+written_left state seat object start [] node there = refl
+written_left state seat object start (byte ∷ bytes) node there =
     ap (nodes_in state) (changed_is object (after_writing seat (time_of state) start (byte ∷ bytes)) state.nodes node there)

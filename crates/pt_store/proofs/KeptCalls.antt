@@ -9,11 +9,10 @@ use Rattle.pt_host.specs.declared.ids.Fd.{Fd}
 use Rattle.pt_host.specs.declared.ids.TimeSet.{TimeSet}
 use Rattle.pt_host.specs.declared.seat.HostSeat.{HostSeat}
 use Rattle.pt_host.specs.declared.reply.HostReply.{HostReply}
-use Rattle.pt_rules.specs.AttributeCalls.{change_mode, change_owner, chmod_checks, remove_xattr, remove_xattr_checks, set_times, set_xattr, set_xattr_checks, times_checks, with_status}
 use Rattle.pt_node.specs.Changes.{owned, timed}
 use Rattle.pt_node.specs.Attributes.{value_of, with_value, without_value}
 use Rattle.pt_rules.specs.Calls.{Answered, with_node}
-use Rattle.pt_rules.specs.ContentCalls.{after_writing, allocate, allocate_checks, copied, copy_checks, copy_range, padded, resized, seek, seek_checks, seek_to, sought, truncate, truncate_checks, with_position, with_written, write_bytes, write_checks, write_start}
+use Rattle.pt_rules.specs.ContentCalls.{after_writing, copied, copy_checks, copy_range, with_position, with_written}
 use Rattle.pt_node.specs.Changes.{refilled}
 use Rattle.pt_rules.specs.Does.{AnswersAs}
 use Rattle.pt_rules.specs.Faults.{past_plan}
@@ -21,7 +20,6 @@ use Rattle.pt_node.specs.Entries.{changed_at, changed_where, restamped, rewritte
 use Rattle.pt_store.specs.Kept.{IsKept}
 use Rattle.pt_rules.specs.ListCalls.{list_at, list_checks, names_from, records}
 use Rattle.pt_node.specs.Node.{bytes_in, is_link, size_of}
-use Rattle.pt_rules.specs.OpeningCalls.{read_link}
 use Rattle.pt_node.specs.Permission.{chown}
 use Rattle.pt_node.specs.Reading.{after_reading}
 use Rattle.pt_node.specs.Slots.{open_at, placed_where}
@@ -110,102 +108,12 @@ module _ (state : State) (holds : List ℕ) (tables : ℕ → List Slot) (kept :
       kept_where object (after_writing seat (time_of state) start (byte ∷ bytes))
       (λ node. keeps_refilled seat (time_of state) _ node) (slice_get state.nodes object) refl
 
-  abbrev Stays : Answered → Type 0
-  Stays told = IsKept told.1 holds tables
-
-  pub kept_write_bytes : (seat : HostSeat) (fd : Fd) (offset : ℕ) (bytes : List ℕ) (append : Bool) → IsKept (write_bytes state seat fd offset bytes append).1 holds tables
-  kept_write_bytes seat fd offset bytes append =
-      by_fd state Stays (λ errno. kept) fd _
-      (λ file node is there. by_checks state Stays (λ errno. kept) (write_checks file (write_start offset append node) (length bytes)) _
-      (λ none. kept_written seat file.object (write_start offset append node) bytes))
-
-  pub kept_truncate : (seat : HostSeat) (fd : Fd) (size : ℕ) → IsKept (truncate state seat fd size).1 holds tables
-  kept_truncate seat fd size =
-      by_fd state Stays (λ errno. kept) fd _
-      (λ file node is there. by_checks state Stays (λ errno. kept) (truncate_checks file size) _
-      (λ none. kept_node file.object node (refilled seat (time_of state) (resized size (bytes_in node.content)) node) there
-      (keeps_refilled seat (time_of state) (resized size (bytes_in node.content)) node)))
-
-  kept_lengthened : (object : ℕ) (node : Node) (end : ℕ) → slice_get state.nodes object ≡ Some node → (b : Bool) →
-      IsKept (cond b (with_node state object (rewritten (time_of state) (padded end (bytes_in node.content)) node)) state) holds tables
-  kept_lengthened object node end there true =
-      kept_node object node (rewritten (time_of state) (padded end (bytes_in node.content)) node) there
-      (keeps_rewritten (time_of state) (padded end (bytes_in node.content)) node)
-  kept_lengthened object node end there false = kept
-
-  pub kept_allocate : (fd : Fd) (mode offset size : ℕ) → IsKept (allocate state fd mode offset size).1 holds tables
-  kept_allocate fd mode offset size =
-      by_fd state Stays (λ errno. kept) fd _
-      (λ file node is there. by_checks state Stays (λ errno. kept) (allocate_checks file mode offset size) _
-      (λ none. kept_lengthened file.object node (offset + size) there ((mode == 0) && nat_lt (size_of node.content) (offset + size))))
-
-  kept_sought : (fd : ℕ) (to : Result ℕ Errno) → IsKept (seek_to state fd to).1 holds tables
-  kept_sought fd (Err errno) = kept
-  kept_sought fd (Ok position) = kept_placed fd position
-
-  pub kept_seek : (fd : Fd) (offset : ℤ) (whence : ℕ) → IsKept (seek state fd offset whence).1 holds tables
-  kept_seek fd offset whence =
-      by_fd state Stays (λ errno. kept) fd _
-      (λ file node is there. by_checks state Stays (λ errno. kept) (seek_checks file node) _
-      (λ none. kept_sought fd.0 (sought file.position (size_of node.content) offset whence)))
-
-  kept_status : (object : ℕ) (node after : Node) → slice_get state.nodes object ≡ Some node → Keeps node (restamped (time_of state) after) →
-      IsKept (with_status state object after) holds tables
-  kept_status object node after there keeps = kept_node object node (restamped (time_of state) after) there keeps
-
-  pub kept_change_mode : (seat : HostSeat) (fd : Fd) (through : Bool) (mode : ℕ) → IsKept (change_mode state seat fd through mode).1 holds tables
-  kept_change_mode seat fd through mode =
-      by_fd state Stays (λ errno. kept) fd _
-      (λ file node is there. by_checks state Stays (λ errno. kept) (chmod_checks seat file node through) _
-      (λ none. kept_status file.object node (record node { permissions = mode % 4096 }) there
-      (record { ids = refl; serial = refl; object = refl; names = refl; permissions = λ small. omega arith })))
-
-  pub kept_change_owner : (seat : HostSeat) (fd : Fd) (uid gid : ℕ) → IsKept (change_owner state seat fd uid gid).1 holds tables
-  kept_change_owner seat fd uid gid =
-      by_fd state Stays (λ errno. kept) fd _
-      (λ file node is there. by_checks state Stays (λ errno. kept) ((not (includes seat.eff_caps.0 chown), eperm) ∷ []) _
-      (λ none. kept_status file.object node (owned uid gid node) there
-      (record { ids = refl; serial = refl; object = refl; names = refl; permissions = λ small. small })))
-
-  pub kept_set_times : (seat : HostSeat) (fd : Fd) (through : Bool) (atime mtime : TimeSet) → IsKept (set_times state seat fd through atime mtime).1 holds tables
-  kept_set_times seat fd through atime mtime =
-      by_fd state Stays (λ errno. kept) fd _
-      (λ file node is there. by_checks state Stays (λ errno. kept) (times_checks seat file node through atime mtime) _
-      (λ none. kept_status file.object node (timed (time_of state) atime mtime node) there
-      (record { ids = refl; serial = refl; object = refl; names = refl; permissions = λ small. small })))
-
-  pub kept_set_xattr : (fd : Fd) (through : Bool) (name bytes : List ℕ) (flags : ℕ) → IsKept (set_xattr state fd through name bytes flags).1 holds tables
-  kept_set_xattr fd through name bytes flags =
-      by_fd state Stays (λ errno. kept) fd _
-      (λ file node is there. by_checks state Stays (λ errno. kept) (set_xattr_checks file through name bytes flags (value_of name node.xattrs)) _
-      (λ none. kept_status file.object node (record node { xattrs = with_value name bytes node.xattrs }) there
-      (record { ids = refl; serial = refl; object = refl; names = refl; permissions = λ small. small })))
-
-  pub kept_remove_xattr : (fd : Fd) (through : Bool) (name : List ℕ) → IsKept (remove_xattr state fd through name).1 holds tables
-  kept_remove_xattr fd through name =
-      by_fd state Stays (λ errno. kept) fd _
-      (λ file node is there. by_checks state Stays (λ errno. kept) (remove_xattr_checks file through (value_of name node.xattrs)) _
-      (λ none. kept_status file.object node (record node { xattrs = without_value name node.xattrs }) there
-      (record { ids = refl; serial = refl; object = refl; names = refl; permissions = λ small. small })))
-
-  pub kept_read_link : (fd : Fd) → IsKept (read_link state fd).1 holds tables
-  kept_read_link fd =
-      by_fd state Stays (λ errno. kept) fd _
-      (λ file node is there. by_checks state Stays (λ errno. kept) ((not (is_link node), einval) ∷ []) _
-      (λ none. kept_node file.object node (after_reading (time_of state) node) there (keeps_reading (time_of state) node)))
+  abbrev IsLeft : Answered → Type 0
+  IsLeft told = IsKept told.1 holds tables
 
 -- ---- calls of two steps
 
 module _ (state : State) (holds : List ℕ) (tables : ℕ → List Slot) (kept : IsKept state holds tables) where
-  pub kept_list_at : (fd : Fd) (offset : Option ℕ) (size : ℕ) → IsKept (list_at state fd offset size).1 holds tables
-  kept_list_at fd offset size =
-      by_fd state (λ (told : Answered). IsKept told.1 holds tables) (λ errno. kept) fd _
-      (λ file node is there. by_checks state (λ (told : Answered). IsKept told.1 holds tables) (λ errno. kept)
-      (list_checks file node (unwrap_or offset file.position) size) _
-      (λ none. kept_placed (with_node state file.object (after_reading (time_of state) node)) holds tables
-      (kept_node state holds tables kept file.object node (after_reading (time_of state) node) there (keeps_reading (time_of state) node))
-      fd.0 (records size (unwrap_or offset file.position) state.nodes (names_from (unwrap_or offset file.position) node)).1))
-
   pub kept_copy_range : (seat : HostSeat) (fd : Fd) (offset : ℕ) (fd2 : Fd) (offset2 size flags : ℕ) →
       IsKept (copy_range state seat fd offset fd2 offset2 size flags).1 holds tables
   kept_copy_range seat fd offset fd2 offset2 size flags =

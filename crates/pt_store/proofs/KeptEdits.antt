@@ -6,7 +6,7 @@ use Rattle.std.proofs.lemmas.Option.{slice_get_within, get_or_from_slice_get}
 use Rattle.pt_host.specs.Words.{is}
 use Rattle.pt_host.specs.declared.flags.OpenFlags.{OpenFlags}
 use Rattle.pt_host.specs.declared.seat.HostSeat.{HostSeat}
-use Rattle.pt_rules.specs.Calls.{begun_on, with_descriptor, with_opened, with_read}
+use Rattle.pt_rules.specs.Calls.{begun_on, with_descriptor, with_opened, with_node}
 use Rattle.pt_rules.specs.Edits.{moved, replaced, with_moved, with_rewritten, with_unlinked}
 use Rattle.pt_host.specs.declared.ids.Time.{Time}
 use Rattle.pt_node.specs.Entries.{after_losing, changed_at, is_directory_at, is_directory_where, restamped, rewritten, touched, with_name, without_entry, without_name}
@@ -71,11 +71,11 @@ kept_descriptor state holds tables seat flags object node kept there lives =
     (λ o. let opens = opens_of-put state.slots (begun_on flags object) o in omega (arith, opens))
 
 pub kept_read : (state : State) (holds : List ℕ) (tables : ℕ → List Slot) (object : ℕ) (node : Node) → IsKept state holds tables →
-    slice_get state.nodes object ≡ Some node → IsKept (with_read state object node) holds tables
+    slice_get state.nodes object ≡ Some node → IsKept (with_node state object (after_reading (time_of state) node)) holds tables
 kept_read state holds tables object node kept there =
     let keeps = keeps_reading (time_of state) node in
     let after = after_reading (time_of state) node in
-    kept_alike state (with_read state object node) holds tables kept (sound-with_node state object node after kept.sound there keeps)
+    kept_alike state (with_node state object (after_reading (time_of state) node)) holds tables kept (sound-with_node state object node after kept.sound there keeps)
     (alike_set state.nodes object node after there keeps)
     (λ o. let names = names_of-set state.nodes object node after o there keeps.names in omega (arith, names))
 

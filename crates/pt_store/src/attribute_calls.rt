@@ -1,28 +1,30 @@
 ghost use Rattle.std.specs.Prelude.{◌≡◌};
 ghost use Rattle.pt_store.specs.StoreState.{IsKeptBy, state_of};
 ghost use Rattle.pt_rules.specs.Does.{AnswersAs};
+ghost use Rattle.pt_rules.specs.Rows.{on_row};
 ghost use Rattle.pt_node.specs.Attributes.{names_listed};
 ghost use Rattle.pt_rules.specs.AttributeCalls.{
-  change_mode,
-  change_owner,
+  chmod_row,
+  chown_row,
   does_not_serve,
-  get_xattr,
-  list_xattr,
-  remove_xattr,
-  set_times,
-  set_xattr,
+  get_xattr_row,
+  list_xattr_row,
+  remove_xattr_row,
+  times_row,
+  set_xattr_row,
 };
 
 use crate::store::Store;
 use pt_change::attribute_checks::{
-    chmod_refusal, does_not_serve, names_listed, set_xattr_refusal, sized, times_refusal,
+    chmod_refusal, does_not_serve, is_too_long, names_listed, set_xattr_refusal, sized,
+    times_refusal,
 };
 use pt_host::{Bytes, Caps, Errno, Fd, HostReply, HostSeat, HostValue, TimeSet};
 
 impl Store {
     pub fn change_mode(&mut self, seat: &HostSeat, fd: Fd, through: bool, mode: u32) -> HostReply
         requires { IsKeptBy self.old }
-        ensures answers { (result, state_of self.new) ≡ change_mode (state_of self.old) seat.now fd through mode }
+        ensures answers { (result, state_of self.new) ≡ on_row (state_of self.old) fd (chmod_row (state_of self.old) seat.now through mode) }
         ensures kept { IsKeptBy self.new }
     {
         let Some(file) = self.files.get(fd) else {
@@ -41,7 +43,7 @@ impl Store {
 
     pub fn change_owner(&mut self, seat: &HostSeat, fd: Fd, uid: u32, gid: u32) -> HostReply
         requires { IsKeptBy self.old }
-        ensures answers { (result, state_of self.new) ≡ change_owner (state_of self.old) seat.now fd uid gid }
+        ensures answers { (result, state_of self.new) ≡ on_row (state_of self.old) fd (chown_row (state_of self.old) seat.now uid gid) }
         ensures kept { IsKeptBy self.new }
     {
         let Some(file) = self.files.get(fd) else {
@@ -67,7 +69,7 @@ impl Store {
         mtime: TimeSet,
     ) -> HostReply
         requires { IsKeptBy self.old }
-        ensures answers { (result, state_of self.new) ≡ set_times (state_of self.old) seat.now fd through atime mtime }
+        ensures answers { (result, state_of self.new) ≡ on_row (state_of self.old) fd (times_row (state_of self.old) seat.now through atime mtime) }
         ensures kept { IsKeptBy self.new }
     {
         let Some(file) = self.files.get(fd) else {
@@ -93,7 +95,7 @@ impl Store {
         flags: u32,
     ) -> HostReply
         requires { IsKeptBy self.old }
-        ensures answers { AnswersAs (set_xattr (state_of self.old) fd through name.now value.now flags) (state_of self.old) result (state_of self.new) }
+        ensures answers { AnswersAs (on_row (state_of self.old) fd (set_xattr_row (state_of self.old) through name.now value.now flags)) (state_of self.old) result (state_of self.new) }
         ensures kept { IsKeptBy self.new }
     {
         let Some(file) = self.files.get(fd) else {
@@ -120,7 +122,7 @@ impl Store {
 
     pub fn get_xattr(&self, fd: Fd, through: bool, name: &[u8], size: u32) -> HostReply
         requires { IsKeptBy self.now }
-        ensures { AnswersAs (get_xattr (state_of self.now) fd through name.now size) (state_of self.now) result (state_of self.now) }
+        ensures { AnswersAs (on_row (state_of self.now) fd (get_xattr_row through name.now size)) (state_of self.now) result (state_of self.now) }
     {
         let Some(file) = self.files.get(fd) else {
             return HostReply::Refused(Errno::EBADF);
@@ -131,15 +133,21 @@ impl Store {
         if does_not_serve(file, through) {
             return HostReply::Refused(Errno::EBADF);
         }
-        match node.xattrs.get(name) {
-            None => HostReply::Refused(Errno::ENODATA),
-            Some(value) => sized(self.alloc, value.as_slice(), size),
+        let Some(value) = node.xattrs.get(name) else {
+            return HostReply::Refused(Errno::ENODATA);
+        };
+        if is_too_long(value.as_slice(), size) {
+            return HostReply::Refused(Errno::ERANGE);
+        }
+        match sized(self.alloc, value.as_slice(), size) {
+            Ok(told) => HostReply::Ok(told),
+            Err(_) => HostReply::NoMemory,
         }
     }
 
     pub fn list_xattr(&self, fd: Fd, through: bool, size: u32) -> HostReply
         requires { IsKeptBy self.now }
-        ensures { AnswersAs (list_xattr (state_of self.now) fd through size) (state_of self.now) result (state_of self.now) }
+        ensures { AnswersAs (on_row (state_of self.now) fd (list_xattr_row through size)) (state_of self.now) result (state_of self.now) }
     {
         let Some(file) = self.files.get(fd) else {
             return HostReply::Refused(Errno::EBADF);
@@ -150,15 +158,21 @@ impl Store {
         if does_not_serve(file, through) {
             return HostReply::Refused(Errno::EBADF);
         }
-        match names_listed(self.alloc, &node.xattrs) {
-            Ok(names) => sized(self.alloc, &names, size),
+        let Ok(names) = names_listed(self.alloc, &node.xattrs) else {
+            return HostReply::NoMemory;
+        };
+        if is_too_long(&names, size) {
+            return HostReply::Refused(Errno::ERANGE);
+        }
+        match sized(self.alloc, &names, size) {
+            Ok(told) => HostReply::Ok(told),
             Err(_) => HostReply::NoMemory,
         }
     }
 
     pub fn remove_xattr(&mut self, fd: Fd, through: bool, name: &[u8]) -> HostReply
         requires { IsKeptBy self.old }
-        ensures answers { (result, state_of self.new) ≡ remove_xattr (state_of self.old) fd through name.now }
+        ensures answers { (result, state_of self.new) ≡ on_row (state_of self.old) fd (remove_xattr_row (state_of self.old) through name.now) }
         ensures kept { IsKeptBy self.new }
     {
         let Some(file) = self.files.get(fd) else {

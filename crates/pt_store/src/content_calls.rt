@@ -1,19 +1,20 @@
 ghost use Rattle.std.specs.Prelude.{◌≡◌, ◌≤◌, ◌+◌, OnErr, OnOk, length};
 ghost use Rattle.pt_store.specs.StoreState.{IsKeptBy, state_of};
 ghost use Rattle.pt_rules.specs.Does.{AnswersAs};
+ghost use Rattle.pt_rules.specs.Rows.{on_row};
 ghost use Rattle.pt_rules.specs.ContentCalls.{
-  allocate,
+  allocate_row,
   copy_range,
-  flush,
+  flush_row,
   is_path_only,
   lengthens,
   resized,
   seek,
   sought,
-  sync,
-  truncate,
+  sync_row,
+  truncate_row,
   with_written,
-  write_bytes,
+  write_row,
   written,
 };
 ghost use Rattle.pt_node.specs.Limits.{file_max};
@@ -63,7 +64,7 @@ impl Store {
         append: bool,
     ) -> HostReply
         requires { IsKeptBy self.old }
-        ensures answers { AnswersAs (write_bytes (state_of self.old) seat.now fd offset bytes.now append) (state_of self.old) result (state_of self.new) }
+        ensures answers { AnswersAs (on_row (state_of self.old) fd (write_row (state_of self.old) seat.now offset bytes.now append)) (state_of self.old) result (state_of self.new) }
         ensures kept { IsKeptBy self.new }
     {
         let Some(file) = self.files.get(fd) else {
@@ -84,7 +85,7 @@ impl Store {
 
     pub fn truncate(&mut self, seat: &HostSeat, fd: Fd, size: u64) -> HostReply
         requires { IsKeptBy self.old }
-        ensures answers { AnswersAs (truncate (state_of self.old) seat.now fd size) (state_of self.old) result (state_of self.new) }
+        ensures answers { AnswersAs (on_row (state_of self.old) fd (truncate_row (state_of self.old) seat.now size)) (state_of self.old) result (state_of self.new) }
         ensures kept { IsKeptBy self.new }
     {
         let Some(file) = self.files.get(fd) else {
@@ -108,7 +109,7 @@ impl Store {
 
     pub fn allocate(&mut self, fd: Fd, mode: u32, offset: u64, size: u64) -> HostReply
         requires { IsKeptBy self.old }
-        ensures answers { AnswersAs (allocate (state_of self.old) fd mode offset size) (state_of self.old) result (state_of self.new) }
+        ensures answers { AnswersAs (on_row (state_of self.old) fd (allocate_row (state_of self.old) mode offset size)) (state_of self.old) result (state_of self.new) }
         ensures kept { IsKeptBy self.new }
     {
         let Some(file) = self.files.get(fd) else {
@@ -206,7 +207,7 @@ impl Store {
 
     pub fn flush(&self, fd: Fd) -> HostReply
         requires { IsKeptBy self.now }
-        ensures { (result, state_of self.now) ≡ flush (state_of self.now) fd }
+        ensures { (result, state_of self.now) ≡ on_row (state_of self.now) fd flush_row }
     {
         let Some(file) = self.files.get(fd) else {
             return HostReply::Refused(Errno::EBADF);
@@ -220,7 +221,7 @@ impl Store {
     /// `Sync` and `SyncFs`: all is written already.
     pub fn sync(&self, fd: Fd) -> HostReply
         requires { IsKeptBy self.now }
-        ensures { (result, state_of self.now) ≡ sync (state_of self.now) fd }
+        ensures { (result, state_of self.now) ≡ on_row (state_of self.now) fd sync_row }
     {
         let Some(file) = self.files.get(fd) else {
             return HostReply::Refused(Errno::EBADF);

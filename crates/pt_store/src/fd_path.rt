@@ -1,5 +1,6 @@
 ghost use Rattle.pt_rules.specs.Does.{AnswersAs};
-ghost use Rattle.pt_rules.specs.OpeningCalls.{least_path, tell_path};
+ghost use Rattle.pt_rules.specs.Rows.{on_row};
+ghost use Rattle.pt_rules.specs.OpeningCalls.{least_path, fd_path_row};
 ghost use Rattle.pt_store.specs.StoreState.{IsKeptBy, state_of};
 
 use crate::store::Store;
@@ -9,7 +10,7 @@ use pt_host::{Bytes, Errno, Fd, HostReply, HostValue};
 impl Store {
     pub fn fd_path(&self, fd: Fd) -> HostReply
         requires { IsKeptBy self.now }
-        ensures { AnswersAs (tell_path (state_of self.now) fd) (state_of self.now) result (state_of self.now) }
+        ensures { AnswersAs (on_row (state_of self.now) fd (fd_path_row (state_of self.now))) (state_of self.now) result (state_of self.now) }
     {
         let Some(file) = self.files.get(fd) else {
             return HostReply::Refused(Errno::EBADF);

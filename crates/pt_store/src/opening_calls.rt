@@ -1,6 +1,7 @@
 ghost use Rattle.std.specs.Prelude.{◌≡◌, ◌<◌, Some, None, Ok, slice_get, true};
 ghost use Rattle.pt_store.specs.StoreState.{IsKeptBy, numbers_of, state_of};
 ghost use Rattle.pt_rules.specs.Does.{AnswersAs};
+ghost use Rattle.pt_rules.specs.Rows.{on_row};
 ghost use Rattle.pt_node.specs.Entries.{is_directory_at};
 ghost use Rattle.pt_node.specs.Node.{handle_of, name_at};
 ghost use Rattle.pt_rules.specs.Living.{lives_where, living_of};
@@ -12,9 +13,9 @@ ghost use Rattle.pt_rules.specs.OpeningCalls.{
   open_creating,
   open_new,
   open_path,
-  read_link,
+  read_link_row,
   same_handle,
-  tell_fs,
+  stat_fs_row,
   tell_handle,
   tell_mounts,
 };
@@ -269,7 +270,7 @@ impl Store {
 
     pub fn stat_fs(&self, fd: Fd) -> HostReply
         requires { IsKeptBy self.now }
-        ensures { (result, state_of self.now) ≡ tell_fs (state_of self.now) fd }
+        ensures { (result, state_of self.now) ≡ on_row (state_of self.now) fd (stat_fs_row (state_of self.now)) }
     {
         let Some(file) = self.files.get(fd) else {
             return HostReply::Refused(Errno::EBADF);
@@ -291,7 +292,7 @@ impl Store {
 
     pub fn read_link(&mut self, fd: Fd) -> HostReply
         requires { IsKeptBy self.old }
-        ensures answers { AnswersAs (read_link (state_of self.old) fd) (state_of self.old) result (state_of self.new) }
+        ensures answers { AnswersAs (on_row (state_of self.old) fd (read_link_row (state_of self.old))) (state_of self.old) result (state_of self.new) }
         ensures kept { IsKeptBy self.new }
     {
         let Some(file) = self.files.get(fd) else {

@@ -1,7 +1,9 @@
-ghost use Rattle.std.specs.Prelude.{◌≡◌, Ok, ℕ};
+ghost use Rattle.std.specs.Prelude.{◌≡◌, ℕ, Ok};
 ghost use Rattle.pt_store.specs.StoreState.{IsKeptBy, device_at, number_at, state_of};
 ghost use Rattle.pt_rules.specs.State.{time_of};
 ghost use Rattle.pt_rules.specs.Holds.{HasHold};
+ghost use Rattle.pt_rules.specs.ContentCalls.{read_row};
+ghost use Rattle.pt_rules.specs.Rows.{on_row};
 ghost use Rattle.pt_rules.specs.Does.{AnswersAs};
 ghost use Rattle.pt_node.specs.Slots.{open_at};
 ghost use Rattle.pt_rules.specs.Calls.{
@@ -10,7 +12,6 @@ ghost use Rattle.pt_rules.specs.Calls.{
   name_refusal,
   open_walked,
   opening,
-  read_file,
   reopen,
   tell_status,
 };
@@ -140,7 +141,7 @@ impl Store {
 
     pub fn read(&mut self, fd: Fd, offset: u64, size: u32) -> HostReply
         requires { IsKeptBy self.old }
-        ensures answers { AnswersAs (read_file (state_of self.old) fd offset size) (state_of self.old) result (state_of self.new) }
+        ensures answers { AnswersAs (on_row (state_of self.old) fd (read_row (state_of self.old) offset size)) (state_of self.old) result (state_of self.new) }
         ensures kept { IsKeptBy self.new }
     {
         let Some(file) = self.files.get(fd) else {

@@ -1,5 +1,5 @@
 -- Proof. Every step is lawful.
-use Rattle.std.proofs.Common.{◌≡◌, ◌<◌, ◌^◌, inl, inr, ℕ, Bool, true, false, length, Option, Some, None, refl, sym, subst}
+use Rattle.std.proofs.Common.{◌≡◌, ◌<◌, ◌^◌, inl, inr, ℕ, Bool, true, false, length, Option, Some, None, refl, sym, subst, arith, ◌+◌}
 use Rattle.std.proofs.lemmas.Option.{same_Some}
 use Rattle.pt_host.specs.Call.{Call}
 use Rattle.pt_host.specs.LawfulContents.{KeepsAll, LawfulContents, opening_flags}
@@ -18,7 +18,7 @@ use Rattle.pt_node.specs.Slots.{open_at}
 use Rattle.pt_rules.specs.Laws.Opens.{closed_tree}
 use Rattle.pt_rules.specs.Laws.Soundness.{sound-closed}
 use Rattle.pt_rules.specs.Living.{AreLeastFree}
-use Rattle.pt_rules.specs.State.{State, contents_of, tree_of}
+use Rattle.pt_rules.specs.State.{State, contents_of, tree_of, time_of}
 use Rattle.pt_rules.specs.Does.{AnswersCall, Does, TakesMemory, without_memory}
 use Rattle.pt_rules.specs.Faults.{after_failing, failure_of, faulted}
 use Rattle.pt_host.specs.SeatAnswer.{if_allowed, seat_answer}
@@ -37,7 +37,12 @@ use Rattle.pt_rules.specs.Laws.SeatLaws.{other_seat, own_seat, some_seated}
 use Rattle.pt_rules.specs.Laws.WellFormed.{well_formed}
 use Rattle.pt_rules.specs.Laws.NameFair.{fair_make_dir, fair_make_node, fair_remove_dir, fair_symlink, fair_unlink}
 use Rattle.pt_rules.specs.Laws.OpenFair.{closed_description, fair_close, fair_open_path, fair_reopen, fair_root, fair_stat}
-use Rattle.pt_rules.specs.Laws.PlainCalls.{fair_allocate, fair_fd_path, fair_flush, fair_get_xattr, fair_list_xattr, fair_mode, fair_mount_info, fair_owner, fair_read, fair_read_link, fair_remove_xattr, fair_set_xattr, fair_stat_fs, fair_sync, fair_sync_fs, fair_times, fair_truncate, fair_write}
+use Rattle.pt_rules.specs.Laws.PlainCalls.{fair_mount_info, row_fair, keeps_refilled, written_effect, lengthened_effect, keeps_rewritten, sized_fits}
+use Rattle.pt_rules.specs.OpeningCalls.{stat_fs_row, fd_path_row, read_link_row}
+use Rattle.pt_rules.specs.Laws.Keeping.{keeps_reading}
+use Rattle.pt_rules.specs.ContentCalls.{flush_row, truncate_row, write_row, allocate_row, read_row, sync_row, lengthens}
+use Rattle.pt_rules.specs.AttributeCalls.{chmod_row, chown_row, times_row, set_xattr_row, get_xattr_row, list_xattr_row, remove_xattr_row}
+use Rattle.pt_node.specs.Node.{size_of}
 
 abbrev made_outcome : HostReply → State → HostSeat → Outcome
 made_outcome given after seat = (given, after, seat)
@@ -46,26 +51,42 @@ made_outcome given after seat = (given, after, seat)
 pub fair_answer : (state : State) (numbers : ℕ → ℕ) (seat : HostSeat) (asked : Call) → IsSound state → AreLeastFree state numbers →
     IsFair state asked (answer state numbers seat asked)
 fair_answer state numbers seat (call.OpenRoot path flags) sound least = fair_root state seat path flags sound
-fair_answer state numbers seat (call.StatFs fd) sound least = fair_stat_fs state fd sound
-fair_answer state numbers seat (call.FdPath fd) sound least = fair_fd_path state fd sound
+fair_answer state numbers seat (call.StatFs fd) sound least = row_fair state _ sound (λ tree errno. (tt, refl)) (λ tree told fits. (fits, refl)) refl fd (stat_fs_row state)
+    (λ file node on. record { fits = tt; effect = tt })
+fair_answer state numbers seat (call.FdPath fd) sound least = row_fair state _ sound (λ tree errno. (tt, refl)) (λ tree told fits. (fits, refl)) refl fd (fd_path_row state)
+    (λ file node on. record { fits = tt; effect = tt })
 fair_answer state numbers seat call.MountInfo sound least = fair_mount_info state sound
-fair_answer state numbers seat (call.ReadLink fd) sound least = fair_read_link state fd sound
-fair_answer state numbers seat (call.Flush fd) sound least = fair_flush state fd sound
-fair_answer state numbers seat (call.Truncate fd size) sound least = fair_truncate state seat fd size sound
-fair_answer state numbers seat (call.WriteAt fd offset bytes append) sound least = fair_write state seat fd offset bytes append sound
-fair_answer state numbers seat (call.ChMod fd through mode) sound least = fair_mode state seat fd through mode sound
-fair_answer state numbers seat (call.ChOwn fd uid gid) sound least = fair_owner state seat fd uid gid sound
-fair_answer state numbers seat (call.SetTimes fd through atime mtime) sound least = fair_times state seat fd through atime mtime sound
-fair_answer state numbers seat (call.SetXattr fd through name value flags) sound least = fair_set_xattr state fd through name value flags sound
-fair_answer state numbers seat (call.RemoveXattr fd through name) sound least = fair_remove_xattr state fd through name sound
-fair_answer state numbers seat (call.Sync fd datasync) sound least = fair_sync state fd datasync sound
-fair_answer state numbers seat (call.SyncFs fd) sound least = fair_sync_fs state fd sound
-fair_answer state numbers seat (call.Allocate fd mode offset size) sound least = fair_allocate state fd mode offset size sound
+fair_answer state numbers seat (call.ReadLink fd) sound least = row_fair state _ sound (λ tree errno. (tt, refl)) (λ tree told fits. (fits, refl)) refl fd (read_link_row state)
+    (λ file node on. record { fits = tt; effect = (keeps_reading (time_of state) node, inr refl) })
+fair_answer state numbers seat (call.Flush fd) sound least = row_fair state _ sound (λ tree errno. (tt, refl)) (λ tree told fits. (fits, refl)) refl fd flush_row
+    (λ file node on. record { fits = tt; effect = tt })
+fair_answer state numbers seat (call.Truncate fd size) sound least = row_fair state _ sound (λ tree errno. (tt, refl)) (λ tree told fits. (fits, refl)) refl fd (truncate_row state seat size)
+    (λ file node on. record { fits = tt; effect = (keeps_refilled seat (time_of state) _ node, inl on) })
+fair_answer state numbers seat (call.WriteAt fd offset bytes append) sound least = row_fair state _ sound (λ tree errno. (tt, refl)) (λ tree told fits. (fits, refl)) refl fd (write_row state seat offset bytes append)
+    (λ file node on. record { fits = tt; effect = written_effect state seat fd offset _ bytes bytes append (value.Count (length bytes)) file node on })
+fair_answer state numbers seat (call.ChMod fd through mode) sound least = row_fair state _ sound (λ tree errno. (tt, refl)) (λ tree told fits. (fits, refl)) refl fd (chmod_row state seat through mode)
+    (λ file node on. record { fits = tt; effect = (record { ids = refl; serial = refl; object = refl; names = refl; permissions = λ small. omega arith }, inl on) })
+fair_answer state numbers seat (call.ChOwn fd uid gid) sound least = row_fair state _ sound (λ tree errno. (tt, refl)) (λ tree told fits. (fits, refl)) refl fd (chown_row state seat uid gid)
+    (λ file node on. record { fits = tt; effect = (record { ids = refl; serial = refl; object = refl; names = refl; permissions = λ small. small }, inl on) })
+fair_answer state numbers seat (call.SetTimes fd through atime mtime) sound least = row_fair state _ sound (λ tree errno. (tt, refl)) (λ tree told fits. (fits, refl)) refl fd (times_row state seat through atime mtime)
+    (λ file node on. record { fits = tt; effect = (record { ids = refl; serial = refl; object = refl; names = refl; permissions = λ small. small }, inl on) })
+fair_answer state numbers seat (call.SetXattr fd through name value flags) sound least = row_fair state _ sound (λ tree errno. (tt, refl)) (λ tree told fits. (fits, refl)) refl fd (set_xattr_row state through name value flags)
+    (λ file node on. record { fits = tt; effect = (record { ids = refl; serial = refl; object = refl; names = refl; permissions = λ small. small }, inl on) })
+fair_answer state numbers seat (call.RemoveXattr fd through name) sound least = row_fair state _ sound (λ tree errno. (tt, refl)) (λ tree told fits. (fits, refl)) refl fd (remove_xattr_row state through name)
+    (λ file node on. record { fits = tt; effect = (record { ids = refl; serial = refl; object = refl; names = refl; permissions = λ small. small }, inl on) })
+fair_answer state numbers seat (call.Sync fd datasync) sound least = row_fair state _ sound (λ tree errno. (tt, refl)) (λ tree told fits. (fits, refl)) refl fd sync_row
+    (λ file node on. record { fits = tt; effect = tt })
+fair_answer state numbers seat (call.SyncFs fd) sound least = row_fair state _ sound (λ tree errno. (tt, refl)) (λ tree told fits. (fits, refl)) refl fd sync_row
+    (λ file node on. record { fits = tt; effect = tt })
+fair_answer state numbers seat (call.Allocate fd mode offset size) sound least = row_fair state _ sound (λ tree errno. (tt, refl)) (λ tree told fits. (fits, refl)) refl fd (allocate_row state mode offset size)
+    (λ file node on. record { fits = tt; effect = lengthened_effect (lengthens mode (size_of node.content) (offset + size)) state fd mode offset size value.Unit file node _ on
+    (keeps_rewritten (time_of state) _ node) })
 fair_answer state numbers seat (call.MakeDir fd name mode) sound least = fair_make_dir state numbers seat fd name mode sound least
 fair_answer state numbers seat (call.Reopen fd flags) sound least = fair_reopen state seat fd flags sound
 fair_answer state numbers seat (call.Close fd) sound least = fair_close state fd sound
 fair_answer state numbers seat (call.Stat fd) sound least = fair_stat state fd sound
-fair_answer state numbers seat (call.ReadAt fd offset size) sound least = fair_read state fd offset size sound
+fair_answer state numbers seat (call.ReadAt fd offset size) sound least = row_fair state _ sound (λ tree errno. (tt, refl)) (λ tree told fits. (fits, refl)) refl fd (read_row state offset size)
+    (λ file node on. record { fits = tt; effect = (keeps_reading (time_of state) node, inr refl) })
 fair_answer state numbers seat (call.MakeNode fd name mode rdev) sound least = fair_make_node state numbers seat fd name mode rdev sound least
 fair_answer state numbers seat (call.SymLink fd name target) sound least = fair_symlink state numbers seat fd name target sound least
 fair_answer state numbers seat (call.Unlink fd name) sound least = fair_unlink state seat fd name sound
@@ -78,8 +99,10 @@ fair_answer state numbers seat (call.SetEuid uid) sound least = fair_refused sta
 fair_answer state numbers seat (call.RaiseCap caps) sound least = fair_refused state (call.RaiseCap caps) enosys sound (tt, refl)
 fair_answer state numbers seat (call.DropCap caps) sound least = fair_refused state (call.DropCap caps) enosys sound (tt, refl)
 fair_answer state numbers seat (call.SetUmask mask) sound least = fair_refused state (call.SetUmask mask) enosys sound (tt, refl)
-fair_answer state numbers seat (call.GetXattr fd through name size) sound least = fair_get_xattr state fd through name size sound
-fair_answer state numbers seat (call.ListXattr fd through size) sound least = fair_list_xattr state fd through size sound
+fair_answer state numbers seat (call.GetXattr fd through name size) sound least = row_fair state _ sound (λ tree errno. (tt, refl)) (λ tree told fits. (fits, refl)) refl fd (get_xattr_row through name size)
+    (λ file node on. record { fits = sized_fits (call.GetXattr fd through name size) size _ (λ none. none) (λ some. some); effect = tt })
+fair_answer state numbers seat (call.ListXattr fd through size) sound least = row_fair state _ sound (λ tree errno. (tt, refl)) (λ tree told fits. (fits, refl)) refl fd (list_xattr_row through size)
+    (λ file node on. record { fits = sized_fits (call.ListXattr fd through size) size _ (λ none. none) (λ some. some); effect = tt })
 fair_answer state numbers seat (call.HandleOf fd) sound least = fair_handle_of state fd sound
 fair_answer state numbers seat (call.Seek fd offset whence) sound least = fair_seek state fd offset whence sound
 fair_answer state numbers seat (call.ListAt fd offset size) sound least = fair_list state fd offset size sound

@@ -10,9 +10,8 @@ use Rattle.pt_host.specs.declared.ids.Errno.{Errno}
 use Rattle.pt_host.specs.declared.ids.Fd.{Fd}
 use Rattle.pt_host.specs.declared.seat.HostSeat.{HostSeat}
 use Rattle.pt_host.specs.declared.op.KeptHostOp.TheVariants as call
-use Rattle.pt_rules.specs.AttributeCalls.{does_not_serve, remove_xattr_checks, set_xattr_checks, tell_sized, tell_value, with_status}
-use Rattle.pt_node.specs.Attributes.{names_listed, value_of, with_value, without_value}
-use Rattle.pt_rules.specs.Calls.{Answered, checked, done, on_file, on_node}
+use Rattle.pt_rules.specs.AttributeCalls.{does_not_serve, set_xattr_row, get_xattr_row, list_xattr_row, remove_xattr_row}
+use Rattle.pt_rules.specs.Calls.{Answered, checked, on_file, on_node}
 use Rattle.pt_node.specs.Slots.{open_at}
 use Rattle.pt_rules.specs.Sound.{IsSound}
 use Rattle.pt_rules.specs.State.{State, tree_of}
@@ -20,6 +19,7 @@ use Rattle.pt_rules.specs.Table.{answer}
 use Rattle.pt_node.specs.declared.node.Node.{Node}
 use Rattle.pt_node.specs.declared.slots.OpenFile.{OpenFile}
 use Rattle.pt_rules.specs.Laws.WellFormed.{file_of_open}
+use Rattle.pt_rules.specs.Rows.{Row, on_row, by_row}
 
 -- the first test holds and refuses so
 abbrev IsBadFirst : List (Bool × Errno) → Type 0
@@ -58,30 +58,20 @@ module _ (state : State) (fd : Fd) (through : Bool) (sound : IsSound state) (goe
   bad_file None is rest bad = refl
   bad_file (Some file) is rest bad = bad_node file is (slice_get state.nodes file.object) refl (rest file) (λ node. bad file is node)
 
+  bad_row : (made : OpenFile → Node → Row) → ((file : OpenFile) (node : Node) → does_not_serve file through ≡ true → IsBadFirst (made file node).refusals) →
+      IsBadFd (on_row state fd made).0
+  bad_row made first =
+      bad_file (open_at state.slots fd.0) refl (λ file node. by_row state file.object (made file node))
+      (λ file is node. bad_checks state (made file node).refusals _ (first file node (serves_not file is)))
+
 pub path_only_bad : (state : State) (numbers : ℕ → ℕ) (seat : HostSeat) (asked : Call) → IsSound state → AsksPathOnly (tree_of state) asked →
     IsBadFd (answer state numbers seat asked).0
-path_only_bad state numbers seat (call.SetXattr fd through name bytes flags) sound asks =
-    bad_file state fd through sound asks.0 asks.1 (open_at state.slots fd.0) refl
-    (λ file node. checked state (set_xattr_checks file through name bytes flags (value_of name node.xattrs))
-    (done (with_status state file.object (record node { xattrs = with_value name bytes node.xattrs }))))
-    (λ file is node. bad_checks state (set_xattr_checks file through name bytes flags (value_of name node.xattrs))
-    (done (with_status state file.object (record node { xattrs = with_value name bytes node.xattrs })))
-    (serves_not state fd through sound asks.0 asks.1 file is, refl))
-path_only_bad state numbers seat (call.GetXattr fd through name size) sound asks =
-    bad_file state fd through sound asks.0 asks.1 (open_at state.slots fd.0) refl
-    (λ file node. checked state ((does_not_serve file through, ebadf) ∷ []) (tell_value state size (value_of name node.xattrs)))
-    (λ file is node. bad_checks state ((does_not_serve file through, ebadf) ∷ []) (tell_value state size (value_of name node.xattrs))
-    (serves_not state fd through sound asks.0 asks.1 file is, refl))
-path_only_bad state numbers seat (call.ListXattr fd through size) sound asks =
-    bad_file state fd through sound asks.0 asks.1 (open_at state.slots fd.0) refl
-    (λ file node. checked state ((does_not_serve file through, ebadf) ∷ []) (tell_sized state size (names_listed node.xattrs)))
-    (λ file is node. bad_checks state ((does_not_serve file through, ebadf) ∷ []) (tell_sized state size (names_listed node.xattrs))
-    (serves_not state fd through sound asks.0 asks.1 file is, refl))
-path_only_bad state numbers seat (call.RemoveXattr fd through name) sound asks =
-    bad_file state fd through sound asks.0 asks.1 (open_at state.slots fd.0) refl
-    (λ file node. checked state (remove_xattr_checks file through (value_of name node.xattrs))
-    (done (with_status state file.object (record node { xattrs = without_value name node.xattrs }))))
-    (λ file is node. bad_checks state (remove_xattr_checks file through (value_of name node.xattrs))
-    (done (with_status state file.object (record node { xattrs = without_value name node.xattrs })))
-    (serves_not state fd through sound asks.0 asks.1 file is, refl))
+path_only_bad state numbers seat (call.SetXattr fd through name bytes flags) sound asks = bad_row state fd through sound asks.0 asks.1 (set_xattr_row state through name bytes flags)
+    (λ file node serves. (serves, refl))
+path_only_bad state numbers seat (call.GetXattr fd through name size) sound asks = bad_row state fd through sound asks.0 asks.1 (get_xattr_row through name size)
+    (λ file node serves. (serves, refl))
+path_only_bad state numbers seat (call.ListXattr fd through size) sound asks = bad_row state fd through sound asks.0 asks.1 (list_xattr_row through size)
+    (λ file node serves. (serves, refl))
+path_only_bad state numbers seat (call.RemoveXattr fd through name) sound asks = bad_row state fd through sound asks.0 asks.1 (remove_xattr_row state through name)
+    (λ file node serves. (serves, refl))
 path_only_bad state numbers seat asked sound asks = absurd asks

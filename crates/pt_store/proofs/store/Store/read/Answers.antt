@@ -1,7 +1,8 @@
 use Rattle.std.proofs.Common.{ap, sym, List, ◌∙◌, refl, Some, slice_get, slice_set}
 use Rattle.std.proofs.lemmas.Option.{get_or_from_slice_get, slice_get-get_or}
 use Rattle.pt_host.specs.declared.ids.Time.{Time}
-use Rattle.pt_rules.specs.Calls.{with_read}
+use Rattle.pt_rules.specs.State.{time_of}
+use Rattle.pt_rules.specs.Calls.{with_node}
 use Rattle.pt_node.specs.Numbers.{table_in}
 use Rattle.pt_node.specs.Reading.{after_reading}
 use Rattle.pt_store.specs.StoreState.{state_of}
@@ -24,4 +25,4 @@ returns-in-Ok-clause-kept c =
     let was = c.index_mut.ensures.value ∙ get_or_from_slice_get state.nodes object node _ there in
     let nodes = ap (λ (n : Node). slice_set state.nodes object (after_reading c.now-now.result n)) was
     ∙ ap (λ (now : Time). slice_set state.nodes object (after_reading now node)) c.now-now.ensures in
-    kept_as (with_read state object node) _ holds _ tables _ (ap (nodes_in state) nodes) refl refl (kept_read state holds tables object node c.requires there)
+    kept_as (with_node state object (after_reading (time_of state) node)) _ holds _ tables _ (ap (nodes_in state) nodes) refl refl (kept_read state holds tables object node c.requires there)
