@@ -1,52 +1,27 @@
--- What the lines of a start leave: no descriptor is open, no failure was counted, and an old path leads to what lives.
-use Rattle.std.proofs.Common.{◌≡◌, ◌+◌, ◌%◌, ◌/◌, ◌==◌, nat_lt, nat_le, ◌&&◌, ◌⊎◌, inl, inr, ℕ, zero, suc, Bool, true, false, cond, List, [], ◌∷◌, length, Option, Some, None, option_map, option_and_then, Result, Ok, slice_get, refl, ap, sym, ◌∙◌}
+-- No line of a tree opens a descriptor or is a failure.
+use Rattle.std.proofs.Common.{◌≡◌, ◌+◌, ◌%◌, ◌/◌, nat_lt, nat_le, ◌&&◌, ℕ, zero, suc, Bool, true, false, cond, List, [], ◌∷◌, length, Option, Some, None, option_map, option_and_then, Result, Ok, slice_get, refl, ap, sym, ◌∙◌}
 use Rattle.std.specs.Str.{bytes_eq}
 use Rattle.std.proofs.lemmas.Option.{same_Some}
-use Rattle.pt_tree.specs.Calls.{parts}
-use Rattle.pt_tree.specs.Living.{HasName, Lives}
-use Rattle.pt_tree.specs.NameCalls.{special_kind, with_linked}
-use Rattle.pt_tree.specs.NewPlace.{place_of}
-use Rattle.pt_tree.specs.Node.{name_at}
-use Rattle.pt_tree.specs.Slots.{no_files, open_at}
-use Rattle.pt_tree.specs.Start.{add_hard, add_line, add_lines, add_link, add_mount, add_object, add_of_mode, add_special, add_xattr, first_line, going_on, is_linkable, is_new_mount, mount_in, mount_root, mounted, object_after, object_below, object_named, start_of, start_with, started, with_xattr}
-use Rattle.pt_tree.specs.Edits.{with_made}
-use Rattle.pt_tree.specs.State.{State, opened_as}
-use Rattle.pt_tree.specs.declared.node.Content.{Content}
-use Rattle.pt_tree.specs.declared.node.Content.TheVariants as content
-use Rattle.pt_tree.specs.declared.node.Node.{Node}
-use Rattle.pt_tree.specs.declared.node.SpecialKind.{SpecialKind}
-use Rattle.pt_tree.specs.declared.slots.Slot.{Slot}
+use Rattle.pt_rules.specs.NameCalls.{special_kind, with_linked}
+use Rattle.pt_node.specs.NewPlace.{place_of}
+use Rattle.pt_node.specs.Slots.{no_files, open_at}
+use Rattle.pt_rules.specs.Building.{add_hard, add_link, add_mount, add_object, add_of_mode, add_special, add_xattr, is_linkable, is_new_mount, mount_in, mount_root, mounted, start_with, started, with_xattr}
+use Rattle.pt_tree.specs.Start.{add_line, add_lines, first_line, going_on, start_of}
+use Rattle.pt_node.specs.Paths.{object_named}
+use Rattle.pt_rules.specs.Edits.{with_made}
+use Rattle.pt_rules.specs.State.{State, opened_as}
+use Rattle.pt_node.specs.declared.node.Content.{Content}
+use Rattle.pt_node.specs.declared.node.Content.TheVariants as content
+use Rattle.pt_node.specs.declared.node.Node.{Node}
+use Rattle.pt_node.specs.declared.node.SpecialKind.{SpecialKind}
+use Rattle.pt_node.specs.declared.slots.Slot.{Slot}
 use Rattle.pt_tree.specs.declared.spec.TreeLine.{TreeLine}
 use Rattle.pt_tree.specs.declared.spec.TreeLine.TheVariants as tree_line
-use Rattle.pt_tree.specs.Laws.WellFormed.{and_then_some}
-
--- ---- an old path
-
-below_lives : (nodes : List Node) (at : ℕ) (names : List (List ℕ)) (object : ℕ) → object_below nodes at names ≡ Some object → (object ≡ at) ⊎ HasName nodes object
-below_lives nodes at [] object is = inl (sym (same_Some at object is))
-below_lives nodes at (name ∷ more) object is =
-    let child = and_then_some (λ child. object_below nodes child more) (name_at nodes at name) object is in
-    elim (below_lives nodes child.0 more object child.2) [
-      | inl same ↦ inr (at, name, child.1 ∙ ap (λ (o : ℕ). Some o) (sym same))
-      | inr has ↦ inr has
-    ]
-
-after_lives : (nodes : List Node) (path : List ℕ) (object : ℕ) → object_after nodes path ≡ Some object → (object ≡ 0) ⊎ HasName nodes object
-after_lives nodes [] object is = inl (sym (same_Some 0 object is))
-after_lives nodes (byte ∷ path) object is = below_lives nodes 0 (parts (byte ∷ path)) object is
+use Rattle.pt_rules.specs.Laws.WellFormed.{and_then_some}
 
 past_test : {A : Type 0} (b : Bool) (led : Option A) (told : A) → cond b led None ≡ Some told → led ≡ Some told
 past_test true led told is = is
 past_test false led told is = cc
-
-pub named_lives : (state : State) (path : List ℕ) (object : ℕ) → object_named state.nodes path ≡ Some object → Lives state object
-named_lives state [] object is = cc
-named_lives state (byte ∷ path) object is = elim (after_lives state.nodes path object (past_test (byte == 47) (object_after state.nodes path) object is)) [
-  | inl root ↦ inl root
-  | inr has ↦ inr (inl has)
-]
-
--- ---- no line opens a descriptor or is a failure
 
 mapped : {A B : Type 0} (f : A → B) (o : Option A) (b : B) → option_map f o ≡ Some b → (a : A) × (f a ≡ b)
 mapped f None b is = cc

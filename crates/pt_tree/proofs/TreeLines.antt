@@ -1,8 +1,9 @@
 -- The lines below a directory, entry by entry.
 use Rattle.std.proofs.Common.{◌≡◌, ◌<◌, ◌-◌, ◌++◌, ◌∷◌, ℕ, zero, suc, List, arith, ap, slice_get}
 use Rattle.std.specs.List.{flat_map}
-use Rattle.pt_tree.specs.Listing.{line_at, lines_below, names_at}
-use Rattle.pt_tree.specs.declared.node.Node.{Node}
+use Rattle.pt_tree.specs.Listing.{line_at, lines_below}
+use Rattle.pt_node.specs.Paths.{names_at}
+use Rattle.pt_node.specs.declared.node.Node.{Node}
 
 -- the lines of one entry of the directory with this path
 abbrev pub entry_lines : ℕ → List Node → List ℕ → List ℕ × ℕ → List ℕ

@@ -1,10 +1,11 @@
--- A tree as text: a line for each name from the root on, depth first, the names of a directory in byte order.
+-- Believed. A tree as text: a line for each name from the root on, depth first, the names of a directory in byte order.
 use Rattle.std.specs.Prelude.{ℕ, zero, suc, List, [], ◌∷◌, ◌++◌, length, codes, decimal, Option, Some, None, slice_get}
 use Rattle.std.specs.List.{flat_map}
 use Rattle.pt_text.specs.ByteWord.{byte_word}
-use Rattle.pt_tree.specs.Node.{bytes_in, mode_of, names_in}
-use Rattle.pt_tree.specs.State.{State}
-use Rattle.pt_tree.specs.declared.node.Node.{Node}
+use Rattle.pt_node.specs.Node.{bytes_in, mode_of}
+use Rattle.pt_rules.specs.State.{State}
+use Rattle.pt_node.specs.declared.node.Node.{Node}
+use Rattle.pt_node.specs.Paths.{names_at}
 
 abbrev pub number_word : ℕ → List ℕ
 number_word number = 32 ∷ decimal number
@@ -27,10 +28,6 @@ xattr_line path entry = codes "xattr " ++ (byte_word path ++ (32 ∷ byte_word e
 abbrev pub line_at : List ℕ → Option Node → List ℕ
 line_at path None = []
 line_at path (Some node) = object_line path node ++ flat_map (xattr_line path) node.xattrs
-
-abbrev pub names_at : Option Node → List (List ℕ × ℕ)
-names_at None = []
-names_at (Some node) = names_in node.content
 
 -- the lines of what lies below the directory at this place, down to a depth
 abbrev pub lines_below : ℕ → List Node → List ℕ → ℕ → List ℕ

@@ -6,17 +6,17 @@ ghost use Rattle.pt_host.specs.declared.ids.Errno.{Errno};
 ghost use Rattle.pt_host.specs.declared.op.KeptHostOp.TheVariants as call;
 ghost use Rattle.pt_host.specs.declared.seat.HostSeat.{HostSeat};
 ghost use Rattle.pt_host.specs.declared.reply.HostReply.TheVariants.{Fault};
-ghost use Rattle.pt_tree.specs.State.{contents_of, tree_of};
-ghost use Rattle.pt_tree.specs.Does.{Does};
-ghost use Rattle.pt_tree.specs.Faults.{failure_of, faults_with, planned};
-ghost use Rattle.pt_tree.specs.Unchanged.{IsNotOk, tree_left};
-ghost use Rattle.pt_tree.specs.Laws.Lawful.{does_lawful};
-ghost use Rattle.pt_tree.specs.Laws.Promised.{does_promised};
+ghost use Rattle.pt_rules.specs.State.{contents_of, tree_of};
+ghost use Rattle.pt_rules.specs.Does.{Does};
+ghost use Rattle.pt_rules.specs.Faults.{failure_of, faults_with, planned};
+ghost use Rattle.pt_rules.specs.Unchanged.{IsNotOk, tree_left};
+ghost use Rattle.pt_rules.specs.Laws.Lawful.{does_lawful};
+ghost use Rattle.pt_rules.specs.Laws.Promised.{does_promised};
 ghost use Rattle.pt_tree.specs.declared.spec.SpecError.TheVariants.{Memory};
 
 use crate::spec::SpecError;
-use crate::store::Store;
 use pt_host::{Edit, Errno, Host, HostOp, HostReply, HostSeat};
+use pt_store::store::Store;
 use std::marker::Model;
 
 /// A host that holds a directory tree in memory.
@@ -26,8 +26,8 @@ pub struct TreeHost {
 }
 
 impl Model for TreeHost {
-    ghost use Rattle.pt_tree.specs.State.{State};
-    ghost use Rattle.pt_tree.specs.StoreState.{IsKeptBy, state_of};
+    ghost use Rattle.pt_rules.specs.State.{State};
+    ghost use Rattle.pt_store.specs.StoreState.{IsKeptBy, state_of};
 
     ghost Value = { State };
 

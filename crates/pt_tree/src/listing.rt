@@ -1,15 +1,23 @@
-ghost use Rattle.std.specs.Prelude.{◌≡◌, ◌<◌, ◌++◌, ◌∷◌, [], OnOk, IfOk, IfErr, codes, slice_get};
+ghost use Rattle.std.specs.Prelude.{◌≡◌, ◌<◌, ◌++◌, OnOk, IfOk, IfErr, slice_get};
 ghost use Rattle.std.specs.List.{flat_map};
-ghost use Rattle.pt_tree.specs.Sound.{HavePermissions};
-ghost use Rattle.pt_tree.specs.Listing.{line_at, lines_below, listing_of, number_word, numbers_of, object_line, xattr_line};
+ghost use Rattle.pt_rules.specs.Sound.{HavePermissions};
+ghost use Rattle.pt_tree.specs.Listing.{
+  line_at,
+  lines_below,
+  listing_of,
+  number_word,
+  numbers_of,
+  object_line,
+  xattr_line,
+};
 ghost use Rattle.pt_tree.specs.declared.spec.SpecError.TheVariants.{Memory};
 
-use crate::attributes::Attributes;
 use crate::host::TreeHost;
-use crate::node::Node;
-use crate::path::names_of;
 use crate::spec::SpecError;
 use pt_host::Bytes;
+use pt_node::attributes::Attributes;
+use pt_node::node::Node;
+use pt_node::path::names_of;
 use pt_text::{push_byte_word, push_decimal, push_text};
 use std::alloc::{AllocError, Global};
 

@@ -1,7 +1,7 @@
 use Rattle.std.proofs.Common.{◌≡◌, ◌++◌, ◌-◌, sym, ap, ◌∙◌, arith, ◌<◌, refl, slice_get}
 use Rattle.std.specs.List.{flat_map}
-use Rattle.pt_tree.specs.Listing.{names_at}
-use Rattle.pt_tree.proofs.NameOrder.{seen}
+use Rattle.pt_node.specs.Paths.{names_at}
+use Rattle.pt_node.specs.Laws.NameOrder.{seen}
 use Rattle.pt_tree.proofs.TreeLines.{entry_lines, lines_below-more}
 use Rattle.pt_tree.proofs.listing.+push_below.Goals as goal
 

@@ -1,7 +1,7 @@
 use Rattle.std.proofs.Common.{◌≡◌, ◌-◌, ◌<◌, ◌++◌, length}
 use Rattle.std.specs.List.{flat_map}
 use Rattle.pt_tree.specs.Listing.{lines_below}
-use Rattle.pt_tree.proofs.NameOrder.{seen}
+use Rattle.pt_node.specs.Laws.NameOrder.{seen}
 use Rattle.pt_tree.proofs.TreeLines.{entry_lines}
 use Rattle.pt_tree.proofs.listing.+push_below.Given as goal
 

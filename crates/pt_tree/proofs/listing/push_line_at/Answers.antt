@@ -2,7 +2,7 @@ use Rattle.std.proofs.Common.{◌++◌, List, ℕ, Option, Some, ap, sym, ◌∙
 use Rattle.std.specs.List.{flat_map}
 use Rattle.std.proofs.lemmas.Option.{slice_get-get_or}
 use Rattle.pt_tree.specs.Listing.{line_at, object_line, xattr_line}
-use Rattle.pt_tree.specs.declared.node.Node.{Node}
+use Rattle.pt_node.specs.declared.node.Node.{Node}
 use Rattle.pt_tree.proofs.listing.push_line_at.Goals as goal
 
 pub returns-in_ok-push_xattrs-in-Some : goal.returns-in_ok-push_xattrs-in-Some

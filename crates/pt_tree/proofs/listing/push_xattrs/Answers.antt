@@ -1,7 +1,7 @@
 use Rattle.std.proofs.Common.{◌++◌, ap, ◌∙◌}
 use Rattle.std.specs.List.{flat_map}
 use Rattle.pt_tree.specs.Listing.{xattr_line}
-use Rattle.pt_tree.proofs.NameOrder.{seen}
+use Rattle.pt_node.specs.Laws.NameOrder.{seen}
 use Rattle.pt_tree.proofs.listing.push_xattrs.Goals as goal
 
 pub loop-name-init : goal.loop-name-init

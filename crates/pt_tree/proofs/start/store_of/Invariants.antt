@@ -1,6 +1,6 @@
 use Rattle.std.proofs.Common.{◌≡◌, ◌+◌, drop}
 use Rattle.pt_tree.specs.Start.{add_lines, start_of}
-use Rattle.pt_tree.specs.StoreState.{IsStarting, state_of}
+use Rattle.pt_store.specs.StoreState.{IsStarting, state_of}
 use Rattle.pt_tree.proofs.start.store_of.Given as goal
 
 abbrev pub invariant-loop-line : goal.invariant-loop-line

@@ -2,10 +2,10 @@
 use Rattle.std.proofs.Common.{[], subst}
 use Rattle.pt_host.specs.declared.op.KeptHostOp.TheVariants as call
 use Rattle.pt_host.specs.declared.seat.HostSeat.{HostSeat}
-use Rattle.pt_tree.specs.Does.{Does}
-use Rattle.pt_tree.specs.State.{State}
-use Rattle.pt_tree.specs.StoreState.{state_of}
-use Rattle.pt_tree.specs.Laws.Unchanged.{does_count, does_fail, does_leave_contents, does_leave_tree, does_stay_well_formed}
+use Rattle.pt_rules.specs.Does.{Does}
+use Rattle.pt_rules.specs.State.{State}
+use Rattle.pt_store.specs.StoreState.{state_of}
+use Rattle.pt_rules.specs.Laws.Unchanged.{does_count, does_fail, does_leave_contents, does_leave_tree, does_stay_well_formed}
 use Rattle.pt_tree.proofs.host.TreeHost.edit.Goals as goal
 
 any_seat : HostSeat

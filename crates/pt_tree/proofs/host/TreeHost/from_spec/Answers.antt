@@ -1,5 +1,5 @@
-use Rattle.pt_tree.specs.StoreState.{state_of}
-use Rattle.pt_tree.specs.Laws.WellFormed.{well_formed}
+use Rattle.pt_store.specs.StoreState.{state_of}
+use Rattle.pt_rules.specs.Laws.WellFormed.{well_formed}
 use Rattle.pt_tree.proofs.StartLines.{none_failed, none_open}
 use Rattle.pt_tree.proofs.host.TreeHost.from_spec.Goals as goal
 

@@ -1,5 +1,5 @@
 use Rattle.std.proofs.Common.{ap, sym, slice_get, List, ◌∙◌}
-use Rattle.pt_tree.specs.declared.node.Node.{Node}
+use Rattle.pt_node.specs.declared.node.Node.{Node}
 use Rattle.pt_tree.proofs.host.TreeHost.listing.Goals as goal
 
 pub push_line_at-requires : goal.push_line_at-requires

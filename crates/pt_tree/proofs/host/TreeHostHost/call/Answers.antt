@@ -1,10 +1,10 @@
 -- The store's answer is a step, and the laws of steps say the rest.
 use Rattle.std.proofs.Common.{subst}
 use Rattle.pt_host.specs.Call.{call_of}
-use Rattle.pt_tree.specs.Does.{Does}
-use Rattle.pt_tree.specs.State.{State}
-use Rattle.pt_tree.specs.StoreState.{state_of}
-use Rattle.pt_tree.specs.Laws.Unchanged.{does_count, does_fail, does_leave_contents, does_leave_seat, does_leave_tree, does_stay_well_formed}
+use Rattle.pt_rules.specs.Does.{Does}
+use Rattle.pt_rules.specs.State.{State}
+use Rattle.pt_store.specs.StoreState.{state_of}
+use Rattle.pt_rules.specs.Laws.Unchanged.{does_count, does_fail, does_leave_contents, does_leave_seat, does_leave_tree, does_stay_well_formed}
 use Rattle.pt_tree.proofs.host.TreeHostHost.call.Goals as goal
 
 pub returns-clause-does : goal.returns-clause-does

@@ -1,0 +1,3 @@
+pub mod EditParts
+pub mod Listed
+pub mod TreePaths

@@ -1,0 +1,21 @@
+use Rattle.std.proofs.Common.{◌≡◌, ◌-◌, ◌<◌, refl, sym, ap, ◌∙◌, arith, slice_get}
+use Rattle.std.specs.List.{flat_map, fold}
+use Rattle.pt_node.specs.Paths.{names_at}
+use Rattle.pt_rules.specs.OpeningCalls.{kept_path, lesser}
+use Rattle.pt_node.specs.Laws.NameOrder.{seen}
+use Rattle.pt_change.proofs.TreePaths.{entry_paths, paths_below-more}
+use Rattle.pt_change.proofs.fd_paths.+look_below.Goals as goal
+
+pub loop-name-init : goal.loop-name-init
+loop-name-init t c =
+    let deep : 0 < c.args.depth = omega arith in
+    let entries : seen c.into_iter-name-iterator.result ≡ names_at (slice_get c.args.nodes.now c.args.dir) =
+    ap seen (c.into_iter-name-iterator.ensures.into_iter_gives ∙ c.iter-name-items.ensures.rest) ∙ c.names.view_is ∙ c.in-Some.ensures in
+    record {
+      path = refl;
+      from = omega (arith, c.args.path.now.ok);
+      deep = deep;
+      best = ap (λ paths. fold lesser (kept_path c.args.best.now) paths)
+          (ap (flat_map (entry_paths (c.args.depth - 1) c.args.nodes.now c.args.path.now.items c.args.object)) entries
+          ∙ sym (paths_below-more c.args.depth c.args.nodes.now c.args.path.now.items c.args.dir c.args.object deep));
+    }

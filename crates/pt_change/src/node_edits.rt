@@ -1,0 +1,327 @@
+ghost use Rattle.std.specs.Prelude.{◌≡◌, OnOk, OnErr, Some, false, true, is_some, slice_get, ◌<◌, None, Ok};
+ghost use Rattle.std.specs.Option.{option_map_or};
+ghost use Rattle.pt_node.specs.Node.{name_at};
+ghost use Rattle.pt_rules.specs.NameCalls.{exchanged, linked};
+ghost use Rattle.pt_node.specs.Entries.{
+  after_losing,
+  changed_at,
+  is_directory_at,
+  restamped,
+  rewritten,
+  touched,
+  with_entry,
+  without_entry,
+};
+ghost use Rattle.pt_node.specs.NewPlace.{seen_place};
+ghost use Rattle.pt_rules.specs.Edits.{
+  holds_any,
+  is_mounted,
+  is_target_directory,
+  move_refusal,
+  moved,
+  node_at,
+  replace_refusal,
+  replaced,
+  unlink_refusal,
+  unlinked,
+  write_refusal,
+  grown,
+};
+
+use pt_host::{Bytes, Errno, Time};
+use pt_node::node::{Content, FILE_MAX, Node};
+use pt_node::path::name_at;
+use std::alloc::{AllocError, Global};
+
+pub fn is_directory_at(nodes: &[Node], place: usize) -> bool
+    ensures { result ≡ is_directory_at nodes.now place }
+{
+    match nodes.get(place) {
+        None => false,
+        Some(node) => node.is_directory(),
+    }
+}
+
+pub fn holds_any(node: &Node) -> bool
+    ensures { result ≡ holds_any node.now }
+{
+    match &node.content {
+        Content::Directory(names) => !names.is_empty(),
+        Content::Regular(_) | Content::Link(_) | Content::Special(_) => false,
+    }
+}
+
+/// Whether what stands under a name of this directory is the root of another mount.
+pub fn is_mounted(dir: &Node, node: &Node) -> bool
+    ensures { result ≡ is_mounted dir.now node.now }
+{
+    node.ids.mnt_id != dir.ids.mnt_id
+}
+
+/// The error for which the object is not unlinked from this directory, where there is one.
+pub fn unlink_refusal(nodes: &[Node], dir: usize, object: usize) -> Option<Errno>
+    ensures { result ≡ unlink_refusal (slice_get nodes.now dir) (slice_get nodes.now object) }
+{
+    let (Some(dir), Some(node)) = (nodes.get(dir), nodes.get(object)) else {
+        return Some(Errno::EIO);
+    };
+    if is_mounted(dir, node) {
+        Some(Errno::EBUSY)
+    } else if holds_any(node) {
+        Some(Errno::ENOTEMPTY)
+    } else {
+        None
+    }
+}
+
+/// The error for which the object is not moved from the one directory to the other.
+pub fn move_refusal(
+    nodes: &[Node],
+    into_itself: bool,
+    from: usize,
+    to: usize,
+    object: usize,
+    target: Option<usize>,
+) -> Option<Errno>
+    ensures { result ≡ move_refusal into_itself (slice_get nodes.now from) (slice_get nodes.now to) (slice_get nodes.now object) (node_at nodes.now target) }
+{
+    let (Some(from), Some(to), Some(node)) = (nodes.get(from), nodes.get(to), nodes.get(object))
+    else {
+        return Some(Errno::EIO);
+    };
+    if from.ids.mnt_id != to.ids.mnt_id {
+        Some(Errno::EXDEV)
+    } else if is_mounted(from, node) || is_mounted_at(nodes, to, target) {
+        Some(Errno::EBUSY)
+    } else if into_itself {
+        Some(Errno::EINVAL)
+    } else {
+        None
+    }
+}
+
+pub fn is_mounted_at(nodes: &[Node], dir: &Node, target: Option<usize>) -> bool
+    ensures { result ≡ option_map_or (is_mounted dir.now) (node_at nodes.now target) false }
+{
+    match target {
+        None => false,
+        Some(target) => match nodes.get(target) {
+            None => false,
+            Some(node) => is_mounted(dir, node),
+        },
+    }
+}
+
+/// The error for which the object does not take the place of the target.
+pub fn replace_refusal(nodes: &[Node], object: usize, target: usize) -> Option<Errno>
+    ensures { result ≡ replace_refusal (slice_get nodes.now object) (slice_get nodes.now target) }
+{
+    let (Some(node), Some(target)) = (nodes.get(object), nodes.get(target)) else {
+        return Some(Errno::EIO);
+    };
+    if node.is_directory() && !target.is_directory() {
+        Some(Errno::ENOTDIR)
+    } else if !node.is_directory() && target.is_directory() {
+        Some(Errno::EISDIR)
+    } else if holds_any(target) {
+        Some(Errno::ENOTEMPTY)
+    } else {
+        None
+    }
+}
+
+/// The error for which the object does not get new contents of this size.
+pub fn write_refusal(nodes: &[Node], object: usize, size: usize) -> Option<Errno>
+    ensures { result ≡ write_refusal (slice_get nodes.now object) size }
+{
+    let Some(node) = nodes.get(object) else {
+        return Some(Errno::EIO);
+    };
+    if node.is_directory() {
+        Some(Errno::EISDIR)
+    } else if node.is_link() {
+        Some(Errno::ELOOP)
+    } else if node.is_special() {
+        Some(Errno::ENXIO)
+    } else if size > FILE_MAX {
+        Some(Errno::EFBIG)
+    } else {
+        None
+    }
+}
+
+fn lose_name(nodes: &mut [Node], place: usize, now: Time)
+    ensures { nodes.new ≡ changed_at place (after_losing now) nodes.old }
+{
+    if place < nodes.len() {
+        nodes[place].lose_name(now);
+    }
+}
+
+fn restamp(nodes: &mut [Node], place: usize, now: Time)
+    ensures { nodes.new ≡ changed_at place (restamped now) nodes.old }
+{
+    if place < nodes.len() {
+        nodes[place].restamp(now);
+    }
+}
+
+fn lose_entry(nodes: &mut [Node], dir: usize, name: &[u8], directory: bool, now: Time)
+    ensures { nodes.new ≡ changed_at dir (λ at. touched now (without_entry name.now directory at)) nodes.old }
+{
+    if dir < nodes.len() {
+        nodes[dir].lose_entry(name, directory, now);
+    }
+}
+
+/// The name in this directory leads to the object.
+pub fn gain_entry(
+    nodes: &mut [Node],
+    dir: usize,
+    name: Vec<u8>,
+    object: usize,
+    directory: bool,
+    replaced: bool,
+    now: Time,
+) -> Result<(), AllocError>
+    ensures ok { OnOk result (nodes.new ≡ changed_at dir (λ at. touched now (with_entry name.items object directory replaced at)) nodes.old) }
+    ensures err { OnErr result (nodes.new ≡ nodes.old) }
+{
+    if dir < nodes.len() {
+        return nodes[dir].gain_entry(name, object, directory, replaced, now);
+    }
+    Ok(())
+}
+
+/// The file gets new contents.
+pub fn rewrite(nodes: &mut [Node], object: usize, bytes: Bytes, now: Time)
+    ensures { nodes.new ≡ changed_at object (rewritten now bytes) nodes.old }
+{
+    if object < nodes.len() {
+        nodes[object].rewrite(bytes, now);
+    }
+}
+
+/// The object loses this name.
+pub fn unlink(nodes: &mut [Node], now: Time, dir: usize, name: &[u8], object: usize)
+    ensures { nodes.new ≡ unlinked now dir name.now object nodes.old }
+{
+    let directory = is_directory_at(nodes, object);
+    lose_entry(nodes, dir, name, directory, now);
+    lose_name(nodes, object, now);
+}
+
+fn is_target_directory(nodes: &[Node], target: Option<usize>) -> bool
+    ensures { result ≡ is_target_directory nodes.now target }
+{
+    match target {
+        None => false,
+        Some(target) => is_directory_at(nodes, target),
+    }
+}
+
+fn lose_replaced(nodes: &mut [Node], target: Option<usize>, now: Time)
+    ensures { nodes.new ≡ replaced now target nodes.old }
+{
+    if let Some(target) = target {
+        lose_name(nodes, target, now);
+    }
+}
+
+/// The object gets the new name, in place of the target where there is one, and loses the old one.
+pub fn rename(
+    alloc: Global,
+    nodes: &mut [Node],
+    now: Time,
+    from: (usize, &[u8]),
+    to: (usize, &[u8]),
+    object: usize,
+    target: Option<usize>,
+) -> Result<(), AllocError>
+    ensures ok { OnOk result (nodes.new ≡ moved now (seen_place from.entry) (seen_place to.entry) object target nodes.old) }
+    ensures err { OnErr result (nodes.new ≡ nodes.old) }
+{
+    let directory = is_directory_at(nodes, object);
+    let replaced = is_target_directory(nodes, target);
+    let new = to.1.to_vec(alloc)?;
+    gain_entry(nodes, to.0, new, object, directory, replaced, now)?;
+    lose_replaced(nodes, target, now);
+    lose_entry(nodes, from.0, from.1, directory, now);
+    restamp(nodes, object, now);
+    Ok(())
+}
+
+/// The name in this directory, which is there, leads to the object.
+fn lead_entry(
+    nodes: &mut [Node],
+    dir: usize,
+    name: &[u8],
+    object: usize,
+    directory: bool,
+    replaced: bool,
+    now: Time,
+)
+    requires { is_some (name_at nodes.old dir name.now) ≡ true }
+    ensures { nodes.new ≡ changed_at dir (λ at. touched now (with_entry name.now object directory replaced at)) nodes.old }
+{
+    if dir < nodes.len() {
+        nodes[dir].lead_entry(name, object, directory, replaced, now);
+    }
+}
+
+/// The object gets this name too.
+pub fn link(
+    nodes: &mut [Node],
+    now: Time,
+    dir: usize,
+    name: Vec<u8>,
+    object: usize,
+) -> Result<(), AllocError>
+    ensures ok { OnOk result (nodes.new ≡ linked now dir name.items object nodes.old) }
+    ensures err { OnErr result (nodes.new ≡ nodes.old) }
+{
+    gain_entry(nodes, dir, name, object, false, false, now)?;
+    if object < nodes.len() {
+        nodes[object].gain_name(now);
+    }
+    Ok(())
+}
+
+/// The two objects, which have these names, get each other's.
+pub fn exchange(
+    nodes: &mut [Node],
+    now: Time,
+    from: (usize, &[u8]),
+    to: (usize, &[u8]),
+    object: usize,
+    other: usize,
+)
+    requires there { name_at nodes.old from.0 from.1.now ≡ Some object }
+    requires too { name_at nodes.old to.0 to.1.now ≡ Some other }
+    ensures { nodes.new ≡ exchanged now (seen_place from.entry) (seen_place to.entry) object other nodes.old }
+{
+    let directory = is_directory_at(nodes, object);
+    let another = is_directory_at(nodes, other);
+    lead_entry(nodes, to.0, to.1, object, directory, another, now);
+    lead_entry(nodes, from.0, from.1, other, another, directory, now);
+    restamp(nodes, object, now);
+    restamp(nodes, other, now);
+}
+
+/// A new object at the end, to which the name in this directory leads.
+pub fn add_node(
+    nodes: &mut Vec<Node>,
+    dir: usize,
+    name: Vec<u8>,
+    node: Node,
+    now: Time,
+) -> Result<(), AllocError>
+    ensures ok { OnOk result (nodes.new.items ≡ grown now dir name.items node nodes.old.items) }
+    ensures err { OnErr result (nodes.new.items ≡ nodes.old.items) }
+{
+    nodes.reserve(1)?;
+    let object = nodes.len();
+    gain_entry(nodes, dir, name, object, node.is_directory(), false, now)?;
+    let _ = nodes.push(node);
+    Ok(())
+}

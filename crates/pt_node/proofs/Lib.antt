@@ -1,0 +1,5 @@
+pub mod Places
+pub mod FreeTable
+pub mod NewPlaces
+pub mod NumberTables
+pub mod PathParts

@@ -1,0 +1,37 @@
+-- Inner. The inode numbers of the devices as code keeps them, and what each object is held by.
+use Rattle.std.specs.Prelude.{◌-◌, ◌==◌, ℕ, List, [], ◌∷◌, Option, Some, None, slice_set, slice_index, if◌then◌else◌}
+use Rattle.pt_host.specs.Words.{set_at}
+use Rattle.pt_node.specs.Slots.{closed, no_numbers}
+use Rattle.pt_node.specs.declared.inodes.NumberTable.{NumberTable}
+use Rattle.pt_node.specs.declared.slots.OpenFile.{OpenFile}
+use Rattle.pt_node.specs.declared.slots.Slot.{Slot}
+
+-- a number's entry
+abbrev pub having : ℕ → OpenFile
+having object = record { object = object; flags = record { 0 = 0 }; position = 0 }
+
+-- the table of a device; one that has none yet has given no number
+abbrev pub table_in : List NumberTable → ℕ → List Slot
+table_in [] dev = no_numbers
+table_in (table ∷ more) dev = if table.dev == dev then table.numbers else table_in more dev
+
+-- one hold of the object less
+abbrev pub released : ℕ → List ℕ → List ℕ
+released object holds = slice_set holds object (slice_index holds object - 1)
+
+-- a number of the device is free
+abbrev pub freed : ℕ → ℕ → (ℕ → List Slot) → ℕ → List Slot
+freed dev number tables = set_at dev (closed number (tables dev)) tables
+
+-- with the last hold the number is free
+abbrev pub given_up : ℕ → ℕ → ℕ → List ℕ → (ℕ → List Slot) → ℕ → List Slot
+given_up dev number object holds tables = if slice_index holds object == 1 then freed dev number tables else tables
+
+-- the same of an object that may be none
+abbrev pub released_where : Option ℕ → List ℕ → List ℕ
+released_where None holds = holds
+released_where (Some object) holds = released object holds
+
+abbrev pub given_up_where : ℕ → ℕ → Option ℕ → List ℕ → (ℕ → List Slot) → ℕ → List Slot
+given_up_where dev number None holds tables = tables
+given_up_where dev number (Some object) holds tables = given_up dev number object holds tables

@@ -1,0 +1,191 @@
+ghost use Rattle.std.specs.Prelude.{
+  ℕ,
+  ◌≡◌,
+  ◌+◌,
+  ◌++◌,
+  ◌∷◌,
+  [],
+  ◌-◌,
+  ◌==◌,
+  ◌<◌,
+  ◌^◌,
+  IfOk,
+  SomeIff,
+  OnErr,
+  length,
+  nat_lt,
+  position,
+  slice_index,
+  take,
+  Some,
+};
+ghost use Rattle.pt_host.specs.Words.{set_at};
+ghost use Rattle.pt_node.specs.Slots.{least_free, put_at};
+ghost use Rattle.pt_node.specs.declared.slots.Slot.TheVariants.{Open};
+ghost use Rattle.pt_node.specs.Numbers.{
+  freed,
+  given_up,
+  given_up_where,
+  having,
+  released,
+  released_where,
+  table_in,
+};
+
+use crate::slots::{Descriptors, OpenFile};
+use pt_host::OpenFlags;
+use std::alloc::{AllocError, Global};
+
+/// The inode numbers of a device, each open on the object that has it.
+#[derive(Drop)]
+pub struct NumberTable {
+    pub dev: u64,
+    pub numbers: Descriptors,
+}
+
+/// Which objects live, and the inode numbers that they have.
+#[derive(Drop)]
+pub struct Inodes {
+    /// How often each object is held: the root by its mount, each by its names and its descriptors.
+    pub holds: Vec<usize>,
+    pub tables: Vec<NumberTable>,
+}
+
+/// The inode number of the object at this place.
+fn having(object: usize) -> OpenFile
+    ensures { result ≡ having object }
+{
+    OpenFile {
+        object,
+        flags: OpenFlags(0),
+        position: 0,
+    }
+}
+
+fn place_of(tables: &[NumberTable], dev: u64) -> Option<usize>
+    ensures { result ≡ position (λ table. table.dev == dev) tables.now }
+{
+    tables.iter().position(|table| table.dev == dev)
+}
+
+/// The place of the device's table, which is put there where there is none.
+fn table_for(alloc: Global, tables: &mut Vec<NumberTable>, dev: u64) -> Result<usize, AllocError>
+    ensures place { IfOk result (λ place. position (λ table. table.dev == dev) tables.new.items ≡ Some place) }
+    ensures same { (other : ℕ) → table_in tables.new.items other ≡ table_in tables.old.items other }
+{
+    if let Some(place) = place_of(tables, dev) {
+        return Ok(place);
+    }
+    let numbers = Descriptors::from_one(alloc)?;
+    let place = tables.len();
+    tables.push(NumberTable { dev, numbers })?;
+    Ok(place)
+}
+
+/// A number of the device is free.
+fn free_number(tables: &mut [NumberTable], dev: u64, number: u64)
+    ensures { (other : ℕ) → table_in tables.new other ≡ freed dev number (table_in tables.old) other }
+{
+    if let Some(place) = place_of(tables, dev) {
+        tables[place].numbers.close(number as usize);
+    }
+}
+
+/// The least free number of the device is open on the object.
+fn give_number(
+    alloc: Global,
+    tables: &mut Vec<NumberTable>,
+    dev: u64,
+    object: usize,
+) -> Result<u64, AllocError>
+    ensures number { IfOk result (λ number. number ≡ least_free (table_in tables.old.items dev)) }
+    ensures tables { IfOk result (λ number. (other : ℕ) →
+        table_in tables.new.items other ≡ set_at dev (put_at number (Open (having object)) (table_in tables.old.items dev)) (table_in tables.old.items) other) }
+    ensures same { OnErr result ((other : ℕ) → table_in tables.new.items other ≡ table_in tables.old.items other) }
+{
+    let place = table_for(alloc, tables, dev)?;
+    let number = tables[place].numbers.open(having(object))?;
+    Ok(u64::from(number.0))
+}
+
+impl Inodes {
+    /// With no object.
+    pub fn new(alloc: Global) -> Inodes
+        ensures holds { result.holds.items ≡ [] }
+        ensures tables { result.tables.items ≡ [] }
+    {
+        Inodes {
+            holds: Vec::new(alloc),
+            tables: Vec::new(alloc),
+        }
+    }
+
+    /// One object more, which is held once and has the least number of the device that is free.
+    pub fn add(&mut self, alloc: Global, dev: u64, object: usize) -> Result<u64, AllocError>
+        ensures number { IfOk result (λ number. number ≡ least_free (table_in self.old.tables.items dev)) }
+        ensures holds { IfOk result (λ number. self.new.holds.items ≡ self.old.holds.items ++ 1 ∷ []) }
+        ensures tables { IfOk result (λ number. (other : ℕ) →
+            table_in self.new.tables.items other ≡ set_at dev (put_at number (Open (having object)) (table_in self.old.tables.items dev)) (table_in self.old.tables.items) other) }
+        ensures same_holds { OnErr result (self.new.holds.items ≡ self.old.holds.items) }
+        ensures same_tables { OnErr result ((other : ℕ) → table_in self.new.tables.items other ≡ table_in self.old.tables.items other) }
+    {
+        self.holds.reserve(1)?;
+        let number = give_number(alloc, &mut self.tables, dev, object)?;
+        let _ = self.holds.push(1);
+        Ok(number)
+    }
+
+    /// Takes the addition of the last object back.
+    pub fn take_back(&mut self, dev: u64, number: u64)
+        ensures holds { self.new.holds.items ≡ take (length self.old.holds.items - 1) self.old.holds.items }
+        ensures tables { (other : ℕ) → table_in self.new.tables.items other ≡ freed dev number (table_in self.old.tables.items) other }
+    {
+        let _ = self.holds.pop();
+        free_number(&mut self.tables, dev, number);
+    }
+
+    /// Whether the object lives.
+    pub fn is_held(&self, object: usize) -> bool
+        ensures { result ≡ nat_lt 0 (slice_index self.now.holds.items object) }
+    {
+        match self.holds.get(object) {
+            None => false,
+            Some(held) => *held > 0,
+        }
+    }
+
+    /// How often the object is held after one hold more, where that can be counted.
+    pub fn one_more(&self, object: usize) -> Option<usize>
+        ensures { SomeIff result ((object < length self.now.holds.items) × (slice_index self.now.holds.items object + 1 < 2 ^ 64)) (slice_index self.now.holds.items object + 1) }
+    {
+        match self.holds.get(object) {
+            None => None,
+            Some(held) => held.checked_add(1),
+        }
+    }
+
+    /// One hold of the object, which has this number of the device, ends; with the last one its number is free.
+    pub fn release(&mut self, object: usize, dev: u64, number: u64)
+        ensures holds { self.new.holds.items ≡ released object self.old.holds.items }
+        ensures tables { (other : ℕ) → table_in self.new.tables.items other ≡ given_up dev number object self.old.holds.items (table_in self.old.tables.items) other }
+    {
+        let Some(held) = self.holds.get_mut(object) else {
+            return;
+        };
+        let last = *held == 1;
+        *held = held.saturating_sub(1);
+        if last {
+            free_number(&mut self.tables, dev, number);
+        }
+    }
+
+    /// The same where there is such an object.
+    pub fn release_where(&mut self, object: Option<usize>, dev: u64, number: u64)
+        ensures holds { self.new.holds.items ≡ released_where object self.old.holds.items }
+        ensures tables { (other : ℕ) → table_in self.new.tables.items other ≡ given_up_where dev number object self.old.holds.items (table_in self.old.tables.items) other }
+    {
+        if let Some(object) = object {
+            self.release(object, dev, number);
+        }
+    }
+}

@@ -1,0 +1,193 @@
+-- Believed. The edits: what each is refused for, in what order, and what it changes. An edit is answered as its like call is, without a seat and
+-- without permission checks: unlink(2) and rmdir(2), rename(2), open(2) with O_CREAT and O_EXCL, mkdir(2), write(2).
+use Rattle.std.specs.Prelude.{ℕ, ◌+◌, ◌%◌, ◌==◌, nat_lt, not, ◌||◌, ◌&&◌, Bool, false, List, [], ◌∷◌, ◌++◌, length, Option, Some, None, is_some, option_and_then, Result, Ok, Err, slice_get, if◌then◌else◌}
+use Rattle.std.specs.Option.{option_map_or}
+use Rattle.pt_host.specs.Errno.{ebusy, eexist, efbig, einval, eio, eisdir, eloop, enoent, enotdir, enotempty, enxio, exdev}
+use Rattle.pt_host.specs.declared.edit.Edit.{Edit}
+use Rattle.pt_host.specs.declared.edit.Edit.TheVariants as edit
+use Rattle.pt_host.specs.declared.ids.Errno.{Errno}
+use Rattle.pt_host.specs.declared.ids.Time.{Time}
+use Rattle.pt_node.specs.Node.{is_directory, is_link, is_special, name_at, names_in, size_of}
+use Rattle.pt_rules.specs.State.{State, time_of}
+use Rattle.pt_node.specs.Opening.{first_refusal}
+use Rattle.pt_rules.specs.Calls.{Answered, done, refused, unless}
+use Rattle.pt_node.specs.Entries.{after_losing, changed_at, is_directory_at, new_object, restamped, rewritten, touched, with_entry, without_entry}
+use Rattle.pt_rules.specs.EditPaths.{judged, path_goes_through}
+use Rattle.pt_node.specs.declared.node.Node.{Node}
+use Rattle.pt_node.specs.declared.node.Content.{Content}
+use Rattle.pt_node.specs.declared.node.Content.TheVariants.{Directory, Regular}
+use Rattle.pt_node.specs.Limits.{file_max}
+
+-- an edit of what its path leads to, with the error that it is refused with where that is the root itself
+abbrev pub at_name : State → Errno → ℕ → List ℕ → (ℕ → List ℕ → Answered) → Answered
+at_name state root dir [] edited = refused state root
+at_name state root dir (first ∷ name) edited = edited dir (first ∷ name)
+
+abbrev pub at_place : State → Errno → Result (ℕ × List ℕ) Errno → (ℕ → List ℕ → Answered) → Answered
+at_place state root (Err errno) edited = refused state errno
+at_place state root (Ok place) edited = at_name state root place.0 place.1 edited
+
+-- ---- Unlink
+
+abbrev pub holds_any : Node → Bool
+holds_any node = nat_lt 0 (length (names_in node.content))
+
+-- what stands under a name of this directory is the root of another mount
+abbrev pub is_mounted : Node → Node → Bool
+is_mounted dir node = not (node.ids.mnt_id == dir.ids.mnt_id)
+
+abbrev pub unlink_checks : Node → Node → List (Bool × Errno)
+unlink_checks dir node = (is_mounted dir node, ebusy) ∷ (holds_any node, enotempty) ∷ []
+
+abbrev pub unlink_refusal : Option Node → Option Node → Option Errno
+unlink_refusal (Some dir) (Some node) = first_refusal (unlink_checks dir node)
+unlink_refusal _ _ = Some eio
+
+-- the objects after this one lost this name
+abbrev pub unlinked : Time → ℕ → List ℕ → ℕ → List Node → List Node
+unlinked now dir name object nodes =
+    changed_at object (after_losing now) (changed_at dir (λ at. touched now (without_entry name (is_directory_at nodes object) at)) nodes)
+
+abbrev pub with_unlinked : State → ℕ → List ℕ → ℕ → State
+with_unlinked state dir name object = record state { nodes = unlinked (time_of state) dir name object state.nodes }
+
+abbrev pub unlink_found : State → ℕ → List ℕ → Option ℕ → Answered
+unlink_found state dir name None = refused state enoent
+unlink_found state dir name (Some object) = unless state (unlink_refusal (slice_get state.nodes dir) (slice_get state.nodes object))
+    (done (with_unlinked state dir name object))
+
+abbrev pub unlink_at : State → ℕ → List ℕ → Answered
+unlink_at state dir name = unlink_found state dir name (name_at state.nodes dir name)
+
+-- ---- Rename
+
+-- the object at a place that may be none
+abbrev pub node_at : List Node → Option ℕ → Option Node
+node_at nodes object = option_and_then (slice_get nodes) object
+
+-- another mount; a mount's root on either side; a directory into itself
+abbrev pub move_checks : Bool → Node → Node → Node → Option Node → List (Bool × Errno)
+move_checks into_itself from to node target =
+    (not (from.ids.mnt_id == to.ids.mnt_id), exdev)
+    ∷ (is_mounted from node || option_map_or (is_mounted to) target false, ebusy)
+    ∷ (into_itself, einval)
+    ∷ []
+
+abbrev pub move_refusal : Bool → Option Node → Option Node → Option Node → Option Node → Option Errno
+move_refusal into_itself (Some from) (Some to) (Some node) target = first_refusal (move_checks into_itself from to node target)
+move_refusal into_itself _ _ _ target = Some eio
+
+abbrev pub replace_checks : Node → Node → List (Bool × Errno)
+replace_checks node target =
+    (is_directory node && not (is_directory target), enotdir)
+    ∷ (not (is_directory node) && is_directory target, eisdir)
+    ∷ (holds_any target, enotempty)
+    ∷ []
+
+abbrev pub replace_refusal : Option Node → Option Node → Option Errno
+replace_refusal (Some node) (Some target) = first_refusal (replace_checks node target)
+replace_refusal _ _ = Some eio
+
+-- the object that had the new name lost it
+abbrev pub replaced : Time → Option ℕ → List Node → List Node
+replaced now None nodes = nodes
+replaced now (Some target) nodes = changed_at target (after_losing now) nodes
+
+abbrev pub is_target_directory : List Node → Option ℕ → Bool
+is_target_directory nodes target = option_map_or (is_directory_at nodes) target false
+
+-- the objects after this one got the new name, in place of another one or not, and lost the old one
+abbrev pub moved : Time → ℕ × List ℕ → ℕ × List ℕ → ℕ → Option ℕ → List Node → List Node
+moved now from to object target nodes =
+    changed_at object (restamped now)
+    (changed_at from.0 (λ dir. touched now (without_entry from.1 (is_directory_at nodes object) dir))
+    (replaced now target
+    (changed_at to.0 (λ dir. touched now (with_entry to.1 object (is_directory_at nodes object) (is_target_directory nodes target) dir)) nodes)))
+
+abbrev pub with_moved : State → ℕ × List ℕ → ℕ × List ℕ → ℕ → Option ℕ → State
+with_moved state from to object target = record state { nodes = moved (time_of state) from to object target state.nodes }
+
+-- one object under both names stays as it is
+abbrev pub rename_onto : State → ℕ × List ℕ → ℕ × List ℕ → ℕ → Option ℕ → Answered
+rename_onto state from to object None = done (with_moved state from to object None)
+rename_onto state from to object (Some target) =
+    if target == object then done state
+    else unless state (replace_refusal (slice_get state.nodes object) (slice_get state.nodes target)) (done (with_moved state from to object (Some target)))
+
+abbrev pub rename_object : State → List ℕ → ℕ × List ℕ → ℕ × List ℕ → ℕ → Option ℕ → Answered
+rename_object state new from to object target =
+    unless state (move_refusal (path_goes_through object state.nodes new) (slice_get state.nodes from.0) (slice_get state.nodes to.0)
+    (slice_get state.nodes object) (node_at state.nodes target)) (rename_onto state from to object target)
+
+abbrev pub rename_found : State → List ℕ → ℕ × List ℕ → ℕ × List ℕ → Option ℕ → Answered
+rename_found state new from to None = refused state enoent
+rename_found state new from to (Some object) = rename_object state new from to object (name_at state.nodes to.0 to.1)
+
+-- both paths are judged whole before it is asked what they are
+abbrev pub rename_judged : State → List ℕ → Result (ℕ × List ℕ) Errno → Result (ℕ × List ℕ) Errno → Answered
+rename_judged state new (Err errno) to = refused state errno
+rename_judged state new (Ok from) (Err errno) = refused state errno
+rename_judged state new (Ok from) (Ok to) =
+    if (length from.1 == 0) || (length to.1 == 0) then refused state ebusy else rename_found state new from to (name_at state.nodes from.0 from.1)
+
+-- ---- File and Dir
+
+abbrev pub make_refusal : Option ℕ → ℕ → Option Errno
+make_refusal there size = first_refusal ((is_some there, eexist) ∷ (nat_lt file_max size, efbig) ∷ [])
+
+-- the objects with this new one, to which the name in the directory leads
+abbrev pub grown : Time → ℕ → List ℕ → Node → List Node → List Node
+grown now dir name node nodes =
+    changed_at dir (λ parent. touched now (with_entry name (length nodes) (is_directory node) false parent)) nodes ++ node ∷ []
+
+-- an object that is made in this directory: its serial is one more than that of the last one made
+abbrev pub made : State → (ℕ → ℕ) → ℕ → ℕ → ℕ → ℕ → Content → Node → Node
+made state numbers permissions uid gid rdev content dir =
+    new_object (time_of state) (numbers dir.ids.dev) (length state.nodes + 1) dir permissions uid gid rdev content
+
+abbrev pub with_made : State → ℕ → List ℕ → Node → State
+with_made state dir name node = record state { nodes = grown (time_of state) dir name node state.nodes }
+
+abbrev pub make_in : State → (ℕ → ℕ) → ℕ → List ℕ → ℕ → ℕ → ℕ → ℕ → Content → Option Node → Answered
+make_in state numbers dir name permissions uid gid rdev content None = refused state eio
+make_in state numbers dir name permissions uid gid rdev content (Some parent) =
+    done (with_made state dir name (made state numbers permissions uid gid rdev content parent))
+
+-- the mode is cut to permissions
+abbrev pub make_at : State → (ℕ → ℕ) → ℕ → ℕ → ℕ → Content → ℕ → List ℕ → Answered
+make_at state numbers mode uid gid content dir name = unless state (make_refusal (name_at state.nodes dir name) (size_of content))
+    (make_in state numbers dir name (mode % 4096) uid gid 0 content (slice_get state.nodes dir))
+
+-- ---- Write
+
+abbrev pub write_checks : Node → ℕ → List (Bool × Errno)
+write_checks node size =
+    (is_directory node, eisdir)
+    ∷ (is_link node, eloop)
+    ∷ (is_special node, enxio)
+    ∷ (nat_lt file_max size, efbig)
+    ∷ []
+
+abbrev pub write_refusal : Option Node → ℕ → Option Errno
+write_refusal None size = Some eio
+write_refusal (Some node) size = first_refusal (write_checks node size)
+
+-- the permissions of the file stay
+abbrev pub with_rewritten : State → ℕ → List ℕ → State
+with_rewritten state object bytes = record state { nodes = changed_at object (rewritten (time_of state) bytes) state.nodes }
+
+abbrev pub write_found : State → List ℕ → Option ℕ → Answered
+write_found state bytes None = refused state enoent
+write_found state bytes (Some object) = unless state (write_refusal (slice_get state.nodes object) (length bytes))
+    (done (with_rewritten state object bytes))
+
+-- ---- the table; `numbers` has for each device the number that a new object gets
+
+abbrev pub edited : State → (ℕ → ℕ) → Edit → Answered
+edited state numbers (edit.Unlink path) = at_place state ebusy (judged state.nodes path) (unlink_at state)
+edited state numbers (edit.Rename old new) = rename_judged state new (judged state.nodes old) (judged state.nodes new)
+edited state numbers (edit.File path mode uid gid bytes) =
+    at_place state eexist (judged state.nodes path) (make_at state numbers mode uid gid (Regular bytes))
+edited state numbers (edit.Dir path mode uid gid) = at_place state eexist (judged state.nodes path) (make_at state numbers mode uid gid (Directory []))
+edited state numbers (edit.Write path bytes) =
+    at_place state eisdir (judged state.nodes path) (λ dir name. write_found state bytes (name_at state.nodes dir name))

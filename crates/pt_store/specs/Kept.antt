@@ -1,0 +1,25 @@
+-- Inner. How a store knows what lives: what each object is held by, and who has each inode number.
+use Rattle.std.specs.Prelude.{◌≡◌, ◌<◌, ℕ, List, length, Some, slice_get}
+use Rattle.pt_rules.specs.Living.{held_by}
+use Rattle.pt_node.specs.Slots.{open_at}
+use Rattle.pt_rules.specs.State.{State}
+use Rattle.pt_rules.specs.Sound.{IsSound}
+use Rattle.pt_node.specs.declared.node.Node.{Node}
+use Rattle.pt_node.specs.declared.slots.OpenFile.{OpenFile}
+use Rattle.pt_node.specs.declared.slots.Slot.{Slot}
+use Rattle.pt_node.specs.declared.slots.Slot.TheVariants.{Reserved}
+
+-- In the table of a device a number is open on the object that has it. Number 0 is none.
+pub record AreNumbered (state : State) (dev : ℕ) (numbers : List Slot) : Type 0 where
+  pub has : (object : ℕ) (node : Node) → slice_get state.nodes object ≡ Some node → node.ids.dev ≡ dev → 0 < held_by state object →
+      (file : OpenFile) × (open_at numbers node.ids.ino ≡ Some file) × (file.object ≡ object)
+  pub had : (number : ℕ) (file : OpenFile) → open_at numbers number ≡ Some file →
+      (node : Node) × (slice_get state.nodes file.object ≡ Some node) × (node.ids.dev ≡ dev) × (node.ids.ino ≡ number) × (0 < held_by state file.object)
+  pub from_one : slice_get numbers 0 ≡ Some Reserved
+  pub no_other : (number : ℕ) → 0 < number → slice_get numbers number ≡ Some Reserved → ⊥
+
+pub record IsKept (state : State) (holds : List ℕ) (tables : ℕ → List Slot) : Type 0 where
+  pub sound : IsSound state
+  pub long : length holds ≡ length state.nodes
+  pub held : (object : ℕ) → object < length state.nodes → slice_get holds object ≡ Some (held_by state object)
+  pub numbered : (dev : ℕ) → AreNumbered state dev (tables dev)

@@ -1,0 +1,3 @@
+pub mod Kept
+pub mod StoreState
+pub mod SeatCalls

@@ -1,0 +1,369 @@
+ghost use Rattle.std.specs.Prelude.{◌≡◌, ◌≢◌, ◌<◌, Some, None, Ok, OnErr, OnOk, [], slice_get, true};
+ghost use Rattle.pt_host.specs.Errno.{ebusy, eexist, eisdir};
+ghost use Rattle.pt_store.specs.StoreState.{IsKeptBy, device_where, number_where, numbers_of, state_of};
+ghost use Rattle.pt_node.specs.Node.{name_at, names_in};
+ghost use Rattle.pt_node.specs.NewPlace.{seen_place};
+ghost use Rattle.pt_rules.specs.Does.{AnswersAs};
+ghost use Rattle.pt_node.specs.Entries.{is_directory_at};
+ghost use Rattle.pt_rules.specs.EditPaths.{judged};
+ghost use Rattle.pt_rules.specs.Edits.{
+  at_place,
+  edited,
+  make_at,
+  make_in,
+  rename_judged,
+  rename_object,
+  rename_onto,
+  unlink_at,
+  with_moved,
+  with_unlinked,
+  write_found,
+};
+
+use crate::store::{Store, device_at, number_at};
+use pt_change::edit_paths::{judged, path_goes_through};
+use pt_change::node_edits::{
+    add_node, move_refusal, rename, replace_refusal, rewrite, unlink, unlink_refusal, write_refusal,
+};
+use pt_host::{Bytes, Edit, Errno, HostReply, HostValue};
+use pt_node::entries::new_object;
+use pt_node::names::Names;
+use pt_node::node::{Content, FILE_MAX, Node};
+use pt_node::path::name_at;
+use std::alloc::AllocError;
+
+/// The device of an object that may be none.
+fn device_where(nodes: &[Node], object: Option<usize>) -> u64
+    ensures { result ≡ device_where nodes.now object }
+{
+    match object {
+        None => 0,
+        Some(object) => device_at(nodes, object),
+    }
+}
+
+/// The inode number of an object that may be none.
+fn number_where(nodes: &[Node], object: Option<usize>) -> u64
+    ensures { result ≡ number_where nodes.now object }
+{
+    match object {
+        None => 0,
+        Some(object) => number_at(nodes, object),
+    }
+}
+
+impl Store {
+    /// The object loses this name, which leads to it.
+    pub fn take_name(&mut self, dir: usize, name: &[u8], object: usize)
+        requires kept { IsKeptBy self.old }
+        requires leads { name_at self.old.nodes.items dir name.now ≡ Some object }
+        ensures state { state_of self.new ≡ with_unlinked (state_of self.old) dir name.now object }
+        ensures kept { IsKeptBy self.new }
+    {
+        let now = self.now();
+        let dev = device_at(&self.nodes, object);
+        let number = number_at(&self.nodes, object);
+        unlink(&mut self.nodes, now, dir, name, object);
+        self.inodes.release(object, dev, number);
+    }
+
+    fn unlink_at(&mut self, dir: usize, name: &[u8]) -> HostReply
+        requires { IsKeptBy self.old }
+        ensures answers { (result, state_of self.new) ≡ unlink_at (state_of self.old) dir name.now }
+        ensures kept { IsKeptBy self.new }
+    {
+        let Some(object) = name_at(&self.nodes, dir, name) else {
+            return HostReply::Refused(Errno::ENOENT);
+        };
+        if let Some(errno) = unlink_refusal(&self.nodes, dir, object) {
+            return HostReply::Refused(errno);
+        }
+        self.take_name(dir, name, object);
+        HostReply::Ok(HostValue::Unit)
+    }
+
+    fn unlink(&mut self, path: &[u8]) -> HostReply
+        requires { IsKeptBy self.old }
+        ensures answers { (result, state_of self.new) ≡ at_place (state_of self.old) ebusy (judged self.old.nodes.items path.now) (unlink_at (state_of self.old)) }
+        ensures kept { IsKeptBy self.new }
+    {
+        match judged(&self.nodes, path) {
+            Err(errno) => HostReply::Refused(errno),
+            Ok((dir, name)) => {
+                if name.is_empty() {
+                    return HostReply::Refused(Errno::EBUSY);
+                }
+                self.unlink_at(dir, name)
+            }
+        }
+    }
+
+    /// The object, to which the one name leads, gets the other one, which leads to the target where there is one.
+    fn move_name(
+        &mut self,
+        from: (usize, &[u8]),
+        to: (usize, &[u8]),
+        object: usize,
+        target: Option<usize>,
+    ) -> Result<(), AllocError>
+        requires kept { IsKeptBy self.old }
+        requires leads { name_at self.old.nodes.items from.0 from.1.now ≡ Some object }
+        requires into { is_directory_at self.old.nodes.items to.0 ≡ true }
+        requires target { name_at self.old.nodes.items to.0 to.1.now ≡ target }
+        requires another { target ≢ Some object }
+        ensures ok { OnOk result (state_of self.new ≡ with_moved (state_of self.old) (seen_place from.entry) (seen_place to.entry) object target) }
+        ensures err { OnErr result (state_of self.new ≡ state_of self.old) }
+        ensures kept { IsKeptBy self.new }
+    {
+        let now = self.now();
+        let dev = device_where(&self.nodes, target);
+        let number = number_where(&self.nodes, target);
+        rename(self.alloc, &mut self.nodes, now, from, to, object, target)?;
+        self.inodes.release_where(target, dev, number);
+        Ok(())
+    }
+
+    pub fn rename_onto(
+        &mut self,
+        from: (usize, &[u8]),
+        to: (usize, &[u8]),
+        object: usize,
+        target: Option<usize>,
+    ) -> HostReply
+        requires kept { IsKeptBy self.old }
+        requires leads { name_at self.old.nodes.items from.0 from.1.now ≡ Some object }
+        requires into { is_directory_at self.old.nodes.items to.0 ≡ true }
+        requires target { name_at self.old.nodes.items to.0 to.1.now ≡ target }
+        ensures answers { AnswersAs (rename_onto (state_of self.old) (seen_place from.entry) (seen_place to.entry) object target) (state_of self.old) result (state_of self.new) }
+        ensures kept { IsKeptBy self.new }
+    {
+        if let Some(other) = target {
+            if other == object {
+                return HostReply::Ok(HostValue::Unit);
+            }
+            if let Some(errno) = replace_refusal(&self.nodes, object, other) {
+                return HostReply::Refused(errno);
+            }
+        }
+        match self.move_name(from, to, object, target) {
+            Ok(()) => HostReply::Ok(HostValue::Unit),
+            Err(_) => HostReply::NoMemory,
+        }
+    }
+
+    fn rename_object(
+        &mut self,
+        new: &[u8],
+        from: (usize, &[u8]),
+        to: (usize, &[u8]),
+        object: usize,
+    ) -> HostReply
+        requires kept { IsKeptBy self.old }
+        requires leads { name_at self.old.nodes.items from.0 from.1.now ≡ Some object }
+        requires into { is_directory_at self.old.nodes.items to.0 ≡ true }
+        ensures answers { AnswersAs (rename_object (state_of self.old) new.now (seen_place from.entry) (seen_place to.entry) object (name_at self.old.nodes.items to.entry.0 to.entry.1.now)) (state_of self.old) result (state_of self.new) }
+        ensures kept { IsKeptBy self.new }
+    {
+        let target = name_at(&self.nodes, to.0, to.1);
+        let into_itself = path_goes_through(&self.nodes, new, object);
+        match move_refusal(&self.nodes, into_itself, from.0, to.0, object, target) {
+            Some(errno) => HostReply::Refused(errno),
+            None => self.rename_onto(from, to, object, target),
+        }
+    }
+
+    fn rename_found(&mut self, new: &[u8], from: (usize, &[u8]), to: (usize, &[u8])) -> HostReply
+        requires kept { IsKeptBy self.old }
+        requires into { is_directory_at self.old.nodes.items to.0 ≡ true }
+        ensures answers { AnswersAs (rename_judged (state_of self.old) new.now (Ok (seen_place from.entry)) (Ok (seen_place to.entry))) (state_of self.old) result (state_of self.new) }
+        ensures kept { IsKeptBy self.new }
+    {
+        if from.1.is_empty() || to.1.is_empty() {
+            return HostReply::Refused(Errno::EBUSY);
+        }
+        match name_at(&self.nodes, from.0, from.1) {
+            None => HostReply::Refused(Errno::ENOENT),
+            Some(object) => self.rename_object(new, from, to, object),
+        }
+    }
+
+    fn rename(&mut self, old: &[u8], new: &[u8]) -> HostReply
+        requires { IsKeptBy self.old }
+        ensures answers { AnswersAs (rename_judged (state_of self.old) new.now (judged self.old.nodes.items old.now) (judged self.old.nodes.items new.now)) (state_of self.old) result (state_of self.new) }
+        ensures kept { IsKeptBy self.new }
+    {
+        match judged(&self.nodes, old) {
+            Err(errno) => HostReply::Refused(errno),
+            Ok(from) => match judged(&self.nodes, new) {
+                Err(errno) => HostReply::Refused(errno),
+                Ok(to) => self.rename_found(new, from, to),
+            },
+        }
+    }
+
+    /// A new object under a name that is free in the directory.
+    pub fn make_in(
+        &mut self,
+        dir: usize,
+        name: &[u8],
+        permissions: u32,
+        uid: u32,
+        gid: u32,
+        rdev: u32,
+        content: Content,
+    ) -> HostReply
+        requires kept { IsKeptBy self.old }
+        requires into { is_directory_at self.old.nodes.items dir ≡ true }
+        requires free { name_at self.old.nodes.items dir name.now ≡ None }
+        requires empty { names_in content ≡ [] }
+        requires small { permissions < 4096 }
+        ensures answers { AnswersAs (make_in (state_of self.old) (numbers_of self.old) dir name.now permissions uid gid rdev content (slice_get self.old.nodes.items dir)) (state_of self.old) result (state_of self.new) }
+        ensures kept { IsKeptBy self.new }
+    {
+        let now = self.now();
+        let object = self.nodes.len();
+        let Some(parent) = self.nodes.get(dir) else {
+            return HostReply::Refused(Errno::EIO);
+        };
+        let Ok(name) = name.to_vec(self.alloc) else {
+            return HostReply::NoMemory;
+        };
+        let dev = parent.ids.dev;
+        let Ok(number) = self.inodes.add(self.alloc, dev, object) else {
+            return HostReply::NoMemory;
+        };
+        let serial = object as u64 + 1;
+        let node = new_object(
+            self.alloc,
+            now,
+            number,
+            serial,
+            parent,
+            permissions,
+            uid,
+            gid,
+            rdev,
+            content,
+        );
+        match add_node(&mut self.nodes, dir, name, node, now) {
+            Ok(()) => HostReply::Ok(HostValue::Unit),
+            Err(_) => {
+                self.inodes.take_back(dev, number);
+                HostReply::NoMemory
+            }
+        }
+    }
+
+    fn make_at(
+        &mut self,
+        dir: usize,
+        name: &[u8],
+        mode: u32,
+        uid: u32,
+        gid: u32,
+        content: Content,
+    ) -> HostReply
+        requires kept { IsKeptBy self.old }
+        requires into { is_directory_at self.old.nodes.items dir ≡ true }
+        requires empty { names_in content ≡ [] }
+        ensures answers { AnswersAs (make_at (state_of self.old) (numbers_of self.old) mode uid gid content dir name.now) (state_of self.old) result (state_of self.new) }
+        ensures kept { IsKeptBy self.new }
+    {
+        if name_at(&self.nodes, dir, name).is_some() {
+            return HostReply::Refused(Errno::EEXIST);
+        }
+        if content.size() > FILE_MAX as u64 {
+            return HostReply::Refused(Errno::EFBIG);
+        }
+        self.make_in(dir, name, mode % 4096, uid, gid, 0, content)
+    }
+
+    fn make(&mut self, path: &[u8], mode: u32, uid: u32, gid: u32, content: Content) -> HostReply
+        requires kept { IsKeptBy self.old }
+        requires empty { names_in content ≡ [] }
+        ensures answers { AnswersAs (at_place (state_of self.old) eexist (judged self.old.nodes.items path.now) (make_at (state_of self.old) (numbers_of self.old) mode uid gid content)) (state_of self.old) result (state_of self.new) }
+        ensures kept { IsKeptBy self.new }
+    {
+        match judged(&self.nodes, path) {
+            Err(errno) => HostReply::Refused(errno),
+            Ok((dir, name)) => {
+                if name.is_empty() {
+                    return HostReply::Refused(Errno::EEXIST);
+                }
+                self.make_at(dir, name, mode, uid, gid, content)
+            }
+        }
+    }
+
+    fn write_at(&mut self, dir: usize, name: &[u8], bytes: &[u8]) -> HostReply
+        requires { IsKeptBy self.old }
+        ensures answers { AnswersAs (write_found (state_of self.old) bytes.now (name_at self.old.nodes.items dir name.now)) (state_of self.old) result (state_of self.new) }
+        ensures kept { IsKeptBy self.new }
+    {
+        let Some(object) = name_at(&self.nodes, dir, name) else {
+            return HostReply::Refused(Errno::ENOENT);
+        };
+        if let Some(errno) = write_refusal(&self.nodes, object, bytes.len()) {
+            return HostReply::Refused(errno);
+        }
+        let now = self.now();
+        match Bytes::from_slice(self.alloc, bytes) {
+            Ok(bytes) => {
+                rewrite(&mut self.nodes, object, bytes, now);
+                HostReply::Ok(HostValue::Unit)
+            }
+            Err(_) => HostReply::NoMemory,
+        }
+    }
+
+    fn write(&mut self, path: &[u8], bytes: &[u8]) -> HostReply
+        requires { IsKeptBy self.old }
+        ensures answers { AnswersAs (at_place (state_of self.old) eisdir (judged self.old.nodes.items path.now) (λ dir name. write_found (state_of self.old) bytes.now (name_at self.old.nodes.items dir name))) (state_of self.old) result (state_of self.new) }
+        ensures kept { IsKeptBy self.new }
+    {
+        match judged(&self.nodes, path) {
+            Err(errno) => HostReply::Refused(errno),
+            Ok((dir, name)) => {
+                if name.is_empty() {
+                    return HostReply::Refused(Errno::EISDIR);
+                }
+                self.write_at(dir, name, bytes)
+            }
+        }
+    }
+
+    /// Makes an edit, which is not counted yet.
+    pub fn edit(&mut self, edit: &Edit) -> HostReply
+        requires { IsKeptBy self.old }
+        ensures answers { AnswersAs (edited (state_of self.old) (numbers_of self.old) edit.now) (state_of self.old) result (state_of self.new) }
+        ensures kept { IsKeptBy self.new }
+    {
+        match edit {
+            Edit::Unlink { path } => self.unlink(path.as_slice()),
+            Edit::Rename { old, new } => self.rename(old.as_slice(), new.as_slice()),
+            Edit::File {
+                path,
+                mode,
+                uid,
+                gid,
+                bytes,
+            } => match bytes.copy(self.alloc) {
+                Ok(bytes) => {
+                    let content = Content::Regular(bytes);
+                    self.make(path.as_slice(), *mode, *uid, *gid, content)
+                }
+                Err(_) => HostReply::NoMemory,
+            },
+            Edit::Dir {
+                path,
+                mode,
+                uid,
+                gid,
+            } => {
+                let content = Content::Directory(Names::new(self.alloc));
+                self.make(path.as_slice(), *mode, *uid, *gid, content)
+            }
+            Edit::Write { path, bytes } => self.write(path.as_slice(), bytes.as_slice()),
+        }
+    }
+}

@@ -1,0 +1,26 @@
+ghost use Rattle.pt_rules.specs.Does.{AnswersAs};
+ghost use Rattle.pt_rules.specs.Rows.{on_row};
+ghost use Rattle.pt_rules.specs.OpeningCalls.{least_path, fd_path_row};
+ghost use Rattle.pt_store.specs.StoreState.{IsKeptBy, state_of};
+
+use crate::store::Store;
+use pt_change::fd_paths::least_path;
+use pt_host::{Bytes, Errno, Fd, HostReply, HostValue};
+
+impl Store {
+    pub fn fd_path(&self, fd: Fd) -> HostReply
+        requires { IsKeptBy self.now }
+        ensures { AnswersAs (on_row (state_of self.now) fd (fd_path_row (state_of self.now))) (state_of self.now) result (state_of self.now) }
+    {
+        let Some(file) = self.files.get(fd) else {
+            return HostReply::Refused(Errno::EBADF);
+        };
+        let Some(node) = self.nodes.get(file.object) else {
+            return HostReply::Refused(Errno::EIO);
+        };
+        match least_path(self.alloc, &self.nodes, file.object, node) {
+            Ok(path) => HostReply::Ok(HostValue::Bytes(Bytes::from_vec(path))),
+            Err(_) => HostReply::NoMemory,
+        }
+    }
+}

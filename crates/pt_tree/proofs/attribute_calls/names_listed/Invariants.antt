@@ -1,7 +1,0 @@
-use Rattle.std.proofs.Common.{◌≡◌, ◌++◌}
-use Rattle.pt_tree.specs.Attributes.{names_listed}
-use Rattle.pt_tree.proofs.NameOrder.{seen}
-use Rattle.pt_tree.proofs.attribute_calls.names_listed.Given as goal
-
-abbrev pub invariant-loop-name : goal.invariant-loop-name
-invariant-loop-name l = l.names.items ++ names_listed (seen l.name-iterator) ≡ names_listed l.xattrs

@@ -1,7 +1,0 @@
-use Rattle.std.proofs.Common.{◌∙◌, ap}
-use Rattle.pt_tree.specs.Attributes.{value_of}
-use Rattle.pt_tree.proofs.NameOrder.{found-seen}
-use Rattle.pt_tree.proofs.attributes.Attributes.get.Goals as goal
-
-pub returns : goal.returns
-returns c = c.get.ensures.value ∙ found-seen c.args.name.now c.self.inside.kept.entries ∙ ap (value_of c.args.name.now) c.self.view_is

@@ -1,6 +1,0 @@
-use Rattle.std.proofs.Common.{◌∙◌}
-use Rattle.pt_tree.proofs.Listed.{low_bytes}
-use Rattle.pt_tree.proofs.list_calls.size_bytes.Goals as goal
-
-pub returns : goal.returns
-returns c = c.to_le_bytes.ensures ∙ low_bytes c.args.size

@@ -1,9 +1,0 @@
-use Rattle.std.proofs.Common.{◌∙◌, ap}
-use Rattle.pt_tree.specs.Names.{found}
-use Rattle.pt_tree.proofs.NameOrder.{found-seen}
-use Rattle.pt_tree.proofs.names.Names.get.Goals as goal
-
-pub returns : goal.returns
-returns c =
-    let e = c.get.ensures.value in
-    c.copied.ensures ∙ e ∙ found-seen c.args.name.now c.self.inside.kept.entries ∙ ap (found c.args.name.now) c.self.view_is
