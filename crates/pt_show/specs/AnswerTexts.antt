@@ -20,13 +20,16 @@ timeout_text timeout = number_text timeout.secs ++ number_text timeout.nanos
 
 abbrev pub attr_text : Attr → List ℕ
 attr_text attr =
-    number_text attr.ino ++ number_text attr.size ++ number_text attr.blocks ++ time_text attr.atime ++ time_text attr.mtime ++ time_text attr.ctime
-    ++ number_text attr.mode ++ number_text attr.nlink ++ number_text attr.uid ++ number_text attr.gid ++ number_text attr.rdev
+    number_text attr.ino ++ number_text attr.size ++ number_text attr.blocks ++ time_text attr.atime
+    ++ time_text attr.mtime ++ time_text attr.ctime
+    ++ number_text attr.mode ++ number_text attr.nlink ++ number_text attr.uid ++ number_text attr.gid
+    ++ number_text attr.rdev
     ++ number_text attr.blksize ++ number_text attr.flags
 
 abbrev pub entry_text : Entry → List ℕ
 entry_text entry =
-    number_text entry.inode ++ number_text entry.generation ++ attr_text entry.attr ++ timeout_text entry.attr_timeout ++ timeout_text entry.entry_timeout
+    number_text entry.inode ++ number_text entry.generation ++ attr_text entry.attr
+    ++ timeout_text entry.attr_timeout ++ timeout_text entry.entry_timeout
 
 abbrev pub options_text : FsOptions → List ℕ
 options_text options = number_text options.0
@@ -35,7 +38,8 @@ abbrev pub open_options_text : OpenOptions → List ℕ
 open_options_text options = number_text options.0
 
 abbrev pub dir_entry_text : DirEntry → List ℕ
-dir_entry_text entry = number_text entry.ino ++ number_text entry.offset ++ number_text entry.kind ++ bytes_text entry.name
+dir_entry_text entry =
+    number_text entry.ino ++ number_text entry.offset ++ number_text entry.kind ++ bytes_text entry.name
 
 abbrev pub listing_text : List DirEntry → List ℕ
 listing_text entries = number_text (length entries) ++ items_text dir_entry_text entries

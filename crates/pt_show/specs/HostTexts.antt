@@ -62,15 +62,18 @@ stat_text stat =
 
 abbrev pub fs_stat_text : FsStat → List ℕ
 fs_stat_text stat =
-    number_text stat.blocks ++ number_text stat.bfree ++ number_text stat.bavail ++ number_text stat.files ++ number_text stat.ffree
+    number_text stat.blocks ++ number_text stat.bfree ++ number_text stat.bavail ++ number_text stat.files
+    ++ number_text stat.ffree
     ++ number_text stat.bsize ++ number_text stat.namelen ++ number_text stat.frsize
 
 abbrev pub call_text : KeptHostOp → List ℕ
 call_text (call.OpenRoot path flags) = word (codes "OpenRoot") ++ bytes_text path ++ flags_text flags
 call_text (call.OpenPath fd path flags) = word (codes "OpenPath") ++ fd_text fd ++ bytes_text path ++ flags_text flags
-call_text (call.OpenAt fd name flags mode) = word (codes "OpenAt") ++ fd_text fd ++ bytes_text name ++ flags_text flags ++ number_text mode
+call_text (call.OpenAt fd name flags mode) =
+    word (codes "OpenAt") ++ fd_text fd ++ bytes_text name ++ flags_text flags ++ number_text mode
 call_text (call.Reopen fd flags) = word (codes "Reopen") ++ fd_text fd ++ flags_text flags
-call_text (call.OpenByHandle fd handle flags) = word (codes "OpenByHandle") ++ fd_text fd ++ c_handle_text handle ++ flags_text flags
+call_text (call.OpenByHandle fd handle flags) =
+    word (codes "OpenByHandle") ++ fd_text fd ++ c_handle_text handle ++ flags_text flags
 call_text (call.Close fd) = word (codes "Close") ++ fd_text fd
 call_text (call.Stat fd) = word (codes "Stat") ++ fd_text fd
 call_text (call.HandleOf fd) = word (codes "HandleOf") ++ fd_text fd
@@ -79,7 +82,8 @@ call_text (call.ReadLink fd) = word (codes "ReadLink") ++ fd_text fd
 call_text (call.FdPath fd) = word (codes "FdPath") ++ fd_text fd
 call_text call.MountInfo = word (codes "MountInfo")
 call_text (call.MakeDir fd name mode) = word (codes "MakeDir") ++ fd_text fd ++ bytes_text name ++ number_text mode
-call_text (call.MakeNode fd name mode rdev) = word (codes "MakeNode") ++ fd_text fd ++ bytes_text name ++ number_text mode ++ number_text rdev
+call_text (call.MakeNode fd name mode rdev) =
+    word (codes "MakeNode") ++ fd_text fd ++ bytes_text name ++ number_text mode ++ number_text rdev
 call_text (call.MakeLink from fd name) = word (codes "MakeLink") ++ fd_text from ++ fd_text fd ++ bytes_text name
 call_text (call.SymLink fd name target) = word (codes "SymLink") ++ fd_text fd ++ bytes_text name ++ bytes_text target
 call_text (call.Unlink fd name) = word (codes "Unlink") ++ fd_text fd ++ bytes_text name
@@ -87,13 +91,17 @@ call_text (call.RemoveDir fd name) = word (codes "RemoveDir") ++ fd_text fd ++ b
 call_text (call.Rename fd name fd2 name2 flags) =
     word (codes "Rename") ++ fd_text fd ++ bytes_text name ++ fd_text fd2 ++ bytes_text name2 ++ number_text flags
 call_text (call.ReadAt fd offset size) = word (codes "ReadAt") ++ fd_text fd ++ number_text offset ++ number_text size
-call_text (call.WriteAt fd offset bytes append) = word (codes "WriteAt") ++ fd_text fd ++ number_text offset ++ bytes_text bytes ++ switch_text append
+call_text (call.WriteAt fd offset bytes append) =
+    word (codes "WriteAt") ++ fd_text fd ++ number_text offset ++ bytes_text bytes ++ switch_text append
 call_text (call.Truncate fd size) = word (codes "Truncate") ++ fd_text fd ++ number_text size
-call_text (call.Allocate fd mode offset count) = word (codes "Allocate") ++ fd_text fd ++ number_text mode ++ number_text offset ++ number_text count
+call_text (call.Allocate fd mode offset count) =
+    word (codes "Allocate") ++ fd_text fd ++ number_text mode ++ number_text offset ++ number_text count
 call_text (call.Seek fd offset whence) = word (codes "Seek") ++ fd_text fd ++ signed_text offset ++ number_text whence
 call_text (call.CopyRange fd offset fd2 offset2 count flags) =
-    word (codes "CopyRange") ++ fd_text fd ++ number_text offset ++ fd_text fd2 ++ number_text offset2 ++ number_text count ++ number_text flags
-call_text (call.ListAt fd offset size) = word (codes "ListAt") ++ fd_text fd ++ option_text number_text offset ++ number_text size
+    word (codes "CopyRange") ++ fd_text fd ++ number_text offset ++ fd_text fd2 ++ number_text offset2
+    ++ number_text count ++ number_text flags
+call_text (call.ListAt fd offset size) =
+    word (codes "ListAt") ++ fd_text fd ++ option_text number_text offset ++ number_text size
 call_text (call.Flush fd) = word (codes "Flush") ++ fd_text fd
 call_text (call.Sync fd datasync) = word (codes "Sync") ++ fd_text fd ++ switch_text datasync
 call_text (call.SyncFs fd) = word (codes "SyncFs") ++ fd_text fd
@@ -102,10 +110,14 @@ call_text (call.ChOwn fd uid gid) = word (codes "ChOwn") ++ fd_text fd ++ number
 call_text (call.SetTimes fd through atime mtime) =
     word (codes "SetTimes") ++ fd_text fd ++ switch_text through ++ time_set_text atime ++ time_set_text mtime
 call_text (call.SetXattr fd through name bytes flags) =
-    word (codes "SetXattr") ++ fd_text fd ++ switch_text through ++ bytes_text name ++ bytes_text bytes ++ number_text flags
-call_text (call.GetXattr fd through name size) = word (codes "GetXattr") ++ fd_text fd ++ switch_text through ++ bytes_text name ++ number_text size
-call_text (call.ListXattr fd through size) = word (codes "ListXattr") ++ fd_text fd ++ switch_text through ++ number_text size
-call_text (call.RemoveXattr fd through name) = word (codes "RemoveXattr") ++ fd_text fd ++ switch_text through ++ bytes_text name
+    word (codes "SetXattr") ++ fd_text fd ++ switch_text through ++ bytes_text name ++ bytes_text bytes
+    ++ number_text flags
+call_text (call.GetXattr fd through name size) =
+    word (codes "GetXattr") ++ fd_text fd ++ switch_text through ++ bytes_text name ++ number_text size
+call_text (call.ListXattr fd through size) =
+    word (codes "ListXattr") ++ fd_text fd ++ switch_text through ++ number_text size
+call_text (call.RemoveXattr fd through name) =
+    word (codes "RemoveXattr") ++ fd_text fd ++ switch_text through ++ bytes_text name
 call_text (call.SetGroups list) = word (codes "SetGroups") ++ groups_text list
 call_text (call.SetEgid gid) = word (codes "SetEgid") ++ number_text gid
 call_text (call.SetEuid uid) = word (codes "SetEuid") ++ number_text uid

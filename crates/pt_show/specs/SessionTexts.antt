@@ -23,7 +23,8 @@ row_text form ids mode = form_text form ++ ids_text ids ++ number_text mode
 
 abbrev pub negotiated_text : Negotiated → List ℕ
 negotiated_text agreed =
-    switch_text agreed.writeback ++ switch_text agreed.announce_submounts ++ switch_text agreed.posix_acl ++ switch_text agreed.sup_group
+    switch_text agreed.writeback ++ switch_text agreed.announce_submounts ++ switch_text agreed.posix_acl
+    ++ switch_text agreed.sup_group
 
 abbrev pub pair_text : ℕ × ℕ → List ℕ
 pair_text pair = number_text pair.0 ++ number_text pair.1
@@ -33,13 +34,15 @@ forgets_text pairs = number_text (length pairs) ++ items_text pair_text pairs
 
 -- a name and what a new handle is told by
 abbrev pub new_handle_text : List ℕ → ℕ → ℕ → ℕ → Fd → List ℕ
-new_handle_text name era handle number fd = word name ++ number_text era ++ number_text handle ++ number_text number ++ fd_text fd
+new_handle_text name era handle number fd =
+    word name ++ number_text era ++ number_text handle ++ number_text number ++ fd_text fd
 
 abbrev pub event_text : KeptEvent → List ℕ
 event_text event.Begin = word (codes "Begin")
 event_text (event.Resolve number) = word (codes "Resolve") ++ number_text number
 event_text (event.Unpin row) = word (codes "Unpin") ++ number_text row
-event_text (event.Claim era handle ids) = word (codes "Claim") ++ number_text era ++ option_text handle_text handle ++ ids_text ids
+event_text (event.Claim era handle ids) =
+    word (codes "Claim") ++ number_text era ++ option_text handle_text handle ++ ids_text ids
 event_text event.TakeFd = word (codes "TakeFd")
 event_text event.GiveFd = word (codes "GiveFd")
 event_text event.DrawNode = word (codes "DrawNode")
@@ -67,7 +70,8 @@ refusal_text refusal.Memory = word (codes "Memory")
 
 abbrev pub event_reply_text : EventReply → List ℕ
 event_reply_text (reply.Began era negotiated) = word (codes "Began") ++ number_text era ++ negotiated_text negotiated
-event_reply_text (reply.Resolved row form ids mode) = word (codes "Resolved") ++ number_text row ++ row_text form ids mode
+event_reply_text (reply.Resolved row form ids mode) =
+    word (codes "Resolved") ++ number_text row ++ row_text form ids mode
 event_reply_text (reply.Done closings) = word (codes "Done") ++ number_text closings
 event_reply_text (reply.Claimed number) = word (codes "Claimed") ++ number_text number
 event_reply_text reply.Absent = word (codes "Absent")
