@@ -69,8 +69,10 @@ impl Case {
     /// What the event of this text is answered, which is bad where there is no session.
     pub fn answer(&mut self, text: &[u8]) -> Result<EventReply, Trouble> {
         let event: KeptEvent = read_text(self.alloc, text)?;
+        // as a trace keeps it
+        let kept = event.lend().keep(self.alloc)?;
         match &mut self.session {
-            Some(session) => Ok(session.event(&event.lend())),
+            Some(session) => Ok(session.event(&kept.lend())),
             None => Err(Trouble::Bad),
         }
     }

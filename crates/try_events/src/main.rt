@@ -1,10 +1,10 @@
 //! Makes the events that lines name of sessions, and prints what each is answered.
 //!
 //! A line `== NAME` begins a case, and a line `session SLOTS` its tables. Then come events, as a report prints them;
-//! `for FROM TO EVENT` makes the event with each number from FROM to below TO in the place of its words `@`, and prints how many
-//! replies were refusals beside the first and the last reply; `tables` prints the tables, which are printed at the end of each case
-//! too. An empty line and one that begins with `#` are passed over. What is no line, or may not stand where it does, is
-//! printed behind `bad`.
+//! `for FROM TO EVENT` makes the event with each number from FROM to below TO in the place of its `@`, and prints the
+//! first reply, the last one and how many were refusals; `tables` prints the tables, which are printed at the end of
+//! each case too. An empty line and one that begins with `#` are passed over. What is no line, or may not stand where
+//! it does, is printed behind `bad`.
 #![tactic(auto)]
 
 mod case;
