@@ -16,8 +16,6 @@ mod session;
 mod store;
 mod tables;
 mod taking;
-#[cfg(test)]
-mod tests;
 
 pub use event::{Event, ForgetList, KeptEvent};
 pub use form::{Negotiated, RowForm};

@@ -1,0 +1,141 @@
+use crate::case::Case;
+use crate::long::written_out;
+use crate::trouble::Trouble;
+use pt_host::{HostReply, HostSeat, KeptHostOp};
+use pt_script::{end, next_edit, next_fault, next_identity, next_tree_line, next_word};
+use pt_show::{Text, read_text};
+use pt_text::{Parts, push_text};
+use std::alloc::{AllocError, Global};
+
+// The line as it was given, and what it was answered.
+fn push_answer(out: &mut Vec<u8>, given: &[u8], reply: &HostReply) -> Result<(), AllocError> {
+    push_text(out, given)?;
+    push_text(out, b" =")?;
+    reply.write(out)?;
+    push_text(out, b"\n")
+}
+
+fn push_seat(out: &mut Vec<u8>, seat: &HostSeat) -> Result<(), AllocError> {
+    push_text(out, b"who")?;
+    for id in [
+        seat.real_uid,
+        seat.eff_uid,
+        seat.saved_uid,
+        seat.real_gid,
+        seat.eff_gid,
+        seat.saved_gid,
+        seat.eff_caps.0,
+        seat.perm_caps.0,
+        seat.umask,
+    ] {
+        id.write(out)?;
+    }
+    for group in seat.groups.as_slice() {
+        group.write(out)?;
+    }
+    push_text(out, b"\n")
+}
+
+// Makes the tree where that was not done, and tells which of its lines is none of a tree.
+fn settle(case: &mut Case, out: &mut Vec<u8>) -> Result<(), AllocError> {
+    if let Some(place) = case.make_tree()? {
+        push_text(out, b"no tree")?;
+        place.write(out)?;
+        push_text(out, b"\n")?;
+    }
+    Ok(())
+}
+
+// A line that is none of a tree, as it was given and written out.
+fn take_other(
+    alloc: Global,
+    case: &mut Case,
+    given: &[u8],
+    line: &[u8],
+    out: &mut Vec<u8>,
+) -> Result<(), Trouble> {
+    let mut words = Parts::words(line);
+    match next_word(&mut words)? {
+        b"fault" => case.plan(next_fault(&mut words)?)?,
+        b"seat" => {
+            let name = next_word(&mut words)?;
+            let who = next_identity(&mut words)?;
+            case.seats
+                .begin(name, HostSeat::new(who.uid, who.gid, who.caps))?;
+        }
+        b"as" => {
+            let name = next_word(&mut words)?;
+            end(&words)?;
+            case.seats.resume(name)?;
+        }
+        b"who" => {
+            end(&words)?;
+            push_seat(out, case.seats.current()?)?;
+        }
+        b"list" => {
+            end(&words)?;
+            push_text(out, case.listing()?.as_slice())?;
+        }
+        b"edit" => {
+            let edit = next_edit(alloc, &mut words)?;
+            push_answer(out, given, &case.edit(&edit)?)?;
+        }
+        _ => {
+            let call: KeptHostOp = read_text(alloc, line)?;
+            push_answer(out, given, &case.call(&call)?)?;
+        }
+    }
+    Ok(())
+}
+
+fn is_of_tree(word: &[u8]) -> bool {
+    matches!(
+        word,
+        b"mount" | b"dir" | b"file" | b"link" | b"spec" | b"hard" | b"xattr"
+    )
+}
+
+fn take(alloc: Global, case: &mut Case, given: &[u8], out: &mut Vec<u8>) -> Result<(), Trouble> {
+    let line = written_out(alloc, given)?.ok_or(Trouble::Bad)?;
+    let mut words = Parts::words(line.as_slice());
+    let word = next_word(&mut words)?;
+    if is_of_tree(word) {
+        let line = next_tree_line(alloc, word, &mut words)?;
+        return case.take_tree_line(line);
+    }
+    settle(case, out)?;
+    take_other(alloc, case, given, line.as_slice(), out)
+}
+
+/// What a line does to the case, and what it tells, which is put behind `out`.
+pub fn take_line(
+    alloc: Global,
+    case: &mut Case,
+    line: &[u8],
+    out: &mut Vec<u8>,
+) -> Result<(), AllocError> {
+    match line {
+        [] | [b'#', ..] => return Ok(()),
+        [b'=', b'=', b' ', ..] => {
+            settle(case, out)?;
+            *case = Case::new(alloc)?;
+            push_text(out, line)?;
+            return push_text(out, b"\n");
+        }
+        _ => {}
+    }
+    match take(alloc, case, line, out) {
+        Ok(()) => Ok(()),
+        Err(Trouble::Memory) => Err(AllocError),
+        Err(Trouble::Bad) => {
+            push_text(out, b"bad ")?;
+            push_text(out, line)?;
+            push_text(out, b"\n")
+        }
+    }
+}
+
+/// What is left to tell at the end.
+pub fn finish(case: &mut Case, out: &mut Vec<u8>) -> Result<(), AllocError> {
+    settle(case, out)
+}

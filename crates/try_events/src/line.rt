@@ -1,0 +1,89 @@
+use crate::case::Case;
+use crate::many::answer_each;
+use crate::trouble::Trouble;
+use pt_script::{end, next_number, next_word};
+use pt_show::Text;
+use pt_text::{Parts, push_text};
+use std::alloc::AllocError;
+
+// What stands behind the first word.
+fn behind_word(text: &[u8]) -> Result<&[u8], Trouble> {
+    match text.iter().position(|b| *b == b' ') {
+        Some(place) => Ok(&text[place + 1..]),
+        None => Err(Trouble::Bad),
+    }
+}
+
+// A line `for FROM TO EVENT`, whose words behind the first one these are.
+fn take_each(
+    case: &mut Case,
+    line: &[u8],
+    words: &mut Parts<'_>,
+    out: &mut Vec<u8>,
+) -> Result<(), Trouble> {
+    let from = next_number(words)?;
+    let to = next_number(words)?;
+    let event = behind_word(behind_word(behind_word(line)?)?)?;
+    let replies = answer_each(case, from, to, event)?;
+    push_text(out, line)?;
+    push_text(out, b" =")?;
+    replies.first.write(out)?;
+    push_text(out, b" ..")?;
+    replies.last.write(out)?;
+    push_text(out, b" refused")?;
+    replies.refused.write(out)?;
+    push_text(out, b"\n")?;
+    Ok(())
+}
+
+fn take(case: &mut Case, line: &[u8], out: &mut Vec<u8>) -> Result<(), Trouble> {
+    let mut words = Parts::words(line);
+    match next_word(&mut words)? {
+        b"session" => {
+            let slots = next_number(&mut words)?;
+            end(&words)?;
+            case.begin(slots)?;
+        }
+        b"tables" => {
+            end(&words)?;
+            case.push_tables(out)?;
+        }
+        b"for" => take_each(case, line, &mut words, out)?,
+        _ => {
+            let reply = case.answer(line)?;
+            push_text(out, line)?;
+            push_text(out, b" =")?;
+            reply.write(out)?;
+            push_text(out, b"\n")?;
+        }
+    }
+    Ok(())
+}
+
+/// What a line does to the case, and what it tells, which is put behind `out`.
+pub fn take_line(case: &mut Case, line: &[u8], out: &mut Vec<u8>) -> Result<(), AllocError> {
+    match line {
+        [] | [b'#', ..] => return Ok(()),
+        [b'=', b'=', b' ', ..] => {
+            finish(case, out)?;
+            *case = Case::none(case.alloc);
+            push_text(out, line)?;
+            return push_text(out, b"\n");
+        }
+        _ => {}
+    }
+    match take(case, line, out) {
+        Ok(()) => Ok(()),
+        Err(Trouble::Memory) => Err(AllocError),
+        Err(Trouble::Bad) => {
+            push_text(out, b"bad ")?;
+            push_text(out, line)?;
+            push_text(out, b"\n")
+        }
+    }
+}
+
+/// What is left to tell at the end of a case.
+pub fn finish(case: &mut Case, out: &mut Vec<u8>) -> Result<(), AllocError> {
+    case.push_tables(out)
+}

@@ -1,0 +1,35 @@
+use pt_script::LineError;
+use pt_show::ReadError;
+use std::alloc::AllocError;
+
+/// Why a line was not taken.
+#[derive(Clone, Copy, Debug, PartialEq, Eq)]
+pub enum Trouble {
+    /// It is no line, or may not stand where it does.
+    Bad,
+    Memory,
+}
+
+impl From<AllocError> for Trouble {
+    fn from(_: AllocError) -> Self {
+        Trouble::Memory
+    }
+}
+
+impl From<LineError> for Trouble {
+    fn from(error: LineError) -> Self {
+        match error {
+            LineError::Bad => Trouble::Bad,
+            LineError::Memory => Trouble::Memory,
+        }
+    }
+}
+
+impl From<ReadError> for Trouble {
+    fn from(error: ReadError) -> Self {
+        match error {
+            ReadError::Bad => Trouble::Bad,
+            ReadError::Memory => Trouble::Memory,
+        }
+    }
+}
