@@ -1,0 +1,12 @@
+pub mod Fields
+pub mod NewObjects
+pub mod TreeLine
+pub mod Request
+pub mod Edit
+pub mod Settings
+pub mod Line
+pub mod Script
+pub mod Begins
+pub mod Scan
+pub mod Parse
+pub mod FirstBad

@@ -1,0 +1,132 @@
+ghost use Rattle.std.specs.Prelude.{◌≡◌, IfOk, Some, None};
+ghost use Rattle.pt_script.specs.Line.{limit_in, identity_of, setting_as, setting_in, fault_in, job_in, line_of};
+
+use crate::edit::next_edit;
+use crate::fields::{LineError, end, next_errno, next_number, next_places, next_small, next_word};
+use crate::places::Places;
+use crate::request::next_request;
+use crate::settings::{Identity, Setting};
+use crate::tree_line::next_tree_line;
+use pt_host::{Caps, Edit, Errno};
+use pt_iface::{Context, Request};
+use pt_text::Parts;
+use pt_tree::TreeLine;
+use std::alloc::Global;
+
+/// A job of a script.
+#[derive(Debug, Drop)]
+pub enum ScriptJob {
+    /// A request, and who asks.
+    Request(Context, Request),
+    /// A change of the host's tree beside the requests.
+    Edit(Edit),
+}
+
+/// A call of the host, by its number from 1, that is to fail with this error.
+#[derive(Clone, Copy, Debug, PartialEq, Eq)]
+pub struct PlannedFault {
+    pub call: u64,
+    pub errno: Errno,
+}
+
+/// A line of a script.
+#[derive(Debug, Drop)]
+pub enum Line {
+    Set(Setting),
+    Tree(TreeLine),
+    Fault(PlannedFault),
+    Job(ScriptJob),
+    /// Places of the schedule.
+    Order(Places),
+    End,
+}
+
+fn next_limit(words: &mut Parts<'_>) -> Result<Setting, LineError>
+    ensures ok { IfOk result (λ setting. limit_in words.old ≡ Some setting) }
+    ensures bad { result ≡ Err LineError.Bad → limit_in words.old ≡ None }
+{
+    let limit = next_number(words)?;
+    end(words)?;
+    Ok(Setting::GuestFdLimit(limit))
+}
+
+/// Who a seat begins as, to the last word.
+pub fn next_identity(words: &mut Parts<'_>) -> Result<Identity, LineError>
+    ensures ok { IfOk result (λ who. identity_of words.old ≡ Some who) }
+    ensures bad { result ≡ Err LineError.Bad → identity_of words.old ≡ None }
+{
+    let uid = next_small(words)?;
+    let gid = next_small(words)?;
+    let caps = Caps(next_small(words)?);
+    end(words)?;
+    Ok(Identity { uid, gid, caps })
+}
+
+// The setting of this key.
+fn next_setting_as(key: &[u8], words: &mut Parts<'_>) -> Result<Setting, LineError>
+    ensures ok { IfOk result (λ setting. setting_as key.now words.old ≡ Some setting) }
+    ensures bad { result ≡ Err LineError.Bad → setting_as key.now words.old ≡ None }
+{
+    if key == b"guest_fd_limit".as_slice() {
+        next_limit(words)
+    } else if key == b"seat".as_slice() {
+        Ok(Setting::Seat(next_identity(words)?))
+    } else {
+        Err(LineError::Bad)
+    }
+}
+
+fn next_setting(words: &mut Parts<'_>) -> Result<Setting, LineError>
+    ensures ok { IfOk result (λ setting. setting_in words.old ≡ Some setting) }
+    ensures bad { result ≡ Err LineError.Bad → setting_in words.old ≡ None }
+{
+    let key = next_word(words)?;
+    next_setting_as(key, words)
+}
+
+/// A call of the host that is to fail, to the last word.
+pub fn next_fault(words: &mut Parts<'_>) -> Result<PlannedFault, LineError>
+    ensures ok { IfOk result (λ fault. fault_in words.old ≡ Some fault) }
+    ensures bad { result ≡ Err LineError.Bad → fault_in words.old ≡ None }
+{
+    let call = next_number(words)?;
+    let errno = next_errno(words)?;
+    end(words)?;
+    Ok(PlannedFault { call, errno })
+}
+
+/// A job of a request, and who asks, to the last word.
+pub fn next_job(alloc: Global, words: &mut Parts<'_>) -> Result<ScriptJob, LineError>
+    ensures ok { IfOk result (λ job. job_in words.old ≡ Some job) }
+    ensures bad { result ≡ Err LineError.Bad → job_in words.old ≡ None }
+{
+    let uid = next_small(words)?;
+    let gid = next_small(words)?;
+    let request = next_request(alloc, words)?;
+    Ok(ScriptJob::Request(Context { uid, gid }, request))
+}
+
+/// The line that a text is.
+pub fn read_line(alloc: Global, text: &[u8]) -> Result<Line, LineError>
+    ensures ok { IfOk result (λ line. line_of text.now ≡ Some line) }
+    ensures bad { result ≡ Err LineError.Bad → line_of text.now ≡ None }
+{
+    let mut words = Parts::words(text);
+    let word = next_word(&mut words)?;
+    if word == b"set".as_slice() {
+        Ok(Line::Set(next_setting(&mut words)?))
+    } else if word == b"job".as_slice() {
+        Ok(Line::Job(next_job(alloc, &mut words)?))
+    } else if word == b"edit".as_slice() {
+        Ok(Line::Job(ScriptJob::Edit(next_edit(alloc, &mut words)?)))
+    } else if word == b"order".as_slice() {
+        Ok(Line::Order(next_places(alloc, &mut words)?))
+    } else if word == b"fault".as_slice() {
+        Ok(Line::Fault(next_fault(&mut words)?))
+    } else if word == b"end".as_slice() {
+        end(&words)?;
+        Ok(Line::End)
+    } else {
+        Ok(Line::Tree(next_tree_line(alloc, word, &mut words)?))
+    }
+}

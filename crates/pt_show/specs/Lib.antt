@@ -1,0 +1,6 @@
+pub mod Texts
+pub mod EditTexts
+pub mod HostTexts
+pub mod SessionTexts
+pub mod ActTexts
+pub mod AnswerTexts

@@ -1,0 +1,86 @@
+-- Believed. The texts of the events of the tables and of their replies.
+use Rattle.std.specs.Prelude.{ℕ, List, ◌++◌, codes, length}
+use Rattle.pt_host.specs.declared.ids.Fd.{Fd}
+use Rattle.pt_host.specs.declared.ids.ObjIds.{ObjIds}
+use Rattle.pt_session.specs.declared.form.RowForm.{RowForm}
+use Rattle.pt_session.specs.declared.form.RowForm.TheVariants.{File}
+use Rattle.pt_session.specs.declared.form.Negotiated.{Negotiated}
+use Rattle.pt_session.specs.declared.event.KeptEvent.{KeptEvent}
+use Rattle.pt_session.specs.declared.event.KeptEvent.TheVariants as event
+use Rattle.pt_session.specs.declared.reply.EventRefusal.{EventRefusal}
+use Rattle.pt_session.specs.declared.reply.EventRefusal.TheVariants as refusal
+use Rattle.pt_session.specs.declared.reply.EventReply.{EventReply}
+use Rattle.pt_session.specs.declared.reply.EventReply.TheVariants as reply
+use Rattle.pt_show.specs.Texts.{word, number_text, switch_text, option_text, items_text}
+use Rattle.pt_show.specs.HostTexts.{fd_text, handle_text, ids_text}
+
+abbrev pub form_text : RowForm → List ℕ
+form_text (File fd) = word (codes "File") ++ fd_text fd
+
+-- what a row keeps of its object
+abbrev pub row_text : RowForm → ObjIds → ℕ → List ℕ
+row_text form ids mode = form_text form ++ ids_text ids ++ number_text mode
+
+abbrev pub negotiated_text : Negotiated → List ℕ
+negotiated_text agreed =
+    switch_text agreed.writeback ++ switch_text agreed.announce_submounts ++ switch_text agreed.posix_acl
+    ++ switch_text agreed.sup_group
+
+abbrev pub pair_text : ℕ × ℕ → List ℕ
+pair_text pair = number_text pair.0 ++ number_text pair.1
+
+abbrev pub forgets_text : List (ℕ × ℕ) → List ℕ
+forgets_text pairs = number_text (length pairs) ++ items_text pair_text pairs
+
+-- a name and what a new handle is told by
+abbrev pub new_handle_text : List ℕ → ℕ → ℕ → ℕ → Fd → List ℕ
+new_handle_text name era handle number fd =
+    word name ++ number_text era ++ number_text handle ++ number_text number ++ fd_text fd
+
+abbrev pub event_text : KeptEvent → List ℕ
+event_text event.Begin = word (codes "Begin")
+event_text (event.Resolve number) = word (codes "Resolve") ++ number_text number
+event_text (event.Unpin row) = word (codes "Unpin") ++ number_text row
+event_text (event.Claim era handle ids) =
+    word (codes "Claim") ++ number_text era ++ option_text handle_text handle ++ ids_text ids
+event_text event.TakeFd = word (codes "TakeFd")
+event_text event.GiveFd = word (codes "GiveFd")
+event_text event.DrawNode = word (codes "DrawNode")
+event_text (event.Insert era number form ids mode) =
+    word (codes "Insert") ++ number_text era ++ number_text number ++ row_text form ids mode
+event_text (event.InsertRoot era form ids mode negotiated) =
+    word (codes "InsertRoot") ++ number_text era ++ row_text form ids mode ++ option_text negotiated_text negotiated
+event_text (event.Forget list) = word (codes "Forget") ++ forgets_text list
+event_text (event.GiveBack era number) = word (codes "GiveBack") ++ number_text era ++ number_text number
+event_text event.DrawHandle = word (codes "DrawHandle")
+event_text (event.InsertHandle era handle number fd) = new_handle_text (codes "InsertHandle") era handle number fd
+event_text (event.PinHandle handle number) = word (codes "PinHandle") ++ number_text handle ++ number_text number
+event_text (event.UnpinHandle row) = word (codes "UnpinHandle") ++ number_text row
+event_text (event.Release handle number) = word (codes "Release") ++ number_text handle ++ number_text number
+event_text event.Clear = word (codes "Clear")
+event_text event.TakeClosing = word (codes "TakeClosing")
+
+abbrev pub refusal_text : EventRefusal → List ℕ
+refusal_text refusal.NotLive = word (codes "NotLive")
+refusal_text refusal.Overtaken = word (codes "Overtaken")
+refusal_text refusal.NoSlot = word (codes "NoSlot")
+refusal_text refusal.Last = word (codes "Last")
+refusal_text refusal.Live = word (codes "Live")
+refusal_text refusal.Memory = word (codes "Memory")
+
+abbrev pub event_reply_text : EventReply → List ℕ
+event_reply_text (reply.Began era negotiated) = word (codes "Began") ++ number_text era ++ negotiated_text negotiated
+event_reply_text (reply.Resolved row form ids mode) =
+    word (codes "Resolved") ++ number_text row ++ row_text form ids mode
+event_reply_text (reply.Done closings) = word (codes "Done") ++ number_text closings
+event_reply_text (reply.Claimed number) = word (codes "Claimed") ++ number_text number
+event_reply_text reply.Absent = word (codes "Absent")
+event_reply_text reply.Taken = word (codes "Taken")
+event_reply_text reply.Given = word (codes "Given")
+event_reply_text (reply.Drawn number) = word (codes "Drawn") ++ number_text number
+event_reply_text (reply.Inserted number) = word (codes "Inserted") ++ number_text number
+event_reply_text (reply.Found number) = word (codes "Found") ++ number_text number
+event_reply_text (reply.Closing fd slot) = word (codes "Closing") ++ fd_text fd ++ switch_text slot
+event_reply_text (reply.Pinned row fd) = word (codes "Pinned") ++ number_text row ++ fd_text fd
+event_reply_text (reply.Cleared era closings) = word (codes "Cleared") ++ number_text era ++ number_text closings
+event_reply_text (reply.Refused why) = word (codes "Refused") ++ refusal_text why

@@ -1,0 +1,156 @@
+ghost use Rattle.std.specs.Prelude.{◌≡◌, ◌++◌, OnOk};
+ghost use Rattle.pt_show.specs.Texts.{word, number_text, signed_text, bytes_text, switch_text, option_text};
+
+use crate::text::Text;
+use pt_host::Bytes;
+use pt_text::{push_byte_word, push_decimal, push_signed, push_text};
+use std::alloc::AllocError;
+
+/// Appends a word.
+pub fn push_word(out: &mut Vec<u8>, text: &[u8]) -> Result<(), AllocError>
+    ensures { OnOk result (out.new.items ≡ out.old.items ++ word text.now) }
+{
+    push_text(out, b" ")?;
+    push_text(out, text)
+}
+
+/// Appends a name and one value.
+pub fn push_named<T: Text>(out: &mut Vec<u8>, name: &[u8], value: &T) -> Result<(), AllocError>
+    ensures { OnOk result (out.new.items ≡ out.old.items ++ (word name.now ++ T.text value.now)) }
+{
+    push_word(out, name)?;
+    value.write(out)
+}
+
+/// Appends a name and two values.
+pub fn push_two<A: Text, B: Text>(
+    out: &mut Vec<u8>,
+    name: &[u8],
+    first: &A,
+    second: &B,
+) -> Result<(), AllocError>
+    ensures { OnOk result (out.new.items ≡ out.old.items ++ (word name.now ++ A.text first.now ++ B.text second.now)) }
+{
+    push_named(out, name, first)?;
+    second.write(out)
+}
+
+/// Appends a name and three values.
+pub fn push_three<A: Text, B: Text, C: Text>(
+    out: &mut Vec<u8>,
+    name: &[u8],
+    first: &A,
+    second: &B,
+    third: &C,
+) -> Result<(), AllocError>
+    ensures { OnOk result (out.new.items ≡ out.old.items ++ (word name.now ++ A.text first.now ++ B.text second.now ++ C.text third.now)) }
+{
+    push_two(out, name, first, second)?;
+    third.write(out)
+}
+
+/// Appends a name and four values.
+pub fn push_four<A: Text, B: Text, C: Text, D: Text>(
+    out: &mut Vec<u8>,
+    name: &[u8],
+    first: &A,
+    second: &B,
+    third: &C,
+    fourth: &D,
+) -> Result<(), AllocError>
+    ensures { OnOk result (out.new.items
+        ≡ out.old.items ++ (word name.now ++ A.text first.now ++ B.text second.now ++ C.text third.now ++ D.text fourth.now)) }
+{
+    push_three(out, name, first, second, third)?;
+    fourth.write(out)
+}
+
+/// Appends a name and five values.
+pub fn push_five<A: Text, B: Text, C: Text, D: Text, E: Text>(
+    out: &mut Vec<u8>,
+    name: &[u8],
+    first: &A,
+    second: &B,
+    third: &C,
+    fourth: &D,
+    fifth: &E,
+) -> Result<(), AllocError>
+    ensures { OnOk result (out.new.items
+        ≡ out.old.items
+        ++ (word name.now ++ A.text first.now ++ B.text second.now ++ C.text third.now ++ D.text fourth.now ++ E.text fifth.now)) }
+{
+    push_four(out, name, first, second, third, fourth)?;
+    fifth.write(out)
+}
+
+impl Text for u64 {
+    ghost text = { number_text };
+
+    fn write(&self, out: &mut Vec<u8>) -> Result<(), AllocError> {
+        push_text(out, b" ")?;
+        push_decimal(out, *self)
+    }
+}
+
+impl Text for u32 {
+    ghost text = { number_text };
+
+    fn write(&self, out: &mut Vec<u8>) -> Result<(), AllocError> {
+        u64::from(*self).write(out)
+    }
+}
+
+impl Text for i64 {
+    ghost text = { signed_text };
+
+    fn write(&self, out: &mut Vec<u8>) -> Result<(), AllocError> {
+        push_text(out, b" ")?;
+        push_signed(out, *self)
+    }
+}
+
+impl Text for i32 {
+    ghost text = { signed_text };
+
+    fn write(&self, out: &mut Vec<u8>) -> Result<(), AllocError> {
+        i64::from(*self).write(out)
+    }
+}
+
+impl Text for bool {
+    ghost text = { switch_text };
+
+    fn write(&self, out: &mut Vec<u8>) -> Result<(), AllocError> {
+        push_word(out, if *self { b"1" } else { b"0" })
+    }
+}
+
+/// Appends bytes as a word.
+pub fn push_bytes(out: &mut Vec<u8>, bytes: &[u8]) -> Result<(), AllocError>
+    ensures { OnOk result (out.new.items ≡ out.old.items ++ bytes_text bytes.now) }
+{
+    push_text(out, b" ")?;
+    push_byte_word(out, bytes)
+}
+
+impl Text for Bytes {
+    ghost text = { bytes_text };
+
+    fn write(&self, out: &mut Vec<u8>) -> Result<(), AllocError> {
+        push_bytes(out, self.as_slice())
+    }
+}
+
+impl<T: Text> Text for Option<T> {
+    ghost text = { option_text T.text };
+
+    fn write(&self, out: &mut Vec<u8>) -> Result<(), AllocError> {
+        match self {
+            None => push_word(out, b"-"),
+            Some(value) => {
+                push_word(out, b"+")?;
+                value.write(out)
+            }
+        }
+    }
+}

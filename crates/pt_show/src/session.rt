@@ -1,0 +1,200 @@
+ghost use Rattle.std.specs.Prelude.{◌≡◌, ◌++◌, OnOk};
+ghost use Rattle.pt_show.specs.SessionTexts.{form_text, row_text, negotiated_text, pair_text, forgets_text, new_handle_text, event_text, refusal_text, event_reply_text};
+
+use crate::plain::{push_named, push_word};
+use crate::text::Text;
+use pt_host::{Fd, ObjIds};
+use pt_session::{EventRefusal, EventReply, ForgetList, KeptEvent, Negotiated, RowForm};
+use std::alloc::AllocError;
+
+impl Text for RowForm {
+    ghost text = { form_text };
+
+    fn write(&self, out: &mut Vec<u8>) -> Result<(), AllocError> {
+        match self {
+            RowForm::File(fd) => push_named(out, b"File", fd),
+        }
+    }
+}
+
+// What a row keeps of its object.
+fn write_row(out: &mut Vec<u8>, form: &RowForm, ids: ObjIds, mode: u32) -> Result<(), AllocError>
+    ensures { OnOk result (out.new.items ≡ out.old.items ++ row_text form.now ids mode) }
+{
+    form.write(out)?;
+    ids.write(out)?;
+    mode.write(out)
+}
+
+impl Text for Negotiated {
+    ghost text = { negotiated_text };
+
+    fn write(&self, out: &mut Vec<u8>) -> Result<(), AllocError> {
+        self.writeback.write(out)?;
+        self.announce_submounts.write(out)?;
+        self.posix_acl.write(out)?;
+        self.sup_group.write(out)
+    }
+}
+
+impl Text for (u64, u64) {
+    ghost text = { pair_text };
+
+    fn write(&self, out: &mut Vec<u8>) -> Result<(), AllocError> {
+        self.0.write(out)?;
+        self.1.write(out)
+    }
+}
+
+impl Text for ForgetList {
+    ghost text = { forgets_text };
+
+    fn write(&self, out: &mut Vec<u8>) -> Result<(), AllocError> {
+        let pairs = self.as_slice();
+        (pairs.len() as u64).write(out)?;
+        for pair in pairs {
+            pair.write(out)?;
+        }
+        Ok(())
+    }
+}
+
+// A name and what a new handle is told by.
+fn push_new_handle(
+    out: &mut Vec<u8>,
+    name: &[u8],
+    era: u64,
+    handle: u64,
+    number: u64,
+    fd: Fd,
+) -> Result<(), AllocError>
+    ensures { OnOk result (out.new.items ≡ out.old.items ++ new_handle_text name.now era handle number fd) }
+{
+    push_named(out, name, &era)?;
+    handle.write(out)?;
+    number.write(out)?;
+    fd.write(out)
+}
+
+impl Text for KeptEvent {
+    ghost text = { event_text };
+
+    fn write(&self, out: &mut Vec<u8>) -> Result<(), AllocError> {
+        match self {
+            KeptEvent::Begin => push_word(out, b"Begin"),
+            KeptEvent::Resolve { number } => push_named(out, b"Resolve", number),
+            KeptEvent::Unpin { row } => push_named(out, b"Unpin", row),
+            KeptEvent::Claim { era, handle, ids } => {
+                push_named(out, b"Claim", era)?;
+                handle.write(out)?;
+                ids.write(out)
+            }
+            KeptEvent::TakeFd => push_word(out, b"TakeFd"),
+            KeptEvent::GiveFd => push_word(out, b"GiveFd"),
+            KeptEvent::DrawNode => push_word(out, b"DrawNode"),
+            KeptEvent::Insert {
+                era,
+                number,
+                form,
+                ids,
+                mode,
+            } => {
+                push_named(out, b"Insert", era)?;
+                number.write(out)?;
+                write_row(out, form, *ids, *mode)
+            }
+            KeptEvent::InsertRoot {
+                era,
+                form,
+                ids,
+                mode,
+                negotiated,
+            } => {
+                push_named(out, b"InsertRoot", era)?;
+                write_row(out, form, *ids, *mode)?;
+                negotiated.write(out)
+            }
+            KeptEvent::Forget { list } => push_named(out, b"Forget", list),
+            KeptEvent::GiveBack { era, number } => {
+                push_named(out, b"GiveBack", era)?;
+                number.write(out)
+            }
+            KeptEvent::DrawHandle => push_word(out, b"DrawHandle"),
+            KeptEvent::InsertHandle {
+                era,
+                handle,
+                number,
+                fd,
+            } => push_new_handle(out, b"InsertHandle", *era, *handle, *number, *fd),
+            KeptEvent::PinHandle { handle, number } => {
+                push_named(out, b"PinHandle", handle)?;
+                number.write(out)
+            }
+            KeptEvent::UnpinHandle { row } => push_named(out, b"UnpinHandle", row),
+            KeptEvent::Release { handle, number } => {
+                push_named(out, b"Release", handle)?;
+                number.write(out)
+            }
+            KeptEvent::Clear => push_word(out, b"Clear"),
+            KeptEvent::TakeClosing => push_word(out, b"TakeClosing"),
+        }
+    }
+}
+
+impl Text for EventRefusal {
+    ghost text = { refusal_text };
+
+    fn write(&self, out: &mut Vec<u8>) -> Result<(), AllocError> {
+        match self {
+            EventRefusal::NotLive => push_word(out, b"NotLive"),
+            EventRefusal::Overtaken => push_word(out, b"Overtaken"),
+            EventRefusal::NoSlot => push_word(out, b"NoSlot"),
+            EventRefusal::Last => push_word(out, b"Last"),
+            EventRefusal::Live => push_word(out, b"Live"),
+            EventRefusal::Memory => push_word(out, b"Memory"),
+        }
+    }
+}
+
+impl Text for EventReply {
+    ghost text = { event_reply_text };
+
+    fn write(&self, out: &mut Vec<u8>) -> Result<(), AllocError> {
+        match self {
+            EventReply::Began { era, negotiated } => {
+                push_named(out, b"Began", era)?;
+                negotiated.write(out)
+            }
+            EventReply::Resolved {
+                row,
+                form,
+                ids,
+                mode,
+            } => {
+                push_named(out, b"Resolved", row)?;
+                write_row(out, form, *ids, *mode)
+            }
+            EventReply::Done { closings } => push_named(out, b"Done", closings),
+            EventReply::Claimed { number } => push_named(out, b"Claimed", number),
+            EventReply::Absent => push_word(out, b"Absent"),
+            EventReply::Taken => push_word(out, b"Taken"),
+            EventReply::Given => push_word(out, b"Given"),
+            EventReply::Drawn { number } => push_named(out, b"Drawn", number),
+            EventReply::Inserted { number } => push_named(out, b"Inserted", number),
+            EventReply::Found { number } => push_named(out, b"Found", number),
+            EventReply::Closing { fd, slot } => {
+                push_named(out, b"Closing", fd)?;
+                slot.write(out)
+            }
+            EventReply::Pinned { row, fd } => {
+                push_named(out, b"Pinned", row)?;
+                fd.write(out)
+            }
+            EventReply::Cleared { era, closings } => {
+                push_named(out, b"Cleared", era)?;
+                closings.write(out)
+            }
+            EventReply::Refused(refusal) => push_named(out, b"Refused", refusal),
+        }
+    }
+}
