@@ -10,8 +10,6 @@ mod run;
 mod running;
 mod schedule;
 mod step;
-#[cfg(test)]
-mod tests;
 mod trace;
 mod turns;
 

@@ -12,8 +12,6 @@ mod laws;
 mod parts;
 mod plan;
 mod requests;
-#[cfg(test)]
-mod tests;
 
 pub use act::{Act, ActReply, KeptAct, Want};
 pub use finish::Finish;

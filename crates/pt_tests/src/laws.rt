@@ -1,0 +1,26 @@
+use crate::one_directory::OneDirectory;
+use pt_fs::turns_are_determined;
+use pt_law::{
+    any_request, each_request, edit_ends, every_host, every_run, every_told_run, forgotten_nothing,
+    forgotten_number, one_number, request_ends, steps_told,
+};
+use pt_req::{calm, cut_says_no_more, jobs_are_determined};
+
+#[test]
+fn the_laws_hold_with_no_premise() {
+    calm();
+    cut_says_no_more();
+    jobs_are_determined();
+    any_request();
+    each_request();
+    request_ends();
+    edit_ends();
+    steps_told::<OneDirectory>();
+    every_run();
+    every_told_run();
+    every_host::<OneDirectory>();
+    one_number();
+    forgotten_number();
+    forgotten_nothing();
+    turns_are_determined::<OneDirectory>();
+}

@@ -1,0 +1,12 @@
+//! Tests of what no input of a program shows: streams that fail, jobs that are cut or find no memory, another host, the calls of the
+//! laws.
+#![tactic(auto)]
+
+#[cfg(test)]
+mod drives;
+#[cfg(test)]
+mod jobs;
+#[cfg(test)]
+mod laws;
+#[cfg(test)]
+mod one_directory;
