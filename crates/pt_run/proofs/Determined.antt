@@ -4,9 +4,9 @@ use Rattle.pt_host.specs.declared.reply.HostReply.{HostReply}
 use Rattle.pt_host.specs.declared.reply.HostReply.TheVariants as reply
 use Rattle.pt_host.specs.declared.reply.HostValue.TheVariants as value
 use Rattle.pt_host.specs.declared.seat.HostSeat.{HostSeat}
-use Rattle.pt_tree.specs.Does.{Does}
-use Rattle.pt_tree.specs.State.{State}
-use Rattle.pt_tree.specs.Laws.Determined.{determined as host_determined}
+use Rattle.pt_rules.specs.Does.{Does}
+use Rattle.pt_rules.specs.State.{State}
+use Rattle.pt_rules.specs.Laws.Determined.{determined as host_determined}
 use Rattle.pt_tree.specs.declared.spec.TreeLine.{TreeLine}
 use Rattle.pt_session.specs.LiveAfter.{IsLiveAbove, IsHandleAbove, IsLiveAfter, IsHandleAfter}
 use Rattle.pt_session.specs.Tables.{Tables, empty_tables, Agree, AreApart, AreHandlesApart, HasNumber, HasHandle}

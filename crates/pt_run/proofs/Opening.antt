@@ -7,15 +7,15 @@ use Rattle.pt_host.specs.declared.seat.HostSeat.{HostSeat}
 use Rattle.pt_host.specs.declared.reply.HostReply.{HostReply}
 use Rattle.pt_host.specs.declared.reply.HostReply.TheVariants as reply
 use Rattle.pt_host.specs.declared.reply.HostValue.TheVariants as value
-use Rattle.pt_tree.specs.Calls.{opening_of}
-use Rattle.pt_tree.specs.Does.{Answers, AnswersCall}
-use Rattle.pt_tree.specs.Faults.{failure_of}
-use Rattle.pt_tree.specs.Slots.{least_free}
-use Rattle.pt_tree.specs.State.{State, tree_of}
-use Rattle.pt_tree.specs.Table.{Outcome, answer}
-use Rattle.pt_tree.specs.declared.node.Node.{Node}
-use Rattle.pt_tree.specs.Laws.Lawful.{does_lawful}
-use Rattle.pt_tree.specs.Laws.WellFormed.{well_formed}
+use Rattle.pt_rules.specs.Calls.{opening_of}
+use Rattle.pt_rules.specs.Does.{Answers, AnswersCall}
+use Rattle.pt_rules.specs.Faults.{failure_of}
+use Rattle.pt_node.specs.Slots.{least_free}
+use Rattle.pt_rules.specs.State.{State, tree_of}
+use Rattle.pt_rules.specs.Table.{Outcome, answer}
+use Rattle.pt_node.specs.declared.node.Node.{Node}
+use Rattle.pt_rules.specs.Laws.Lawful.{does_lawful}
+use Rattle.pt_rules.specs.Laws.WellFormed.{well_formed}
 use Rattle.pt_iface.specs.declared.answer.Refusal.{Refusal}
 use Rattle.pt_iface.specs.declared.answer.Refusal.TheVariants as refusal
 use Rattle.pt_fs.specs.FileSystem.{FileSystem, IsMadeBy, opens_root, path}

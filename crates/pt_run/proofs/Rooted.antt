@@ -2,20 +2,20 @@
 use Rattle.std.proofs.Common.{◌≡◌, ◌<◌, ℕ, ◌+◌, ◌&&◌, Bool, true, false, cond, List, [], ◌∷◌, ◌++◌, length, Option, Some, None, Ok, refl, sym, subst, arith, length-append, slice_get}
 use Rattle.std.specs.Str.{bytes_eq}
 use Rattle.std.specs.Prelude.{nat_lt, nat_le, ◌/◌, ◌%◌, option_map, option_and_then}
-use Rattle.pt_tree.specs.Attributes.{with_value}
-use Rattle.pt_tree.specs.Edits.{with_made}
-use Rattle.pt_tree.specs.Entries.{after_gaining, changed_at, touched, with_entry}
-use Rattle.pt_tree.specs.Faults.{planned, with_plan}
-use Rattle.pt_tree.specs.Laws.Changed.{length-changed}
-use Rattle.pt_tree.specs.NameCalls.{special_kind, with_linked}
-use Rattle.pt_tree.specs.NewPlace.{place_of}
+use Rattle.pt_node.specs.Attributes.{with_value}
+use Rattle.pt_rules.specs.Edits.{with_made}
+use Rattle.pt_node.specs.Entries.{after_gaining, changed_at, touched, with_entry}
+use Rattle.pt_rules.specs.Faults.{planned, with_plan}
+use Rattle.pt_rules.specs.Laws.Changed.{length-changed}
+use Rattle.pt_rules.specs.NameCalls.{special_kind, with_linked}
+use Rattle.pt_node.specs.NewPlace.{place_of}
 use Rattle.pt_tree.specs.Start.{add_lines, add_line, first_line, going_on, put_object, add_object, add_of_mode, add_special, add_link, object_named, with_xattr, mount_root, mounted, start_with, mount_in, started, is_new_mount, is_linkable, StartsAs}
-use Rattle.pt_tree.specs.Node.{is_directory}
-use Rattle.pt_tree.specs.State.{State, time_of}
-use Rattle.pt_tree.specs.declared.node.Node.{Node}
-use Rattle.pt_tree.specs.declared.node.Content.{Content}
-use Rattle.pt_tree.specs.declared.node.Content.TheVariants as content
-use Rattle.pt_tree.specs.declared.node.SpecialKind.{SpecialKind}
+use Rattle.pt_node.specs.Node.{is_directory}
+use Rattle.pt_rules.specs.State.{State, time_of}
+use Rattle.pt_node.specs.declared.node.Node.{Node}
+use Rattle.pt_node.specs.declared.node.Content.{Content}
+use Rattle.pt_node.specs.declared.node.Content.TheVariants as content
+use Rattle.pt_node.specs.declared.node.SpecialKind.{SpecialKind}
 use Rattle.pt_tree.specs.declared.spec.TreeLine.{TreeLine}
 use Rattle.pt_tree.specs.declared.spec.TreeLine.TheVariants as tree_line
 use Rattle.pt_script.specs.Begins.{planned_all, BeginsAs}

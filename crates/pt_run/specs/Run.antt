@@ -4,9 +4,9 @@ use Rattle.pt_host.specs.declared.ids.Errno.{Errno}
 use Rattle.pt_host.specs.declared.reply.HostReply.{HostReply}
 use Rattle.pt_host.specs.declared.seat.HostSeat.{HostSeat}
 use Rattle.pt_host.specs.Tree.{IsWellFormed}
-use Rattle.pt_tree.specs.State.{State, tree_of}
-use Rattle.pt_tree.specs.Does.{Does}
-use Rattle.pt_tree.specs.Faults.{failure_of}
+use Rattle.pt_rules.specs.State.{State, tree_of}
+use Rattle.pt_rules.specs.Does.{Does}
+use Rattle.pt_rules.specs.Faults.{failure_of}
 use Rattle.pt_tree.specs.Listing.{listing_of}
 use Rattle.pt_session.specs.Tables.{Tables, empty_tables}
 use Rattle.pt_iface.specs.declared.answer.Answer.{Answer}

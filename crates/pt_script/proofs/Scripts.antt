@@ -19,7 +19,7 @@ use Rattle.pt_tree.specs.Start.{StartsAs, IsCause}
 use Rattle.pt_script.specs.Begins.{planned_all}
 use Rattle.pt_script.specs.declared.line.PlannedFault.{PlannedFault}
 use Rattle.pt_script.specs.declared.settings.Identity.{Identity}
-use Rattle.pt_tree.specs.State.{State}
+use Rattle.pt_rules.specs.State.{State}
 use Rattle.pt_script.specs.Scan.{IsBadTree, moved, place_of, error_behind}
 use Rattle.pt_script.specs.Parse.{IsScriptOf, IsBadLine}
 use Rattle.pt_tree.specs.declared.spec.SpecError.{SpecError}

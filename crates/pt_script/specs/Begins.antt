@@ -1,8 +1,8 @@
 -- Believed. The host of a script as it begins: its tree, and the faults that are planned.
 use Rattle.std.specs.Prelude.{◌≡◌, List, [], ◌∷◌}
-use Rattle.pt_tree.specs.Faults.{planned}
+use Rattle.pt_rules.specs.Faults.{planned}
 use Rattle.pt_tree.specs.Start.{StartsAs}
-use Rattle.pt_tree.specs.State.{State}
+use Rattle.pt_rules.specs.State.{State}
 use Rattle.pt_tree.specs.declared.spec.TreeLine.{TreeLine}
 use Rattle.pt_script.specs.declared.line.PlannedFault.{PlannedFault}
 

@@ -1,6 +1,6 @@
 -- Believed. What bytes are read as, and why they are no script.
 use Rattle.std.specs.Prelude.{◌≡◌, ℕ, List, Ok, Err}
-use Rattle.pt_tree.specs.State.{State}
+use Rattle.pt_rules.specs.State.{State}
 use Rattle.pt_script.specs.Begins.{BeginsAs}
 use Rattle.pt_script.specs.Script.{Begun, script_of}
 use Rattle.pt_script.specs.declared.line.ScriptJob.{ScriptJob}

@@ -1,7 +1,7 @@
 -- Inner. A script read without the rules of trees, which the host judges when it is made.
 use Rattle.std.specs.Prelude.{◌≡◌, ℕ, ◌+◌, ◌&&◌, List, [], ◌∷◌, Option, Some, None, Result, Ok, Err, if◌then◌else◌, option_and_then}
 use Rattle.pt_tree.specs.Start.{start_of}
-use Rattle.pt_tree.specs.State.{State}
+use Rattle.pt_rules.specs.State.{State}
 use Rattle.pt_tree.specs.declared.spec.SpecError.{SpecError}
 use Rattle.pt_tree.specs.declared.spec.SpecError.TheVariants as tree_error
 use Rattle.pt_tree.specs.declared.spec.TreeLine.{TreeLine}
