@@ -1,5 +1,4 @@
 ghost use Rattle.std.specs.Prelude.{
-  ℤ,
   ◌≡◌,
   ◌≤◌,
   ◌+◌,

@@ -1,4 +1,4 @@
-ghost use Rattle.std.specs.Prelude.{◌≡◌, ◌++◌, [], OnOk, OnErr, is_some, ℕ};
+ghost use Rattle.std.specs.Prelude.{◌≡◌, ◌++◌, [], OnOk, OnErr, is_some};
 ghost use Rattle.pt_node.specs.Mounts.{mount_ids, mount_of, mount_line, mounts_text, with_mount, has_device};
 
 use pt_host::{Bytes, MountId};

@@ -1,5 +1,5 @@
 -- Believed. The tree that lines describe, which a host holds at its start.
-use Rattle.std.specs.Prelude.{ℕ, ◌≡◌, ◌+◌, ◌/◌, nat_le, ◌&&◌, List, [], ◌∷◌, length, Option, Some, None, ⊤, Result, Ok, Err, if◌then◌else◌}
+use Rattle.std.specs.Prelude.{ℕ, ◌≡◌, ◌+◌, ◌/◌, ◌&&◌, List, [], ◌∷◌, Option, Some, None, ⊤, Result, Ok, Err, if◌then◌else◌}
 use Rattle.std.specs.Str.{bytes_eq}
 use Rattle.pt_host.specs.Tree.{Tree}
 use Rattle.pt_rules.specs.State.{State}

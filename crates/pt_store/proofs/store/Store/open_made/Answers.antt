@@ -1,6 +1,6 @@
 use Rattle.std.proofs.Common.{◌≡◌, ◌<◌, ◌+◌, ◌^◌, ◌-◌, ℕ, inl, inr, List, [], ◌∷◌, ◌++◌, length, take, Some, refl, slice_get, slice_set, ap, sym, ◌∙◌, arith, rules}
 use Rattle.std.specs.Option.{is_some}
-use Rattle.std.proofs.lemmas.Option.{get_or_from_slice_get, slice_get-get_or}
+use Rattle.std.proofs.lemmas.Option.{slice_get-get_or}
 use Rattle.pt_host.specs.Words.{set_at}
 use Rattle.pt_host.specs.declared.ids.Fd.{Fd}
 use Rattle.pt_host.specs.declared.ids.Time.{Time}
@@ -10,7 +10,6 @@ use Rattle.pt_rules.specs.Calls.{begun_on, tells, with_descriptor}
 use Rattle.pt_rules.specs.Edits.{grown, made, with_made}
 use Rattle.pt_node.specs.Entries.{new_object}
 use Rattle.pt_node.specs.Numbers.{freed, having, table_in}
-use Rattle.pt_node.specs.Opening.{after_opening}
 use Rattle.pt_rules.specs.OpeningCalls.{open_new}
 use Rattle.pt_node.specs.Slots.{least_free, open_at, put_at, taken_back}
 use Rattle.pt_rules.specs.State.{time_of}
@@ -22,7 +21,7 @@ use Rattle.pt_node.specs.declared.slots.Slot.{Slot}
 use Rattle.pt_node.specs.declared.slots.Slot.TheVariants.{Open}
 use Rattle.pt_node.specs.Laws.Updates.{same_function}
 use Rattle.pt_store.proofs.KeptLinks.{kept_open_made, last_opened, taken_back-put}
-use Rattle.pt_store.proofs.KeptMade.{given, kept_back, new_there}
+use Rattle.pt_store.proofs.KeptMade.{given, kept_back}
 use Rattle.pt_store.proofs.KeptStore.{kept_as, parts_in}
 use Rattle.pt_store.proofs.store.Store.open_made.Goals as goal
 
