@@ -59,6 +59,10 @@ impl Case {
                 return Ok(None);
             }
         };
+        // no memory holds so many lines
+        if lines.len() >= 1 << 32 {
+            return Err(AllocError);
+        }
         match TreeHost::from_spec(self.alloc, &TreeSpec::from_vec(lines)) {
             Ok(host) => {
                 self.tree = Tree::Made(host);
