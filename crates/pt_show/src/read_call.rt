@@ -2,7 +2,7 @@
 use crate::read::{Read, ReadError, Words};
 use pt_host::{Edit, KeptHostOp};
 
-// The calls that open and close descriptors, and those that ask of one alone. None where the name is of another call; so below.
+// The calls that open and close descriptors. None where the name is of another call; so below.
 fn next_opening(name: &[u8], words: &mut Words<'_>) -> Result<Option<KeptHostOp>, ReadError> {
     let call = match name {
         b"OpenRoot" => KeptHostOp::OpenRoot {
