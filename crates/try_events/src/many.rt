@@ -31,12 +31,7 @@ fn is_refused(reply: &EventReply) -> bool {
 }
 
 /// Makes the event of this text with each of the numbers, which is bad where there are none or it is no event.
-pub fn answer_each(
-    case: &mut Case,
-    from: u64,
-    to: u64,
-    text: &[u8],
-) -> Result<Replies, Trouble> {
+pub fn answer_each(case: &mut Case, from: u64, to: u64, text: &[u8]) -> Result<Replies, Trouble> {
     if from >= to {
         return Err(Trouble::Bad);
     }

@@ -79,8 +79,11 @@ fair_answer state numbers seat (call.Sync fd datasync) sound least = row_fair st
 fair_answer state numbers seat (call.SyncFs fd) sound least = row_fair state _ sound (λ tree errno. (tt, refl)) (λ tree told fits. (fits, refl)) refl fd sync_row
     (λ file node on. record { fits = tt; effect = tt })
 fair_answer state numbers seat (call.Allocate fd mode offset size) sound least = row_fair state _ sound (λ tree errno. (tt, refl)) (λ tree told fits. (fits, refl)) refl fd (allocate_row state mode offset size)
-    (λ file node on. record { fits = tt; effect = lengthened_effect (lengthens mode (size_of node.content) (offset + size)) state fd mode offset size value.Unit file node _ on
-    (keeps_rewritten (time_of state) _ node) })
+    (λ file node on. record {
+      fits = tt;
+      effect = lengthened_effect (lengthens mode (size_of node.content) (offset + size)) state fd mode offset size value.Unit file node _ on
+          (keeps_rewritten (time_of state) _ node);
+    })
 fair_answer state numbers seat (call.MakeDir fd name mode) sound least = fair_make_dir state numbers seat fd name mode sound least
 fair_answer state numbers seat (call.Reopen fd flags) sound least = fair_reopen state seat fd flags sound
 fair_answer state numbers seat (call.Close fd) sound least = fair_close state fd sound
