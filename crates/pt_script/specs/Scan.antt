@@ -7,7 +7,7 @@ use Rattle.pt_tree.specs.declared.spec.SpecError.TheVariants as tree_error
 use Rattle.pt_tree.specs.declared.spec.TreeLine.{TreeLine}
 use Rattle.pt_text.specs.Words.{lines_of}
 use Rattle.pt_script.specs.Line.{line_of}
-use Rattle.pt_script.specs.Script.{Begun, nothing, is_empty, may_stand, added, script_of}
+use Rattle.pt_script.specs.Script.{Begun, nothing, is_empty, may_stand, added}
 use Rattle.pt_script.specs.declared.line.Line.{Line}
 use Rattle.pt_script.specs.declared.script.ParseError.{ParseError}
 use Rattle.pt_script.specs.declared.script.ParseError.TheVariants.{BadScript, Memory}

@@ -1,5 +1,0 @@
-use Rattle.pt_main.proofs.FirstBads.{names_first_bad}
-use Rattle.pt_main.proofs.laws.first_bad_line.Goals as goal
-
-pub returns : goal.returns
-returns c = names_first_bad

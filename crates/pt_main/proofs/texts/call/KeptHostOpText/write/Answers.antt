@@ -1,4 +1,0 @@
-use Rattle.pt_main.proofs.texts.call.KeptHostOpText.write.Goals as goal
-
-pub returns-in-OpenByHandle : goal.returns-in-OpenByHandle
-returns-in-OpenByHandle c = rw c.in-OpenByHandle.is c.push_three-in-OpenByHandle.ensures

@@ -1,4 +1,0 @@
-use Rattle.pt_main.proofs.texts.session.KeptEventText.write.Goals as goal
-
-pub returns-in-InsertHandle : goal.returns-in-InsertHandle
-returns-in-InsertHandle c = rw c.in-InsertHandle.is c.push_new_handle.ensures

@@ -1,0 +1,17 @@
+-- Believed. The configuration that a script runs with.
+use Rattle.std.specs.Prelude.{◌≡◌, ℕ, Option, Some, None}
+use Rattle.pt_req.specs.declared.plan.Config.{Config}
+use Rattle.pt_req.specs.Plan.{IsDefault}
+use Rattle.pt_script.specs.declared.settings.Settings.{Settings}
+
+abbrev pub with_limit : Option ℕ → Config → Config
+with_limit None config = config
+with_limit (Some limit) config = record config { guest_fd_limit = limit }
+
+-- what is set, in place of the defaults
+abbrev pub configured : Settings → Config → Config
+configured settings config = with_limit settings.guest_fd_limit config
+
+-- the default configuration but for what is set
+abbrev pub IsConfigured : Settings → Config → Type 0
+IsConfigured settings config = (default : Config) × IsDefault default × (config ≡ configured settings default)

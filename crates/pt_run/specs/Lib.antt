@@ -1,0 +1,10 @@
+pub mod Streams
+pub mod Told
+pub mod Output
+pub mod Passing
+pub mod TableLines
+pub mod Report
+pub mod Status
+pub mod Configured
+pub mod Run
+pub mod Determined

@@ -1,0 +1,182 @@
+-- Believed. A run of a script, and its report.
+use Rattle.std.specs.Prelude.{◌≡◌, ◌≤◌, ℕ, List, [], ◌∷◌, ◌++◌, Option, Some, None, Result, Ok, Err, length, map, codes}
+use Rattle.pt_host.specs.declared.ids.Errno.{Errno}
+use Rattle.pt_host.specs.declared.reply.HostReply.{HostReply}
+use Rattle.pt_host.specs.declared.seat.HostSeat.{HostSeat}
+use Rattle.pt_host.specs.Tree.{IsWellFormed}
+use Rattle.pt_tree.specs.State.{State, tree_of}
+use Rattle.pt_tree.specs.Does.{Does}
+use Rattle.pt_tree.specs.Faults.{failure_of}
+use Rattle.pt_tree.specs.Listing.{listing_of}
+use Rattle.pt_session.specs.Tables.{Tables, empty_tables}
+use Rattle.pt_iface.specs.declared.answer.Answer.{Answer}
+use Rattle.pt_iface.specs.declared.answer.Refusal.{Refusal}
+use Rattle.pt_iface.specs.declared.answer.Refusal.TheVariants as refusal
+use Rattle.pt_iface.specs.declared.request.Context.{Context}
+use Rattle.pt_iface.specs.declared.request.Request.{Request}
+use Rattle.pt_iface.specs.declared.request.Request.TheVariants.{Root}
+use Rattle.pt_fs.specs.FileSystem.{FileSystem, opens_root, IsMadeBy}
+use Rattle.pt_fs.specs.Keeps.{turns_of, AfterEach, AfterEachTold, LeadsOn, KeepsObjects, KeepsCounts, KeepsHandles, ServesEach, InsertsOnce, OvertakenAsTold, OfEachJob, GivesBack, IsCausedIn, IsNamedIn, NamesOpenOnes, LeavesOpen}
+use Rattle.pt_fs.specs.Order.{IsInOrder}
+use Rattle.pt_law.specs.Laws.{SlotsAddUp, IsAtRest, AreKept}
+use Rattle.pt_fs.specs.Trace.{RunsJobs, AnswersEach, IsBounded}
+use Rattle.pt_fs.specs.declared.job.Job.{Job}
+use Rattle.pt_fs.specs.declared.job.Job.TheVariants as job
+use Rattle.pt_fs.specs.declared.trace.TraceStep.{TraceStep}
+use Rattle.pt_script.specs.Script.{Begun, script_of}
+use Rattle.pt_run.specs.Streams.{IsAll}
+use Rattle.pt_run.specs.Report.{step_lines, answer_lines}
+use Rattle.pt_run.specs.TableLines.{live_lines, handle_lines, slots_line, LivesAbove, HandlesAbove}
+use Rattle.pt_script.specs.Begins.{BeginsAs}
+use Rattle.pt_run.specs.Configured.{IsConfigured}
+use Rattle.pt_script.specs.Settings.{identity_in}
+use Rattle.pt_script.specs.declared.settings.Identity.{Identity}
+use Rattle.pt_script.specs.declared.settings.Settings.{Settings}
+use Rattle.pt_script.specs.declared.line.ScriptJob.{ScriptJob}
+use Rattle.pt_script.specs.declared.line.ScriptJob.TheVariants as script_job
+use Rattle.pt_run.specs.declared.status.Status.{Status}
+use Rattle.pt_run.specs.declared.status.Status.TheVariants as status
+
+-- a seat that begins as this
+abbrev pub seat_of : Identity → HostSeat
+seat_of who = record {
+  real_uid = who.uid;
+  eff_uid = who.uid;
+  saved_uid = who.uid;
+  real_gid = who.gid;
+  eff_gid = who.gid;
+  saved_gid = who.gid;
+  groups = [];
+  eff_caps = who.caps;
+  perm_caps = who.caps;
+  umask = 0;
+}
+
+-- the seat with which the daemon and each job begin
+abbrev pub start_seat : Settings → HostSeat
+start_seat settings = seat_of (identity_in settings)
+
+abbrev pub job_for : HostSeat → Context → Request → Job
+job_for seat who Root = job.OpenRoot seat
+job_for seat who request = job.Request who seat request
+
+-- the job of a job's line
+abbrev pub job_of : HostSeat → ScriptJob → Job
+job_of seat (script_job.Request who request) = job_for seat who request
+job_of seat (script_job.Edit edit) = job.Edit edit
+
+-- the jobs of a script's lines
+abbrev pub jobs_of : Settings → List ScriptJob → List Job
+jobs_of settings lines = map (job_of (start_seat settings)) lines
+
+-- one call was made, the opening of the host's root, and its answer makes the file system or is its refusal
+abbrev pub IsAsked : Settings → State → Result FileSystem Refusal → State → Type 0
+IsAsked settings before made after =
+    (reply : HostReply) × Does before (start_seat settings) opens_root reply after (start_seat settings)
+    × IsMadeBy reply made
+
+-- the file system is made over this host with the default configuration but for what is set, by one call
+pub record IsOpened (settings : Settings) (before : State) (fs : FileSystem) (after : State) : Type 0 where
+  pub call : IsAsked settings before (Ok fs) after
+  pub plan : IsConfigured settings fs.plan.config
+  pub tables : fs.tables ≡ empty_tables fs.plan.config.guest_fd_limit
+
+-- The jobs of a script run over this host: the trace leads from the new file system to these tables and that host, the
+-- steps come in the schedule's order, each job is answered by the pattern of its request, or of its edit, and each
+-- clause of `drive` holds.
+pub record IsRunFrom (settings : Settings) (start : State) (lines : List ScriptJob) (schedule : List ℕ) (trace : List TraceStep) (answers : List Answer) (tables : Tables) (host : State) : Type 0 where
+  pub fs : FileSystem
+  pub opened_host : State
+  pub opened : IsOpened settings start fs opened_host
+  pub seats : List HostSeat
+  pub steps : RunsJobs Does (jobs_of settings lines) trace opened_host fs.tables host seats tables
+  pub order : IsInOrder schedule (length (jobs_of settings lines)) trace
+  pub answers_each : AnswersEach fs.plan (jobs_of settings lines) trace answers
+  pub bounded : IsBounded (jobs_of settings lines) trace
+  pub causes : OfEachJob (jobs_of settings lines) answers (IsCausedIn trace)
+  pub gives_back : OfEachJob (jobs_of settings lines) answers (GivesBack trace)
+  pub counts : AfterEach fs.tables trace KeepsCounts
+  pub handles : AfterEach fs.tables trace KeepsHandles
+  pub once : InsertsOnce trace
+  pub overtaken : OvertakenAsTold trace
+  pub slots : AfterEach fs.tables trace (SlotsAddUp fs.tables.limit (length (jobs_of settings lines)))
+  pub at_rest : IsAtRest fs.tables.limit (length (jobs_of settings lines)) (turns_of trace) tables
+  -- the host tells its tree, which is well formed; so what is said of objects holds
+  pub well_formed : IsWellFormed (tree_of opened_host)
+  pub told : LeadsOn (Some (tree_of opened_host)) fs.tables trace (Some (tree_of host)) tables
+  pub distinct : AfterEachTold (Some (tree_of opened_host)) fs.tables trace (λ start so_far now. KeepsObjects now)
+  pub serves : AfterEachTold (Some (tree_of opened_host)) fs.tables trace (λ start so_far now. ServesEach now)
+  pub entries : OfEachJob (jobs_of settings lines) answers (IsNamedIn fs.plan (Some (tree_of opened_host)) fs.tables trace)
+  pub names_open : NamesOpenOnes (Some (tree_of opened_host)) fs.tables trace
+  pub descriptors : AfterEachTold (Some (tree_of opened_host)) fs.tables trace
+      (λ start so_far now. AreKept start (length (jobs_of settings lines)) so_far now)
+  pub leaves_open : LeavesOpen (Some (tree_of opened_host)) fs.tables trace
+
+-- these are the live numbers and handles of tables, each ascending
+abbrev pub AreLive : Tables → List (ℕ × ℕ) → List (ℕ × ℕ) → Type 0
+AreLive tables lives handles = LivesAbove tables.rows None lives × HandlesAbove tables.handles None handles
+
+-- the report of a run: its steps, answers, live numbers and handles, slots and objects
+abbrev pub report_of : List TraceStep → List Answer → List (ℕ × ℕ) → List (ℕ × ℕ) → Tables → State → List ℕ
+report_of trace answers lives handles tables host =
+    step_lines trace ++ answer_lines 0 answers ++ live_lines lives ++ handle_lines handles
+    ++ slots_line tables.slots ++ listing_of host
+    ++ codes "end\n"
+
+-- this is the report of one run of the script that the bytes are
+pub record IsReportOf (bytes report : List ℕ) : Type 0 where
+  pub begun : Begun
+  pub script : script_of bytes ≡ Ok begun
+  pub trace : List TraceStep
+  pub answers : List Answer
+  pub tables : Tables
+  pub host : State
+  pub start : State
+  pub starts : BeginsAs begun.tree begun.faults start
+  pub run : IsRunFrom begun.settings start begun.jobs begun.order trace answers tables host
+  pub lives : List (ℕ × ℕ)
+  pub handles : List (ℕ × ℕ)
+  pub live : AreLive tables lives handles
+  pub text : report ≡ report_of trace answers lives handles tables host
+
+-- the making of a file system over this host was refused with this error
+pub record IsRefused (settings : Settings) (before : State) (errno : Errno) : Type 0 where
+  pub after : State
+  pub fs : Result FileSystem Refusal
+  pub call : IsAsked settings before fs after
+  pub refused : fs ≡ Err (refusal.Errno errno)
+
+-- why none was made
+abbrev pub IsNotOpened : Settings → State → Status → Type 0
+IsNotOpened settings before (status.BadConfig errno) = IsRefused settings before errno
+IsNotOpened settings before status.NoMemory = Unit {0}
+IsNotOpened settings before other = ⊥
+
+-- no file system was made over this host, since its first call was planned to fail with this error
+abbrev pub IsPlannedRefusal : Settings → State → Errno → Type 0
+IsPlannedRefusal settings start errno = IsRefused settings start errno × (failure_of start opens_root ≡ Some errno)
+
+-- why there is no report of these bytes: they are no script, or no file system was made over its host
+abbrev pub IsNoReport : List ℕ → Status → Type 0
+IsNoReport bytes (status.BadScript line) = script_of bytes ≡ Err line
+IsNoReport bytes (status.BadConfig errno) =
+    (begun : Begun) × (script_of bytes ≡ Ok begun) × (start : State) × BeginsAs begun.tree begun.faults start
+    × IsPlannedRefusal begun.settings start errno
+IsNoReport bytes status.NoMemory = Unit {0}
+IsNoReport bytes other = ⊥
+
+-- the one word of the command line is `script`
+abbrev pub IsScriptWord : List (List ℕ) → Type 0
+IsScriptWord words = words ≡ codes "script" ∷ []
+
+-- a script has so many bytes at most
+abbrev pub max_script : ℕ
+max_script = 16777216
+
+-- this is the report of a script that was read from here
+abbrev pub IsReportFrom : Option (List ℕ) → List ℕ → Type 0
+IsReportFrom left report = (bytes : List ℕ) × IsAll left bytes × (length bytes ≤ max_script) × IsReportOf bytes report
+
+-- what was read from here shows no report, and this is why
+abbrev pub IsNoReportFrom : Option (List ℕ) → Status → Type 0
+IsNoReportFrom left why = (bytes : List ℕ) × IsAll left bytes × (length bytes ≤ max_script) × IsNoReport bytes why

@@ -1,0 +1,174 @@
+ghost use Rattle.std.specs.Prelude.{◌≡◌, ◌≤◌, ◌+◌, ◌<◌, ◌^◌, ◌++◌, List, ℕ, IfOk, IfErr, OnOk, length};
+ghost use Rattle.pt_tree.specs.Listing.{listing_of};
+ghost use Rattle.pt_run.specs.TableLines.{live_lines, handle_lines, slots_line};
+ghost use Rattle.pt_run.specs.Configured.{configured};
+ghost use Rattle.pt_run.specs.Run.{
+  job_of,
+  jobs_of,
+  start_seat,
+  report_of,
+  AreLive,
+  IsOpened,
+  IsNotOpened,
+  IsRunFrom,
+  IsReportOf,
+  IsNoReport,
+};
+
+use crate::report::{push_answers, push_steps};
+use crate::status::Status;
+use crate::table_lines::{push_handles, push_lives, push_slots};
+use pt_fs::{Driven, Job, PassthroughFs, SteppedFs, drive};
+use pt_host::HostSeat;
+use pt_iface::{Refusal, Request};
+use pt_req::Config;
+use pt_script::{ParseError, Script, ScriptJob, Settings, parse};
+use pt_text::push_text;
+use pt_tree::TreeHost;
+use std::alloc::{AllocError, Global};
+
+// The seat with which the daemon and each job begin.
+fn start_seat(settings: Settings) -> HostSeat
+    ensures { result ≡ start_seat settings }
+{
+    let who = settings.identity();
+    HostSeat::new(who.uid, who.gid, who.caps)
+}
+
+fn job_of(settings: Settings, job: ScriptJob) -> Job
+    ensures { result ≡ job_of (start_seat settings) job }
+{
+    match job {
+        ScriptJob::Request(_, Request::Root) => Job::OpenRoot(start_seat(settings)),
+        ScriptJob::Request(context, request) => {
+            Job::Request(context, start_seat(settings), request)
+        }
+        ScriptJob::Edit(edit) => Job::Edit(edit),
+    }
+}
+
+fn jobs_of(alloc: Global, settings: Settings, jobs: Vec<ScriptJob>) -> Result<Vec<Job>, AllocError>
+    ensures { IfOk result (λ made. made.items ≡ jobs_of settings jobs.items) }
+{
+    jobs.into_iter()
+        .map(|job| job_of(settings, job))
+        .collect(alloc)
+}
+
+// The configuration with what is set in place of the defaults.
+fn configured(settings: Settings, mut config: Config) -> Config
+    ensures { result ≡ configured settings config }
+{
+    if let Some(limit) = settings.guest_fd_limit {
+        config.guest_fd_limit = limit;
+    }
+    config
+}
+
+// The file system over a host, with the default configuration but for what is set.
+fn open_fs(alloc: Global, settings: Settings, host: &mut TreeHost) -> Result<PassthroughFs, Status>
+    ensures ok { IfOk result (λ fs. IsOpened settings host.old fs host.new) }
+    ensures err { IfErr result (λ status. IsNotOpened settings host.old status) }
+{
+    let Ok(config) = Config::new(alloc) else {
+        return Err(Status::NoMemory);
+    };
+    let config = configured(settings, config);
+    match PassthroughFs::new(alloc, config, host, &mut start_seat(settings)) {
+        Ok(fs) => Ok(fs),
+        Err(Refusal::Errno(errno)) => Err(Status::BadConfig(errno)),
+        Err(Refusal::Memory) => Err(Status::NoMemory),
+        // It never comes, since no seat was changed.
+        Err(Refusal::Lost(errno)) => Err(Status::BadConfig(errno)),
+    }
+}
+
+// Appends what the report says of the tables.
+fn push_tables(out: &mut Vec<u8>, fs: &PassthroughFs) -> Result<(), AllocError>
+    ensures { OnOk result ((lives : List (ℕ × ℕ)) × (handles : List (ℕ × ℕ)) × AreLive fs.now.tables lives handles
+        × (out.new.items ≡ out.old.items ++ live_lines lives ++ handle_lines handles ++ slots_line fs.now.tables.slots)) }
+{
+    let session = fs.session();
+    push_lives(out, session)?;
+    push_handles(out, session)?;
+    push_slots(out, session.slots_left())
+}
+
+// Appends what the report says of the host.
+fn push_objects(alloc: Global, out: &mut Vec<u8>, host: &TreeHost) -> Result<(), AllocError>
+    ensures { OnOk result (out.new.items ≡ out.old.items ++ listing_of host.now) }
+{
+    match host.listing(alloc) {
+        Ok(listing) => push_text(out, listing.as_slice()),
+        Err(_) => Err(AllocError),
+    }
+}
+
+// The report of a run that left this host.
+fn report_on(
+    alloc: Global,
+    driven: &Driven<PassthroughFs>,
+    host: &TreeHost,
+) -> Result<Vec<u8>, AllocError>
+    ensures { IfOk result (λ report. (lives : List (ℕ × ℕ)) × (handles : List (ℕ × ℕ))
+        × AreLive driven.now.fs.tables lives handles
+        × (report.items ≡ report_of driven.now.trace.items driven.now.answers.items lives handles driven.now.fs.tables host.now)) }
+{
+    let mut out = Vec::new(alloc);
+    push_steps(&mut out, driven.trace.as_slice())?;
+    push_answers(&mut out, driven.answers.as_slice())?;
+    push_tables(&mut out, &driven.fs)?;
+    push_objects(alloc, &mut out, host)?;
+    push_text(&mut out, b"end\n")?;
+    Ok(out)
+}
+
+// Runs the jobs over a host that holds the script's tree.
+fn run_jobs(
+    alloc: Global,
+    settings: Settings,
+    host: &mut TreeHost,
+    jobs: Vec<ScriptJob>,
+    schedule: &[u32],
+) -> Result<Driven<PassthroughFs>, Status>
+    requires { length jobs.items < 2 ^ 32 }
+    ensures ok { IfOk result (λ driven. IsRunFrom settings host.old jobs.items schedule.now
+        driven.trace.items driven.answers.items driven.fs.tables host.new) }
+    ensures err { IfErr result (λ status. IsNotOpened settings host.old status) }
+{
+    let fs = open_fs(alloc, settings, host)?;
+    let Ok(jobs) = jobs_of(alloc, settings, jobs) else {
+        return Err(Status::NoMemory);
+    };
+    match drive(alloc, fs, host, jobs, schedule) {
+        Ok(driven) => Ok(driven),
+        Err(_) => Err(Status::NoMemory),
+    }
+}
+
+/// The report of the script that these bytes are, run over its tree.
+pub fn report_of_script(alloc: Global, bytes: &[u8]) -> Result<Vec<u8>, Status>
+    requires { length bytes.now ≤ 16777216 }
+    ensures ok { IfOk result (λ report. IsReportOf bytes.now report.items) }
+    ensures err { IfErr result (λ status. IsNoReport bytes.now status) }
+{
+    let script = match parse(alloc, bytes) {
+        Ok(script) => script,
+        Err(ParseError::BadScript(line)) => return Err(Status::BadScript(line)),
+        Err(ParseError::Memory) => return Err(Status::NoMemory),
+    };
+    let Script {
+        settings,
+        mut host,
+        jobs,
+        schedule,
+    } = script;
+    let driven = match run_jobs(alloc, settings, &mut host, jobs, schedule.as_slice()) {
+        Ok(driven) => driven,
+        Err(status) => return Err(status),
+    };
+    match report_on(alloc, &driven, &host) {
+        Ok(report) => Ok(report),
+        Err(_) => Err(Status::NoMemory),
+    }
+}

@@ -1,0 +1,49 @@
+ghost use Rattle.std.specs.Prelude.{◌≡◌, ◌++◌, OnOk};
+ghost use Rattle.pt_run.specs.Report.{step_line, step_lines, answer_line, answer_lines};
+
+use pt_fs::TraceStep;
+use pt_iface::Answer;
+use pt_req::{ActReply, KeptAct};
+use pt_show::Text;
+use pt_text::push_text;
+use std::alloc::AllocError;
+
+fn push_step(out: &mut Vec<u8>, job: u32, act: &KeptAct, reply: &ActReply) -> Result<(), AllocError>
+    ensures { OnOk result (out.new.items ≡ out.old.items ++ step_line job act.now reply.now) }
+{
+    push_text(out, b"step")?;
+    job.write(out)?;
+    act.write(out)?;
+    push_text(out, b" =")?;
+    reply.write(out)?;
+    push_text(out, b"\n")
+}
+
+/// Appends the lines of the steps. After an `Err` part of them may stand there, as after each of these calls.
+pub fn push_steps(out: &mut Vec<u8>, trace: &[TraceStep]) -> Result<(), AllocError>
+    ensures { OnOk result (out.new.items ≡ out.old.items ++ step_lines trace.now) }
+{
+    for step in trace {
+        push_step(out, step.job, &step.act, &step.reply)?;
+    }
+    Ok(())
+}
+
+fn push_answer(out: &mut Vec<u8>, job: u64, answer: &Answer) -> Result<(), AllocError>
+    ensures { OnOk result (out.new.items ≡ out.old.items ++ answer_line job answer.now) }
+{
+    push_text(out, b"answer")?;
+    job.write(out)?;
+    answer.write(out)?;
+    push_text(out, b"\n")
+}
+
+/// Appends the lines of the answers, in the order of the jobs.
+pub fn push_answers(out: &mut Vec<u8>, answers: &[Answer]) -> Result<(), AllocError>
+    ensures { OnOk result (out.new.items ≡ out.old.items ++ answer_lines 0 answers.now) }
+{
+    for (job, answer) in answers.iter().enumerate() {
+        push_answer(out, job as u64, answer)?;
+    }
+    Ok(())
+}
