@@ -1,0 +1,43 @@
+//! Runs the scripts that standard input holds, and writes what comes of each.
+//!
+//! A line `== NAME` begins a case, and the lines up to the next one are its script. Words behind the name change the case: with
+//! `cut` the last line feed is no part of the script, with `ends` the report is shown from its first answer on. Out comes
+//! `== NAME` and then the report, or a line with the process' status and what the program says where a run ends otherwise.
+#![tactic(auto)]
+
+mod case;
+mod outcome;
+
+use case::Case;
+use outcome::Outcomes;
+use std::alloc::{AllocError, Global};
+use std::io::{self, Read, Write};
+use std::process::ExitCode;
+
+// What comes of each case of this text, in turn.
+fn outcomes_of(alloc: Global, text: &[u8]) -> Result<Outcomes, AllocError> {
+    let mut outcomes = Outcomes::new(alloc);
+    let mut case = None;
+    for line in text.split_inclusive(|byte| *byte == b'\n') {
+        match line.strip_prefix(b"== ") {
+            Some(header) => {
+                outcomes.push(alloc, case)?;
+                case = Some(Case::new(alloc, header)?);
+            }
+            None => match &mut case {
+                Some(case) => case.push_line(line)?,
+                None => outcomes.push_bad(line)?,
+            },
+        }
+    }
+    outcomes.push(alloc, case)?;
+    Ok(outcomes)
+}
+
+fn main(rt: HostRuntime) -> io::Result<ExitCode> {
+    let mut text = Vec::new(rt.alloc());
+    rt.reader().read_to_end(&mut text)?;
+    let outcomes = outcomes_of(rt.alloc(), text.as_slice())?;
+    io::writer(&rt).write_all(outcomes.as_slice())?;
+    Ok(ExitCode::from(outcomes.exit_code()))
+}
