@@ -37,6 +37,20 @@ impl Played {
         Ok(played)
     }
 
+    /// One that is cut before its step.
+    fn cut_edit(alloc: Global) -> Result<Played, Fail> {
+        let mut played = Played::edit(alloc)?;
+        played.cut()?;
+        Ok(played)
+    }
+
+    /// The opening of a directory by this policy, which no line of a script sets yet.
+    fn opening_by(alloc: Global, policy: CachePolicy) -> Result<Played, Fail> {
+        let mut played = Played::start(alloc, Request::OpenDir { inode: 2, flags: 0 })?;
+        played.plan.config.cache_policy = policy;
+        Ok(played)
+    }
+
     fn look_up(alloc: Global, name: &[u8]) -> Result<Played, Fail> {
         let name = Bytes::from_slice(alloc, name)?;
         Played::start(alloc, Request::Lookup { parent: 1, name })
@@ -80,11 +94,22 @@ impl Played {
         Ok(())
     }
 
-    fn finish(self) -> Result<Finish, Fail> {
+    /// Plays these steps, and has ended then, so.
+    fn ends(
+        mut self,
+        alloc: Global,
+        steps: Vec<(&str, ActReply)>,
+        answer: Answer,
+    ) -> Result<(), Fail> {
+        self.plays(alloc, steps)?;
         if !self.job.is_finished() {
             return Err(Fail::from("it has not finished"));
         }
-        Ok(self.job.finish())
+        if self.job.finish() == Finish::Answer(answer) {
+            Ok(())
+        } else {
+            Err(Fail::from("another answer"))
+        }
     }
 
     /// The steps of a lookup up to its `Claim`.
@@ -120,16 +145,6 @@ impl Played {
         job.step(alloc, CLAIM, told(EventReply::Claimed { number: 2 }))?;
         job.cut()?;
         Ok(job)
-    }
-
-    /// The descriptor, its slot and the pin go back.
-    fn gives_all_back(&mut self, alloc: Global) -> Result<(), Fail> {
-        let steps = vec![in alloc;
-            ("Host(Close { fd: Fd(5) })", gave(HostValue::Unit)),
-            ("Event(GiveFd)", told(EventReply::Given)),
-            ("Event(Unpin { row: 0 })", told(none_to_close())),
-        ]?;
-        self.plays(alloc, steps)
     }
 }
 
@@ -197,20 +212,21 @@ fn a_stat() -> Stat {
 
 #[test]
 fn an_insertion_without_memory_gives_all_back(rt: HostRuntime) -> Result<(), Fail> {
-    let alloc = rt.alloc();
-    let mut job = Played::drawn(alloc)?;
+    let job = Played::drawn(rt.alloc())?;
     let refused = EventReply::Refused(EventRefusal::Memory);
-    job.step(alloc, INSERT, told(refused))?;
-    job.gives_all_back(alloc)?;
-    assert_eq!(&rt; job.finish()?, Finish::Answer(Answer::NoMemory));
-    Ok(())
+    let steps = vec![in rt.alloc();
+        (INSERT, told(refused)),
+        ("Host(Close { fd: Fd(5) })", gave(HostValue::Unit)),
+        ("Event(GiveFd)", told(EventReply::Given)),
+        ("Event(Unpin { row: 0 })", told(none_to_close())),
+    ]?;
+    job.ends(rt.alloc(), steps, Answer::NoMemory)
 }
 
 #[test]
-fn what_is_cut_gives_its_count_back_first_and_is_not_made(rt: HostRuntime) -> Result<(), Fail> {
-    let alloc = rt.alloc();
-    let mut job = Played::claimed_and_cut(alloc)?;
-    let steps = vec![in alloc;
+fn a_job_that_is_cut_gives_its_count_back_first(rt: HostRuntime) -> Result<(), Fail> {
+    let job = Played::claimed_and_cut(rt.alloc())?;
+    let steps = vec![in rt.alloc();
         (
             "Event(GiveBack { era: 1, number: 2 })",
             told(none_to_close())
@@ -218,25 +234,18 @@ fn what_is_cut_gives_its_count_back_first_and_is_not_made(rt: HostRuntime) -> Re
         ("Host(Close { fd: Fd(5) })", gave(HostValue::Unit)),
         ("Event(Unpin { row: 0 })", told(none_to_close())),
     ]?;
-    job.plays(alloc, steps)?;
-    assert_eq!(&rt; job.finish()?, Finish::Answer(Answer::Cut));
-    let mut edit = Played::edit(alloc)?;
-    edit.cut()?;
-    assert_eq!(&rt; edit.finish()?, Finish::Answer(Answer::Cut));
-    Ok(())
+    job.ends(rt.alloc(), steps, Answer::Cut)?;
+    let edit = Played::cut_edit(rt.alloc())?;
+    edit.ends(rt.alloc(), Vec::new(rt.alloc()), Answer::Cut)
 }
 
 const INSERT_HANDLE: &str = "Event(InsertHandle { era: 1, handle: 7, number: 2, fd: Fd(5) })";
 
-/// No line of a script sets this policy yet.
 #[test]
 fn a_directory_is_opened_by_another_policy(rt: HostRuntime) -> Result<(), Fail> {
-    let alloc = rt.alloc();
-    let open = Request::OpenDir { inode: 2, flags: 0 };
-    let mut job = Played::start(alloc, open)?;
-    job.plan.config.cache_policy = CachePolicy::Metadata;
+    let job = Played::opening_by(rt.alloc(), CachePolicy::Metadata)?;
     let reopen = "Host(Reopen { fd: Fd(4), flags: OpenFlags(589824) })";
-    let steps = vec![in alloc;
+    let steps = vec![in rt.alloc();
         ("Event(Begin)", told(began())),
         ("Event(Resolve { number: 2 })", told(resolved())),
         (reopen, gave(HostValue::Fd(Fd(5)))),
@@ -245,19 +254,13 @@ fn a_directory_is_opened_by_another_policy(rt: HostRuntime) -> Result<(), Fail> 
         (INSERT_HANDLE, told(EventReply::Inserted { number: 7 })),
         ("Event(Unpin { row: 0 })", told(none_to_close())),
     ]?;
-    job.plays(alloc, steps)?;
-    let opened = Answer::Opened(7, OpenOptions(10));
-    assert_eq!(&rt; job.finish()?, Finish::Answer(opened));
-    Ok(())
+    job.ends(rt.alloc(), steps, Answer::Opened(7, OpenOptions(10)))
 }
 
-/// Nor is this request a line.
+/// No line of a script asks for it yet.
 #[test]
 fn what_is_not_implemented_is_refused(rt: HostRuntime) -> Result<(), Fail> {
-    let alloc = rt.alloc();
-    let mut job = Played::start(alloc, Request::Readlink { inode: 1 })?;
-    job.step(alloc, "Event(Begin)", told(began()))?;
-    let refused = Answer::Refused(Errno::ENOSYS);
-    assert_eq!(&rt; job.finish()?, Finish::Answer(refused));
-    Ok(())
+    let job = Played::start(rt.alloc(), Request::Readlink { inode: 1 })?;
+    let steps = vec![in rt.alloc(); ("Event(Begin)", told(began()))]?;
+    job.ends(rt.alloc(), steps, Answer::Refused(Errno::ENOSYS))
 }

@@ -5,6 +5,8 @@ use pt_law::{
     forgotten_number, one_number, request_ends, steps_told,
 };
 use pt_req::{calm, cut_says_no_more, jobs_are_determined};
+use pt_run::script_determines_report;
+use pt_script::first_bad_line;
 
 #[test]
 fn the_laws_hold_with_no_premise() {
@@ -23,4 +25,6 @@ fn the_laws_hold_with_no_premise() {
     forgotten_number();
     forgotten_nothing();
     turns_are_determined::<OneDirectory>();
+    first_bad_line();
+    script_determines_report();
 }

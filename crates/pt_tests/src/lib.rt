@@ -1,5 +1,5 @@
-//! Tests of what no input of a program shows: streams that fail, jobs that are cut or find no memory, another host, the calls of the
-//! laws.
+//! Tests of what no input of a program shows: streams that fail, jobs that are cut or find no memory, another host, the
+//! calls of the laws.
 #![tactic(auto)]
 
 #[cfg(test)]
@@ -10,3 +10,7 @@ mod jobs;
 mod laws;
 #[cfg(test)]
 mod one_directory;
+#[cfg(test)]
+mod parsed;
+#[cfg(test)]
+mod streams;
