@@ -52,6 +52,17 @@ def told(words: str) -> report_lines.Step:
 
 
 class Scripts(unittest.TestCase):
+    def test_bad_lines_are_those_of_the_program(self) -> None:
+        scripts, told = cases(ROOT / "crates/try_scripts/stdin"), cases(ROOT / "crates/try_scripts/stdout")
+        cut = {line.split()[1] for line in (ROOT / "crates/try_scripts/stdin").read_text("latin-1").splitlines() if line.endswith(" cut")}
+        for name, text in scripts.items():
+            found = re.match(r"4: bad script at line (\d+)", told[name])
+            bytes_of = text.encode("latin-1")
+            bad = script_lines.complaint(bytes_of.removesuffix(b"\n") if name in cut else bytes_of)
+            with self.subTest(name=name):
+                self.assertEqual(bad and bad[0], int(found[1]) if found else None)
+
+
     def test_bad_lines_are_told_with_their_reason(self) -> None:
         for text, line, word in BAD:
             with self.subTest(text=text):
@@ -89,6 +100,43 @@ class Reports(unittest.TestCase):
         self.assertEqual(tables.after(told("Release 0 2 = Done 1")), ([], [(0, 2, None)], 0))
         self.assertEqual(tables.after(told("Insert 1 3 File 5 2 1 1 33188 = Refused Overtaken")), ([], [], 0))
         self.assertEqual(tables.after(told("Clear = Cleared 2 1")), ([(2, 1, None)], [], 0))
+
+
+def cases(file: Path) -> dict[str, str]:
+    """The cases of a program of scripts, each with its lines."""
+    found: dict[str, list[str]] = {}
+    name = ""
+    for line in re.findall(r"[^\n]*\n", file.read_bytes().decode("latin-1")):
+        if line.startswith("== "):
+            name = line.split()[1]
+            found[name] = []
+        elif name:
+            found[name].append(line)
+    return {name: "".join(lines) for name, lines in found.items()}
+
+
+class Examples(unittest.TestCase):
+    def test_each_example_is_a_case_that_the_gate_runs(self) -> None:
+        folder, program = ROOT / "examples", ROOT / "crates/try_scripts"
+        scripts, reports = cases(program / "stdin"), cases(program / "stdout")
+        files = sorted(folder.glob("*.script"))
+        self.assertEqual(len(files), 5)
+        for file in files:
+            with self.subTest(file=file.name):
+                self.assertEqual(file.read_text(), scripts[file.stem])
+                self.assertEqual(file.with_suffix(".report").read_text(), reports[file.stem])
+                self.assertIsNone(script_lines.complaint(file.read_bytes()))
+
+    def test_the_reports_of_cases_are_followed(self) -> None:
+        for name, text in cases(ROOT / "crates/try_scripts/stdout").items():
+            if not text.startswith("step "):
+                continue
+            report, tables = report_lines.read(text.splitlines()), report_lines.Tables()
+            for step in report.steps:
+                tables.after(step)
+            with self.subTest(name=name):
+                self.assertEqual([f"{number} {count}" for number, count in sorted(tables.live.items())], report.live)
+                self.assertEqual([f"{handle} {number}" for handle, number in sorted(tables.handles.items())], report.handles)
 
 
 class Programs(unittest.TestCase):
