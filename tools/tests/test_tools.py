@@ -1,4 +1,4 @@
-"""Tests of tools/explain and tools/timeline: `python3 -m unittest discover -s tools/tests -t tools`."""
+"""Tests of tools/explain, tools/timeline and tools/definitions: `python3 -m unittest discover -s tools/tests -t tools`."""
 import json
 import re
 import subprocess
@@ -137,6 +137,12 @@ class Examples(unittest.TestCase):
             with self.subTest(name=name):
                 self.assertEqual([f"{number} {count}" for number, count in sorted(tables.live.items())], report.live)
                 self.assertEqual([f"{handle} {number}" for handle, number in sorted(tables.handles.items())], report.handles)
+
+
+class Definitions(unittest.TestCase):
+    def test_the_index_is_of_today(self) -> None:
+        shown = subprocess.run([TOOLS / "definitions"], capture_output=True, text=True, check=True).stdout
+        self.assertTrue((ROOT / "docs/DEFINITIONS.md").read_text().endswith(shown.rstrip("\n") + "\n"))
 
 
 class Programs(unittest.TestCase):
