@@ -88,7 +88,8 @@ pub fn set_xattr_refusal(
     flags: u32,
     xattrs: &Attributes,
 ) -> Option<Errno>
-    ensures { result ≡ first_refusal (set_xattr_checks file through name.now value.now flags (value_of name.now xattrs.now)) }
+    ensures { result ≡ first_refusal
+        (set_xattr_checks file through name.now value.now flags (value_of name.now xattrs.now)) }
 {
     let there = xattrs.get(name).is_some();
     if does_not_serve(file, through) {

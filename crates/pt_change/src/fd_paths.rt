@@ -61,7 +61,8 @@ fn look_below(
     dir: usize,
     object: usize,
 ) -> Result<(), AllocError>
-    ensures best { OnOk result (kept_path best.new ≡ fold lesser (kept_path best.old) (paths_below depth nodes.now path.old.items dir object)) }
+    ensures best { OnOk result (kept_path best.new
+        ≡ fold lesser (kept_path best.old) (paths_below depth nodes.now path.old.items dir object)) }
     ensures path { OnOk result (path.new.items ≡ path.old.items) }
 {
     if depth == 0 {

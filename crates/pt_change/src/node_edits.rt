@@ -83,7 +83,8 @@ pub fn move_refusal(
     object: usize,
     target: Option<usize>,
 ) -> Option<Errno>
-    ensures { result ≡ move_refusal into_itself (slice_get nodes.now from) (slice_get nodes.now to) (slice_get nodes.now object) (node_at nodes.now target) }
+    ensures { result ≡ move_refusal into_itself (slice_get nodes.now from) (slice_get nodes.now to)
+        (slice_get nodes.now object) (node_at nodes.now target) }
 {
     let (Some(from), Some(to), Some(node)) = (nodes.get(from), nodes.get(to), nodes.get(object))
     else {
@@ -184,7 +185,8 @@ pub fn gain_entry(
     replaced: bool,
     now: Time,
 ) -> Result<(), AllocError>
-    ensures ok { OnOk result (nodes.new ≡ changed_at dir (λ at. touched now (with_entry name.items object directory replaced at)) nodes.old) }
+    ensures ok { OnOk result (nodes.new
+        ≡ changed_at dir (λ at. touched now (with_entry name.items object directory replaced at)) nodes.old) }
     ensures err { OnErr result (nodes.new ≡ nodes.old) }
 {
     if dir < nodes.len() {
@@ -238,7 +240,8 @@ pub fn rename(
     object: usize,
     target: Option<usize>,
 ) -> Result<(), AllocError>
-    ensures ok { OnOk result (nodes.new ≡ moved now (seen_place from.entry) (seen_place to.entry) object target nodes.old) }
+    ensures ok { OnOk result (nodes.new
+        ≡ moved now (seen_place from.entry) (seen_place to.entry) object target nodes.old) }
     ensures err { OnErr result (nodes.new ≡ nodes.old) }
 {
     let directory = is_directory_at(nodes, object);
@@ -262,7 +265,8 @@ fn lead_entry(
     now: Time,
 )
     requires { is_some (name_at nodes.old dir name.now) ≡ true }
-    ensures { nodes.new ≡ changed_at dir (λ at. touched now (with_entry name.now object directory replaced at)) nodes.old }
+    ensures { nodes.new
+        ≡ changed_at dir (λ at. touched now (with_entry name.now object directory replaced at)) nodes.old }
 {
     if dir < nodes.len() {
         nodes[dir].lead_entry(name, object, directory, replaced, now);

@@ -92,7 +92,8 @@ pub fn records_from(
     start: u64,
     size: u32,
 ) -> Result<Listed, AllocError>
-    ensures { IfOk result (λ listed. (listed.bytes.items, listed.place) ≡ records size start nodes.now (names_from start dir.now)) }
+    ensures { IfOk result (λ listed. (listed.bytes.items, listed.place)
+        ≡ records size start nodes.now (names_from start dir.now)) }
 {
     let mut listed = Listed {
         bytes: Vec::new(alloc),

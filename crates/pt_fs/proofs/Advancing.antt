@@ -14,38 +14,57 @@ use Rattle.pt_fs.specs.Trace.{no_seat, MadeFrom}
 
 module _ {H : Type 0} (does : Does H) (faults : H → ℕ) (promises : Promises does faults) where
   -- a reply that held bytes came to a call that may tell some
-  tells_bytes : (deed : Deed) (reply : ActReply) (host : H) (seat : HostSeat) (tables : Tables) (host' : H) (seat' : HostSeat) (tables' : Tables) →
+  tells_bytes : (deed : Deed) (reply : ActReply) (host : H) (seat : HostSeat) (tables : Tables) (host' : H)
+      (seat' : HostSeat) (tables' : Tables) →
       Made does (Some deed) reply host seat tables host' seat' tables' → HoldsReplyBytes reply → MayTellBytes deed
   tells_bytes (Calls asked) (Host told) host seat tables host' seat' tables' made holds =
-      bytes_told (faults host) (faults host') asked told holds (promises host seat asked told host' seat' made.0).allowed
+      bytes_told (faults host) (faults host') asked told holds
+      (promises host seat asked told host' seat' made.0).allowed
   tells_bytes (Changes asked) (Host told) host seat tables host' seat' tables' made holds = absurd made
   tells_bytes deed (Event told) host seat tables host' seat' tables' made holds = absurd holds
   tells_bytes deed NoCopy host seat tables host' seat' tables' made holds = absurd holds
 
   -- what was made and is shown is a step of what was to be done
-  shown_made : (deed same : Deed) (reply : ActReply) (host : H) (seat : HostSeat) (tables : Tables) (host' : H) (seat' : HostSeat) (tables' : Tables) → same ≡ deed →
+  shown_made : (deed same : Deed) (reply : ActReply) (host : H) (seat : HostSeat) (tables : Tables) (host' : H)
+      (seat' : HostSeat) (tables' : Tables) → same ≡ deed →
       Made does (Some same) reply host seat tables host' seat' tables' → IsStepOf deed (Some same) reply
   shown_made deed same (Event told) host seat tables host' seat' tables' e made = e
   shown_made deed same (Host told) host seat tables host' seat' tables' e made = e
   shown_made deed (Changes asked) NoCopy host seat tables host' seat' tables' e made = absurd made
   shown_made deed (Calls asked) NoCopy host seat tables host' seat' tables' e made =
-      let told = made.0 in
-      (e, subst MayTellBytes e (bytes_told (faults host) (faults host') asked told.0 told.1 (promises host seat asked told.0 host' seat' told.2).allowed))
+      let told = made.0 in (
+        e,
+        subst MayTellBytes e
+            (bytes_told (faults host) (faults host') asked told.0 told.1
+            (promises host seat asked told.0 host' seat' told.2).allowed),
+      )
 
-  is_step : (deed : Deed) (owed : Owed) (next : ActReply → Grammar) (kept : Option Deed) (reply shown : ActReply) (host : H) (seat : HostSeat) (tables : Tables) (host' : H) (seat' : HostSeat) (tables' : Tables) →
-      IsWanted (Do deed owed next) kept → Made does kept reply host seat tables host' seat' tables' → IsTold reply shown → IsStepOf deed kept shown
+  is_step : (deed : Deed) (owed : Owed) (next : ActReply →
+      Grammar) (kept : Option Deed) (reply shown : ActReply) (host : H) (seat : HostSeat) (tables : Tables)
+      (host' : H) (seat' : HostSeat) (tables' : Tables) →
+      IsWanted (Do deed owed next) kept → Made does kept reply host seat tables host' seat' tables' →
+      IsTold reply shown → IsStepOf deed kept shown
   is_step deed owed next (Some same) reply shown host seat tables host' seat' tables' wanted made (inl e) =
-      subst (λ (r : ActReply). IsStepOf deed (Some same) r) (sym e) (shown_made deed same reply host seat tables host' seat' tables' wanted made)
+      subst (λ (r : ActReply).
+      IsStepOf deed (Some same) r) (sym e)
+      (shown_made deed same reply host seat tables host' seat' tables' wanted made)
   is_step deed owed next (Some same) reply shown host seat tables host' seat' tables' wanted made (inr lost) =
-      subst (λ (r : ActReply). IsStepOf deed (Some same) r) (sym lost.0) (wanted, subst MayTellBytes wanted (tells_bytes same reply host seat tables host' seat' tables' made lost.1))
+      subst (λ (r : ActReply).
+      IsStepOf deed (Some same) r) (sym lost.0) (
+        wanted,
+        subst MayTellBytes wanted (tells_bytes same reply host seat tables host' seat' tables' made lost.1),
+      )
   is_step deed owed next None NoCopy shown host seat tables host' seat' tables' wanted made (inl e) =
       subst (λ (r : ActReply). IsStepOf deed None r) (sym e) wanted
   is_step deed owed next None NoCopy shown host seat tables host' seat' tables' wanted made (inr lost) = absurd lost.1
   is_step deed owed next None (Event told) shown host seat tables host' seat' tables' wanted made t = absurd made
   is_step deed owed next None (Host told) shown host seat tables host' seat' tables' wanted made t = absurd made
 
-  is_step_from : (deed : Deed) (owed : Owed) (next : ActReply → Grammar) (kept : Option Deed) (reply shown : ActReply) (host : H) (seat : Option HostSeat) (tables : Tables) (host' : H) (seat' : Option HostSeat) (tables' : Tables) →
-      IsWanted (Do deed owed next) kept → MadeFrom does kept reply host seat tables host' seat' tables' → IsTold reply shown → IsStepOf deed kept shown
+  is_step_from : (deed : Deed) (owed : Owed) (next : ActReply →
+      Grammar) (kept : Option Deed) (reply shown : ActReply) (host : H) (seat : Option HostSeat) (tables : Tables)
+      (host' : H) (seat' : Option HostSeat) (tables' : Tables) →
+      IsWanted (Do deed owed next) kept → MadeFrom does kept reply host seat tables host' seat' tables' →
+      IsTold reply shown → IsStepOf deed kept shown
   is_step_from deed owed next kept reply shown host (Some seat) tables host' (Some seat') tables' wanted made t =
       is_step deed owed next kept reply shown host seat tables host' seat' tables' wanted made t
   is_step_from deed owed next kept reply shown host None tables host' None tables' wanted made t =
@@ -53,12 +72,18 @@ module _ {H : Type 0} (does : Does H) (faults : H → ℕ) (promises : Promises 
   is_step_from deed owed next kept reply shown host (Some seat) tables host' None tables' wanted made t = absurd made
   is_step_from deed owed next kept reply shown host None tables host' (Some seat') tables' wanted made t = absurd made
 
-  pub advanced : (old new : Grammar) (kept : Option Deed) (reply shown told : ActReply) (host : H) (seat : Option HostSeat) (tables : Tables) (host' : H) (seat' : Option HostSeat) (tables' : Tables) →
-      IsWanted old kept → MadeFrom does kept reply host seat tables host' seat' tables' → IsTold reply shown → told ≡ shown →
-      ((steps : List Step) (end : Finish) → Belongs new steps end → Belongs (after told old) steps end) → Advances old kept shown new
-  advanced (Do deed owed next) new kept reply shown told host seat tables host' seat' tables' wanted made t e goes = λ steps end belongs. (
-    is_step_from deed owed next kept reply shown host seat tables host' seat' tables' wanted made t,
-    subst (λ (r : ActReply). Belongs (next r) steps end) e (goes steps end belongs),
-  )
-  advanced (End last) new kept reply shown told host seat tables host' seat' tables' wanted made t e goes = absurd wanted
-  advanced (May one other) new kept reply shown told host seat tables host' seat' tables' wanted made t e goes = absurd wanted
+  pub advanced : (old new : Grammar) (kept : Option Deed) (reply shown told : ActReply) (host : H)
+      (seat : Option HostSeat) (tables : Tables) (host' : H) (seat' : Option HostSeat) (tables' : Tables) →
+      IsWanted old kept → MadeFrom does kept reply host seat tables host' seat' tables' → IsTold reply shown →
+      told ≡ shown →
+      ((steps : List Step) (end : Finish) → Belongs new steps end → Belongs (after told old) steps end) →
+      Advances old kept shown new
+  advanced (Do deed owed next) new kept reply shown told host seat tables host' seat' tables' wanted made t e goes =
+      λ steps end belongs. (
+        is_step_from deed owed next kept reply shown host seat tables host' seat' tables' wanted made t,
+        subst (λ (r : ActReply). Belongs (next r) steps end) e (goes steps end belongs),
+      )
+  advanced (End last) new kept reply shown told host seat tables host' seat' tables' wanted made t e goes =
+      absurd wanted
+  advanced (May one other) new kept reply shown told host seat tables host' seat' tables' wanted made t e goes =
+      absurd wanted

@@ -1,5 +1,6 @@
 -- Jobs that run in the order of one schedule leave nothing open but want of memory.
-use Rattle.std.proofs.Common.{◌≡◌, ◌≢◌, inl, inr, ℕ, zero, suc, ◌≤◌, List, [], ◌∷◌, ◌∙◌, Option, Some, None, refl, ap, sym, length, map, slice_get, arith}
+use Rattle.std.proofs.Common.{◌≡◌, ◌≢◌, inl, inr, ℕ, zero, suc, ◌≤◌, List, [], ◌∷◌, ◌∙◌, Option, Some, None, refl, ap}
+use Rattle.std.proofs.Common.{sym, length, map, slice_get, arith}
 use Rattle.std.proofs.lemmas.Bool.{ne_eqb}
 use Rattle.std.proofs.lemmas.List.{length-set, length-map}
 use Rattle.std.proofs.lemmas.Option.{slice_get_within, slice_get_past, slice_get_cases}
@@ -46,22 +47,27 @@ in_full : (told : Answer) → told ≢ answer.NoMemory → IsAnsweredInFull (fin
 in_full answer.NoMemory w = w refl
 in_full _ w = tt
 
-full_at : (answers : List Answer) → Each (λ (told : Answer). told ≢ answer.NoMemory) answers → (j : ℕ) → IsAnsweredInFull (end_at (slice_get answers j))
+full_at : (answers : List Answer) → Each (λ (told : Answer). told ≢ answer.NoMemory) answers → (j : ℕ) →
+    IsAnsweredInFull (end_at (slice_get answers j))
 full_at [] w j = tt
 full_at (told ∷ answers) w zero = in_full told w.0
 full_at (told ∷ answers) w (suc j) = full_at answers w.1 j
 
 -- a place past the seats makes no step
-none_beyond : {H : Type 0} (does : Does H) (trace : List TraceStep) (host host' : H) (seats seats' : List (Option HostSeat)) (tables tables' : Tables) → Runs does trace host seats tables host' seats' tables' → (j : ℕ) → length seats ≤ j → steps_by j trace ≡ []
+none_beyond : {H : Type 0} (does : Does H) (trace : List TraceStep) (host host' : H)
+    (seats seats' : List (Option HostSeat)) (tables tables' : Tables) →
+    Runs does trace host seats tables host' seats' tables' → (j : ℕ) → length seats ≤ j → steps_by j trace ≡ []
 none_beyond does [] host host' seats seats' tables tables' r j past = refl
 none_beyond does (step ∷ trace) host host' seats seats' tables tables' r j past =
     let made = r.3 in
     let inside = slice_get_within seats step.job made.0 made.2 in
-    let long : length r.1 ≡ length seats = ap (λ (l : List (Option HostSeat)). length l) made.3 ∙ length-set seats step.job made.1 in
+    let long : length r.1 ≡ length seats =
+    ap (λ (l : List (Option HostSeat)). length l) made.3 ∙ length-set seats step.job made.1 in
     let more = none_beyond does trace r.0 host' r.1 seats' r.2 tables' r.4 j (omega arith) in
     rw (ne_eqb step.job j (λ e. omega arith)) more
 
-belongs_at : (plan : Plan) (jobs : List Job) (trace : List TraceStep) (answers : List Answer) → AnswersEach plan jobs trace answers → ((j : ℕ) → length jobs ≤ j → steps_by j trace ≡ []) → (j : ℕ) →
+belongs_at : (plan : Plan) (jobs : List Job) (trace : List TraceStep) (answers : List Answer) →
+    AnswersEach plan jobs trace answers → ((j : ℕ) → length jobs ≤ j → steps_by j trace ≡ []) → (j : ℕ) →
     Belongs (grammar_at plan (slice_get jobs j)) (steps_by j trace) (end_at (slice_get answers j))
 belongs_at plan jobs trace answers each beyond j =
     let long = each.one_each in
@@ -86,19 +92,24 @@ abbrev stops : {H : Type 0} → List (Option HostSeat) → H → Tables → Plac
 stops seats host tables = record { host = host; seats = seats; tables = tables }
 
 -- a whole run is the rest of one from its start on
-whole_rest : {H : Type 0} (does : Does H) (plan : Plan) (schedule : List ℕ) (jobs : List Job) (host host' : H) (tables tables' : Tables) (trace : List TraceStep) (answers : List Answer) (seats' : List HostSeat) →
+whole_rest : {H : Type 0} (does : Does H) (plan : Plan) (schedule : List ℕ) (jobs : List Job) (host host' : H)
+    (tables tables' : Tables) (trace : List TraceStep) (answers : List Answer) (seats' : List HostSeat) →
     (ran : RanInOrder does plan schedule jobs host tables trace answers host' seats' tables') →
-    IsRest does (λ j. grammar_at plan (slice_get jobs j)) (λ j. end_at (slice_get answers j)) trace (starts jobs host tables) (stops ran.steps.seats host' tables')
+    IsRest does (λ j. grammar_at plan (slice_get jobs j)) (λ j.
+    end_at (slice_get answers j)) trace (starts jobs host tables) (stops ran.steps.seats host' tables')
 whole_rest does plan schedule jobs host host' tables tables' trace answers seats' ran =
     let seats = length-map jobs job_seat in
     record {
-      belongs = belongs_at plan jobs trace answers ran.answers_each (λ j past. none_beyond does trace host host' (map job_seat jobs) ran.steps.seats tables tables' ran.steps.runs j (omega arith));
+      belongs = belongs_at plan jobs trace answers ran.answers_each (λ j past.
+          none_beyond does trace host host' (map job_seat jobs) ran.steps.seats tables tables' ran.steps.runs j
+          (omega arith));
       full = full_at answers ran.memory.answered;
       found = ran.memory.replies;
       runs = ran.steps.runs;
     }
 
-same_answers : (answers others : List Answer) → length answers ≡ length others → ((j : ℕ) → end_at (slice_get answers j) ≡ end_at (slice_get others j)) → answers ≡ others
+same_answers : (answers others : List Answer) → length answers ≡ length others →
+    ((j : ℕ) → end_at (slice_get answers j) ≡ end_at (slice_get others j)) → answers ≡ others
 same_answers [] [] l h = refl
 same_answers [] (told ∷ others) l h = absurd (omega arith)
 same_answers (told ∷ answers) [] l h = absurd (omega arith)
@@ -110,9 +121,12 @@ same_answers (told ∷ answers) (other ∷ others) l h =
 
 pub turns_determined : {H : Type 0} (does : Does H) → IsDeterminedHost does → TurnsAreDetermined does
 turns_determined {H} does one plan schedule jobs host tables trace trace' answers answers' after after' seats seats' left left' agree ran ran' =
-    let alike = only_order does one schedule (length jobs) trace (λ j. grammar_at plan (slice_get jobs j)) (λ j. end_at (slice_get answers j)) (λ j. end_at (slice_get answers' j)) trace'
+    let alike = only_order does one schedule (length jobs) trace (λ j. grammar_at plan (slice_get jobs j)) (λ j.
+    end_at (slice_get answers j)) (λ j. end_at (slice_get answers' j)) trace'
     (starts jobs host tables) (stops ran.steps.seats after left) (stops ran'.steps.seats after' left')
-    (λ j. det_at plan (slice_get jobs j)) agree (whole_rest does plan schedule jobs host after tables left trace answers seats ran) (whole_rest does plan schedule jobs host after' tables left' trace' answers' seats' ran') ran.order.owners ran'.order.owners in
+    (λ j. det_at plan (slice_get jobs j)) agree
+    (whole_rest does plan schedule jobs host after tables left trace answers seats ran)
+    (whole_rest does plan schedule jobs host after' tables left' trace' answers' seats' ran') ran.order.owners ran'.order.owners in
     record {
       traces = alike.traces;
       answered = same_answers answers answers' (ran.answers_each.one_each ∙ sym ran'.answers_each.one_each) alike.ended;

@@ -1,5 +1,6 @@
 -- The laws of whole runs, read for a trace.
-use Rattle.std.proofs.Common.{◌≡◌, ◌<◌, ◌++◌, ◌∙◌, ℕ, List, [], ◌∷◌, Option, Some, None, ap, sym, subst, refl, length, map, arith, cond, eqb, append-nil}
+use Rattle.std.proofs.Common.{◌≡◌, ◌<◌, ◌++◌, ◌∙◌, ℕ, List, [], ◌∷◌, Option, Some, None, ap, sym, subst, refl, length}
+use Rattle.std.proofs.Common.{map, arith, cond, eqb, append-nil}
 use Rattle.std.proofs.lemmas.Grind.{common_steps}
 use Rattle.std.proofs.Math.ListN.{length-set}
 use Rattle.std.proofs.lemmas.List.{length-map}
@@ -24,7 +25,8 @@ use Rattle.pt_law.specs.Laws.{AreKept, AreAnswered, AreEnded, AreDisciplined, St
 use Rattle.pt_law.specs.World.{Turn, TablesRun, HostRuns, steps_of}
 use Rattle.pt_law.proofs.Told.{Promises}
 use Rattle.pt_law.proofs.Hosts.{Tells, hosts_tables, hosts_told, hosts_ended, hosts_world}
-use Rattle.pt_law.proofs.Laws.{counts_law, once_law, slots_law, rest_law, ended_jobs, distinct_law, object_law, handles_law, kept_law, leaves_law}
+use Rattle.pt_law.proofs.Laws.{counts_law, once_law, slots_law, rest_law, ended_jobs, distinct_law, object_law}
+use Rattle.pt_law.proofs.Laws.{handles_law, kept_law, leaves_law}
 use Rattle.pt_law.proofs.Standing.{standing_law}
 use Rattle.pt_law.proofs.HandlesOnce.{handles_once_law}
 use Rattle.pt_law.proofs.Overtaking.{overtaken_law}
@@ -35,7 +37,9 @@ use Rattle.pt_law.proofs.Asked.{job_ends, job_caused}
 use Rattle.pt_law.proofs.Settled.{settled}
 use Rattle.pt_fs.specs.Jobs.{asked_of, job_seat}
 use Rattle.pt_fs.specs.Trace.{Runs, AnswersEach, steps_by, step_of}
-use Rattle.pt_fs.specs.Keeps.{turn_of, turns_of, AfterEach, AfterEachTold, LeadsOn, begins_in, KeepsObjects, KeepsCounts, KeepsHandles, ServesEach, InsertsOnce, OvertakenAsTold, OfEachJob, GivesBack, IsCausedIn, IsNamedIn, NamesOpenOnes, LeavesOpen}
+use Rattle.pt_fs.specs.Keeps.{turn_of, turns_of, AfterEach, AfterEachTold, LeadsOn, begins_in, KeepsObjects}
+use Rattle.pt_fs.specs.Keeps.{KeepsCounts, KeepsHandles, ServesEach, InsertsOnce, OvertakenAsTold, OfEachJob}
+use Rattle.pt_fs.specs.Keeps.{GivesBack, IsCausedIn, IsNamedIn, NamesOpenOnes, LeavesOpen}
 use Rattle.pt_fs.specs.declared.job.Job.{Job}
 use Rattle.pt_fs.specs.declared.trace.TraceStep.{TraceStep}
 use Rattle.pt_fs.proofs.Ended.{one_for_each, at_below, belongs_by}
@@ -45,7 +49,8 @@ use Rattle.pt_fs.specs.Owing.{run_seat}
 use Rattle.pt_fs.specs.declared.running.Running.{Running}
 
 -- the seats aside, a trace is a run of its host
-pub host_runs : {H : Type 0} (does : Does H) (trace : List TraceStep) (host : H) (seats : List (Option HostSeat)) (tables : Tables) (host' : H) (seats' : List (Option HostSeat)) (tables' : Tables) →
+pub host_runs : {H : Type 0} (does : Does H) (trace : List TraceStep) (host : H) (seats : List (Option HostSeat))
+    (tables : Tables) (host' : H) (seats' : List (Option HostSeat)) (tables' : Tables) →
     Runs does trace host seats tables host' seats' tables' → HostRuns does (turns_of trace) host tables host' tables'
 host_runs does [] host seats tables host' seats' tables' r = (r.0, r.2)
 host_runs does (step ∷ trace) host seats tables host' seats' tables' r =
@@ -54,8 +59,11 @@ host_runs does (step ∷ trace) host seats tables host' seats' tables' r =
     (r.0, r.2, from.0, from.1, from.2, host_runs does trace r.0 r.1 r.2 host' seats' tables' r.4)
 
 -- each step is one of the jobs'
-pub owners_below : {H : Type 0} (does : Does H) (bound : ℕ) (trace : List TraceStep) (host : H) (seats : List (Option HostSeat)) (tables : Tables) (host' : H) (seats' : List (Option HostSeat)) (tables' : Tables) →
-    length seats ≡ bound → Runs does trace host seats tables host' seats' tables' → Each (λ turn. turn.job < bound) (turns_of trace)
+pub owners_below : {H : Type 0} (does : Does H) (bound : ℕ) (trace : List TraceStep) (host : H)
+    (seats : List (Option HostSeat)) (tables : Tables) (host' : H) (seats' : List (Option HostSeat))
+    (tables' : Tables) →
+    length seats ≡ bound → Runs does trace host seats tables host' seats' tables' →
+    Each (λ turn. turn.job < bound) (turns_of trace)
 owners_below does bound [] host seats tables host' seats' tables' e r = tt
 owners_below does bound (step ∷ trace) host seats tables host' seats' tables' e r =
     let within = slice_get_within seats step.job r.3.0 r.3.2 in
@@ -65,7 +73,8 @@ owners_below does bound (step ∷ trace) host seats tables host' seats' tables' 
 -- one job's steps
 pub steps_same : (job : ℕ) (trace : List TraceStep) → steps_of job (turns_of trace) ≡ steps_by job trace
 steps_same job [] = refl
-steps_same job (step ∷ trace) = ap (λ (steps : List Step). cond (eqb step.job job) (step_of step ∷ steps) steps) (steps_same job trace)
+steps_same job (step ∷ trace) =
+    ap (λ (steps : List Step). cond (eqb step.job job) (step_of step ∷ steps) steps) (steps_same job trace)
 
 asked_by : Option Job → Asked
 asked_by None = Requests request.Root
@@ -76,7 +85,8 @@ end_by None = finish.Answer answer.Done
 end_by (Some told) = finish.Answer told
 
 -- a trace, and what is known of it
-pub record Ran {H : Type 0} (does : Does H) (plan : Plan) (limit : ℕ) (jobs : List Job) (host : H) (tables : Tables) (trace : List TraceStep) (answers : List Answer) (host' : H) (tables' : Tables) : Type 0 where
+pub record Ran {H : Type 0} (does : Does H) (plan : Plan) (limit : ℕ) (jobs : List Job) (host : H) (tables : Tables)
+    (trace : List TraceStep) (answers : List Answer) (host' : H) (tables' : Tables) : Type 0 where
   pub seats : List (Option HostSeat)
   pub seats' : List (Option HostSeat)
   pub runs : Runs does trace host seats tables host' seats' tables'
@@ -93,7 +103,8 @@ end_at : List Answer → ℕ → Finish
 unfolding end_by
 end_at answers j = end_by (slice_get answers j)
 
-answered_in : (plan : Plan) (jobs : List Job) (trace : List TraceStep) (answers : List Answer) → AnswersEach plan jobs trace answers → Each (λ turn. turn.job < length jobs) (turns_of trace) →
+answered_in : (plan : Plan) (jobs : List Job) (trace : List TraceStep) (answers : List Answer) →
+    AnswersEach plan jobs trace answers → Each (λ turn. turn.job < length jobs) (turns_of trace) →
     AreAnswered plan (length jobs) (asked_at jobs) (end_at answers) (turns_of trace)
 unfolding asked_at asked_by end_at end_by
 answered_in plan jobs trace answers each owners = record {
@@ -105,21 +116,28 @@ answered_in plan jobs trace answers each owners = record {
       rw (steps_same j trace, job.1, told.1) in_pattern;
 }
 
-ended_of : {H : Type 0} (does : Does H) (faults : H → ℕ) → Promises does faults → (plan : Plan) (limit : ℕ) (jobs : List Job) (host : H) (tables : Tables) (trace : List TraceStep) (answers : List Answer) (host' : H) (tables' : Tables) →
+ended_of : {H : Type 0} (does : Does H) (faults : H → ℕ) → Promises does faults →
+    (plan : Plan) (limit : ℕ) (jobs : List Job) (host : H) (tables : Tables) (trace : List TraceStep)
+    (answers : List Answer) (host' : H) (tables' : Tables) →
     Ran does plan limit jobs host tables trace answers host' tables' → AreEnded (length jobs) (turns_of trace)
 ended_of does faults p plan limit jobs host tables trace answers host' tables' ran =
     let runs = host_runs does trace host ran.seats tables host' ran.seats' tables' ran.runs in
-    let owners = owners_below does (length jobs) trace host ran.seats tables host' ran.seats' tables' ran.one_each ran.runs in
-    hosts_ended does faults p plan (length jobs) (asked_at jobs) (end_at answers) (turns_of trace) host tables host' tables' runs (answered_in plan jobs trace answers ran.answered owners)
+    let owners = owners_below does
+    (length jobs) trace host ran.seats tables host' ran.seats' tables' ran.one_each ran.runs in
+    hosts_ended does faults p plan (length jobs) (asked_at jobs) (end_at answers)
+    (turns_of trace) host tables host' tables' runs (answered_in plan jobs trace answers ran.answered owners)
 
 turns-append : (trace more : List TraceStep) → turns_of (trace ++ more) ≡ turns_of trace ++ turns_of more
 turns-append trace more = grind (arith, common_steps)
 
-cut_at : (bound : ℕ) (trace so_far rest : List TraceStep) → trace ≡ so_far ++ rest → AreDisciplined bound (turns_of trace) → AreDisciplined bound (turns_of so_far ++ turns_of rest)
-cut_at bound trace so_far rest e d = subst (λ (turns : List Turn). AreDisciplined bound turns) (ap turns_of e ∙ turns-append so_far rest) d
+cut_at : (bound : ℕ) (trace so_far rest : List TraceStep) → trace ≡ so_far ++ rest →
+    AreDisciplined bound (turns_of trace) → AreDisciplined bound (turns_of so_far ++ turns_of rest)
+cut_at bound trace so_far rest e d =
+    subst (λ (turns : List Turn). AreDisciplined bound turns) (ap turns_of e ∙ turns-append so_far rest) d
 
 -- the laws that speak of no object, over any host
-pub record Keeps (limit : ℕ) (jobs : List Job) (tables : Tables) (trace : List TraceStep) (answers : List Answer) (tables' : Tables) : Type 0 where
+pub record Keeps (limit : ℕ) (jobs : List Job) (tables : Tables) (trace : List TraceStep) (answers : List Answer)
+    (tables' : Tables) : Type 0 where
   pub counts : AfterEach tables trace KeepsCounts
   pub handles : AfterEach tables trace KeepsHandles
   pub once : InsertsOnce trace
@@ -129,40 +147,56 @@ pub record Keeps (limit : ℕ) (jobs : List Job) (tables : Tables) (trace : List
   pub gives_back : OfEachJob jobs answers (GivesBack trace)
   pub causes : OfEachJob jobs answers (IsCausedIn trace)
 
-pub keeps : {H : Type 0} (does : Does H) (faults : H → ℕ) → Promises does faults → (plan : Plan) (limit : ℕ) (jobs : List Job) (host : H) (tables : Tables) (trace : List TraceStep) (answers : List Answer) (host' : H) (tables' : Tables) →
+pub keeps : {H : Type 0} (does : Does H) (faults : H → ℕ) → Promises does faults →
+    (plan : Plan) (limit : ℕ) (jobs : List Job) (host : H) (tables : Tables) (trace : List TraceStep)
+    (answers : List Answer) (host' : H) (tables' : Tables) →
     Ran does plan limit jobs host tables trace answers host' tables' → Keeps limit jobs tables trace answers tables'
 keeps does faults p plan limit jobs host tables trace answers host' tables' ran =
     let runs = host_runs does trace host ran.seats tables host' ran.seats' tables' ran.runs in
     let ended = ended_of does faults p plan limit jobs host tables trace answers host' tables' ran in
     let disciplined = ended_jobs (length jobs) (turns_of trace) ended in
     let begins = ran.begins in
-    let from_empty = λ (turns : List Turn) (now : Tables) (r : TablesRun tables turns now). subst (λ (t : Tables). TablesRun t turns now) begins r in
-    let whole = from_empty (turns_of trace) tables' (hosts_tables does (turns_of trace) host tables host' tables' runs) in
-    let told = λ (j : ℕ). subst AllMayBeTold (steps_same j trace) (hosts_told does faults p j (turns_of trace) host tables host' tables' runs) in
+    let from_empty = λ (turns : List Turn) (now : Tables) (r : TablesRun tables turns now). subst (λ (t : Tables).
+    TablesRun t turns now) begins r in
+    let whole = from_empty (turns_of trace) tables'
+    (hosts_tables does (turns_of trace) host tables host' tables' runs) in
+    let told = λ (j : ℕ).
+    subst AllMayBeTold (steps_same j trace)
+    (hosts_told does faults p j (turns_of trace) host tables host' tables' runs) in
     record {
-      counts = λ so_far rest now e r number. counts_law limit (turns_of so_far) now number (from_empty (turns_of so_far) now r);
-      handles = λ so_far rest now e r handle. standing_law limit (turns_of so_far) now handle (from_empty (turns_of so_far) now r);
+      counts = λ so_far rest now e r number.
+          counts_law limit (turns_of so_far) now number (from_empty (turns_of so_far) now r);
+      handles = λ so_far rest now e r handle.
+          standing_law limit (turns_of so_far) now handle (from_empty (turns_of so_far) now r);
       once =
-          let all = subst (λ (turns : List Turn). AreDisciplined (length jobs) turns) (sym (append-nil (turns_of trace))) disciplined in
+          let all = subst (λ (turns : List Turn).
+          AreDisciplined (length jobs) turns) (sym (append-nil (turns_of trace))) disciplined in
           record {
             numbers = λ number other. once_law limit (length jobs) (turns_of trace) [] tables' number all whole other;
             handles = λ handle. handles_once_law limit (length jobs) (turns_of trace) [] tables' handle all whole;
           };
       overtaken = λ so_far rest step e told.
-          let run = subst (λ (turns : List Turn). TablesRun (empty_tables limit) turns tables') (ap turns_of e ∙ turns-append so_far (step ∷ rest)) whole in
+          let run = subst (λ (turns : List Turn). TablesRun (empty_tables limit) turns tables') (ap turns_of e
+          ∙ turns-append so_far (step ∷ rest)) whole in
           let cut = tables_split (turns_of so_far) (turn_of step ∷ turns_of rest) (empty_tables limit) tables' run in
-          overtaken_law limit (length jobs) (turns_of so_far) (turn_of step) (turns_of rest) cut.0 cut.2.0 (cut_at (length jobs) trace so_far (step ∷ rest) e disciplined) cut.1 cut.2.1 told;
-      slots = λ so_far rest now e r. slots_law limit (length jobs) (turns_of so_far) (turns_of rest) now (cut_at (length jobs) trace so_far rest e disciplined) (from_empty (turns_of so_far) now r);
+          overtaken_law limit (length jobs) (turns_of so_far) (turn_of step) (turns_of rest) cut.0 cut.2.0
+          (cut_at (length jobs) trace so_far (step ∷ rest) e disciplined) cut.1 cut.2.1 told;
+      slots = λ so_far rest now e r.
+          slots_law limit (length jobs) (turns_of so_far) (turns_of rest) now
+          (cut_at (length jobs) trace so_far rest e disciplined) (from_empty (turns_of so_far) now r);
       rest = rest_law limit (length jobs) (turns_of trace) tables' ended whole;
       gives_back = λ j job answer at told_at.
           let b = belongs_by plan job (steps_by j trace) answer (ran.answered.in_pattern j job answer at told_at) in
           let ends = job_ends plan (asked_of job) (steps_by j trace) (finish.Answer answer) (told j) b in
           record { settled = λ number. settled number (steps_by j trace) (finish.Answer answer) ends; ends = ends };
-      causes = λ j job answer at told_at. job_caused plan (asked_of job) (steps_by j trace) answer (told j) (belongs_by plan job (steps_by j trace) answer (ran.answered.in_pattern j job answer at told_at));
+      causes = λ j job answer at told_at.
+          job_caused plan (asked_of job) (steps_by j trace) answer (told j)
+          (belongs_by plan job (steps_by j trace) answer (ran.answered.in_pattern j job answer at told_at));
     }
 
 -- those that speak of objects, over a host that tells its tree
-pub record KeepsTold (plan : Plan) (jobs : List Job) (told : Option Tree) (tables : Tables) (trace : List TraceStep) (answers : List Answer) (told' : Option Tree) (tables' : Tables) : Type 0 where
+pub record KeepsTold (plan : Plan) (jobs : List Job) (told : Option Tree) (tables : Tables) (trace : List TraceStep)
+    (answers : List Answer) (told' : Option Tree) (tables' : Tables) : Type 0 where
   pub leads_on : LeadsOn told tables trace told' tables'
   pub distinct : AfterEachTold told tables trace (λ start so_far now. KeepsObjects now)
   pub serves : AfterEachTold told tables trace (λ start so_far now. ServesEach now)
@@ -171,41 +205,65 @@ pub record KeepsTold (plan : Plan) (jobs : List Job) (told : Option Tree) (table
   pub leaves : LeavesOpen told tables trace
   pub entries : OfEachJob jobs answers (IsNamedIn plan told tables trace)
 
-entered_by : (limit : ℕ) (plan : Plan) (jobs : List Job) (told : Option Tree) (tables : Tables) (trace : List TraceStep) → tables ≡ empty_tables limit → AreDisciplined (length jobs) (turns_of trace) →
-    (j : ℕ) (job : Job) (given : Answer) → j < length jobs → Belongs (grammar_for plan (asked_of job)) (steps_of j (turns_of trace)) (finish.Answer given) → IsNamedIn plan told tables trace j job given
-entered_by limit plan jobs told tables trace begins disciplined j job (answer.Entry entry) below b = λ parent name asked tree is well end runs.
-    entered_law limit (length jobs) plan (turns_of trace) (begins_in tree tables) end j parent name entry (record { tables = begins; well_formed = well; past = refl }) disciplined runs below
-    (subst (λ (r : Asked). Belongs (grammar_for plan r) (steps_of j (turns_of trace)) (finish.Answer (answer.Entry entry))) asked b)
+entered_by : (limit : ℕ) (plan : Plan) (jobs : List Job) (told : Option Tree) (tables : Tables)
+    (trace : List TraceStep) → tables ≡ empty_tables limit → AreDisciplined (length jobs) (turns_of trace) →
+    (j : ℕ) (job : Job) (given : Answer) → j < length jobs →
+    Belongs (grammar_for plan (asked_of job)) (steps_of j (turns_of trace)) (finish.Answer given) →
+    IsNamedIn plan told tables trace j job given
+entered_by limit plan jobs told tables trace begins disciplined j job (answer.Entry entry) below b =
+    λ parent name asked tree is well end runs.
+    entered_law limit (length jobs) plan (turns_of trace) (begins_in tree tables) end j parent name entry
+    (record { tables = begins; well_formed = well; past = refl }) disciplined runs below
+    (subst (λ (r : Asked).
+    Belongs (grammar_for plan r) (steps_of j (turns_of trace)) (finish.Answer (answer.Entry entry))) asked b)
 entered_by limit plan jobs told tables trace begins disciplined j job given below b = tt
 
-pub keeps_told : {H : Type 0} (does : Does H) (tree : H → Option Tree) (faults : H → ℕ) → Promises does faults → Tells does tree → (plan : Plan) (limit : ℕ) (jobs : List Job) (host : H) (tables : Tables) (trace : List TraceStep) (answers : List Answer) (host' : H) (tables' : Tables) →
-    Ran does plan limit jobs host tables trace answers host' tables' → KeepsTold plan jobs (tree host) tables trace answers (tree host') tables'
+pub keeps_told : {H : Type 0} (does : Does H) (tree : H → Option Tree) (faults : H → ℕ) → Promises does faults →
+    Tells does tree → (plan : Plan) (limit : ℕ) (jobs : List Job) (host : H) (tables : Tables)
+    (trace : List TraceStep) (answers : List Answer) (host' : H) (tables' : Tables) →
+    Ran does plan limit jobs host tables trace answers host' tables' →
+    KeepsTold plan jobs (tree host) tables trace answers (tree host') tables'
 keeps_told does tree faults p tells plan limit jobs host tables trace answers host' tables' ran =
     let runs = host_runs does trace host ran.seats tables host' ran.seats' tables' ran.runs in
     let ended = ended_of does faults p plan limit jobs host tables trace answers host' tables' ran in
     let disciplined = ended_jobs (length jobs) (turns_of trace) ended in
-    let starts = λ (t : Tree) (well : IsWellFormed t). let s : Starts limit (begins_in t tables) = record { tables = ran.begins; well_formed = well; past = refl } in s in
+    let starts = λ (t : Tree) (well : IsWellFormed t). let s : Starts limit (begins_in t tables) =
+    record { tables = ran.begins; well_formed = well; past = refl } in s in
     record {
-      leads_on = λ t is well. hosts_world does tree faults p tells (turns_of trace) (begins_in t tables) host host' tables' is runs;
+      leads_on = λ t is well.
+          hosts_world does tree faults p tells (turns_of trace) (begins_in t tables) host host' tables' is runs;
       distinct = λ t is well so_far rest now e r.
           let d = cut_at (length jobs) trace so_far rest e disciplined in
           record {
-            distinct = distinct_law limit (length jobs) (turns_of so_far) (turns_of rest) (begins_in t tables) now (starts t well) d r;
-            open_on = λ row at live. object_law limit (length jobs) (turns_of so_far) (turns_of rest) (begins_in t tables) now row (starts t well) d r at live;
+            distinct = distinct_law limit (length jobs) (turns_of so_far) (turns_of rest) (begins_in t tables) now
+                (starts t well) d r;
+            open_on = λ row at live.
+                object_law limit (length jobs) (turns_of so_far) (turns_of rest) (begins_in t tables) now row
+                (starts t well) d r at live;
           };
       serves = λ t is well so_far rest now e r row at.
-          handles_law limit (length jobs) (turns_of so_far) (turns_of rest) (begins_in t tables) now row (starts t well) (cut_at (length jobs) trace so_far rest e disciplined) r at;
-      descriptors = λ t is well so_far rest now e r. kept_law limit (length jobs) (turns_of so_far) (turns_of rest) (begins_in t tables) now (starts t well) (cut_at (length jobs) trace so_far rest e disciplined) r;
-      named = λ t is well so_far rest step now e r. named_law limit (length jobs) (turns_of so_far) (turn_of step) (turns_of rest) (begins_in t tables) now (starts t well) (cut_at (length jobs) trace so_far (step ∷ rest) e disciplined) r;
-      leaves = λ t is well end r. leaves_law limit (length jobs) (turns_of trace) (begins_in t tables) end (starts t well) ended r;
+          handles_law limit (length jobs) (turns_of so_far) (turns_of rest) (begins_in t tables) now row
+          (starts t well) (cut_at (length jobs) trace so_far rest e disciplined) r at;
+      descriptors = λ t is well so_far rest now e r.
+          kept_law limit (length jobs) (turns_of so_far) (turns_of rest) (begins_in t tables) now (starts t well)
+          (cut_at (length jobs) trace so_far rest e disciplined) r;
+      named = λ t is well so_far rest step now e r.
+          named_law limit (length jobs) (turns_of so_far) (turn_of step) (turns_of rest) (begins_in t tables) now
+          (starts t well) (cut_at (length jobs) trace so_far (step ∷ rest) e disciplined) r;
+      leaves = λ t is well end r.
+          leaves_law limit (length jobs) (turns_of trace) (begins_in t tables) end (starts t well) ended r;
       entries = λ j job given at told_at.
-          entered_by limit plan jobs (tree host) tables trace ran.begins disciplined j job given (slice_get_within jobs j job at)
-          (rw (steps_same j trace) (belongs_by plan job (steps_by j trace) given (ran.answered.in_pattern j job given at told_at)));
+          entered_by limit plan jobs (tree host) tables trace ran.begins disciplined j job given
+          (slice_get_within jobs j job at)
+          (rw (steps_same j trace)
+          (belongs_by plan job (steps_by j trace) given (ran.answered.in_pattern j job given at told_at)));
     }
 
 -- what is known of a whole run
 pub ran_whole : {H : Type 0} {does : Does H} {plan : Plan} {schedule : List ℕ} {h h' : H} {jobs : List Job} {running running' : List Running} {tables tables' : Tables} {trace : List TraceStep} {answers : List Answer}
-    → Whole does plan schedule h jobs running tables h' running' tables' trace answers → ((limit : ℕ) × (tables ≡ empty_tables limit)) → Ran does plan tables.limit jobs h tables trace answers h' tables'
+    → Whole does plan schedule h jobs running tables h' running' tables' trace answers →
+    ((limit : ℕ) × (tables ≡ empty_tables limit)) →
+    Ran does plan tables.limit jobs h tables trace answers h' tables'
 ran_whole {jobs = jobs} {running' = running'} {tables = tables} whole new = record {
   seats = map job_seat jobs;
   seats' = map run_seat running';

@@ -1,4 +1,5 @@
-use Rattle.std.proofs.Common.{◌≡◌, ◌≢◌, inl, inr, ℕ, zero, suc, ◌+◌, ◌<◌, ◌==◌, true, false, cond, List, [], ◌∷◌, ◌++◌, ◌∙◌, Some, refl, ap, sym, map, slice_get, slice_set, append_assoc, eq-eqb, arith}
+use Rattle.std.proofs.Common.{◌≡◌, ◌≢◌, inl, inr, ℕ, zero, suc, ◌+◌, ◌<◌, ◌==◌, true, false, cond, List, [], ◌∷◌}
+use Rattle.std.proofs.Common.{◌++◌, ◌∙◌, Some, refl, ap, sym, map, slice_get, slice_set, append_assoc, eq-eqb, arith}
 use Rattle.std.proofs.lemmas.Bool.{cases_eq, ne_eqb, lt-ltb}
 use Rattle.std.proofs.lemmas.List.{length-set, map-append}
 use Rattle.std.proofs.lemmas.Option.{same_Some, slice_get_within, slice_get_cases}
@@ -15,66 +16,87 @@ same_function f g h = λ k x. h x k
 
 pub count_of-append : (xs ys : List TraceStep) (job : ℕ) → count_of (xs ++ ys) job ≡ count_of xs job + count_of ys job
 count_of-append [] ys job = omega arith
-count_of-append (x ∷ xs) ys job = let e = count_of-append xs ys job in elim (x.job == job) as (λ b. cond b (suc (count_of (xs ++ ys) job)) (count_of (xs ++ ys) job) ≡ cond b (suc (count_of xs job)) (count_of xs job) + count_of ys job) [ true ↦ omega arith | false ↦ e ]
+count_of-append (x ∷ xs) ys job = let e = count_of-append xs ys job in
+    elim (x.job == job) as (λ b. cond b (suc (count_of (xs ++ ys) job)) (count_of (xs ++ ys) job)
+    ≡ cond b (suc (count_of xs job)) (count_of xs job) + count_of ys job) [ true ↦ omega arith | false ↦ e ]
 
 pub total-append : (xs ys : List TraceStep) (left : ℕ → ℕ) → total (xs ++ ys) left ≡ total xs (total ys left)
-total-append xs ys left = same_function (total (xs ++ ys) left) (total xs (total ys left)) (λ j. let e = count_of-append xs ys j in omega arith)
+total-append xs ys left =
+    same_function (total (xs ++ ys) left) (total xs (total ys left)) (λ j. let e = count_of-append xs ys j in
+    omega arith)
 
 pub total-none : (left : ℕ → ℕ) → total [] left ≡ left
 total-none left = same_function (total [] left) left (λ j. omega arith)
 
 -- one step more
-pub total_same : (step : TraceStep) (job : ℕ) (left : ℕ → ℕ) → step.job ≡ job → total (step ∷ []) left job ≡ suc (left job)
+pub total_same : (step : TraceStep) (job : ℕ) (left : ℕ → ℕ) → step.job ≡ job →
+    total (step ∷ []) left job ≡ suc (left job)
 total_same step job left e = let one : count_of (step ∷ []) job ≡ 1 = rw (eq-eqb step.job job e) refl in omega arith
 
 pub total_other : (step : TraceStep) (job : ℕ) (left : ℕ → ℕ) → step.job ≢ job → total (step ∷ []) left job ≡ left job
 total_other step job left ne = let none : count_of (step ∷ []) job ≡ 0 = rw (ne_eqb step.job job ne) refl in omega arith
 
 pub lowered-total : (step : TraceStep) (left : ℕ → ℕ) → lowered (total (step ∷ []) left) step.job ≡ left
-lowered-total step left = same_function (lowered (total (step ∷ []) left) step.job) left (λ j. elim (cases_eq j step.job) [
-  | inl same ↦ let one = total_same step j left (sym same) in rw (eq-eqb j step.job same) (omega arith)
-  | inr other ↦ let one = total_other step j left (λ e. other (sym e)) in rw (ne_eqb j step.job other) one
-])
+lowered-total step left =
+    same_function (lowered (total (step ∷ []) left) step.job) left (λ j. elim (cases_eq j step.job) [
+      | inl same ↦ let one = total_same step j left (sym same) in rw (eq-eqb j step.job same) (omega arith)
+      | inr other ↦ let one = total_other step j left (λ e. other (sym e)) in rw (ne_eqb j step.job other) one
+    ])
 
 -- nothing was done
 pub owns_none : (before : (ℕ → ℕ) → List ℕ) (running : List Running) → Owns before running [] before running
 owns_none before running left fits = let e = total-none left in (rw e fits, rw e refl)
 
-pub owns_on : (a b c : (ℕ → ℕ) → List ℕ) (r0 r1 r2 : List Running) (xs ys : List TraceStep) → Owns a r0 xs b r1 → Owns b r1 ys c r2 → Owns a r0 (xs ++ ys) c r2
+pub owns_on : (a b c : (ℕ → ℕ) → List ℕ) (r0 r1 r2 : List Running) (xs ys : List TraceStep) → Owns a r0 xs b r1 →
+    Owns b r1 ys c r2 → Owns a r0 (xs ++ ys) c r2
 owns_on a b c r0 r1 r2 xs ys first second left fits =
     let later = second left fits in
     let earlier = first (total ys left) later.0 in
-    let e = total-append xs ys left in
-    (rw e earlier.0, ap a e ∙ earlier.1 ∙ ap (λ l. map owner xs ++ l) later.1 ∙ sym (append_assoc (map owner xs) (map owner ys) (c left)) ∙ ap (λ l. l ++ c left) (sym (map-append owner xs ys)))
+    let e = total-append xs ys left in (
+      rw e earlier.0,
+      ap a e ∙ earlier.1 ∙ ap (λ l. map owner xs ++ l) later.1
+          ∙ sym (append_assoc (map owner xs) (map owner ys) (c left))
+          ∙ ap (λ l. l ++ c left) (sym (map-append owner xs ys)),
+    )
 
 -- the job of a step that was made had that step left
-pub fits_took : (running : List Running) (place : ℕ) (run run' : Running) (step : TraceStep) (left : ℕ → ℕ) → slice_get running place ≡ Some run → step.job ≡ place → is_finished run.state ≡ false → Fits left (slice_set running place run') → Fits (total (step ∷ []) left) running
+pub fits_took : (running : List Running) (place : ℕ) (run run' : Running) (step : TraceStep) (left : ℕ → ℕ) →
+    slice_get running place ≡ Some run → step.job ≡ place → is_finished run.state ≡ false →
+    Fits left (slice_set running place run') → Fits (total (step ∷ []) left) running
 fits_took running place run run' step left was own unfinished fits = record {
   ended = λ j r at end. elim (cases_eq j place) [
-    | inl same ↦ let is_run : r ≡ run = same_Some r run (sym at ∙ ap (λ k. slice_get running k) same ∙ was) in let no : true ≡ false = sym end ∙ ap (λ q. is_finished q.state) is_run ∙ unfinished in cc
-    | inr other ↦ total_other step j left (λ e. other (sym e ∙ own)) ∙ fits.ended j r (get-set_other running place j run' other ∙ at) end
+    | inl same ↦ let is_run : r ≡ run = same_Some r run (sym at ∙ ap (λ k. slice_get running k) same ∙ was) in
+        let no : true ≡ false = sym end ∙ ap (λ q. is_finished q.state) is_run ∙ unfinished in cc
+    | inr other ↦ total_other step j left (λ e. other (sym e ∙ own))
+        ∙ fits.ended j r (get-set_other running place j run' other ∙ at) end
   ];
   going = λ j r at end. elim (cases_eq j place) [
     | inl same ↦ let one = total_same step j left (own ∙ sym same) in omega arith
-    | inr other ↦ let one = total_other step j left (λ e. other (sym e ∙ own)) in let more = fits.going j r (get-set_other running place j run' other ∙ at) end in omega arith
+    | inr other ↦ let one = total_other step j left (λ e. other (sym e ∙ own)) in
+        let more = fits.going j r (get-set_other running place j run' other ∙ at) end in omega arith
   ];
   beyond = λ j past. elim (cases_eq j place) [
     | inl same ↦ let inside = slice_get_within running place run was in absurd (omega arith)
-    | inr other ↦ let long = length-set running place run' in total_other step j left (λ e. other (sym e ∙ own)) ∙ fits.beyond j (omega arith)
+    | inr other ↦ let long = length-set running place run' in
+        total_other step j left (λ e. other (sym e ∙ own)) ∙ fits.beyond j (omega arith)
   ];
 }
 
 -- a place of the schedule that names an unfinished job
-pub owns_place : (place : ℕ) (places : List ℕ) (jobs : ℕ) (running : List Running) (run run' : Running) (step : TraceStep) → slice_get running place ≡ Some run → step.job ≡ place → is_finished run.state ≡ false → Owns (order (place ∷ places) jobs) running (step ∷ []) (order places jobs) (slice_set running place run')
+pub owns_place : (place : ℕ) (places : List ℕ) (jobs : ℕ) (running : List Running) (run run' : Running)
+    (step : TraceStep) → slice_get running place ≡ Some run → step.job ≡ place → is_finished run.state ≡ false →
+    Owns (order (place ∷ places) jobs) running (step ∷ []) (order places jobs) (slice_set running place run')
 owns_place place places jobs running run run' step was own unfinished left fits =
     let some : 0 < total (step ∷ []) left place = let one = total_same step place left own in omega arith in
-    let fewer : lowered (total (step ∷ []) left) place ≡ left = ap (lowered (total (step ∷ []) left)) (sym own) ∙ lowered-total step left in (
+    let fewer : lowered (total (step ∷ []) left) place ≡ left =
+    ap (lowered (total (step ∷ []) left)) (sym own) ∙ lowered-total step left in (
       fits_took running place run run' step left was own unfinished fits,
       rw (lt-ltb 0 (total (step ∷ []) left place) some) (rw (fewer, own) refl),
     )
 
 -- a job that has finished has no step left
-pub none_left : (running : List Running) (place : ℕ) → IsFinishedAt running place → (left : ℕ → ℕ) → Fits left running → left place ≡ 0
+pub none_left : (running : List Running) (place : ℕ) → IsFinishedAt running place → (left : ℕ → ℕ) →
+    Fits left running → left place ≡ 0
 none_left running place finished left fits =
     elim (slice_get_cases running place).1 [
       | inl there ↦ fits.ended place there.0 there.2 (finished there.0 there.2)
@@ -82,14 +104,16 @@ none_left running place finished left fits =
     ]
 
 -- a place that names none
-pub owns_idle : (place : ℕ) (places : List ℕ) (jobs : ℕ) (running : List Running) → IsFinishedAt running place → Owns (order (place ∷ places) jobs) running [] (order places jobs) running
+pub owns_idle : (place : ℕ) (places : List ℕ) (jobs : ℕ) (running : List Running) → IsFinishedAt running place →
+    Owns (order (place ∷ places) jobs) running [] (order places jobs) running
 owns_idle place places jobs running finished left fits =
     let none : left place ≡ 0 = none_left running place finished left fits in
     let e = total-none left in
     (rw e fits, rw (e, none) refl)
 
 -- a step of a job below the first
-pub rest_other : (jobs first : ℕ) (step : TraceStep) (left : ℕ → ℕ) → step.job < first → rest_of jobs first (total (step ∷ []) left) ≡ rest_of jobs first left
+pub rest_other : (jobs first : ℕ) (step : TraceStep) (left : ℕ → ℕ) → step.job < first →
+    rest_of jobs first (total (step ∷ []) left) ≡ rest_of jobs first left
 rest_other zero first step left below = refl
 rest_other (suc jobs) first step left below =
     let here = total_other step first left (λ e. omega arith) in
@@ -97,7 +121,9 @@ rest_other (suc jobs) first step left below =
     rw (here, there) refl
 
 -- the first of the jobs that take all their steps
-pub owns_first : (jobs place : ℕ) (running : List Running) (run run' : Running) (step : TraceStep) → slice_get running place ≡ Some run → step.job ≡ place → is_finished run.state ≡ false → Owns (rest_of (suc jobs) place) running (step ∷ []) (rest_of (suc jobs) place) (slice_set running place run')
+pub owns_first : (jobs place : ℕ) (running : List Running) (run run' : Running) (step : TraceStep) →
+    slice_get running place ≡ Some run → step.job ≡ place → is_finished run.state ≡ false →
+    Owns (rest_of (suc jobs) place) running (step ∷ []) (rest_of (suc jobs) place) (slice_set running place run')
 owns_first jobs place running run run' step was own unfinished left fits =
     let one = total_same step place left own in (
       fits_took running place run run' step left was own unfinished fits,
@@ -105,7 +131,8 @@ owns_first jobs place running run run' step was own unfinished left fits =
     )
 
 -- the first has finished
-pub owns_next : (jobs place : ℕ) (running : List Running) → IsFinishedAt running place → Owns (rest_of (suc jobs) place) running [] (rest_of jobs (place + 1)) running
+pub owns_next : (jobs place : ℕ) (running : List Running) → IsFinishedAt running place →
+    Owns (rest_of (suc jobs) place) running [] (rest_of jobs (place + 1)) running
 owns_next jobs place running finished left fits =
     let none = none_left running place finished left fits in
     let e = total-none left in

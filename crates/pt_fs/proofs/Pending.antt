@@ -22,7 +22,8 @@ told_put (change.Release handle number) (reply.Done closings) = omega arith
 told_put change.Clear (reply.Cleared era closings) = omega arith
 told_put asked told = omega arith
 
-pub same_inserted : (asked : Change) (told : EventReply) → inserted_by (deed.Changes asked) (Event told) ≡ added_by asked told
+pub same_inserted : (asked : Change) (told : EventReply) →
+    inserted_by (deed.Changes asked) (Event told) ≡ added_by asked told
 same_inserted (change.Insert era number form ids mode) (reply.Inserted given) = refl
 same_inserted (change.InsertRoot era form ids mode agreed) (reply.Inserted given) = refl
 same_inserted (change.InsertHandle era handle number fd) (reply.Inserted given) = refl
@@ -30,7 +31,8 @@ same_inserted asked told = refl
 
 -- no event tells more closings than rows go, and only an insertion adds a row
 pub event_puts : (tables after : Tables) (asked : Change) (told : EventReply) → Happens tables asked told after
-    → pending_in after + closings_in (deed.Changes asked) (Event told) ≤ pending_in tables + inserted_by (deed.Changes asked) (Event told)
+    → pending_in after + closings_in (deed.Changes asked) (Event told)
+    ≤ pending_in tables + inserted_by (deed.Changes asked) (Event told)
 event_puts tables after asked told happens =
     let paid = pays tables after asked told happens in
     let put = told_put asked told in

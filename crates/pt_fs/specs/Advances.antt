@@ -24,4 +24,6 @@ inserted_in None reply = 0
 
 -- what belongs to the new grammar belongs to the old one, with this step before it
 abbrev pub Advances : Grammar → Option Deed → ActReply → Grammar → Type 0
-Advances old deed reply new = (steps : List Step) (end : Finish) → Belongs new steps end → Belongs old (record { deed = deed; reply = reply } ∷ steps) end
+Advances old deed reply new =
+    (steps : List Step) (end : Finish) → Belongs new steps end →
+    Belongs old (record { deed = deed; reply = reply } ∷ steps) end

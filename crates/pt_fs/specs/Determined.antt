@@ -19,14 +19,17 @@ pub record FoundMemory (trace : List TraceStep) (answers : List Answer) : Type 0
   pub answered : Each (λ answer. answer ≢ NoMemory) answers
 
 -- the jobs ran in the order of the schedule, and never lacked memory
-pub record RanInOrder {H : Type 0} (does : Does H) (plan : Plan) (schedule : List ℕ) (jobs : List Job) (host : H) (tables : Tables) (trace : List TraceStep) (answers : List Answer) (host' : H) (seats' : List HostSeat) (tables' : Tables) : Type 0 where
+pub record RanInOrder {H : Type 0} (does : Does H) (plan : Plan) (schedule : List ℕ) (jobs : List Job) (host : H)
+    (tables : Tables) (trace : List TraceStep) (answers : List Answer) (host' : H) (seats' : List HostSeat)
+    (tables' : Tables) : Type 0 where
   pub steps : RunsJobs does jobs trace host tables host' seats' tables'
   pub order : IsInOrder schedule (length jobs) trace
   pub answers_each : AnswersEach plan jobs trace answers
   pub memory : FoundMemory trace answers
 
 -- two such runs of the same jobs, by one schedule from the same host and tables, are one
-pub record AreOneRun {H : Type 0} (trace trace' : List TraceStep) (answers answers' : List Answer) (host host' : H) (seats seats' : List HostSeat) (tables tables' : Tables) : Type 0 where
+pub record AreOneRun {H : Type 0} (trace trace' : List TraceStep) (answers answers' : List Answer) (host host' : H)
+    (seats seats' : List HostSeat) (tables tables' : Tables) : Type 0 where
   pub traces : trace ≡ trace'
   pub answered : answers ≡ answers'
   pub hosts : host ≡ host'
@@ -34,5 +37,10 @@ pub record AreOneRun {H : Type 0} (trace trace' : List TraceStep) (answers answe
   pub left : tables ≡ tables'
 
 abbrev pub TurnsAreDetermined : {H : Type 0} → Does H → Type 0
-TurnsAreDetermined {H} does = (plan : Plan) (schedule : List ℕ) (jobs : List Job) (host : H) (tables : Tables) (trace trace' : List TraceStep) (answers answers' : List Answer) (after after' : H) (seats seats' : List HostSeat) (left left' : Tables) → Agree tables →
-    RanInOrder does plan schedule jobs host tables trace answers after seats left → RanInOrder does plan schedule jobs host tables trace' answers' after' seats' left' → AreOneRun trace trace' answers answers' after after' seats seats' left left'
+TurnsAreDetermined {H} does =
+    (plan : Plan) (schedule : List ℕ) (jobs : List Job) (host : H) (tables : Tables) (trace trace' : List TraceStep)
+    (answers answers' : List Answer) (after after' : H) (seats seats' : List HostSeat) (left left' : Tables) →
+    Agree tables →
+    RanInOrder does plan schedule jobs host tables trace answers after seats left →
+    RanInOrder does plan schedule jobs host tables trace' answers' after' seats' left' →
+    AreOneRun trace trace' answers answers' after after' seats seats' left left'

@@ -39,7 +39,9 @@ IsMadeBy told made = ⊥
 
 -- where the tree was told it is told, and has one descriptor more
 abbrev pub OpensOne : Option Tree → Fd → Option Tree → Type 0
-OpensOne before fd after = (tree : Tree) → before ≡ Some tree → (later : Tree) × (after ≡ Some later) × (object : ℕ) × Opens tree object path fd later
+OpensOne before fd after =
+    (tree : Tree) → before ≡ Some tree → (later : Tree) × (after ≡ Some later) × (object : ℕ)
+    × Opens tree object path fd later
 
 -- where the tree was told it is told, and is the same
 abbrev pub StaysTold : Option Tree → Option Tree → Type 0

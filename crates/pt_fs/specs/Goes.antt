@@ -13,7 +13,8 @@ use Rattle.pt_fs.specs.declared.running.Running.{Running}
 -- the trace went on by steps that led from the first host, jobs and tables to the last, by those owners
 pub record Goes {H : Type 0} (does : Does H) (plan : Plan)
     (before : (ℕ → ℕ) → List ℕ) (host : H) (running : List Running) (tables : Tables) (trace : List TraceStep)
-    (after : (ℕ → ℕ) → List ℕ) (host' : H) (running' : List Running) (tables' : Tables) (trace' : List TraceStep) : Type 0 where
+    (after : (ℕ → ℕ) → List ℕ) (host' : H) (running' : List Running) (tables' : Tables)
+    (trace' : List TraceStep) : Type 0 where
   pub steps : List TraceStep
   pub longer : trace' ≡ trace ++ steps
   pub runs : Runs does steps host (map run_seat running) tables host' (map run_seat running') tables'

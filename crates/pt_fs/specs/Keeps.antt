@@ -15,7 +15,8 @@ use Rattle.pt_req.specs.declared.plan.Plan.{Plan}
 use Rattle.pt_law.specs.Cause.{IsCausedBy}
 use Rattle.pt_law.specs.Discipline.{idle, Ends}
 use Rattle.pt_law.specs.Entered.{IsEntered}
-use Rattle.pt_law.specs.Laws.{AreDistinct, HasObject, IsCounted, IsStanding, Serves, TellsOvertaken, IsOvertaken, NamesOpen, LeavesRows}
+use Rattle.pt_law.specs.Laws.{AreDistinct, HasObject, IsCounted, IsStanding, Serves, TellsOvertaken, IsOvertaken}
+use Rattle.pt_law.specs.Laws.{NamesOpen, LeavesRows}
 use Rattle.pt_law.specs.Ledger.{given, inserted, handle_inserted, standing}
 use Rattle.pt_law.specs.Settled.{all_given, all_returned, entry_count}
 use Rattle.pt_law.specs.World.{Turn, World, TablesRun, no_past, Runs as WorldRuns}
@@ -33,7 +34,8 @@ turns_of trace = map turn_of trace
 -- after every step: of the steps so far and the tables to which they led
 abbrev pub AfterEach : Tables → List TraceStep → (List Turn → Tables → Type 0) → Type 0
 AfterEach tables trace P =
-    (so_far rest : List TraceStep) (now : Tables) → trace ≡ so_far ++ rest → TablesRun tables (turns_of so_far) now → P (turns_of so_far) now
+    (so_far rest : List TraceStep) (now : Tables) → trace ≡ so_far ++ rest → TablesRun tables (turns_of so_far) now →
+    P (turns_of so_far) now
 
 -- the world in which a run begins, where the host tells this tree
 abbrev pub begins_in : Tree → Tables → World
@@ -46,7 +48,8 @@ WhereTold told tables P = (tree : Tree) → told ≡ Some tree → IsWellFormed 
 -- after every step: of the steps so far and the world to which they led
 abbrev pub AfterEachTold : Option Tree → Tables → List TraceStep → (World → List Turn → World → Type 0) → Type 0
 AfterEachTold told tables trace P = WhereTold told tables (λ start.
-    (so_far rest : List TraceStep) (now : World) → trace ≡ so_far ++ rest → WorldRuns start (turns_of so_far) now → P start (turns_of so_far) now)
+    (so_far rest : List TraceStep) (now : World) → trace ≡ so_far ++ rest → WorldRuns start (turns_of so_far) now →
+    P start (turns_of so_far) now)
 
 -- the steps lead the tree that the host told to the one that it tells afterwards, and to these tables
 abbrev pub LeadsOn : Option Tree → Tables → List TraceStep → Option Tree → Tables → Type 0
@@ -82,11 +85,15 @@ OvertakenAsTold trace = (so_far rest : List TraceStep) (step : TraceStep) → tr
 
 -- of each job and its answer
 abbrev pub OfEachJob : List Job → List Answer → (ℕ → Job → Answer → Type 0) → Type 0
-OfEachJob jobs answers P = (j : ℕ) (job : Job) (told : Answer) → slice_get jobs j ≡ Some job → slice_get answers j ≡ Some told → P j job told
+OfEachJob jobs answers P =
+    (j : ℕ) (job : Job) (told : Answer) → slice_get jobs j ≡ Some job → slice_get answers j ≡ Some told → P j job told
 
--- What a job was given it gave back, once each, but for the number that its answer has; and it gave back all else that it held.
+-- What a job was given it gave back, once each, but for the number that its answer has; and it gave back all else
+-- that it held.
 pub record GivesBack (trace : List TraceStep) (j : ℕ) (job : Job) (told : Answer) : Type 0 where
-  pub settled : (number : ℕ) → all_given number (steps_by j trace) ≡ all_returned number (steps_by j trace) + entry_count number (finish.Answer told)
+  pub settled : (number : ℕ) →
+      all_given number (steps_by j trace)
+      ≡ all_returned number (steps_by j trace) + entry_count number (finish.Answer told)
   pub ends : Ends idle (steps_by j trace) (finish.Answer told)
 
 -- a refusal has its cause, in what was asked or at a step of the job; and an edit is refused exactly where its step was
@@ -95,15 +102,19 @@ IsCausedIn trace j job told = IsCausedBy (asked_of job) (steps_by j trace) told
 
 -- an entry names the object that its name had in the directory that its parent stood for
 abbrev pub IsNamedIn : Plan → Option Tree → Tables → List TraceStep → ℕ → Job → Answer → Type 0
-IsNamedIn plan told tables trace j job (answer.Entry entry) = (parent : ℕ) (name : List ℕ) → asked_of job ≡ Requests (request.Lookup parent name) →
-    WhereTold told tables (λ start. (end : World) → WorldRuns start (turns_of trace) end → IsEntered plan start (turns_of trace) end j parent name entry)
+IsNamedIn plan told tables trace j job (answer.Entry entry) =
+    (parent : ℕ) (name : List ℕ) → asked_of job ≡ Requests (request.Lookup parent name) →
+    WhereTold told tables (λ start. (end : World) → WorldRuns start (turns_of trace) end →
+    IsEntered plan start (turns_of trace) end j parent name entry)
 IsNamedIn plan told tables trace j job other = Unit {0}
 
 -- each call names only descriptors that are open at its step
 abbrev pub NamesOpenOnes : Option Tree → Tables → List TraceStep → Type 0
 NamesOpenOnes told tables trace = WhereTold told tables (λ start.
-    (so_far rest : List TraceStep) (step : TraceStep) (now : World) → trace ≡ so_far ++ step ∷ rest → WorldRuns start (turns_of so_far) now → NamesOpen now.tree (kept_deed_of step.act))
+    (so_far rest : List TraceStep) (step : TraceStep) (now : World) → trace ≡ so_far ++ step ∷ rest →
+    WorldRuns start (turns_of so_far) now → NamesOpen now.tree (kept_deed_of step.act))
 
 -- at the end the open descriptors are those that were open at the start, those of the rows, and no other
 abbrev pub LeavesOpen : Option Tree → Tables → List TraceStep → Type 0
-LeavesOpen told tables trace = WhereTold told tables (λ start. (end : World) → WorldRuns start (turns_of trace) end → LeavesRows start end)
+LeavesOpen told tables trace =
+    WhereTold told tables (λ start. (end : World) → WorldRuns start (turns_of trace) end → LeavesRows start end)

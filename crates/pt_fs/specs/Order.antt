@@ -1,5 +1,6 @@
 -- Believed. Whom the steps of a trace belong to.
-use Rattle.std.specs.Prelude.{◌≡◌, ℕ, zero, suc, ◌+◌, ◌-◌, ◌<◌, ◌≤◌, ◌==◌, nat_lt, true, false, List, [], ◌∷◌, ◌++◌, Some, length, map, replicate, slice_get, if◌then◌else◌}
+use Rattle.std.specs.Prelude.{◌≡◌, ℕ, zero, suc, ◌+◌, ◌-◌, ◌<◌, ◌≤◌, ◌==◌, nat_lt, true, false, List, [], ◌∷◌, ◌++◌}
+use Rattle.std.specs.Prelude.{Some, length, map, replicate, slice_get, if◌then◌else◌}
 use Rattle.pt_req.specs.Job.{is_finished}
 use Rattle.pt_fs.specs.declared.trace.TraceStep.{TraceStep}
 use Rattle.pt_fs.specs.declared.running.Running.{Running}
@@ -13,11 +14,12 @@ abbrev pub rest_of : ℕ → ℕ → (ℕ → ℕ) → List ℕ
 rest_of zero first left = []
 rest_of (suc jobs) first left = replicate (left first) first ++ rest_of jobs (first + 1) left
 
--- The owners of so many steps of each job: a place of the schedule owns the next step where its job has one left, and then the jobs in order
--- own all their remaining steps.
+-- The owners of so many steps of each job: a place of the schedule owns the next step where its job has one left, and
+-- then the jobs in order own all their remaining steps.
 abbrev pub order : List ℕ → ℕ → (ℕ → ℕ) → List ℕ
 order [] jobs left = rest_of jobs 0 left
-order (place ∷ places) jobs left = if nat_lt 0 (left place) then place ∷ order places jobs (lowered left place) else order places jobs left
+order (place ∷ places) jobs left =
+    if nat_lt 0 (left place) then place ∷ order places jobs (lowered left place) else order places jobs left
 
 abbrev pub owner : TraceStep → ℕ
 owner step = step.job
@@ -27,7 +29,8 @@ abbrev pub count_of : List TraceStep → ℕ → ℕ
 count_of [] job = 0
 count_of (step ∷ steps) job = if step.job == job then suc (count_of steps job) else count_of steps job
 
--- the trace's owners are those that the schedule gives for the steps that it has of each job, and it has one at least of each
+-- the trace's owners are those that the schedule gives for the steps that it has of each job, and it has one at least
+-- of each
 pub record IsInOrder (schedule : List ℕ) (jobs : ℕ) (trace : List TraceStep) : Type 0 where
   pub owners : map owner trace ≡ order schedule jobs (count_of trace)
   pub each_has_a_step : (j : ℕ) → j < jobs → 0 < count_of trace j
@@ -44,4 +47,6 @@ pub record Fits (left : ℕ → ℕ) (running : List Running) : Type 0 where
 
 -- what was to be owned before the steps is their owners, and then what is to be owned after them
 abbrev pub Owns : ((ℕ → ℕ) → List ℕ) → List Running → List TraceStep → ((ℕ → ℕ) → List ℕ) → List Running → Type 0
-Owns before running steps after running' = (left : ℕ → ℕ) → Fits left running' → Fits (total steps left) running × (before (total steps left) ≡ map owner steps ++ after left)
+Owns before running steps after running' =
+    (left : ℕ → ℕ) → Fits left running' → Fits (total steps left) running
+    × (before (total steps left) ≡ map owner steps ++ after left)

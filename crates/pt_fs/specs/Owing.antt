@@ -16,10 +16,13 @@ use Rattle.pt_fs.specs.declared.running.Running.{Running}
 -- each job's steps so far, and then what it owes, are among those of what it asks; and so far it kept its bound
 pub record Owing (plan : Plan) (jobs : List Job) (running : List Running) (trace : List TraceStep) : Type 0 where
   pub one_each : length running ≡ length jobs
-  pub owed : (j : ℕ) (job : Job) (run : Running) → slice_get jobs j ≡ Some job → slice_get running j ≡ Some run → (steps : List Step) (end : Finish) →
-      Belongs (owes plan run.state) steps end → Belongs (grammar_for plan (asked_of job)) (steps_by j trace ++ steps) end
+  pub owed : (j : ℕ) (job : Job) (run : Running) → slice_get jobs j ≡ Some job → slice_get running j ≡ Some run →
+      (steps : List Step) (end : Finish) →
+      Belongs (owes plan run.state) steps end →
+      Belongs (grammar_for plan (asked_of job)) (steps_by j trace ++ steps) end
   pub bounded : (j : ℕ) (job : Job) (run : Running) → slice_get jobs j ≡ Some job → slice_get running j ≡ Some run →
-      length (steps_by j trace) + steps_bound run.state ≤ bound_for (asked_of job) + 3 * closings_told (steps_by j trace)
+      length (steps_by j trace) + steps_bound run.state
+      ≤ bound_for (asked_of job) + 3 * closings_told (steps_by j trace)
 
 abbrev pub run_seat : Running → Option HostSeat
 run_seat run = run.seat

@@ -1,5 +1,6 @@
 -- Inner. One step of one of the jobs.
-use Rattle.std.specs.Prelude.{◌+◌, ◌*◌, ◌≤◌, ◌≡◌, ◌<◌, ◌⊎◌, None, ℕ, List, [], ◌∷◌, ◌++◌, Option, Some, true, false, slice_get, slice_set}
+use Rattle.std.specs.Prelude.{◌+◌, ◌*◌, ◌≤◌, ◌≡◌, ◌<◌, ◌⊎◌, None, ℕ, List, [], ◌∷◌, ◌++◌, Option, Some, true, false}
+use Rattle.std.specs.Prelude.{slice_get, slice_set}
 use Rattle.pt_session.specs.Tables.{Tables}
 use Rattle.pt_req.specs.Deed.{kept_deed_of}
 use Rattle.pt_req.specs.Grammar.{is_end}
@@ -14,10 +15,12 @@ use Rattle.pt_fs.specs.declared.running.Running.{Running}
 -- the job of this number has a step to take
 abbrev pub IsUnfinished : Plan → List Running → ℕ → Type 0
 IsUnfinished plan running place =
-    (run : Running) → slice_get running place ≡ Some run → (is_finished run.state ≡ false) × (is_end (owes plan run.state) ≡ false)
+    (run : Running) → slice_get running place ≡ Some run →
+    (is_finished run.state ≡ false) × (is_end (owes plan run.state) ≡ false)
 
 -- the job of this number took its next step, which is the last of the trace
-pub record Took {H : Type 0} (does : Does H) (plan : Plan) (place : ℕ) (host : H) (running : List Running) (tables : Tables) (trace : List TraceStep)
+pub record Took {H : Type 0} (does : Does H) (plan : Plan) (place : ℕ) (host : H) (running : List Running)
+    (tables : Tables) (trace : List TraceStep)
     (host' : H) (running' : List Running) (tables' : Tables) (trace' : List TraceStep) : Type 0 where
   pub run : Running
   pub run' : Running
@@ -37,7 +40,8 @@ abbrev pub IsFinishedAt : List Running → ℕ → Type 0
 IsFinishedAt running place = (run : Running) → slice_get running place ≡ Some run → is_finished run.state ≡ true
 
 -- the job of this number took its next step, or has none and nothing changed
-abbrev pub TookOrStays : {H : Type 0} → Does H → Plan → ℕ → H → List Running → Tables → List TraceStep → H → List Running → Tables → List TraceStep → Type 0
+abbrev pub TookOrStays : {H : Type 0} → Does H → Plan → ℕ → H → List Running → Tables → List TraceStep → H →
+    List Running → Tables → List TraceStep → Type 0
 TookOrStays does plan place host running tables trace host' running' tables' trace' =
     Took does plan place host running tables trace host' running' tables' trace'
     ⊎ (IsFinishedAt running place × (host' ≡ host) × (running' ≡ running) × (tables' ≡ tables) × (trace' ≡ trace))

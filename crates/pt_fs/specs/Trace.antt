@@ -1,5 +1,6 @@
 -- Believed. Traces: where their steps lead, and what they say of each job.
-use Rattle.std.specs.Prelude.{◌≡◌, ◌≤◌, ℕ, ◌+◌, ◌*◌, ◌==◌, List, [], ◌∷◌, Option, Some, None, length, map, slice_get, slice_set, if◌then◌else◌}
+use Rattle.std.specs.Prelude.{◌≡◌, ◌≤◌, ℕ, ◌+◌, ◌*◌, ◌==◌, List, [], ◌∷◌, Option, Some, None, length, map, slice_get}
+use Rattle.std.specs.Prelude.{slice_set, if◌then◌else◌}
 use Rattle.pt_host.specs.declared.seat.HostSeat.{HostSeat}
 use Rattle.pt_session.specs.Tables.{Tables}
 use Rattle.pt_iface.specs.declared.answer.Answer.{Answer}
@@ -33,22 +34,29 @@ no_seat = record {
 }
 
 -- a step of a job that has a seat, which may be another after it, or of one that has none
-abbrev pub MadeFrom : {H : Type 0} → Does H → Option Deed → ActReply → H → Option HostSeat → Tables → H → Option HostSeat → Tables → Type 0
-MadeFrom does deed reply host (Some seat) tables host' (Some seat') tables' = Made does deed reply host seat tables host' seat' tables'
-MadeFrom does deed reply host None tables host' None tables' = (left : HostSeat) × Made does deed reply host no_seat tables host' left tables'
+abbrev pub MadeFrom : {H : Type 0} → Does H → Option Deed → ActReply → H → Option HostSeat → Tables → H →
+    Option HostSeat → Tables → Type 0
+MadeFrom does deed reply host (Some seat) tables host' (Some seat') tables' =
+    Made does deed reply host seat tables host' seat' tables'
+MadeFrom does deed reply host None tables host' None tables' =
+    (left : HostSeat) × Made does deed reply host no_seat tables host' left tables'
 MadeFrom does deed reply host seat tables host' seat' tables' = ⊥
 
 -- the step was made from the seat of the job that owns it, and no other seat changed
-abbrev pub MadeAt : {H : Type 0} → Does H → TraceStep → H → List (Option HostSeat) → Tables → H → List (Option HostSeat) → Tables → Type 0
+abbrev pub MadeAt : {H : Type 0} → Does H → TraceStep → H → List (Option HostSeat) → Tables → H →
+    List (Option HostSeat) → Tables → Type 0
 MadeAt does step host seats tables host' seats' tables' =
-    (seat : Option HostSeat) × (seat' : Option HostSeat) × (slice_get seats step.job ≡ Some seat) × (seats' ≡ slice_set seats step.job seat')
+    (seat : Option HostSeat) × (seat' : Option HostSeat) × (slice_get seats step.job ≡ Some seat)
+    × (seats' ≡ slice_set seats step.job seat')
     × MadeFrom does (kept_deed_of step.act) step.reply host seat tables host' seat' tables'
 
 -- the trace leads from host, seats and tables to these, each step from where the one before it led
-abbrev pub Runs : {H : Type 0} → Does H → List TraceStep → H → List (Option HostSeat) → Tables → H → List (Option HostSeat) → Tables → Type 0
+abbrev pub Runs : {H : Type 0} → Does H → List TraceStep → H → List (Option HostSeat) → Tables → H →
+    List (Option HostSeat) → Tables → Type 0
 Runs does [] host seats tables host' seats' tables' = (host' ≡ host) × (seats' ≡ seats) × (tables' ≡ tables)
 Runs {H} does (step ∷ steps) host seats tables host' seats' tables' =
-    (host1 : H) × (seats1 : List (Option HostSeat)) × (tables1 : Tables) × MadeAt does step host seats tables host1 seats1 tables1
+    (host1 : H) × (seats1 : List (Option HostSeat)) × (tables1 : Tables)
+    × MadeAt does step host seats tables host1 seats1 tables1
     × Runs does steps host1 seats1 tables1 host' seats' tables'
 
 -- those that there are, in their order
@@ -57,8 +65,10 @@ seated [] = []
 seated (None ∷ seats) = seated seats
 seated (Some seat ∷ seats) = seat ∷ seated seats
 
--- The trace leads from host, the jobs' seats and tables to these. The seats that are left are those of the jobs that are no edit, in job order.
-pub record RunsJobs {H : Type 0} (does : Does H) (jobs : List Job) (trace : List TraceStep) (host : H) (tables : Tables) (host' : H) (left : List HostSeat) (tables' : Tables) : Type 0 where
+-- The trace leads from host, the jobs' seats and tables to these. The seats that are left are those of the jobs that
+-- are no edit, in job order.
+pub record RunsJobs {H : Type 0} (does : Does H) (jobs : List Job) (trace : List TraceStep) (host : H)
+    (tables : Tables) (host' : H) (left : List HostSeat) (tables' : Tables) : Type 0 where
   pub seats : List (Option HostSeat)
   pub runs : Runs does trace host (map job_seat jobs) tables host' seats tables'
   pub are_left : left ≡ seated seats
@@ -72,8 +82,8 @@ steps_by job (step ∷ steps) = if step.job == job then step_of step ∷ steps_b
 -- one answer for each job, in job order, each with the steps of its job in the pattern of what it asked
 pub record AnswersEach (plan : Plan) (jobs : List Job) (trace : List TraceStep) (answers : List Answer) : Type 0 where
   pub one_each : length answers ≡ length jobs
-  pub in_pattern : (j : ℕ) (job : Job) (answer : Answer) → slice_get jobs j ≡ Some job → slice_get answers j ≡ Some answer →
-      IsAnsweredBy plan job (steps_by j trace) answer
+  pub in_pattern : (j : ℕ) (job : Job) (answer : Answer) → slice_get jobs j ≡ Some job →
+      slice_get answers j ≡ Some answer → IsAnsweredBy plan job (steps_by j trace) answer
 
 -- how many closings a step told
 abbrev pub told_by : Option Deed → ActReply → ℕ
@@ -87,4 +97,5 @@ closings_told (step ∷ steps) = told_by step.deed step.reply + closings_told st
 -- no job took more steps than its bound, and three for each closing that it was told
 abbrev pub IsBounded : List Job → List TraceStep → Type 0
 IsBounded jobs trace =
-    (j : ℕ) (job : Job) → slice_get jobs j ≡ Some job → length (steps_by j trace) ≤ bound_for (asked_of job) + 3 * closings_told (steps_by j trace)
+    (j : ℕ) (job : Job) → slice_get jobs j ≡ Some job →
+    length (steps_by j trace) ≤ bound_for (asked_of job) + 3 * closings_told (steps_by j trace)

@@ -1,4 +1,5 @@
-//! The file system that takes its requests step by step, and `drive`, which runs many jobs over one host and one file system in a given order.
+//! The file system that takes its requests step by step, and `drive`, which runs many jobs over one host and one file
+//! system in a given order.
 #![tactic(auto)]
 
 mod ends;

@@ -37,7 +37,8 @@ impl PassthroughFs {
         seat: &mut HostSeat,
     ) -> Result<PassthroughFs, Refusal>
         // One call, a step of the host's own, whose answer is the file system's or its refusal's cause.
-        ensures call { (reply : HostReply) × H.does host.old seat.old opens_root reply host.new seat.new × IsMadeBy reply result }
+        ensures call { (reply : HostReply) × H.does host.old seat.old opens_root reply host.new seat.new
+            × IsMadeBy reply result }
         ensures plan { IfOk result (λ fs. fs.plan.config ≡ cfg) }
         ensures tables { IfOk result (λ fs. fs.tables ≡ empty_tables cfg.guest_fd_limit) }
         ensures seat { seat.new ≡ seat.old }

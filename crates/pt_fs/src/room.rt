@@ -53,7 +53,8 @@ fn bound_of_job(job: &Job) -> usize
     }
 }
 
-/// The room that these jobs' trace needs at most: each job inserts four rows at most, and the closing of a row takes three steps.
+/// The room that these jobs' trace needs at most: each job inserts four rows at most, and the closing of a row takes
+/// three steps.
 pub fn room_of(jobs: &[Job]) -> usize
     requires { length jobs.now < 2 ^ 32 }
     ensures { result ≡ room jobs.now }

@@ -21,7 +21,8 @@ fn take_if_unfinished<H: Host, F: SteppedFs>(
     place: u32,
 )
     requires room { length trace.old.items + work running.old (F.tables fs.old) ≤ vec_capacity trace.old }
-    ensures goes { TookOrStays H.does (F.plan_of fs.old) place host.old running.old (F.tables fs.old) trace.old.items host.new running.new (F.tables fs.new) trace.new.items }
+    ensures goes { TookOrStays H.does (F.plan_of fs.old) place host.old running.old
+        (F.tables fs.old) trace.old.items host.new running.new (F.tables fs.new) trace.new.items }
     ensures plan { F.plan_of fs.new ≡ F.plan_of fs.old }
     ensures room { length trace.new.items + work running.new (F.tables fs.new) ≤ vec_capacity trace.new }
 {
@@ -44,7 +45,9 @@ pub fn run_schedule<H: Host, F: SteppedFs>(
     schedule: &[u32],
 )
     requires room { length trace.old.items + work running.old (F.tables fs.old) ≤ vec_capacity trace.old }
-    ensures goes { Goes H.does (F.plan_of fs.old) (order schedule.now (length running.old)) host.old running.old (F.tables fs.old) trace.old.items (rest_of (length running.old) 0) host.new running.new (F.tables fs.new) trace.new.items }
+    ensures goes { Goes H.does (F.plan_of fs.old) (order schedule.now (length running.old)) host.old running.old
+        (F.tables fs.old) trace.old.items (rest_of (length running.old) 0) host.new running.new
+        (F.tables fs.new) trace.new.items }
     ensures plan { F.plan_of fs.new ≡ F.plan_of fs.old }
     ensures room { length trace.new.items + work running.new (F.tables fs.new) ≤ vec_capacity trace.new }
 {
@@ -64,7 +67,10 @@ fn finish_one<H: Host, F: SteppedFs>(
 )
     requires named { place < length running.old }
     requires room { length trace.old.items + work running.old (F.tables fs.old) ≤ vec_capacity trace.old }
-    ensures goes { (jobs : ℕ) → Goes H.does (F.plan_of fs.old) (rest_of (suc jobs) place) host.old running.old (F.tables fs.old) trace.old.items (rest_of jobs (place + 1)) host.new running.new (F.tables fs.new) trace.new.items }
+    ensures goes { (jobs : ℕ) →
+        Goes H.does (F.plan_of fs.old) (rest_of (suc jobs) place) host.old running.old
+        (F.tables fs.old) trace.old.items (rest_of jobs (place + 1)) host.new running.new
+        (F.tables fs.new) trace.new.items }
     ensures plan { F.plan_of fs.new ≡ F.plan_of fs.old }
     ensures finished { IsFinishedAt running.new place }
     ensures others { (j : ℕ) → IsFinishedAt running.old j → IsFinishedAt running.new j }
@@ -85,7 +91,9 @@ pub fn finish_all<H: Host, F: SteppedFs>(
 )
     requires named { length running.old < 2 ^ 32 }
     requires room { length trace.old.items + work running.old (F.tables fs.old) ≤ vec_capacity trace.old }
-    ensures goes { Goes H.does (F.plan_of fs.old) (rest_of (length running.old) 0) host.old running.old (F.tables fs.old) trace.old.items (rest_of 0 (length running.old)) host.new running.new (F.tables fs.new) trace.new.items }
+    ensures goes { Goes H.does (F.plan_of fs.old) (rest_of (length running.old) 0) host.old running.old
+        (F.tables fs.old) trace.old.items (rest_of 0 (length running.old)) host.new running.new
+        (F.tables fs.new) trace.new.items }
     ensures plan { F.plan_of fs.new ≡ F.plan_of fs.old }
     ensures finished { (j : ℕ) → IsFinishedAt running.new j }
     ensures room { length trace.new.items + work running.new (F.tables fs.new) ≤ vec_capacity trace.new }
@@ -106,7 +114,9 @@ fn run_jobs<H: Host, F: SteppedFs>(
 )
     requires named { length running.old < 2 ^ 32 }
     requires room { length trace.old.items + work running.old (F.tables fs.old) ≤ vec_capacity trace.old }
-    ensures goes { Goes H.does (F.plan_of fs.old) (order schedule.now (length running.old)) host.old running.old (F.tables fs.old) trace.old.items (rest_of 0 (length running.old)) host.new running.new (F.tables fs.new) trace.new.items }
+    ensures goes { Goes H.does (F.plan_of fs.old) (order schedule.now (length running.old)) host.old running.old
+        (F.tables fs.old) trace.old.items (rest_of 0 (length running.old)) host.new running.new
+        (F.tables fs.new) trace.new.items }
     ensures plan { F.plan_of fs.new ≡ F.plan_of fs.old }
     ensures finished { (j : ℕ) → IsFinishedAt running.new j }
 {
@@ -125,7 +135,9 @@ pub fn run_all<H: Host, F: SteppedFs>(
 )
     requires named { length running.old.items < 2 ^ 32 }
     requires room { length trace.old.items + work running.old.items (F.tables fs.old) ≤ vec_capacity trace.old }
-    ensures goes { Goes H.does (F.plan_of fs.old) (order schedule.now (length running.old.items)) host.old running.old.items (F.tables fs.old) trace.old.items (rest_of 0 (length running.old.items)) host.new running.new.items (F.tables fs.new) trace.new.items }
+    ensures goes { Goes H.does (F.plan_of fs.old)
+        (order schedule.now (length running.old.items)) host.old running.old.items (F.tables fs.old) trace.old.items
+        (rest_of 0 (length running.old.items)) host.new running.new.items (F.tables fs.new) trace.new.items }
     ensures plan { F.plan_of fs.new ≡ F.plan_of fs.old }
     ensures finished { (j : ℕ) → IsFinishedAt running.new.items j }
     ensures same { length running.new.items ≡ length running.old.items }

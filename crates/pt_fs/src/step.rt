@@ -65,7 +65,8 @@ fn make<H: Host, F: SteppedFs>(
     seat: &mut HostSeat,
     act: &KeptAct,
 ) -> ActReply
-    ensures made { Made H.does (kept_deed_of act.now) result host.old seat.old (F.tables fs.old) host.new seat.new (F.tables fs.new) }
+    ensures made { Made H.does (kept_deed_of act.now) result host.old seat.old (F.tables fs.old) host.new seat.new
+        (F.tables fs.new) }
     ensures plan { F.plan_of fs.new ≡ F.plan_of fs.old }
 {
     match act {
@@ -82,7 +83,8 @@ fn make_from<H: Host, F: SteppedFs>(
     seat: &mut Option<HostSeat>,
     act: &KeptAct,
 ) -> ActReply
-    ensures made { MadeFrom H.does (kept_deed_of act.now) result host.old seat.old (F.tables fs.old) host.new seat.new (F.tables fs.new) }
+    ensures made { MadeFrom H.does (kept_deed_of act.now) result host.old seat.old (F.tables fs.old) host.new seat.new
+        (F.tables fs.new) }
     ensures plan { F.plan_of fs.new ≡ F.plan_of fs.old }
 {
     match seat {
@@ -113,12 +115,16 @@ fn advance<H: Host, F: SteppedFs>(
     running: &mut Running,
 ) -> (KeptAct, ActReply)
     requires { is_end (owes (F.plan_of fs.old) running.old.state) ≡ false }
-    ensures made { MadeFrom H.does (kept_deed_of result.0) result.1 host.old running.old.seat (F.tables fs.old) host.new running.new.seat (F.tables fs.new) }
+    ensures made { MadeFrom H.does (kept_deed_of result.0) result.1 host.old running.old.seat
+        (F.tables fs.old) host.new running.new.seat (F.tables fs.new) }
     ensures plan { F.plan_of fs.new ≡ F.plan_of fs.old }
-    ensures advances { Advances (owes (F.plan_of fs.old) running.old.state) (kept_deed_of result.0) result.1 (owes (F.plan_of fs.old) running.new.state) }
+    ensures advances { Advances (owes (F.plan_of fs.old) running.old.state) (kept_deed_of result.0) result.1
+        (owes (F.plan_of fs.old) running.new.state) }
     ensures fewer { steps_left running.new.state < steps_left running.old.state }
-    ensures within { steps_bound running.new.state + 1 ≤ steps_bound running.old.state + 3 * told_by (kept_deed_of result.0) result.1 }
-    ensures inserts { inserts_left running.new.state + inserted_in (kept_deed_of result.0) result.1 ≤ inserts_left running.old.state }
+    ensures within { steps_bound running.new.state + 1
+        ≤ steps_bound running.old.state + 3 * told_by (kept_deed_of result.0) result.1 }
+    ensures inserts { inserts_left running.new.state + inserted_in (kept_deed_of result.0) result.1
+        ≤ inserts_left running.old.state }
 {
     let act = wanted(alloc, fs, running);
     let reply = make_from(host, fs, &mut running.seat, &act);
@@ -142,7 +148,8 @@ pub fn take_step<H: Host, F: SteppedFs>(
     requires named { place < length running.old }
     requires unfinished { IsUnfinished (F.plan_of fs.old) running.old place }
     requires room { length trace.old.items + work running.old (F.tables fs.old) ≤ vec_capacity trace.old }
-    ensures took { Took H.does (F.plan_of fs.old) place host.old running.old (F.tables fs.old) trace.old.items host.new running.new (F.tables fs.new) trace.new.items }
+    ensures took { Took H.does (F.plan_of fs.old) place host.old running.old
+        (F.tables fs.old) trace.old.items host.new running.new (F.tables fs.new) trace.new.items }
     ensures plan { F.plan_of fs.new ≡ F.plan_of fs.old }
     ensures room { length trace.new.items + work running.new (F.tables fs.new) ≤ vec_capacity trace.new }
 {

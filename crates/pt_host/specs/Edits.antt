@@ -11,7 +11,8 @@ use Rattle.pt_host.specs.declared.edit.Edit.TheVariants as edit
 
 -- the tree in which the name leads there from the directory, or nowhere
 abbrev pub led_to : Tree → ℕ → List ℕ → Option ℕ → Tree
-led_to tree dir name object = record tree { names = set_at dir (update bytes_eq (tree.names dir) name object) tree.names }
+led_to tree dir name object =
+    record tree { names = set_at dir (update bytes_eq (tree.names dir) name object) tree.names }
 
 -- the tree with one object more, which no name leads to yet
 abbrev pub grown_by : Tree → Object → Tree

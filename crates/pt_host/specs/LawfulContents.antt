@@ -20,7 +20,8 @@ StaysButAccess before after = after ≡ record before { atime = after.atime }
 
 -- the opening empties what it opens: by `O_TRUNC` without `O_PATH`
 abbrev pub Empties : OpenFlags → Fd → Tree → ℕ → Type 0
-Empties flags fd after object = ((includes flags.0 o_trunc && not (includes flags.0 o_path)) ≡ true) × IsOpenOn after fd object
+Empties flags fd after object =
+    ((includes flags.0 o_trunc && not (includes flags.0 o_path)) ≡ true) × IsOpenOn after fd object
 
 -- the directory of the descriptor, or what the name leads to there
 abbrev pub IsAt : Tree → Fd → List ℕ → ℕ → Type 0
@@ -40,7 +41,8 @@ MayChange tree (call.SymLink fd name target) told after object = IsOpenOn tree f
 MayChange tree (call.MakeLink from fd name) told after object = IsOpenOn tree from object ⊎ IsOpenOn tree fd object
 MayChange tree (call.Unlink fd name) told after object = IsAt tree fd name object
 MayChange tree (call.RemoveDir fd name) told after object = IsAt tree fd name object
-MayChange tree (call.Rename fd name fd2 name2 flags) told after object = IsAt tree fd name object ⊎ IsAt tree fd2 name2 object
+MayChange tree (call.Rename fd name fd2 name2 flags) told after object =
+    IsAt tree fd name object ⊎ IsAt tree fd2 name2 object
 MayChange tree (call.WriteAt fd offset bytes append) told after object = IsOpenOn tree fd object
 MayChange tree (call.Truncate fd size) told after object = IsOpenOn tree fd object
 MayChange tree (call.Allocate fd mode offset size) told after object = IsOpenOn tree fd object
@@ -77,7 +79,8 @@ abbrev pub begun : OpenFlags → Description
 begun flags = record { position = 0; access = bit_and flags.0 3 }
 
 -- a call that is Ok keeps what it does not name
-pub record Keeps (tree : Tree) (before : Contents) (asked : Call) (told : HostValue) (tree_after : Tree) (after : Contents) : Type 0 where
+pub record Keeps (tree : Tree) (before : Contents) (asked : Call) (told : HostValue) (tree_after : Tree)
+    (after : Contents) : Type 0 where
   pub objects : (object : ℕ) → object < length tree.objects → (MayChange tree asked told tree_after object → ⊥) →
       StaysButAccess (before.objects object) (after.objects object)
   -- an opening sets no time of access either
@@ -85,8 +88,10 @@ pub record Keeps (tree : Tree) (before : Contents) (asked : Call) (told : HostVa
       (MayChange tree asked told tree_after object → ⊥) → after.objects object ≡ before.objects object
   pub positions : (fd : ℕ) → StaysOpen tree tree_after fd → (MayMove asked fd → ⊥) →
       (after.descriptions fd).position ≡ (before.descriptions fd).position
-  pub accesses : (fd : ℕ) → StaysOpen tree tree_after fd → (after.descriptions fd).access ≡ (before.descriptions fd).access
-  pub begins : (flags : OpenFlags) (fd : Fd) → opening_flags asked ≡ Some flags → told ≡ value.Fd fd → after.descriptions fd.0 ≡ begun flags
+  pub accesses : (fd : ℕ) → StaysOpen tree tree_after fd →
+      (after.descriptions fd).access ≡ (before.descriptions fd).access
+  pub begins : (flags : OpenFlags) (fd : Fd) → opening_flags asked ≡ Some flags → told ≡ value.Fd fd →
+      after.descriptions fd.0 ≡ begun flags
 
 -- any other call keeps everything
 pub record KeepsAll (tree : Tree) (before : Contents) (tree_after : Tree) (after : Contents) : Type 0 where

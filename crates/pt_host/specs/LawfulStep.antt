@@ -25,7 +25,9 @@ use Rattle.pt_host.specs.declared.reply.HostValue.TheVariants as value
 -- the tree with one more descriptor
 abbrev pub opened_on : Tree → ℕ → OpenFlags → Fd → Tree
 opened_on tree object flags fd =
-    record tree { opened = set_at fd.0 (Some (record { object = object; path_only = includes flags.0 o_path })) tree.opened }
+    record tree {
+      opened = set_at fd.0 (Some (record { object = object; path_only = includes flags.0 o_path })) tree.opened;
+    }
 
 -- the tree without the descriptor
 abbrev pub closed_at : Tree → Fd → Tree
@@ -45,12 +47,14 @@ LeadsTo tree fd name object = (dir : ℕ) × IsOpenOn tree fd dir × (tree.names
 -- what the name leads to is opened; not where a new object is asked for
 abbrev pub OpensFound : Tree → Fd → List ℕ → OpenFlags → Fd → Tree → Type 0
 OpensFound tree dir name flags fd after =
-    (object : ℕ) × ((includes flags.0 o_creat && includes flags.0 o_excl) ≡ false) × LeadsTo tree dir name object × Opens tree object flags fd after
+    (object : ℕ) × ((includes flags.0 o_creat && includes flags.0 o_excl) ≡ false) × LeadsTo tree dir name object
+    × Opens tree object flags fd after
 
 -- a new object is put under the name, which was free, and opened
 abbrev pub OpensMade : Tree → Fd → List ℕ → OpenFlags → Fd → Tree → Type 0
 OpensMade tree dir name flags fd after =
-    (made : Tree) × (includes flags.0 o_creat ≡ true) × MakesObjectAt tree dir name made × Opens made (length tree.objects) flags fd after
+    (made : Tree) × (includes flags.0 o_creat ≡ true) × MakesObjectAt tree dir name made
+    × Opens made (length tree.objects) flags fd after
 
 -- the object has this handle, on the mount of what the descriptor is open on
 pub record HasHandle (tree : Tree) (mount : Fd) (handle : CFileHandle) (object : ℕ) : Type 0 where
@@ -63,18 +67,23 @@ pub record HasHandle (tree : Tree) (mount : Fd) (handle : CFileHandle) (object :
   pub has : what.handle ≡ Some handle
   pub same_mount : what.ids.mnt_id ≡ place.ids.mnt_id
 
--- What a call that is Ok tells, and the tree that it leaves. What is not named here opens and closes nothing and changes no name.
+-- What a call that is Ok tells, and the tree that it leaves. What is not named here opens and closes nothing and
+-- changes no name.
 abbrev pub Succeeds : Tree → Call → HostValue → Tree → Type 0
 Succeeds tree (call.OpenRoot path flags) (value.Fd fd) after = (object : ℕ) × Opens tree object flags fd after
 Succeeds tree (call.OpenPath dir path flags) (value.Fd fd) after = (object : ℕ) × Opens tree object flags fd after
-Succeeds tree (call.OpenAt dir name flags mode) (value.Fd fd) after = OpensFound tree dir name flags fd after ⊎ OpensMade tree dir name flags fd after
-Succeeds tree (call.Reopen fd flags) (value.Fd opened) after = (object : ℕ) × IsOpenOn tree fd object × Opens tree object flags opened after
+Succeeds tree (call.OpenAt dir name flags mode) (value.Fd fd) after =
+    OpensFound tree dir name flags fd after ⊎ OpensMade tree dir name flags fd after
+Succeeds tree (call.Reopen fd flags) (value.Fd opened) after =
+    (object : ℕ) × IsOpenOn tree fd object × Opens tree object flags opened after
 Succeeds tree (call.OpenByHandle fd handle flags) (value.Fd opened) after =
     (object : ℕ) × HasHandle tree fd handle object × Opens tree object flags opened after
 Succeeds tree (call.Stat fd) (value.Stat stat) after =
-    (object : ℕ) × (what : Object) × IsOpenOn tree fd object × IsObject tree object what × Tells what stat × (after ≡ tree)
+    (object : ℕ) × (what : Object) × IsOpenOn tree fd object × IsObject tree object what × Tells what stat
+    × (after ≡ tree)
 Succeeds tree (call.HandleOf fd) (value.Handle handle) after =
-    (object : ℕ) × (what : Object) × IsOpenOn tree fd object × IsObject tree object what × (what.handle ≡ Some handle.handle)
+    (object : ℕ) × (what : Object) × IsOpenOn tree fd object × IsObject tree object what
+    × (what.handle ≡ Some handle.handle)
     × (handle.mnt_id ≡ what.ids.mnt_id) × (after ≡ tree)
 Succeeds tree (call.MakeDir fd name mode) value.Unit after = MakesObjectAt tree fd name after
 Succeeds tree (call.MakeNode fd name mode rdev) value.Unit after = MakesObjectAt tree fd name after
@@ -86,25 +95,27 @@ Succeeds tree (call.Rename fd name fd2 name2 flags) value.Unit after = Renames t
 Succeeds tree (call.Edit edit) value.Unit after = Edits tree edit after
 Succeeds tree asked told after = FitsCall asked told × (after ≡ tree)
 
--- `ENOENT` is answered to the opening of a name only where the name is not there, and `EEXIST` to the making of a new one only where it is
+-- `ENOENT` is answered to the opening of a name only where the name is not there, and `EEXIST` to the making of a new
+-- one only where it is
 pub record RefusesName (tree : Tree) (fd : Fd) (name : List ℕ) (flags : OpenFlags) (errno : Errno) : Type 0 where
-  pub missing : includes flags.0 o_creat ≡ false → errno ≡ enoent → (dir : ℕ) → IsOpenOn tree fd dir → tree.names dir name ≡ None
-  pub exists : (includes flags.0 o_creat && includes flags.0 o_excl) ≡ true → errno ≡ eexist → (dir : ℕ) → IsOpenOn tree fd dir →
-      ((object : ℕ) × (tree.names dir name ≡ Some object))
+  pub missing : includes flags.0 o_creat ≡ false → errno ≡ enoent → (dir : ℕ) → IsOpenOn tree fd dir →
+      tree.names dir name ≡ None
+  pub exists : (includes flags.0 o_creat && includes flags.0 o_excl) ≡ true → errno ≡ eexist → (dir : ℕ) →
+      IsOpenOn tree fd dir → ((object : ℕ) × (tree.names dir name ≡ Some object))
 
 -- these say that the object has no handle
 abbrev pub RefusesHandle : Tree → Fd → Errno → Type 0
 RefusesHandle tree fd errno =
-    (errno ≡ eopnotsupp) ⊎ (errno ≡ eoverflow) → (object : ℕ) (what : Object) → IsOpenOn tree fd object → IsObject tree object what →
-    what.handle ≡ None
+    (errno ≡ eopnotsupp) ⊎ (errno ≡ eoverflow) → (object : ℕ) (what : Object) → IsOpenOn tree fd object →
+    IsObject tree object what → what.handle ≡ None
 
 abbrev pub MayRefuse : Tree → Call → Errno → Type 0
 MayRefuse tree (call.OpenAt fd name flags mode) errno = RefusesName tree fd name flags errno
 MayRefuse tree (call.HandleOf fd) errno = RefusesHandle tree fd errno
 MayRefuse tree asked errno = Unit {0}
 
--- what the call may be answered, and the tree that it leaves; `Close` ends its descriptor whatever it answers, and any other call that is
--- refused, fails or finds no memory changes nothing
+-- what the call may be answered, and the tree that it leaves; `Close` ends its descriptor whatever it answers, and
+-- any other call that is refused, fails or finds no memory changes nothing
 abbrev pub Changes : Tree → Call → HostReply → Tree → Type 0
 Changes tree (call.Close fd) told after = after ≡ closed_at tree fd
 Changes tree asked (reply.Ok told) after = Succeeds tree asked told after
@@ -125,7 +136,8 @@ IsBadFd (reply.Ok told) = ⊥
 IsBadFd (reply.Refused errno) = errno ≡ ebadf
 IsBadFd told = Unit {0}
 
-pub record LawfulStep (tree : Tree) (seat : HostSeat) (asked : Call) (told : HostReply) (after : Tree) (seat_after : HostSeat) : Type 0 where
+pub record LawfulStep (tree : Tree) (seat : HostSeat) (asked : Call) (told : HostReply) (after : Tree)
+    (seat_after : HostSeat) : Type 0 where
   pub changes : Changes tree asked told after
   pub seats : SeatStep seat asked told seat_after
   pub path_only : AsksPathOnly tree asked → IsBadFd told

@@ -94,7 +94,8 @@ IsAllowed before asked (reply.Refused errno) after = Unit {0}
 IsAllowed before asked (reply.Fault errno) after = HasRisen before after
 IsAllowed before asked reply.NoMemory after = MayLackMemory asked
 
-pub record IsPromised (before : ℕ) (seat : HostSeat) (asked : Call) (told : HostReply) (after : ℕ) (seat_after : HostSeat) : Type 0 where
+pub record IsPromised (before : ℕ) (seat : HostSeat) (asked : Call) (told : HostReply) (after : ℕ)
+    (seat_after : HostSeat) : Type 0 where
   pub never_falls : before ≤ after
   pub allowed : IsAllowed before asked told after
   pub fails : FailsFitly asked told

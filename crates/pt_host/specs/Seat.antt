@@ -1,4 +1,5 @@
--- Believed. Seats and the calls that change them, after `credentials(7)`, `capabilities(7)`, `seteuid(2)`, `setegid(2)`, `setgroups(2)` and `umask(2)`.
+-- Believed. Seats and the calls that change them, after `credentials(7)`, `capabilities(7)`, `seteuid(2)`,
+-- `setegid(2)`, `setgroups(2)` and `umask(2)`.
 use Rattle.std.specs.Prelude.{◌≡◌, ℕ, Bool, not, ◌==◌, ◌&&◌, ◌||◌, nat_le, List, [], length, if◌then◌else◌}
 use Rattle.std.specs.Int.RustNames.{bit_or}
 use Rattle.bitflags.specs.Sets.{without}
@@ -29,7 +30,8 @@ leaves_id real id = id == kept_id && not (real == kept_id)
 -- the effective uid becomes another one by `SETUID`, or it becomes the real, the effective or the saved one
 abbrev pub may_set_euid : HostSeat → ℕ → Bool
 may_set_euid seat uid =
-    includes seat.eff_caps.0 cap_setuid || uid == kept_id || uid == seat.real_uid || uid == seat.eff_uid || uid == seat.saved_uid
+    includes seat.eff_caps.0 cap_setuid || uid == kept_id || uid == seat.real_uid || uid == seat.eff_uid
+    || uid == seat.saved_uid
 
 -- the effective capabilities under this effective uid: none where it leaves 0, the permitted ones where it becomes 0
 abbrev pub caps_as : HostSeat → ℕ → Caps
@@ -39,12 +41,14 @@ caps_as seat uid =
     else (if uid == 0 then seat.perm_caps else seat.eff_caps)
 
 abbrev pub with_euid : HostSeat → ℕ → HostSeat
-with_euid seat uid = if leaves_id seat.real_uid uid then seat else record seat { eff_uid = uid; eff_caps = caps_as seat uid }
+with_euid seat uid =
+    if leaves_id seat.real_uid uid then seat else record seat { eff_uid = uid; eff_caps = caps_as seat uid }
 
 -- the same of groups, by `SETGID`
 abbrev pub may_set_egid : HostSeat → ℕ → Bool
 may_set_egid seat gid =
-    includes seat.eff_caps.0 cap_setgid || gid == kept_id || gid == seat.real_gid || gid == seat.eff_gid || gid == seat.saved_gid
+    includes seat.eff_caps.0 cap_setgid || gid == kept_id || gid == seat.real_gid || gid == seat.eff_gid
+    || gid == seat.saved_gid
 
 abbrev pub with_egid : HostSeat → ℕ → HostSeat
 with_egid seat gid = if leaves_id seat.real_gid gid then seat else record seat { eff_gid = gid }

@@ -1,7 +1,8 @@
 -- Believed. What a call may do to its seat: the seat's own calls alone change it, and only where they are Ok.
 use Rattle.std.specs.Prelude.{◌≡◌, ◌≢◌, true, false}
 use Rattle.pt_host.specs.Call.{Call}
-use Rattle.pt_host.specs.Seat.{may_set_euid, with_euid, may_set_egid, with_egid, may_set_groups, with_groups, may_raise, with_raised, with_dropped, with_umask}
+use Rattle.pt_host.specs.Seat.{may_set_euid, with_euid, may_set_egid, with_egid, may_set_groups, with_groups}
+use Rattle.pt_host.specs.Seat.{may_raise, with_raised, with_dropped, with_umask}
 use Rattle.pt_host.specs.declared.seat.HostSeat.{HostSeat}
 use Rattle.pt_host.specs.declared.op.KeptHostOp.TheVariants as call
 use Rattle.pt_host.specs.declared.reply.HostReply.{HostReply}
@@ -19,7 +20,8 @@ SeatGoes seat (call.DropCap caps) told after = after ≡ with_dropped seat caps
 SeatGoes seat (call.SetUmask mask) told after = (told ≡ value.Count seat.umask) × (after ≡ with_umask seat mask)
 SeatGoes seat asked told after = after ≡ seat
 
--- The real id may always be taken again, 32 groups be set while `SETGID` is effective, what is permitted be raised, and any mask be set.
+-- The real id may always be taken again, 32 groups be set while `SETGID` is effective, what is permitted be raised,
+-- and any mask be set.
 abbrev pub MayRefuseSeat : HostSeat → Call → Type 0
 MayRefuseSeat seat (call.SetGroups list) = may_set_groups seat list ≡ false
 MayRefuseSeat seat (call.SetEgid gid) = gid ≢ seat.real_gid

@@ -6,8 +6,8 @@ use Rattle.pt_host.specs.declared.ids.ObjIds.{ObjIds}
 use Rattle.pt_host.specs.declared.handle.CFileHandle.{CFileHandle}
 use Rattle.pt_host.specs.declared.stat.Stat.{Stat}
 
--- An object stays what it is also when its last name and descriptor are gone, so an inode number that comes back belongs to another object.
--- One file that is seen through two mounts is two objects.
+-- An object stays what it is also when its last name and descriptor are gone, so an inode number that comes back
+-- belongs to another object. One file that is seen through two mounts is two objects.
 pub record Object : Type 0 where
   pub ids : ObjIds
   -- the mode over 4096
@@ -41,13 +41,16 @@ abbrev pub IsPathOnly : Tree → Fd → Type 0
 IsPathOnly tree fd = (opened : Opened) × (tree.opened fd.0 ≡ Some opened) × (opened.path_only ≡ true)
 
 pub record IsWellFormed (tree : Tree) : Type 0 where
-  pub named : (dir : ℕ) (name : List ℕ) (object : ℕ) → tree.names dir name ≡ Some object → (dir < length tree.objects) × (object < length tree.objects)
+  pub named : (dir : ℕ) (name : List ℕ) (object : ℕ) → tree.names dir name ≡ Some object →
+      (dir < length tree.objects) × (object < length tree.objects)
   pub opened : (fd : ℕ) (open_as : Opened) → tree.opened fd ≡ Some open_as → open_as.object < length tree.objects
   -- two descriptors that tell the same ids are open on one object
-  pub apart : (fd other : Fd) (object another : ℕ) (what that : Object) → IsOpenOn tree fd object → IsOpenOn tree other another →
+  pub apart : (fd other : Fd) (object another : ℕ) (what that : Object) → IsOpenOn tree fd object →
+      IsOpenOn tree other another →
       IsObject tree object what → IsObject tree another that → what.ids ≡ that.ids → object ≡ another
   -- no file handle belongs to two objects of one mount
-  pub handles : (object another : ℕ) (what that : Object) (handle : CFileHandle) → IsObject tree object what → IsObject tree another that →
+  pub handles : (object another : ℕ) (what that : Object) (handle : CFileHandle) → IsObject tree object what →
+      IsObject tree another that →
       what.ids.mnt_id ≡ that.ids.mnt_id → what.handle ≡ Some handle → that.handle ≡ Some handle → object ≡ another
 
 -- the status tells the object's ids and kind

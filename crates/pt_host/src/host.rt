@@ -30,11 +30,14 @@ pub trait Host {
         ensures { does self.old seat.old (call_of op.now) result self.new seat.new };
 
     /// What every host keeps, told or not.
-    ghost promised: { (host : Self) (seat : HostSeat) (call : Call) (reply : HostReply) (after : Self) (seat_after : HostSeat) →
-        does host seat call reply after seat_after → IsPromised (faults host) seat call reply (faults after) seat_after };
+    ghost promised: { (host : Self) (seat : HostSeat) (call : Call) (reply : HostReply) (after : Self)
+        (seat_after : HostSeat) →
+        does host seat call reply after seat_after →
+        IsPromised (faults host) seat call reply (faults after) seat_after };
 
     /// A host that tells its tree goes on to, and its step is lawful.
-    ghost lawful: { (host : Self) (seat : HostSeat) (call : Call) (reply : HostReply) (after : Self) (seat_after : HostSeat) →
+    ghost lawful: { (host : Self) (seat : HostSeat) (call : Call) (reply : HostReply) (after : Self)
+        (seat_after : HostSeat) →
         does host seat call reply after seat_after → (before : Tree) → tree host ≡ Some before →
         ((later : Tree) × (tree after ≡ Some later) × LawfulStep before seat call reply later seat_after
         × LawfulContents before (contents host) call reply later (contents after)) };

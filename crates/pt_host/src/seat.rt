@@ -1,6 +1,8 @@
 ghost use Rattle.std.specs.Prelude.{◌≡◌, true, false, OnOk, IfErr};
 ghost use Rattle.pt_host.specs.Errno.{eperm};
-ghost use Rattle.pt_host.specs.Seat.{IsStartingSeat, may_set_euid, with_euid, may_set_egid, with_egid, may_set_groups, groups_errno, with_groups, may_raise, with_raised, with_dropped, with_umask, caps_as, leaves_id};
+ghost use Rattle.pt_host.specs.Seat.{IsStartingSeat, may_set_euid, with_euid, may_set_egid, with_egid};
+ghost use Rattle.pt_host.specs.Seat.{may_set_groups, groups_errno, with_groups, may_raise, with_raised, with_dropped};
+ghost use Rattle.pt_host.specs.Seat.{with_umask, caps_as, leaves_id};
 
 use crate::flags::Caps;
 use crate::groups::Groups;

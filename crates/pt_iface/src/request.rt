@@ -38,8 +38,9 @@ pub struct SetattrIn {
     pub mtimensec: u32,
 }
 
-/// What the guest asks: the messages of FUSE. Offsets, sizes and lengths are in bytes, modes are those of `inode(7)`, and the flags of what
-/// opens or writes those of `open(2)`. `kill` says that set-id bits are to be cleared as for a caller without CAP_FSETID.
+/// What the guest asks: the messages of FUSE. Offsets, sizes and lengths are in bytes, modes are those of `inode(7)`,
+/// and the flags of what opens or writes those of `open(2)`. `kill` says that set-id bits are to be cleared as for a
+/// caller without CAP_FSETID.
 #[derive(Debug, Drop)]
 pub enum Request {
     /// Begins a session, `FUSE_INIT`.

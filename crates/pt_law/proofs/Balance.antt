@@ -1,11 +1,16 @@
 -- What each event moves in and out of the tables.
-use Rattle.std.proofs.Common.{◌≡◌, inl, inr, ℕ, suc, false, ◌+◌, ◌*◌, List, [], ◌∷◌, length, refl, ap, ◌∙◌, arith, Option, Some, None, length-append}
+use Rattle.std.proofs.Common.{◌≡◌, inl, inr, ℕ, suc, false, ◌+◌, ◌*◌, List, [], ◌∷◌, length, refl, ap, ◌∙◌, arith}
+use Rattle.std.proofs.Common.{Option, Some, None, length-append}
 use Rattle.pt_host.specs.Words.{is, total}
 use Rattle.pt_session.specs.Change.{Change}
 use Rattle.pt_session.specs.Tables.{Tables, closing_of, closing_of_handle}
 use Rattle.pt_session.specs.declared.row.Row.{Row}
 use Rattle.pt_session.specs.declared.row.HandleRow.{HandleRow}
-use Rattle.pt_session.specs.Happens.{Happens, Changes, Ends, Dies, ForgetsOne, ForgetsAll, Unpins, ChangesHandle, EndsHandle, HandleDies, UnpinsHandle, NumbersDie, NumbersDie.{none as no_number, next as next_number}, HandlesDie, HandlesDie.{none as no_handle, next as next_handle}, Clears, new_row, with_row, agreed}
+use Rattle.pt_session.specs.Happens.{Happens, Changes, Ends, Dies, ForgetsOne, ForgetsAll, Unpins, ChangesHandle}
+use Rattle.pt_session.specs.Happens.{EndsHandle, HandleDies, UnpinsHandle, NumbersDie}
+use Rattle.pt_session.specs.Happens.{NumbersDie.{none as no_number, next as next_number}, HandlesDie}
+use Rattle.pt_session.specs.Happens.{HandlesDie.{none as no_handle, next as next_handle}, Clears, new_row, with_row}
+use Rattle.pt_session.specs.Happens.{agreed}
 use Rattle.pt_session.specs.declared.form.RowForm.{RowForm}
 use Rattle.pt_session.specs.declared.form.RowForm.TheVariants.{File}
 use Rattle.pt_session.specs.declared.form.Negotiated.{Negotiated}
@@ -18,7 +23,8 @@ use Rattle.pt_req.specs.Held.{closings_in}
 use Rattle.pt_req.specs.declared.act.ActReply.{ActReply}
 use Rattle.pt_req.specs.declared.act.ActReply.TheVariants.{Event}
 use Rattle.pt_law.specs.Ledger.{row_slot, closing_slot, form_slot, kept_slots, row_fd, handle_fd, closing_fd, kept_fds}
-use Rattle.pt_law.proofs.Flows.{fd_in, fd_out, slot_in, slot_out, pin_made, pin_ended, handle_pin_made, handle_pin_ended, closing_ended, row_pins, handle_pins, IsHonest}
+use Rattle.pt_law.proofs.Flows.{fd_in, fd_out, slot_in, slot_out, pin_made, pin_ended, handle_pin_made}
+use Rattle.pt_law.proofs.Flows.{handle_pin_ended, closing_ended, row_pins, handle_pins, IsHonest}
 use Rattle.pt_law.proofs.Lists.{total_takes, total_replaces, total_push, length_takes, length_replaces}
 
 pub closing_slot_of : (row : Row) → closing_slot (closing_of row) ≡ row_slot row
@@ -30,15 +36,20 @@ closing_slot_of row = go row.form
 pub closing_fd_of : (fd : ℕ) (row : Row) → closing_fd fd (closing_of row) ≡ row_fd fd row
 closing_fd_of fd row = go row.form
   where
-    go : (form : RowForm) → closing_fd fd (closing_of (record row { form = form })) ≡ row_fd fd (record row { form = form })
+    go : (form : RowForm) →
+        closing_fd fd (closing_of (record row { form = form })) ≡ row_fd fd (record row { form = form })
     go (File same) = refl
 
 -- what the tables have more after, and less: descriptors, slots, pins and closings
 pub record Moved (t after : Tables) (deed : Deed) (told : ActReply) : Type 0 where
   pub fds : (fd : ℕ) → kept_fds fd after + fd_out fd deed told ≡ kept_fds fd t + fd_in fd deed told
   pub slots : kept_slots after + slot_out deed told ≡ kept_slots t + slot_in deed told
-  pub pins : (serial : ℕ) → total (row_pins serial) after.rows + pin_ended serial deed told ≡ total (row_pins serial) t.rows + pin_made serial deed told
-  pub handle_pins : (serial : ℕ) → total (handle_pins serial) after.handles + handle_pin_ended serial deed told ≡ total (handle_pins serial) t.handles + handle_pin_made serial deed told
+  pub pins : (serial : ℕ) →
+      total (row_pins serial) after.rows + pin_ended serial deed told
+      ≡ total (row_pins serial) t.rows + pin_made serial deed told
+  pub handle_pins : (serial : ℕ) →
+      total (handle_pins serial) after.handles + handle_pin_ended serial deed told
+      ≡ total (handle_pins serial) t.handles + handle_pin_made serial deed told
   pub closings : length after.closing + closing_ended deed told ≡ length t.closing + closings_in deed told
 
 -- nothing goes in or out, and so many more are to be closed
@@ -50,14 +61,26 @@ record Sheds (t after : Tables) (n : ℕ) : Type 0 where
   closings : length after.closing ≡ length t.closing + n
 
 sheds_none : (t : Tables) → Sheds t t 0
-sheds_none t = record { fds = λ fd. refl; slots = refl; pins = λ serial. refl; handle_pins = λ serial. refl; closings = omega arith }
+sheds_none t = record {
+  fds = λ fd. refl;
+  slots = refl;
+  pins = λ serial. refl;
+  handle_pins = λ serial. refl;
+  closings = omega arith;
+}
 
 -- a row changes, and keeps form and pins
-recounts : (t : Tables) (row later : Row) (after : Tables) → later.form ≡ row.form → later.serial ≡ row.serial → later.pins ≡ row.pins → Changes t row later after → Sheds t after 0
+recounts : (t : Tables) (row later : Row) (after : Tables) → later.form ≡ row.form → later.serial ≡ row.serial →
+    later.pins ≡ row.pins → Changes t row later after → Sheds t after 0
 recounts t row later after form serial pins h = rw h.2 (record {
-  fds = λ fd. let a = total_replaces (row_fd fd) h.1 in let b : row_fd fd later ≡ row_fd fd row = ap (λ f. row_fd fd (record row { form = f })) form in omega (arith, a, b);
-  slots = let a = total_replaces row_slot h.1 in let b : row_slot later ≡ row_slot row = ap form_slot form in omega (arith, a, b);
-  pins = λ s. let a = total_replaces (row_pins s) h.1 in let b : row_pins s later ≡ row_pins s row = ap (λ n. is n s * later.pins) serial ∙ ap (λ n. is row.serial s * n) pins in omega (arith, a, b);
+  fds = λ fd. let a = total_replaces (row_fd fd) h.1 in
+      let b : row_fd fd later ≡ row_fd fd row = ap (λ f. row_fd fd (record row { form = f })) form in
+      omega (arith, a, b);
+  slots = let a = total_replaces row_slot h.1 in let b : row_slot later ≡ row_slot row = ap form_slot form in
+      omega (arith, a, b);
+  pins = λ s. let a = total_replaces (row_pins s) h.1 in
+      let b : row_pins s later ≡ row_pins s row = ap (λ n. is n s * later.pins) serial
+      ∙ ap (λ n. is row.serial s * n) pins in omega (arith, a, b);
   handle_pins = λ s. refl;
   closings = omega arith;
 })
@@ -72,8 +95,10 @@ record Shut (t after : Tables) (row : Row) : Type 0 where
 
 shuts : (t : Tables) (row : Row) (after : Tables) → Ends t row after → Shut t after row
 shuts t row after h = rw h.2 (record {
-  fds = λ fd. let a = total_takes (row_fd fd) h.1 in let b = total_push (closing_fd fd) t.closing (closing_of row) in let c = closing_fd_of fd row in omega (arith, a, b, c);
-  slots = let a = total_takes row_slot h.1 in let b = total_push closing_slot t.closing (closing_of row) in let c = closing_slot_of row in omega (arith, a, b, c);
+  fds = λ fd. let a = total_takes (row_fd fd) h.1 in let b = total_push (closing_fd fd) t.closing (closing_of row) in
+      let c = closing_fd_of fd row in omega (arith, a, b, c);
+  slots = let a = total_takes row_slot h.1 in let b = total_push closing_slot t.closing (closing_of row) in
+      let c = closing_slot_of row in omega (arith, a, b, c);
   pins = λ s. let a = total_takes (row_pins s) h.1 in omega (arith, a);
   handle_pins = λ s. refl;
   closings = let a = length-append t.closing (closing_of row ∷ []) in omega (arith, a);
@@ -85,16 +110,34 @@ no_pins serial row e = let a = ap (λ p. is row.serial serial * p) e in omega (a
 sheds_dies : (t : Tables) (row : Row) (n : ℕ) (after : Tables) → Dies t row n after → Sheds t after n
 sheds_dies t row n after (inl h) =
     let s = shuts t row after h.2 in
-    record { fds = s.fds; slots = s.slots; pins = λ k. let a = s.pins k in let b = no_pins k row h.0 in omega (arith, a, b); handle_pins = s.handle_pins; closings = let a = s.closings in omega (arith, a, h.1) }
+    record {
+      fds = s.fds;
+      slots = s.slots;
+      pins = λ k. let a = s.pins k in let b = no_pins k row h.0 in omega (arith, a, b);
+      handle_pins = s.handle_pins;
+      closings = let a = s.closings in omega (arith, a, h.1);
+    }
 sheds_dies t row n after (inr h) =
     let s = recounts t row _ after refl refl refl h.2 in
-    record { fds = s.fds; slots = s.slots; pins = s.pins; handle_pins = s.handle_pins; closings = let a = s.closings in omega (arith, a, h.1) }
+    record {
+      fds = s.fds;
+      slots = s.slots;
+      pins = s.pins;
+      handle_pins = s.handle_pins;
+      closings = let a = s.closings in omega (arith, a, h.1);
+    }
 
 sheds_one : (t : Tables) (number amount n : ℕ) (after : Tables) → ForgetsOne t number amount n after → Sheds t after n
 sheds_one t number amount n after (inl h) = rw (h.2, h.1) (sheds_none t)
 sheds_one t number amount n after (inr (row, has, inl h)) =
     let s = recounts t row _ after refl refl refl h.2 in
-    record { fds = s.fds; slots = s.slots; pins = s.pins; handle_pins = s.handle_pins; closings = let a = s.closings in omega (arith, a, h.1) }
+    record {
+      fds = s.fds;
+      slots = s.slots;
+      pins = s.pins;
+      handle_pins = s.handle_pins;
+      closings = let a = s.closings in omega (arith, a, h.1);
+    }
 sheds_one t number amount n after (inr (row, has, inr h)) = sheds_dies t row n after h.1
 
 sheds_all : (t : Tables) (list : List (ℕ × ℕ)) (n : ℕ) (after : Tables) → ForgetsAll t list n after → Sheds t after n
@@ -111,8 +154,10 @@ sheds_all t (pair ∷ pairs) n after h =
     }
 
 -- a deed that moves nothing but the closings it tells
-moved_by : (t after : Tables) (n : ℕ) (deed : Deed) (told : ActReply) → Sheds t after n → closings_in deed told ≡ n → closing_ended deed told ≡ 0 →
-    ((fd : ℕ) → fd_out fd deed told ≡ fd_in fd deed told) → slot_out deed told ≡ slot_in deed told → ((serial : ℕ) → pin_ended serial deed told ≡ pin_made serial deed told) →
+moved_by : (t after : Tables) (n : ℕ) (deed : Deed) (told : ActReply) → Sheds t after n → closings_in deed told ≡ n →
+    closing_ended deed told ≡ 0 →
+    ((fd : ℕ) → fd_out fd deed told ≡ fd_in fd deed told) → slot_out deed told ≡ slot_in deed told →
+    ((serial : ℕ) → pin_ended serial deed told ≡ pin_made serial deed told) →
     ((serial : ℕ) → handle_pin_ended serial deed told ≡ handle_pin_made serial deed told) → Moved t after deed told
 moved_by t after n deed told s c e f l p q = record {
   fds = λ fd. let a = s.fds fd in let b = f fd in omega (arith, a, b);
@@ -122,17 +167,23 @@ moved_by t after n deed told s c e f l p q = record {
   closings = let a = s.closings in omega (arith, a, c, e);
 }
 
-same : (t after : Tables) (deed : Deed) (told : ActReply) → after ≡ t → closings_in deed told ≡ 0 → closing_ended deed told ≡ 0 →
-    ((fd : ℕ) → fd_out fd deed told ≡ fd_in fd deed told) → slot_out deed told ≡ slot_in deed told → ((serial : ℕ) → pin_ended serial deed told ≡ pin_made serial deed told) →
+same : (t after : Tables) (deed : Deed) (told : ActReply) → after ≡ t → closings_in deed told ≡ 0 →
+    closing_ended deed told ≡ 0 →
+    ((fd : ℕ) → fd_out fd deed told ≡ fd_in fd deed told) → slot_out deed told ≡ slot_in deed told →
+    ((serial : ℕ) → pin_ended serial deed told ≡ pin_made serial deed told) →
     ((serial : ℕ) → handle_pin_ended serial deed told ≡ handle_pin_made serial deed told) → Moved t after deed told
 same t after deed told e = rw e (moved_by t t 0 deed told (sheds_none t))
 
-again : (t : Tables) (row : Row) (after : Tables) (deed : Deed) (told : ActReply) → Changes t row (record row { count = row.count + 1 }) after → closings_in deed told ≡ 0 → closing_ended deed told ≡ 0 →
-    ((fd : ℕ) → fd_out fd deed told ≡ fd_in fd deed told) → slot_out deed told ≡ slot_in deed told → ((serial : ℕ) → pin_ended serial deed told ≡ pin_made serial deed told) →
+again : (t : Tables) (row : Row) (after : Tables) (deed : Deed) (told : ActReply) →
+    Changes t row (record row { count = row.count + 1 }) after → closings_in deed told ≡ 0 →
+    closing_ended deed told ≡ 0 →
+    ((fd : ℕ) → fd_out fd deed told ≡ fd_in fd deed told) → slot_out deed told ≡ slot_in deed told →
+    ((serial : ℕ) → pin_ended serial deed told ≡ pin_made serial deed told) →
     ((serial : ℕ) → handle_pin_ended serial deed told ≡ handle_pin_made serial deed told) → Moved t after deed told
 again t row after deed told h = moved_by t after 0 deed told (recounts t row _ after refl refl refl h)
 
-unpinned : (t : Tables) (serial n : ℕ) (after : Tables) → Unpins t serial n after → Moved t after (Asks (change.Unpin serial)) (Event (reply.Done n))
+unpinned : (t : Tables) (serial n : ℕ) (after : Tables) → Unpins t serial n after →
+    Moved t after (Asks (change.Unpin serial)) (Event (reply.Done n))
 unpinned t serial n after (row, pins, s, p, inl h) =
     let m = shuts t row after h.3 in
     record {
@@ -140,7 +191,8 @@ unpinned t serial n after (row, pins, s, p, inl h) =
       slots = let a = m.slots in omega (arith, a);
       pins = λ k.
           let a = m.pins k in
-          let b : row_pins k row ≡ is serial k * 1 = ap (λ i. is i k * row.pins) s ∙ ap (λ i. is serial k * i) (omega (arith, p, h.1)) in
+          let b : row_pins k row ≡ is serial k * 1 =
+          ap (λ i. is i k * row.pins) s ∙ ap (λ i. is serial k * i) (omega (arith, p, h.1)) in
           omega (arith, a, b);
       handle_pins = λ k. let a = m.handle_pins k in omega (arith, a);
       closings = let a = m.closings in omega (arith, a, h.2);
@@ -159,9 +211,12 @@ unpinned t serial n after (row, pins, s, p, inr h) =
       closings = omega (arith, h.1);
     })
 
-inserts : (t : Tables) (number : ℕ) (form : RowForm) (row : Row) (deed : Deed) (told : ActReply) → row.form ≡ form → row.pins ≡ 0 → ((fd : ℕ) → fd_out fd deed told + row_fd fd row ≡ fd_in fd deed told) →
-    slot_out deed told + row_slot row ≡ slot_in deed told → ((serial : ℕ) → pin_ended serial deed told ≡ pin_made serial deed told) →
-    ((serial : ℕ) → handle_pin_ended serial deed told ≡ handle_pin_made serial deed told) → closings_in deed told ≡ 0 → closing_ended deed told ≡ 0 →
+inserts : (t : Tables) (number : ℕ) (form : RowForm) (row : Row) (deed : Deed) (told : ActReply) → row.form ≡ form →
+    row.pins ≡ 0 → ((fd : ℕ) → fd_out fd deed told + row_fd fd row ≡ fd_in fd deed told) →
+    slot_out deed told + row_slot row ≡ slot_in deed told →
+    ((serial : ℕ) → pin_ended serial deed told ≡ pin_made serial deed told) →
+    ((serial : ℕ) → handle_pin_ended serial deed told ≡ handle_pin_made serial deed told) →
+    closings_in deed told ≡ 0 → closing_ended deed told ≡ 0 →
     (negotiated : Option Negotiated) → Moved t (agreed negotiated (with_row t row)) deed told
 inserts t number form row deed told e z f s p q c d None = record {
   fds = λ fd. let a = f fd in omega (arith, a);
@@ -179,7 +234,8 @@ inserts t number form row deed told e z f s p q c d (Some n) = record {
 }
 
 -- the same of handles: a handle's row has a slot and a descriptor
-handle_recounts : (t : Tables) (row : HandleRow) (after : Tables) → ChangesHandle t row (record row { live = false }) after → Sheds t after 0
+handle_recounts : (t : Tables) (row : HandleRow) (after : Tables) →
+    ChangesHandle t row (record row { live = false }) after → Sheds t after 0
 handle_recounts t row after h = rw h.2 (record {
   fds = λ fd. let a = total_replaces (handle_fd fd) h.1 in omega (arith, a);
   slots = let a = length_replaces h.1 in omega (arith, a);
@@ -193,13 +249,16 @@ record HandleShut (t after : Tables) (row : HandleRow) : Type 0 where
   fds : (fd : ℕ) → kept_fds fd after ≡ kept_fds fd t
   slots : kept_slots after ≡ kept_slots t
   pins : (serial : ℕ) → total (row_pins serial) after.rows ≡ total (row_pins serial) t.rows
-  handle_pins : (serial : ℕ) → total (handle_pins serial) after.handles + handle_pins serial row ≡ total (handle_pins serial) t.handles
+  handle_pins : (serial : ℕ) →
+      total (handle_pins serial) after.handles + handle_pins serial row ≡ total (handle_pins serial) t.handles
   closings : length after.closing ≡ length t.closing + 1
 
 handle_shuts : (t : Tables) (row : HandleRow) (after : Tables) → EndsHandle t row after → HandleShut t after row
 handle_shuts t row after h = rw h.2 (record {
-  fds = λ fd. let a = total_takes (handle_fd fd) h.1 in let b = total_push (closing_fd fd) t.closing (closing_of_handle row) in omega (arith, a, b);
-  slots = let a = length_takes h.1 in let b = total_push closing_slot t.closing (closing_of_handle row) in omega (arith, a, b);
+  fds = λ fd. let a = total_takes (handle_fd fd) h.1 in
+      let b = total_push (closing_fd fd) t.closing (closing_of_handle row) in omega (arith, a, b);
+  slots = let a = length_takes h.1 in let b = total_push closing_slot t.closing (closing_of_handle row) in
+      omega (arith, a, b);
   pins = λ s. refl;
   handle_pins = λ s. let a = total_takes (handle_pins s) h.1 in omega (arith, a);
   closings = let a = length-append t.closing (closing_of_handle row ∷ []) in omega (arith, a);
@@ -217,7 +276,13 @@ sheds_handle t row n after (inl h) =
     }
 sheds_handle t row n after (inr h) =
     let s = handle_recounts t row after h.2 in
-    record { fds = s.fds; slots = s.slots; pins = s.pins; handle_pins = s.handle_pins; closings = let a = s.closings in omega (arith, a, h.1) }
+    record {
+      fds = s.fds;
+      slots = s.slots;
+      pins = s.pins;
+      handle_pins = s.handle_pins;
+      closings = let a = s.closings in omega (arith, a, h.1);
+    }
 
 sheds_both : (t mid after : Tables) (n m : ℕ) → Sheds t mid n → Sheds mid after m → Sheds t after (n + m)
 sheds_both t mid after n m a b = record {
@@ -230,18 +295,27 @@ sheds_both t mid after n m a b = record {
 
 sheds_numbers : (t : Tables) (n : ℕ) (after : Tables) → NumbersDie t n after → Sheds t after n
 sheds_numbers t n after (no_number h) = sheds_none t
-sheds_numbers t n after (next_number {mid = mid} {one = one} {more = rest} row l least d k) = sheds_both t mid after one rest (sheds_dies t row one mid d) (sheds_numbers mid rest after k)
+sheds_numbers t n after (next_number {mid = mid} {one = one} {more = rest} row l least d k) =
+    sheds_both t mid after one rest (sheds_dies t row one mid d) (sheds_numbers mid rest after k)
 
 sheds_handles : (t : Tables) (n : ℕ) (after : Tables) → HandlesDie t n after → Sheds t after n
 sheds_handles t n after (no_handle h) = sheds_none t
-sheds_handles t n after (next_handle {mid = mid} {one = one} {more = rest} row l least d k) = sheds_both t mid after one rest (sheds_handle t row one mid d) (sheds_handles mid rest after k)
+sheds_handles t n after (next_handle {mid = mid} {one = one} {more = rest} row l least d k) =
+    sheds_both t mid after one rest (sheds_handle t row one mid d) (sheds_handles mid rest after k)
 
 sheds_clears : (t : Tables) (era n : ℕ) (after : Tables) → Clears t era n after → Sheds t after n
 sheds_clears t era n after h =
     let s = sheds_both t h.0 h.1 h.2 h.3 (sheds_numbers t h.2 h.0 h.4) (sheds_handles h.0 h.3 h.1 h.5) in
-    rw h.8 (record { fds = s.fds; slots = s.slots; pins = s.pins; handle_pins = s.handle_pins; closings = let a = s.closings in omega (arith, a, h.6) })
+    rw h.8 (record {
+      fds = s.fds;
+      slots = s.slots;
+      pins = s.pins;
+      handle_pins = s.handle_pins;
+      closings = let a = s.closings in omega (arith, a, h.6);
+    })
 
-handle_unpinned : (t : Tables) (serial n : ℕ) (after : Tables) → UnpinsHandle t serial n after → Moved t after (Asks (change.UnpinHandle serial)) (Event (reply.Done n))
+handle_unpinned : (t : Tables) (serial n : ℕ) (after : Tables) → UnpinsHandle t serial n after →
+    Moved t after (Asks (change.UnpinHandle serial)) (Event (reply.Done n))
 handle_unpinned t serial n after (row, pins, s, p, inl h) =
     let m = handle_shuts t row after h.3 in
     record {
@@ -250,7 +324,8 @@ handle_unpinned t serial n after (row, pins, s, p, inl h) =
       pins = λ k. let a = m.pins k in omega (arith, a);
       handle_pins = λ k.
           let a = m.handle_pins k in
-          let b : handle_pins k row ≡ is serial k * 1 = ap (λ i. is i k * row.pins) s ∙ ap (λ i. is serial k * i) (omega (arith, p, h.1)) in
+          let b : handle_pins k row ≡ is serial k * 1 =
+          ap (λ i. is i k * row.pins) s ∙ ap (λ i. is serial k * i) (omega (arith, p, h.1)) in
           omega (arith, a, b);
       closings = let a = m.closings in omega (arith, a, h.2);
     }
@@ -268,8 +343,10 @@ handle_unpinned t serial n after (row, pins, s, p, inr h) =
       closings = omega (arith, h.1);
     })
 
-pub moved : (t : Tables) (e : Change) (r : EventReply) (after : Tables) → Happens t e r after → IsHonest (Asks e) (Event r) → Moved t after (Asks e) (Event r)
-moved t change.Begin (reply.Began era negotiated) after h a = same t after _ _ h.2 refl refl (λ _. refl) refl (λ _. refl) (λ _. refl)
+pub moved : (t : Tables) (e : Change) (r : EventReply) (after : Tables) → Happens t e r after →
+    IsHonest (Asks e) (Event r) → Moved t after (Asks e) (Event r)
+moved t change.Begin (reply.Began era negotiated) after h a =
+    same t after _ _ h.2 refl refl (λ _. refl) refl (λ _. refl) (λ _. refl)
 moved t (change.Resolve number) (reply.Resolved serial form ids mode) after h a =
     let c = h.7 in
     rw c.2 (record {
@@ -282,47 +359,111 @@ moved t (change.Resolve number) (reply.Resolved serial form ids mode) after h a 
       handle_pins = λ k. omega arith;
       closings = omega arith;
     })
-moved t (change.Resolve number) (reply.Refused NotLive) after h a = same t after _ _ h.1 refl refl (λ _. refl) refl (λ _. refl) (λ _. refl)
-moved t (change.Resolve number) (reply.Refused Last) after h a = same t after _ _ h.4 refl refl (λ _. refl) refl (λ _. refl) (λ _. refl)
+moved t (change.Resolve number) (reply.Refused NotLive) after h a =
+    same t after _ _ h.1 refl refl (λ _. refl) refl (λ _. refl) (λ _. refl)
+moved t (change.Resolve number) (reply.Refused Last) after h a =
+    same t after _ _ h.4 refl refl (λ _. refl) refl (λ _. refl) (λ _. refl)
 moved t (change.Unpin serial) (reply.Done closings) after h a = unpinned t serial closings after h
 moved t (change.Unpin serial) (reply.Refused NotLive) after h a = absurd a
-moved t (change.Claim era handle ids) (reply.Claimed number) after h a = again t h.1.0 after _ _ h.1.4 refl refl (λ _. refl) refl (λ _. refl) (λ _. refl)
-moved t (change.Claim era handle ids) reply.Absent after h a = same t after _ _ h.2 refl refl (λ _. refl) refl (λ _. refl) (λ _. refl)
-moved t (change.Claim era handle ids) (reply.Refused Overtaken) after h a = same t after _ _ h.1 refl refl (λ _. refl) refl (λ _. refl) (λ _. refl)
-moved t (change.Claim era handle ids) (reply.Refused Last) after h a = same t after _ _ h.2 refl refl (λ _. refl) refl (λ _. refl) (λ _. refl)
-moved t change.TakeFd reply.Taken after h a = rw h.2 (record { fds = λ fd. omega arith; slots = omega (arith, h.1); pins = λ _. omega arith; handle_pins = λ _. omega arith; closings = omega arith })
-moved t change.TakeFd (reply.Refused NoSlot) after h a = same t after _ _ h.1 refl refl (λ _. refl) refl (λ _. refl) (λ _. refl)
-moved t change.GiveFd reply.Given after h a = rw h.1 (record { fds = λ fd. omega arith; slots = omega arith; pins = λ _. omega arith; handle_pins = λ _. omega arith; closings = omega arith })
+moved t (change.Claim era handle ids) (reply.Claimed number) after h a =
+    again t h.1.0 after _ _ h.1.4 refl refl (λ _. refl) refl (λ _. refl) (λ _. refl)
+moved t (change.Claim era handle ids) reply.Absent after h a =
+    same t after _ _ h.2 refl refl (λ _. refl) refl (λ _. refl) (λ _. refl)
+moved t (change.Claim era handle ids) (reply.Refused Overtaken) after h a =
+    same t after _ _ h.1 refl refl (λ _. refl) refl (λ _. refl) (λ _. refl)
+moved t (change.Claim era handle ids) (reply.Refused Last) after h a =
+    same t after _ _ h.2 refl refl (λ _. refl) refl (λ _. refl) (λ _. refl)
+moved t change.TakeFd reply.Taken after h a =
+    rw h.2 (record {
+      fds = λ fd. omega arith;
+      slots = omega (arith, h.1);
+      pins = λ _. omega arith;
+      handle_pins = λ _. omega arith;
+      closings = omega arith;
+    })
+moved t change.TakeFd (reply.Refused NoSlot) after h a =
+    same t after _ _ h.1 refl refl (λ _. refl) refl (λ _. refl) (λ _. refl)
+moved t change.GiveFd reply.Given after h a =
+    rw h.1 (record {
+      fds = λ fd. omega arith;
+      slots = omega arith;
+      pins = λ _. omega arith;
+      handle_pins = λ _. omega arith;
+      closings = omega arith;
+    })
 moved t change.GiveFd (reply.Refused NotLive) after h a = absurd a
-moved t change.DrawNode (reply.Drawn number) after h a = rw h.2 (record { fds = λ fd. omega arith; slots = omega arith; pins = λ _. omega arith; handle_pins = λ _. omega arith; closings = omega arith })
-moved t change.DrawNode (reply.Refused Last) after h a = same t after _ _ h.1 refl refl (λ _. refl) refl (λ _. refl) (λ _. refl)
+moved t change.DrawNode (reply.Drawn number) after h a =
+    rw h.2 (record {
+      fds = λ fd. omega arith;
+      slots = omega arith;
+      pins = λ _. omega arith;
+      handle_pins = λ _. omega arith;
+      closings = omega arith;
+    })
+moved t change.DrawNode (reply.Refused Last) after h a =
+    same t after _ _ h.1 refl refl (λ _. refl) refl (λ _. refl) (λ _. refl)
 moved t (change.Insert era number form ids mode) (reply.Inserted given) after h a =
-    rw h.4 (inserts t number form (new_row t number form ids mode 1) (Asks (change.Insert era number form ids mode)) (Event (reply.Inserted given)) refl refl (λ _. omega arith) (omega arith) (λ _. refl) (λ _. refl) refl refl None)
-moved t (change.Insert era number form ids mode) (reply.Found given) after h a = again t h.1.0 after _ _ h.1.4 refl refl (λ _. refl) refl (λ _. refl) (λ _. refl)
-moved t (change.Insert era number form ids mode) (reply.Refused Overtaken) after h a = same t after _ _ h.1 refl refl (λ _. refl) refl (λ _. refl) (λ _. refl)
-moved t (change.Insert era number form ids mode) (reply.Refused Live) after h a = same t after _ _ h.3 refl refl (λ _. refl) refl (λ _. refl) (λ _. refl)
-moved t (change.Insert era number form ids mode) (reply.Refused Last) after h a = same t after _ _ h.2 refl refl (λ _. refl) refl (λ _. refl) (λ _. refl)
-moved t (change.Insert era number form ids mode) (reply.Refused Memory) after h a = same t after _ _ h.3 refl refl (λ _. refl) refl (λ _. refl) (λ _. refl)
+    rw h.4 (inserts t number form (new_row t number form ids mode 1) (Asks (change.Insert era number form ids mode))
+    (Event (reply.Inserted given)) refl refl (λ _. omega arith) (omega arith) (λ _. refl) (λ _.
+    refl) refl refl None)
+moved t (change.Insert era number form ids mode) (reply.Found given) after h a =
+    again t h.1.0 after _ _ h.1.4 refl refl (λ _. refl) refl (λ _. refl) (λ _. refl)
+moved t (change.Insert era number form ids mode) (reply.Refused Overtaken) after h a =
+    same t after _ _ h.1 refl refl (λ _. refl) refl (λ _. refl) (λ _. refl)
+moved t (change.Insert era number form ids mode) (reply.Refused Live) after h a =
+    same t after _ _ h.3 refl refl (λ _. refl) refl (λ _. refl) (λ _. refl)
+moved t (change.Insert era number form ids mode) (reply.Refused Last) after h a =
+    same t after _ _ h.2 refl refl (λ _. refl) refl (λ _. refl) (λ _. refl)
+moved t (change.Insert era number form ids mode) (reply.Refused Memory) after h a =
+    same t after _ _ h.3 refl refl (λ _. refl) refl (λ _. refl) (λ _. refl)
 moved t (change.InsertRoot era form ids mode negotiated) (reply.Inserted given) after h a =
-    rw h.4 (inserts t 1 form (new_row t 1 form ids mode 2) (Asks (change.InsertRoot era form ids mode negotiated)) (Event (reply.Inserted given)) refl refl (λ _. omega arith) (omega arith) (λ _. refl) (λ _. refl) refl refl negotiated)
-moved t (change.InsertRoot era form ids mode negotiated) (reply.Refused Overtaken) after h a = same t after _ _ h.1 refl refl (λ _. refl) refl (λ _. refl) (λ _. refl)
-moved t (change.InsertRoot era form ids mode negotiated) (reply.Refused Live) after h a = same t after _ _ h.2 refl refl (λ _. refl) refl (λ _. refl) (λ _. refl)
-moved t (change.InsertRoot era form ids mode negotiated) (reply.Refused Last) after h a = same t after _ _ h.3 refl refl (λ _. refl) refl (λ _. refl) (λ _. refl)
-moved t (change.InsertRoot era form ids mode negotiated) (reply.Refused Memory) after h a = same t after _ _ h.3 refl refl (λ _. refl) refl (λ _. refl) (λ _. refl)
+    rw h.4 (inserts t 1 form (new_row t 1 form ids mode 2) (Asks (change.InsertRoot era form ids mode negotiated))
+    (Event (reply.Inserted given)) refl refl (λ _. omega arith) (omega arith) (λ _. refl) (λ _.
+    refl) refl refl negotiated)
+moved t (change.InsertRoot era form ids mode negotiated) (reply.Refused Overtaken) after h a =
+    same t after _ _ h.1 refl refl (λ _. refl) refl (λ _. refl) (λ _. refl)
+moved t (change.InsertRoot era form ids mode negotiated) (reply.Refused Live) after h a =
+    same t after _ _ h.2 refl refl (λ _. refl) refl (λ _. refl) (λ _. refl)
+moved t (change.InsertRoot era form ids mode negotiated) (reply.Refused Last) after h a =
+    same t after _ _ h.3 refl refl (λ _. refl) refl (λ _. refl) (λ _. refl)
+moved t (change.InsertRoot era form ids mode negotiated) (reply.Refused Memory) after h a =
+    same t after _ _ h.3 refl refl (λ _. refl) refl (λ _. refl) (λ _. refl)
 moved t (change.Forget list) (reply.Done closings) after h a =
-    moved_by t after closings (Asks (change.Forget list)) (Event (reply.Done closings)) (sheds_all t list closings after h) refl refl (λ _. refl) refl (λ _. refl) (λ _. refl)
+    moved_by t after closings (Asks (change.Forget list)) (Event (reply.Done closings))
+    (sheds_all t list closings after h) refl refl (λ _. refl) refl (λ _. refl) (λ _. refl)
 moved t (change.GiveBack era number) (reply.Done closings) after h a =
-    moved_by t after closings (Asks (change.GiveBack era number)) (Event (reply.Done closings)) (sheds_one t number 1 closings after h.2) refl refl (λ _. refl) refl (λ _. refl) (λ _. refl)
-moved t (change.GiveBack era number) (reply.Refused Overtaken) after h a = same t after _ _ h.1 refl refl (λ _. refl) refl (λ _. refl) (λ _. refl)
-moved t (change.GiveBack era number) (reply.Refused NotLive) after h a = same t after _ _ h.2 refl refl (λ _. refl) refl (λ _. refl) (λ _. refl)
-moved t change.DrawHandle (reply.Drawn handle) after h a = rw h.2 (record { fds = λ fd. omega arith; slots = omega arith; pins = λ _. omega arith; handle_pins = λ _. omega arith; closings = omega arith })
-moved t change.DrawHandle (reply.Refused Last) after h a = same t after _ _ h.1 refl refl (λ _. refl) refl (λ _. refl) (λ _. refl)
+    moved_by t after closings (Asks (change.GiveBack era number)) (Event (reply.Done closings))
+    (sheds_one t number 1 closings after h.2) refl refl (λ _. refl) refl (λ _. refl) (λ _. refl)
+moved t (change.GiveBack era number) (reply.Refused Overtaken) after h a =
+    same t after _ _ h.1 refl refl (λ _. refl) refl (λ _. refl) (λ _. refl)
+moved t (change.GiveBack era number) (reply.Refused NotLive) after h a =
+    same t after _ _ h.2 refl refl (λ _. refl) refl (λ _. refl) (λ _. refl)
+moved t change.DrawHandle (reply.Drawn handle) after h a =
+    rw h.2 (record {
+      fds = λ fd. omega arith;
+      slots = omega arith;
+      pins = λ _. omega arith;
+      handle_pins = λ _. omega arith;
+      closings = omega arith;
+    })
+moved t change.DrawHandle (reply.Refused Last) after h a =
+    same t after _ _ h.1 refl refl (λ _. refl) refl (λ _. refl) (λ _. refl)
 moved t (change.InsertHandle era handle number fd) (reply.Inserted given) after h a =
-    rw h.4 (record { fds = λ k. omega arith; slots = omega arith; pins = λ _. omega arith; handle_pins = λ k. omega arith; closings = omega arith })
-moved t (change.InsertHandle era handle number fd) (reply.Refused Overtaken) after h a = same t after _ _ h.1 refl refl (λ _. refl) refl (λ _. refl) (λ _. refl)
-moved t (change.InsertHandle era handle number fd) (reply.Refused Live) after h a = same t after _ _ h.2 refl refl (λ _. refl) refl (λ _. refl) (λ _. refl)
-moved t (change.InsertHandle era handle number fd) (reply.Refused Last) after h a = same t after _ _ h.3 refl refl (λ _. refl) refl (λ _. refl) (λ _. refl)
-moved t (change.InsertHandle era handle number fd) (reply.Refused Memory) after h a = same t after _ _ h.3 refl refl (λ _. refl) refl (λ _. refl) (λ _. refl)
+    rw h.4 (record {
+      fds = λ k. omega arith;
+      slots = omega arith;
+      pins = λ _. omega arith;
+      handle_pins = λ k. omega arith;
+      closings = omega arith;
+    })
+moved t (change.InsertHandle era handle number fd) (reply.Refused Overtaken) after h a =
+    same t after _ _ h.1 refl refl (λ _. refl) refl (λ _. refl) (λ _. refl)
+moved t (change.InsertHandle era handle number fd) (reply.Refused Live) after h a =
+    same t after _ _ h.2 refl refl (λ _. refl) refl (λ _. refl) (λ _. refl)
+moved t (change.InsertHandle era handle number fd) (reply.Refused Last) after h a =
+    same t after _ _ h.3 refl refl (λ _. refl) refl (λ _. refl) (λ _. refl)
+moved t (change.InsertHandle era handle number fd) (reply.Refused Memory) after h a =
+    same t after _ _ h.3 refl refl (λ _. refl) refl (λ _. refl) (λ _. refl)
 moved t (change.PinHandle handle number) (reply.Pinned serial fd) after h a =
     let c = h.5 in
     rw c.2 (record {
@@ -335,16 +476,22 @@ moved t (change.PinHandle handle number) (reply.Pinned serial fd) after h a =
           omega (arith, x, y);
       closings = omega arith;
     })
-moved t (change.PinHandle handle number) (reply.Refused NotLive) after h a = same t after _ _ h.1 refl refl (λ _. refl) refl (λ _. refl) (λ _. refl)
-moved t (change.PinHandle handle number) (reply.Refused Last) after h a = same t after _ _ h.4 refl refl (λ _. refl) refl (λ _. refl) (λ _. refl)
+moved t (change.PinHandle handle number) (reply.Refused NotLive) after h a =
+    same t after _ _ h.1 refl refl (λ _. refl) refl (λ _. refl) (λ _. refl)
+moved t (change.PinHandle handle number) (reply.Refused Last) after h a =
+    same t after _ _ h.4 refl refl (λ _. refl) refl (λ _. refl) (λ _. refl)
 moved t (change.UnpinHandle serial) (reply.Done closings) after h a = handle_unpinned t serial closings after h
 moved t (change.UnpinHandle serial) (reply.Refused NotLive) after h a = absurd a
 moved t (change.Release handle number) (reply.Done closings) after h a =
-    moved_by t after closings (Asks (change.Release handle number)) (Event (reply.Done closings)) (sheds_handle t h.0 closings after h.2) refl refl (λ _. refl) refl (λ _. refl) (λ _. refl)
-moved t (change.Release handle number) (reply.Refused NotLive) after h a = same t after _ _ h.1 refl refl (λ _. refl) refl (λ _. refl) (λ _. refl)
+    moved_by t after closings (Asks (change.Release handle number)) (Event (reply.Done closings))
+    (sheds_handle t h.0 closings after h.2) refl refl (λ _. refl) refl (λ _. refl) (λ _. refl)
+moved t (change.Release handle number) (reply.Refused NotLive) after h a =
+    same t after _ _ h.1 refl refl (λ _. refl) refl (λ _. refl) (λ _. refl)
 moved t change.Clear (reply.Cleared era closings) after h a =
-    moved_by t after closings (Asks change.Clear) (Event (reply.Cleared era closings)) (sheds_clears t era closings after h.1) refl refl (λ _. refl) refl (λ _. refl) (λ _. refl)
-moved t change.Clear (reply.Refused Last) after h a = same t after _ _ h.1 refl refl (λ _. refl) refl (λ _. refl) (λ _. refl)
+    moved_by t after closings (Asks change.Clear) (Event (reply.Cleared era closings))
+    (sheds_clears t era closings after h.1) refl refl (λ _. refl) refl (λ _. refl) (λ _. refl)
+moved t change.Clear (reply.Refused Last) after h a =
+    same t after _ _ h.1 refl refl (λ _. refl) refl (λ _. refl) (λ _. refl)
 moved t change.TakeClosing (reply.Closing fd slot) after h a =
     rw h.2 (record {
       fds = λ k. let x = ap (total (closing_fd k)) h.1 in omega (arith, x);

@@ -19,7 +19,8 @@ use Rattle.pt_req.specs.declared.hold.Hold.{Hold}
 use Rattle.pt_law.specs.Discipline.{Job, MovesBy}
 use Rattle.pt_law.specs.World.{TablesGo}
 use Rattle.pt_law.specs.Ledger.{held_by, kept_slots}
-use Rattle.pt_law.proofs.Flows.{slot_held, pin_held, handle_pin_held, row_pins, handle_pins, closing_ended, IsHonest, called}
+use Rattle.pt_law.proofs.Flows.{slot_held, pin_held, handle_pin_held, row_pins, handle_pins, closing_ended, IsHonest}
+use Rattle.pt_law.proofs.Flows.{called}
 use Rattle.pt_law.proofs.Lists.{total_takes, le_sum_to, sum_to_set, is_same, is_apart}
 use Rattle.pt_law.proofs.Effects.{stays}
 use Rattle.pt_law.proofs.Balance.{moved}
@@ -35,29 +36,36 @@ pub record Books (bound : ℕ) (t : Tables) (js : ℕ → Job) : Type 0 where
 pub part : (w : Hold → ℕ) (js : ℕ → Job) (bound j : ℕ) → j < bound → total w (js j).holds ≤ held_by bound w js
 part w js bound j h = le_sum_to (λ i. total w (js i).holds) bound j h
 
-unpinned : (serial : ℕ) (rows : List Row) → Each (λ r. (r.serial ≡ serial) × (r.pins ≢ 0) → ⊥) rows → total (row_pins serial) rows ≡ 0
+unpinned : (serial : ℕ) (rows : List Row) → Each (λ r. (r.serial ≡ serial) × (r.pins ≢ 0) → ⊥) rows →
+    total (row_pins serial) rows ≡ 0
 unpinned serial [] h = refl
-unpinned serial (r ∷ rs) h = let k = unpinned serial rs h.1 in let a : row_pins serial r ≡ 0 = ⊎_elim same other (cases_eq r.serial serial) in omega (arith, k, a)
+unpinned serial (r ∷ rs) h = let k = unpinned serial rs h.1 in
+    let a : row_pins serial r ≡ 0 = ⊎_elim same other (cases_eq r.serial serial) in omega (arith, k, a)
   where
     same : r.serial ≡ serial → row_pins serial r ≡ 0
-    same e = ⊎_elim (λ (z : r.pins ≡ 0). let y = ap (λ p. is r.serial serial * p) z in omega (arith, y)) (λ (z : r.pins ≢ 0). absurd (h.0 (e, z))) (cases_eq r.pins 0)
+    same e = ⊎_elim (λ (z : r.pins ≡ 0). let y = ap (λ p. is r.serial serial * p) z in
+        omega (arith, y)) (λ (z : r.pins ≢ 0). absurd (h.0 (e, z))) (cases_eq r.pins 0)
 
     other : r.serial ≢ serial → row_pins serial r ≡ 0
     other e = let y = ap (λ i. i * r.pins) (is_apart r.serial serial e) in omega (arith, y)
 
-handle_unpinned : (serial : ℕ) (rows : List HandleRow) → Each (λ r. (r.serial ≡ serial) × (r.pins ≢ 0) → ⊥) rows → total (handle_pins serial) rows ≡ 0
+handle_unpinned : (serial : ℕ) (rows : List HandleRow) → Each (λ r. (r.serial ≡ serial) × (r.pins ≢ 0) → ⊥) rows →
+    total (handle_pins serial) rows ≡ 0
 handle_unpinned serial [] h = refl
-handle_unpinned serial (r ∷ rs) h = let k = handle_unpinned serial rs h.1 in let a : handle_pins serial r ≡ 0 = ⊎_elim same other (cases_eq r.serial serial) in omega (arith, k, a)
+handle_unpinned serial (r ∷ rs) h = let k = handle_unpinned serial rs h.1 in
+    let a : handle_pins serial r ≡ 0 = ⊎_elim same other (cases_eq r.serial serial) in omega (arith, k, a)
   where
     same : r.serial ≡ serial → handle_pins serial r ≡ 0
-    same e = ⊎_elim (λ (z : r.pins ≡ 0). let y = ap (λ p. is r.serial serial * p) z in omega (arith, y)) (λ (z : r.pins ≢ 0). absurd (h.0 (e, z))) (cases_eq r.pins 0)
+    same e = ⊎_elim (λ (z : r.pins ≡ 0). let y = ap (λ p. is r.serial serial * p) z in
+        omega (arith, y)) (λ (z : r.pins ≢ 0). absurd (h.0 (e, z))) (cases_eq r.pins 0)
 
     other : r.serial ≢ serial → handle_pins serial r ≡ 0
     other e = let y = ap (λ i. i * r.pins) (is_apart r.serial serial e) in omega (arith, y)
 
 -- what a job holds can be given back
-pub honest : (bound : ℕ) (t : Tables) (js : ℕ → Job) (j : ℕ) (e : Change) (r : EventReply) (t' : Tables) (after : Job) → j < bound → Books bound t js → Happens t e r t' →
-    MovesBy (js j) (Changes e) (Event r) after → IsHonest (Changes e) (Event r)
+pub honest : (bound : ℕ) (t : Tables) (js : ℕ →
+    Job) (j : ℕ) (e : Change) (r : EventReply) (t' : Tables) (after : Job) → j < bound → Books bound t js →
+    Happens t e r t' → MovesBy (js j) (Changes e) (Event r) after → IsHonest (Changes e) (Event r)
 honest bound t js j (change.Unpin row) (event.Refused NotLive) t' after lt b h m =
     let u = unpinned row t.rows h.0 in
     let p = b.pins row in
@@ -89,20 +97,28 @@ honest bound t js j change.TakeClosing (event.Refused _) t' after lt b h m = abs
 honest bound t js j _ _ t' after lt b h m = tt
 
 -- closings that come to be owed, and those that are taken
-owed_flow : (job : Job) (deed : Deed) (told : ActReply) (after : Job) → MovesBy job deed told after → after.owed + closing_ended deed told ≡ job.owed + closings_in deed told
+owed_flow : (job : Job) (deed : Deed) (told : ActReply) (after : Job) → MovesBy job deed told after →
+    after.owed + closing_ended deed told ≡ job.owed + closings_in deed told
 owed_flow job (Changes change.TakeClosing) told after m = omega (arith, m.1, m.2)
 owed_flow job deed told after m = let e = m.2 in omega (arith, e)
 
-pub keeps_books : (bound : ℕ) (t : Tables) (js : ℕ → Job) (j : ℕ) (deed : Deed) (told : ActReply) (t' : Tables) (after : Job) → j < bound → Agree t → Books bound t js → TablesGo t (Some deed) told t' →
+pub keeps_books : (bound : ℕ) (t : Tables) (js : ℕ →
+    Job) (j : ℕ) (deed : Deed) (told : ActReply) (t' : Tables) (after : Job) → j < bound → Agree t →
+    Books bound t js → TablesGo t (Some deed) told t' →
     MovesBy (js j) deed told after → Books bound t' (set_at j after js)
 keeps_books bound t js j (Calls a) told t' after lt agree b g m =
     let f = handed (js j).holds (Calls a) told after.holds m.0 in
     let o = owed_flow (js j) (Calls a) told after m in
     rw (called t a told t' g) (record {
-      slots = let x = b.slots in let y = f.slots in let z = sum_to_set (λ (k : Job). total slot_held k.holds) js j after bound lt in omega (arith, x, y, z);
-      pins = λ s. let x = b.pins s in let y = f.pins s in let z = sum_to_set (λ (k : Job). total (pin_held s) k.holds) js j after bound lt in omega (arith, x, y, z);
-      handle_pins = λ s. let x = b.handle_pins s in let y = f.handle_pins s in let z = sum_to_set (λ (k : Job). total (handle_pin_held s) k.holds) js j after bound lt in omega (arith, x, y, z);
-      closings = let x = b.closings in let z = sum_to_set (λ (k : Job). k.owed) js j after bound lt in omega (arith, x, o, z);
+      slots = let x = b.slots in let y = f.slots in
+          let z = sum_to_set (λ (k : Job). total slot_held k.holds) js j after bound lt in omega (arith, x, y, z);
+      pins = λ s. let x = b.pins s in let y = f.pins s in
+          let z = sum_to_set (λ (k : Job). total (pin_held s) k.holds) js j after bound lt in omega (arith, x, y, z);
+      handle_pins = λ s. let x = b.handle_pins s in let y = f.handle_pins s in
+          let z = sum_to_set (λ (k : Job). total (handle_pin_held s) k.holds) js j after bound lt in
+          omega (arith, x, y, z);
+      closings = let x = b.closings in let z = sum_to_set (λ (k : Job). k.owed) js j after bound lt in
+          omega (arith, x, o, z);
     })
 keeps_books bound t js j (Changes e) (Event r) t' after lt agree b g m =
     let f = handed (js j).holds (Changes e) (Event r) after.holds m.0 in
@@ -110,9 +126,14 @@ keeps_books bound t js j (Changes e) (Event r) t' after lt agree b g m =
     let v = moved t e r t' g (honest bound t js j e r t' after lt b g m) in
     let l = (stays t e r t' g).limit in
     record {
-      slots = let x = b.slots in let y = f.slots in let u = v.slots in let z = sum_to_set (λ (k : Job). total slot_held k.holds) js j after bound lt in omega (arith, x, y, z, u, l);
-      pins = λ s. let x = b.pins s in let y = f.pins s in let u = v.pins s in let z = sum_to_set (λ (k : Job). total (pin_held s) k.holds) js j after bound lt in omega (arith, x, y, z, u);
-      handle_pins = λ s. let x = b.handle_pins s in let y = f.handle_pins s in let u = v.handle_pins s in let z = sum_to_set (λ (k : Job). total (handle_pin_held s) k.holds) js j after bound lt in omega (arith, x, y, z, u);
-      closings = let x = b.closings in let u = v.closings in let z = sum_to_set (λ (k : Job). k.owed) js j after bound lt in omega (arith, x, o, z, u);
+      slots = let x = b.slots in let y = f.slots in let u = v.slots in
+          let z = sum_to_set (λ (k : Job). total slot_held k.holds) js j after bound lt in omega (arith, x, y, z, u, l);
+      pins = λ s. let x = b.pins s in let y = f.pins s in let u = v.pins s in
+          let z = sum_to_set (λ (k : Job). total (pin_held s) k.holds) js j after bound lt in omega (arith, x, y, z, u);
+      handle_pins = λ s. let x = b.handle_pins s in let y = f.handle_pins s in let u = v.handle_pins s in
+          let z = sum_to_set (λ (k : Job). total (handle_pin_held s) k.holds) js j after bound lt in
+          omega (arith, x, y, z, u);
+      closings = let x = b.closings in let u = v.closings in
+          let z = sum_to_set (λ (k : Job). k.owed) js j after bound lt in omega (arith, x, o, z, u);
     }
 keeps_books bound t js j (Changes e) told t' after lt agree b g m = absurd g

@@ -7,7 +7,9 @@ use Rattle.pt_law.specs.Entered.{turn_of}
 
 -- where a step of a job stands in a run
 abbrev pub Located : ℕ → List Turn → List Step → Step → List Step → Type 0
-Located j turns one step two = (front : List Turn) × (back : List Turn) × (turns ≡ front ++ turn_of j step ∷ back) × (steps_of j front ≡ one) × (steps_of j back ≡ two)
+Located j turns one step two =
+    (front : List Turn) × (back : List Turn) × (turns ≡ front ++ turn_of j step ∷ back) × (steps_of j front ≡ one)
+    × (steps_of j back ≡ two)
 
 pub steps_at : (j : ℕ) (s : Turn) (ss : List Turn) → s.job ≡ j → steps_of j (s ∷ ss) ≡ s.step ∷ steps_of j ss
 steps_at j s ss e = grind arith
@@ -22,36 +24,49 @@ heads : (a b : Step) (one two : List Step) → a ∷ one ≡ b ∷ two → (a �
 heads a b one two e = (cc, cc)
 
 -- the step is the first of those that are left, or stands behind it
-located_first : (j : ℕ) (s : Turn) (ss : List Turn) (step : Step) (two : List Step) → s.job ≡ j → (s.step ≡ step) × (steps_of j ss ≡ two) → Located j (s ∷ ss) [] step two
+located_first : (j : ℕ) (s : Turn) (ss : List Turn) (step : Step) (two : List Step) → s.job ≡ j →
+    (s.step ≡ step) × (steps_of j ss ≡ two) → Located j (s ∷ ss) [] step two
 located_first j s ss step two k h = ([], ss, ap (λ z. z ∷ ss) (same_turn s j step k h.0), refl, h.1)
 
-located_later : (j : ℕ) (s : Turn) (ss : List Turn) (first : Step) (one : List Step) (step : Step) (two : List Step) → s.job ≡ j → s.step ≡ first → Located j ss one step two → Located j (s ∷ ss) (first ∷ one) step two
-located_later j s ss first one step two k h l = (s ∷ l.0, l.1, ap (λ z. s ∷ z) l.2, steps_at j s l.0 k ∙ ap₂ (λ y z. y ∷ z) h l.3, l.4)
+located_later : (j : ℕ) (s : Turn) (ss : List Turn) (first : Step) (one : List Step) (step : Step) (two : List Step) →
+    s.job ≡ j → s.step ≡ first → Located j ss one step two → Located j (s ∷ ss) (first ∷ one) step two
+located_later j s ss first one step two k h l =
+    (s ∷ l.0, l.1, ap (λ z. s ∷ z) l.2, steps_at j s l.0 k ∙ ap₂ (λ y z. y ∷ z) h l.3, l.4)
 
-pub located : (j : ℕ) (turns : List Turn) (one : List Step) (step : Step) (two : List Step) → steps_of j turns ≡ one ++ step ∷ two → Located j turns one step two
+pub located : (j : ℕ) (turns : List Turn) (one : List Step) (step : Step) (two : List Step) →
+    steps_of j turns ≡ one ++ step ∷ two → Located j turns one step two
 located j [] [] step two e = absurd (cc)
 located j [] (b ∷ one) step two e = absurd (cc)
-located j (s ∷ ss) one step two e = ⊎_elim (mine one e (λ o. located j ss o step two)) (other (located j ss one step two)) (cases_eq s.job j)
+located j (s ∷ ss) one step two e =
+    ⊎_elim (mine one e (λ o. located j ss o step two)) (other (located j ss one step two)) (cases_eq s.job j)
   where
-    mine : (one : List Step) → steps_of j (s ∷ ss) ≡ one ++ step ∷ two → ((o : List Step) → steps_of j ss ≡ o ++ step ∷ two → Located j ss o step two) → s.job ≡ j → Located j (s ∷ ss) one step two
-    mine [] e r k = located_first j s ss step two k (heads s.step step (steps_of j ss) two (sym (steps_at j s ss k) ∙ e))
+    mine : (one : List Step) → steps_of j (s ∷ ss) ≡ one ++ step ∷ two →
+        ((o : List Step) → steps_of j ss ≡ o ++ step ∷ two → Located j ss o step two) → s.job ≡ j →
+        Located j (s ∷ ss) one step two
+    mine [] e r k = located_first j s ss step two k (heads s.step step (steps_of j ss) two (sym (steps_at j s ss k)
+        ∙ e))
     mine (b ∷ one) e r k =
         let h = heads s.step b (steps_of j ss) (one ++ step ∷ two) (sym (steps_at j s ss k) ∙ e) in
         located_later j s ss b one step two k h.0 (r one h.1)
 
-    other : (steps_of j ss ≡ one ++ step ∷ two → Located j ss one step two) → s.job ≢ j → Located j (s ∷ ss) one step two
-    other r k = let l = r (sym (steps_past j s ss k) ∙ e) in (s ∷ l.0, l.1, ap (λ z. s ∷ z) l.2, steps_past j s l.0 k ∙ l.3, l.4)
+    other : (steps_of j ss ≡ one ++ step ∷ two → Located j ss one step two) → s.job ≢ j →
+        Located j (s ∷ ss) one step two
+    other r k = let l = r (sym (steps_past j s ss k) ∙ e) in
+        (s ∷ l.0, l.1, ap (λ z. s ∷ z) l.2, steps_past j s l.0 k ∙ l.3, l.4)
 
-pub runs_split : (front back : List Turn) (w last : World) → Runs w (front ++ back) last → (mid : World) × Runs w front mid × Runs mid back last
+pub runs_split : (front back : List Turn) (w last : World) → Runs w (front ++ back) last →
+    (mid : World) × Runs w front mid × Runs mid back last
 runs_split [] back w last r = (w, refl, r)
 runs_split (s ∷ front) back w last r = let k = runs_split front back r.0 last r.2 in (k.0, (r.0, r.1, k.1), k.2)
 
-pub runs_append : (front back : List Turn) (w mid last : World) → Runs w front mid → Runs mid back last → Runs w (front ++ back) last
+pub runs_append : (front back : List Turn) (w mid last : World) → Runs w front mid → Runs mid back last →
+    Runs w (front ++ back) last
 runs_append [] back w mid last r k = subst (λ z. Runs z back last) r k
 runs_append (s ∷ front) back w mid last r k = (r.0, r.1, runs_append front back r.0 mid last r.2 k)
 
 -- the run, cut at three steps of a job of which the first two follow one another
-pub record Cut (start end : World) (turns : List Turn) (j : ℕ) (first : List Step) (a b c : Step) (middle : List Step) : Type 0 where
+pub record Cut (start end : World) (turns : List Turn) (j : ℕ) (first : List Step) (a b c : Step)
+    (middle : List Step) : Type 0 where
   pub before : List Turn
   pub between : List Turn
   pub later : List Turn
@@ -74,7 +89,8 @@ pub record Cut (start end : World) (turns : List Turn) (j : ℕ) (first : List S
   pub own1 : steps_of j between ≡ []
   pub own2 : steps_of j later ≡ middle
 
-pub cut : (start end : World) (turns : List Turn) (j : ℕ) (first : List Step) (a b c : Step) (middle rest : List Step) → Runs start turns end → steps_of j turns ≡ first ++ a ∷ (b ∷ (middle ++ c ∷ rest)) →
+pub cut : (start end : World) (turns : List Turn) (j : ℕ) (first : List Step) (a b c : Step)
+    (middle rest : List Step) → Runs start turns end → steps_of j turns ≡ first ++ a ∷ (b ∷ (middle ++ c ∷ rest)) →
     Cut start end turns j first a b c middle
 cut start end turns j first a b c middle rest r e =
     let x = located j turns first a (b ∷ (middle ++ c ∷ rest)) e in

@@ -1,5 +1,6 @@
 -- An edit's job: one step, which moves nothing that a job holds, and an answer that is its reply's.
-use Rattle.std.proofs.Common.{◌≡◌, ◌⊎◌, ◌↔◌, inl, inr, List, [], ◌∷◌, refl, sym, ap, subst, ◌∙◌, length, Option, Some, None}
+use Rattle.std.proofs.Common.{◌≡◌, ◌⊎◌, ◌↔◌, inl, inr, List, [], ◌∷◌, refl, sym, ap, subst, ◌∙◌, length, Option, Some}
+use Rattle.std.proofs.Common.{None}
 use Rattle.pt_host.specs.declared.edit.Edit.{Edit}
 use Rattle.pt_host.specs.declared.ids.Errno.{Errno}
 use Rattle.pt_host.specs.declared.op.KeptHostOp.TheVariants as call
@@ -17,7 +18,8 @@ use Rattle.pt_req.specs.declared.finish.Finish.TheVariants as finish
 use Rattle.pt_law.specs.Cause.{EditCauses}
 use Rattle.pt_law.specs.Discipline.{idle, blank, entry_holds, at_job, MovesBy, MovesIf, Ends}
 
-pub edit_one : (edit : Edit) (steps : List Step) (end : Finish) → Belongs (edit_grammar edit) steps end → length steps ≡ 1
+pub edit_one : (edit : Edit) (steps : List Step) (end : Finish) → Belongs (edit_grammar edit) steps end →
+    length steps ≡ 1
 edit_one edit [] end b = absurd b
 edit_one edit (step ∷ []) end b = refl
 edit_one edit (step ∷ more ∷ steps) end b = absurd b.1
@@ -29,14 +31,18 @@ holds_none (Host (host.Refused errno)) = refl
 holds_none (Host (host.Fault errno)) = refl
 holds_none told = refl
 
-moves_none : (edit : Edit) (made : Option Deed) (told : ActReply) → IsStepOf (Calls (call.Edit edit)) made told → MovesIf idle made told idle
+moves_none : (edit : Edit) (made : Option Deed) (told : ActReply) → IsStepOf (Calls (call.Edit edit)) made told →
+    MovesIf idle made told idle
 moves_none edit (Some same) NoCopy i = subst (λ (d : Deed). MovesBy idle d NoCopy idle) (sym i.0) (refl, tt, refl, refl)
-moves_none edit (Some same) (Host told) i = subst (λ (d : Deed). MovesBy idle d (Host told) idle) (sym i) (refl, tt, refl, refl)
-moves_none edit (Some same) (Event told) i = subst (λ (d : Deed). MovesBy idle d (Event told) idle) (sym i) (refl, tt, refl, refl)
+moves_none edit (Some same) (Host told) i =
+    subst (λ (d : Deed). MovesBy idle d (Host told) idle) (sym i) (refl, tt, refl, refl)
+moves_none edit (Some same) (Event told) i =
+    subst (λ (d : Deed). MovesBy idle d (Event told) idle) (sym i) (refl, tt, refl, refl)
 moves_none edit None NoCopy i = refl
 moves_none edit None told i = absurd i
 
-pub edit_ended : (edit : Edit) (steps : List Step) (end : Finish) → Belongs (edit_grammar edit) steps end → Ends idle steps end
+pub edit_ended : (edit : Edit) (steps : List Step) (end : Finish) → Belongs (edit_grammar edit) steps end →
+    Ends idle steps end
 edit_ended edit [] end b = absurd b
 edit_ended edit (step ∷ []) end b =
     let holds = ap (entry_holds 0) b.1 ∙ holds_none step.reply in
@@ -44,7 +50,8 @@ edit_ended edit (step ∷ []) end b =
 edit_ended edit (step ∷ more ∷ steps) end b = absurd b.1
 
 -- what could not be copied, or lacked memory, refuses nothing
-refused_by : (told : ActReply) (errno : Errno) → edit_answer told ≡ answer.EditRefused errno → (told ≡ Host (host.Refused errno)) ⊎ (told ≡ Host (host.Fault errno))
+refused_by : (told : ActReply) (errno : Errno) → edit_answer told ≡ answer.EditRefused errno →
+    (told ≡ Host (host.Refused errno)) ⊎ (told ≡ Host (host.Fault errno))
 refused_by (Host (host.Ok value)) errno e = absurd (cc)
 refused_by (Host (host.Refused same)) errno e = inl (cc)
 refused_by (Host (host.Fault same)) errno e = inr (cc)
@@ -52,7 +59,9 @@ refused_by (Host host.NoMemory) errno e = absurd (cc)
 refused_by (Event told) errno e = absurd (cc)
 refused_by NoCopy errno e = absurd (cc)
 
-made_by : (edit : Edit) (made : Option Deed) (told : ActReply) (errno : Errno) → IsStepOf (Calls (call.Edit edit)) made told → (told ≡ Host (host.Refused errno)) ⊎ (told ≡ Host (host.Fault errno)) → made ≡ Some (Calls (call.Edit edit))
+made_by : (edit : Edit) (made : Option Deed) (told : ActReply) (errno : Errno) →
+    IsStepOf (Calls (call.Edit edit)) made told →
+    (told ≡ Host (host.Refused errno)) ⊎ (told ≡ Host (host.Fault errno)) → made ≡ Some (Calls (call.Edit edit))
 made_by edit (Some same) NoCopy errno i (inl e) = absurd (cc)
 made_by edit (Some same) NoCopy errno i (inr e) = absurd (cc)
 made_by edit (Some same) (Host told) errno i e = ap (λ (d : Deed). Some d) i
@@ -61,14 +70,17 @@ made_by edit None NoCopy errno i (inl e) = absurd (cc)
 made_by edit None NoCopy errno i (inr e) = absurd (cc)
 made_by edit None told errno i e = absurd i
 
-refuses : (told : ActReply) (errno : Errno) → (told ≡ Host (host.Refused errno)) ⊎ (told ≡ Host (host.Fault errno)) → edit_answer told ≡ answer.EditRefused errno
+refuses : (told : ActReply) (errno : Errno) → (told ≡ Host (host.Refused errno)) ⊎ (told ≡ Host (host.Fault errno)) →
+    edit_answer told ≡ answer.EditRefused errno
 refuses told errno (inl e) = ap edit_answer e
 refuses told errno (inr e) = ap edit_answer e
 
 answered_as : (last : Answer) (given : Answer) → finish.Answer last ≡ finish.Answer given → last ≡ given
 answered_as last given e = cc
 
-pub edit_caused : (edit : Edit) (steps : List Step) (last : Answer) → Belongs (edit_grammar edit) steps (finish.Answer last) → (errno : Errno) → (last ≡ answer.EditRefused errno) ↔ EditCauses edit steps errno
+pub edit_caused : (edit : Edit) (steps : List Step) (last : Answer) →
+    Belongs (edit_grammar edit) steps (finish.Answer last) → (errno : Errno) →
+    (last ≡ answer.EditRefused errno) ↔ EditCauses edit steps errno
 edit_caused edit [] last b errno = absurd b
 edit_caused edit (step ∷ []) last b errno =
     let is : last ≡ edit_answer step.reply = answered_as last (edit_answer step.reply) b.1 in (
@@ -78,7 +90,8 @@ edit_caused edit (step ∷ []) last b errno =
 edit_caused edit (step ∷ more ∷ steps) last b errno = absurd b.1
 
 -- an edit that is left out has no step
-pub edit_cut : (edit : Edit) (steps : List Step) (end : Finish) → BelongsCut (edit_grammar edit) steps end → (steps ≡ []) × (end ≡ finish.Answer answer.Cut)
+pub edit_cut : (edit : Edit) (steps : List Step) (end : Finish) → BelongsCut (edit_grammar edit) steps end →
+    (steps ≡ []) × (end ≡ finish.Answer answer.Cut)
 edit_cut edit [] end b = (refl, b)
 edit_cut edit (step ∷ steps) end (inl b) = absurd b
 edit_cut edit (step ∷ steps) end (inr b) = absurd b.1

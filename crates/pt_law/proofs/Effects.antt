@@ -6,9 +6,14 @@ use Rattle.pt_session.specs.Change.{Change}
 use Rattle.pt_session.specs.Tables.{Tables, closing_of, Agree}
 use Rattle.pt_session.specs.declared.row.Row.{Row}
 use Rattle.pt_session.specs.declared.row.HandleRow.{HandleRow}
-use Rattle.pt_session.specs.Happens.{Happens, Changes, Ends, Dies, ForgetsOne, ForgetsAll, Unpins, GivesAgain, ChangesHandle, EndsHandle, HandleDies, UnpinsHandle, NumbersDie, NumbersDie.{none as no_number, next as next_number}, HandlesDie, HandlesDie.{none as no_handle, next as next_handle}, Clears}
+use Rattle.pt_session.specs.Happens.{Happens, Changes, Ends, Dies, ForgetsOne, ForgetsAll, Unpins, GivesAgain}
+use Rattle.pt_session.specs.Happens.{ChangesHandle, EndsHandle, HandleDies, UnpinsHandle, NumbersDie}
+use Rattle.pt_session.specs.Happens.{NumbersDie.{none as no_number, next as next_number}, HandlesDie}
+use Rattle.pt_session.specs.Happens.{HandlesDie.{none as no_handle, next as next_handle}, Clears}
 use Rattle.pt_session.specs.Store.{IsLaterHandle}
-use Rattle.pt_session.specs.Effect.{Effect, Effect.{nothing as unchanged, counted, changed as row_changed, ended as row_ended, added, drawn, handle_changed, handle_ended, handle_added, begun, shut}, Effects, Effects.{none, more}}
+use Rattle.pt_session.specs.Effect.{Effect}
+use Rattle.pt_session.specs.Effect.{Effect.{nothing as unchanged, counted, changed as row_changed, ended as row_ended, added, drawn, handle_changed, handle_ended, handle_added, begun, shut}}
+use Rattle.pt_session.specs.Effect.{Effects, Effects.{none, more}}
 use Rattle.pt_session.specs.declared.event.KeptEvent.TheVariants as change
 use Rattle.pt_session.specs.declared.reply.EventRefusal.TheVariants.{NotLive, Overtaken, NoSlot, Last, Live, Memory}
 use Rattle.pt_session.specs.declared.reply.EventReply.{EventReply}
@@ -28,10 +33,13 @@ pub record Later (row later : Row) : Type 0 where
 pub data Kept : Tables → Tables → Type 0 where
   nothing : {tables after : Tables} → after ≡ tables → Kept tables after
   other : {tables after : Tables} → after.rows ≡ tables.rows → after.handles ≡ tables.handles → Kept tables after
-  handled : {tables after : Tables} (was now : HandleRow) (handles : List HandleRow) → Replaces was now tables.handles handles → IsLaterHandle was now →
+  handled : {tables after : Tables} (was now : HandleRow) (handles : List HandleRow) →
+      Replaces was now tables.handles handles → IsLaterHandle was now →
       after ≡ record tables { handles = handles } → Kept tables after
-  handle_gone : {tables after : Tables} (row : HandleRow) (handles : List HandleRow) → Takes row tables.handles handles → after.rows ≡ tables.rows → after.handles ≡ handles → Kept tables after
-  changed : {tables after : Tables} (row later : Row) (rows : List Row) → Replaces row later tables.rows rows → Later row later → after ≡ record tables { rows = rows } → Kept tables after
+  handle_gone : {tables after : Tables} (row : HandleRow) (handles : List HandleRow) →
+      Takes row tables.handles handles → after.rows ≡ tables.rows → after.handles ≡ handles → Kept tables after
+  changed : {tables after : Tables} (row later : Row) (rows : List Row) → Replaces row later tables.rows rows →
+      Later row later → after ≡ record tables { rows = rows } → Kept tables after
   ended : {tables after : Tables} (row : Row) (rows : List Row) → Takes row tables.rows rows →
       after ≡ record tables { rows = rows; closing = tables.closing ++ closing_of row ∷ [] } → Kept tables after
   both : {tables mid after : Tables} → Kept tables mid → Kept mid after → Kept tables after
@@ -53,10 +61,12 @@ dies t row n after (inl h) = ends t row after h.2
 dies t row n after (inr h) = changes t row _ after h.2 (dead_row row)
 
 -- the row's count changes, its pins stay
-recounted : (t : Tables) (row : Row) (count : ℕ) (after : Tables) → Changes t row (record row { count = count }) after → Kept t after
+recounted : (t : Tables) (row : Row) (count : ℕ) (after : Tables) →
+    Changes t row (record row { count = count }) after → Kept t after
 recounted t row count after h = changes t row _ after h (same_row row count row.pins)
 
-repinned : (t : Tables) (row : Row) (pins : ℕ) (after : Tables) → Changes t row (record row { pins = pins }) after → Kept t after
+repinned : (t : Tables) (row : Row) (pins : ℕ) (after : Tables) → Changes t row (record row { pins = pins }) after →
+    Kept t after
 repinned t row pins after h = changes t row _ after h (same_row row row.count pins)
 
 forgets_one : (t : Tables) (number amount n : ℕ) (after : Tables) → ForgetsOne t number amount n after → Kept t after
@@ -66,7 +76,8 @@ forgets_one t number amount n after (inr (row, has, inr h)) = dies t row n after
 
 forgets_all : (t : Tables) (list : List (ℕ × ℕ)) (n : ℕ) (after : Tables) → ForgetsAll t list n after → Kept t after
 forgets_all t [] n after h = nothing h.1
-forgets_all t (pair ∷ pairs) n after h = both (forgets_one t pair.0 pair.1 h.1 h.0 h.3) (forgets_all h.0 pairs h.2 after h.4)
+forgets_all t (pair ∷ pairs) n after h =
+    both (forgets_one t pair.0 pair.1 h.1 h.0 h.3) (forgets_all h.0 pairs h.2 after h.4)
 
 unpins : (t : Tables) (serial n : ℕ) (after : Tables) → Unpins t serial n after → Kept t after
 unpins t serial n after (row, pins, s, p, inl h) = ends t row after h.3
@@ -77,14 +88,25 @@ given_again t ids number after h = recounted t h.0 (h.0.count + 1) after h.4
 
 -- handles are no rows of numbers
 handle_ends : (t : Tables) (row : HandleRow) (after : Tables) → EndsHandle t row after → Kept t after
-handle_ends t row after h = handle_gone row h.0 h.1 (ap (λ (z : Tables). z.rows) h.2) (ap (λ (z : Tables). z.handles) h.2)
+handle_ends t row after h =
+    handle_gone row h.0 h.1 (ap (λ (z : Tables). z.rows) h.2) (ap (λ (z : Tables). z.handles) h.2)
 
-handle_repinned : (t : Tables) (row : HandleRow) (pins : ℕ) (after : Tables) → ChangesHandle t row (record row { pins = pins }) after → Kept t after
-handle_repinned t row pins after h = handled row _ h.0 h.1 (record { serial = refl; handle = refl; number = refl; fd = refl; live = λ l. l }) h.2
+handle_repinned : (t : Tables) (row : HandleRow) (pins : ℕ) (after : Tables) →
+    ChangesHandle t row (record row { pins = pins }) after → Kept t after
+handle_repinned t row pins after h =
+    handled row _ h.0 h.1 (record { serial = refl; handle = refl; number = refl; fd = refl; live = λ l. l }) h.2
 
 handle_dies : (t : Tables) (row : HandleRow) (n : ℕ) (after : Tables) → HandleDies t row n after → Kept t after
 handle_dies t row n after (inl h) = handle_ends t row after h.2
-handle_dies t row n after (inr h) = handled row _ h.2.0 h.2.1 (record { serial = refl; handle = refl; number = refl; fd = refl; live = λ l. absurd (cc) }) h.2.2
+handle_dies t row n after (inr h) =
+    handled row _ h.2.0 h.2.1 (record {
+      serial = refl;
+      handle = refl;
+      number = refl;
+      fd = refl;
+      live =
+          λ l. absurd (cc);
+    }) h.2.2
 
 unpins_handle : (t : Tables) (serial n : ℕ) (after : Tables) → UnpinsHandle t serial n after → Kept t after
 unpins_handle t serial n after (row, pins, s, p, inl h) = handle_ends t row after h.3
@@ -92,14 +114,18 @@ unpins_handle t serial n after (row, pins, s, p, inr h) = handle_repinned t row 
 
 numbers_die : (t : Tables) (n : ℕ) (after : Tables) → NumbersDie t n after → Kept t after
 numbers_die t n after (no_number h) = nothing refl
-numbers_die t n after (next_number {mid = mid} {one = one} {more = rest} row l least d k) = both (dies t row one mid d) (numbers_die mid rest after k)
+numbers_die t n after (next_number {mid = mid} {one = one} {more = rest} row l least d k) =
+    both (dies t row one mid d) (numbers_die mid rest after k)
 
 handles_die : (t : Tables) (n : ℕ) (after : Tables) → HandlesDie t n after → Kept t after
 handles_die t n after (no_handle h) = nothing refl
-handles_die t n after (next_handle {mid = mid} {one = one} {more = rest} row l least d k) = both (handle_dies t row one mid d) (handles_die mid rest after k)
+handles_die t n after (next_handle {mid = mid} {one = one} {more = rest} row l least d k) =
+    both (handle_dies t row one mid d) (handles_die mid rest after k)
 
 clears : (t : Tables) (era n : ℕ) (after : Tables) → Clears t era n after → Kept t after
-clears t era n after h = both (numbers_die t h.2 h.0 h.4) (both (handles_die h.0 h.3 h.1 h.5) (other (ap (λ (z : Tables). z.rows) h.8) (ap (λ (z : Tables). z.handles) h.8)))
+clears t era n after h =
+    both (numbers_die t h.2 h.0 h.4)
+    (both (handles_die h.0 h.3 h.1 h.5) (other (ap (λ (z : Tables). z.rows) h.8) (ap (λ (z : Tables). z.handles) h.8)))
 
 -- the event inserts no row
 abbrev pub KeepsRows : Change → EventReply → Type 0
@@ -108,7 +134,8 @@ KeepsRows (change.InsertRoot era form ids mode negotiated) (reply.Inserted given
 KeepsRows (change.InsertHandle era handle number fd) (reply.Inserted given) = ⊥
 KeepsRows asked told = Unit {0}
 
-pub kept : (t : Tables) (e : Change) (r : EventReply) (after : Tables) → KeepsRows e r → Happens t e r after → Kept t after
+pub kept : (t : Tables) (e : Change) (r : EventReply) (after : Tables) → KeepsRows e r → Happens t e r after →
+    Kept t after
 kept t change.Begin (reply.Began era negotiated) after k h = nothing h.2
 kept t (change.Resolve number) (reply.Resolved serial form ids mode) after k h =
     repinned t h.0 (h.0.pins + 1) after h.7
@@ -120,11 +147,14 @@ kept t (change.Claim era handle ids) (reply.Claimed number) after k h = given_ag
 kept t (change.Claim era handle ids) reply.Absent after k h = nothing h.2
 kept t (change.Claim era handle ids) (reply.Refused Overtaken) after k h = nothing h.1
 kept t (change.Claim era handle ids) (reply.Refused Last) after k h = nothing h.2
-kept t change.TakeFd reply.Taken after k h = other (ap (λ (z : Tables). z.rows) h.2) (ap (λ (z : Tables). z.handles) h.2)
+kept t change.TakeFd reply.Taken after k h =
+    other (ap (λ (z : Tables). z.rows) h.2) (ap (λ (z : Tables). z.handles) h.2)
 kept t change.TakeFd (reply.Refused NoSlot) after k h = nothing h.1
-kept t change.GiveFd reply.Given after k h = other (ap (λ (z : Tables). z.rows) h.1) (ap (λ (z : Tables). z.handles) h.1)
+kept t change.GiveFd reply.Given after k h =
+    other (ap (λ (z : Tables). z.rows) h.1) (ap (λ (z : Tables). z.handles) h.1)
 kept t change.GiveFd (reply.Refused NotLive) after k h = nothing h.1
-kept t change.DrawNode (reply.Drawn number) after k h = other (ap (λ (z : Tables). z.rows) h.2) (ap (λ (z : Tables). z.handles) h.2)
+kept t change.DrawNode (reply.Drawn number) after k h =
+    other (ap (λ (z : Tables). z.rows) h.2) (ap (λ (z : Tables). z.handles) h.2)
 kept t change.DrawNode (reply.Refused Last) after k h = nothing h.1
 kept t (change.Insert era number form ids mode) (reply.Inserted given) after k h = absurd k
 kept t (change.Insert era number form ids mode) (reply.Found given) after k h = given_again t ids given after h.1
@@ -141,16 +171,19 @@ kept t (change.Forget list) (reply.Done closings) after k h = forgets_all t list
 kept t (change.GiveBack era number) (reply.Done closings) after k h = forgets_one t number 1 closings after h.2
 kept t (change.GiveBack era number) (reply.Refused Overtaken) after k h = nothing h.1
 kept t (change.GiveBack era number) (reply.Refused NotLive) after k h = nothing h.2
-kept t change.TakeClosing (reply.Closing fd slot) after k h = other (ap (λ (z : Tables). z.rows) h.2) (ap (λ (z : Tables). z.handles) h.2)
+kept t change.TakeClosing (reply.Closing fd slot) after k h =
+    other (ap (λ (z : Tables). z.rows) h.2) (ap (λ (z : Tables). z.handles) h.2)
 kept t change.TakeClosing (reply.Refused NotLive) after k h = nothing h.1
-kept t change.DrawHandle (reply.Drawn handle) after k h = other (ap (λ (z : Tables). z.rows) h.2) (ap (λ (z : Tables). z.handles) h.2)
+kept t change.DrawHandle (reply.Drawn handle) after k h =
+    other (ap (λ (z : Tables). z.rows) h.2) (ap (λ (z : Tables). z.handles) h.2)
 kept t change.DrawHandle (reply.Refused Last) after k h = nothing h.1
 kept t (change.InsertHandle era handle number fd) (reply.Inserted given) after k h = absurd k
 kept t (change.InsertHandle era handle number fd) (reply.Refused Overtaken) after k h = nothing h.1
 kept t (change.InsertHandle era handle number fd) (reply.Refused Live) after k h = nothing h.2
 kept t (change.InsertHandle era handle number fd) (reply.Refused Last) after k h = nothing h.3
 kept t (change.InsertHandle era handle number fd) (reply.Refused Memory) after k h = nothing h.3
-kept t (change.PinHandle handle number) (reply.Pinned serial fd) after k h = handle_repinned t h.0 (h.0.pins + 1) after h.5
+kept t (change.PinHandle handle number) (reply.Pinned serial fd) after k h =
+    handle_repinned t h.0 (h.0.pins + 1) after h.5
 kept t (change.PinHandle handle number) (reply.Refused NotLive) after k h = nothing h.1
 kept t (change.PinHandle handle number) (reply.Refused Last) after k h = nothing h.4
 kept t (change.UnpinHandle serial) (reply.Done closings) after k h = unpins_handle t serial closings after h
@@ -174,20 +207,36 @@ pub record Stays (t after : Tables) : Type 0 where
   pub rows : t.next_row ≤ after.next_row
 
 pub stays_same : (t : Tables) → Stays t t
-stays_same t = record { era = omega arith; limit = refl; numbers = omega arith; handles = omega arith; rows = omega arith }
+stays_same t = record {
+  era = omega arith;
+  limit = refl;
+  numbers = omega arith;
+  handles = omega arith;
+  rows = omega arith;
+}
 
 stays_effect : {t after : Tables} → Effect t after → Stays t after
 stays_effect {t = t} (unchanged e) = rw e (stays_same t)
-stays_effect {t = t} (counted slots next l m e) = rw e (record { era = omega arith; limit = refl; numbers = m; handles = omega arith; rows = omega arith })
-stays_effect {t = t} (row_changed was now rows c l s e) = rw e (record { era = omega arith; limit = refl; numbers = omega arith; handles = omega arith; rows = omega arith })
-stays_effect {t = t} (row_ended row rows c e) = rw e (record { era = omega arith; limit = refl; numbers = omega arith; handles = omega arith; rows = omega arith })
-stays_effect {t = t} (added row negotiated n e) = rw e (record { era = omega arith; limit = refl; numbers = omega arith; handles = omega arith; rows = omega arith })
-stays_effect {t = t} (drawn next l e) = rw e (record { era = omega arith; limit = refl; numbers = omega arith; handles = l; rows = omega arith })
-stays_effect {t = t} (handle_changed was now handles c l s e) = rw e (record { era = omega arith; limit = refl; numbers = omega arith; handles = omega arith; rows = omega arith })
-stays_effect {t = t} (handle_ended row handles c e) = rw e (record { era = omega arith; limit = refl; numbers = omega arith; handles = omega arith; rows = omega arith })
-stays_effect {t = t} (handle_added row n e) = rw e (record { era = omega arith; limit = refl; numbers = omega arith; handles = omega arith; rows = omega arith })
-stays_effect {t = t} (begun era negotiated l e) = rw e (record { era = l; limit = refl; numbers = omega arith; handles = omega arith; rows = omega arith })
-stays_effect {t = t} (shut first closing c e) = rw e (record { era = omega arith; limit = refl; numbers = omega arith; handles = omega arith; rows = omega arith })
+stays_effect {t = t} (counted slots next l m e) =
+    rw e (record { era = omega arith; limit = refl; numbers = m; handles = omega arith; rows = omega arith })
+stays_effect {t = t} (row_changed was now rows c l s e) =
+    rw e (record { era = omega arith; limit = refl; numbers = omega arith; handles = omega arith; rows = omega arith })
+stays_effect {t = t} (row_ended row rows c e) =
+    rw e (record { era = omega arith; limit = refl; numbers = omega arith; handles = omega arith; rows = omega arith })
+stays_effect {t = t} (added row negotiated n e) =
+    rw e (record { era = omega arith; limit = refl; numbers = omega arith; handles = omega arith; rows = omega arith })
+stays_effect {t = t} (drawn next l e) =
+    rw e (record { era = omega arith; limit = refl; numbers = omega arith; handles = l; rows = omega arith })
+stays_effect {t = t} (handle_changed was now handles c l s e) =
+    rw e (record { era = omega arith; limit = refl; numbers = omega arith; handles = omega arith; rows = omega arith })
+stays_effect {t = t} (handle_ended row handles c e) =
+    rw e (record { era = omega arith; limit = refl; numbers = omega arith; handles = omega arith; rows = omega arith })
+stays_effect {t = t} (handle_added row n e) =
+    rw e (record { era = omega arith; limit = refl; numbers = omega arith; handles = omega arith; rows = omega arith })
+stays_effect {t = t} (begun era negotiated l e) =
+    rw e (record { era = l; limit = refl; numbers = omega arith; handles = omega arith; rows = omega arith })
+stays_effect {t = t} (shut first closing c e) =
+    rw e (record { era = omega arith; limit = refl; numbers = omega arith; handles = omega arith; rows = omega arith })
 
 pub stays_on : {t mid after : Tables} → Stays t mid → Stays mid after → Stays t after
 stays_on a b = record {
@@ -206,7 +255,8 @@ pub stays : (t : Tables) (e : Change) (r : EventReply) (after : Tables) → Happ
 stays t e r after h = stays_effects (effects t after e r h)
 
 -- what holds of each row, and stays with it, holds after
-pub rows_kept : (P : Row → Type 0) {t after : Tables} → ((row later : Row) → Later row later → P row → P later) → Kept t after → Each P t.rows → Each P after.rows
+pub rows_kept : (P : Row → Type 0) {t after : Tables} → ((row later : Row) → Later row later → P row → P later) →
+    Kept t after → Each P t.rows → Each P after.rows
 rows_kept P f (nothing e) h = rw e h
 rows_kept P f (other e g) h = rw e h
 rows_kept P f (handled was now handles c l e) h = rw e h
@@ -215,7 +265,9 @@ rows_kept P f (changed row later rows c l e) h = rw e (each_replaces P c (f row 
 rows_kept P f (ended row rows c e) h = rw e (each_takes P c h)
 rows_kept P f (both k l) h = rows_kept P f l (rows_kept P f k h)
 
-pub handles_kept : (P : HandleRow → Type 0) {t after : Tables} → ((was now : HandleRow) → IsLaterHandle was now → P was → P now) → Kept t after → Each P t.handles → Each P after.handles
+pub handles_kept : (P : HandleRow → Type 0) {t after : Tables} →
+    ((was now : HandleRow) → IsLaterHandle was now → P was → P now) → Kept t after → Each P t.handles →
+    Each P after.handles
 handles_kept P f (nothing e) h = rw e h
 handles_kept P f (other e g) h = rw g h
 handles_kept P f (changed row later rows c l e) h = rw e h

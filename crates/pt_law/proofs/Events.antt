@@ -1,5 +1,6 @@
 -- Events keep what is known of open descriptors.
-use Rattle.std.proofs.Common.{◌≡◌, ◌≢◌, ℕ, ◌<◌, ◌≤◌, List, [], ◌∷◌, ◌++◌, true, false, refl, sym, ap, ◌∙◌, arith, Option, Some, None}
+use Rattle.std.proofs.Common.{◌≡◌, ◌≢◌, ℕ, ◌<◌, ◌≤◌, List, [], ◌∷◌, ◌++◌, true, false, refl, sym, ap, ◌∙◌, arith}
+use Rattle.std.proofs.Common.{Option, Some, None}
 use Rattle.pt_host.specs.Words.{Each, set_at}
 use Rattle.pt_host.specs.Tree.{Tree}
 use Rattle.pt_host.specs.declared.ids.Fd.{Fd}
@@ -25,20 +26,24 @@ use Rattle.pt_req.specs.declared.hold.Taken.TheVariants as taken
 use Rattle.pt_law.specs.Discipline.{Job, Notes, Resolution, notes_after, Shifts, MovesBy, IsTold}
 use Rattle.pt_law.specs.World.{Past, settled, settled_by}
 use Rattle.pt_law.proofs.Flows.{fd_in}
-use Rattle.pt_law.proofs.Lists.{is_apart, set_at_same, set_at_other, each_replaced, each_takes, each_taken, each_map, each_both, each_put}
+use Rattle.pt_law.proofs.Lists.{is_apart, set_at_same, set_at_other, each_replaced, each_takes, each_taken, each_map}
+use Rattle.pt_law.proofs.Lists.{each_both, each_put}
 use Rattle.pt_law.proofs.Effects.{kept, rows_kept, handles_kept, stays}
 use Rattle.pt_law.proofs.Holding.{handed}
-use Rattle.pt_law.proofs.Knowing.{Shows, RowOpen, HandleOpen, ToldRight, PinRight, NotedOpen, NotedRight, Knowing, one_object, row_later, unless_apart}
+use Rattle.pt_law.proofs.Knowing.{Shows, RowOpen, HandleOpen, ToldRight, PinRight, NotedOpen, NotedRight, Knowing}
+use Rattle.pt_law.proofs.Knowing.{one_object, row_later, unless_apart}
 
 -- what `Stat` told of a noted descriptor is told of the object that its opening answered
-pub told_noted : (tree : Tree) (fd : Fd) (ids : ObjIds) (was : Option ℕ) (holds : List Hold) → Each (ToldRight tree) holds → IsTold holds fd ids → NotedOpen tree fd was holds →
+pub told_noted : (tree : Tree) (fd : Fd) (ids : ObjIds) (was : Option ℕ) (holds : List Hold) →
+    Each (ToldRight tree) holds → IsTold holds fd ids → NotedOpen tree fd was holds →
     (object : ℕ) × Shows tree fd object ids × (was ≡ Some object)
 told_noted tree fd ids was holds told t n =
     let a = each_taken (ToldRight tree) t.1 told in
     (a.0, a.1, n.judged ∙ ap Some (one_object tree fd n.object a.0 n.open_on a.1.open_on))
 
 -- a row comes
-row_other : (tree : Tree) (past : Past) (next number given : ℕ) (fd : Fd) (o : Option ℕ) (row : Row) → given ≡ number → IsSoundRow next row → (HasNumber number row → ⊥) → RowOpen tree past row →
+row_other : (tree : Tree) (past : Past) (next number given : ℕ) (fd : Fd) (o : Option ℕ) (row : Row) →
+    given ≡ number → IsSoundRow next row → (HasNumber number row → ⊥) → RowOpen tree past row →
     RowOpen tree (settled past given next fd o) row
 row_other tree past next number given fd o row e s free h =
     let apart : row.serial ≢ next = (λ k. let d = s.drawn in absurd (omega (arith, d, k))) in
@@ -50,14 +55,20 @@ row_other tree past next number given fd o row e s free h =
       kept_by = set_at_other past.fds next (Some fd) row.serial apart ∙ h.kept_by;
     }
 
-rows_other : (tree : Tree) (past : Past) (next number given : ℕ) (fd : Fd) (o : Option ℕ) (rows : List Row) → given ≡ number → Each (IsSoundRow next) rows → Each (λ row. HasNumber number row → ⊥) rows →
+rows_other : (tree : Tree) (past : Past) (next number given : ℕ) (fd : Fd) (o : Option ℕ) (rows : List Row) →
+    given ≡ number → Each (IsSoundRow next) rows → Each (λ row. HasNumber number row → ⊥) rows →
     Each (RowOpen tree past) rows → Each (RowOpen tree (settled past given next fd o)) rows
 rows_other tree past next number given fd o [] e s free h = tt
-rows_other tree past next number given fd o (row ∷ rows) e s free h = (row_other tree past next number given fd o row e s.0 free.0 h.0, rows_other tree past next number given fd o rows e s.1 free.1 h.1)
+rows_other tree past next number given fd o (row ∷ rows) e s free h = (
+  row_other tree past next number given fd o row e s.0 free.0 h.0,
+  rows_other tree past next number given fd o rows e s.1 free.1 h.1,
+)
 
-row_comes : (tree : Tree) (past : Past) (t : Tables) (number given : ℕ) (form : RowForm) (ids : ObjIds) (mode count : ℕ) (o : Option ℕ) → Agree t → given ≡ number → IsFree t number ids →
+row_comes : (tree : Tree) (past : Past) (t : Tables) (number given : ℕ) (form : RowForm) (ids : ObjIds)
+    (mode count : ℕ) (o : Option ℕ) → Agree t → given ≡ number → IsFree t number ids →
     (object : ℕ) × Shows tree (fd_of form) object ids × (o ≡ Some object) → Each (RowOpen tree past) t.rows →
-    Each (RowOpen tree (settled past given t.next_row (fd_of form) o)) (with_row t (new_row t number form ids mode count)).rows
+    Each (RowOpen tree (settled past given t.next_row (fd_of form) o))
+    (with_row t (new_row t number form ids mode count)).rows
 row_comes tree past t number given form ids mode count o a e free h rows = (
   record {
     object = h.0;
@@ -69,7 +80,8 @@ row_comes tree past t number given form ids mode count o a e free h rows = (
   rows_other tree past t.next_row number given (fd_of form) o t.rows e a.sound free.1 rows,
 )
 
-agreed_rows : (P : Row → Type 0) (negotiated : Option Negotiated) (t : Tables) → Each P t.rows → Each P (agreed negotiated t).rows
+agreed_rows : (P : Row → Type 0) (negotiated : Option Negotiated) (t : Tables) → Each P t.rows →
+    Each P (agreed negotiated t).rows
 agreed_rows P None t h = h
 agreed_rows P (Some n) t h = h
 
@@ -77,7 +89,8 @@ agreed_rows P (Some n) t h = h
 abbrev with_place : Past → ℕ → Fd → Option ℕ → Past
 with_place past next fd o = record past { objects = set_at next o past.objects; fds = set_at next (Some fd) past.fds }
 
-row_place : (tree : Tree) (past : Past) (next : ℕ) (fd : Fd) (o : Option ℕ) (row : Row) → IsSoundRow next row → RowOpen tree past row → RowOpen tree (with_place past next fd o) row
+row_place : (tree : Tree) (past : Past) (next : ℕ) (fd : Fd) (o : Option ℕ) (row : Row) → IsSoundRow next row →
+    RowOpen tree past row → RowOpen tree (with_place past next fd o) row
 row_place tree past next fd o row s h =
     let apart : row.serial ≢ next = (λ k. let d = s.drawn in absurd (omega (arith, d, k))) in
     record {
@@ -89,7 +102,8 @@ row_place tree past next fd o row s h =
     }
 
 -- the serial of a row that comes is no handle's
-handle_place : (tree : Tree) (past later : Past) (next : ℕ) (fd : Fd) (o : Option ℕ) (row : HandleRow) → later.objects ≡ set_at next o past.objects → later.fds ≡ set_at next (Some fd) past.fds → IsSoundHandle next row →
+handle_place : (tree : Tree) (past later : Past) (next : ℕ) (fd : Fd) (o : Option ℕ) (row : HandleRow) →
+    later.objects ≡ set_at next o past.objects → later.fds ≡ set_at next (Some fd) past.fds → IsSoundHandle next row →
     HandleOpen tree past row → HandleOpen tree later row
 handle_place tree past later next fd o row e f s h =
     let apart : row.serial ≢ next = (λ k. let d = s.drawn in absurd (omega (arith, d, k))) in
@@ -100,11 +114,15 @@ handle_place tree past later next fd o row e f s h =
       kept_by = ap (λ z. z row.serial) f ∙ set_at_other past.fds next (Some fd) row.serial apart ∙ h.kept_by;
     }
 
-handles_place : (tree : Tree) (past later : Past) (next : ℕ) (fd : Fd) (o : Option ℕ) (rows : List HandleRow) → later.objects ≡ set_at next o past.objects → later.fds ≡ set_at next (Some fd) past.fds → Each (IsSoundHandle next) rows →
-    Each (HandleOpen tree past) rows → Each (HandleOpen tree later) rows
-handles_place tree past later next fd o rows e f s h = each_both (IsSoundHandle next) (HandleOpen tree past) (HandleOpen tree later) rows (λ row t k. handle_place tree past later next fd o row e f t k) s h
+handles_place : (tree : Tree) (past later : Past) (next : ℕ) (fd : Fd) (o : Option ℕ) (rows : List HandleRow) →
+    later.objects ≡ set_at next o past.objects → later.fds ≡ set_at next (Some fd) past.fds →
+    Each (IsSoundHandle next) rows → Each (HandleOpen tree past) rows → Each (HandleOpen tree later) rows
+handles_place tree past later next fd o rows e f s h =
+    each_both (IsSoundHandle next) (HandleOpen tree past) (HandleOpen tree later) rows (λ row t k.
+    handle_place tree past later next fd o row e f t k) s h
 
-handle_later : (tree : Tree) (past : Past) (was now : HandleRow) → IsLaterHandle was now → HandleOpen tree past was → HandleOpen tree past now
+handle_later : (tree : Tree) (past : Past) (was now : HandleRow) → IsLaterHandle was now → HandleOpen tree past was →
+    HandleOpen tree past now
 handle_later tree past was now l h = record {
   object = h.object;
   open_on = rw l.fd h.open_on;
@@ -116,38 +134,67 @@ agreed_handles : (negotiated : Option Negotiated) (t : Tables) → (agreed negot
 agreed_handles None t = refl
 agreed_handles (Some n) t = refl
 
-pub handles_event : (tree : Tree) (past : Past) (t : Tables) (j : ℕ) (job after : Job) (e : Change) (r : EventReply) (t' : Tables) → Agree t → Happens t e r t' → MovesBy job (Changes e) (Event r) after →
-    Knowing tree t.next_row past j job → Each (HandleOpen tree past) t.handles → Each (HandleOpen tree (settled_by past j (Changes e) (Event r) t.next_row tree)) t'.handles
+pub handles_event : (tree : Tree) (past : Past) (t : Tables) (j : ℕ) (job after : Job) (e : Change) (r : EventReply)
+    (t' : Tables) → Agree t → Happens t e r t' → MovesBy job (Changes e) (Event r) after →
+    Knowing tree t.next_row past j job → Each (HandleOpen tree past) t.handles →
+    Each (HandleOpen tree (settled_by past j (Changes e) (Event r) t.next_row tree)) t'.handles
 handles_event tree past t j job after (change.Insert era number form ids mode) (event.Inserted given) t' a h m k rows =
-    rw h.4 (handles_place tree past (settled past given t.next_row (fd_of form) (past.latest j)) t.next_row (fd_of form) (past.latest j) t.handles refl refl a.sound_handles rows)
-handles_event tree past t j job after (change.InsertRoot era form ids mode negotiated) (event.Inserted given) t' a h m k rows =
-    rw (ap (λ (z : Tables). z.handles) h.4 ∙ agreed_handles negotiated (with_row t (new_row t 1 form ids mode 2))) (handles_place tree past (settled past given t.next_row (fd_of form) (past.roots j)) t.next_row (fd_of form) (past.roots j) t.handles refl refl a.sound_handles rows)
-handles_event tree past t j job after (change.InsertHandle era handle number fd) (event.Inserted given) t' a h m k rows =
+    rw h.4 (handles_place tree past (settled past given t.next_row (fd_of form) (past.latest j)) t.next_row
+    (fd_of form) (past.latest j) t.handles refl refl a.sound_handles rows)
+handles_event tree past t j job after (change.InsertRoot era form ids mode negotiated)
+    (event.Inserted given) t' a h m k rows =
+    rw (ap (λ (z : Tables). z.handles) h.4
+    ∙ agreed_handles negotiated (with_row t (new_row t 1 form ids mode 2)))
+    (handles_place tree past (settled past given t.next_row (fd_of form) (past.roots j)) t.next_row (fd_of form)
+    (past.roots j) t.handles refl refl a.sound_handles rows)
+handles_event tree past t j job after (change.InsertHandle era handle number fd)
+    (event.Inserted given) t' a h m k rows =
     let fit = m.1 in
     let n = k.reopened (record { number = number; row = fit.0 }) fit.3 fd fit.4 in
     rw h.4 (
-      record { object = n.object; open_on = n.open_on; placed = set_at_same past.objects t.next_row (past.resolved j number) ∙ n.judged; kept_by = set_at_same past.fds t.next_row (Some fd) },
-      handles_place tree past (with_place past t.next_row fd (past.resolved j number)) t.next_row fd (past.resolved j number) t.handles refl refl a.sound_handles rows,
+      record {
+        object = n.object;
+        open_on = n.open_on;
+        placed = set_at_same past.objects t.next_row (past.resolved j number) ∙ n.judged;
+        kept_by = set_at_same past.fds t.next_row (Some fd);
+      },
+      handles_place tree past (with_place past t.next_row fd (past.resolved j number)) t.next_row fd
+          (past.resolved j number) t.handles refl refl a.sound_handles rows,
     )
-handles_event tree past t j job after (change.Resolve number) (event.Resolved serial form ids mode) t' a h m k rows = handles_kept (HandleOpen tree past) (handle_later tree past) (kept t (change.Resolve number) (event.Resolved serial form ids mode) t' tt h) rows
-handles_event tree past t j job after e r t' a h m k rows = handles_kept (HandleOpen tree past) (handle_later tree past) (kept t e r t' tt h) rows
+handles_event tree past t j job after (change.Resolve number) (event.Resolved serial form ids mode) t' a h m k rows =
+    handles_kept (HandleOpen tree past) (handle_later tree past)
+    (kept t (change.Resolve number) (event.Resolved serial form ids mode) t' tt h) rows
+handles_event tree past t j job after e r t' a h m k rows =
+    handles_kept (HandleOpen tree past) (handle_later tree past) (kept t e r t' tt h) rows
 
-pub rows_event : (tree : Tree) (past : Past) (t : Tables) (j : ℕ) (job after : Job) (e : Change) (r : EventReply) (t' : Tables) → Agree t → Happens t e r t' → MovesBy job (Changes e) (Event r) after →
-    Knowing tree t.next_row past j job → Each (RowOpen tree past) t.rows → Each (RowOpen tree (settled_by past j (Changes e) (Event r) t.next_row tree)) t'.rows
+pub rows_event : (tree : Tree) (past : Past) (t : Tables) (j : ℕ) (job after : Job) (e : Change) (r : EventReply)
+    (t' : Tables) → Agree t → Happens t e r t' → MovesBy job (Changes e) (Event r) after →
+    Knowing tree t.next_row past j job → Each (RowOpen tree past) t.rows →
+    Each (RowOpen tree (settled_by past j (Changes e) (Event r) t.next_row tree)) t'.rows
 rows_event tree past t j job after (change.Insert era number form ids mode) (event.Inserted given) t' a h m k rows =
     let fit = m.1 in
-    rw h.4 (row_comes tree past t number given form ids mode 1 (past.latest j) a h.3 h.1 (told_noted tree (fd_of form) ids (past.latest j) job.holds k.told fit.3 (k.latest (fd_of form) fit.1)) rows)
-rows_event tree past t j job after (change.InsertRoot era form ids mode negotiated) (event.Inserted given) t' a h m k rows =
+    rw h.4 (row_comes tree past t number given form ids mode 1 (past.latest j) a h.3 h.1
+    (told_noted tree (fd_of form) ids (past.latest j) job.holds k.told fit.3 (k.latest (fd_of form) fit.1)) rows)
+rows_event tree past t j job after (change.InsertRoot era form ids mode negotiated)
+    (event.Inserted given) t' a h m k rows =
     let fit = m.1 in
-    rw h.4 (agreed_rows (RowOpen tree (settled past given t.next_row (fd_of form) (past.roots j))) negotiated (with_row t (new_row t 1 form ids mode 2))
-    (row_comes tree past t 1 given form ids mode 2 (past.roots j) a h.3 h.1 (told_noted tree (fd_of form) ids (past.roots j) job.holds k.told fit.2 (k.root (fd_of form) fit.1)) rows))
+    rw h.4 (agreed_rows (RowOpen tree (settled past given t.next_row (fd_of form) (past.roots j))) negotiated
+    (with_row t (new_row t 1 form ids mode 2))
+    (row_comes tree past t 1 given form ids mode 2 (past.roots j) a h.3 h.1
+    (told_noted tree (fd_of form) ids (past.roots j) job.holds k.told fit.2 (k.root (fd_of form) fit.1)) rows))
 rows_event tree past t j job after (change.InsertHandle era handle number fd) (event.Inserted given) t' a h m k rows =
-    rw h.4 (each_both (IsSoundRow t.next_row) (RowOpen tree past) (RowOpen tree (with_place past t.next_row fd (past.resolved j number))) t.rows (λ row s o. row_place tree past t.next_row fd (past.resolved j number) row s o) a.sound rows)
-rows_event tree past t j job after (change.Resolve number) (event.Resolved serial form ids mode) t' a h m k rows = rows_kept (RowOpen tree past) (row_later tree past) (kept t (change.Resolve number) (event.Resolved serial form ids mode) t' tt h) rows
-rows_event tree past t j job after e r t' a h m k rows = rows_kept (RowOpen tree past) (row_later tree past) (kept t e r t' tt h) rows
+    rw h.4 (each_both (IsSoundRow t.next_row) (RowOpen tree past)
+    (RowOpen tree (with_place past t.next_row fd (past.resolved j number))) t.rows (λ row s o.
+    row_place tree past t.next_row fd (past.resolved j number) row s o) a.sound rows)
+rows_event tree past t j job after (change.Resolve number) (event.Resolved serial form ids mode) t' a h m k rows =
+    rows_kept (RowOpen tree past) (row_later tree past)
+    (kept t (change.Resolve number) (event.Resolved serial form ids mode) t' tt h) rows
+rows_event tree past t j job after e r t' a h m k rows =
+    rows_kept (RowOpen tree past) (row_later tree past) (kept t e r t' tt h) rows
 
 -- what is held of slots, counts, new descriptors and new pins, and of what was held before, is held after
-each_brought : (P : Hold → Type 0) (b : Taken) (holds : List Hold) → P hold.Slot → ((fd : Fd) → P (hold.Fd fd None)) → Each P holds → Each P (brought b ++ holds)
+each_brought : (P : Hold → Type 0) (b : Taken) (holds : List Hold) → P hold.Slot → ((fd : Fd) → P (hold.Fd fd None)) →
+    Each P holds → Each P (brought b ++ holds)
 each_brought P taken.Nothing holds s f h = h
 each_brought P taken.Slot holds s f h = (s, h)
 each_brought P (taken.Fd fd true) holds s f h = (f fd, (s, h))
@@ -159,20 +206,31 @@ IsOfEra (change.Claim era handle ids) own = own ≡ era
 IsOfEra (change.Insert era number form ids mode) own = own ≡ era
 IsOfEra e own = ⊥
 
-pub holds_event : (P : Hold → Type 0) (holds : List Hold) (e : Change) (r : EventReply) (after : List Hold) → Shifts holds (Changes e) (Event r) after → P hold.Slot → ((era n : ℕ) → IsOfEra e era → P (hold.Count era n)) → ((fd : Fd) → P (hold.Fd fd None)) →
-    ((number row mode : ℕ) (form : RowForm) (ids : ObjIds) → e ≡ change.Resolve number → r ≡ event.Resolved row form ids mode → P (hold.Pin row (fd_of form))) →
-    ((handle number row : ℕ) (fd : Fd) → e ≡ change.PinHandle handle number → r ≡ event.Pinned row fd → P (hold.HandlePin row fd)) → Each P holds → Each P after
-holds_event P holds (change.Resolve number) (event.Resolved row form ids mode) after m s c f p q h = each_put P m (p number row mode form ids refl refl) h
+pub holds_event : (P : Hold → Type 0) (holds : List Hold) (e : Change) (r : EventReply) (after : List Hold) →
+    Shifts holds (Changes e) (Event r) after → P hold.Slot → ((era n : ℕ) → IsOfEra e era → P (hold.Count era n)) →
+    ((fd : Fd) → P (hold.Fd fd None)) →
+    ((number row mode : ℕ) (form : RowForm) (ids : ObjIds) → e ≡ change.Resolve number →
+    r ≡ event.Resolved row form ids mode → P (hold.Pin row (fd_of form))) →
+    ((handle number row : ℕ) (fd : Fd) → e ≡ change.PinHandle handle number → r ≡ event.Pinned row fd →
+    P (hold.HandlePin row fd)) → Each P holds → Each P after
+holds_event P holds (change.Resolve number) (event.Resolved row form ids mode) after m s c f p q h =
+    each_put P m (p number row mode form ids refl refl) h
 holds_event P holds (change.Unpin row) r after m s c f p q h = each_takes P m.1 h
-holds_event P holds (change.Claim era handle ids) (event.Claimed number) after m s c f p q h = each_put P m (c era number refl) h
+holds_event P holds (change.Claim era handle ids) (event.Claimed number) after m s c f p q h =
+    each_put P m (c era number refl) h
 holds_event P holds change.TakeFd event.Taken after m s c f p q h = each_put P m s h
 holds_event P holds change.GiveFd r after m s c f p q h = each_takes P m h
-holds_event P holds (change.Insert era number form ids mode) (event.Inserted given) after m s c f p q h = each_put P m.4 (c era given refl) (each_takes P m.3 (each_takes P m.2 h))
-holds_event P holds (change.Insert era number form ids mode) (event.Found given) after m s c f p q h = each_put P m (c era given refl) h
-holds_event P holds (change.InsertRoot era form ids mode negotiated) (event.Inserted given) after m s c f p q h = each_takes P m.2 (each_takes P m.1 h)
-holds_event P holds (change.PinHandle handle number) (event.Pinned row fd) after m s c f p q h = each_put P m (q handle number row fd refl refl) h
+holds_event P holds (change.Insert era number form ids mode) (event.Inserted given) after m s c f p q h =
+    each_put P m.4 (c era given refl) (each_takes P m.3 (each_takes P m.2 h))
+holds_event P holds (change.Insert era number form ids mode) (event.Found given) after m s c f p q h =
+    each_put P m (c era given refl) h
+holds_event P holds (change.InsertRoot era form ids mode negotiated) (event.Inserted given) after m s c f p q h =
+    each_takes P m.2 (each_takes P m.1 h)
+holds_event P holds (change.PinHandle handle number) (event.Pinned row fd) after m s c f p q h =
+    each_put P m (q handle number row fd refl refl) h
 holds_event P holds (change.UnpinHandle row) r after m s c f p q h = each_takes P m.1 h
-holds_event P holds (change.InsertHandle era handle number fd) (event.Inserted given) after m s c f p q h = each_takes P m.3 (each_takes P m.2 h)
+holds_event P holds (change.InsertHandle era handle number fd) (event.Inserted given) after m s c f p q h =
+    each_takes P m.3 (each_takes P m.2 h)
 holds_event P holds (change.GiveBack era number) r after m s c f p q h = each_takes P m h
 holds_event P holds change.TakeClosing r after m s c f p q h = rw m (each_brought P (taken_in (Event r)) holds s f h)
 holds_event P holds e r after m s c f p q h = rw m h
@@ -185,7 +243,8 @@ pub record Grows (past later : Past) (next next' : ℕ) : Type 0 where
   pub objects : (row : ℕ) → row < next → later.objects row ≡ past.objects row
   pub rows : next ≤ next'
 
-grows_settled : (past : Past) (given next next' : ℕ) (fd : Fd) (o : Option ℕ) → next ≤ next' → Grows past (settled past given next fd o) next next'
+grows_settled : (past : Past) (given next next' : ℕ) (fd : Fd) (o : Option ℕ) → next ≤ next' →
+    Grows past (settled past given next fd o) next next'
 grows_settled past given next next' fd o l = record {
   latest = refl;
   roots = refl;
@@ -194,40 +253,57 @@ grows_settled past given next next' fd o l = record {
   rows = l;
 }
 
-next_agreed : (negotiated : Option Negotiated) (t : Tables) (row : Row) → t.next_row ≤ (agreed negotiated (with_row t row)).next_row
+next_agreed : (negotiated : Option Negotiated) (t : Tables) (row : Row) →
+    t.next_row ≤ (agreed negotiated (with_row t row)).next_row
 next_agreed None t row = omega arith
 next_agreed (Some n) t row = omega arith
 
-pub grows : (tree : Tree) (past : Past) (t : Tables) (j : ℕ) (e : Change) (r : EventReply) (t' : Tables) → Agree t → Happens t e r t' → Grows past (settled_by past j (Changes e) (Event r) t.next_row tree) t.next_row t'.next_row
+pub grows : (tree : Tree) (past : Past) (t : Tables) (j : ℕ) (e : Change) (r : EventReply) (t' : Tables) → Agree t →
+    Happens t e r t' → Grows past (settled_by past j (Changes e) (Event r) t.next_row tree) t.next_row t'.next_row
 grows tree past t j (change.Insert era number form ids mode) (event.Inserted given) t' a h =
     grows_settled past given t.next_row t'.next_row (fd_of form) (past.latest j) (rw h.4 (omega arith))
 grows tree past t j (change.InsertRoot era form ids mode negotiated) (event.Inserted given) t' a h =
-    grows_settled past given t.next_row t'.next_row (fd_of form) (past.roots j) (rw h.4 (next_agreed negotiated t (new_row t 1 form ids mode 2)))
+    grows_settled past given t.next_row t'.next_row (fd_of form) (past.roots j)
+    (rw h.4 (next_agreed negotiated t (new_row t 1 form ids mode 2)))
 grows tree past t j (change.InsertHandle era handle number fd) (event.Inserted given) t' a h = record {
   latest = refl;
   roots = refl;
   fds = λ row k. set_at_other past.fds t.next_row (Some fd) row (λ e. absurd (omega (arith, e, k)));
-  objects = λ row k. set_at_other past.objects t.next_row (past.resolved j number) row (λ e. absurd (omega (arith, e, k)));
+  objects = λ row k. set_at_other past.objects t.next_row (past.resolved j number) row (λ e.
+      absurd (omega (arith, e, k)));
   rows = rw h.4 (omega arith);
 }
-grows tree past t j (change.Resolve number) (event.Resolved serial form ids mode) t' a h = let l = (stays t (change.Resolve number) (event.Resolved serial form ids mode) t' h).rows in record { latest = refl; roots = refl; fds = λ row k. refl; objects = λ row k. refl; rows = l }
-grows tree past t j e r t' a h = let l = (stays t e r t' h).rows in record { latest = refl; roots = refl; fds = λ row k. refl; objects = λ row k. refl; rows = l }
+grows tree past t j (change.Resolve number) (event.Resolved serial form ids mode) t' a h =
+    let l = (stays t (change.Resolve number) (event.Resolved serial form ids mode) t' h).rows in
+    record { latest = refl; roots = refl; fds = λ row k. refl; objects = λ row k. refl; rows = l }
+grows tree past t j e r t' a h = let l = (stays t e r t' h).rows in
+    record { latest = refl; roots = refl; fds = λ row k. refl; objects = λ row k. refl; rows = l }
 
-pub pin_grows : (past later : Past) (next next' : ℕ) (one : Hold) → Grows past later next next' → PinRight next past.fds one → PinRight next' later.fds one
-pin_grows past later next next' (hold.Pin row fd) g p = (let a = g.rows in let b = p.0 in omega (arith, a, b), g.fds row p.0 ∙ p.1)
-pin_grows past later next next' (hold.HandlePin row fd) g p = (let a = g.rows in let b = p.0 in omega (arith, a, b), g.fds row p.0 ∙ p.1)
+pub pin_grows : (past later : Past) (next next' : ℕ) (one : Hold) → Grows past later next next' →
+    PinRight next past.fds one → PinRight next' later.fds one
+pin_grows past later next next' (hold.Pin row fd) g p =
+    (let a = g.rows in let b = p.0 in omega (arith, a, b), g.fds row p.0 ∙ p.1)
+pin_grows past later next next' (hold.HandlePin row fd) g p =
+    (let a = g.rows in let b = p.0 in omega (arith, a, b), g.fds row p.0 ∙ p.1)
 pin_grows past later next next' (hold.Fd fd told) g p = tt
 pin_grows past later next next' hold.Slot g p = tt
 pin_grows past later next next' (hold.Count era n) g p = tt
 
-pub pins_grow : (past later : Past) (next next' : ℕ) (holds : List Hold) → Grows past later next next' → Each (PinRight next past.fds) holds → Each (PinRight next' later.fds) holds
-pins_grow past later next next' holds g = each_map (PinRight next past.fds) (PinRight next' later.fds) holds (λ one. pin_grows past later next next' one g)
+pub pins_grow : (past later : Past) (next next' : ℕ) (holds : List Hold) → Grows past later next next' →
+    Each (PinRight next past.fds) holds → Each (PinRight next' later.fds) holds
+pins_grow past later next next' holds g =
+    each_map (PinRight next past.fds) (PinRight next' later.fds) holds (λ one. pin_grows past later next next' one g)
 
 -- an event notes no descriptor, and one that stays noted is not handed to the tables
-event_latest : (notes : Notes) (e : Change) (r : EventReply) (fd : Fd) → (notes_after notes (Changes e) (Event r)).latest ≡ Some fd → (notes.latest ≡ Some fd) × (fd_in fd.0 (Changes e) (Event r) ≡ 0)
-event_latest notes (change.Insert era number form ids mode) (event.Inserted given) fd e = let a = unless_apart (fd_of form) notes.latest fd e in (a.0, is_apart (fd_of form).0 fd.0 a.1)
-event_latest notes (change.InsertRoot era form ids mode negotiated) (event.Inserted given) fd e = let a = unless_apart (fd_of form) notes.latest fd e in (a.0, is_apart (fd_of form).0 fd.0 a.1)
-event_latest notes (change.InsertHandle era handle number same) (event.Inserted given) fd e = let a = unless_apart same notes.latest fd e in (a.0, is_apart same.0 fd.0 a.1)
+event_latest : (notes : Notes) (e : Change) (r : EventReply) (fd : Fd) →
+    (notes_after notes (Changes e) (Event r)).latest ≡ Some fd →
+    (notes.latest ≡ Some fd) × (fd_in fd.0 (Changes e) (Event r) ≡ 0)
+event_latest notes (change.Insert era number form ids mode) (event.Inserted given) fd e =
+    let a = unless_apart (fd_of form) notes.latest fd e in (a.0, is_apart (fd_of form).0 fd.0 a.1)
+event_latest notes (change.InsertRoot era form ids mode negotiated) (event.Inserted given) fd e =
+    let a = unless_apart (fd_of form) notes.latest fd e in (a.0, is_apart (fd_of form).0 fd.0 a.1)
+event_latest notes (change.InsertHandle era handle number same) (event.Inserted given) fd e =
+    let a = unless_apart same notes.latest fd e in (a.0, is_apart same.0 fd.0 a.1)
 event_latest notes (change.Resolve number) (event.Resolved row form ids mode) fd e = (e, refl)
 event_latest notes change.DrawHandle (event.Drawn handle) fd e = (e, refl)
 event_latest notes change.Clear (event.Cleared era closings) fd e = (e, refl)
@@ -235,10 +311,15 @@ event_latest notes change.Begin (event.Began era negotiated) fd e = (e, refl)
 event_latest notes change.DrawNode (event.Drawn number) fd e = (e, refl)
 event_latest notes _ _ fd e = (e, refl)
 
-event_root : (notes : Notes) (e : Change) (r : EventReply) (fd : Fd) → (notes_after notes (Changes e) (Event r)).root ≡ Some fd → (notes.root ≡ Some fd) × (fd_in fd.0 (Changes e) (Event r) ≡ 0)
-event_root notes (change.Insert era number form ids mode) (event.Inserted given) fd e = let a = unless_apart (fd_of form) notes.root fd e in (a.0, is_apart (fd_of form).0 fd.0 a.1)
-event_root notes (change.InsertRoot era form ids mode negotiated) (event.Inserted given) fd e = let a = unless_apart (fd_of form) notes.root fd e in (a.0, is_apart (fd_of form).0 fd.0 a.1)
-event_root notes (change.InsertHandle era handle number same) (event.Inserted given) fd e = let a = unless_apart same notes.root fd e in (a.0, is_apart same.0 fd.0 a.1)
+event_root : (notes : Notes) (e : Change) (r : EventReply) (fd : Fd) →
+    (notes_after notes (Changes e) (Event r)).root ≡ Some fd →
+    (notes.root ≡ Some fd) × (fd_in fd.0 (Changes e) (Event r) ≡ 0)
+event_root notes (change.Insert era number form ids mode) (event.Inserted given) fd e =
+    let a = unless_apart (fd_of form) notes.root fd e in (a.0, is_apart (fd_of form).0 fd.0 a.1)
+event_root notes (change.InsertRoot era form ids mode negotiated) (event.Inserted given) fd e =
+    let a = unless_apart (fd_of form) notes.root fd e in (a.0, is_apart (fd_of form).0 fd.0 a.1)
+event_root notes (change.InsertHandle era handle number same) (event.Inserted given) fd e =
+    let a = unless_apart same notes.root fd e in (a.0, is_apart same.0 fd.0 a.1)
 event_root notes (change.Resolve number) (event.Resolved row form ids mode) fd e = (e, refl)
 event_root notes change.DrawHandle (event.Drawn handle) fd e = (e, refl)
 event_root notes change.Clear (event.Cleared era closings) fd e = (e, refl)
@@ -246,7 +327,8 @@ event_root notes change.Begin (event.Began era negotiated) fd e = (e, refl)
 event_root notes change.DrawNode (event.Drawn number) fd e = (e, refl)
 event_root notes _ _ fd e = (e, refl)
 
-event_rooted : (notes : Notes) (e : Change) (r : EventReply) → (notes_after notes (Changes e) (Event r)).rooted ≡ notes.rooted
+event_rooted : (notes : Notes) (e : Change) (r : EventReply) →
+    (notes_after notes (Changes e) (Event r)).rooted ≡ notes.rooted
 event_rooted notes (change.Insert era number form ids mode) (event.Inserted given) = refl
 event_rooted notes (change.InsertRoot era form ids mode negotiated) (event.Inserted given) = refl
 event_rooted notes (change.InsertHandle era handle number fd) (event.Inserted given) = refl
@@ -257,34 +339,47 @@ event_rooted notes change.Begin (event.Began era negotiated) = refl
 event_rooted notes change.DrawNode (event.Drawn number) = refl
 event_rooted notes _ _ = refl
 
-noted_event : (tree : Tree) (job after : Job) (e : Change) (r : EventReply) (noted noted' : Option Fd) (was was' : Option ℕ) → Shifts job.holds (Changes e) (Event r) after.holds → was' ≡ was →
-    ((fd : Fd) → noted' ≡ Some fd → (noted ≡ Some fd) × (fd_in fd.0 (Changes e) (Event r) ≡ 0)) → NotedRight tree noted was job.holds → NotedRight tree noted' was' after.holds
+noted_event : (tree : Tree) (job after : Job) (e : Change) (r : EventReply) (noted noted' : Option Fd)
+    (was was' : Option ℕ) → Shifts job.holds (Changes e) (Event r) after.holds → was' ≡ was →
+    ((fd : Fd) → noted' ≡ Some fd → (noted ≡ Some fd) × (fd_in fd.0 (Changes e) (Event r) ≡ 0)) →
+    NotedRight tree noted was job.holds → NotedRight tree noted' was' after.holds
 noted_event tree job after e r noted noted' was was' m w f h fd q =
     let g = f fd q in
     let a = h fd g.0 in
     record {
-      held = let b = a.held in let c = (handed job.holds (Changes e) (Event r) after.holds m).fds fd.0 in let d = g.1 in omega (arith, b, c, d);
+      held = let b = a.held in let c = (handed job.holds (Changes e) (Event r) after.holds m).fds fd.0 in
+          let d = g.1 in omega (arith, b, c, d);
       object = a.object;
       open_on = a.open_on;
       judged = w ∙ a.judged;
     }
 
-resolved_pin : (tree : Tree) (past : Past) (t : Tables) (number row mode : ℕ) (form : RowForm) (ids : ObjIds) (t' : Tables) → Agree t → Happens t (change.Resolve number) (event.Resolved row form ids mode) t' →
+resolved_pin : (tree : Tree) (past : Past) (t : Tables) (number row mode : ℕ) (form : RowForm) (ids : ObjIds)
+    (t' : Tables) → Agree t → Happens t (change.Resolve number) (event.Resolved row form ids mode) t' →
     Each (RowOpen tree past) t.rows → PinRight t.next_row past.fds (hold.Pin row (fd_of form))
 resolved_pin tree past t number row mode form ids t' a h rows =
     let o = each_replaced (RowOpen tree past) h.7.1 rows in
-    let s = each_replaced (IsSoundRow t.next_row) h.7.1 a.sound in
-    (let d = s.drawn in let e = h.2 in omega (arith, d, e), ap past.fds (sym h.2) ∙ o.kept_by ∙ ap (λ f. Some (fd_of f)) h.3)
+    let s = each_replaced (IsSoundRow t.next_row) h.7.1 a.sound in (
+      let d = s.drawn in let e = h.2 in
+          omega (arith, d, e),
+      ap past.fds (sym h.2) ∙ o.kept_by ∙ ap (λ f. Some (fd_of f)) h.3,
+    )
 
 -- what is noted of the latest resolution stays right
-resolved_stays : (past later : Past) (next next' j : ℕ) (noted : Option Resolution) → Grows past later next next' → later.resolved j ≡ past.resolved j →
-    ((was : Resolution) → noted ≡ Some was → (was.row < next) × (past.objects was.row ≡ past.resolved j was.number)) → (was : Resolution) → noted ≡ Some was → (was.row < next') × (later.objects was.row ≡ later.resolved j was.number)
+resolved_stays : (past later : Past) (next next' j : ℕ) (noted : Option Resolution) → Grows past later next next' →
+    later.resolved j ≡ past.resolved j →
+    ((was : Resolution) → noted ≡ Some was → (was.row < next) × (past.objects was.row ≡ past.resolved j was.number)) →
+    (was : Resolution) → noted ≡ Some was → (was.row < next') × (later.objects was.row ≡ later.resolved j was.number)
 resolved_stays past later next next' j noted g q k was e =
-    let a = k was e in
-    (let x = g.rows in let y = a.0 in omega (arith, x, y), g.objects was.row a.0 ∙ a.1 ∙ sym (ap (λ (z : ℕ → Option ℕ). z was.number) q))
+    let a = k was e in (
+      let x = g.rows in let y = a.0 in
+          omega (arith, x, y),
+      g.objects was.row a.0 ∙ a.1 ∙ sym (ap (λ (z : ℕ → Option ℕ). z was.number) q),
+    )
 
 -- a number that is resolved has the object of the row that is pinned
-resolved_now : (tree : Tree) (past : Past) (t : Tables) (number row mode : ℕ) (form : RowForm) (ids : ObjIds) (t' : Tables) → Agree t → Happens t (change.Resolve number) (event.Resolved row form ids mode) t' →
+resolved_now : (tree : Tree) (past : Past) (t : Tables) (number row mode : ℕ) (form : RowForm) (ids : ObjIds)
+    (t' : Tables) → Agree t → Happens t (change.Resolve number) (event.Resolved row form ids mode) t' →
     Each (RowOpen tree past) t.rows → (row < t.next_row) × (past.objects row ≡ past.numbers number)
 resolved_now tree past t number row mode form ids t' a h rows =
     let o = each_replaced (RowOpen tree past) h.7.1 rows in
@@ -297,36 +392,58 @@ abbrev pub number_of : ℕ → Option Resolution → ℕ
 number_of other None = other
 number_of other (Some was) = was.number
 
-resolved_event : (tree : Tree) (past : Past) (t : Tables) (j : ℕ) (notes : Notes) (e : Change) (r : EventReply) (t' : Tables) → Agree t → Happens t e r t' → Each (RowOpen tree past) t.rows →
+resolved_event : (tree : Tree) (past : Past) (t : Tables) (j : ℕ) (notes : Notes) (e : Change) (r : EventReply)
+    (t' : Tables) → Agree t → Happens t e r t' → Each (RowOpen tree past) t.rows →
     Grows past (settled_by past j (Changes e) (Event r) t.next_row tree) t.next_row t'.next_row →
-    ((was : Resolution) → notes.resolved ≡ Some was → (was.row < t.next_row) × (past.objects was.row ≡ past.resolved j was.number)) →
+    ((was : Resolution) → notes.resolved ≡ Some was →
+    (was.row < t.next_row) × (past.objects was.row ≡ past.resolved j was.number)) →
     (was : Resolution) → (notes_after notes (Changes e) (Event r)).resolved ≡ Some was →
-    (was.row < t'.next_row) × ((settled_by past j (Changes e) (Event r) t.next_row tree).objects was.row ≡ (settled_by past j (Changes e) (Event r) t.next_row tree).resolved j was.number)
+    (was.row < t'.next_row)
+    × ((settled_by past j (Changes e) (Event r) t.next_row tree).objects was.row
+    ≡ (settled_by past j (Changes e) (Event r) t.next_row tree).resolved j was.number)
 resolved_event tree past t j notes (change.Resolve number) (event.Resolved row form ids mode) t' a h rows g k was e =
     let n = resolved_now tree past t number row mode form ids t' a h rows in
     let same : row ≡ was.row = ap (row_of row) e in
     let same_number : number ≡ was.number = ap (number_of number) e in
     let own = set_at number (past.numbers number) (past.resolved j) in (
       let x = n.0 in let y = g.rows in omega (arith, x, y, same),
-      ap past.objects (sym same) ∙ n.1 ∙ sym (ap (λ (z : ℕ → Option ℕ). z was.number) (set_at_same past.resolved j own) ∙ ap own (sym same_number) ∙ set_at_same (past.resolved j) number (past.numbers number)),
+      ap past.objects (sym same) ∙ n.1
+          ∙ sym (ap (λ (z : ℕ → Option ℕ). z was.number) (set_at_same past.resolved j own) ∙ ap own (sym same_number)
+          ∙ set_at_same (past.resolved j) number (past.numbers number)),
     )
   where
     row_of : ℕ → Option Resolution → ℕ
     row_of other None = other
     row_of other (Some was) = was.row
-resolved_event tree past t j notes (change.Insert era number form ids mode) (event.Inserted given) t' a h rows g k was e = resolved_stays past _ t.next_row t'.next_row j notes.resolved g refl k was e
-resolved_event tree past t j notes (change.InsertRoot era form ids mode negotiated) (event.Inserted given) t' a h rows g k was e = resolved_stays past _ t.next_row t'.next_row j notes.resolved g refl k was e
-resolved_event tree past t j notes (change.InsertHandle era handle number fd) (event.Inserted given) t' a h rows g k was e = resolved_stays past _ t.next_row t'.next_row j notes.resolved g refl k was e
-resolved_event tree past t j notes change.Begin (event.Began era negotiated) t' a h rows g k was e = resolved_stays past _ t.next_row t'.next_row j notes.resolved g refl k was e
-resolved_event tree past t j notes change.Clear (event.Cleared era closings) t' a h rows g k was e = resolved_stays past _ t.next_row t'.next_row j notes.resolved g refl k was e
-resolved_event tree past t j notes change.DrawNode (event.Drawn number) t' a h rows g k was e = resolved_stays past _ t.next_row t'.next_row j notes.resolved g refl k was e
-resolved_event tree past t j notes change.DrawHandle (event.Drawn handle) t' a h rows g k was e = resolved_stays past _ t.next_row t'.next_row j notes.resolved g refl k was e
-resolved_event tree past t j notes _ _ t' a h rows g k was e = resolved_stays past _ t.next_row t'.next_row j notes.resolved g refl k was e
+resolved_event tree past t j notes (change.Insert era number form ids mode)
+    (event.Inserted given) t' a h rows g k was e =
+    resolved_stays past _ t.next_row t'.next_row j notes.resolved g refl k was e
+resolved_event tree past t j notes (change.InsertRoot era form ids mode negotiated)
+    (event.Inserted given) t' a h rows g k was e =
+    resolved_stays past _ t.next_row t'.next_row j notes.resolved g refl k was e
+resolved_event tree past t j notes (change.InsertHandle era handle number fd)
+    (event.Inserted given) t' a h rows g k was e =
+    resolved_stays past _ t.next_row t'.next_row j notes.resolved g refl k was e
+resolved_event tree past t j notes change.Begin (event.Began era negotiated) t' a h rows g k was e =
+    resolved_stays past _ t.next_row t'.next_row j notes.resolved g refl k was e
+resolved_event tree past t j notes change.Clear (event.Cleared era closings) t' a h rows g k was e =
+    resolved_stays past _ t.next_row t'.next_row j notes.resolved g refl k was e
+resolved_event tree past t j notes change.DrawNode (event.Drawn number) t' a h rows g k was e =
+    resolved_stays past _ t.next_row t'.next_row j notes.resolved g refl k was e
+resolved_event tree past t j notes change.DrawHandle (event.Drawn handle) t' a h rows g k was e =
+    resolved_stays past _ t.next_row t'.next_row j notes.resolved g refl k was e
+resolved_event tree past t j notes _ _ t' a h rows g k was e =
+    resolved_stays past _ t.next_row t'.next_row j notes.resolved g refl k was e
 
-event_reopened : (notes : Notes) (e : Change) (r : EventReply) (fd : Fd) → (notes_after notes (Changes e) (Event r)).reopened ≡ Some fd → (notes.reopened ≡ Some fd) × (fd_in fd.0 (Changes e) (Event r) ≡ 0)
-event_reopened notes (change.Insert era number form ids mode) (event.Inserted given) fd e = let a = unless_apart (fd_of form) notes.reopened fd e in (a.0, is_apart (fd_of form).0 fd.0 a.1)
-event_reopened notes (change.InsertRoot era form ids mode negotiated) (event.Inserted given) fd e = let a = unless_apart (fd_of form) notes.reopened fd e in (a.0, is_apart (fd_of form).0 fd.0 a.1)
-event_reopened notes (change.InsertHandle era handle number same) (event.Inserted given) fd e = let a = unless_apart same notes.reopened fd e in (a.0, is_apart same.0 fd.0 a.1)
+event_reopened : (notes : Notes) (e : Change) (r : EventReply) (fd : Fd) →
+    (notes_after notes (Changes e) (Event r)).reopened ≡ Some fd →
+    (notes.reopened ≡ Some fd) × (fd_in fd.0 (Changes e) (Event r) ≡ 0)
+event_reopened notes (change.Insert era number form ids mode) (event.Inserted given) fd e =
+    let a = unless_apart (fd_of form) notes.reopened fd e in (a.0, is_apart (fd_of form).0 fd.0 a.1)
+event_reopened notes (change.InsertRoot era form ids mode negotiated) (event.Inserted given) fd e =
+    let a = unless_apart (fd_of form) notes.reopened fd e in (a.0, is_apart (fd_of form).0 fd.0 a.1)
+event_reopened notes (change.InsertHandle era handle number same) (event.Inserted given) fd e =
+    let a = unless_apart same notes.reopened fd e in (a.0, is_apart same.0 fd.0 a.1)
 event_reopened notes (change.Resolve number) (event.Resolved row form ids mode) fd e = absurd (cc)
 event_reopened notes change.DrawHandle (event.Drawn handle) fd e = (e, refl)
 event_reopened notes change.Clear (event.Cleared era closings) fd e = (e, refl)
@@ -335,36 +452,58 @@ event_reopened notes change.DrawNode (event.Drawn number) fd e = (e, refl)
 event_reopened notes _ _ fd e = (e, refl)
 
 -- what was opened anew is forgotten with the next resolution
-reopened_event : (tree : Tree) (past : Past) (t : Tables) (j : ℕ) (job after : Job) (e : Change) (r : EventReply) → MovesBy job (Changes e) (Event r) after →
-    ((was : Resolution) → job.notes.resolved ≡ Some was → NotedRight tree job.notes.reopened (past.resolved j was.number) job.holds) →
-    (was : Resolution) → after.notes.resolved ≡ Some was → NotedRight tree after.notes.reopened ((settled_by past j (Changes e) (Event r) t.next_row tree).resolved j was.number) after.holds
-reopened_event tree past t j job after (change.Resolve number) (event.Resolved row form ids mode) m k was u = λ fd q. let n = ap (λ (z : Notes). z.reopened) m.3 in absurd (cc)
+reopened_event : (tree : Tree) (past : Past) (t : Tables) (j : ℕ) (job after : Job) (e : Change) (r : EventReply) →
+    MovesBy job (Changes e) (Event r) after →
+    ((was : Resolution) → job.notes.resolved ≡ Some was →
+    NotedRight tree job.notes.reopened (past.resolved j was.number) job.holds) →
+    (was : Resolution) → after.notes.resolved ≡ Some was →
+    NotedRight tree after.notes.reopened
+    ((settled_by past j (Changes e) (Event r) t.next_row tree).resolved j was.number) after.holds
+reopened_event tree past t j job after (change.Resolve number) (event.Resolved row form ids mode) m k was u =
+    λ fd q. let n = ap (λ (z : Notes). z.reopened) m.3 in absurd (cc)
 reopened_event tree past t j job after (change.Insert era number form ids mode) (event.Inserted given) m k was u =
-    noted_event tree job after (change.Insert era number form ids mode) (event.Inserted given) job.notes.reopened after.notes.reopened (past.resolved j was.number) _ m.0 refl
-    (λ f q. event_reopened job.notes (change.Insert era number form ids mode) (event.Inserted given) f (sym (ap (λ (n : Notes). n.reopened) m.3) ∙ q)) (k was (sym (ap (λ (n : Notes). n.resolved) m.3) ∙ u))
-reopened_event tree past t j job after (change.InsertRoot era form ids mode negotiated) (event.Inserted given) m k was u =
-    noted_event tree job after (change.InsertRoot era form ids mode negotiated) (event.Inserted given) job.notes.reopened after.notes.reopened (past.resolved j was.number) _ m.0 refl
-    (λ f q. event_reopened job.notes (change.InsertRoot era form ids mode negotiated) (event.Inserted given) f (sym (ap (λ (n : Notes). n.reopened) m.3) ∙ q)) (k was (sym (ap (λ (n : Notes). n.resolved) m.3) ∙ u))
+    noted_event tree job after (change.Insert era number form ids mode)
+    (event.Inserted given) job.notes.reopened after.notes.reopened (past.resolved j was.number) _ m.0 refl
+    (λ f q. event_reopened job.notes (change.Insert era number form ids mode) (event.Inserted given) f
+    (sym (ap (λ (n : Notes). n.reopened) m.3) ∙ q)) (k was (sym (ap (λ (n : Notes). n.resolved) m.3) ∙ u))
+reopened_event tree past t j job after (change.InsertRoot era form ids mode negotiated)
+    (event.Inserted given) m k was u =
+    noted_event tree job after (change.InsertRoot era form ids mode negotiated)
+    (event.Inserted given) job.notes.reopened after.notes.reopened (past.resolved j was.number) _ m.0 refl
+    (λ f q. event_reopened job.notes (change.InsertRoot era form ids mode negotiated) (event.Inserted given) f
+    (sym (ap (λ (n : Notes). n.reopened) m.3) ∙ q)) (k was (sym (ap (λ (n : Notes). n.resolved) m.3) ∙ u))
 reopened_event tree past t j job after (change.InsertHandle era handle number fd) (event.Inserted given) m k was u =
-    noted_event tree job after (change.InsertHandle era handle number fd) (event.Inserted given) job.notes.reopened after.notes.reopened (past.resolved j was.number) _ m.0 refl
-    (λ f q. event_reopened job.notes (change.InsertHandle era handle number fd) (event.Inserted given) f (sym (ap (λ (n : Notes). n.reopened) m.3) ∙ q)) (k was (sym (ap (λ (n : Notes). n.resolved) m.3) ∙ u))
+    noted_event tree job after (change.InsertHandle era handle number fd)
+    (event.Inserted given) job.notes.reopened after.notes.reopened (past.resolved j was.number) _ m.0 refl
+    (λ f q. event_reopened job.notes (change.InsertHandle era handle number fd) (event.Inserted given) f
+    (sym (ap (λ (n : Notes). n.reopened) m.3) ∙ q)) (k was (sym (ap (λ (n : Notes). n.resolved) m.3) ∙ u))
 reopened_event tree past t j job after change.Begin (event.Began era negotiated) m k was u =
-    noted_event tree job after change.Begin (event.Began era negotiated) job.notes.reopened after.notes.reopened (past.resolved j was.number) _ m.0 refl
-    (λ f q. event_reopened job.notes change.Begin (event.Began era negotiated) f (sym (ap (λ (n : Notes). n.reopened) m.3) ∙ q)) (k was (sym (ap (λ (n : Notes). n.resolved) m.3) ∙ u))
+    noted_event tree job after change.Begin (event.Began era negotiated) job.notes.reopened after.notes.reopened
+    (past.resolved j was.number) _ m.0 refl
+    (λ f q. event_reopened job.notes change.Begin (event.Began era negotiated) f
+    (sym (ap (λ (n : Notes). n.reopened) m.3) ∙ q)) (k was (sym (ap (λ (n : Notes). n.resolved) m.3) ∙ u))
 reopened_event tree past t j job after change.Clear (event.Cleared era closings) m k was u =
-    noted_event tree job after change.Clear (event.Cleared era closings) job.notes.reopened after.notes.reopened (past.resolved j was.number) _ m.0 refl
-    (λ f q. event_reopened job.notes change.Clear (event.Cleared era closings) f (sym (ap (λ (n : Notes). n.reopened) m.3) ∙ q)) (k was (sym (ap (λ (n : Notes). n.resolved) m.3) ∙ u))
+    noted_event tree job after change.Clear (event.Cleared era closings) job.notes.reopened after.notes.reopened
+    (past.resolved j was.number) _ m.0 refl
+    (λ f q. event_reopened job.notes change.Clear (event.Cleared era closings) f
+    (sym (ap (λ (n : Notes). n.reopened) m.3) ∙ q)) (k was (sym (ap (λ (n : Notes). n.resolved) m.3) ∙ u))
 reopened_event tree past t j job after change.DrawNode (event.Drawn number) m k was u =
-    noted_event tree job after change.DrawNode (event.Drawn number) job.notes.reopened after.notes.reopened (past.resolved j was.number) _ m.0 refl
-    (λ f q. event_reopened job.notes change.DrawNode (event.Drawn number) f (sym (ap (λ (n : Notes). n.reopened) m.3) ∙ q)) (k was (sym (ap (λ (n : Notes). n.resolved) m.3) ∙ u))
+    noted_event tree job after change.DrawNode (event.Drawn number) job.notes.reopened after.notes.reopened
+    (past.resolved j was.number) _ m.0 refl
+    (λ f q. event_reopened job.notes change.DrawNode (event.Drawn number) f (sym (ap (λ (n : Notes). n.reopened) m.3)
+    ∙ q)) (k was (sym (ap (λ (n : Notes). n.resolved) m.3) ∙ u))
 reopened_event tree past t j job after change.DrawHandle (event.Drawn handle) m k was u =
-    noted_event tree job after change.DrawHandle (event.Drawn handle) job.notes.reopened after.notes.reopened (past.resolved j was.number) _ m.0 refl
-    (λ f q. event_reopened job.notes change.DrawHandle (event.Drawn handle) f (sym (ap (λ (n : Notes). n.reopened) m.3) ∙ q)) (k was (sym (ap (λ (n : Notes). n.resolved) m.3) ∙ u))
+    noted_event tree job after change.DrawHandle (event.Drawn handle) job.notes.reopened after.notes.reopened
+    (past.resolved j was.number) _ m.0 refl
+    (λ f q. event_reopened job.notes change.DrawHandle (event.Drawn handle) f
+    (sym (ap (λ (n : Notes). n.reopened) m.3) ∙ q)) (k was (sym (ap (λ (n : Notes). n.resolved) m.3) ∙ u))
 reopened_event tree past t j job after e r m k was u =
     noted_event tree job after e r job.notes.reopened after.notes.reopened (past.resolved j was.number) _ m.0 refl
-    (λ f q. event_reopened job.notes e r f (sym (ap (λ (n : Notes). n.reopened) m.3) ∙ q)) (k was (sym (ap (λ (n : Notes). n.resolved) m.3) ∙ u))
+    (λ f q. event_reopened job.notes e r f (sym (ap (λ (n : Notes). n.reopened) m.3) ∙ q))
+    (k was (sym (ap (λ (n : Notes). n.resolved) m.3) ∙ u))
 
-pinned_now : (tree : Tree) (past : Past) (t : Tables) (handle number row : ℕ) (fd : Fd) (t' : Tables) → Agree t → Happens t (change.PinHandle handle number) (event.Pinned row fd) t' →
+pinned_now : (tree : Tree) (past : Past) (t : Tables) (handle number row : ℕ) (fd : Fd) (t' : Tables) → Agree t →
+    Happens t (change.PinHandle handle number) (event.Pinned row fd) t' →
     Each (HandleOpen tree past) t.handles → PinRight t.next_row past.fds (hold.HandlePin row fd)
 pinned_now tree past t handle number row fd t' a h rows =
     let o = each_replaced (HandleOpen tree past) h.5.1 rows in
@@ -372,40 +511,63 @@ pinned_now tree past t handle number row fd t' a h rows =
     (let d = s.drawn in let e = h.2 in omega (arith, d, e), ap past.fds (sym h.2) ∙ o.kept_by ∙ ap (λ f. Some f) h.3)
 
 -- what the job that made the event knows
-pub knows_event : (tree : Tree) (past : Past) (t : Tables) (j : ℕ) (job after : Job) (e : Change) (r : EventReply) (t' : Tables) → Agree t → Happens t e r t' → MovesBy job (Changes e) (Event r) after →
-    Each (RowOpen tree past) t.rows → Each (HandleOpen tree past) t.handles → Knowing tree t.next_row past j job → Knowing tree t'.next_row (settled_by past j (Changes e) (Event r) t.next_row tree) j after
+pub knows_event : (tree : Tree) (past : Past) (t : Tables) (j : ℕ) (job after : Job) (e : Change) (r : EventReply)
+    (t' : Tables) → Agree t → Happens t e r t' → MovesBy job (Changes e) (Event r) after →
+    Each (RowOpen tree past) t.rows → Each (HandleOpen tree past) t.handles → Knowing tree t.next_row past j job →
+    Knowing tree t'.next_row (settled_by past j (Changes e) (Event r) t.next_row tree) j after
 knows_event tree past t j job after e r t' a h m rows handles k =
     let later = settled_by past j (Changes e) (Event r) t.next_row tree in
     let g = grows tree past t j e r t' a h in
     record {
-      told = holds_event (ToldRight tree) job.holds e r after.holds m.0 tt (λ era n own. tt) (λ fd. tt) (λ number row mode form ids x y. tt) (λ handle number row fd x y. tt) k.told;
+      told = holds_event (ToldRight tree) job.holds e r after.holds m.0 tt (λ era n own. tt) (λ fd.
+          tt) (λ number row mode form ids x y. tt) (λ handle number row fd x y. tt) k.told;
       pins = holds_event (PinRight t'.next_row later.fds) job.holds e r after.holds m.0 tt (λ era n own. tt) (λ fd. tt)
-          (λ number row mode form ids x y. pin_grows past later t.next_row t'.next_row (hold.Pin row (fd_of form)) g (resolved_pin tree past t number row mode form ids t' a (rw (x, y) at h) rows))
-          (λ handle number row fd x y. pin_grows past later t.next_row t'.next_row (hold.HandlePin row fd) g (pinned_now tree past t handle number row fd t' a (rw (x, y) at h) handles))
+          (λ number row mode form ids x y.
+          pin_grows past later t.next_row t'.next_row (hold.Pin row (fd_of form)) g
+          (resolved_pin tree past t number row mode form ids t' a (rw (x, y) at h) rows))
+          (λ handle number row fd x y.
+          pin_grows past later t.next_row t'.next_row (hold.HandlePin row fd) g
+          (pinned_now tree past t handle number row fd t' a (rw (x, y) at h) handles))
           (pins_grow past later t.next_row t'.next_row job.holds g k.pins);
-      latest = noted_event tree job after e r job.notes.latest after.notes.latest (past.latest j) (later.latest j) m.0 (ap (λ f. f j) g.latest)
+      latest = noted_event tree job after e r job.notes.latest after.notes.latest (past.latest j) (later.latest j) m.0
+          (ap (λ f. f j) g.latest)
           (λ fd q. event_latest job.notes e r fd (sym (ap (λ (n : Notes). n.latest) m.3) ∙ q)) k.latest;
-      root = noted_event tree job after e r job.notes.root after.notes.root (past.roots j) (later.roots j) m.0 (ap (λ f. f j) g.roots)
+      root = noted_event tree job after e r job.notes.root after.notes.root (past.roots j) (later.roots j) m.0
+          (ap (λ f. f j) g.roots)
           (λ fd q. event_root job.notes e r fd (sym (ap (λ (n : Notes). n.root) m.3) ∙ q)) k.root;
-      unrooted = λ q. ap (λ f. f j) g.roots ∙ k.unrooted (sym (event_rooted job.notes e r) ∙ sym (ap (λ (n : Notes). n.rooted) m.3) ∙ q);
-      resolved = λ was q. resolved_event tree past t j job.notes e r t' a h rows g k.resolved was (sym (ap (λ (n : Notes). n.resolved) m.3) ∙ q);
+      unrooted = λ q. ap (λ f. f j) g.roots
+          ∙ k.unrooted (sym (event_rooted job.notes e r) ∙ sym (ap (λ (n : Notes). n.rooted) m.3) ∙ q);
+      resolved = λ was q.
+          resolved_event tree past t j job.notes e r t' a h rows g k.resolved was
+          (sym (ap (λ (n : Notes). n.resolved) m.3) ∙ q);
       reopened = reopened_event tree past t j job after e r m k.reopened;
     }
 
 -- and what another job knows
-pub knows_other : (tree : Tree) (past later : Past) (next next' i : ℕ) (job : Job) → Grows past later next next' → later.resolved i ≡ past.resolved i → Knowing tree next past i job → Knowing tree next' later i job
+pub knows_other : (tree : Tree) (past later : Past) (next next' i : ℕ) (job : Job) → Grows past later next next' →
+    later.resolved i ≡ past.resolved i → Knowing tree next past i job → Knowing tree next' later i job
 knows_other tree past later next next' i job g s k = record {
   told = k.told;
   pins = pins_grow past later next next' job.holds g k.pins;
-  latest = λ fd e. let a = k.latest fd e in record { held = a.held; object = a.object; open_on = a.open_on; judged = ap (λ f. f i) g.latest ∙ a.judged };
-  root = λ fd e. let a = k.root fd e in record { held = a.held; object = a.object; open_on = a.open_on; judged = ap (λ f. f i) g.roots ∙ a.judged };
+  latest = λ fd e. let a = k.latest fd e in
+      record { held = a.held; object = a.object; open_on = a.open_on; judged = ap (λ f. f i) g.latest ∙ a.judged };
+  root = λ fd e. let a = k.root fd e in
+      record { held = a.held; object = a.object; open_on = a.open_on; judged = ap (λ f. f i) g.roots ∙ a.judged };
   unrooted = λ e. ap (λ f. f i) g.roots ∙ k.unrooted e;
   resolved = resolved_stays past later next next' i job.notes.resolved g s k.resolved;
-  reopened = λ was u fd e. let a = k.reopened was u fd e in record { held = a.held; object = a.object; open_on = a.open_on; judged = ap (λ (z : ℕ → Option ℕ). z was.number) s ∙ a.judged };
+  reopened = λ was u fd e. let a = k.reopened was u fd e in
+      record {
+        held = a.held;
+        object = a.object;
+        open_on = a.open_on;
+        judged = ap (λ (z : ℕ → Option ℕ). z was.number) s ∙ a.judged;
+      };
 }
 
-pub resolved_other : (past : Past) (j : ℕ) (e : Change) (r : EventReply) (next : ℕ) (tree : Tree) (i : ℕ) → i ≢ j → (settled_by past j (Changes e) (Event r) next tree).resolved i ≡ past.resolved i
-resolved_other past j (change.Resolve number) (event.Resolved row form ids mode) next tree i other = set_at_other past.resolved j (set_at number (past.numbers number) (past.resolved j)) i other
+pub resolved_other : (past : Past) (j : ℕ) (e : Change) (r : EventReply) (next : ℕ) (tree : Tree) (i : ℕ) → i ≢ j →
+    (settled_by past j (Changes e) (Event r) next tree).resolved i ≡ past.resolved i
+resolved_other past j (change.Resolve number) (event.Resolved row form ids mode) next tree i other =
+    set_at_other past.resolved j (set_at number (past.numbers number) (past.resolved j)) i other
 resolved_other past j (change.Insert era number form ids mode) (event.Inserted given) next tree i other = refl
 resolved_other past j (change.InsertRoot era form ids mode negotiated) (event.Inserted given) next tree i other = refl
 resolved_other past j (change.InsertHandle era handle number fd) (event.Inserted given) next tree i other = refl

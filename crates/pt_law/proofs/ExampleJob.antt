@@ -48,12 +48,25 @@ steps stat =
     ∷ made (Changes (change.Insert 0 2 (File (fd 4)) stat.ids stat.mode)) (Event (event.Inserted 2))
     ∷ made (Changes (change.Unpin 0)) (Event (event.Done 0)) ∷ []
 
-belongs : (plan : Plan) (stat : Stat) → Belongs (grammar_of plan (request.Lookup 1 name)) (steps stat) (finish.Answer (answer.Entry (entry_of plan nothing_agreed root_ids stat 2)))
-belongs plan stat = (refl, inr (refl, inr (refl, inr (refl, inr (refl, inr (refl, inr (refl, inr (refl, inr (refl, refl)))))))))
+belongs : (plan : Plan) (stat : Stat) →
+    Belongs (grammar_of plan (request.Lookup 1 name)) (steps stat)
+    (finish.Answer (answer.Entry (entry_of plan nothing_agreed root_ids stat 2)))
+belongs plan stat =
+    (refl, inr (refl, inr (refl, inr (refl, inr (refl, inr (refl, inr (refl, inr (refl, inr (refl, refl)))))))))
 
--- the tables meanwhile: the root's row has so many pins, so many slots are left, this number is drawn next, and these rows were inserted before
+-- the tables meanwhile: the root's row has so many pins, so many slots are left, this number is drawn next, and these
+-- rows were inserted before
 abbrev row : ℕ → Row
-row pins = record { serial = 0; number = 1; form = File (fd 3); ids = root_ids; mode = 16877; count = 2; pins = pins; live = true }
+row pins = record {
+  serial = 0;
+  number = 1;
+  form = File (fd 3);
+  ids = root_ids;
+  mode = 16877;
+  count = 2;
+  pins = pins;
+  live = true;
+}
 
 abbrev tables : ℕ → ℕ → ℕ → List Row → Tables
 tables next_number next_row slots rows = record {
@@ -74,10 +87,23 @@ told : (stat : Stat) → root_ids ≢ stat.ids → AllMayBeTold (steps stat)
 told stat apart =
     let pinned : List Row = row 1 ∷ [] in
     let free : NoRow (tables 2 1 4 pinned) (HasIds stat.ids) = ((λ h. apart h.1), tt) in
-    let added : Row = record { serial = 1; number = 2; form = File (fd 4); ids = stat.ids; mode = stat.mode; count = 1; pins = 0; live = true } in (
+    let added : Row = record {
+      serial = 1;
+      number = 2;
+      form = File (fd 4);
+      ids = stat.ids;
+      mode = stat.mode;
+      count = 1;
+      pins = 0;
+      live = true;
+    } in (
       (tables 2 1 4 (row 0 ∷ []), tables 2 1 4 (row 0 ∷ []), (refl, refl, refl)),
       (
-        (tables 2 1 4 (row 0 ∷ []), tables 2 1 4 pinned, (row 0, (refl, refl), refl, refl, refl, refl, omega arith, (pinned, at, refl))),
+        (
+          tables 2 1 4 (row 0 ∷ []),
+          tables 2 1 4 pinned,
+          (row 0, (refl, refl), refl, refl, refl, refl, omega arith, (pinned, at, refl)),
+        ),
         (
           tt,
           (
@@ -89,9 +115,17 @@ told stat apart =
                 (
                   (tables 2 1 3 pinned, tables 3 1 3 pinned, (refl, omega arith, refl)),
                   (
-                    (tables 3 1 3 pinned, tables 3 2 3 (added ∷ pinned), (refl, (free, ((λ h. absurd (omega (arith, h.1))), tt)), omega arith, refl, refl)),
                     (
-                      (tables 3 2 3 (added ∷ pinned), tables 3 2 3 (added ∷ row 0 ∷ []), (row 1, 0, refl, refl, inr (inl refl, refl, (added ∷ row 0 ∷ [], past at, refl)))),
+                      tables 3 1 3 pinned,
+                      tables 3 2 3 (added ∷ pinned),
+                      (refl, (free, ((λ h. absurd (omega (arith, h.1))), tt)), omega arith, refl, refl),
+                    ),
+                    (
+                      (
+                        tables 3 2 3 (added ∷ pinned),
+                        tables 3 2 3 (added ∷ row 0 ∷ []),
+                        (row 1, 0, refl, refl, inr (inl refl, refl, (added ∷ row 0 ∷ [], past at, refl))),
+                      ),
                       tt,
                     ),
                   ),
@@ -104,5 +138,7 @@ told stat apart =
     )
 
 -- what is no name is refused by the request itself
-refuses : (plan : Plan) → Belongs (grammar_of plan (request.Lookup 1 [])) (made (Changes change.Begin) (Event (event.Began 0 nothing_agreed)) ∷ []) (finish.Answer (answer.Refused einval))
+refuses : (plan : Plan) →
+    Belongs (grammar_of plan (request.Lookup 1 []))
+    (made (Changes change.Begin) (Event (event.Began 0 nothing_agreed)) ∷ []) (finish.Answer (answer.Refused einval))
 refuses plan = (refl, inr refl)

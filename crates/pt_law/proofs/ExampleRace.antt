@@ -1,6 +1,7 @@
--- A run in which all that is said of runs can be met: the shared directory gets number 1, and then two lookups of one name race. Both find no
--- number, both draw one, and the second to insert finds the number that the first inserted.
-use Rattle.std.proofs.Common.{◌≡◌, ◌≢◌, ⊎_elim, inl, inr, ℕ, zero, suc, ◌<◌, List, [], ◌∷◌, true, refl, sym, ap, subst, ◌∙◌, arith, Option, Some, None, slice_get}
+-- A run in which all that is said of runs can be met: the shared directory gets number 1, and then two lookups of one
+-- name race. Both find no number, both draw one, and the second to insert finds the number that the first inserted.
+use Rattle.std.proofs.Common.{◌≡◌, ◌≢◌, ⊎_elim, inl, inr, ℕ, zero, suc, ◌<◌, List, [], ◌∷◌, true, refl, sym, ap}
+use Rattle.std.proofs.Common.{subst, ◌∙◌, arith, Option, Some, None, slice_get}
 use Rattle.std.proofs.lemmas.Bool.{cases_eq}
 use Rattle.pt_host.specs.Words.{Each, Replaces.{at, past}, set_at}
 use Rattle.pt_host.specs.Call.{Call}
@@ -70,13 +71,15 @@ IsSmall opened = (fd : ℕ) (one : Opened) → opened fd ≡ Some one → one.ob
 small_none : IsSmall (λ fd. None)
 small_none fd one e = absurd (cc)
 
-small_set : (opened : ℕ → Option Opened) (k : ℕ) (x : Option Opened) → ((one : Opened) → x ≡ Some one → one.object < 2) → IsSmall opened → IsSmall (set_at k x opened)
+small_set : (opened : ℕ → Option Opened) (k : ℕ) (x : Option Opened) →
+    ((one : Opened) → x ≡ Some one → one.object < 2) → IsSmall opened → IsSmall (set_at k x opened)
 small_set opened k x new h fd one e = ⊎_elim
     (λ (q : fd ≡ k). new one (sym (set_at_same opened k x) ∙ ap (set_at k x opened) (sym q) ∙ e))
     (λ (q : fd ≢ k). h fd one (sym (set_at_other opened k x fd q) ∙ e))
     (cases_eq fd k)
 
-small_open : (opened : ℕ → Option Opened) (k : ℕ) (new : Opened) → new.object < 2 → IsSmall opened → IsSmall (set_at k (Some new) opened)
+small_open : (opened : ℕ → Option Opened) (k : ℕ) (new : Opened) → new.object < 2 → IsSmall opened →
+    IsSmall (set_at k (Some new) opened)
 small_open opened k new l = small_set opened k (Some new) (λ one e. same one e)
   where
     same : (one : Opened) → Some new ≡ Some one → one.object < 2
@@ -86,7 +89,9 @@ small_close : (opened : ℕ → Option Opened) (k : ℕ) → IsSmall opened → 
 small_close opened k = small_set opened k None (λ one e. absurd (cc))
 
 -- the objects have other ids
-same_object : (root file : Stat) → root.ids ≢ file.ids → (n m : ℕ) (what that : Object) → slice_get (object root ∷ object file ∷ []) n ≡ Some what → slice_get (object root ∷ object file ∷ []) m ≡ Some that → what.ids ≡ that.ids → n ≡ m
+same_object : (root file : Stat) → root.ids ≢ file.ids → (n m : ℕ) (what that : Object) →
+    slice_get (object root ∷ object file ∷ []) n ≡ Some what →
+    slice_get (object root ∷ object file ∷ []) m ≡ Some that → what.ids ≡ that.ids → n ≡ m
 same_object root file apart zero zero what that a b e = refl
 same_object root file apart (suc zero) (suc zero) what that a b e = refl
 same_object root file apart zero (suc zero) what that a b e =
@@ -100,7 +105,8 @@ same_object root file apart (suc zero) zero what that a b e =
 same_object root file apart (suc (suc n)) m what that a b e = absurd (cc)
 same_object root file apart n (suc (suc m)) what that a b e = absurd (cc)
 
-no_handle : (root file : Stat) (n : ℕ) (what : Object) → slice_get (object root ∷ object file ∷ []) n ≡ Some what → what.handle ≡ None
+no_handle : (root file : Stat) (n : ℕ) (what : Object) → slice_get (object root ∷ object file ∷ []) n ≡ Some what →
+    what.handle ≡ None
 no_handle root file zero what e = let x : object root ≡ what = cc in ap (λ (o : Object). o.handle) (sym x)
 no_handle root file (suc zero) what e = let x : object file ≡ what = cc in ap (λ (o : Object). o.handle) (sym x)
 no_handle root file (suc (suc n)) what e = absurd (cc)
@@ -109,7 +115,8 @@ leads : (dir : ℕ) (child : List ℕ) (o : ℕ) → names dir child ≡ Some o 
 leads zero child o e = let k : 1 ≡ o = cc in (omega arith, omega (arith, k))
 leads (suc dir) child o e = absurd (cc)
 
-well : (root file : Stat) → root.ids ≢ file.ids → (opened : ℕ → Option Opened) → IsSmall opened → IsWellFormed (tree root file opened)
+well : (root file : Stat) → root.ids ≢ file.ids → (opened : ℕ → Option Opened) → IsSmall opened →
+    IsWellFormed (tree root file opened)
 well root file apart opened small = record {
   named = leads;
   opened = small;
@@ -137,16 +144,31 @@ after_call world job asked told tree = record {
   past = settled_by world.past job (Calls asked) (Host told) world.tables.next_row tree;
 }
 
-event_then : (seat : HostSeat) (world : World) (job : ℕ) (asked : Change) (told : EventReply) (tables : Tables) (turns : List Turn) → Happens world.tables asked told tables →
-    Leads (after_event world job asked told tables) turns → Leads world (turn_of job (made (Changes asked) (Event told)) ∷ turns)
+event_then : (seat : HostSeat) (world : World) (job : ℕ) (asked : Change) (told : EventReply) (tables : Tables)
+    (turns : List Turn) → Happens world.tables asked told tables →
+    Leads (after_event world job asked told tables) turns →
+    Leads world (turn_of job (made (Changes asked) (Event told)) ∷ turns)
 event_then seat world job asked told tables turns h rest = record {
   last = rest.last;
-  run = (after_event world job asked told tables, record { seat = seat; seat_after = seat; made = (h, refl, refl); past = refl }, rest.run);
+  run = (
+    after_event world job asked told tables,
+    record {
+      seat =
+          seat;
+      seat_after = seat;
+      made = (h, refl, refl);
+      past = refl;
+    },
+    rest.run,
+  );
 }
 
 -- a call that leaves the seat and names no path-only descriptor, and is Ok
-call_then : (seat : HostSeat) (world : World) (job : ℕ) (asked : Call) (what : HostValue) (tree : Tree) (turns : List Turn) → TreeChanges world.tree asked (host.Ok what) tree → FitsCall asked what → SeatGoes seat asked what seat → (AsksPathOnly world.tree asked → ⊥) →
-    IsWellFormed tree → Leads (after_call world job asked (host.Ok what) tree) turns → Leads world (turn_of job (made (Calls asked) (Host (host.Ok what))) ∷ turns)
+call_then : (seat : HostSeat) (world : World) (job : ℕ) (asked : Call) (what : HostValue) (tree : Tree)
+    (turns : List Turn) → TreeChanges world.tree asked (host.Ok what) tree → FitsCall asked what →
+    SeatGoes seat asked what seat → (AsksPathOnly world.tree asked → ⊥) →
+    IsWellFormed tree → Leads (after_call world job asked (host.Ok what) tree) turns →
+    Leads world (turn_of job (made (Calls asked) (Host (host.Ok what))) ∷ turns)
 call_then seat world job asked what tree turns h fits stays unasked well rest = record {
   last = rest.last;
   run = (
@@ -172,10 +194,28 @@ call_then seat world job asked what tree turns h fits stays unasked well rest = 
 -- the run
 
 abbrev row : Stat → ℕ → Row
-row root pins = record { serial = 0; number = 1; form = File (fd 3); ids = root.ids; mode = root.mode; count = 2; pins = pins; live = true }
+row root pins = record {
+  serial = 0;
+  number = 1;
+  form = File (fd 3);
+  ids = root.ids;
+  mode = root.mode;
+  count = 2;
+  pins = pins;
+  live = true;
+}
 
 abbrev added : Stat → ℕ → Row
-added file count = record { serial = 1; number = 2; form = File (fd 4); ids = file.ids; mode = file.mode; count = count; pins = 0; live = true }
+added file count = record {
+  serial = 1;
+  number = 2;
+  form = File (fd 4);
+  ids = file.ids;
+  mode = file.mode;
+  count = count;
+  pins = 0;
+  live = true;
+}
 
 abbrev tables : ℕ → ℕ → ℕ → List Row → Tables
 tables next_number next_row slots rows = record {
@@ -259,7 +299,8 @@ small_four = small_open three 4 (record { object = 1; path_only = includes path.
 small_five : IsSmall five
 small_five = small_open four 5 (record { object = 1; path_only = includes path.0 o_path }) (omega arith) small_four
 
-pub runs : (plan : Plan) (root file : Stat) (seat : HostSeat) → root.ids ≢ file.ids → Leads (start root file) (turns plan root file)
+pub runs : (plan : Plan) (root file : Stat) (seat : HostSeat) → root.ids ≢ file.ids →
+    Leads (start root file) (turns plan root file)
 unfolding set_at
 runs plan root file seat apart =
     let at_three = well root file apart three small_three in
@@ -268,32 +309,131 @@ runs plan root file seat apart =
     let at_end = well root file apart closed (small_close five 5 small_five) in
     let slot : 2 < 5 = omega arith in
     event_then seat _ 0 change.Begin (event.Began 0 nothing_agreed) (empty_tables 5) _ (refl, refl, refl) (
-    call_then seat _ 0 (call.OpenRoot plan.config.root_dir path) (value.Fd (fd 3)) (tree root file three) _ (0, record { listed = omega arith; fresh = refl; allowed = refl; adds = refl }) tt refl (λ asks. asks) at_three (
-    call_then seat _ 0 (call.Stat (fd 3)) (value.Stat root) (tree root file three) _ (0, object root, (_, refl, refl), refl, record { ids = refl; kind = refl }, refl) tt refl (λ asks. asks) at_three (
+    call_then seat _ 0 (call.OpenRoot plan.config.root_dir path) (value.Fd (fd 3)) (tree root file three) _ (
+      0,
+      record { listed = omega arith; fresh = refl; allowed = refl; adds = refl },
+    ) tt refl (λ asks. asks) at_three (
+    call_then seat _ 0 (call.Stat (fd 3)) (value.Stat root) (tree root file three) _ (
+      0,
+      object root,
+      (_, refl, refl),
+      refl,
+      record { ids = refl; kind = refl },
+      refl,
+    ) tt refl (λ asks. asks) at_three (
     event_then seat _ 0 change.TakeFd event.Taken (tables 2 0 4 []) _ (4, refl, refl) (
-    event_then seat _ 0 (change.InsertRoot 0 (File (fd 3)) root.ids root.mode None) (event.Inserted 1) (tables 2 1 4 (row root 0 ∷ [])) _ (refl, (tt, tt), omega arith, refl, refl) (
-    event_then seat _ 1 change.Begin (event.Began 0 nothing_agreed) (tables 2 1 4 (row root 0 ∷ [])) _ (refl, refl, refl) (
-    event_then seat _ 2 change.Begin (event.Began 0 nothing_agreed) (tables 2 1 4 (row root 0 ∷ [])) _ (refl, refl, refl) (
-    event_then seat _ 1 (change.Resolve 1) (event.Resolved 0 (File (fd 3)) root.ids root.mode) (tables 2 1 4 (row root 1 ∷ [])) _ (row root 0, (refl, refl), refl, refl, refl, refl, omega arith, (row root 1 ∷ [], at, refl)) (
-    event_then seat _ 2 (change.Resolve 1) (event.Resolved 0 (File (fd 3)) root.ids root.mode) (tables 2 1 4 (row root 2 ∷ [])) _ (row root 1, (refl, refl), refl, refl, refl, refl, omega arith, (row root 2 ∷ [], at, refl)) (
-    call_then seat _ 1 (call.OpenAt (fd 3) name path 0) (value.Fd (fd 4)) (tree root file four) _ (inl (1, refl, (0, (_, refl, refl), refl), record { listed = omega arith; fresh = refl; allowed = refl; adds = refl })) tt refl (λ asks. asks) at_four (
-    call_then seat _ 2 (call.OpenAt (fd 3) name path 0) (value.Fd (fd 5)) (tree root file five) _ (inl (1, refl, (0, (_, refl, refl), refl), record { listed = omega arith; fresh = refl; allowed = refl; adds = refl })) tt refl (λ asks. asks) at_five (
-    call_then seat _ 1 (call.Stat (fd 4)) (value.Stat file) (tree root file five) _ (1, object file, (_, refl, refl), refl, record { ids = refl; kind = refl }, refl) tt refl (λ asks. asks) at_five (
-    call_then seat _ 2 (call.Stat (fd 5)) (value.Stat file) (tree root file five) _ (1, object file, (_, refl, refl), refl, record { ids = refl; kind = refl }, refl) tt refl (λ asks. asks) at_five (
-    event_then seat _ 1 (change.Claim 0 None file.ids) event.Absent (tables 2 1 4 (row root 2 ∷ [])) _ (refl, ((λ h. apart h.1), tt), refl) (
-    event_then seat _ 2 (change.Claim 0 None file.ids) event.Absent (tables 2 1 4 (row root 2 ∷ [])) _ (refl, ((λ h. apart h.1), tt), refl) (
+    event_then seat _ 0 (change.InsertRoot 0 (File (fd 3)) root.ids root.mode None) (event.Inserted 1)
+    (tables 2 1 4 (row root 0 ∷ [])) _ (refl, (tt, tt), omega arith, refl, refl) (
+    event_then seat _ 1 change.Begin (event.Began 0 nothing_agreed) (tables 2 1 4 (row root 0 ∷ [])) _ (
+      refl,
+      refl,
+      refl,
+    ) (
+    event_then seat _ 2 change.Begin (event.Began 0 nothing_agreed) (tables 2 1 4 (row root 0 ∷ [])) _ (
+      refl,
+      refl,
+      refl,
+    ) (
+    event_then seat _ 1 (change.Resolve 1) (event.Resolved 0 (File (fd 3)) root.ids root.mode)
+    (tables 2 1 4 (row root 1 ∷ [])) _ (
+      row root 0,
+      (refl, refl),
+      refl,
+      refl,
+      refl,
+      refl,
+      omega arith,
+      (row root 1 ∷ [], at, refl),
+    ) (
+    event_then seat _ 2 (change.Resolve 1) (event.Resolved 0 (File (fd 3)) root.ids root.mode)
+    (tables 2 1 4 (row root 2 ∷ [])) _ (
+      row root 1,
+      (refl, refl),
+      refl,
+      refl,
+      refl,
+      refl,
+      omega arith,
+      (row root 2 ∷ [], at, refl),
+    ) (
+    call_then seat _ 1 (call.OpenAt (fd 3) name path 0) (value.Fd (fd 4)) (tree root file four) _
+    (inl (
+      1,
+      refl,
+      (0, (_, refl, refl), refl),
+      record {
+        listed = omega arith;
+        fresh = refl;
+        allowed = refl;
+        adds =
+            refl;
+      },
+    )) tt refl (λ asks. asks) at_four (
+    call_then seat _ 2 (call.OpenAt (fd 3) name path 0) (value.Fd (fd 5)) (tree root file five) _
+    (inl (
+      1,
+      refl,
+      (0, (_, refl, refl), refl),
+      record {
+        listed = omega arith;
+        fresh = refl;
+        allowed = refl;
+        adds =
+            refl;
+      },
+    )) tt refl (λ asks. asks) at_five (
+    call_then seat _ 1 (call.Stat (fd 4)) (value.Stat file) (tree root file five) _ (
+      1,
+      object file,
+      (_, refl, refl),
+      refl,
+      record { ids = refl; kind = refl },
+      refl,
+    ) tt refl (λ asks. asks) at_five (
+    call_then seat _ 2 (call.Stat (fd 5)) (value.Stat file) (tree root file five) _ (
+      1,
+      object file,
+      (_, refl, refl),
+      refl,
+      record { ids = refl; kind = refl },
+      refl,
+    ) tt refl (λ asks. asks) at_five (
+    event_then seat _ 1 (change.Claim 0 None file.ids) event.Absent (tables 2 1 4 (row root 2 ∷ [])) _ (
+      refl,
+      ((λ h. apart h.1), tt),
+      refl,
+    ) (
+    event_then seat _ 2 (change.Claim 0 None file.ids) event.Absent (tables 2 1 4 (row root 2 ∷ [])) _ (
+      refl,
+      ((λ h. apart h.1), tt),
+      refl,
+    ) (
     event_then seat _ 1 change.TakeFd event.Taken (tables 2 1 3 (row root 2 ∷ [])) _ (3, refl, refl) (
     event_then seat _ 2 change.TakeFd event.Taken (tables 2 1 2 (row root 2 ∷ [])) _ (2, refl, refl) (
     event_then seat _ 1 change.DrawNode (event.Drawn 2) (tables 3 1 2 (row root 2 ∷ [])) _ (refl, omega arith, refl) (
     event_then seat _ 2 change.DrawNode (event.Drawn 3) (tables 4 1 2 (row root 2 ∷ [])) _ (refl, omega arith, refl) (
-    event_then seat _ 1 (change.Insert 0 2 (File (fd 4)) file.ids file.mode) (event.Inserted 2) (tables 4 2 2 (added file 1 ∷ row root 2 ∷ [])) _
+    event_then seat _ 1 (change.Insert 0 2 (File (fd 4)) file.ids file.mode) (event.Inserted 2)
+    (tables 4 2 2 (added file 1 ∷ row root 2 ∷ [])) _
     (refl, (((λ h. apart h.1), tt), ((λ h. absurd (omega (arith, h.1))), tt)), omega arith, refl, refl) (
-    event_then seat _ 2 (change.Insert 0 3 (File (fd 5)) file.ids file.mode) (event.Found 2) (tables 4 2 2 (added file 2 ∷ row root 2 ∷ [])) _
+    event_then seat _ 2 (change.Insert 0 3 (File (fd 5)) file.ids file.mode) (event.Found 2)
+    (tables 4 2 2 (added file 2 ∷ row root 2 ∷ [])) _
     (refl, (added file 1, (refl, refl), refl, omega arith, (added file 2 ∷ row root 2 ∷ [], at, refl))) (
-    event_then seat _ 1 (change.Unpin 0) (event.Done 0) (tables 4 2 2 (added file 2 ∷ row root 1 ∷ [])) _ (row root 2, 1, refl, refl, inr (inl refl, refl, (added file 2 ∷ row root 1 ∷ [], past at, refl))) (
+    event_then seat _ 1 (change.Unpin 0) (event.Done 0) (tables 4 2 2 (added file 2 ∷ row root 1 ∷ [])) _ (
+      row root 2,
+      1,
+      refl,
+      refl,
+      inr (inl refl, refl, (added file 2 ∷ row root 1 ∷ [], past at, refl)),
+    ) (
     call_then seat _ 2 (call.Close (fd 5)) value.Unit (tree root file closed) _ refl tt refl (λ asks. asks) at_end (
     event_then seat _ 2 change.GiveFd event.Given (tables 4 2 3 (added file 2 ∷ row root 1 ∷ [])) _ (slot, refl) (
-    event_then seat _ 2 (change.Unpin 0) (event.Done 0) (tables 4 2 3 (added file 2 ∷ row root 0 ∷ [])) _ (row root 1, 0, refl, refl, inr (inl refl, refl, (added file 2 ∷ row root 0 ∷ [], past at, refl))) (
+    event_then seat _ 2 (change.Unpin 0) (event.Done 0) (tables 4 2 3 (added file 2 ∷ row root 0 ∷ [])) _ (
+      row root 1,
+      0,
+      refl,
+      refl,
+      inr (inl refl, refl, (added file 2 ∷ row root 0 ∷ [], past at, refl)),
+    ) (
     record { last = _; run = refl })))))))))))))))))))))))))
 
 -- what the jobs asked, and how they ended
@@ -313,24 +453,68 @@ answered plan root file = record { owners = owners; jobs = jobs }
     owners =
         let a : 0 < 3 = omega arith in
         let b : 1 < 3 = omega arith in
-        let c : 2 < 3 = omega arith in
-        (a, (a, (a, (a, (a, (b, (c, (b, (c, (b, (c, (b, (c, (b, (c, (b, (c, (b, (c, (b, (c, (b, (c, (c, (c, tt)))))))))))))))))))))))))
+        let c : 2 < 3 = omega arith in (
+          a,
+          (
+            a,
+            (
+              a,
+              (
+                a,
+                (
+                  a,
+                  (
+                    b,
+                    (
+                      c,
+                      (
+                        b,
+                        (
+                          c,
+                          (
+                            b,
+                            (c, (b, (c, (b, (c, (b, (c, (b, (c, (b, (c, (b, (c, (c, (c, tt))))))))))))))),
+                          ),
+                        ),
+                      ),
+                    ),
+                  ),
+                ),
+              ),
+            ),
+          ),
+        )
 
-    jobs : (job : ℕ) → job < 3 → Belongs (grammar_for plan (asked job)) (steps_of job (turns plan root file)) (ends plan root file job)
+    jobs : (job : ℕ) → job < 3 →
+        Belongs (grammar_for plan (asked job)) (steps_of job (turns plan root file)) (ends plan root file job)
     jobs zero l = (refl, inr (refl, inr (refl, inr (refl, inr (refl, inr refl)))))
-    jobs (suc zero) l = (refl, inr (refl, inr (refl, inr (refl, inr (refl, inr (refl, inr (refl, inr (refl, inr (refl, refl)))))))))
-    jobs (suc (suc zero)) l = (refl, inr (refl, inr (refl, inr (refl, inr (refl, inr (refl, inr (refl, inr (refl, inr (refl, (refl, (refl, refl)))))))))))
+    jobs (suc zero) l =
+        (refl, inr (refl, inr (refl, inr (refl, inr (refl, inr (refl, inr (refl, inr (refl, inr (refl, refl)))))))))
+    jobs (suc (suc zero)) l = (
+      refl,
+      inr (
+        refl,
+        inr (
+          refl,
+          inr (refl, inr (refl, inr (refl, inr (refl, inr (refl, inr (refl, (refl, (refl, refl)))))))),
+        ),
+      ),
+    )
     jobs (suc (suc (suc job))) l = absurd (omega arith)
 
 pub ended : (plan : Plan) (root file : Stat) (seat : HostSeat) → root.ids ≢ file.ids → AreEnded 3 (turns plan root file)
 ended plan root file seat apart =
     let r = runs plan root file seat apart in
-    run_ended plan 3 asked (ends plan root file) (turns plan root file) (start root file) r.last r.run (answered plan root file)
+    run_ended plan 3 asked (ends plan root file) (turns plan root file) (start root file) r.last r.run
+    (answered plan root file)
 
 -- so the laws say of it what they say: the second lookup's number names object 1, which the name led to
 pub entered : (plan : Plan) (root file : Stat) (seat : HostSeat) (apart : root.ids ≢ file.ids) →
-    IsEntered plan (start root file) (turns plan root file) (runs plan root file seat apart).last 2 1 name (entry_of plan nothing_agreed root.ids file 2)
+    IsEntered plan (start root file) (turns plan root file) (runs plan root file seat apart).last 2 1 name
+    (entry_of plan nothing_agreed root.ids file 2)
 entered plan root file seat apart =
     let r = runs plan root file seat apart in
-    entered_law 5 3 plan (turns plan root file) (start root file) r.last 2 1 name (entry_of plan nothing_agreed root.ids file 2) (starts root file apart) (ended_jobs 3 (turns plan root file) (ended plan root file seat apart)) r.run
+    entered_law 5 3 plan (turns plan root file) (start root file) r.last 2 1 name
+    (entry_of plan nothing_agreed root.ids file 2) (starts root file apart)
+    (ended_jobs 3 (turns plan root file) (ended plan root file seat apart)) r.run
     (omega arith) ((answered plan root file).jobs 2 (omega arith))

@@ -6,7 +6,9 @@ use Rattle.pt_host.specs.LawfulStep.{OpensFound, OpensMade}
 use Rattle.pt_host.specs.declared.ids.Fd.{Fd}
 use Rattle.pt_host.specs.declared.flags.OpenFlags.{OpenFlags}
 
-pub found_only : (tree : Tree) (dir : Fd) (name : List ℕ) (flags : OpenFlags) (fd : Fd) (after : Tree) → includes flags.0 o_creat ≡ false →
-    OpensFound tree dir name flags fd after ⊎ OpensMade tree dir name flags fd after → OpensFound tree dir name flags fd after
+pub found_only : (tree : Tree) (dir : Fd) (name : List ℕ) (flags : OpenFlags) (fd : Fd) (after : Tree) →
+    includes flags.0 o_creat ≡ false →
+    OpensFound tree dir name flags fd after ⊎ OpensMade tree dir name flags fd after →
+    OpensFound tree dir name flags fd after
 found_only tree dir name flags fd after free (inl found) = found
 found_only tree dir name flags fd after free (inr made) = let yes = made.1 in absurd (cc)

@@ -1,5 +1,6 @@
 -- No handle is inserted twice.
-use Rattle.std.proofs.Common.{◌≡◌, ◌≢◌, ⊎_elim, ℕ, ◌+◌, ◌<◌, ◌≤◌, List, [], ◌∷◌, ◌++◌, refl, ap, arith, Bool, true, false, Option, Some, None}
+use Rattle.std.proofs.Common.{◌≡◌, ◌≢◌, ⊎_elim, ℕ, ◌+◌, ◌<◌, ◌≤◌, List, [], ◌∷◌, ◌++◌, refl, ap, arith, Bool, true}
+use Rattle.std.proofs.Common.{false, Option, Some, None}
 use Rattle.std.proofs.lemmas.Bool.{cases_eq}
 use Rattle.pt_host.specs.Words.{is, set_at, sum_to, Each}
 use Rattle.pt_host.specs.declared.ids.Fd.{Fd}
@@ -26,17 +27,20 @@ pub record Singly (next : ℕ) (count : ℕ → ℕ) : Type 0 where
   pub once : (n : ℕ) → count n ≤ 1
   pub fresh : (n : ℕ) → next ≤ n → count n ≡ 0
 
-singly_kept : (next later : ℕ) (count after : ℕ → ℕ) → next ≤ later → ((n : ℕ) → after n ≤ count n) → Singly next count → Singly later after
+singly_kept : (next later : ℕ) (count after : ℕ → ℕ) → next ≤ later → ((n : ℕ) → after n ≤ count n) →
+    Singly next count → Singly later after
 singly_kept next later count after l f v = record {
   once = λ n. let a = v.once n in let b = f n in omega (arith, a, b);
   fresh = λ n k. let a = v.fresh n (omega (arith, k, l)) in let b = f n in omega (arith, a, b);
 }
 
 -- the next one is drawn
-singly_drawn : (next later drawn : ℕ) (count after : ℕ → ℕ) → drawn ≡ next → later ≡ next + 1 → ((n : ℕ) → after n ≤ count n + is drawn n) → Singly next count → Singly later after
+singly_drawn : (next later drawn : ℕ) (count after : ℕ → ℕ) → drawn ≡ next → later ≡ next + 1 →
+    ((n : ℕ) → after n ≤ count n + is drawn n) → Singly next count → Singly later after
 singly_drawn next later drawn count after e l f v = record {
   once = λ n. ⊎_elim
-      (λ (q : drawn ≡ n). let a = v.fresh n (omega (arith, q, e)) in let b = f n in let i = is_within drawn n in omega (arith, a, b, i))
+      (λ (q : drawn ≡ n). let a = v.fresh n (omega (arith, q, e)) in let b = f n in let i = is_within drawn n in
+      omega (arith, a, b, i))
       (λ (q : drawn ≢ n). let a = v.once n in let b = f n in let i = is_apart drawn n q in omega (arith, a, b, i))
       (cases_eq drawn n);
   fresh = λ n k.
@@ -65,9 +69,11 @@ root_handle fd notes = go notes.rooted
     go false = refl
 
 -- a handle that comes to be inserted was drawn
-handle_flow : (job : Job) (t : Tables) (deed : Deed) (told : ActReply) (t' : Tables) (after : Job) → TablesGo t (Some deed) told t' → MovesBy job deed told after → (n : ℕ) →
+handle_flow : (job : Job) (t : Tables) (deed : Deed) (told : ActReply) (t' : Tables) (after : Job) →
+    TablesGo t (Some deed) told t' → MovesBy job deed told after → (n : ℕ) →
     is_drawn n after.notes.handle + handle_inserted_as n deed told ≤ is_drawn n job.notes.handle + draws n deed told
-handle_flow job t (Changes change.DrawHandle) (Event (event.Drawn k)) t' after g m n = let a = ap (λ (z : Notes). is_drawn n z.handle) m.3 in omega (arith, a)
+handle_flow job t (Changes change.DrawHandle) (Event (event.Drawn k)) t' after g m n =
+    let a = ap (λ (z : Notes). is_drawn n z.handle) m.3 in omega (arith, a)
 handle_flow job t (Changes (change.InsertHandle era handle number fd)) (Event (event.Inserted given)) t' after g m n =
     let a = ap (λ (z : Notes). is_drawn n z.handle) m.3 in
     let b = ap (is_drawn n) m.1.2 in
@@ -77,17 +83,28 @@ handle_flow job t (Calls (call.OpenRoot path flags)) (Host (host.Ok (value.Fd fd
     let a = ap (λ (z : Notes). is_drawn n z.handle) m.3 in
     let b = ap (is_drawn n) (root_handle fd job.notes) in
     omega (arith, a, b)
-handle_flow job t (Calls (call.OpenAt dir name flags mode)) (Host (host.Ok (value.Fd fd))) t' after g m n = let a = ap (λ (z : Notes). is_drawn n z.handle) m.3 in omega (arith, a)
-handle_flow job t (Calls (call.Reopen fd flags)) (Host (host.Ok (value.Fd new))) t' after g m n = let a = ap (λ (z : Notes). is_drawn n z.handle) m.3 in omega (arith, a)
-handle_flow job t (Changes change.Begin) (Event (event.Began era agreed)) t' after g m n = let a = ap (λ (z : Notes). is_drawn n z.handle) m.3 in omega (arith, a)
-handle_flow job t (Changes change.Clear) (Event (event.Cleared era closings)) t' after g m n = let a = ap (λ (z : Notes). is_drawn n z.handle) m.3 in omega (arith, a)
-handle_flow job t (Changes (change.Resolve number)) (Event (event.Resolved row form ids mode)) t' after g m n = let a = ap (λ (z : Notes). is_drawn n z.handle) m.3 in omega (arith, a)
-handle_flow job t (Changes change.DrawNode) (Event (event.Drawn k)) t' after g m n = let a = ap (λ (z : Notes). is_drawn n z.handle) m.3 in omega (arith, a)
-handle_flow job t (Changes (change.Insert era number form ids mode)) (Event (event.Inserted given)) t' after g m n = let a = ap (λ (z : Notes). is_drawn n z.handle) m.3 in omega (arith, a)
-handle_flow job t (Changes (change.InsertRoot era form ids mode agreed)) (Event (event.Inserted given)) t' after g m n = let a = ap (λ (z : Notes). is_drawn n z.handle) m.3 in omega (arith, a)
+handle_flow job t (Calls (call.OpenAt dir name flags mode)) (Host (host.Ok (value.Fd fd))) t' after g m n =
+    let a = ap (λ (z : Notes). is_drawn n z.handle) m.3 in omega (arith, a)
+handle_flow job t (Calls (call.Reopen fd flags)) (Host (host.Ok (value.Fd new))) t' after g m n =
+    let a = ap (λ (z : Notes). is_drawn n z.handle) m.3 in omega (arith, a)
+handle_flow job t (Changes change.Begin) (Event (event.Began era agreed)) t' after g m n =
+    let a = ap (λ (z : Notes). is_drawn n z.handle) m.3 in omega (arith, a)
+handle_flow job t (Changes change.Clear) (Event (event.Cleared era closings)) t' after g m n =
+    let a = ap (λ (z : Notes). is_drawn n z.handle) m.3 in omega (arith, a)
+handle_flow job t (Changes (change.Resolve number)) (Event (event.Resolved row form ids mode)) t' after g m n =
+    let a = ap (λ (z : Notes). is_drawn n z.handle) m.3 in omega (arith, a)
+handle_flow job t (Changes change.DrawNode) (Event (event.Drawn k)) t' after g m n =
+    let a = ap (λ (z : Notes). is_drawn n z.handle) m.3 in omega (arith, a)
+handle_flow job t (Changes (change.Insert era number form ids mode)) (Event (event.Inserted given)) t' after g m n =
+    let a = ap (λ (z : Notes). is_drawn n z.handle) m.3 in omega (arith, a)
+handle_flow job t (Changes (change.InsertRoot era form ids mode agreed))
+    (Event (event.Inserted given)) t' after g m n = let a = ap (λ (z : Notes). is_drawn n z.handle) m.3 in
+    omega (arith, a)
 handle_flow job t deed told t' after g m n = let a = ap (λ (z : Notes). is_drawn n z.handle) m.3 in omega (arith, a)
 
-keeps_handles : (bound : ℕ) (had : ℕ → ℕ) (t : Tables) (js : ℕ → Job) (j : ℕ) (deed : Option Deed) (told : ActReply) (t' : Tables) (after : Job) → j < bound → Handles bound had t js → TablesGo t deed told t' →
+keeps_handles : (bound : ℕ) (had : ℕ → ℕ) (t : Tables) (js : ℕ →
+    Job) (j : ℕ) (deed : Option Deed) (told : ActReply) (t' : Tables) (after : Job) → j < bound →
+    Handles bound had t js → TablesGo t deed told t' →
     MovesIf (js j) deed told after → Handles bound (λ n. had n + handle_inserted_if n deed told) t' (set_at j after js)
 keeps_handles bound had t js j None told t' after lt v g m =
     let s = step_stays t None told t' g in
@@ -110,19 +127,26 @@ keeps_handles bound had t js j (Some deed) told t' after lt v g m =
     omega (arith, z, a)) v
 
 -- the jobs in any order
-handles_keep : (bound : ℕ) (had : ℕ → ℕ) (turns : List Turn) (t last : Tables) (js ends : ℕ → Job) → TablesRun t turns last → Each (λ s. s.job < bound) turns → Handles bound had t js → Sorted bound js turns ends →
+handles_keep : (bound : ℕ) (had : ℕ → ℕ) (turns : List Turn) (t last : Tables) (js ends : ℕ → Job) →
+    TablesRun t turns last → Each (λ s. s.job < bound) turns → Handles bound had t js → Sorted bound js turns ends →
     (n : ℕ) → had n + handle_inserted n turns ≤ 1
 handles_keep bound had [] t last js ends r lt v d n = let a = v.once n in omega (arith, a)
 handles_keep bound had (s ∷ ss) t last js ends r lt v d n =
     let mine = rw (steps_same s ss) at (d s.job lt.0) in
     let step = keeps_handles bound had t js s.job s.step.deed s.step.reply r.0 mine.0 lt.0 v r.1 mine.1 in
-    let a = handles_keep bound (λ n. had n + handle_inserted_if n s.step.deed s.step.reply) ss r.0 last (set_at s.job mine.0 js) ends r.2 lt.1 step (after_step bound js ends s ss mine.0 d mine.2) n in
+    let a = handles_keep bound (λ n. had n
+    + handle_inserted_if n s.step.deed s.step.reply) ss r.0 last (set_at s.job mine.0 js) ends r.2 lt.1 step
+    (after_step bound js ends s ss mine.0 d mine.2) n in
     omega (arith, a)
 
-pub handles_once_law : (limit bound : ℕ) (turns more : List Turn) (now : Tables) (handle : ℕ) → AreDisciplined bound (turns ++ more) → TablesRun (empty_tables limit) turns now → handle_inserted handle turns ≤ 1
+pub handles_once_law : (limit bound : ℕ) (turns more : List Turn) (now : Tables) (handle : ℕ) →
+    AreDisciplined bound (turns ++ more) → TablesRun (empty_tables limit) turns now → handle_inserted handle turns ≤ 1
 handles_once_law limit bound turns more now handle a r =
-    let ends = choose (λ j job. Between (steps_of j turns) (steps_of j more) job) bound idle (between bound turns more a) in
+    let ends = choose (λ j job.
+    Between (steps_of j turns) (steps_of j more) job) bound idle (between bound turns more a) in
     let still = sum_to_zero (λ j. 0) bound (λ j l. refl) in
-    let none : Handles bound (λ n. 0) (empty_tables limit) (λ j. idle) = record { once = λ n. omega (arith, still); fresh = λ n l. omega (arith, still) } in
-    let h = handles_keep bound (λ n. 0) turns (empty_tables limit) now (λ j. idle) ends.0 r (each_front (λ s. s.job < bound) turns more a.owners) none (λ j l. (ends.1 j l).0) handle in
+    let none : Handles bound (λ n. 0) (empty_tables limit) (λ j. idle) =
+    record { once = λ n. omega (arith, still); fresh = λ n l. omega (arith, still) } in
+    let h = handles_keep bound (λ n. 0) turns (empty_tables limit) now (λ j.
+    idle) ends.0 r (each_front (λ s. s.job < bound) turns more a.owners) none (λ j l. (ends.1 j l).0) handle in
     omega (arith, h)

@@ -1,5 +1,6 @@
 -- What holds of every run whose jobs keep the discipline.
-use Rattle.std.proofs.Common.{◌≡◌, ◌≢◌, ⊎_elim, ℕ, ◌+◌, ◌*◌, ◌<◌, ◌≤◌, List, [], ◌∷◌, ◌++◌, length, Bool, true, false, cond, eqb, refl, sym, ap, subst, ◌∙◌, arith, Option, Some, None}
+use Rattle.std.proofs.Common.{◌≡◌, ◌≢◌, ⊎_elim, ℕ, ◌+◌, ◌*◌, ◌<◌, ◌≤◌, List, [], ◌∷◌, ◌++◌, length, Bool, true, false}
+use Rattle.std.proofs.Common.{cond, eqb, refl, sym, ap, subst, ◌∙◌, arith, Option, Some, None}
 use Rattle.std.proofs.lemmas.Bool.{cases_eq, cases_Bool}
 use Rattle.pt_host.specs.Words.{is, total, Each, Takes, Takes.{here, there}, sum_to}
 use Rattle.pt_host.specs.Tree.{Tree, IsWellFormed}
@@ -16,12 +17,15 @@ use Rattle.pt_req.specs.declared.hold.Hold.{Hold}
 use Rattle.pt_req.specs.declared.hold.Hold.TheVariants as hold
 use Rattle.pt_law.specs.Discipline.{Job, idle, at_job, Moves, Disciplined, entry_holds}
 use Rattle.pt_law.specs.World.{World, Turn, TablesGo, Runs, TablesRun, steps_of, no_past}
-use Rattle.pt_law.specs.Ledger.{closing_slot, slot_taken, slot_given_by, slots_taken, slots_given, carried, closing_fd, fd_held, held_by, open_count, given, inserted}
-use Rattle.pt_law.specs.Laws.{Serves, AreDisciplined, AreEnded, Starts, AreDistinct, HasObject, IsCounted, SlotsAddUp, AreKept, IsAtRest, LeavesRows}
+use Rattle.pt_law.specs.Ledger.{closing_slot, slot_taken, slot_given_by, slots_taken, slots_given, carried}
+use Rattle.pt_law.specs.Ledger.{closing_fd, fd_held, held_by, open_count, given, inserted}
+use Rattle.pt_law.specs.Laws.{Serves, AreDisciplined, AreEnded, Starts, AreDistinct, HasObject, IsCounted, SlotsAddUp}
+use Rattle.pt_law.specs.Laws.{AreKept, IsAtRest, LeavesRows}
 use Rattle.pt_req.specs.declared.act.ActReply.{ActReply}
 use Rattle.pt_req.specs.declared.act.ActReply.TheVariants.{Event}
 use Rattle.pt_law.proofs.Flows.{slot_held, pin_held, handle_pin_held, row_pins, handle_pins, called, unmade}
-use Rattle.pt_law.proofs.Lists.{total_takes, each_front, each_taken, each_both, sum_to_same, sum_to_zero, two_of, is_same, is_apart}
+use Rattle.pt_law.proofs.Lists.{total_takes, each_front, each_taken, each_both, sum_to_same, sum_to_zero, two_of}
+use Rattle.pt_law.proofs.Lists.{is_same, is_apart}
 use Rattle.pt_law.proofs.Effects.{Stays, stays, stays_same, stays_on}
 use Rattle.pt_law.proofs.Holding.{handed}
 use Rattle.pt_law.proofs.Givings.{count_in, live_count, in_live, only_taken, agree_step, counts_run}
@@ -30,11 +34,13 @@ use Rattle.pt_law.proofs.Steps.{Tabled, Inv, HasFlows, recount}
 use Rattle.pt_law.proofs.Interleaving.{steps_append, disciplined_split, choose, tables_keep, runs_keep}
 
 -- before the first step
-pub held_nobody : (bound : ℕ) (w : Hold → ℕ) (js : ℕ → Job) → ((j : ℕ) → j < bound → total w (js j).holds ≡ 0) → held_by bound w js ≡ 0
+pub held_nobody : (bound : ℕ) (w : Hold → ℕ) (js : ℕ → Job) → ((j : ℕ) → j < bound → total w (js j).holds ≡ 0) →
+    held_by bound w js ≡ 0
 held_nobody bound w js e = sum_to_zero (λ j. total w (js j).holds) bound e
 
 empty_agree : (limit : ℕ) → Agree (empty_tables limit)
-empty_agree limit = record { sound = tt; apart = tt; sound_handles = tt; handles_apart = tt; serials = tt; slots = omega arith }
+empty_agree limit =
+    record { sound = tt; apart = tt; sound_handles = tt; handles_apart = tt; serials = tt; slots = omega arith }
 
 pub begins_tabled : (limit bound : ℕ) → Tabled bound (λ n. 0) (empty_tables limit) (λ j. idle)
 begins_tabled limit bound =
@@ -42,11 +48,22 @@ begins_tabled limit bound =
     let still = sum_to_zero (λ j. 0) bound (λ j l. refl) in
     record {
       agree = empty_agree limit;
-      books = record { slots = let a = none slot_held in omega (arith, a); pins = λ s. let a = none (pin_held s) in omega (arith, a); handle_pins = λ s. let a = none (handle_pin_held s) in omega (arith, a); closings = omega (arith, still) };
-      numbers = record { once = λ n ne. omega (arith, still); fresh = λ n l. omega (arith, still); second = omega arith };
+      books = record {
+        slots = let a = none slot_held in omega (arith, a);
+        pins = λ s. let a = none (pin_held s) in omega (arith, a);
+        handle_pins = λ s. let a = none (handle_pin_held s) in omega (arith, a);
+        closings = omega (arith, still);
+      };
+      numbers = record {
+        once = λ n ne. omega (arith, still);
+        fresh = λ n l. omega (arith, still);
+        second = omega arith;
+      };
     }
 
-begins_at : (limit bound : ℕ) (tree : Tree) → IsWellFormed tree → Inv bound (λ fd. open_count fd tree) (λ n. 0) (record { tree = tree; tables = empty_tables limit; past = no_past }) (λ j. idle)
+begins_at : (limit bound : ℕ) (tree : Tree) → IsWellFormed tree →
+    Inv bound (λ fd. open_count fd tree) (λ n.
+    0) (record { tree = tree; tables = empty_tables limit; past = no_past }) (λ j. idle)
 begins_at limit bound tree well = record {
   tabled = begins_tabled limit bound;
   well = well;
@@ -66,38 +83,58 @@ begins_at limit bound tree well = record {
   };
 }
 
-pub begins : (limit bound : ℕ) (w : World) → Starts limit w → Inv bound (λ fd. open_count fd w.tree) (λ n. 0) w (λ j. idle)
+pub begins : (limit bound : ℕ) (w : World) → Starts limit w →
+    Inv bound (λ fd. open_count fd w.tree) (λ n. 0) w (λ j. idle)
 begins limit bound w s =
-    let same : w ≡ record { tree = w.tree; tables = empty_tables limit; past = no_past } = λ i. record { tree = w.tree; tables = s.tables i; past = s.past i } in
-    subst (λ z. Inv bound (λ fd. open_count fd w.tree) (λ n. 0) z (λ j. idle)) (sym same) (begins_at limit bound w.tree s.well_formed)
+    let same : w ≡ record { tree = w.tree; tables = empty_tables limit; past = no_past } =
+    λ i. record { tree = w.tree; tables = s.tables i; past = s.past i } in
+    subst (λ z. Inv bound (λ fd. open_count fd w.tree) (λ n. 0) z (λ j. idle)) (sym same)
+    (begins_at limit bound w.tree s.well_formed)
 
 -- a job came here by the discipline, and goes on by it
 abbrev pub Between : List Step → List Step → Job → Type 0
 Between steps more job = Disciplined idle steps job × (end : Job) × Disciplined job more end
 
-pub between : (bound : ℕ) (turns more : List Turn) → AreDisciplined bound (turns ++ more) → (j : ℕ) → j < bound → (job : Job) × Between (steps_of j turns) (steps_of j more) job
+pub between : (bound : ℕ) (turns more : List Turn) → AreDisciplined bound (turns ++ more) → (j : ℕ) → j < bound →
+    (job : Job) × Between (steps_of j turns) (steps_of j more) job
 between bound turns more a j l =
     let d = a.jobs j l in
-    let e = disciplined_split (steps_of j turns) (steps_of j more) idle d.0 (subst (λ x. Disciplined idle x d.0) (steps_append j turns more) d.1) in
+    let e = disciplined_split (steps_of j turns) (steps_of j more) idle d.0
+    (subst (λ x. Disciplined idle x d.0) (steps_append j turns more) d.1) in
     (e.0, (e.1, d.0, e.2))
 
 -- where a run of the tables has come to
-pub reach_tables : (limit bound : ℕ) (turns more : List Turn) (now : Tables) → AreDisciplined bound (turns ++ more) → TablesRun (empty_tables limit) turns now →
-    (js : ℕ → Job) × Tabled bound (λ n. inserted n turns) now js × Each (λ s. HasFlows s.step.deed s.step.reply) turns × ((j : ℕ) → j < bound → Between (steps_of j turns) (steps_of j more) (js j))
+pub reach_tables : (limit bound : ℕ) (turns more : List Turn) (now : Tables) → AreDisciplined bound (turns ++ more) →
+    TablesRun (empty_tables limit) turns now →
+    (js : ℕ → Job) × Tabled bound (λ n. inserted n turns) now js × Each (λ s. HasFlows s.step.deed s.step.reply) turns
+    × ((j : ℕ) → j < bound → Between (steps_of j turns) (steps_of j more) (js j))
 reach_tables limit bound turns more now a r =
-    let ends = choose (λ j job. Between (steps_of j turns) (steps_of j more) job) bound idle (between bound turns more a) in
-    let v = tables_keep bound (λ n. 0) turns (empty_tables limit) now (λ j. idle) ends.0 r (each_front (λ s. s.job < bound) turns more a.owners) (begins_tabled limit bound) (λ j l. (ends.1 j l).0) in
-    (v.1, recount bound (λ n. 0 + inserted n turns) (λ n. inserted n turns) now v.1 (λ n. omega arith) v.2, v.0, (λ j l. subst (Between (steps_of j turns) (steps_of j more)) (sym (v.3 j l)) (ends.1 j l)))
+    let ends = choose (λ j job.
+    Between (steps_of j turns) (steps_of j more) job) bound idle (between bound turns more a) in
+    let v = tables_keep bound (λ n. 0) turns (empty_tables limit) now (λ j.
+    idle) ends.0 r (each_front (λ s. s.job < bound) turns more a.owners) (begins_tabled limit bound) (λ j l.
+    (ends.1 j l).0) in (
+      v.1,
+      recount bound (λ n. 0 + inserted n turns) (λ n. inserted n turns) now v.1 (λ n. omega arith) v.2,
+      v.0,
+      (λ j l. subst (Between (steps_of j turns) (steps_of j more)) (sym (v.3 j l)) (ends.1 j l)),
+    )
 
 -- and one of host and tables
-pub reach : (limit bound : ℕ) (turns more : List Turn) (start now : World) → Starts limit start → AreDisciplined bound (turns ++ more) → Runs start turns now →
-    (js : ℕ → Job) × Inv bound (λ fd. open_count fd start.tree) (λ n. 0 + inserted n turns) now js × ((j : ℕ) → j < bound → Between (steps_of j turns) (steps_of j more) (js j))
+pub reach : (limit bound : ℕ) (turns more : List Turn) (start now : World) → Starts limit start →
+    AreDisciplined bound (turns ++ more) → Runs start turns now →
+    (js : ℕ → Job) × Inv bound (λ fd. open_count fd start.tree) (λ n. 0 + inserted n turns) now js
+    × ((j : ℕ) → j < bound → Between (steps_of j turns) (steps_of j more) (js j))
 reach limit bound turns more start now s a r =
-    let ends = choose (λ j job. Between (steps_of j turns) (steps_of j more) job) bound idle (between bound turns more a) in
-    let v = runs_keep bound (λ fd. open_count fd start.tree) (λ n. 0) turns start now (λ j. idle) ends.0 r (each_front (λ s. s.job < bound) turns more a.owners) (begins limit bound start s) (λ j l. (ends.1 j l).0) in
+    let ends = choose (λ j job.
+    Between (steps_of j turns) (steps_of j more) job) bound idle (between bound turns more a) in
+    let v = runs_keep bound (λ fd. open_count fd start.tree) (λ n. 0) turns start now (λ j.
+    idle) ends.0 r (each_front (λ s. s.job < bound) turns more a.owners) (begins limit bound start s) (λ j l.
+    (ends.1 j l).0) in
     (v.0, v.1, (λ j l. subst (Between (steps_of j turns) (steps_of j more)) (sym (v.2 j l)) (ends.1 j l)))
 
-pub step_stays : (t : Tables) (deed : Option Deed) (told : ActReply) (t' : Tables) → TablesGo t deed told t' → Stays t t'
+pub step_stays : (t : Tables) (deed : Option Deed) (told : ActReply) (t' : Tables) → TablesGo t deed told t' →
+    Stays t t'
 step_stays t None told t' g = rw (unmade t told t' g) (stays_same t)
 step_stays t (Some (Calls asked)) told t' g = rw (called t asked told t' g) (stays_same t)
 step_stays t (Some (Changes asked)) (Event r) t' g = stays t asked r t' g
@@ -111,7 +148,8 @@ run_stays (s ∷ ss) t last r = stays_on (step_stays t s.step.deed s.step.reply 
 pub era_grows : (turns : List Turn) (start now : Tables) → TablesRun start turns now → start.era ≤ now.era
 era_grows turns start now r = (run_stays turns start now r).era
 
-limit_stays : (limit : ℕ) (turns : List Turn) (now : Tables) → TablesRun (empty_tables limit) turns now → now.limit ≡ limit
+limit_stays : (limit : ℕ) (turns : List Turn) (now : Tables) → TablesRun (empty_tables limit) turns now →
+    now.limit ≡ limit
 limit_stays limit turns now r = (run_stays turns (empty_tables limit) now r).limit
 
 pub agree_law : (limit : ℕ) (turns : List Turn) (now : Tables) → TablesRun (empty_tables limit) turns now → Agree now
@@ -122,50 +160,63 @@ agree_law limit turns now r = go turns (empty_tables limit) (empty_agree limit) 
     go (s ∷ ss) t a r = go ss r.0 (agree_step t s.step.deed s.step.reply r.0 r.1 a) r.2
 
 -- what a job carries is what it holds
-flows_of : (j : ℕ) (turns : List Turn) → Each (λ s. HasFlows s.step.deed s.step.reply) turns → Each (λ (step : Step). HasFlows step.deed step.reply) (steps_of j turns)
+flows_of : (j : ℕ) (turns : List Turn) → Each (λ s. HasFlows s.step.deed s.step.reply) turns →
+    Each (λ (step : Step). HasFlows step.deed step.reply) (steps_of j turns)
 flows_of j [] h = tt
 flows_of j (s ∷ ss) h = go (eqb s.job j) (flows_of j ss h.1)
   where
-    go : (b : Bool) → Each (λ (step : Step). HasFlows step.deed step.reply) (steps_of j ss) → Each (λ (step : Step). HasFlows step.deed step.reply) (cond b (s.step ∷ steps_of j ss) (steps_of j ss))
+    go : (b : Bool) → Each (λ (step : Step). HasFlows step.deed step.reply) (steps_of j ss) →
+        Each (λ (step : Step). HasFlows step.deed step.reply) (cond b (s.step ∷ steps_of j ss) (steps_of j ss))
     go true r = (h.0, r)
     go false r = r
 
-carries_step : (job after : Job) (step : Step) → HasFlows step.deed step.reply → Moves job step after → total slot_held after.holds + slot_given_by step.deed step.reply ≡ total slot_held job.holds + slot_taken step.reply
+carries_step : (job after : Job) (step : Step) → HasFlows step.deed step.reply → Moves job step after →
+    total slot_held after.holds + slot_given_by step.deed step.reply ≡ total slot_held job.holds + slot_taken step.reply
 carries_step job after step f m = go step.deed f m
   where
-    go : (deed : Option Deed) → HasFlows deed step.reply → Moves job (record step { deed = deed }) after → total slot_held after.holds + slot_given_by deed step.reply ≡ total slot_held job.holds + slot_taken step.reply
+    go : (deed : Option Deed) → HasFlows deed step.reply → Moves job (record step { deed = deed }) after →
+        total slot_held after.holds + slot_given_by deed step.reply ≡ total slot_held job.holds + slot_taken step.reply
     go None f m = let a = ap (λ (z : Job). total slot_held z.holds) m in omega (arith, a, f)
-    go (Some deed) f m = let a = (handed job.holds deed step.reply after.holds m.0).slots in let b = f.0 in let c = f.1 in omega (arith, a, b, c)
+    go (Some deed) f m = let a = (handed job.holds deed step.reply after.holds m.0).slots in let b = f.0 in
+        let c = f.1 in omega (arith, a, b, c)
 
-carries : (job after : Job) (steps : List Step) → Each (λ (step : Step). HasFlows step.deed step.reply) steps → Disciplined job steps after → total slot_held after.holds + slots_given steps ≡ total slot_held job.holds + slots_taken steps
+carries : (job after : Job) (steps : List Step) → Each (λ (step : Step). HasFlows step.deed step.reply) steps →
+    Disciplined job steps after →
+    total slot_held after.holds + slots_given steps ≡ total slot_held job.holds + slots_taken steps
 carries job after [] f d = ap (λ (z : Job). total slot_held z.holds + 0) d
 carries job after (s ∷ steps) f d =
     let a = carries_step job d.0 s f.0 d.1 in
     let b = carries d.0 after steps f.1 d.2 in
     omega (arith, a, b)
 
-carried_held : (job : Job) (steps : List Step) → Each (λ (step : Step). HasFlows step.deed step.reply) steps → Disciplined idle steps job → carried steps ≡ total slot_held job.holds
+carried_held : (job : Job) (steps : List Step) → Each (λ (step : Step). HasFlows step.deed step.reply) steps →
+    Disciplined idle steps job → carried steps ≡ total slot_held job.holds
 carried_held job steps f d = let a = carries idle job steps f d in omega (arith, a)
 
-pub slots_law : (limit bound : ℕ) (turns more : List Turn) (now : Tables) → AreDisciplined bound (turns ++ more) → TablesRun (empty_tables limit) turns now → SlotsAddUp limit bound turns now
+pub slots_law : (limit bound : ℕ) (turns more : List Turn) (now : Tables) → AreDisciplined bound (turns ++ more) →
+    TablesRun (empty_tables limit) turns now → SlotsAddUp limit bound turns now
 slots_law limit bound turns more now a r =
     let v = reach_tables limit bound turns more now a r in
     let b = v.1.books.slots in
     let l = limit_stays limit turns now r in
-    let c = sum_to_same (λ j. total slot_held (v.0 j).holds) (λ j. carried (steps_of j turns)) bound (λ j less. sym (carried_held (v.0 j) (steps_of j turns) (flows_of j turns v.2) (v.3 j less).0)) in
+    let c = sum_to_same (λ j. total slot_held (v.0 j).holds) (λ j. carried (steps_of j turns)) bound (λ j less.
+    sym (carried_held (v.0 j) (steps_of j turns) (flows_of j turns v.2) (v.3 j less).0)) in
     record {
       sum = omega (arith, b, l, c);
-      taken = λ j less. let k = carries idle (v.0 j) (steps_of j turns) (flows_of j turns v.2) (v.3 j less).0 in omega (arith, k);
+      taken = λ j less. let k = carries idle (v.0 j) (steps_of j turns) (flows_of j turns v.2) (v.3 j less).0 in
+          omega (arith, k);
     }
 
-pub once_law : (limit bound : ℕ) (turns more : List Turn) (now : Tables) (n : ℕ) → AreDisciplined bound (turns ++ more) → TablesRun (empty_tables limit) turns now → n ≢ 1 → inserted n turns ≤ 1
+pub once_law : (limit bound : ℕ) (turns more : List Turn) (now : Tables) (n : ℕ) →
+    AreDisciplined bound (turns ++ more) → TablesRun (empty_tables limit) turns now → n ≢ 1 → inserted n turns ≤ 1
 once_law limit bound turns more now n a r ne =
     let v = reach_tables limit bound turns more now a r in
     let o = v.1.numbers.once n ne in
     omega (arith, o)
 
 -- counts
-found : (n : ℕ) (rows : List Row) → 0 < total (count_in n) rows → (row : Row) × (others : List Row) × Takes row rows others × HasNumber n row
+found : (n : ℕ) (rows : List Row) → 0 < total (count_in n) rows →
+    (row : Row) × (others : List Row) × Takes row rows others × HasNumber n row
 found n [] h = absurd (omega arith)
 found n (row ∷ rows) h = ⊎_elim
     (λ (z : count_in n row ≡ 0). let f = found n rows (omega (arith, z, h)) in (f.0, row ∷ f.1, there f.2, f.3))
@@ -176,7 +227,9 @@ found n (row ∷ rows) h = ⊎_elim
     here_is z = ⊎_elim
         (λ (l : row.live ≡ true). ⊎_elim
         (λ (e : row.number ≡ n). (l, e))
-        (λ (e : row.number ≢ n). absurd (z (let a = in_live n row l in let b = ap (λ i. i * row.count) (is_apart row.number n e) in omega (arith, a, b))))
+        (λ (e : row.number ≢ n).
+        absurd (z (let a = in_live n row l in let b = ap (λ i. i * row.count) (is_apart row.number n e) in
+        omega (arith, a, b))))
         (cases_eq row.number n))
         (λ (l : row.live ≡ false). absurd (z (ap (λ b. cond b (is row.number n * row.count) 0) l)))
         (cases_Bool row.live)
@@ -188,9 +241,14 @@ count_is n row h =
     let c = ap (λ i. i * row.count) b in
     omega (arith, a, c)
 
-none_live : (n next : ℕ) (rows : List Row) → Each (IsSoundRow next) rows → total (count_in n) rows ≡ 0 → Each (λ row. HasNumber n row → ⊥) rows
+none_live : (n next : ℕ) (rows : List Row) → Each (IsSoundRow next) rows → total (count_in n) rows ≡ 0 →
+    Each (λ row. HasNumber n row → ⊥) rows
 none_live n next [] s z = tt
-none_live n next (row ∷ rows) s z = ((λ h. let a = count_is n row h in let b = s.0.counted h.0 in absurd (omega (arith, a, b, z))), none_live n next rows s.1 (omega (arith, z)))
+none_live n next (row ∷ rows) s z = (
+  (λ h. let a = count_is n row h in let b = s.0.counted h.0 in
+      absurd (omega (arith, a, b, z))),
+  none_live n next rows s.1 (omega (arith, z)),
+)
 
 pub counted : (n : ℕ) (t : Tables) → Agree t → IsCounted t n (live_count n t)
 counted n t a = record {
@@ -203,21 +261,27 @@ counted n t a = record {
   gone = λ z. none_live n t.next_row t.rows a.sound z;
 }
 
-pub counts_law : (limit : ℕ) (turns : List Turn) (now : Tables) (n : ℕ) → TablesRun (empty_tables limit) turns now → IsCounted now n (given n turns)
+pub counts_law : (limit : ℕ) (turns : List Turn) (now : Tables) (n : ℕ) → TablesRun (empty_tables limit) turns now →
+    IsCounted now n (given n turns)
 counts_law limit turns now n r =
-    subst (IsCounted now n) (counts_run n turns (empty_tables limit) now (empty_agree limit) r) (counted n now (agree_law limit turns now r))
+    subst (IsCounted now n) (counts_run n turns (empty_tables limit) now (empty_agree limit) r)
+    (counted n now (agree_law limit turns now r))
 
 -- objects
-shown : (bound : ℕ) (base had : ℕ → ℕ) (w : World) (js : ℕ → Job) (row : Row) → Inv bound base had w js → IsRow w.tables row → RowOpen w.tree w.past row
+shown : (bound : ℕ) (base had : ℕ → ℕ) (w : World) (js : ℕ → Job) (row : Row) → Inv bound base had w js →
+    IsRow w.tables row → RowOpen w.tree w.past row
 shown bound base had w js row v h = each_taken (RowOpen w.tree w.past) h.1 v.right.shown
 
-pub object_law : (limit bound : ℕ) (turns more : List Turn) (start now : World) (row : Row) → Starts limit start → AreDisciplined bound (turns ++ more) → Runs start turns now → IsRow now.tables row → row.live ≡ true → HasObject now row
+pub object_law : (limit bound : ℕ) (turns more : List Turn) (start now : World) (row : Row) → Starts limit start →
+    AreDisciplined bound (turns ++ more) → Runs start turns now → IsRow now.tables row → row.live ≡ true →
+    HasObject now row
 object_law limit bound turns more start now row s a r h l =
     let v = reach limit bound turns more start now s a r in
     let o = shown bound _ _ now v.0 row v.1 h in
     (o.object, o.numbered l, o.shows.open_on)
 
-pub distinct_law : (limit bound : ℕ) (turns more : List Turn) (start now : World) → Starts limit start → AreDisciplined bound (turns ++ more) → Runs start turns now → AreDistinct now
+pub distinct_law : (limit bound : ℕ) (turns more : List Turn) (start now : World) → Starts limit start →
+    AreDisciplined bound (turns ++ more) → Runs start turns now → AreDistinct now
 distinct_law limit bound turns more start now s a r n m x y ne =
     let v = reach limit bound turns more start now s a r in
     let p = shown bound _ _ now v.0 x.0 v.1 x.1 in
@@ -227,13 +291,16 @@ distinct_law limit bound turns more start now s a r n m x y ne =
       ap now.past.numbers (sym x.2.1) ∙ p.numbered x.2.0,
       ap now.past.numbers (sym y.2.1) ∙ q.numbered y.2.0,
       (λ e.
-          let ids = one_ids now.tree (fd_of x.0.form) (fd_of y.0.form) p.object x.0.ids y.0.ids p.shows (subst (λ o. Shows now.tree (fd_of y.0.form) o y.0.ids) (sym e) q.shows) in
+          let ids = one_ids now.tree (fd_of x.0.form) (fd_of y.0.form) p.object x.0.ids y.0.ids p.shows
+          (subst (λ o. Shows now.tree (fd_of y.0.form) o y.0.ids) (sym e) q.shows) in
           ⊎_elim (λ (z : x.0 ≡ y.0). ne (sym x.2.1 ∙ ap (λ (row : Row). row.number) z ∙ y.2.1))
-          (λ z. ⊎_elim (λ (w : AreApart x.0 y.0). w.objects x.2.0 y.2.0 ids) (λ (w : AreApart y.0 x.0). w.objects y.2.0 x.2.0 (sym ids)) z)
+          (λ z. ⊎_elim (λ (w : AreApart x.0 y.0). w.objects x.2.0 y.2.0 ids) (λ (w : AreApart y.0 x.0).
+          w.objects y.2.0 x.2.0 (sym ids)) z)
           (two_of AreApart x.1.1 y.1.1 v.1.tabled.agree.apart)),
     )
 
-pub kept_law : (limit bound : ℕ) (turns more : List Turn) (start now : World) → Starts limit start → AreDisciplined bound (turns ++ more) → Runs start turns now → AreKept start bound turns now
+pub kept_law : (limit bound : ℕ) (turns more : List Turn) (start now : World) → Starts limit start →
+    AreDisciplined bound (turns ++ more) → Runs start turns now → AreKept start bound turns now
 kept_law limit bound turns more start now s a r =
     let v = reach limit bound turns more start now s a r in
     record {
@@ -244,7 +311,9 @@ kept_law limit bound turns more start now s a r =
     }
 
 -- each handle's descriptor is open on the object that its number had when it was resolved for the opening
-pub handles_law : (limit bound : ℕ) (turns more : List Turn) (start now : World) (row : HandleRow) → Starts limit start → AreDisciplined bound (turns ++ more) → Runs start turns now → IsHandleRow now.tables row → Serves now row
+pub handles_law : (limit bound : ℕ) (turns more : List Turn) (start now : World) (row : HandleRow) →
+    Starts limit start → AreDisciplined bound (turns ++ more) → Runs start turns now → IsHandleRow now.tables row →
+    Serves now row
 handles_law limit bound turns more start now row s a r h =
     let v = reach limit bound turns more start now s a r in
     let o = each_taken (HandleOpen now.tree now.past) h.1 v.1.right.handled in
@@ -258,7 +327,8 @@ all_unpinned (row ∷ rows) h = (
   all_unpinned rows (λ s. let a = h s in omega (arith, a)),
 )
 
-all_handles_unpinned : (rows : List HandleRow) → ((serial : ℕ) → total (handle_pins serial) rows ≡ 0) → Each (λ row. row.pins ≡ 0) rows
+all_handles_unpinned : (rows : List HandleRow) → ((serial : ℕ) → total (handle_pins serial) rows ≡ 0) →
+    Each (λ row. row.pins ≡ 0) rows
 all_handles_unpinned [] h = tt
 all_handles_unpinned (row ∷ rows) h = (
   let a = h row.serial in let b = ap (λ i. i * row.pins) (is_same row.serial) in omega (arith, a, b),
@@ -270,12 +340,17 @@ empty [] h = refl
 empty (x ∷ xs) h = absurd (omega arith)
 
 -- what passes with an answer is a count, which weighs nothing else
-entry_weighs : (w : Hold → ℕ) → ((era n : ℕ) → w (hold.Count era n) ≡ 0) → (era : ℕ) (end : Finish) → total w (entry_holds era end) ≡ 0
+entry_weighs : (w : Hold → ℕ) → ((era n : ℕ) → w (hold.Count era n) ≡ 0) → (era : ℕ) (end : Finish) →
+    total w (entry_holds era end) ≡ 0
 entry_weighs w z era (finish.Answer (answer.Entry entry)) = let a = z era entry.inode in omega (arith, a)
 entry_weighs w z era _ = refl
 
 pub ended_jobs : (bound : ℕ) (turns : List Turn) → AreEnded bound turns → AreDisciplined bound turns
-ended_jobs bound turns a = record { owners = a.owners; jobs = λ j l. let e = a.jobs j l in let f = e.1 in (at_job (entry_holds f.0 e.0) f.1, f.2) }
+ended_jobs bound turns a =
+    record {
+      owners = a.owners;
+      jobs = λ j l. let e = a.jobs j l in let f = e.1 in (at_job (entry_holds f.0 e.0) f.1, f.2);
+    }
 
 -- a job at its end holds nothing that weighs, and owes nothing
 abbrev HasEnded : Job → Type 0
@@ -284,29 +359,50 @@ HasEnded job = ((w : Hold → ℕ) → ((era n : ℕ) → w (hold.Count era n) �
 abbrev AtEnd : List Step → Job → Type 0
 AtEnd steps job = Disciplined idle steps job × HasEnded job
 
-at_end : (bound : ℕ) (turns : List Turn) → AreEnded bound turns → (j : ℕ) → j < bound → (job : Job) × AtEnd (steps_of j turns) job
-at_end bound turns a j l = let e = a.jobs j l in let f = e.1 in (at_job (entry_holds f.0 e.0) f.1, (f.2, ((λ w z. entry_weighs w z f.0 e.0), refl)))
+at_end : (bound : ℕ) (turns : List Turn) → AreEnded bound turns → (j : ℕ) → j < bound →
+    (job : Job) × AtEnd (steps_of j turns) job
+at_end bound turns a j l = let e = a.jobs j l in let f = e.1 in
+    (at_job (entry_holds f.0 e.0) f.1, (f.2, ((λ w z. entry_weighs w z f.0 e.0), refl)))
 
-sum_nothing : (bound : ℕ) (js : ℕ → Job) → ((j : ℕ) → j < bound → HasEnded (js j)) → ((w : Hold → ℕ) → ((era n : ℕ) → w (hold.Count era n) ≡ 0) → held_by bound w js ≡ 0) × (sum_to bound (λ j. (js j).owed) ≡ 0)
-sum_nothing bound js h = ((λ w z. held_nobody bound w js (λ j l. (h j l).0 w z)), sum_to_zero (λ j. (js j).owed) bound (λ j l. (h j l).1))
+sum_nothing : (bound : ℕ) (js : ℕ → Job) → ((j : ℕ) → j < bound → HasEnded (js j)) →
+    ((w : Hold → ℕ) → ((era n : ℕ) → w (hold.Count era n) ≡ 0) → held_by bound w js ≡ 0)
+    × (sum_to bound (λ j. (js j).owed) ≡ 0)
+sum_nothing bound js h =
+    ((λ w z. held_nobody bound w js (λ j l. (h j l).0 w z)), sum_to_zero (λ j. (js j).owed) bound (λ j l. (h j l).1))
 
-pub rest_law : (limit bound : ℕ) (turns : List Turn) (now : Tables) → AreEnded bound turns → TablesRun (empty_tables limit) turns now → IsAtRest limit bound turns now
+pub rest_law : (limit bound : ℕ) (turns : List Turn) (now : Tables) → AreEnded bound turns →
+    TablesRun (empty_tables limit) turns now → IsAtRest limit bound turns now
 rest_law limit bound turns now a r =
     let ends = choose (λ j job. AtEnd (steps_of j turns) job) bound idle (at_end bound turns a) in
-    let v = tables_keep bound (λ n. 0) turns (empty_tables limit) now (λ j. idle) ends.0 r a.owners (begins_tabled limit bound) (λ j l. (ends.1 j l).0) in
+    let v = tables_keep bound (λ n. 0) turns (empty_tables limit) now (λ j.
+    idle) ends.0 r a.owners (begins_tabled limit bound) (λ j l. (ends.1 j l).0) in
     let none = sum_nothing bound v.1 (λ j l. subst HasEnded (sym (v.3 j l)) (ends.1 j l).1) in
-    let unpinned = all_unpinned now.rows (λ s. let p = v.2.books.pins s in let q = none.0 (pin_held s) (λ era n. refl) in omega (arith, p, q)) in
-    let unpinned_handles = all_handles_unpinned now.handles (λ s. let p = v.2.books.handle_pins s in let q = none.0 (handle_pin_held s) (λ era n. refl) in omega (arith, p, q)) in
+    let unpinned = all_unpinned now.rows (λ s. let p = v.2.books.pins s in
+    let q = none.0 (pin_held s) (λ era n. refl) in omega (arith, p, q)) in
+    let unpinned_handles =
+    all_handles_unpinned now.handles (λ s. let p = v.2.books.handle_pins s in
+    let q = none.0 (handle_pin_held s) (λ era n. refl) in omega (arith, p, q)) in
     let closed = empty now.closing (let p = v.2.books.closings in let q = none.1 in omega (arith, p, q)) in
     record {
-      rows = each_both (IsSoundRow now.next_row) (λ row. row.pins ≡ 0) (λ row. (row.live ≡ true) × (row.pins ≡ 0)) now.rows
-          (λ row t p. (⊎_elim (λ (l : row.live ≡ true). l) (λ (d : row.live ≡ false). let q = t.pinned d in absurd (omega (arith, p, q))) (cases_Bool row.live), p))
+      rows = each_both (IsSoundRow now.next_row) (λ row. row.pins ≡ 0) (λ row. (row.live ≡ true)
+          × (row.pins ≡ 0)) now.rows
+          (λ row t p. (
+            ⊎_elim (λ (l : row.live ≡ true). l) (λ (d : row.live ≡ false). let q = t.pinned d in
+                absurd (omega (arith, p, q))) (cases_Bool row.live),
+            p,
+          ))
           v.2.agree.sound unpinned;
-      handles = each_both (IsSoundHandle now.next_row) (λ row. row.pins ≡ 0) (λ row. (row.live ≡ true) × (row.pins ≡ 0)) now.handles
-          (λ row t p. (⊎_elim (λ (l : row.live ≡ true). l) (λ (d : row.live ≡ false). let q = t.pinned d in absurd (omega (arith, p, q))) (cases_Bool row.live), p))
+      handles = each_both (IsSoundHandle now.next_row) (λ row. row.pins ≡ 0) (λ row. (row.live ≡ true)
+          × (row.pins ≡ 0)) now.handles
+          (λ row t p. (
+            ⊎_elim (λ (l : row.live ≡ true). l) (λ (d : row.live ≡ false). let q = t.pinned d in
+                absurd (omega (arith, p, q))) (cases_Bool row.live),
+            p,
+          ))
           v.2.agree.sound_handles unpinned_handles;
       closing = closed;
-      carried = λ j l. carried_held (ends.0 j) (steps_of j turns) (flows_of j turns v.0) (ends.1 j l).0 ∙ (ends.1 j l).1.0 slot_held (λ era n. refl);
+      carried = λ j l. carried_held (ends.0 j) (steps_of j turns) (flows_of j turns v.0) (ends.1 j l).0
+          ∙ (ends.1 j l).1.0 slot_held (λ era n. refl);
       slots =
           let p = v.2.books.slots in
           let q = none.0 slot_held (λ era n. refl) in
@@ -315,13 +411,16 @@ rest_law limit bound turns now a r =
           omega (arith, p, q, c, l);
     }
 
-pub leaves_law : (limit bound : ℕ) (turns : List Turn) (start end : World) → Starts limit start → AreEnded bound turns → Runs start turns end → LeavesRows start end
+pub leaves_law : (limit bound : ℕ) (turns : List Turn) (start end : World) → Starts limit start →
+    AreEnded bound turns → Runs start turns end → LeavesRows start end
 leaves_law limit bound turns start end s a r fd =
     let ends = choose (λ j job. AtEnd (steps_of j turns) job) bound idle (at_end bound turns a) in
-    let v = runs_keep bound (λ fd. open_count fd start.tree) (λ n. 0) turns start end (λ j. idle) ends.0 r a.owners (begins limit bound start s) (λ j l. (ends.1 j l).0) in
+    let v = runs_keep bound (λ fd. open_count fd start.tree) (λ n. 0) turns start end (λ j.
+    idle) ends.0 r a.owners (begins limit bound start s) (λ j l. (ends.1 j l).0) in
     let none = sum_nothing bound v.0 (λ j l. subst HasEnded (sym (v.2 j l)) (ends.1 j l).1) in
     let q = none.0 (fd_held fd) (λ era n. refl) in
-    let closed = empty end.tables.closing (let p = v.1.tabled.books.closings in let q = none.1 in omega (arith, p, q)) in
+    let closed = empty end.tables.closing (let p = v.1.tabled.books.closings in let q = none.1 in
+    omega (arith, p, q)) in
     let c = ap (total (closing_fd fd)) closed in
     let f = v.1.fds fd in
     omega (arith, q, c, f)

@@ -27,9 +27,10 @@ same_deed deed same NoCopy i = i.0
 same_deed deed same told i = i
 
 -- a deed without bytes or a list is made
-pub made_moves : (deed : Deed) (made : Option Deed) (told : ActReply) (job mid : Job) → (MayFailToCopy deed → ⊥) → IsStepOf deed made told →
-    MovesBy job deed told mid → MovesIf job made told mid
-made_moves deed (Some same) told job mid n i m = subst (λ (d : Deed). MovesBy job d told mid) (sym (same_deed deed same told i)) m
+pub made_moves : (deed : Deed) (made : Option Deed) (told : ActReply) (job mid : Job) → (MayFailToCopy deed → ⊥) →
+    IsStepOf deed made told → MovesBy job deed told mid → MovesIf job made told mid
+made_moves deed (Some same) told job mid n i m =
+    subst (λ (d : Deed). MovesBy job d told mid) (sym (same_deed deed same told i)) m
 made_moves deed None NoCopy job mid n i m = absurd (n i)
 made_moves deed None told job mid n i m = absurd i
 
@@ -49,7 +50,8 @@ giving_lasts (hold.Count era number) told notes = (refl, refl)
 
 -- any hold may be given back
 pub gives_back : (one : Hold) (told : ActReply) (holds left : List Hold) (notes : Notes) → Takes one holds left →
-    MovesBy (at_job holds notes) (giving one) told (owing_job left (closings_in (giving one) told) (notes_after notes (giving one) told))
+    MovesBy (at_job holds notes) (giving one) told
+    (owing_job left (closings_in (giving one) told) (notes_after notes (giving one) told))
 gives_back (hold.Pin row fd) told holds left notes t = ((fd, t), tt, omega arith, refl)
 gives_back (hold.HandlePin row fd) told holds left notes t = ((fd, t), tt, omega arith, refl)
 gives_back (hold.Fd fd was) told holds left notes t = ((was, t), tt, omega arith, refl)
@@ -62,52 +64,81 @@ takes_laid one (top ∷ holds) = here
 
 -- a deed of a request's own part
 may_move : (deed : Deed) (told : ActReply) (holds : List Hold) (notes : Notes) → MayMake deed holds notes →
-    MovesBy (at_job holds notes) deed told (owing_job (held deed told holds) (closings_in deed told) (notes_after notes deed told))
-may_move (Calls (call.OpenRoot path flags)) (Host (host.Ok (value.Fd fd))) holds notes m = (takes_laid (hold.Fd fd None) holds, tt, omega arith, refl)
+    MovesBy (at_job holds notes) deed told
+    (owing_job (held deed told holds) (closings_in deed told) (notes_after notes deed told))
+may_move (Calls (call.OpenRoot path flags)) (Host (host.Ok (value.Fd fd))) holds notes m =
+    (takes_laid (hold.Fd fd None) holds, tt, omega arith, refl)
 may_move (Calls (call.OpenAt dir name flags mode)) (Host (host.Ok (value.Fd fd))) holds notes m =
     (((hold.Pin m.0.0.row dir, m.0.1, m.0.3, refl), takes_laid (hold.Fd fd None) holds), m, omega arith, refl)
-may_move (Calls (call.OpenAt dir name flags mode)) told holds notes m = (((hold.Pin m.0.0.row dir, m.0.1, m.0.3, refl), refl), m, omega arith, refl)
+may_move (Calls (call.OpenAt dir name flags mode)) told holds notes m =
+    (((hold.Pin m.0.0.row dir, m.0.1, m.0.3, refl), refl), m, omega arith, refl)
 may_move (Calls (call.Reopen fd flags)) (Host (host.Ok (value.Fd new))) holds notes m =
     (((hold.Pin m.0.row fd, m.1, m.3, refl), takes_laid (hold.Fd new None) holds), m, omega arith, refl)
-may_move (Calls (call.Reopen fd flags)) told holds notes m = (((hold.Pin m.0.row fd, m.1, m.3, refl), refl), m, omega arith, refl)
+may_move (Calls (call.Reopen fd flags)) told holds notes m =
+    (((hold.Pin m.0.row fd, m.1, m.3, refl), refl), m, omega arith, refl)
 may_move (Calls (call.ReadAt fd offset size)) told holds notes m = ((m, refl), tt, omega arith, refl)
-may_move (Calls (call.Stat fd)) (Host (host.Ok (value.Stat stat))) (hold.Fd same was ∷ holds) notes m =
-    ((was, subst (λ (f : Fd). Replaces (hold.Fd f was) (hold.Fd f (Some stat.ids)) (hold.Fd same was ∷ holds) (hold.Fd same (Some stat.ids) ∷ holds)) m at), tt, omega arith, refl)
-may_move (Calls (call.Stat fd)) told (hold.Fd same was ∷ holds) notes m = (((hold.Fd same was, holds, here, m), refl), tt, omega arith, refl)
+may_move (Calls (call.Stat fd)) (Host (host.Ok (value.Stat stat))) (hold.Fd same was ∷ holds) notes m = (
+  (
+    was,
+    subst (λ (f : Fd).
+        Replaces (hold.Fd f was) (hold.Fd f (Some stat.ids)) (hold.Fd same was ∷ holds) (hold.Fd same (Some stat.ids)
+        ∷ holds)) m at,
+  ),
+  tt,
+  omega arith,
+  refl,
+)
+may_move (Calls (call.Stat fd)) told (hold.Fd same was ∷ holds) notes m =
+    (((hold.Fd same was, holds, here, m), refl), tt, omega arith, refl)
 may_move (Calls (call.Stat fd)) told holds notes m = absurd m
 may_move (Calls (call.OpenRoot path flags)) told holds notes m = (refl, tt, omega arith, refl)
 may_move (Calls asked) told holds notes m = absurd m
 may_move (Changes change.Begin) told holds notes m = (refl, m, omega arith, refl)
 may_move (Changes change.Clear) (Event (event.Cleared era closings)) holds notes m = (refl, m, omega arith, refl)
 may_move (Changes change.Clear) told holds notes m = (refl, m, omega arith, refl)
-may_move (Changes (change.PinHandle handle number)) (Event (event.Pinned row fd)) holds notes m = (takes_laid (hold.HandlePin row fd) holds, tt, omega arith, refl)
-may_move (Changes (change.InsertHandle era handle number fd)) (Event (event.Inserted given)) (hold.Fd same was ∷ hold.Slot ∷ holds) notes m =
-    let t = subst (λ (f : Fd). Takes (hold.Fd f was) (hold.Fd same was ∷ hold.Slot ∷ holds) (hold.Slot ∷ holds)) m.0 here in
+may_move (Changes (change.PinHandle handle number)) (Event (event.Pinned row fd)) holds notes m =
+    (takes_laid (hold.HandlePin row fd) holds, tt, omega arith, refl)
+may_move (Changes (change.InsertHandle era handle number fd)) (Event (event.Inserted given)) (hold.Fd same was
+    ∷ hold.Slot ∷ holds) notes m =
+    let t = subst (λ (f : Fd).
+    Takes (hold.Fd f was) (hold.Fd same was ∷ hold.Slot ∷ holds) (hold.Slot ∷ holds)) m.0 here in
     ((was, hold.Slot ∷ holds, t, here), m.1, omega arith, refl)
-may_move (Changes (change.InsertHandle era handle number fd)) told (hold.Fd same was ∷ hold.Slot ∷ holds) notes m = (refl, m.1, omega arith, refl)
+may_move (Changes (change.InsertHandle era handle number fd)) told (hold.Fd same was ∷ hold.Slot ∷ holds) notes m =
+    (refl, m.1, omega arith, refl)
 may_move (Changes (change.InsertHandle era handle number fd)) told holds notes m = absurd m
 may_move (Changes (change.UnpinHandle row)) told holds notes m = absurd m
-may_move (Changes (change.Release handle number)) (Event (event.Done closings)) holds notes m = (refl, tt, omega arith, refl)
-may_move (Changes (change.Resolve number)) (Event (event.Resolved row form ids mode)) holds notes m = (takes_laid (hold.Pin row (fd_of form)) holds, tt, omega arith, refl)
+may_move (Changes (change.Release handle number)) (Event (event.Done closings)) holds notes m =
+    (refl, tt, omega arith, refl)
+may_move (Changes (change.Resolve number)) (Event (event.Resolved row form ids mode)) holds notes m =
+    (takes_laid (hold.Pin row (fd_of form)) holds, tt, omega arith, refl)
 may_move (Changes change.TakeFd) (Event event.Taken) (top ∷ holds) notes m = (there here, tt, omega arith, refl)
 may_move (Changes change.TakeFd) (Event event.Taken) [] notes m = (here, tt, omega arith, refl)
-may_move (Changes (change.Claim era handle ids)) (Event (event.Claimed number)) holds notes m = (here, m, omega arith, refl)
+may_move (Changes (change.Claim era handle ids)) (Event (event.Claimed number)) holds notes m =
+    (here, m, omega arith, refl)
 may_move (Changes (change.Claim era handle ids)) told holds notes m = (refl, m, omega arith, refl)
-may_move (Changes (change.Insert era number form ids mode)) (Event (event.Inserted given)) (hold.Fd same was ∷ hold.Slot ∷ holds) notes m =
-    let t = subst₂ (λ (f : Fd) (i : Option ObjIds). Takes (hold.Fd f i) (hold.Fd same was ∷ hold.Slot ∷ holds) (hold.Slot ∷ holds)) m.0 m.1 here in
+may_move (Changes (change.Insert era number form ids mode)) (Event (event.Inserted given)) (hold.Fd same was
+    ∷ hold.Slot ∷ holds) notes m =
+    let t = subst₂ (λ (f : Fd) (i : Option ObjIds).
+    Takes (hold.Fd f i) (hold.Fd same was ∷ hold.Slot ∷ holds) (hold.Slot ∷ holds)) m.0 m.1 here in
     ((hold.Slot ∷ holds, holds, t, here, here), (m.2, m.3, m.4, (hold.Slot ∷ holds, t)), omega arith, refl)
-may_move (Changes (change.Insert era number form ids mode)) (Event (event.Found given)) (hold.Fd same was ∷ hold.Slot ∷ holds) notes m =
-    let t = subst₂ (λ (f : Fd) (i : Option ObjIds). Takes (hold.Fd f i) (hold.Fd same was ∷ hold.Slot ∷ holds) (hold.Slot ∷ holds)) m.0 m.1 here in
+may_move (Changes (change.Insert era number form ids mode)) (Event (event.Found given)) (hold.Fd same was ∷ hold.Slot
+    ∷ holds) notes m =
+    let t = subst₂ (λ (f : Fd) (i : Option ObjIds).
+    Takes (hold.Fd f i) (hold.Fd same was ∷ hold.Slot ∷ holds) (hold.Slot ∷ holds)) m.0 m.1 here in
     (here, (m.2, m.3, m.4, (hold.Slot ∷ holds, t)), omega arith, refl)
 may_move (Changes (change.Insert era number form ids mode)) told (hold.Fd same was ∷ hold.Slot ∷ holds) notes m =
-    let t = subst₂ (λ (f : Fd) (i : Option ObjIds). Takes (hold.Fd f i) (hold.Fd same was ∷ hold.Slot ∷ holds) (hold.Slot ∷ holds)) m.0 m.1 here in
+    let t = subst₂ (λ (f : Fd) (i : Option ObjIds).
+    Takes (hold.Fd f i) (hold.Fd same was ∷ hold.Slot ∷ holds) (hold.Slot ∷ holds)) m.0 m.1 here in
     (refl, (m.2, m.3, m.4, (hold.Slot ∷ holds, t)), omega arith, refl)
 may_move (Changes (change.Insert era number form ids mode)) told holds notes m = absurd m
-may_move (Changes (change.InsertRoot era form ids mode agreed)) (Event (event.Inserted given)) (hold.Fd same was ∷ hold.Slot ∷ holds) notes m =
-    let t = subst₂ (λ (f : Fd) (i : Option ObjIds). Takes (hold.Fd f i) (hold.Fd same was ∷ hold.Slot ∷ holds) (hold.Slot ∷ holds)) m.0 m.1 here in
+may_move (Changes (change.InsertRoot era form ids mode agreed)) (Event (event.Inserted given)) (hold.Fd same was
+    ∷ hold.Slot ∷ holds) notes m =
+    let t = subst₂ (λ (f : Fd) (i : Option ObjIds).
+    Takes (hold.Fd f i) (hold.Fd same was ∷ hold.Slot ∷ holds) (hold.Slot ∷ holds)) m.0 m.1 here in
     ((hold.Slot ∷ holds, t, here), (m.2, m.3, (hold.Slot ∷ holds, t)), omega arith, refl)
 may_move (Changes (change.InsertRoot era form ids mode agreed)) told (hold.Fd same was ∷ hold.Slot ∷ holds) notes m =
-    let t = subst₂ (λ (f : Fd) (i : Option ObjIds). Takes (hold.Fd f i) (hold.Fd same was ∷ hold.Slot ∷ holds) (hold.Slot ∷ holds)) m.0 m.1 here in
+    let t = subst₂ (λ (f : Fd) (i : Option ObjIds).
+    Takes (hold.Fd f i) (hold.Fd same was ∷ hold.Slot ∷ holds) (hold.Slot ∷ holds)) m.0 m.1 here in
     (refl, (m.2, m.3, (hold.Slot ∷ holds, t)), omega arith, refl)
 may_move (Changes (change.InsertRoot era form ids mode agreed)) told holds notes m = absurd m
 may_move (Changes (change.Unpin row)) told holds notes m = absurd m
@@ -126,16 +157,20 @@ not_made (Calls asked) holds notes m = refl
 not_made (Changes (change.Forget list)) holds notes m = refl
 not_made (Changes asked) holds notes m = absurd m
 
-pub may_step : (deed : Deed) (made : Option Deed) (told : ActReply) (holds : List Hold) (notes : Notes) → IsStepOf deed made told → MayMake deed holds notes →
-    MovesIf (at_job holds notes) made told (owing_job (held deed told holds) (closings_in deed told) (notes_after notes deed told))
+pub may_step : (deed : Deed) (made : Option Deed) (told : ActReply) (holds : List Hold) (notes : Notes) →
+    IsStepOf deed made told → MayMake deed holds notes →
+    MovesIf (at_job holds notes) made told
+    (owing_job (held deed told holds) (closings_in deed told) (notes_after notes deed told))
 may_step deed (Some same) told holds notes i m =
     let after = owing_job (held deed told holds) (closings_in deed told) (notes_after notes deed told) in
-    subst (λ (d : Deed). MovesBy (at_job holds notes) d told after) (sym (same_deed deed same told i)) (may_move deed told holds notes m)
+    subst (λ (d : Deed).
+    MovesBy (at_job holds notes) d told after) (sym (same_deed deed same told i)) (may_move deed told holds notes m)
 may_step deed None NoCopy holds notes i m = not_made deed holds notes i
 may_step deed None told holds notes i m = absurd i
 
 -- a reply that may come to the step may come to the deed
-pub told_of : (deed : Deed) (made : Option Deed) (told : ActReply) → IsStepOf deed made told → StepMayBeTold made told → MayBeTold deed told
+pub told_of : (deed : Deed) (made : Option Deed) (told : ActReply) → IsStepOf deed made told →
+    StepMayBeTold made told → MayBeTold deed told
 told_of deed (Some same) told i t = subst (λ (d : Deed). MayBeTold d told) (same_deed deed same told i) t
 told_of (Calls asked) None NoCopy i t = inl i
 told_of (Changes asked) None NoCopy i t = inl i
@@ -148,7 +183,9 @@ no_copy_causes asked (Changes change.Begin) errno s = s
 no_copy_causes asked (Changes made) errno s = s
 
 -- what the deed causes, the step causes
-pub causes_of : (asked : Request) (deed : Deed) (made : Option Deed) (told : ActReply) (errno : Errno) → IsStepOf deed made told → StepCauses asked (Some deed) told errno → StepCauses asked made told errno
-causes_of asked deed (Some same) told errno i s = subst (λ (d : Deed). StepCauses asked (Some d) told errno) (sym (same_deed deed same told i)) s
+pub causes_of : (asked : Request) (deed : Deed) (made : Option Deed) (told : ActReply) (errno : Errno) →
+    IsStepOf deed made told → StepCauses asked (Some deed) told errno → StepCauses asked made told errno
+causes_of asked deed (Some same) told errno i s =
+    subst (λ (d : Deed). StepCauses asked (Some d) told errno) (sym (same_deed deed same told i)) s
 causes_of asked deed None NoCopy errno i s = absurd (no_copy_causes asked deed errno s)
 causes_of asked deed None told errno i s = absurd i

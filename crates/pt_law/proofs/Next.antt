@@ -21,39 +21,51 @@ use Rattle.pt_law.proofs.Interleaving.{steps_same}
 use Rattle.pt_law.proofs.Laws.{reach, reach_tables}
 use Rattle.pt_law.proofs.Pinned.{names_open}
 
-pub owner_of : (bound : ℕ) (turns : List Turn) (turn : Turn) (more : List Turn) → Each (λ s. s.job < bound) (turns ++ turn ∷ more) → turn.job < bound
+pub owner_of : (bound : ℕ) (turns : List Turn) (turn : Turn) (more : List Turn) →
+    Each (λ s. s.job < bound) (turns ++ turn ∷ more) → turn.job < bound
 owner_of bound [] turn more h = h.0
 owner_of bound (s ∷ turns) turn more h = owner_of bound turns turn more h.1
 
 -- the owner's next move
-pub next_move : (turn : Turn) (more : List Turn) (job end : Job) → Disciplined job (steps_of turn.job (turn ∷ more)) end → (after : Job) × Moves job turn.step after
-next_move turn more job end d = let k = subst (λ steps. Disciplined job steps end) (steps_same turn more) d in (k.0, k.1)
+pub next_move : (turn : Turn) (more : List Turn) (job end : Job) →
+    Disciplined job (steps_of turn.job (turn ∷ more)) end → (after : Job) × Moves job turn.step after
+next_move turn more job end d = let k = subst (λ steps. Disciplined job steps end) (steps_same turn more) d in
+    (k.0, k.1)
 
-pub named_law : (limit bound : ℕ) (turns : List Turn) (turn : Turn) (more : List Turn) (start now : World) → Starts limit start → AreDisciplined bound (turns ++ turn ∷ more) → Runs start turns now → NamesOpen now.tree turn.step.deed
+pub named_law : (limit bound : ℕ) (turns : List Turn) (turn : Turn) (more : List Turn) (start now : World) →
+    Starts limit start → AreDisciplined bound (turns ++ turn ∷ more) → Runs start turns now →
+    NamesOpen now.tree turn.step.deed
 named_law limit bound turns turn more start now s a r =
     let v = reach limit bound turns (turn ∷ more) start now s a r in
     let lt = owner_of bound turns turn more a.owners in
     let b = v.2 turn.job lt in
     let m = next_move turn more (v.0 turn.job) b.1 b.2 in
-    names_open bound (λ fd. open_count fd start.tree) (λ n. 0 + inserted n turns) now v.0 turn.job turn.step.deed turn.step.reply m.0 lt v.1 m.1
+    names_open bound (λ fd. open_count fd start.tree) (λ n. 0
+    + inserted n turns) now v.0 turn.job turn.step.deed turn.step.reply m.0 lt v.1 m.1
 
-honoured_event : (bound : ℕ) (had : ℕ → ℕ) (t : Tables) (js : ℕ → Job) (j : ℕ) (e : Change) (r : EventReply) (t' : Tables) (after : Job) → j < bound → Tabled bound had t js → Happens t e r t' →
-    MovesIf (js j) (Some (Changes e)) (Event r) after → IsHonest (Changes e) (Event r) → IsHonoured (Some (Changes e)) (Event r)
+honoured_event : (bound : ℕ) (had : ℕ → ℕ) (t : Tables) (js : ℕ →
+    Job) (j : ℕ) (e : Change) (r : EventReply) (t' : Tables) (after : Job) → j < bound → Tabled bound had t js →
+    Happens t e r t' →
+    MovesIf (js j) (Some (Changes e)) (Event r) after → IsHonest (Changes e) (Event r) →
+    IsHonoured (Some (Changes e)) (Event r)
 honoured_event bound had t js j (change.Unpin row) (event.Refused why) t' after lt v h m a = a
 honoured_event bound had t js j (change.UnpinHandle row) (event.Refused why) t' after lt v h m a = a
 honoured_event bound had t js j change.GiveFd (event.Refused why) t' after lt v h m a = a
 honoured_event bound had t js j change.TakeClosing (event.Refused why) t' after lt v h m a = a
 honoured_event bound had t js j e r t' after lt v h m a = tt
 
-honoured : (bound : ℕ) (had : ℕ → ℕ) (t : Tables) (js : ℕ → Job) (j : ℕ) (deed : Option Deed) (told : ActReply) (t' : Tables) (after : Job) → j < bound → Tabled bound had t js → TablesGo t deed told t' →
-    MovesIf (js j) deed told after → IsHonoured deed told
-honoured bound had t js j (Some (Changes e)) (Event r) t' after lt v g m = honoured_event bound had t js j e r t' after lt v g m (honest bound t js j e r t' after lt v.books g m)
+honoured : (bound : ℕ) (had : ℕ → ℕ) (t : Tables) (js : ℕ →
+    Job) (j : ℕ) (deed : Option Deed) (told : ActReply) (t' : Tables) (after : Job) → j < bound →
+    Tabled bound had t js → TablesGo t deed told t' → MovesIf (js j) deed told after → IsHonoured deed told
+honoured bound had t js j (Some (Changes e)) (Event r) t' after lt v g m =
+    honoured_event bound had t js j e r t' after lt v g m (honest bound t js j e r t' after lt v.books g m)
 honoured bound had t js j (Some (Calls a)) (Host r) t' after lt v g m = tt
 honoured bound had t js j (Some (Calls a)) NoCopy t' after lt v g m = tt
 honoured bound had t js j None NoCopy t' after lt v g m = tt
 honoured bound had t js j _ _ t' after lt v g m = absurd g
 
-pub honoured_law : (limit bound : ℕ) (turns : List Turn) (turn : Turn) (more : List Turn) (now next : Tables) → AreDisciplined bound (turns ++ turn ∷ more) → TablesRun (empty_tables limit) turns now →
+pub honoured_law : (limit bound : ℕ) (turns : List Turn) (turn : Turn) (more : List Turn) (now next : Tables) →
+    AreDisciplined bound (turns ++ turn ∷ more) → TablesRun (empty_tables limit) turns now →
     TablesGo now turn.step.deed turn.step.reply next → IsHonoured turn.step.deed turn.step.reply
 honoured_law limit bound turns turn more now next a r g =
     let v = reach_tables limit bound turns (turn ∷ more) now a r in

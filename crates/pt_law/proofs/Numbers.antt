@@ -1,5 +1,6 @@
 -- No number but 1 is inserted twice.
-use Rattle.std.proofs.Common.{◌≡◌, ◌≢◌, ⊎_elim, ℕ, ◌+◌, ◌<◌, ◌≤◌, Bool, true, false, refl, sym, ap, ◌∙◌, arith, Option, Some, None}
+use Rattle.std.proofs.Common.{◌≡◌, ◌≢◌, ⊎_elim, ℕ, ◌+◌, ◌<◌, ◌≤◌, Bool, true, false, refl, sym, ap, ◌∙◌, arith}
+use Rattle.std.proofs.Common.{Option, Some, None}
 use Rattle.std.proofs.lemmas.Bool.{cases_eq}
 use Rattle.pt_host.specs.Words.{is, set_at, sum_to}
 use Rattle.pt_host.specs.declared.ids.Fd.{Fd}
@@ -46,15 +47,18 @@ root_drawn fd notes = go notes.rooted
     go false = refl
 
 -- a number that comes to be inserted was drawn, or is 1
-drawn_flow : (job : Job) (t : Tables) (deed : Deed) (told : ActReply) (t' : Tables) (after : Job) → TablesGo t (Some deed) told t' → MovesBy job deed told after → (n : ℕ) → n ≢ 1 →
+drawn_flow : (job : Job) (t : Tables) (deed : Deed) (told : ActReply) (t' : Tables) (after : Job) →
+    TablesGo t (Some deed) told t' → MovesBy job deed told after → (n : ℕ) → n ≢ 1 →
     is_drawn n after.notes.drawn + inserted_as n deed told ≤ is_drawn n job.notes.drawn + draws n deed told
-drawn_flow job t (Changes change.DrawNode) (Event (event.Drawn k)) t' after g m n ne = let a = ap (λ (z : Notes). is_drawn n z.drawn) m.3 in omega (arith, a)
+drawn_flow job t (Changes change.DrawNode) (Event (event.Drawn k)) t' after g m n ne =
+    let a = ap (λ (z : Notes). is_drawn n z.drawn) m.3 in omega (arith, a)
 drawn_flow job t (Changes (change.Insert era number form ids mode)) (Event (event.Inserted given)) t' after g m n ne =
     let a = ap (λ (z : Notes). is_drawn n z.drawn) m.3 in
     let b = ap (is_drawn n) m.1.2 in
     let c = ap (λ i. is i n) g.3 in
     omega (arith, a, b, c)
-drawn_flow job t (Changes (change.InsertRoot era form ids mode agreed)) (Event (event.Inserted given)) t' after g m n ne =
+drawn_flow job t (Changes (change.InsertRoot era form ids mode agreed))
+    (Event (event.Inserted given)) t' after g m n ne =
     let a = ap (λ (z : Notes). is_drawn n z.drawn) m.3 in
     let c = is_apart given n (λ e. ne (sym e ∙ g.3)) in
     omega (arith, a, c)
@@ -62,30 +66,44 @@ drawn_flow job t (Calls (call.OpenRoot path flags)) (Host (host.Ok (value.Fd fd)
     let a = ap (λ (z : Notes). is_drawn n z.drawn) m.3 in
     let b = ap (is_drawn n) (root_drawn fd job.notes) in
     omega (arith, a, b)
-drawn_flow job t (Calls (call.OpenAt dir name flags mode)) (Host (host.Ok (value.Fd fd))) t' after g m n ne = let a = ap (λ (z : Notes). is_drawn n z.drawn) m.3 in omega (arith, a)
-drawn_flow job t (Changes change.Clear) (Event (event.Cleared era closings)) t' after g m n ne = let a = ap (λ (z : Notes). is_drawn n z.drawn) m.3 in omega (arith, a)
-drawn_flow job t (Changes (change.Resolve number)) (Event (event.Resolved row form ids mode)) t' after g m n ne = let a = ap (λ (z : Notes). is_drawn n z.drawn) m.3 in omega (arith, a)
-drawn_flow job t (Calls (call.Reopen fd flags)) (Host (host.Ok (value.Fd new))) t' after g m n ne = let a = ap (λ (z : Notes). is_drawn n z.drawn) m.3 in omega (arith, a)
-drawn_flow job t (Changes change.DrawHandle) (Event (event.Drawn handle)) t' after g m n ne = let a = ap (λ (z : Notes). is_drawn n z.drawn) m.3 in omega (arith, a)
-drawn_flow job t (Changes (change.InsertHandle era handle number fd)) (Event (event.Inserted given)) t' after g m n ne = let a = ap (λ (z : Notes). is_drawn n z.drawn) m.3 in omega (arith, a)
-drawn_flow job t (Changes change.Begin) (Event (event.Began era agreed)) t' after g m n ne = let a = ap (λ (z : Notes). is_drawn n z.drawn) m.3 in omega (arith, a)
+drawn_flow job t (Calls (call.OpenAt dir name flags mode)) (Host (host.Ok (value.Fd fd))) t' after g m n ne =
+    let a = ap (λ (z : Notes). is_drawn n z.drawn) m.3 in omega (arith, a)
+drawn_flow job t (Changes change.Clear) (Event (event.Cleared era closings)) t' after g m n ne =
+    let a = ap (λ (z : Notes). is_drawn n z.drawn) m.3 in omega (arith, a)
+drawn_flow job t (Changes (change.Resolve number)) (Event (event.Resolved row form ids mode)) t' after g m n ne =
+    let a = ap (λ (z : Notes). is_drawn n z.drawn) m.3 in omega (arith, a)
+drawn_flow job t (Calls (call.Reopen fd flags)) (Host (host.Ok (value.Fd new))) t' after g m n ne =
+    let a = ap (λ (z : Notes). is_drawn n z.drawn) m.3 in omega (arith, a)
+drawn_flow job t (Changes change.DrawHandle) (Event (event.Drawn handle)) t' after g m n ne =
+    let a = ap (λ (z : Notes). is_drawn n z.drawn) m.3 in omega (arith, a)
+drawn_flow job t (Changes (change.InsertHandle era handle number fd))
+    (Event (event.Inserted given)) t' after g m n ne = let a = ap (λ (z : Notes). is_drawn n z.drawn) m.3 in
+    omega (arith, a)
+drawn_flow job t (Changes change.Begin) (Event (event.Began era agreed)) t' after g m n ne =
+    let a = ap (λ (z : Notes). is_drawn n z.drawn) m.3 in omega (arith, a)
 drawn_flow job t deed told t' after g m n ne = let a = ap (λ (z : Notes). is_drawn n z.drawn) m.3 in omega (arith, a)
 
-next_later : (t : Tables) (deed : Deed) (told : ActReply) (t' : Tables) → Agree t → TablesGo t (Some deed) told t' → t.next_number ≤ t'.next_number
+next_later : (t : Tables) (deed : Deed) (told : ActReply) (t' : Tables) → Agree t → TablesGo t (Some deed) told t' →
+    t.next_number ≤ t'.next_number
 next_later t (Calls a) told t' agree g = rw (called t a told t' g) (omega arith)
 next_later t (Changes e) (Event r) t' agree g = (stays t e r t' g).numbers
 next_later t (Changes e) told t' agree g = absurd g
 
-pub keeps_numbers : (bound : ℕ) (had : ℕ → ℕ) (t : Tables) (js : ℕ → Job) (j : ℕ) (deed : Deed) (told : ActReply) (t' : Tables) (after : Job) → j < bound → Agree t → Numbers bound had t js →
-    TablesGo t (Some deed) told t' → MovesBy (js j) deed told after → Numbers bound (λ n. had n + inserted_as n deed told) t' (set_at j after js)
+pub keeps_numbers : (bound : ℕ) (had : ℕ → ℕ) (t : Tables) (js : ℕ →
+    Job) (j : ℕ) (deed : Deed) (told : ActReply) (t' : Tables) (after : Job) → j < bound → Agree t →
+    Numbers bound had t js →
+    TablesGo t (Some deed) told t' → MovesBy (js j) deed told after →
+    Numbers bound (λ n. had n + inserted_as n deed told) t' (set_at j after js)
 keeps_numbers bound had t js j (Changes change.DrawNode) (Event (event.Drawn k)) t' after lt agree v g m =
     let later : t'.next_number ≡ t.next_number + 1 = ap (λ (t : Tables). t.next_number) g.2 in
     let z = (λ (n : ℕ). sum_to_set (λ (k : Job). is_drawn n k.notes.drawn) js j after bound lt) in
     let f = drawn_flow (js j) t (Changes change.DrawNode) (Event (event.Drawn k)) t' after g m in
     record {
       once = λ n ne. ⊎_elim
-          (λ (q : k ≡ n). let a = v.fresh n (omega (arith, q, g.0)) in let i = is_within k n in let b = f n ne in let c = z n in omega (arith, a, i, b, c))
-          (λ (q : k ≢ n). let a = v.once n ne in let i = is_apart k n q in let b = f n ne in let c = z n in omega (arith, a, i, b, c))
+          (λ (q : k ≡ n). let a = v.fresh n (omega (arith, q, g.0)) in let i = is_within k n in let b = f n ne in
+          let c = z n in omega (arith, a, i, b, c))
+          (λ (q : k ≢ n). let a = v.once n ne in let i = is_apart k n q in let b = f n ne in let c = z n in
+          omega (arith, a, i, b, c))
           (cases_eq k n);
       fresh = λ n l.
           let s = v.second in

@@ -1,5 +1,6 @@
 -- A job is told that it was overtaken only where another began the session anew after its first step.
-use Rattle.std.proofs.Common.{◌≡◌, ◌≢◌, ◌⊎◌, ⊎_elim, inl, inr, ℕ, ◌<◌, List, [], ◌∷◌, ◌++◌, length, refl, sym, ap, subst, ◌∙◌, arith, append_assoc, append-nil, length-append, Option, Some, None}
+use Rattle.std.proofs.Common.{◌≡◌, ◌≢◌, ◌⊎◌, ⊎_elim, inl, inr, ℕ, ◌<◌, List, [], ◌∷◌, ◌++◌, length, refl, sym, ap}
+use Rattle.std.proofs.Common.{subst, ◌∙◌, arith, append_assoc, append-nil, length-append, Option, Some, None}
 use Rattle.pt_host.specs.Words.{set_at, Each}
 use Rattle.pt_host.specs.Call.{Call}
 use Rattle.pt_host.specs.declared.ids.Fd.{Fd}
@@ -21,7 +22,8 @@ use Rattle.pt_req.specs.declared.act.ActReply.TheVariants.{Event, Host}
 use Rattle.pt_law.specs.Discipline.{Job, Notes, idle, notes_after, with_root, MovesBy, MovesIf}
 use Rattle.pt_law.specs.World.{Turn, TablesGo, TablesRun, steps_of}
 use Rattle.pt_law.specs.Laws.{AreDisciplined, IsOvertaken, TellsOvertaken}
-use Rattle.pt_law.proofs.Ignoring.{IgnoresRows, IgnoresHandles, forgets_one, forgets_all, unpins, handle_dies, unpins_handle}
+use Rattle.pt_law.proofs.Ignoring.{IgnoresRows, IgnoresHandles, forgets_one, forgets_all, unpins, handle_dies}
+use Rattle.pt_law.proofs.Ignoring.{unpins_handle}
 use Rattle.pt_law.proofs.Flows.{called, unmade}
 use Rattle.pt_law.proofs.Lists.{at_each, each_front}
 use Rattle.pt_law.proofs.Interleaving.{Sorted, after_step, choose, steps_same, steps_other, steps_append}
@@ -46,7 +48,8 @@ abbrev IsClearing : Option Deed → ActReply → Type 0
 IsClearing (Some (Changes change.Clear)) (Event (event.Cleared era closings)) = Unit {0}
 IsClearing deed told = ⊥
 
-era_event : (t : Tables) (e : Change) (r : EventReply) (after : Tables) → Happens t e r after → (IsClearing (Some (Changes e)) (Event r) → ⊥) → after.era ≡ t.era
+era_event : (t : Tables) (e : Change) (r : EventReply) (after : Tables) → Happens t e r after →
+    (IsClearing (Some (Changes e)) (Event r) → ⊥) → after.era ≡ t.era
 era_event t change.Begin (event.Began era negotiated) after h n = ap (λ (z : Tables). z.era) h.2
 era_event t (change.Resolve number) (event.Resolved serial form ids mode) after h n = ap (λ (z : Tables). z.era) h.7.2
 era_event t (change.Unpin serial) (event.Done closings) after h n = unpins era_of no_rows t serial closings after h
@@ -57,20 +60,25 @@ era_event t change.GiveFd event.Given after h n = ap (λ (z : Tables). z.era) h.
 era_event t change.DrawNode (event.Drawn number) after h n = ap (λ (z : Tables). z.era) h.2
 era_event t (change.Insert era number form ids mode) (event.Inserted given) after h n = ap (λ (z : Tables). z.era) h.4
 era_event t (change.Insert era number form ids mode) (event.Found given) after h n = ap (λ (z : Tables). z.era) h.1.4.2
-era_event t (change.InsertRoot era form ids mode negotiated) (event.Inserted given) after h n = ap (λ (z : Tables). z.era) h.4 ∙ said negotiated (with_row t (new_row t 1 form ids mode 2))
+era_event t (change.InsertRoot era form ids mode negotiated) (event.Inserted given) after h n =
+    ap (λ (z : Tables). z.era) h.4 ∙ said negotiated (with_row t (new_row t 1 form ids mode 2))
 era_event t (change.Forget list) (event.Done closings) after h n = forgets_all era_of no_rows t list closings after h
-era_event t (change.GiveBack era number) (event.Done closings) after h n = forgets_one era_of no_rows t number 1 closings after h.2
+era_event t (change.GiveBack era number) (event.Done closings) after h n =
+    forgets_one era_of no_rows t number 1 closings after h.2
 era_event t change.DrawHandle (event.Drawn handle) after h n = ap (λ (z : Tables). z.era) h.2
 era_event t (change.InsertHandle era handle number fd) (event.Inserted given) after h n = ap (λ (z : Tables). z.era) h.4
 era_event t (change.PinHandle handle number) (event.Pinned serial fd) after h n = ap (λ (z : Tables). z.era) h.5.2
-era_event t (change.UnpinHandle serial) (event.Done closings) after h n = unpins_handle era_of no_handles t serial closings after h
-era_event t (change.Release handle number) (event.Done closings) after h n = handle_dies era_of no_handles t h.0 closings after h.2
+era_event t (change.UnpinHandle serial) (event.Done closings) after h n =
+    unpins_handle era_of no_handles t serial closings after h
+era_event t (change.Release handle number) (event.Done closings) after h n =
+    handle_dies era_of no_handles t h.0 closings after h.2
 era_event t change.Clear (event.Cleared era closings) after h n = absurd (n tt)
 era_event t change.TakeClosing (event.Closing fd slot) after h n = ap (λ (z : Tables). z.era) h.2
 era_event t e (event.Refused why) after h n = ap (λ (z : Tables). z.era) (refused_stays t after e why h)
 era_event t _ _ after h n = absurd h
 
-era_step : (t : Tables) (deed : Option Deed) (told : ActReply) (after : Tables) → TablesGo t deed told after → (IsClearing deed told → ⊥) → after.era ≡ t.era
+era_step : (t : Tables) (deed : Option Deed) (told : ActReply) (after : Tables) → TablesGo t deed told after →
+    (IsClearing deed told → ⊥) → after.era ≡ t.era
 era_step t None told after g n = ap (λ (z : Tables). z.era) (unmade t told after g)
 era_step t (Some (Calls asked)) told after g n = ap (λ (z : Tables). z.era) (called t asked told after g)
 era_step t (Some (Changes asked)) (Event r) after g n = era_event t asked r after g n
@@ -78,7 +86,8 @@ era_step t (Some (Changes asked)) told after g n = absurd g
 
 -- the era that a job notes is right, unless the job was overtaken
 abbrev Right : ℕ → List Turn → Tables → Job → Type 0
-Right j turns t job = (era : ℕ) → job.notes.era ≡ Some era → (0 < length (steps_of j turns)) × ((era ≡ t.era) ⊎ IsOvertaken j turns)
+Right j turns t job =
+    (era : ℕ) → job.notes.era ≡ Some era → (0 < length (steps_of j turns)) × ((era ≡ t.era) ⊎ IsOvertaken j turns)
 
 some_begun : (steps : List Step) → 0 < length steps → steps ≢ []
 some_begun steps l e = let a = ap length e in absurd (omega (arith, a, l))
@@ -98,12 +107,16 @@ later j turns more o = record {
 
 own_steps : (turns : List Turn) (turn : Turn) → 0 < length (steps_of turn.job (turns ++ turn ∷ []))
 own_steps turns turn =
-    let e = ap length (steps_append turn.job turns (turn ∷ []) ∙ ap (λ x. steps_of turn.job turns ++ x) (steps_same turn [])) in
+    let e = ap length (steps_append turn.job turns (turn ∷ [])
+    ∙ ap (λ x. steps_of turn.job turns ++ x) (steps_same turn [])) in
     let a = length-append (steps_of turn.job turns) (turn.step ∷ []) in
     omega (arith, e, a)
 
-other_steps : (j : ℕ) (turns : List Turn) (turn : Turn) → j ≢ turn.job → length (steps_of j (turns ++ turn ∷ [])) ≡ length (steps_of j turns)
-other_steps j turns turn n = ap length (steps_append j turns (turn ∷ []) ∙ ap (λ x. steps_of j turns ++ x) (steps_other j turn [] n) ∙ append-nil (steps_of j turns))
+other_steps : (j : ℕ) (turns : List Turn) (turn : Turn) → j ≢ turn.job →
+    length (steps_of j (turns ++ turn ∷ [])) ≡ length (steps_of j turns)
+other_steps j turns turn n =
+    ap length (steps_append j turns (turn ∷ []) ∙ ap (λ x. steps_of j turns ++ x) (steps_other j turn [] n)
+    ∙ append-nil (steps_of j turns))
 
 root_era : (fd : Fd) (notes : Notes) → (with_root fd notes).era ≡ notes.era
 root_era fd notes = grind arith
@@ -116,64 +129,95 @@ called_era notes (call.Close fd) told = refl
 called_era notes asked told = refl
 
 -- what the owner of a step notes is right after it
-unmoved : (j : ℕ) (t t' : Tables) (job after : Job) (turns turns' : List Turn) → after.notes.era ≡ job.notes.era → t'.era ≡ t.era → (IsOvertaken j turns → IsOvertaken j turns') → Right j turns t job →
+unmoved : (j : ℕ) (t t' : Tables) (job after : Job) (turns turns' : List Turn) → after.notes.era ≡ job.notes.era →
+    t'.era ≡ t.era → (IsOvertaken j turns → IsOvertaken j turns') → Right j turns t job →
     (era : ℕ) → after.notes.era ≡ Some era → (era ≡ t'.era) ⊎ IsOvertaken j turns'
-unmoved j t t' job after turns turns' n s f k era q = ⊎_elim (λ (x : era ≡ t.era). inl (x ∙ sym s)) (λ (o : IsOvertaken j turns). inr (f o)) (k era (sym n ∙ q)).1
+unmoved j t t' job after turns turns' n s f k era q =
+    ⊎_elim (λ (x : era ≡ t.era). inl (x ∙ sym s)) (λ (o : IsOvertaken j turns). inr (f o)) (k era (sym n ∙ q)).1
 
 some_same : {a b : ℕ} → Some a ≡ Some b → a ≡ b
 some_same e = cc
 
-own_event : (j : ℕ) (t t' : Tables) (job after : Job) (turns turns' : List Turn) (e : Change) (r : EventReply) → Happens t e r t' → MovesBy job (Changes e) (Event r) after → (IsOvertaken j turns → IsOvertaken j turns') →
+own_event : (j : ℕ) (t t' : Tables) (job after : Job) (turns turns' : List Turn) (e : Change) (r : EventReply) →
+    Happens t e r t' → MovesBy job (Changes e) (Event r) after → (IsOvertaken j turns → IsOvertaken j turns') →
     Right j turns t job → (era : ℕ) → after.notes.era ≡ Some era → (era ≡ t'.era) ⊎ IsOvertaken j turns'
 own_event j t t' job after turns turns' change.Begin (event.Began was negotiated) h m f k era q =
     inl (some_same (sym q ∙ ap (λ (z : Notes). z.era) m.3) ∙ h.0 ∙ sym (ap (λ (z : Tables). z.era) h.2))
 own_event j t t' job after turns turns' change.Clear (event.Cleared was closings) h m f k era q =
     inl (some_same (sym q ∙ ap (λ (z : Notes). z.era) m.3) ∙ sym (ap (λ (z : Tables). z.era) h.1.8))
-own_event j t t' job after turns turns' (change.Resolve number) (event.Resolved serial form ids mode) h m f k era q = unmoved j t t' job after turns turns' (ap (λ (z : Notes). z.era) m.3) (era_event t (change.Resolve number) (event.Resolved serial form ids mode) t' h (λ c. c)) f k era q
-own_event j t t' job after turns turns' change.DrawNode (event.Drawn number) h m f k era q = unmoved j t t' job after turns turns' (ap (λ (z : Notes). z.era) m.3) (era_event t change.DrawNode (event.Drawn number) t' h (λ c. c)) f k era q
-own_event j t t' job after turns turns' change.DrawHandle (event.Drawn handle) h m f k era q = unmoved j t t' job after turns turns' (ap (λ (z : Notes). z.era) m.3) (era_event t change.DrawHandle (event.Drawn handle) t' h (λ c. c)) f k era q
-own_event j t t' job after turns turns' (change.Insert own number form ids mode) (event.Inserted given) h m f k era q = unmoved j t t' job after turns turns' (ap (λ (z : Notes). z.era) m.3) (era_event t (change.Insert own number form ids mode) (event.Inserted given) t' h (λ c. c)) f k era q
-own_event j t t' job after turns turns' (change.InsertRoot own form ids mode negotiated) (event.Inserted given) h m f k era q = unmoved j t t' job after turns turns' (ap (λ (z : Notes). z.era) m.3) (era_event t (change.InsertRoot own form ids mode negotiated) (event.Inserted given) t' h (λ c. c)) f k era q
-own_event j t t' job after turns turns' (change.InsertHandle own handle number fd) (event.Inserted given) h m f k era q = unmoved j t t' job after turns turns' (ap (λ (z : Notes). z.era) m.3) (era_event t (change.InsertHandle own handle number fd) (event.Inserted given) t' h (λ c. c)) f k era q
-own_event j t t' job after turns turns' e r h m f k era q = unmoved j t t' job after turns turns' (ap (λ (z : Notes). z.era) m.3) (era_event t e r t' h (λ c. c)) f k era q
+own_event j t t' job after turns turns' (change.Resolve number) (event.Resolved serial form ids mode) h m f k era q =
+    unmoved j t t' job after turns turns' (ap (λ (z : Notes). z.era) m.3)
+    (era_event t (change.Resolve number) (event.Resolved serial form ids mode) t' h (λ c. c)) f k era q
+own_event j t t' job after turns turns' change.DrawNode (event.Drawn number) h m f k era q =
+    unmoved j t t' job after turns turns' (ap (λ (z : Notes). z.era) m.3)
+    (era_event t change.DrawNode (event.Drawn number) t' h (λ c. c)) f k era q
+own_event j t t' job after turns turns' change.DrawHandle (event.Drawn handle) h m f k era q =
+    unmoved j t t' job after turns turns' (ap (λ (z : Notes). z.era) m.3)
+    (era_event t change.DrawHandle (event.Drawn handle) t' h (λ c. c)) f k era q
+own_event j t t' job after turns turns' (change.Insert own number form ids mode)
+    (event.Inserted given) h m f k era q =
+    unmoved j t t' job after turns turns' (ap (λ (z : Notes). z.era) m.3)
+    (era_event t (change.Insert own number form ids mode) (event.Inserted given) t' h (λ c. c)) f k era q
+own_event j t t' job after turns turns' (change.InsertRoot own form ids mode negotiated)
+    (event.Inserted given) h m f k era q =
+    unmoved j t t' job after turns turns' (ap (λ (z : Notes). z.era) m.3)
+    (era_event t (change.InsertRoot own form ids mode negotiated) (event.Inserted given) t' h (λ c. c)) f k era q
+own_event j t t' job after turns turns' (change.InsertHandle own handle number fd)
+    (event.Inserted given) h m f k era q =
+    unmoved j t t' job after turns turns' (ap (λ (z : Notes). z.era) m.3)
+    (era_event t (change.InsertHandle own handle number fd) (event.Inserted given) t' h (λ c. c)) f k era q
+own_event j t t' job after turns turns' e r h m f k era q =
+    unmoved j t t' job after turns turns' (ap (λ (z : Notes). z.era) m.3) (era_event t e r t' h (λ c. c)) f k era q
 
-own_step : (j : ℕ) (t t' : Tables) (job after : Job) (turns turns' : List Turn) (deed : Option Deed) (told : ActReply) → TablesGo t deed told t' → MovesIf job deed told after → (IsOvertaken j turns → IsOvertaken j turns') →
+own_step : (j : ℕ) (t t' : Tables) (job after : Job) (turns turns' : List Turn) (deed : Option Deed)
+    (told : ActReply) → TablesGo t deed told t' → MovesIf job deed told after →
+    (IsOvertaken j turns → IsOvertaken j turns') →
     Right j turns t job → (era : ℕ) → after.notes.era ≡ Some era → (era ≡ t'.era) ⊎ IsOvertaken j turns'
-own_step j t t' job after turns turns' None told g m f k = unmoved j t t' job after turns turns' (ap (λ (z : Job). z.notes.era) m) (era_step t None told t' g (λ c. c)) f k
+own_step j t t' job after turns turns' None told g m f k =
+    unmoved j t t' job after turns turns' (ap (λ (z : Job). z.notes.era) m) (era_step t None told t' g (λ c. c)) f k
 own_step j t t' job after turns turns' (Some (Calls asked)) told g m f k =
-    unmoved j t t' job after turns turns' (ap (λ (z : Notes). z.era) m.3 ∙ called_era job.notes asked told) (era_step t (Some (Calls asked)) told t' g (λ c. c)) f k
-own_step j t t' job after turns turns' (Some (Changes asked)) (Event r) g m f k = own_event j t t' job after turns turns' asked r g m f k
+    unmoved j t t' job after turns turns' (ap (λ (z : Notes). z.era) m.3
+    ∙ called_era job.notes asked told) (era_step t (Some (Calls asked)) told t' g (λ c. c)) f k
+own_step j t t' job after turns turns' (Some (Changes asked)) (Event r) g m f k =
+    own_event j t t' job after turns turns' asked r g m f k
 own_step j t t' job after turns turns' (Some (Changes asked)) told g m f k = absurd g
 
 -- another's step: a clearing overtakes whoever has begun
 abbrev made : Option Deed → ActReply → Step
 made deed told = record { deed = deed; reply = told }
 
-other_step : (j : ℕ) (t t' : Tables) (turns : List Turn) (owner : ℕ) (deed : Option Deed) (told : ActReply) → TablesGo t deed told t' → owner ≢ j → steps_of j turns ≢ [] →
-    (era : ℕ) → era ≡ t.era → (era ≡ t'.era) ⊎ IsOvertaken j (turns ++ record { job = owner; step = made deed told } ∷ [])
-other_step j t t' turns owner (Some (Changes change.Clear)) (Event (event.Cleared was closings)) g n b era e = inr (record {
-  before = turns;
-  clearing = record { job = owner; step = made (Some (Changes change.Clear)) (Event (event.Cleared was closings)) };
-  later = [];
-  in_turn = refl;
-  begun = b;
-  other = n;
-  era = was;
-  closings = closings;
-  cleared = refl;
-})
-other_step j t t' turns owner (Some (Changes change.Clear)) (Event (event.Refused why)) g n b era e = inl (e ∙ sym (era_step t (Some (Changes change.Clear)) (Event (event.Refused why)) t' g (λ c. c)))
+other_step : (j : ℕ) (t t' : Tables) (turns : List Turn) (owner : ℕ) (deed : Option Deed) (told : ActReply) →
+    TablesGo t deed told t' → owner ≢ j → steps_of j turns ≢ [] →
+    (era : ℕ) → era ≡ t.era → (era ≡ t'.era)
+    ⊎ IsOvertaken j (turns ++ record { job = owner; step = made deed told } ∷ [])
+other_step j t t' turns owner (Some (Changes change.Clear)) (Event (event.Cleared was closings)) g n b era e =
+    inr (record {
+      before = turns;
+      clearing = record { job = owner; step = made (Some (Changes change.Clear)) (Event (event.Cleared was closings)) };
+      later = [];
+      in_turn = refl;
+      begun = b;
+      other = n;
+      era = was;
+      closings = closings;
+      cleared = refl;
+    })
+other_step j t t' turns owner (Some (Changes change.Clear)) (Event (event.Refused why)) g n b era e =
+    inl (e ∙ sym (era_step t (Some (Changes change.Clear)) (Event (event.Refused why)) t' g (λ c. c)))
 other_step j t t' turns owner (Some (Changes change.Clear)) told g n b era e = absurd g
 other_step j t t' turns owner deed told g n b era e = inl (e ∙ sym (era_step t deed told t' g (λ c. c)))
 
-keeps_right : (turns : List Turn) (turn : Turn) (t t' : Tables) (js : ℕ → Job) (after : Job) → TablesGo t turn.step.deed turn.step.reply t' → MovesIf (js turn.job) turn.step.deed turn.step.reply after →
+keeps_right : (turns : List Turn) (turn : Turn) (t t' : Tables) (js : ℕ → Job) (after : Job) →
+    TablesGo t turn.step.deed turn.step.reply t' → MovesIf (js turn.job) turn.step.deed turn.step.reply after →
     ((j : ℕ) → Right j turns t (js j)) → (j : ℕ) → Right j (turns ++ turn ∷ []) t' (set_at turn.job after js j)
-keeps_right turns turn t t' js after g m k j = at_each (λ i job. Right i (turns ++ turn ∷ []) t' job) js turn.job after j own others
+keeps_right turns turn t t' js after g m k j =
+    at_each (λ i job. Right i (turns ++ turn ∷ []) t' job) js turn.job after j own others
   where
     own : Right turn.job (turns ++ turn ∷ []) t' after
     own era q = (
       own_steps turns turn,
-      own_step turn.job t t' (js turn.job) after turns (turns ++ turn ∷ []) turn.step.deed turn.step.reply g m (later turn.job turns (turn ∷ [])) (k turn.job) era q,
+      own_step turn.job t t' (js turn.job) after turns (turns
+          ++ turn ∷ []) turn.step.deed turn.step.reply g m (later turn.job turns (turn ∷ [])) (k turn.job) era q,
     )
 
     others : j ≢ turn.job → Right j (turns ++ turn ∷ []) t' (js j)
@@ -182,35 +226,51 @@ keeps_right turns turn t t' js after g m k j = at_each (λ i job. Right i (turns
         let l = other_steps j turns turn n in (
           (let c = b.0 in omega (arith, l, c)),
           ⊎_elim
-              (λ (e : era ≡ t.era). other_step j t t' turns turn.job turn.step.deed turn.step.reply g (λ x. n (sym x)) (some_begun (steps_of j turns) b.0) era e)
+              (λ (e : era ≡ t.era).
+              other_step j t t' turns turn.job turn.step.deed turn.step.reply g (λ x.
+              n (sym x)) (some_begun (steps_of j turns) b.0) era e)
               (λ (o : IsOvertaken j turns). inr (later j turns (turn ∷ []) o))
               b.1,
         )
 
-right_runs : (bound : ℕ) (past turns : List Turn) (t last : Tables) (js ends : ℕ → Job) → TablesRun t turns last → Each (λ s. s.job < bound) turns → ((j : ℕ) → Right j past t (js j)) → Sorted bound js turns ends →
+right_runs : (bound : ℕ) (past turns : List Turn) (t last : Tables) (js ends : ℕ → Job) → TablesRun t turns last →
+    Each (λ s. s.job < bound) turns → ((j : ℕ) → Right j past t (js j)) → Sorted bound js turns ends →
     (j : ℕ) → j < bound → Right j (past ++ turns) last (ends j)
-right_runs bound past [] t last js ends r lt k d j l = rw append-nil (subst (λ job. Right j past last job) (sym (d j l)) (rw r (k j)))
+right_runs bound past [] t last js ends r lt k d j l =
+    rw append-nil (subst (λ job. Right j past last job) (sym (d j l)) (rw r (k j)))
 right_runs bound past (s ∷ ss) t last js ends r lt k d j l =
     let mine = rw (steps_same s ss) at (d s.job lt.0) in
     let next = keeps_right past s t r.0 js mine.0 r.1 mine.1 k in
     subst (λ turns. Right j turns last (ends j)) (append_assoc past (s ∷ []) ss)
-    (right_runs bound (past ++ s ∷ []) ss r.0 last (set_at s.job mine.0 js) ends r.2 lt.1 next (after_step bound js ends s ss mine.0 d mine.2) j l)
+    (right_runs bound (past
+    ++ s ∷ []) ss r.0 last (set_at s.job mine.0 js) ends r.2 lt.1 next
+    (after_step bound js ends s ss mine.0 d mine.2) j l)
 
 -- what is told so was asked in another era than that of the tables
-asked_era : (t t' : Tables) (job after : Job) (deed : Option Deed) (told : ActReply) → TablesGo t deed told t' → MovesIf job deed told after → TellsOvertaken deed told → (era : ℕ) × (job.notes.era ≡ Some era) × (era ≢ t.era)
-asked_era t t' job after (Some (Changes (change.Claim era handle ids))) (Event (event.Refused Overtaken)) g m o = (era, m.1.1, g.0)
-asked_era t t' job after (Some (Changes (change.Insert era number form ids mode))) (Event (event.Refused Overtaken)) g m o = (era, m.1.0, g.0)
-asked_era t t' job after (Some (Changes (change.InsertRoot era form ids mode negotiated))) (Event (event.Refused Overtaken)) g m o = (era, m.1.0, g.0)
-asked_era t t' job after (Some (Changes (change.InsertHandle era handle number fd))) (Event (event.Refused Overtaken)) g m o = (era, m.1.1, g.0)
+asked_era : (t t' : Tables) (job after : Job) (deed : Option Deed) (told : ActReply) → TablesGo t deed told t' →
+    MovesIf job deed told after → TellsOvertaken deed told → (era : ℕ) × (job.notes.era ≡ Some era) × (era ≢ t.era)
+asked_era t t' job after (Some (Changes (change.Claim era handle ids))) (Event (event.Refused Overtaken)) g m o =
+    (era, m.1.1, g.0)
+asked_era t t' job after (Some (Changes (change.Insert era number form ids mode)))
+    (Event (event.Refused Overtaken)) g m o = (era, m.1.0, g.0)
+asked_era t t' job after (Some (Changes (change.InsertRoot era form ids mode negotiated)))
+    (Event (event.Refused Overtaken)) g m o = (era, m.1.0, g.0)
+asked_era t t' job after (Some (Changes (change.InsertHandle era handle number fd)))
+    (Event (event.Refused Overtaken)) g m o = (era, m.1.1, g.0)
 asked_era t t' job after deed told g m o = absurd o
 
-pub overtaken_law : (limit bound : ℕ) (turns : List Turn) (turn : Turn) (more : List Turn) (now next : Tables) → AreDisciplined bound (turns ++ turn ∷ more) → TablesRun (empty_tables limit) turns now →
-    TablesGo now turn.step.deed turn.step.reply next → TellsOvertaken turn.step.deed turn.step.reply → IsOvertaken turn.job turns
+pub overtaken_law : (limit bound : ℕ) (turns : List Turn) (turn : Turn) (more : List Turn) (now next : Tables) →
+    AreDisciplined bound (turns ++ turn ∷ more) → TablesRun (empty_tables limit) turns now →
+    TablesGo now turn.step.deed turn.step.reply next → TellsOvertaken turn.step.deed turn.step.reply →
+    IsOvertaken turn.job turns
 overtaken_law limit bound turns turn more now next a r g o =
-    let ends = choose (λ j job. Between (steps_of j turns) (steps_of j (turn ∷ more)) job) bound idle (between bound turns (turn ∷ more) a) in
+    let ends = choose (λ j job.
+    Between (steps_of j turns) (steps_of j (turn ∷ more)) job) bound idle (between bound turns (turn ∷ more) a) in
     let lt = owner_of bound turns turn more a.owners in
     let own = ends.1 turn.job lt in
     let m = next_move turn more (ends.0 turn.job) own.1 own.2 in
     let asked = asked_era now next (ends.0 turn.job) m.0 turn.step.deed turn.step.reply g m.1 o in
-    let k = right_runs bound [] turns (empty_tables limit) now (λ j. idle) ends.0 r (each_front (λ s. s.job < bound) turns (turn ∷ more) a.owners) (λ j era e. absurd (cc)) (λ j l. (ends.1 j l).0) turn.job lt asked.0 asked.1 in
+    let k = right_runs bound [] turns (empty_tables limit) now (λ j.
+    idle) ends.0 r (each_front (λ s. s.job < bound) turns (turn ∷ more) a.owners) (λ j era e. absurd (cc)) (λ j l.
+    (ends.1 j l).0) turn.job lt asked.0 asked.1 in
     ⊎_elim (λ (e : asked.0 ≡ now.era). absurd (asked.2 e)) (λ (x : IsOvertaken turn.job turns). x) k.1

@@ -26,7 +26,8 @@ abbrev count_of : ℕ → Hold → ℕ
 count_of number (hold.Count era same) = is same number
 count_of number one = 0
 
-brings_none : (n : ℕ) (brings : Taken) (holds : List Hold) → total (count_of n) (brought brings ++ holds) ≡ total (count_of n) holds
+brings_none : (n : ℕ) (brings : Taken) (holds : List Hold) →
+    total (count_of n) (brought brings ++ holds) ≡ total (count_of n) holds
 brings_none n taken.Nothing holds = refl
 brings_none n taken.Slot holds = omega arith
 brings_none n (taken.Fd fd true) holds = omega arith
@@ -34,41 +35,56 @@ brings_none n (taken.Fd fd false) holds = omega arith
 
 one_given : (n : ℕ) (deed : Deed) (told : ActReply) (holds after : List Hold) → Shifts holds deed told after →
     total (count_of n) after + job_returned n (Some deed) ≡ total (count_of n) holds + job_given n (Some deed) told
-one_given n (Calls (call.OpenRoot path flags)) (Host (host.Ok (value.Fd fd))) holds after s = let k = total_takes (count_of n) s in omega (arith, k)
-one_given n (Calls (call.OpenAt dir name flags mode)) (Host (host.Ok (value.Fd fd))) holds after s = let k = total_takes (count_of n) s.1 in omega (arith, k)
-one_given n (Calls (call.OpenAt dir name flags mode)) told holds after s = let k = ap (total (count_of n)) s.1 in omega (arith, k)
-one_given n (Calls (call.Reopen fd flags)) (Host (host.Ok (value.Fd new))) holds after s = let k = total_takes (count_of n) s.1 in omega (arith, k)
+one_given n (Calls (call.OpenRoot path flags)) (Host (host.Ok (value.Fd fd))) holds after s =
+    let k = total_takes (count_of n) s in omega (arith, k)
+one_given n (Calls (call.OpenAt dir name flags mode)) (Host (host.Ok (value.Fd fd))) holds after s =
+    let k = total_takes (count_of n) s.1 in omega (arith, k)
+one_given n (Calls (call.OpenAt dir name flags mode)) told holds after s = let k = ap (total (count_of n)) s.1 in
+    omega (arith, k)
+one_given n (Calls (call.Reopen fd flags)) (Host (host.Ok (value.Fd new))) holds after s =
+    let k = total_takes (count_of n) s.1 in omega (arith, k)
 one_given n (Calls (call.Reopen fd flags)) told holds after s = let k = ap (total (count_of n)) s.1 in omega (arith, k)
-one_given n (Calls (call.ReadAt fd offset size)) told holds after s = let k = ap (total (count_of n)) s.1 in omega (arith, k)
-one_given n (Calls (call.Stat fd)) (Host (host.Ok (value.Stat stat))) holds after s = let k = total_replaces (count_of n) s.1 in omega (arith, k)
+one_given n (Calls (call.ReadAt fd offset size)) told holds after s = let k = ap (total (count_of n)) s.1 in
+    omega (arith, k)
+one_given n (Calls (call.Stat fd)) (Host (host.Ok (value.Stat stat))) holds after s =
+    let k = total_replaces (count_of n) s.1 in omega (arith, k)
 one_given n (Calls (call.Stat fd)) told holds after s = let k = ap (total (count_of n)) s.1 in omega (arith, k)
 one_given n (Calls (call.Close fd)) told holds after s = let k = total_takes (count_of n) s.1 in omega (arith, k)
-one_given n (Calls (call.OpenRoot path flags)) told holds after s = let k = ap (total (count_of n)) s in omega (arith, k)
+one_given n (Calls (call.OpenRoot path flags)) told holds after s = let k = ap (total (count_of n)) s in
+    omega (arith, k)
 one_given n (Calls (call.Edit edit)) told holds after s = let k = ap (total (count_of n)) s in omega (arith, k)
 one_given n (Calls asked) told holds after s = absurd s
-one_given n (Changes (change.Resolve number)) (Event (event.Resolved row form ids mode)) holds after s = let k = total_takes (count_of n) s in omega (arith, k)
+one_given n (Changes (change.Resolve number)) (Event (event.Resolved row form ids mode)) holds after s =
+    let k = total_takes (count_of n) s in omega (arith, k)
 one_given n (Changes (change.Unpin row)) told holds after s = let k = total_takes (count_of n) s.1 in omega (arith, k)
-one_given n (Changes (change.Claim era handle ids)) (Event (event.Claimed number)) holds after s = let k = total_takes (count_of n) s in omega (arith, k)
-one_given n (Changes change.TakeFd) (Event event.Taken) holds after s = let k = total_takes (count_of n) s in omega (arith, k)
+one_given n (Changes (change.Claim era handle ids)) (Event (event.Claimed number)) holds after s =
+    let k = total_takes (count_of n) s in omega (arith, k)
+one_given n (Changes change.TakeFd) (Event event.Taken) holds after s = let k = total_takes (count_of n) s in
+    omega (arith, k)
 one_given n (Changes change.GiveFd) told holds after s = let k = total_takes (count_of n) s in omega (arith, k)
 one_given n (Changes (change.Insert era number form ids mode)) (Event (event.Inserted given)) holds after s =
     let a = total_takes (count_of n) s.2 in
     let b = total_takes (count_of n) s.3 in
     let c = total_takes (count_of n) s.4 in
     omega (arith, a, b, c)
-one_given n (Changes (change.Insert era number form ids mode)) (Event (event.Found given)) holds after s = let k = total_takes (count_of n) s in omega (arith, k)
+one_given n (Changes (change.Insert era number form ids mode)) (Event (event.Found given)) holds after s =
+    let k = total_takes (count_of n) s in omega (arith, k)
 one_given n (Changes (change.InsertRoot era form ids mode agreed)) (Event (event.Inserted given)) holds after s =
     let a = total_takes (count_of n) s.1 in
     let b = total_takes (count_of n) s.2 in
     omega (arith, a, b)
-one_given n (Changes (change.GiveBack era number)) told holds after s = let k = total_takes (count_of n) s in omega (arith, k)
-one_given n (Changes (change.PinHandle handle number)) (Event (event.Pinned row fd)) holds after s = let k = total_takes (count_of n) s in omega (arith, k)
-one_given n (Changes (change.UnpinHandle row)) told holds after s = let k = total_takes (count_of n) s.1 in omega (arith, k)
+one_given n (Changes (change.GiveBack era number)) told holds after s = let k = total_takes (count_of n) s in
+    omega (arith, k)
+one_given n (Changes (change.PinHandle handle number)) (Event (event.Pinned row fd)) holds after s =
+    let k = total_takes (count_of n) s in omega (arith, k)
+one_given n (Changes (change.UnpinHandle row)) told holds after s = let k = total_takes (count_of n) s.1 in
+    omega (arith, k)
 one_given n (Changes (change.InsertHandle era handle number fd)) (Event (event.Inserted given)) holds after s =
     let a = total_takes (count_of n) s.2 in
     let b = total_takes (count_of n) s.3 in
     omega (arith, a, b)
-one_given n (Changes change.TakeClosing) told holds after s = let k = ap (total (count_of n)) s in let b = brings_none n (taken_in told) holds in omega (arith, k, b)
+one_given n (Changes change.TakeClosing) told holds after s = let k = ap (total (count_of n)) s in
+    let b = brings_none n (taken_in told) holds in omega (arith, k, b)
 one_given n deed told holds after s = let k = ap (total (count_of n)) s in omega (arith, k)
 
 step_given : (n : ℕ) (made : Option Deed) (told : ActReply) (job after : Job) → MovesIf job made told after →
@@ -88,7 +104,8 @@ entry_weighs : (n era : ℕ) (end : Finish) → total (count_of n) (entry_holds 
 entry_weighs n era (finish.Answer (answer.Entry entry)) = omega arith
 entry_weighs n era end = refl
 
-pub settled : (n : ℕ) (steps : List Step) (end : Finish) → Ends idle steps end → all_given n steps ≡ all_returned n steps + entry_count n end
+pub settled : (n : ℕ) (steps : List Step) (end : Finish) → Ends idle steps end →
+    all_given n steps ≡ all_returned n steps + entry_count n end
 settled n steps end e =
     let k = each_given n idle steps _ e.2 in
     let w = entry_weighs n e.0 end in

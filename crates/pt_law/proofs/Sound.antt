@@ -15,11 +15,14 @@ use Rattle.pt_law.specs.Fit.{Lasts}
 abbrev pub Owes : Owed → Job → Type 0
 Owes owed job = (job.holds ≡ brought owed.taken ++ owed.holds) × (job.owed ≡ owed.closings)
 
--- after the steps `past`, the last one first, each deed of the grammar may be made by the job where it stands, and at each the job holds what is said
+-- after the steps `past`, the last one first, each deed of the grammar may be made by the job where it stands, and at
+-- each the job holds what is said
 abbrev pub Sound : Request → Grammar → Job → List Step → Type 0
-Sound asked (End last) job past = ((era : ℕ) × (job.holds ≡ entry_holds era last)) × (job.owed ≡ 0) × IsCausedEnd asked past last
+Sound asked (End last) job past =
+    ((era : ℕ) × (job.holds ≡ entry_holds era last)) × (job.owed ≡ 0) × IsCausedEnd asked past last
 Sound asked (Do deed owed next) job past = Owes owed job
-    × ((step : Step) → IsStepOf deed step.deed step.reply → StepMayBeTold step.deed step.reply → (mid : Job) × Moves job step mid × Sound asked (next step.reply) mid (step ∷ past))
+    × ((step : Step) → IsStepOf deed step.deed step.reply → StepMayBeTold step.deed step.reply →
+    (mid : Job) × Moves job step mid × Sound asked (next step.reply) mid (step ∷ past))
 Sound asked (May one other) job past = Sound asked one job past × Sound asked other job past
 
 -- what the one causes, the other causes too
@@ -32,4 +35,6 @@ owing_job holds count notes = record { holds = holds; owed = count; notes = note
 
 -- the rest is sound after whatever steps of giving back and closings
 abbrev pub Goes : Request → Grammar → List Hold → ℕ → Notes → List Step → Type 0
-Goes asked rest holds count notes past = (later : Notes) → Lasts notes later → (more : List Step) → Within asked past more → Sound asked rest (owing_job holds count later) more
+Goes asked rest holds count notes past =
+    (later : Notes) → Lasts notes later → (more : List Step) → Within asked past more →
+    Sound asked rest (owing_job holds count later) more

@@ -1,5 +1,6 @@
 -- A handle is live where it was inserted and neither released nor cleared since.
-use Rattle.std.proofs.Common.{◌≡◌, ◌≢◌, ⊎_elim, inl, inr, ℕ, ◌-◌, ◌<◌, List, [], ◌∷◌, true, false, cond, refl, ap, subst, ◌∙◌, arith, Some, None, Option}
+use Rattle.std.proofs.Common.{◌≡◌, ◌≢◌, ⊎_elim, inl, inr, ℕ, ◌-◌, ◌<◌, List, [], ◌∷◌, true, false, cond, refl, ap}
+use Rattle.std.proofs.Common.{subst, ◌∙◌, arith, Some, None, Option}
 use Rattle.std.proofs.lemmas.Bool.{cases_eq, cases_Bool}
 use Rattle.pt_host.specs.Words.{is, total, Each, Takes, Takes.{here, there}}
 use Rattle.pt_session.specs.Change.{Change}
@@ -36,10 +37,12 @@ pub in_dead : (handle : ℕ) (row : HandleRow) → row.live ≡ false → handle
 in_dead handle row e = ap (λ b. cond b (is row.handle handle) 0) e
 
 -- one that is there is found
-found : (handle : ℕ) (rows : List HandleRow) → 0 < total (handle_in handle) rows → (row : HandleRow) × (others : List HandleRow) × Takes row rows others × HasHandle handle row
+found : (handle : ℕ) (rows : List HandleRow) → 0 < total (handle_in handle) rows →
+    (row : HandleRow) × (others : List HandleRow) × Takes row rows others × HasHandle handle row
 found handle [] h = absurd (omega arith)
 found handle (row ∷ rows) h = ⊎_elim
-    (λ (z : handle_in handle row ≡ 0). let f = found handle rows (omega (arith, z, h)) in (f.0, row ∷ f.1, there f.2, f.3))
+    (λ (z : handle_in handle row ≡ 0). let f = found handle rows (omega (arith, z, h)) in
+    (f.0, row ∷ f.1, there f.2, f.3))
     (λ (z : handle_in handle row ≢ 0). (row, rows, here, here_is z))
     (cases_eq (handle_in handle row) 0)
   where
@@ -52,10 +55,12 @@ found handle (row ∷ rows) h = ⊎_elim
         (λ (l : row.live ≡ false). absurd (z (in_dead handle row l)))
         (cases_Bool row.live)
 
-none_live : (handle : ℕ) (rows : List HandleRow) → total (handle_in handle) rows ≡ 0 → Each (λ row. HasHandle handle row → ⊥) rows
+none_live : (handle : ℕ) (rows : List HandleRow) → total (handle_in handle) rows ≡ 0 →
+    Each (λ row. HasHandle handle row → ⊥) rows
 none_live handle [] z = tt
 none_live handle (row ∷ rows) z = (
-  (λ h. let a = in_live handle row h.0 in let b = ap (λ i. is i handle) h.1 in let c = is_same handle in absurd (omega (arith, a, b, c, z))),
+  (λ h. let a = in_live handle row h.0 in let b = ap (λ i. is i handle) h.1 in let c = is_same handle in
+      absurd (omega (arith, a, b, c, z))),
   none_live handle rows (omega (arith, z)),
 )
 
@@ -75,7 +80,8 @@ said n None t = refl
 said n (Some x) t = refl
 
 -- a live handle's row ends or dies
-releases : (n handle : ℕ) (t : Tables) (row : HandleRow) (c : ℕ) (after : Tables) → row.live ≡ true → row.handle ≡ handle → HandleDies t row c after → live_handles n after ≡ live_handles n t - is handle n
+releases : (n handle : ℕ) (t : Tables) (row : HandleRow) (c : ℕ) (after : Tables) → row.live ≡ true →
+    row.handle ≡ handle → HandleDies t row c after → live_handles n after ≡ live_handles n t - is handle n
 releases n handle t row c after l e (inl h) = rw h.2.2 (
     let a = total_takes (handle_in n) h.2.1 in
     let b = in_live n row l in
@@ -87,21 +93,27 @@ releases n handle t row c after l e (inr h) = rw h.2.2 (
     let d = ap (λ i. is i n) e in
     omega (arith, a, b, d))
 
-unpins_handle : (n : ℕ) (t : Tables) (serial c : ℕ) (after : Tables) → UnpinsHandle t serial c after → live_handles n after ≡ live_handles n t
-unpins_handle n t serial c after (row, pins, s, p, inl h) = let k = h.3 in rw k.2 (let a = total_takes (handle_in n) k.1 in let b = in_dead n row h.0 in omega (arith, a, b))
-unpins_handle n t serial c after (row, pins, s, p, inr h) = let k = h.2 in rw k.2 (let a = total_replaces (handle_in n) k.1 in omega (arith, a))
+unpins_handle : (n : ℕ) (t : Tables) (serial c : ℕ) (after : Tables) → UnpinsHandle t serial c after →
+    live_handles n after ≡ live_handles n t
+unpins_handle n t serial c after (row, pins, s, p, inl h) = let k = h.3 in
+    rw k.2 (let a = total_takes (handle_in n) k.1 in let b = in_dead n row h.0 in omega (arith, a, b))
+unpins_handle n t serial c after (row, pins, s, p, inr h) = let k = h.2 in
+    rw k.2 (let a = total_replaces (handle_in n) k.1 in omega (arith, a))
 
 no_live : (n : ℕ) (rows : List HandleRow) → Each (λ row. row.live ≡ true → ⊥) rows → total (handle_in n) rows ≡ 0
 no_live n [] h = refl
 no_live n (row ∷ rows) h =
-    let a : handle_in n row ≡ 0 = ⊎_elim (λ (l : row.live ≡ true). absurd (h.0 l)) (in_dead n row) (cases_Bool row.live) in
+    let a : handle_in n row ≡ 0 =
+    ⊎_elim (λ (l : row.live ≡ true). absurd (h.0 l)) (in_dead n row) (cases_Bool row.live) in
     let b = no_live n rows h.1 in
     omega (arith, a, b)
 
-stands_event : (n : ℕ) (t : Tables) (e : Change) (r : EventReply) (after : Tables) → Happens t e r after → live_handles n after ≡ standing_by n (live_handles n t) (Asks e) (Event r)
+stands_event : (n : ℕ) (t : Tables) (e : Change) (r : EventReply) (after : Tables) → Happens t e r after →
+    live_handles n after ≡ standing_by n (live_handles n t) (Asks e) (Event r)
 stands_event n t change.Begin (event.Began era negotiated) after h = ap (live_handles n) h.2
 stands_event n t (change.Resolve number) (event.Resolved serial form ids mode) after h = ap (live_handles n) h.7.2
-stands_event n t (change.Unpin serial) (event.Done closings) after h = unpins (live_handles n) (no_numbers n) t serial closings after h
+stands_event n t (change.Unpin serial) (event.Done closings) after h =
+    unpins (live_handles n) (no_numbers n) t serial closings after h
 stands_event n t (change.Claim era handle ids) (event.Claimed number) after h = ap (live_handles n) h.1.4.2
 stands_event n t (change.Claim era handle ids) event.Absent after h = ap (live_handles n) h.2
 stands_event n t change.TakeFd event.Taken after h = ap (live_handles n) h.2
@@ -109,28 +121,40 @@ stands_event n t change.GiveFd event.Given after h = ap (live_handles n) h.1
 stands_event n t change.DrawNode (event.Drawn number) after h = ap (live_handles n) h.2
 stands_event n t (change.Insert era number form ids mode) (event.Inserted given) after h = ap (live_handles n) h.4
 stands_event n t (change.Insert era number form ids mode) (event.Found given) after h = ap (live_handles n) h.1.4.2
-stands_event n t (change.InsertRoot era form ids mode negotiated) (event.Inserted given) after h = ap (live_handles n) h.4 ∙ said n negotiated (with_row t (new_row t 1 form ids mode 2))
-stands_event n t (change.Forget list) (event.Done closings) after h = forgets_all (live_handles n) (no_numbers n) t list closings after h
-stands_event n t (change.GiveBack era number) (event.Done closings) after h = forgets_one (live_handles n) (no_numbers n) t number 1 closings after h.2
+stands_event n t (change.InsertRoot era form ids mode negotiated) (event.Inserted given) after h =
+    ap (live_handles n) h.4 ∙ said n negotiated (with_row t (new_row t 1 form ids mode 2))
+stands_event n t (change.Forget list) (event.Done closings) after h =
+    forgets_all (live_handles n) (no_numbers n) t list closings after h
+stands_event n t (change.GiveBack era number) (event.Done closings) after h =
+    forgets_one (live_handles n) (no_numbers n) t number 1 closings after h.2
 stands_event n t change.DrawHandle (event.Drawn handle) after h = ap (live_handles n) h.2
-stands_event n t (change.InsertHandle era handle number fd) (event.Inserted given) after h = rw h.4 (let e = ap (λ i. is i n) h.3 in omega (arith, e))
-stands_event n t (change.PinHandle handle number) (event.Pinned serial fd) after h = let k = h.5 in rw k.2 (let a = total_replaces (handle_in n) k.1 in omega (arith, a))
+stands_event n t (change.InsertHandle era handle number fd) (event.Inserted given) after h =
+    rw h.4 (let e = ap (λ i. is i n) h.3 in omega (arith, e))
+stands_event n t (change.PinHandle handle number) (event.Pinned serial fd) after h = let k = h.5 in
+    rw k.2 (let a = total_replaces (handle_in n) k.1 in omega (arith, a))
 stands_event n t (change.UnpinHandle serial) (event.Done closings) after h = unpins_handle n t serial closings after h
-stands_event n t (change.Release handle number) (event.Done closings) after h = releases n handle t h.0 closings after h.1.0 h.1.1 h.2
-stands_event n t change.Clear (event.Cleared era closings) after h = no_live n after.handles (clears t after era closings h.1).handles
+stands_event n t (change.Release handle number) (event.Done closings) after h =
+    releases n handle t h.0 closings after h.1.0 h.1.1 h.2
+stands_event n t change.Clear (event.Cleared era closings) after h =
+    no_live n after.handles (clears t after era closings h.1).handles
 stands_event n t change.TakeClosing (event.Closing fd slot) after h = ap (live_handles n) h.2
 stands_event n t e (event.Refused why) after h = ap (live_handles n) (refused_stays t after e why h)
 stands_event n t _ _ after h = absurd h
 
-stands_step : (n : ℕ) (t : Tables) (deed : Option Deed) (told : ActReply) (after : Tables) → TablesGo t deed told after → live_handles n after ≡ standing_if n (live_handles n t) deed told
+stands_step : (n : ℕ) (t : Tables) (deed : Option Deed) (told : ActReply) (after : Tables) →
+    TablesGo t deed told after → live_handles n after ≡ standing_if n (live_handles n t) deed told
 stands_step n t None told after g = ap (live_handles n) (unmade t told after g)
 stands_step n t (Some (Calls asked)) told after g = ap (live_handles n) (called t asked told after g)
 stands_step n t (Some (Asks asked)) (Event r) after g = stands_event n t asked r after g
 stands_step n t (Some (Asks asked)) told after g = absurd g
 
-stands_run : (n : ℕ) (turns : List Turn) (t last : Tables) → TablesRun t turns last → live_handles n last ≡ standing_after n (live_handles n t) turns
+stands_run : (n : ℕ) (turns : List Turn) (t last : Tables) → TablesRun t turns last →
+    live_handles n last ≡ standing_after n (live_handles n t) turns
 stands_run n [] t last r = ap (live_handles n) r
-stands_run n (s ∷ ss) t last r = stands_run n ss r.0 last r.2 ∙ ap (λ g. standing_after n g ss) (stands_step n t s.step.deed s.step.reply r.0 r.1)
+stands_run n (s ∷ ss) t last r =
+    stands_run n ss r.0 last r.2 ∙ ap (λ g. standing_after n g ss) (stands_step n t s.step.deed s.step.reply r.0 r.1)
 
-pub standing_law : (limit : ℕ) (turns : List Turn) (now : Tables) (handle : ℕ) → TablesRun (empty_tables limit) turns now → IsStanding now handle (standing handle turns)
-standing_law limit turns now handle r = subst (IsStanding now handle) (stands_run handle turns (empty_tables limit) now r) (stands handle now)
+pub standing_law : (limit : ℕ) (turns : List Turn) (now : Tables) (handle : ℕ) →
+    TablesRun (empty_tables limit) turns now → IsStanding now handle (standing handle turns)
+standing_law limit turns now handle r =
+    subst (IsStanding now handle) (stands_run handle turns (empty_tables limit) now r) (stands handle now)

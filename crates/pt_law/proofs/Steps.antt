@@ -1,5 +1,6 @@
 -- What holds before and after each step, whatever the other jobs do.
-use Rattle.std.proofs.Common.{◌≡◌, ◌≢◌, ⊎_elim, ℕ, ◌+◌, ◌<◌, ◌≤◌, refl, sym, ap, subst, ◌∙◌, arith, List, Option, Some, None}
+use Rattle.std.proofs.Common.{◌≡◌, ◌≢◌, ⊎_elim, ℕ, ◌+◌, ◌<◌, ◌≤◌, refl, sym, ap, subst, ◌∙◌, arith, List, Option}
+use Rattle.std.proofs.Common.{Some, None}
 use Rattle.std.proofs.lemmas.Bool.{cases_eq}
 use Rattle.pt_host.specs.Words.{total, set_at}
 use Rattle.pt_host.specs.Call.{Call}
@@ -27,7 +28,8 @@ use Rattle.pt_req.specs.declared.act.ActReply.TheVariants.{Event, Host, NoCopy}
 use Rattle.pt_req.specs.declared.hold.Hold.{Hold}
 use Rattle.pt_law.specs.Discipline.{Job, Resolution, Shifts, Moves, MovesIf, MovesBy}
 use Rattle.pt_law.specs.World.{World, Turn, TablesGo, Goes, IsLawful, settled_if, settled_by}
-use Rattle.pt_law.specs.Ledger.{open_count, kept_fds, held_by, fd_held, some_count, slot_taken, slot_given, inserted_if, inserted_as}
+use Rattle.pt_law.specs.Ledger.{open_count, kept_fds, held_by, fd_held, some_count, slot_taken, slot_given}
+use Rattle.pt_law.specs.Ledger.{inserted_if, inserted_as}
 use Rattle.pt_law.proofs.Flows.{fd_ended, slot_in, slot_out, IsHonest, unmade}
 use Rattle.pt_law.proofs.Lists.{total_takes, sum_to_set, set_at_same, set_at_other, at_each}
 use Rattle.pt_law.proofs.Balance.{moved}
@@ -57,10 +59,12 @@ pub set_self : {X : Type 0} (f : ℕ → X) (j : ℕ) (x : X) → x ≡ f j → 
 set_self f j x e = λ i k. at k i
   where
     at : (k : ℕ) → set_at j x f k ≡ f k
-    at k = ⊎_elim (λ (q : k ≡ j). ap (set_at j x f) q ∙ set_at_same f j x ∙ e ∙ ap f (sym q)) (λ (q : k ≢ j). set_at_other f j x k q) (cases_eq k j)
+    at k = ⊎_elim (λ (q : k ≡ j). ap (set_at j x f) q ∙ set_at_same f j x ∙ e
+        ∙ ap f (sym q)) (λ (q : k ≢ j). set_at_other f j x k q) (cases_eq k j)
 
 -- another count of insertions that is the same
-pub recount : (bound : ℕ) (had had' : ℕ → ℕ) (t : Tables) (js : ℕ → Job) → ((n : ℕ) → had' n ≡ had n) → Tabled bound had t js → Tabled bound had' t js
+pub recount : (bound : ℕ) (had had' : ℕ → ℕ) (t : Tables) (js : ℕ → Job) → ((n : ℕ) → had' n ≡ had n) →
+    Tabled bound had t js → Tabled bound had' t js
 recount bound had had' t js e v = record {
   agree = v.agree;
   books = v.books;
@@ -71,9 +75,12 @@ recount bound had had' t js e v = record {
   };
 }
 
-pub keeps_tabled : (bound : ℕ) (had : ℕ → ℕ) (t : Tables) (js : ℕ → Job) (j : ℕ) (deed : Option Deed) (told : ActReply) (t' : Tables) (after : Job) → j < bound → Tabled bound had t js → TablesGo t deed told t' →
+pub keeps_tabled : (bound : ℕ) (had : ℕ → ℕ) (t : Tables) (js : ℕ →
+    Job) (j : ℕ) (deed : Option Deed) (told : ActReply) (t' : Tables) (after : Job) → j < bound →
+    Tabled bound had t js → TablesGo t deed told t' →
     MovesIf (js j) deed told after → Tabled bound (λ n. had n + inserted_if n deed told) t' (set_at j after js)
-keeps_tabled bound had t js j None told t' after lt v g m = rw (unmade t told t' g, set_self js j after m) (recount bound had (λ n. had n + 0) t js (λ n. omega arith) v)
+keeps_tabled bound had t js j None told t' after lt v g m =
+    rw (unmade t told t' g, set_self js j after m) (recount bound had (λ n. had n + 0) t js (λ n. omega arith) v)
 keeps_tabled bound had t js j (Some deed) told t' after lt v g m = record {
   agree = agree_step t (Some deed) told t' g v.agree;
   books = keeps_books bound t js j deed told t' after lt v.agree v.books g m;
@@ -85,7 +92,8 @@ abbrev pub HasFlows : Option Deed → ActReply → Type 0
 HasFlows None told = slot_taken told ≡ 0
 HasFlows (Some deed) told = (slot_in deed told ≡ slot_given deed told) × (slot_out deed told ≡ slot_taken told)
 
-event_flows : (t : Tables) (e : Change) (r : EventReply) (t' : Tables) → Happens t e r t' → IsHonest (Changes e) (Event r) → HasFlows (Some (Changes e)) (Event r)
+event_flows : (t : Tables) (e : Change) (r : EventReply) (t' : Tables) → Happens t e r t' →
+    IsHonest (Changes e) (Event r) → HasFlows (Some (Changes e)) (Event r)
 event_flows t change.TakeFd event.Taken t' h a = (refl, refl)
 event_flows t change.GiveFd event.Given t' h a = (refl, refl)
 event_flows t change.GiveFd (event.Refused why) t' h a = absurd a
@@ -99,16 +107,20 @@ event_flows t _ event.Given t' h a = absurd h
 event_flows t _ (event.Closing fd slot) t' h a = absurd h
 event_flows t _ _ t' h a = (refl, refl)
 
-pub has_flows : (bound : ℕ) (had : ℕ → ℕ) (t : Tables) (js : ℕ → Job) (j : ℕ) (deed : Option Deed) (told : ActReply) (t' : Tables) (after : Job) → j < bound → Tabled bound had t js → TablesGo t deed told t' →
-    MovesIf (js j) deed told after → HasFlows deed told
-has_flows bound had t js j (Some (Changes e)) (Event r) t' after lt v g m = event_flows t e r t' g (honest bound t js j e r t' after lt v.books g m)
+pub has_flows : (bound : ℕ) (had : ℕ → ℕ) (t : Tables) (js : ℕ →
+    Job) (j : ℕ) (deed : Option Deed) (told : ActReply) (t' : Tables) (after : Job) → j < bound →
+    Tabled bound had t js → TablesGo t deed told t' → MovesIf (js j) deed told after → HasFlows deed told
+has_flows bound had t js j (Some (Changes e)) (Event r) t' after lt v g m =
+    event_flows t e r t' g (honest bound t js j e r t' after lt v.books g m)
 has_flows bound had t js j (Some (Calls a)) (Host r) t' after lt v g m = (refl, refl)
 has_flows bound had t js j (Some (Calls a)) NoCopy t' after lt v g m = (refl, refl)
 has_flows bound had t js j None NoCopy t' after lt v g m = refl
 has_flows bound had t js j _ _ t' after lt v g m = absurd g
 
 -- what a made step does to the tables
-pub turned : {H : Type 0} (does : Does H) (deed : Option Deed) (told : ActReply) (from : H) (seat : HostSeat) (t : Tables) (to : H) (seat' : HostSeat) (t' : Tables) → Made does deed told from seat t to seat' t' → TablesGo t deed told t'
+pub turned : {H : Type 0} (does : Does H) (deed : Option Deed) (told : ActReply) (from : H) (seat : HostSeat)
+    (t : Tables) (to : H) (seat' : HostSeat) (t' : Tables) → Made does deed told from seat t to seat' t' →
+    TablesGo t deed told t'
 turned does (Some (Changes e)) (Event r) from seat t to seat' t' h = h.0
 turned does (Some (Calls a)) (Host r) from seat t to seat' t' h = h.1
 turned does (Some (Calls a)) NoCopy from seat t to seat' t' h = h.1
@@ -120,7 +132,8 @@ abbrev Reads : Call → Type 0
 Reads (call.ReadAt fd offset size) = Unit {0}
 Reads a = ⊥
 
-no_bytes : (a : Call) (r : HostReply) (before after : ℕ) (holds next : List Hold) → (Reads a → ⊥) → Shifts holds (Calls a) NoCopy next → ReplyHoldsBytes r → IsAllowed before a r after → ⊥
+no_bytes : (a : Call) (r : HostReply) (before after : ℕ) (holds next : List Hold) → (Reads a → ⊥) →
+    Shifts holds (Calls a) NoCopy next → ReplyHoldsBytes r → IsAllowed before a r after → ⊥
 no_bytes (call.OpenRoot path flags) (host.Ok (value.Bytes bytes)) before after holds next n s h f = f
 no_bytes (call.OpenAt dir name flags mode) (host.Ok (value.Bytes bytes)) before after holds next n s h f = f
 no_bytes (call.Reopen fd flags) (host.Ok (value.Bytes bytes)) before after holds next n s h f = f
@@ -139,7 +152,8 @@ at_most_one fd tree = go (tree.opened fd)
     go (Some x) = omega arith
 
 -- what is closed was held
-closed_held : (job : Job) (a : Call) (told : ActReply) (after : Job) → MovesBy job (Calls a) told after → (f : ℕ) → 0 < fd_ended f (Calls a) told → 0 < total (fd_held f) job.holds
+closed_held : (job : Job) (a : Call) (told : ActReply) (after : Job) → MovesBy job (Calls a) told after → (f : ℕ) →
+    0 < fd_ended f (Calls a) told → 0 < total (fd_held f) job.holds
 closed_held job (call.OpenRoot path flags) told after m f l = absurd (omega arith)
 closed_held job (call.OpenAt dir name flags mode) told after m f l = absurd (omega arith)
 closed_held job (call.Reopen fd flags) told after m f l = absurd (omega arith)
@@ -149,9 +163,16 @@ closed_held job (call.Edit edit) told after m f l = absurd (omega arith)
 closed_held job (call.Close fd) told after m f l = let a = total_takes (fd_held f) m.0.1 in omega (arith, a, l)
 closed_held job asked told after m f l = absurd m.0
 
-keeps_event : (bound : ℕ) (base had : ℕ → ℕ) (w : World) (js : ℕ → Job) (j : ℕ) (e : Change) (r : EventReply) (t' : Tables) (after : Job) → j < bound → Inv bound base had w js → Happens w.tables e r t' →
-    MovesBy (js j) (Changes e) (Event r) after →
-    Inv bound base (λ n. had n + inserted_as n (Changes e) (Event r)) (record { tree = w.tree; tables = t'; past = settled_by w.past j (Changes e) (Event r) w.tables.next_row w.tree }) (set_at j after js)
+keeps_event : (bound : ℕ) (base had : ℕ → ℕ) (w : World) (js : ℕ →
+    Job) (j : ℕ) (e : Change) (r : EventReply) (t' : Tables) (after : Job) → j < bound → Inv bound base had w js →
+    Happens w.tables e r t' → MovesBy (js j) (Changes e) (Event r) after →
+    Inv bound base (λ n. had n
+    + inserted_as n (Changes e) (Event r)) (record {
+      tree = w.tree;
+      tables = t';
+      past =
+          settled_by w.past j (Changes e) (Event r) w.tables.next_row w.tree;
+    }) (set_at j after js)
 keeps_event bound base had w js j e r t' after lt v h m =
     let a = v.tabled.agree in
     let later = settled_by w.past j (Changes e) (Event r) w.tables.next_row w.tree in
@@ -169,17 +190,29 @@ keeps_event bound base had w js j e r t' after lt v h m =
         handled = handles_event w.tree w.past w.tables j (js j) after e r t' a h m (v.right.knows j lt) v.right.handled;
         shown = rows_event w.tree w.past w.tables j (js j) after e r t' a h m (v.right.knows j lt) v.right.shown;
         knows = λ i less. at_each (Knowing w.tree t'.next_row later) js j after i
-            (knows_event w.tree w.past w.tables j (js j) after e r t' a h m v.right.shown v.right.handled (v.right.knows j lt))
-            (λ other. knows_other w.tree w.past later w.tables.next_row t'.next_row i (js i) g (resolved_other w.past j e r w.tables.next_row w.tree i other) (v.right.knows i less));
+            (knows_event w.tree w.past w.tables j (js j) after e r t' a h m v.right.shown v.right.handled
+            (v.right.knows j lt))
+            (λ other. knows_other w.tree w.past later w.tables.next_row t'.next_row i (js i) g
+            (resolved_other w.past j e r w.tables.next_row w.tree i other) (v.right.knows i less));
       };
     }
 
-keeps_host : (bound : ℕ) (base had : ℕ → ℕ) (w : World) (js : ℕ → Job) (j : ℕ) (a : Call) (r : HostReply) (seat seat' : HostSeat) (tree' : Tree) (after : Job) → j < bound → Inv bound base had w js →
-    LawfulStep w.tree seat a r tree' seat' → MovesBy (js j) (Calls a) (Host r) after →
-    Inv bound base (λ n. had n + inserted_as n (Calls a) (Host r)) (record { tree = tree'; tables = w.tables; past = settled_by w.past j (Calls a) (Host r) w.tables.next_row tree' }) (set_at j after js)
+keeps_host : (bound : ℕ) (base had : ℕ → ℕ) (w : World) (js : ℕ →
+    Job) (j : ℕ) (a : Call) (r : HostReply) (seat seat' : HostSeat) (tree' : Tree) (after : Job) → j < bound →
+    Inv bound base had w js → LawfulStep w.tree seat a r tree' seat' → MovesBy (js j) (Calls a) (Host r) after →
+    Inv bound base (λ n. had n
+    + inserted_as n (Calls a) (Host r)) (record {
+      tree = tree';
+      tables = w.tables;
+      past =
+          settled_by w.past j (Calls a) (Host r) w.tables.next_row tree';
+    }) (set_at j after js)
 keeps_host bound base had w js j a r seat seat' tree' after lt v l m =
-    let opened = in_tree (js j) after w.tree a r tree' m l.changes (λ f q. let x = closed_held (js j) a (Host r) after m f q in let y = v.fds f in let z = part (fd_held f) js bound j lt in let u = at_most_one f w.tree in omega (arith, x, y, z, u)) in
-    let fds : (fd : ℕ) → open_count fd tree' ≡ kept_fds fd w.tables + held_by bound (fd_held fd) (set_at j after js) + base fd = (λ fd.
+    let opened = in_tree (js j) after w.tree a r tree' m l.changes (λ f q. let x =
+    closed_held (js j) a (Host r) after m f q in let y = v.fds f in let z = part (fd_held f) js bound j lt in
+    let u = at_most_one f w.tree in omega (arith, x, y, z, u)) in
+    let fds : (fd : ℕ) →
+    open_count fd tree' ≡ kept_fds fd w.tables + held_by bound (fd_held fd) (set_at j after js) + base fd = (λ fd.
     let x = v.fds fd in
     let y = (handed (js j).holds (Calls a) (Host r) after.holds m.0).fds fd in
     let z = opened fd in
@@ -193,45 +226,83 @@ keeps_host bound base had w js j a r seat seat' tree' after lt v l m =
           (λ f flags object e on. judged f flags object on (subst (λ c. MovesBy (js j) (Calls c) (Host r) after) e m))
           (λ f e.
           let n : open_count f.0 tree' ≡ 0 = closed_none w.tree tree' a f r e l.changes in
-          let x = fds f.0 in
-          (omega (arith, n, x), omega (arith, n, x), (λ i less. let y = part (fd_held f.0) (set_at j after js) bound i less in omega (arith, n, x, y))));
+          let x = fds f.0 in (
+            omega (arith, n, x),
+            omega (arith, n, x),
+            (λ i less. let y =
+                part (fd_held f.0) (set_at j after js) bound i less in omega (arith, n, x, y)),
+          ));
     }
   where
-    judged : (f : Fd) (flags : OpenFlags) (object : ℕ) → IsOpenOn w.tree f object → MovesBy (js j) (Calls (call.Reopen f flags)) (Host r) after → (was : Resolution) → (js j).notes.resolved ≡ Some was → w.past.resolved j was.number ≡ Some object
+    judged : (f : Fd) (flags : OpenFlags) (object : ℕ) → IsOpenOn w.tree f object →
+        MovesBy (js j) (Calls (call.Reopen f flags)) (Host r) after → (was : Resolution) →
+        (js j).notes.resolved ≡ Some was → w.past.resolved j was.number ≡ Some object
     judged f flags object on m was u =
         let fit = m.1 in
         let p = pinned_row bound w.tree w.tables w.past js j fit.0.row f lt v.tabled.books v.right fit.3 in
         let same : was.number ≡ fit.0.number = ap (number_of 0) (sym u ∙ fit.2) in
-        ap (w.past.resolved j) same ∙ sym ((v.right.knows j lt).resolved fit.0 fit.2).1 ∙ p.2 ∙ ap Some (one_object w.tree f p.0 object p.1 on)
+        ap (w.past.resolved j) same ∙ sym ((v.right.knows j lt).resolved fit.0 fit.2).1 ∙ p.2
+        ∙ ap Some (one_object w.tree f p.0 object p.1 on)
 
-    closed_none : (tree tree' : Tree) (a : Call) (f : Fd) (r : HostReply) → a ≡ call.Close f → TreeChanges tree a r tree' → open_count f.0 tree' ≡ 0
-    closed_none tree tree' a f r e h = let l : TreeChanges tree (call.Close f) r tree' = subst (λ c. TreeChanges tree c r tree') e h in none tree tree' f r l
+    closed_none : (tree tree' : Tree) (a : Call) (f : Fd) (r : HostReply) → a ≡ call.Close f →
+        TreeChanges tree a r tree' → open_count f.0 tree' ≡ 0
+    closed_none tree tree' a f r e h =
+        let l : TreeChanges tree (call.Close f) r tree' = subst (λ c. TreeChanges tree c r tree') e h in
+        none tree tree' f r l
       where
-        none : (tree tree' : Tree) (f : Fd) (r : HostReply) → TreeChanges tree (call.Close f) r tree' → open_count f.0 tree' ≡ 0
+        none : (tree tree' : Tree) (f : Fd) (r : HostReply) → TreeChanges tree (call.Close f) r tree' →
+            open_count f.0 tree' ≡ 0
         none tree tree' f r l = rw l (ap some_count (set_at_same tree.opened f.0 None))
 
 -- bytes that could not be copied were read, which moves nothing
-keeps_bytes : (bound : ℕ) (base had : ℕ → ℕ) (w : World) (js : ℕ → Job) (j : ℕ) (a : Call) (r : HostReply) (seat seat' : HostSeat) (next : World) (after : Job) (faults later : ℕ) → j < bound → Inv bound base had w js →
-    ReplyHoldsBytes r → IsAllowed faults a r later → LawfulStep w.tree seat a r next.tree seat' → next.tables ≡ w.tables → next.past ≡ settled_by w.past j (Calls a) NoCopy w.tables.next_row next.tree → MovesBy (js j) (Calls a) NoCopy after →
+keeps_bytes : (bound : ℕ) (base had : ℕ → ℕ) (w : World) (js : ℕ →
+    Job) (j : ℕ) (a : Call) (r : HostReply) (seat seat' : HostSeat) (next : World) (after : Job) (faults later : ℕ) →
+    j < bound → Inv bound base had w js →
+    ReplyHoldsBytes r → IsAllowed faults a r later → LawfulStep w.tree seat a r next.tree seat' →
+    next.tables ≡ w.tables → next.past ≡ settled_by w.past j (Calls a) NoCopy w.tables.next_row next.tree →
+    MovesBy (js j) (Calls a) NoCopy after →
     Inv bound base (λ n. had n + inserted_as n (Calls a) NoCopy) next (set_at j after js)
-keeps_bytes bound base had w js j (call.ReadAt fd offset size) (host.Ok (value.Bytes bytes)) seat seat' next after faults later lt v h f l t p m =
-    let same : next ≡ record { tree = next.tree; tables = w.tables; past = w.past } = λ i. record { tree = next.tree; tables = t i; past = p i } in
-    rw same (keeps_host bound base had w js j (call.ReadAt fd offset size) (host.Ok (value.Bytes bytes)) seat seat' next.tree after lt v l m)
-keeps_bytes bound base had w js j (call.ReadAt fd offset size) r seat seat' next after faults later lt v h f l t p m = absurd h
-keeps_bytes bound base had w js j a r seat seat' next after faults later lt v h f l t p m = absurd (no_bytes a r faults later (js j).holds after.holds (λ no. no) m.0 h f)
+keeps_bytes bound base had w js j (call.ReadAt fd offset size)
+    (host.Ok (value.Bytes bytes)) seat seat' next after faults later lt v h f l t p m =
+    let same : next ≡ record { tree = next.tree; tables = w.tables; past = w.past } =
+    λ i. record { tree = next.tree; tables = t i; past = p i } in
+    rw same (keeps_host bound base had w js j (call.ReadAt fd offset size)
+    (host.Ok (value.Bytes bytes)) seat seat' next.tree after lt v l m)
+keeps_bytes bound base had w js j (call.ReadAt fd offset size) r seat seat' next after faults later lt v h f l t p m =
+    absurd h
+keeps_bytes bound base had w js j a r seat seat' next after faults later lt v h f l t p m =
+    absurd (no_bytes a r faults later (js j).holds after.holds (λ no. no) m.0 h f)
 
-keeps_by : (bound : ℕ) (base had : ℕ → ℕ) (w : World) (js : ℕ → Job) (j : ℕ) (deed : Option Deed) (told : ActReply) (seat seat' : HostSeat) (next : World) (after : Job) → j < bound → Inv bound base had w js →
-    Made IsLawful deed told w.tree seat w.tables next.tree seat' next.tables → next.past ≡ settled_if w.past j deed told w.tables.next_row next.tree → MovesIf (js j) deed told after →
+keeps_by : (bound : ℕ) (base had : ℕ → ℕ) (w : World) (js : ℕ →
+    Job) (j : ℕ) (deed : Option Deed) (told : ActReply) (seat seat' : HostSeat) (next : World) (after : Job) →
+    j < bound → Inv bound base had w js →
+    Made IsLawful deed told w.tree seat w.tables next.tree seat' next.tables →
+    next.past ≡ settled_if w.past j deed told w.tables.next_row next.tree → MovesIf (js j) deed told after →
     Inv bound base (λ n. had n + inserted_if n deed told) next (set_at j after js)
 keeps_by bound base had w js j None NoCopy seat seat' next after lt v g p m =
     let same : next ≡ w = λ i. record { tree = g.0 i; tables = g.2 i; past = p i } in
-    rw (same, set_self js j after m) (record { tabled = recount bound had (λ n. had n + 0) w.tables js (λ n. omega arith) v.tabled; well = v.well; fds = v.fds; right = v.right })
+    rw (same, set_self js j after m) (record {
+      tabled =
+          recount bound had (λ n. had n + 0) w.tables js (λ n. omega arith) v.tabled;
+      well = v.well;
+      fds = v.fds;
+      right = v.right;
+    })
 keeps_by bound base had w js j (Some (Changes e)) (Event r) seat seat' next after lt v g p m =
-    let past : next.past ≡ settled_by w.past j (Changes e) (Event r) w.tables.next_row w.tree = p ∙ ap (settled_by w.past j (Changes e) (Event r) w.tables.next_row) g.1 in
-    let same : next ≡ record { tree = w.tree; tables = next.tables; past = settled_by w.past j (Changes e) (Event r) w.tables.next_row w.tree } = λ i. record { tree = g.1 i; tables = next.tables; past = past i } in
+    let past : next.past ≡ settled_by w.past j (Changes e) (Event r) w.tables.next_row w.tree =
+    p ∙ ap (settled_by w.past j (Changes e) (Event r) w.tables.next_row) g.1 in
+    let same : next ≡ record {
+      tree = w.tree;
+      tables = next.tables;
+      past = settled_by w.past j (Changes e) (Event r) w.tables.next_row w.tree;
+    } = λ i. record { tree = g.1 i; tables = next.tables; past = past i } in
     rw same (keeps_event bound base had w js j e r next.tables after lt v g.0 m)
 keeps_by bound base had w js j (Some (Calls a)) (Host r) seat seat' next after lt v g p m =
-    let same : next ≡ record { tree = next.tree; tables = w.tables; past = settled_by w.past j (Calls a) (Host r) w.tables.next_row next.tree } = λ i. record { tree = next.tree; tables = g.1 i; past = p i } in
+    let same : next ≡ record {
+      tree = next.tree;
+      tables = w.tables;
+      past = settled_by w.past j (Calls a) (Host r) w.tables.next_row next.tree;
+    } = λ i. record { tree = next.tree; tables = g.1 i; past = p i } in
     rw same (keeps_host bound base had w js j a r seat seat' next.tree after lt v g.0.0 m)
 keeps_by bound base had w js j (Some (Calls a)) NoCopy seat seat' next after lt v g p m =
     let l = g.0.2 in
@@ -239,6 +310,9 @@ keeps_by bound base had w js j (Some (Calls a)) NoCopy seat seat' next after lt 
 keeps_by bound base had w js j _ _ seat seat' next after lt v g p m = absurd g
 
 -- Each step keeps what holds.
-pub keeps : (bound : ℕ) (base had : ℕ → ℕ) (w : World) (js : ℕ → Job) (turn : Turn) (next : World) (after : Job) → turn.job < bound → Inv bound base had w js → Goes w turn next →
-    Moves (js turn.job) turn.step after → Inv bound base (λ n. had n + inserted_if n turn.step.deed turn.step.reply) next (set_at turn.job after js)
-keeps bound base had w js turn next after lt v g m = keeps_by bound base had w js turn.job turn.step.deed turn.step.reply g.seat g.seat_after next after lt v g.made g.past m
+pub keeps : (bound : ℕ) (base had : ℕ → ℕ) (w : World) (js : ℕ → Job) (turn : Turn) (next : World) (after : Job) →
+    turn.job < bound → Inv bound base had w js → Goes w turn next →
+    Moves (js turn.job) turn.step after →
+    Inv bound base (λ n. had n + inserted_if n turn.step.deed turn.step.reply) next (set_at turn.job after js)
+keeps bound base had w js turn next after lt v g m =
+    keeps_by bound base had w js turn.job turn.step.deed turn.step.reply g.seat g.seat_after next after lt v g.made g.past m

@@ -17,23 +17,28 @@ use Rattle.pt_law.specs.Told.{MayBeTold, StepMayBeTold, AllMayBeTold}
 -- the host keeps its promises
 abbrev pub Promises : {H : Type 0} → Does H → (H → ℕ) → Type 0
 Promises {H} does faults =
-    (from : H) (seat : HostSeat) (asked : Call) (told : HostReply) (to : H) (seat_after : HostSeat) → does from seat asked told to seat_after →
-    IsPromised (faults from) seat asked told (faults to) seat_after
+    (from : H) (seat : HostSeat) (asked : Call) (told : HostReply) (to : H) (seat_after : HostSeat) →
+    does from seat asked told to seat_after → IsPromised (faults from) seat asked told (faults to) seat_after
 
-pub call_told : (before after : ℕ) (asked : Call) (told : HostReply) → IsAllowed before asked told after → MayBeTold (Calls asked) (Host told)
+pub call_told : (before after : ℕ) (asked : Call) (told : HostReply) → IsAllowed before asked told after →
+    MayBeTold (Calls asked) (Host told)
 call_told before after asked (host.Ok value) a = a
 call_told before after asked (host.Refused errno) a = tt
 call_told before after asked (host.Fault errno) a = tt
 call_told before after asked host.NoMemory a = a
 
-pub bytes_told : (before after : ℕ) (asked : Call) (told : HostReply) → ReplyHoldsBytes told → IsAllowed before asked told after → MayTellBytes (Calls asked)
+pub bytes_told : (before after : ℕ) (asked : Call) (told : HostReply) → ReplyHoldsBytes told →
+    IsAllowed before asked told after → MayTellBytes (Calls asked)
 bytes_told before after asked (host.Ok (value.Bytes bytes)) holds a = (bytes, a)
 bytes_told before after asked (host.Ok told) holds a = absurd holds
 bytes_told before after asked told holds a = absurd holds
 
-pub made_told : {H : Type 0} (does : Does H) (faults : H → ℕ) → Promises does faults → (deed : Option Deed) (told : ActReply) (from : H) (seat : HostSeat) (tables : Tables) (to : H) (seat_after : HostSeat) (tables_after : Tables) →
+pub made_told : {H : Type 0} (does : Does H) (faults : H → ℕ) → Promises does faults →
+    (deed : Option Deed) (told : ActReply) (from : H) (seat : HostSeat) (tables : Tables) (to : H)
+    (seat_after : HostSeat) (tables_after : Tables) →
     Made does deed told from seat tables to seat_after tables_after → StepMayBeTold deed told
-made_told does faults p (Some (Changes asked)) (Event reply) from seat tables to seat_after tables_after m = (tables, tables_after, m.0)
+made_told does faults p (Some (Changes asked)) (Event reply) from seat tables to seat_after tables_after m =
+    (tables, tables_after, m.0)
 made_told does faults p (Some (Changes asked)) told from seat tables to seat_after tables_after m = absurd m
 made_told does faults p (Some (Calls asked)) (Host reply) from seat tables to seat_after tables_after m =
     call_told (faults from) (faults to) asked reply (p from seat asked reply to seat_after m.0).allowed
@@ -42,8 +47,9 @@ made_told does faults p (Some (Calls asked)) NoCopy from seat tables to seat_aft
 made_told does faults p (Some (Calls asked)) told from seat tables to seat_after tables_after m = absurd m
 made_told does faults p None told from seat tables to seat_after tables_after m = tt
 
-pub alone_told : {H : Type 0} (does : Does H) (faults : H → ℕ) → Promises does faults → (steps : List Step) (from : H) (seat : HostSeat) (tables : Tables) (to : H) (seat_after : HostSeat) (tables_after : Tables) →
-    RunsAlone does steps from seat tables to seat_after tables_after → AllMayBeTold steps
+pub alone_told : {H : Type 0} (does : Does H) (faults : H → ℕ) → Promises does faults →
+    (steps : List Step) (from : H) (seat : HostSeat) (tables : Tables) (to : H) (seat_after : HostSeat)
+    (tables_after : Tables) → RunsAlone does steps from seat tables to seat_after tables_after → AllMayBeTold steps
 alone_told does faults p [] from seat tables to seat_after tables_after r = tt
 alone_told does faults p (step ∷ steps) from seat tables to seat_after tables_after r = (
   made_told does faults p step.deed step.reply from seat tables r.0 r.1 r.2 r.3,

@@ -42,4 +42,5 @@ IsGivenUp end = ⊥
 
 -- the answer is that of a branch, whose steps are these but for some that give back
 abbrev pub IsOfBranch : Tree → Finish → List Step → Type 0
-IsOfBranch tree end steps = (path : List Step) × (last : Answer) × AreOwn path steps × (end ≡ finish.Answer last) × Along tree path last
+IsOfBranch tree end steps =
+    (path : List Step) × (last : Answer) × AreOwn path steps × (end ≡ finish.Answer last) × Along tree path last

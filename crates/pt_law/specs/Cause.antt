@@ -26,8 +26,8 @@ IsOpening (request.Open inode kill flags) = Unit {0}
 IsOpening (request.OpenDir inode flags) = Unit {0}
 IsOpening asked = ⊥
 
--- The step, answered so, causes this error number. What gives a hold back causes none: its reply is passed over. A number that stands for neither
--- a regular file nor a directory is not opened.
+-- The step, answered so, causes this error number. What gives a hold back causes none: its reply is passed over. A
+-- number that stands for neither a regular file nor a directory is not opened.
 abbrev pub StepCauses : Request → Option Deed → ActReply → Errno → Type 0
 StepCauses asked (Some (Calls (call.OpenRoot path flags))) (Host (host.Refused errno)) cause = cause ≡ errno
 StepCauses asked (Some (Calls (call.OpenRoot path flags))) (Host (host.Fault errno)) cause = cause ≡ errno
@@ -36,25 +36,33 @@ StepCauses asked (Some (Calls (call.OpenAt dir name flags mode))) (Host (host.Fa
 StepCauses asked (Some (Calls (call.Stat fd))) (Host (host.Refused errno)) cause = cause ≡ errno
 StepCauses asked (Some (Calls (call.Stat fd))) (Host (host.Fault errno)) cause = cause ≡ errno
 StepCauses asked (Some (Changes (change.Resolve number))) (Event (Refused NotLive)) cause = cause ≡ ebadf
-StepCauses asked (Some (Changes (change.Resolve number))) (Event (Resolved row form ids mode)) cause = IsOpening asked × (can_open mode ≡ false) × (cause ≡ ebadf)
+StepCauses asked (Some (Changes (change.Resolve number))) (Event (Resolved row form ids mode)) cause =
+    IsOpening asked × (can_open mode ≡ false) × (cause ≡ ebadf)
 StepCauses asked (Some (Changes (change.Resolve number))) (Event (Refused Last)) cause = cause ≡ eoverflow
 StepCauses asked (Some (Changes (change.Claim era handle ids))) (Event (Refused Overtaken)) cause = cause ≡ ebadf
 StepCauses asked (Some (Changes (change.Claim era handle ids))) (Event (Refused Last)) cause = cause ≡ eoverflow
 StepCauses asked (Some (Changes change.TakeFd)) (Event (Refused NoSlot)) cause = cause ≡ enfile
 StepCauses asked (Some (Changes change.DrawNode)) (Event (Refused Last)) cause = cause ≡ eoverflow
-StepCauses asked (Some (Changes (change.Insert era number form ids mode))) (Event (Refused Overtaken)) cause = cause ≡ ebadf
-StepCauses asked (Some (Changes (change.Insert era number form ids mode))) (Event (Refused Last)) cause = cause ≡ eoverflow
+StepCauses asked (Some (Changes (change.Insert era number form ids mode))) (Event (Refused Overtaken)) cause =
+    cause ≡ ebadf
+StepCauses asked (Some (Changes (change.Insert era number form ids mode))) (Event (Refused Last)) cause =
+    cause ≡ eoverflow
 StepCauses asked (Some (Changes (change.Insert era number form ids mode))) (Event (Refused Live)) cause = cause ≡ eio
-StepCauses asked (Some (Changes (change.InsertRoot era form ids mode agreed))) (Event (Refused Overtaken)) cause = cause ≡ ebadf
-StepCauses asked (Some (Changes (change.InsertRoot era form ids mode agreed))) (Event (Refused Last)) cause = cause ≡ eoverflow
-StepCauses asked (Some (Changes (change.InsertRoot era form ids mode agreed))) (Event (Refused Live)) cause = cause ≡ eio
+StepCauses asked (Some (Changes (change.InsertRoot era form ids mode agreed))) (Event (Refused Overtaken)) cause =
+    cause ≡ ebadf
+StepCauses asked (Some (Changes (change.InsertRoot era form ids mode agreed))) (Event (Refused Last)) cause =
+    cause ≡ eoverflow
+StepCauses asked (Some (Changes (change.InsertRoot era form ids mode agreed))) (Event (Refused Live)) cause =
+    cause ≡ eio
 StepCauses asked (Some (Calls (call.Reopen fd flags))) (Host (host.Refused errno)) cause = cause ≡ errno
 StepCauses asked (Some (Calls (call.Reopen fd flags))) (Host (host.Fault errno)) cause = cause ≡ errno
 StepCauses asked (Some (Calls (call.ReadAt fd offset size))) (Host (host.Refused errno)) cause = cause ≡ errno
 StepCauses asked (Some (Calls (call.ReadAt fd offset size))) (Host (host.Fault errno)) cause = cause ≡ errno
 StepCauses asked (Some (Changes change.DrawHandle)) (Event (Refused Last)) cause = cause ≡ eoverflow
-StepCauses asked (Some (Changes (change.InsertHandle era handle number fd))) (Event (Refused Overtaken)) cause = cause ≡ ebadf
-StepCauses asked (Some (Changes (change.InsertHandle era handle number fd))) (Event (Refused Last)) cause = cause ≡ eoverflow
+StepCauses asked (Some (Changes (change.InsertHandle era handle number fd))) (Event (Refused Overtaken)) cause =
+    cause ≡ ebadf
+StepCauses asked (Some (Changes (change.InsertHandle era handle number fd))) (Event (Refused Last)) cause =
+    cause ≡ eoverflow
 StepCauses asked (Some (Changes (change.InsertHandle era handle number fd))) (Event (Refused Live)) cause = cause ≡ eio
 StepCauses asked (Some (Changes (change.PinHandle handle number))) (Event (Refused NotLive)) cause = cause ≡ ebadf
 StepCauses asked (Some (Changes (change.PinHandle handle number))) (Event (Refused Last)) cause = cause ≡ eoverflow
@@ -67,7 +75,8 @@ abbrev pub SomeCauses : Request → List Step → Errno → Type 0
 SomeCauses asked [] cause = ⊥
 SomeCauses asked (step ∷ steps) cause = StepCauses asked step.deed step.reply cause ⊎ SomeCauses asked steps cause
 
--- the request itself causes it: a lookup of what is no name, an offset past the last that a file can have, or a function that there is not, `ENOSYS`
+-- the request itself causes it: a lookup of what is no name, an offset past the last that a file can have, or a
+-- function that there is not, `ENOSYS`
 abbrev pub OwnCause : Request → Errno → Type 0
 OwnCause (request.Lookup parent name) cause = (is_bad_name name ≡ true) × (cause ≡ einval)
 OwnCause (request.Read inode handle size offset) cause = (is_bad_offset offset ≡ true) × (cause ≡ einval)
@@ -88,7 +97,8 @@ IsCausedEnd asked past (finish.Lost errno) = Unit {0}
 -- the edit's one step was refused, or failed, with this error number
 abbrev pub EditCauses : Edit → List Step → Errno → Type 0
 EditCauses edit (step ∷ []) cause =
-    (step.deed ≡ Some (Calls (call.Edit edit))) × ((step.reply ≡ Host (host.Refused cause)) ⊎ (step.reply ≡ Host (host.Fault cause)))
+    (step.deed ≡ Some (Calls (call.Edit edit)))
+    × ((step.reply ≡ Host (host.Refused cause)) ⊎ (step.reply ≡ Host (host.Fault cause)))
 EditCauses edit steps cause = ⊥
 
 -- a request's refusal has its cause, and an edit is refused exactly where its step was

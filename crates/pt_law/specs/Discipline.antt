@@ -1,5 +1,6 @@
 -- Believed. What a job holds, owes and knows between its steps, whichever request it serves.
-use Rattle.std.specs.Prelude.{◌≡◌, ℕ, ◌+◌, ◌-◌, ◌<◌, ◌==◌, Bool, true, false, if◌then◌else◌, List, [], ◌∷◌, ◌++◌, Option, None, Some}
+use Rattle.std.specs.Prelude.{◌≡◌, ℕ, ◌+◌, ◌-◌, ◌<◌, ◌==◌, Bool, true, false, if◌then◌else◌, List, [], ◌∷◌, ◌++◌}
+use Rattle.std.specs.Prelude.{Option, None, Some}
 use Rattle.pt_host.specs.Words.{Takes, Replaces}
 use Rattle.pt_host.specs.Flags.{includes, o_creat}
 use Rattle.pt_host.specs.declared.ids.Fd.{Fd}
@@ -33,33 +34,42 @@ Knows holds fd = (one : Hold) × (rest : List Hold) × Takes one holds rest × N
 abbrev pub Gains : Hold → List Hold → List Hold → Type 0
 Gains one holds after = Takes one after holds
 
--- What is held before and after a deed, by its reply; the order is of no account. What gives a hold back ends it, whatever it is told. No job of
--- today makes another call.
+-- What is held before and after a deed, by its reply; the order is of no account. What gives a hold back ends it,
+-- whatever it is told. No job of today makes another call.
 abbrev pub Shifts : List Hold → Deed → ActReply → List Hold → Type 0
-Shifts holds (Calls (call.OpenRoot path flags)) (Host (host.Ok (value.Fd fd))) after = Gains (hold.Fd fd None) holds after
-Shifts holds (Calls (call.OpenAt dir name flags mode)) (Host (host.Ok (value.Fd fd))) after = Knows holds dir × Gains (hold.Fd fd None) holds after
+Shifts holds (Calls (call.OpenRoot path flags)) (Host (host.Ok (value.Fd fd))) after =
+    Gains (hold.Fd fd None) holds after
+Shifts holds (Calls (call.OpenAt dir name flags mode)) (Host (host.Ok (value.Fd fd))) after =
+    Knows holds dir × Gains (hold.Fd fd None) holds after
 Shifts holds (Calls (call.OpenAt dir name flags mode)) told after = Knows holds dir × (after ≡ holds)
-Shifts holds (Calls (call.Reopen fd flags)) (Host (host.Ok (value.Fd new))) after = Knows holds fd × Gains (hold.Fd new None) holds after
+Shifts holds (Calls (call.Reopen fd flags)) (Host (host.Ok (value.Fd new))) after =
+    Knows holds fd × Gains (hold.Fd new None) holds after
 Shifts holds (Calls (call.Reopen fd flags)) told after = Knows holds fd × (after ≡ holds)
 Shifts holds (Calls (call.ReadAt fd offset size)) told after = Knows holds fd × (after ≡ holds)
-Shifts holds (Calls (call.Stat fd)) (Host (host.Ok (value.Stat stat))) after = (was : Option ObjIds) × Replaces (hold.Fd fd was) (hold.Fd fd (Some stat.ids)) holds after
+Shifts holds (Calls (call.Stat fd)) (Host (host.Ok (value.Stat stat))) after =
+    (was : Option ObjIds) × Replaces (hold.Fd fd was) (hold.Fd fd (Some stat.ids)) holds after
 Shifts holds (Calls (call.Stat fd)) told after = Knows holds fd × (after ≡ holds)
 Shifts holds (Calls (call.Close fd)) told after = (was : Option ObjIds) × Takes (hold.Fd fd was) holds after
 Shifts holds (Calls (call.OpenRoot path flags)) told after = after ≡ holds
 Shifts holds (Calls (call.Edit edit)) told after = after ≡ holds
 Shifts holds (Calls asked) told after = ⊥
-Shifts holds (Changes (change.Resolve number)) (Event (event.Resolved row form ids mode)) after = Gains (hold.Pin row (fd_of form)) holds after
+Shifts holds (Changes (change.Resolve number)) (Event (event.Resolved row form ids mode)) after =
+    Gains (hold.Pin row (fd_of form)) holds after
 Shifts holds (Changes (change.Unpin row)) told after = (fd : Fd) × Takes (hold.Pin row fd) holds after
-Shifts holds (Changes (change.Claim era handle ids)) (Event (event.Claimed number)) after = Gains (hold.Count era number) holds after
+Shifts holds (Changes (change.Claim era handle ids)) (Event (event.Claimed number)) after =
+    Gains (hold.Count era number) holds after
 Shifts holds (Changes change.TakeFd) (Event event.Taken) after = Gains hold.Slot holds after
 Shifts holds (Changes change.GiveFd) told after = Takes hold.Slot holds after
 Shifts holds (Changes (change.Insert era number form ids mode)) (Event (event.Inserted given)) after =
-    (mid : List Hold) × (rest : List Hold) × Takes (hold.Fd (fd_of form) (Some ids)) holds mid × Takes hold.Slot mid rest × Gains (hold.Count era given) rest after
-Shifts holds (Changes (change.Insert era number form ids mode)) (Event (event.Found given)) after = Gains (hold.Count era given) holds after
+    (mid : List Hold) × (rest : List Hold) × Takes (hold.Fd (fd_of form) (Some ids)) holds mid
+    × Takes hold.Slot mid rest × Gains (hold.Count era given) rest after
+Shifts holds (Changes (change.Insert era number form ids mode)) (Event (event.Found given)) after =
+    Gains (hold.Count era given) holds after
 Shifts holds (Changes (change.InsertRoot era form ids mode agreed)) (Event (event.Inserted given)) after =
     (mid : List Hold) × Takes (hold.Fd (fd_of form) (Some ids)) holds mid × Takes hold.Slot mid after
 Shifts holds (Changes (change.GiveBack era number)) told after = Takes (hold.Count era number) holds after
-Shifts holds (Changes (change.PinHandle handle number)) (Event (event.Pinned row fd)) after = Gains (hold.HandlePin row fd) holds after
+Shifts holds (Changes (change.PinHandle handle number)) (Event (event.Pinned row fd)) after =
+    Gains (hold.HandlePin row fd) holds after
 Shifts holds (Changes (change.UnpinHandle row)) told after = (fd : Fd) × Takes (hold.HandlePin row fd) holds after
 Shifts holds (Changes (change.InsertHandle era handle number fd)) (Event (event.Inserted given)) after =
     (was : Option ObjIds) × (mid : List Hold) × Takes (hold.Fd fd was) holds mid × Takes hold.Slot mid after
@@ -71,8 +81,8 @@ pub record Resolution : Type 0 where
   pub number : ℕ
   pub row : ℕ
 
--- What a job knows by its steps. A descriptor is noted while it is neither closed nor handed to the tables, and a number or a handle while it is
--- not inserted.
+-- What a job knows by its steps. A descriptor is noted while it is neither closed nor handed to the tables, and a
+-- number or a handle while it is not inserted.
 pub record Notes : Type 0 where
   -- the era in which it began, or which it began
   pub era : Option ℕ
@@ -89,7 +99,16 @@ pub record Notes : Type 0 where
   pub reopened : Option Fd
 
 abbrev pub blank : Notes
-blank = record { era = None; latest = None; root = None; rooted = false; drawn = None; handle = None; resolved = None; reopened = None }
+blank = record {
+  era = None;
+  latest = None;
+  root = None;
+  rooted = false;
+  drawn = None;
+  handle = None;
+  resolved = None;
+  reopened = None;
+}
 
 -- unless it is this one
 abbrev pub unless : Fd → Option Fd → Option Fd
@@ -98,7 +117,11 @@ unless fd (Some noted) = if noted.0 == fd.0 then None else Some noted
 
 -- this descriptor is noted no more
 abbrev pub without : Fd → Notes → Notes
-without fd notes = record notes { latest = unless fd notes.latest; root = unless fd notes.root; reopened = unless fd notes.reopened }
+without fd notes = record notes {
+  latest = unless fd notes.latest;
+  root = unless fd notes.root;
+  reopened = unless fd notes.reopened;
+}
 
 -- the first opening of a root stays the first
 abbrev pub with_root : Fd → Notes → Notes
@@ -108,16 +131,20 @@ abbrev pub notes_after : Notes → Deed → ActReply → Notes
 notes_after notes (Changes change.Begin) (Event (event.Began era agreed)) = record notes { era = Some era }
 notes_after notes (Changes change.Clear) (Event (event.Cleared era closings)) = record notes { era = Some era }
 notes_after notes (Calls (call.OpenRoot path flags)) (Host (host.Ok (value.Fd fd))) = with_root fd notes
-notes_after notes (Calls (call.OpenAt dir name flags mode)) (Host (host.Ok (value.Fd fd))) = record notes { latest = Some fd }
+notes_after notes (Calls (call.OpenAt dir name flags mode)) (Host (host.Ok (value.Fd fd))) =
+    record notes { latest = Some fd }
 notes_after notes (Changes (change.Resolve number)) (Event (event.Resolved row form ids mode)) =
     record notes { resolved = Some (record { number = number; row = row }); reopened = None }
 notes_after notes (Calls (call.Reopen fd flags)) (Host (host.Ok (value.Fd new))) = record notes { reopened = Some new }
 notes_after notes (Calls (call.Close fd)) told = without fd notes
 notes_after notes (Changes change.DrawNode) (Event (event.Drawn number)) = record notes { drawn = Some number }
 notes_after notes (Changes change.DrawHandle) (Event (event.Drawn handle)) = record notes { handle = Some handle }
-notes_after notes (Changes (change.InsertHandle era handle number fd)) (Event (event.Inserted given)) = record (without fd notes) { handle = None }
-notes_after notes (Changes (change.Insert era number form ids mode)) (Event (event.Inserted given)) = record (without (fd_of form) notes) { drawn = None }
-notes_after notes (Changes (change.InsertRoot era form ids mode agreed)) (Event (event.Inserted given)) = without (fd_of form) notes
+notes_after notes (Changes (change.InsertHandle era handle number fd)) (Event (event.Inserted given)) =
+    record (without fd notes) { handle = None }
+notes_after notes (Changes (change.Insert era number form ids mode)) (Event (event.Inserted given)) =
+    record (without (fd_of form) notes) { drawn = None }
+notes_after notes (Changes (change.InsertRoot era form ids mode agreed)) (Event (event.Inserted given)) =
+    without (fd_of form) notes
 notes_after notes _ _ = notes
 
 pub record Job : Type 0 where
@@ -143,23 +170,29 @@ IsTold holds fd ids = (rest : List Hold) × Takes (hold.Fd fd (Some ids)) holds 
 
 -- the descriptor is that of the row that was resolved last, which is pinned
 abbrev pub PinsLatest : Job → Fd → Type 0
-PinsLatest job fd = (was : Resolution) × (rest : List Hold) × (job.notes.resolved ≡ Some was) × Takes (hold.Pin was.row fd) job.holds rest
+PinsLatest job fd =
+    (was : Resolution) × (rest : List Hold) × (job.notes.resolved ≡ Some was)
+    × Takes (hold.Pin was.row fd) job.holds rest
 
--- Whether the job may make this deed, what it holds aside. A job begins once, in the era that there is or in a new one; a number is asked or
--- inserted only for what was opened last, in the era of the job; an inserted one was drawn; number 1 is only for the first root that was opened;
--- a name is opened in what was resolved last, and no object is made under it; what was resolved last is opened anew, while its row is pinned; a handle
--- that was drawn is inserted for it; and a closing is taken only where one is owed.
+-- Whether the job may make this deed, what it holds aside. A job begins once, in the era that there is or in a new
+-- one; a number is asked or inserted only for what was opened last, in the era of the job; an inserted one was drawn;
+-- number 1 is only for the first root that was opened; a name is opened in what was resolved last, and no object is
+-- made under it; what was resolved last is opened anew, while its row is pinned; a handle that was drawn is inserted
+-- for it; and a closing is taken only where one is owed.
 abbrev pub Fits : Job → Deed → Type 0
 Fits job (Changes change.Begin) = job.notes.era ≡ None
 Fits job (Changes change.Clear) = job.notes.era ≡ None
 Fits job (Calls (call.OpenAt dir name flags mode)) = PinsLatest job dir × (includes flags.0 o_creat ≡ false)
 Fits job (Calls (call.Reopen fd flags)) = PinsLatest job fd
 Fits job (Changes (change.InsertHandle era handle number fd)) =
-    (row : ℕ) × (job.notes.era ≡ Some era) × (job.notes.handle ≡ Some handle) × (job.notes.resolved ≡ Some (record { number = number; row = row }))
+    (row : ℕ) × (job.notes.era ≡ Some era) × (job.notes.handle ≡ Some handle)
+    × (job.notes.resolved ≡ Some (record { number = number; row = row }))
     × (job.notes.reopened ≡ Some fd)
-Fits job (Changes (change.Claim era handle ids)) = (fd : Fd) × (job.notes.era ≡ Some era) × (job.notes.latest ≡ Some fd) × IsTold job.holds fd ids
+Fits job (Changes (change.Claim era handle ids)) =
+    (fd : Fd) × (job.notes.era ≡ Some era) × (job.notes.latest ≡ Some fd) × IsTold job.holds fd ids
 Fits job (Changes (change.Insert era number form ids mode)) =
-    (job.notes.era ≡ Some era) × (job.notes.latest ≡ Some (fd_of form)) × (job.notes.drawn ≡ Some number) × IsTold job.holds (fd_of form) ids
+    (job.notes.era ≡ Some era) × (job.notes.latest ≡ Some (fd_of form)) × (job.notes.drawn ≡ Some number)
+    × IsTold job.holds (fd_of form) ids
 Fits job (Changes (change.InsertRoot era form ids mode agreed)) =
     (job.notes.era ≡ Some era) × (job.notes.root ≡ Some (fd_of form)) × IsTold job.holds (fd_of form) ids
 Fits job (Changes change.TakeClosing) = 0 < job.owed
@@ -167,7 +200,8 @@ Fits job deed = Unit {0}
 
 abbrev pub MovesBy : Job → Deed → ActReply → Job → Type 0
 MovesBy job deed told after =
-    Shifts job.holds deed told after.holds × Fits job deed × (after.owed ≡ owed_after job.owed deed told) × (after.notes ≡ notes_after job.notes deed told)
+    Shifts job.holds deed told after.holds × Fits job deed × (after.owed ≡ owed_after job.owed deed told)
+    × (after.notes ≡ notes_after job.notes deed told)
 
 -- a step that was not made moves nothing
 abbrev pub MovesIf : Job → Option Deed → ActReply → Job → Type 0

@@ -20,17 +20,22 @@ use Rattle.pt_law.specs.Laws.{ObjectOf}
 
 -- the deed was asked for an object of these ids, and gave this number
 abbrev pub GivesBy : ℕ → ObjIds → Option Deed → ActReply → Type 0
-GivesBy number ids (Some (Changes (change.Claim era handle asked))) (Event (event.Claimed given)) = (given ≡ number) × (asked ≡ ids)
-GivesBy number ids (Some (Changes (change.Insert era drawn form asked mode))) (Event (event.Inserted given)) = (given ≡ number) × (asked ≡ ids)
-GivesBy number ids (Some (Changes (change.Insert era drawn form asked mode))) (Event (event.Found given)) = (given ≡ number) × (asked ≡ ids)
+GivesBy number ids (Some (Changes (change.Claim era handle asked))) (Event (event.Claimed given)) =
+    (given ≡ number) × (asked ≡ ids)
+GivesBy number ids (Some (Changes (change.Insert era drawn form asked mode))) (Event (event.Inserted given)) =
+    (given ≡ number) × (asked ≡ ids)
+GivesBy number ids (Some (Changes (change.Insert era drawn form asked mode))) (Event (event.Found given)) =
+    (given ≡ number) × (asked ≡ ids)
 GivesBy number ids deed told = ⊥
 
 abbrev pub turn_of : ℕ → Step → Turn
 turn_of job step = record { job = job; step = step }
 
--- An entry that a lookup answered: the job resolved the parent, opened the name in the very directory that the parent stood for then, and was
--- given the number, which stood for the object that it had opened; the entry's attributes are those of that object's status.
-pub record IsEntered (plan : Plan) (start : World) (turns : List Turn) (end : World) (job parent : ℕ) (name : List ℕ) (entry : Entry) : Type 0 where
+-- An entry that a lookup answered: the job resolved the parent, opened the name in the very directory that the parent
+-- stood for then, and was given the number, which stood for the object that it had opened; the entry's attributes are
+-- those of that object's status.
+pub record IsEntered (plan : Plan) (start : World) (turns : List Turn) (end : World) (job parent : ℕ) (name : List ℕ)
+    (entry : Entry) : Type 0 where
   -- the job's own steps: those by which it came to the entry, and then what it gave back
   pub own : List Step
   pub back : List Step
@@ -44,10 +49,14 @@ pub record IsEntered (plan : Plan) (start : World) (turns : List Turn) (end : Wo
   pub resolve : Step
   pub opening : Step
   pub give : Step
-  pub resolves : resolve ≡ made (Changes (change.Resolve parent)) (Event (event.Resolved looked_up.row looked_up.form looked_up.ids looked_up.mode))
-  pub opens : opening ≡ made (Calls (call.OpenAt (fd_of looked_up.form) name path 0)) (Host (host.Ok (value.Fd looked_up.fd)))
+  pub resolves : resolve
+      ≡ made (Changes (change.Resolve parent))
+      (Event (event.Resolved looked_up.row looked_up.form looked_up.ids looked_up.mode))
+  pub opens : opening
+      ≡ made (Calls (call.OpenAt (fd_of looked_up.form) name path 0)) (Host (host.Ok (value.Fd looked_up.fd)))
   pub gives : GivesBy entry.inode looked_up.stat.ids give.deed give.reply
-  pub in_turn : turns ≡ before ++ turn_of job resolve ∷ (between ++ turn_of job opening ∷ (later ++ turn_of job give ∷ behind))
+  pub in_turn : turns ≡ before
+      ++ turn_of job resolve ∷ (between ++ turn_of job opening ∷ (later ++ turn_of job give ∷ behind))
   pub at_resolve : World
   pub at_open : World
   pub after_give : World

@@ -15,10 +15,11 @@ use Rattle.pt_law.specs.Discipline.{Knows, Notes, notes_after, Fits, at_job}
 use Rattle.pt_law.specs.Told.{MayBeTold}
 use Rattle.pt_law.specs.Cause.{IsCaused}
 
--- A request's own part may make this deed, whatever it is then told. What gives a hold back, and the closings, are the frame's; no request of today makes
--- another call.
+-- A request's own part may make this deed, whatever it is then told. What gives a hold back, and the closings, are
+-- the frame's; no request of today makes another call.
 abbrev pub MayMake : Deed → List Hold → Notes → Type 0
-MayMake (Calls (call.OpenAt dir name flags mode)) holds notes = Fits (at_job holds notes) (Calls (call.OpenAt dir name flags mode))
+MayMake (Calls (call.OpenAt dir name flags mode)) holds notes =
+    Fits (at_job holds notes) (Calls (call.OpenAt dir name flags mode))
 MayMake (Calls (call.Reopen fd flags)) holds notes = Fits (at_job holds notes) (Calls (call.Reopen fd flags))
 MayMake (Calls (call.ReadAt fd offset size)) holds notes = Knows holds fd
 MayMake (Calls (call.Stat fd)) (hold.Fd same was ∷ holds) notes = same ≡ fd
@@ -27,9 +28,11 @@ MayMake (Calls (call.OpenRoot path flags)) holds notes = Unit {0}
 MayMake (Calls asked) holds notes = ⊥
 MayMake (Changes change.Begin) holds notes = notes.era ≡ None
 MayMake (Changes change.Clear) holds notes = notes.era ≡ None
-MayMake (Changes (change.Claim era handle ids)) holds notes = Fits (at_job holds notes) (Changes (change.Claim era handle ids))
+MayMake (Changes (change.Claim era handle ids)) holds notes =
+    Fits (at_job holds notes) (Changes (change.Claim era handle ids))
 MayMake (Changes (change.Insert era number form ids mode)) (hold.Fd same was ∷ hold.Slot ∷ holds) notes =
-    (same ≡ fd_of form) × (was ≡ Some ids) × (notes.era ≡ Some era) × (notes.latest ≡ Some (fd_of form)) × (notes.drawn ≡ Some number)
+    (same ≡ fd_of form) × (was ≡ Some ids) × (notes.era ≡ Some era) × (notes.latest ≡ Some (fd_of form))
+    × (notes.drawn ≡ Some number)
 MayMake (Changes (change.Insert era number form ids mode)) holds notes = ⊥
 MayMake (Changes (change.InsertRoot era form ids mode agreed)) (hold.Fd same was ∷ hold.Slot ∷ holds) notes =
     (same ≡ fd_of form) × (was ≡ Some ids) × (notes.era ≡ Some era) × (notes.root ≡ Some (fd_of form))
@@ -44,7 +47,8 @@ MayMake (Changes (change.GiveBack era number)) holds notes = ⊥
 MayMake (Changes change.TakeClosing) holds notes = ⊥
 MayMake deed holds notes = Unit {0}
 
--- giving back and closings leave it noted which era it is and whether a root was opened, and what else is noted may change
+-- giving back and closings leave it noted which era it is and whether a root was opened, and what else is noted may
+-- change
 abbrev pub Lasts : Notes → Notes → Type 0
 Lasts notes later = (later.era ≡ notes.era) × (later.rooted ≡ notes.rooted)
 
@@ -59,12 +63,15 @@ IsHeld (answer.Entry entry) (hold.Count era number ∷ holds) = number ≡ entry
 IsHeld (answer.Entry entry) holds = ⊥
 IsHeld last holds = Unit {0}
 
--- On each path through the tree of what was asked, by replies that may come: each deed may be made, and a refusal has its cause on the path, whose
--- latest step stands first.
+-- On each path through the tree of what was asked, by replies that may come: each deed may be made, and a refusal has
+-- its cause on the path, whose latest step stands first.
 abbrev pub Fit : Request → Tree → List Hold → Notes → List Step → Type 0
 Fit asked (Gives last) holds notes path = IsHeld last holds × IsCaused asked path last
 Fit asked (Refuses told) holds notes path = IsCaused asked path (refusal told)
 Fit asked (Asks deed next) holds notes path = MayMake deed holds notes × ((told : ActReply) → MayBeTold deed told →
-    After (closings_in deed told) (λ later. Fit asked (next told) (held deed told holds) later (record { deed = Some deed; reply = told } ∷ path)) (notes_after notes deed told))
+    After (closings_in deed told) (λ later.
+    Fit asked (next told) (held deed told holds) later (record { deed = Some deed; reply = told } ∷ path))
+    (notes_after notes deed told))
 Fit asked (Shuts passes count rest) holds notes path =
-    (later : Notes) → Lasts notes later → Fit asked rest (under (front passes holds) (dropped count (behind passes holds))) later path
+    (later : Notes) → Lasts notes later →
+    Fit asked rest (under (front passes holds) (dropped count (behind passes holds))) later path

@@ -20,7 +20,8 @@ use Rattle.pt_req.specs.declared.finish.Finish.{Finish}
 use Rattle.pt_req.specs.declared.plan.Plan.{Plan}
 use Rattle.pt_law.specs.Discipline.{Job, idle, Disciplined, Ends}
 use Rattle.pt_law.specs.World.{Turn, World, steps_of, no_past}
-use Rattle.pt_law.specs.Ledger.{kept_slots, row_slot, handle_fd, slots_taken, slots_given, carried, kept_fds, row_fd, fd_held, held_by, open_count}
+use Rattle.pt_law.specs.Ledger.{kept_slots, row_slot, handle_fd, slots_taken, slots_given, carried, kept_fds, row_fd}
+use Rattle.pt_law.specs.Ledger.{fd_held, held_by, open_count}
 
 -- each step is one of the jobs' below the bound, and each of these keeps the discipline
 pub record AreDisciplined (bound : ℕ) (turns : List Turn) : Type 0 where
@@ -33,7 +34,8 @@ pub record AreEnded (bound : ℕ) (turns : List Turn) : Type 0 where
   pub jobs : (job : ℕ) → job < bound → (end : Finish) × Ends idle (steps_of job turns) end
 
 -- each job's steps and end belong to what it asked, a request or an edit
-pub record AreAnswered (plan : Plan) (bound : ℕ) (asked : ℕ → Asked) (ends : ℕ → Finish) (turns : List Turn) : Type 0 where
+pub record AreAnswered (plan : Plan) (bound : ℕ) (asked : ℕ → Asked) (ends : ℕ → Finish)
+    (turns : List Turn) : Type 0 where
   pub owners : Each (λ turn. turn.job < bound) turns
   pub jobs : (job : ℕ) → job < bound → Belongs (grammar_for plan (asked job)) (steps_of job turns) (ends job)
 
@@ -76,7 +78,8 @@ pub record HasEnded (tables : Tables) (serial : ℕ) : Type 0 where
   pub number : NoRow tables (λ row. row.serial ≡ serial)
   pub handle : NoHandle tables (λ row. row.serial ≡ serial)
 
--- a handle's descriptor is open on the object that its number had when its job resolved that number last before the handle was inserted
+-- a handle's descriptor is open on the object that its number had when its job resolved that number last before the
+-- handle was inserted
 abbrev pub Serves : World → HandleRow → Type 0
 Serves world row = (object : ℕ) × (world.past.objects row.serial ≡ Some object) × IsOpenOn world.tree row.fd object
 
@@ -90,13 +93,15 @@ pub record IsOvertaken (job : ℕ) (turns : List Turn) : Type 0 where
   pub other : clearing.job ≢ job
   pub era : ℕ
   pub closings : ℕ
-  pub cleared : clearing.step ≡ record { deed = Some (Changes change.Clear); reply = Event (event.Cleared era closings) }
+  pub cleared : clearing.step
+      ≡ record { deed = Some (Changes change.Clear); reply = Event (event.Cleared era closings) }
 
 -- the tables refused it because the session had begun anew
 abbrev pub TellsOvertaken : Option Deed → ActReply → Type 0
 TellsOvertaken (Some (Changes (change.Claim era handle ids))) (Event (event.Refused Overtaken)) = Unit {0}
 TellsOvertaken (Some (Changes (change.Insert era number form ids mode))) (Event (event.Refused Overtaken)) = Unit {0}
-TellsOvertaken (Some (Changes (change.InsertRoot era form ids mode agreed))) (Event (event.Refused Overtaken)) = Unit {0}
+TellsOvertaken (Some (Changes (change.InsertRoot era form ids mode agreed))) (Event (event.Refused Overtaken)) =
+    Unit {0}
 TellsOvertaken (Some (Changes (change.InsertHandle era handle number fd))) (Event (event.Refused Overtaken)) = Unit {0}
 TellsOvertaken deed told = ⊥
 
@@ -112,7 +117,8 @@ pub record AreKept (start : World) (bound : ℕ) (turns : List Turn) (now : Worl
   pub once : (fd : ℕ) → kept_fds fd now.tables ≤ open_count fd now.tree
   pub jobs : ℕ → Job
   pub held : (job : ℕ) → job < bound → Disciplined idle (steps_of job turns) (jobs job)
-  pub all : (fd : ℕ) → open_count fd now.tree ≡ kept_fds fd now.tables + held_by bound (fd_held fd) jobs + open_count fd start.tree
+  pub all : (fd : ℕ) →
+      open_count fd now.tree ≡ kept_fds fd now.tables + held_by bound (fd_held fd) jobs + open_count fd start.tree
 
 -- a call names only what is open; an edit names no descriptor
 abbrev pub NamesOpen : Tree → Option Deed → Type 0
@@ -131,7 +137,8 @@ IsHonoured (Some (Changes change.GiveFd)) (Event (event.Refused why)) = ⊥
 IsHonoured (Some (Changes change.TakeClosing)) (Event (event.Refused why)) = ⊥
 IsHonoured deed told = Unit {0}
 
--- at the end no row of a number or a handle is pinned, nothing is to be closed, nothing is carried, and slots left are the limit less those of the rows
+-- at the end no row of a number or a handle is pinned, nothing is to be closed, nothing is carried, and slots left
+-- are the limit less those of the rows
 pub record IsAtRest (limit bound : ℕ) (turns : List Turn) (tables : Tables) : Type 0 where
   pub rows : Each (λ row. (row.live ≡ true) × (row.pins ≡ 0)) tables.rows
   pub handles : Each (λ row. (row.live ≡ true) × (row.pins ≡ 0)) tables.handles
@@ -141,4 +148,6 @@ pub record IsAtRest (limit bound : ℕ) (turns : List Turn) (tables : Tables) : 
 
 -- and open are those that were at the start, those of the rows of numbers and of handles, and no other
 abbrev pub LeavesRows : World → World → Type 0
-LeavesRows start end = (fd : ℕ) → open_count fd end.tree ≡ total (row_fd fd) end.tables.rows + total (handle_fd fd) end.tables.handles + open_count fd start.tree
+LeavesRows start end =
+    (fd : ℕ) → open_count fd end.tree
+    ≡ total (row_fd fd) end.tables.rows + total (handle_fd fd) end.tables.handles + open_count fd start.tree

@@ -23,7 +23,8 @@ abbrev pub one_if : Bool → ℕ
 one_if true = 1
 one_if false = 0
 
--- Slots. A row that keeps a descriptor has one, a handle's row has one, and so has an entry of the closing list that says so.
+-- Slots. A row that keeps a descriptor has one, a handle's row has one, and so has an entry of the closing list that
+-- says so.
 
 abbrev pub form_slot : RowForm → ℕ
 form_slot (File fd) = 1
@@ -36,7 +37,8 @@ closing_slot closing = one_if closing.slot
 
 -- those that are left, those of the rows of numbers and of handles, live or not, and those of the closing list
 abbrev pub kept_slots : Tables → ℕ
-kept_slots tables = tables.slots + total row_slot tables.rows + length tables.handles + total closing_slot tables.closing
+kept_slots tables =
+    tables.slots + total row_slot tables.rows + length tables.handles + total closing_slot tables.closing
 
 -- what a reply brings a job
 abbrev pub slot_taken : ActReply → ℕ
@@ -79,7 +81,8 @@ closing_fd fd closing = is closing.fd.0 fd
 
 -- at how many places of the tables the descriptor stands
 abbrev pub kept_fds : ℕ → Tables → ℕ
-kept_fds fd tables = total (row_fd fd) tables.rows + total (handle_fd fd) tables.handles + total (closing_fd fd) tables.closing
+kept_fds fd tables =
+    total (row_fd fd) tables.rows + total (handle_fd fd) tables.handles + total (closing_fd fd) tables.closing
 
 abbrev pub fd_held : ℕ → Hold → ℕ
 fd_held fd (hold.Fd same told) = is same.0 fd
@@ -105,9 +108,12 @@ forgotten number had [] = had
 forgotten number had (pair ∷ pairs) = forgotten number (had - is pair.0 number * pair.1) pairs
 
 abbrev pub given_by : ℕ → ℕ → Deed → ActReply → ℕ
-given_by number had (Changes (change.InsertRoot era form ids mode agreed)) (Event (event.Inserted given)) = had + is given number * 2
-given_by number had (Changes (change.Insert era drawn form ids mode)) (Event (event.Inserted given)) = had + is given number
-given_by number had (Changes (change.Insert era drawn form ids mode)) (Event (event.Found given)) = had + is given number
+given_by number had (Changes (change.InsertRoot era form ids mode agreed)) (Event (event.Inserted given)) =
+    had + is given number * 2
+given_by number had (Changes (change.Insert era drawn form ids mode)) (Event (event.Inserted given)) =
+    had + is given number
+given_by number had (Changes (change.Insert era drawn form ids mode)) (Event (event.Found given)) =
+    had + is given number
 given_by number had (Changes (change.Claim era handle ids)) (Event (event.Claimed given)) = had + is given number
 given_by number had (Changes (change.Forget list)) (Event (event.Done closings)) = forgotten number had list
 given_by number had (Changes (change.GiveBack era given)) (Event (event.Done closings)) = had - is given number
@@ -129,7 +135,8 @@ given number turns = given_after number 0 turns
 -- Insertions.
 
 abbrev pub inserted_as : ℕ → Deed → ActReply → ℕ
-inserted_as number (Changes (change.InsertRoot era form ids mode agreed)) (Event (event.Inserted given)) = is given number
+inserted_as number (Changes (change.InsertRoot era form ids mode agreed)) (Event (event.Inserted given)) =
+    is given number
 inserted_as number (Changes (change.Insert era drawn form ids mode)) (Event (event.Inserted given)) = is given number
 inserted_as number deed told = 0
 
@@ -144,7 +151,8 @@ inserted number turns = total (λ turn. inserted_if number turn.step.deed turn.s
 -- Handles.
 
 abbrev pub handle_inserted_as : ℕ → Deed → ActReply → ℕ
-handle_inserted_as handle (Changes (change.InsertHandle era drawn number fd)) (Event (event.Inserted given)) = is given handle
+handle_inserted_as handle (Changes (change.InsertHandle era drawn number fd)) (Event (event.Inserted given)) =
+    is given handle
 handle_inserted_as handle deed told = 0
 
 abbrev pub handle_inserted_if : ℕ → Option Deed → ActReply → ℕ
@@ -156,8 +164,10 @@ abbrev pub handle_inserted : ℕ → List Turn → ℕ
 handle_inserted handle turns = total (λ turn. handle_inserted_if handle turn.step.deed turn.step.reply) turns
 
 abbrev pub standing_by : ℕ → ℕ → Deed → ActReply → ℕ
-standing_by handle had (Changes (change.InsertHandle era drawn number fd)) (Event (event.Inserted given)) = had + is given handle
-standing_by handle had (Changes (change.Release released number)) (Event (event.Done closings)) = had - is released handle
+standing_by handle had (Changes (change.InsertHandle era drawn number fd)) (Event (event.Inserted given)) =
+    had + is given handle
+standing_by handle had (Changes (change.Release released number)) (Event (event.Done closings)) =
+    had - is released handle
 standing_by handle had (Changes change.Clear) (Event (event.Cleared era closings)) = 0
 standing_by handle had deed told = had
 
@@ -167,7 +177,8 @@ standing_if handle had (Some deed) told = standing_by handle had deed told
 
 abbrev pub standing_after : ℕ → ℕ → List Turn → ℕ
 standing_after handle had [] = had
-standing_after handle had (turn ∷ turns) = standing_after handle (standing_if handle had turn.step.deed turn.step.reply) turns
+standing_after handle had (turn ∷ turns) =
+    standing_after handle (standing_if handle had turn.step.deed turn.step.reply) turns
 
 -- how often the handle was inserted and neither released nor cleared since
 abbrev pub standing : ℕ → List Turn → ℕ

@@ -41,8 +41,8 @@ Numbers era fd stat number steps =
     (steps ≡ made (Changes (change.Claim era None stat.ids)) (Event (event.Claimed number)) ∷ [])
     ⊎ ((fresh : ℕ) × (told : ActReply) × InsertionGives number told × (steps ≡ inserting era fd stat fresh told))
 
--- The parent was resolved, the name was opened in the directory of its row, the status of what was opened was told, and the number was had; the
--- entry is that number and that status.
+-- The parent was resolved, the name was opened in the directory of its row, the status of what was opened was told,
+-- and the number was had; the entry is that number and that status.
 pub record IsLookedUp (plan : Plan) (parent : ℕ) (name : List ℕ) (entry : Entry) (steps : List Step) : Type 0 where
   pub era : ℕ
   pub agreed : Negotiated

@@ -9,7 +9,8 @@ use Rattle.pt_req.specs.Deed.{Deed, Calls, Changes, Step, MayFailToCopy, MayTell
 use Rattle.pt_req.specs.declared.act.ActReply.{ActReply}
 use Rattle.pt_req.specs.declared.act.ActReply.TheVariants.{Event, Host, NoCopy}
 
--- A call is answered as every host promises, an event as it may happen to some tables; only what is copied may find no memory for it.
+-- A call is answered as every host promises, an event as it may happen to some tables; only what is copied may find
+-- no memory for it.
 abbrev pub MayBeTold : Deed → ActReply → Type 0
 MayBeTold (Calls asked) (Host (host.Ok value)) = FitsCall asked value
 MayBeTold (Calls asked) (Host (host.Refused errno)) = Unit {0}

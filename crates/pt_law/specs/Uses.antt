@@ -9,14 +9,16 @@ use Rattle.pt_law.specs.Laws.{IsLive}
 
 -- the number is live after each front of these steps
 abbrev pub StaysLive : World → List Turn → ℕ → Type 0
-StaysLive start turns number = (front rest : List Turn) (now : World) → turns ≡ front ++ rest → Runs start front now → IsLive now.tables number
+StaysLive start turns number =
+    (front rest : List Turn) (now : World) → turns ≡ front ++ rest → Runs start front now → IsLive now.tables number
 
 -- how much of a number the pairs of a list ask
 abbrev pub asked : ℕ → List (ℕ × ℕ) → ℕ
 asked number [] = 0
 asked number (pair ∷ pairs) = is pair.0 number * pair.1 + asked number pairs
 
--- The request is on the number: it resolves it before all else, a bad name aside. One by a handle is not, and serves on.
+-- The request is on the number: it resolves it before all else, a bad name aside. One by a handle is not, and serves
+-- on.
 abbrev pub IsOn : ℕ → Request → Type 0
 IsOn number (request.Lookup parent name) = (parent ≡ number) × (is_bad_name name ≡ false)
 IsOn number (request.Open inode kill flags) = inode ≡ number

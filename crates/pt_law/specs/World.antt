@@ -29,12 +29,13 @@ abbrev pub steps_of : ℕ → List Turn → List Step
 steps_of job [] = []
 steps_of job (turn ∷ turns) = if turn.job == job then turn.step ∷ steps_of job turns else steps_of job turns
 
--- What the steps so far have settled, judged by the tree and not by ids. A row is known by its serial, which never comes back.
+-- What the steps so far have settled, judged by the tree and not by ids. A row is known by its serial, which never
+-- comes back.
 pub record Past : Type 0 where
   -- the object of each number
   pub numbers : ℕ → Option ℕ
-  -- the object and the descriptor of each row, of a number or a handle; a handle's is the object that its number had when it was resolved for the
-  -- handle's opening
+  -- the object and the descriptor of each row, of a number or a handle; a handle's is the object that its number had
+  -- when it was resolved for the handle's opening
   pub objects : ℕ → Option ℕ
   pub fds : ℕ → Option Fd
   -- the object that each job's latest `OpenAt` answered, and the one that its first `OpenRoot` answered
@@ -45,7 +46,14 @@ pub record Past : Type 0 where
 
 -- before the first step
 abbrev pub no_past : Past
-no_past = record { numbers = λ number. None; objects = λ row. None; fds = λ row. None; latest = λ job. None; roots = λ job. None; resolved = λ job number. None }
+no_past = record {
+  numbers = λ number. None;
+  objects = λ row. None;
+  fds = λ row. None;
+  latest = λ job. None;
+  roots = λ job. None;
+  resolved = λ job number. None;
+}
 
 abbrev pub object_of : Option Opened → Option ℕ
 object_of None = None
@@ -59,9 +67,14 @@ first_of (Some object) later = Some object
 -- The number is inserted for this object, with this descriptor.
 abbrev pub settled : Past → ℕ → ℕ → Fd → Option ℕ → Past
 settled past number row fd object =
-    record past { numbers = set_at number object past.numbers; objects = set_at row object past.objects; fds = set_at row (Some fd) past.fds }
+    record past {
+      numbers = set_at number object past.numbers;
+      objects = set_at row object past.objects;
+      fds = set_at row (Some fd) past.fds;
+    }
 
--- `Insert` sets its number's object to what the job's latest `OpenAt` answered, `InsertRoot` to what its first `OpenRoot` answered.
+-- `Insert` sets its number's object to what the job's latest `OpenAt` answered, `InsertRoot` to what its first
+-- `OpenRoot` answered.
 abbrev pub settled_by : Past → ℕ → Deed → ActReply → ℕ → Tree → Past
 settled_by past job (Changes (change.Insert era number form ids mode)) (Event (event.Inserted given)) row tree =
     settled past given row (fd_of form) (past.latest job)
@@ -89,7 +102,9 @@ pub record World : Type 0 where
 
 -- a host that is its tree: it does what is lawful, and what every host promises
 abbrev pub IsLawful : Does Tree
-IsLawful tree seat asked told after seat' = LawfulStep tree seat asked told after seat' × (before : ℕ) × (later : ℕ) × IsPromised before seat asked told later seat'
+IsLawful tree seat asked told after seat' =
+    LawfulStep tree seat asked told after seat' × (before : ℕ) × (later : ℕ)
+    × IsPromised before seat asked told later seat'
 
 -- the step leads from this world to that
 pub record Goes (world : World) (turn : Turn) (after : World) : Type 0 where
@@ -106,7 +121,8 @@ Runs world (turn ∷ turns) after = (mid : World) × Goes world turn mid × Runs
 abbrev pub HostRuns : {H : Type 0} → Does H → List Turn → H → Tables → H → Tables → Type 0
 HostRuns does [] host tables host' tables' = (host' ≡ host) × (tables' ≡ tables)
 HostRuns {H} does (turn ∷ turns) host tables host' tables' =
-    (host1 : H) × (tables1 : Tables) × (seat : HostSeat) × (seat1 : HostSeat) × Made does turn.step.deed turn.step.reply host seat tables host1 seat1 tables1
+    (host1 : H) × (tables1 : Tables) × (seat : HostSeat) × (seat1 : HostSeat)
+    × Made does turn.step.deed turn.step.reply host seat tables host1 seat1 tables1
     × HostRuns does turns host1 tables1 host' tables'
 
 -- What a step does to the tables, whatever host there is: an event happens, and nothing else changes them.
@@ -119,4 +135,5 @@ TablesGo tables deed told after = ⊥
 
 abbrev pub TablesRun : Tables → List Turn → Tables → Type 0
 TablesRun tables [] after = after ≡ tables
-TablesRun tables (turn ∷ turns) after = (mid : Tables) × TablesGo tables turn.step.deed turn.step.reply mid × TablesRun mid turns after
+TablesRun tables (turn ∷ turns) after =
+    (mid : Tables) × TablesGo tables turn.step.deed turn.step.reply mid × TablesRun mid turns after

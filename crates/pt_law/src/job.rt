@@ -30,14 +30,17 @@ ghost use Rattle.pt_law.specs.Opened.{IsLookedUp};
 
 use pt_host::Host;
 
-/// Whatever a request is, where its tree is fit its steps keep the discipline, whole or cut, and a refusal has its cause. An answer is that of a
-/// branch of the tree, or the job gave up; and what a job was given it gave back, or its answer has it.
+/// Whatever a request is, where its tree is fit its steps keep the discipline, whole or cut, and a refusal has its
+/// cause. An answer is that of a branch of the tree, or the job gave up; and what a job was given it gave back, or
+/// its answer has it.
 pub fn any_request()
-    ensures whole { (asked : Request) (tree : Tree) (steps : List Step) (end : Finish) → Fit asked tree [] blank [] → AllMayBeTold steps →
-        Belongs (framed tree []) steps end → Ends idle steps end × IsCausedEnd asked steps end }
-    ensures cut { (asked : Request) (tree : Tree) (steps : List Step) (end : Finish) → Fit asked tree [] blank [] → AllMayBeTold steps →
+    ensures whole { (asked : Request) (tree : Tree) (steps : List Step) (end : Finish) → Fit asked tree [] blank [] →
+        AllMayBeTold steps → Belongs (framed tree []) steps end → Ends idle steps end × IsCausedEnd asked steps end }
+    ensures cut { (asked : Request) (tree : Tree) (steps : List Step) (end : Finish) → Fit asked tree [] blank [] →
+        AllMayBeTold steps →
         BelongsCut (framed tree []) steps end → Ends idle steps end × (end ≡ finish.Answer answer.Cut) }
-    ensures branch { (tree : Tree) (steps : List Step) (end : Finish) → Belongs (framed tree []) steps end → IsGivenUp end ⊎ IsOfBranch tree end steps }
+    ensures branch { (tree : Tree) (steps : List Step) (end : Finish) → Belongs (framed tree []) steps end →
+        IsGivenUp end ⊎ IsOfBranch tree end steps }
     ensures settled { (number : ℕ) (steps : List Step) (end : Finish) → Ends idle steps end →
         all_given number steps ≡ all_returned number steps + entry_count number end }
 {}
@@ -49,28 +52,36 @@ pub fn each_request()
 
 /// What holds of the steps of every request that there is, where their replies are such as may come.
 pub fn request_ends()
-    ensures ends { (plan : Plan) (asked : Request) (steps : List Step) (end : Finish) → AllMayBeTold steps → Belongs (grammar_of plan asked) steps end → Ends idle steps end }
+    ensures ends { (plan : Plan) (asked : Request) (steps : List Step) (end : Finish) → AllMayBeTold steps →
+        Belongs (grammar_of plan asked) steps end → Ends idle steps end }
     ensures causes { (plan : Plan) (asked : Request) (steps : List Step) (errno : Errno) → AllMayBeTold steps →
         Belongs (grammar_of plan asked) steps (finish.Answer (answer.Refused errno)) → HasCause asked steps errno }
-    ensures cut { (plan : Plan) (asked : Request) (steps : List Step) (end : Finish) → AllMayBeTold steps → BelongsCut (grammar_of plan asked) steps end →
-        Ends idle steps end × (end ≡ finish.Answer answer.Cut) }
+    ensures cut { (plan : Plan) (asked : Request) (steps : List Step) (end : Finish) → AllMayBeTold steps →
+        BelongsCut (grammar_of plan asked) steps end → Ends idle steps end × (end ≡ finish.Answer answer.Cut) }
     ensures opened { (plan : Plan) (parent : ℕ) (name : List ℕ) (entry : Entry) (steps : List Step) →
         Belongs (grammar_of plan (request.Lookup parent name)) steps (finish.Answer (answer.Entry entry)) →
         ((path : List Step) × AreOwn path steps × IsLookedUp plan parent name entry path) }
 {}
 
-/// An edit is one step. It keeps the discipline, whole or left out, and it is refused exactly where its step was refused or failed.
+/// An edit is one step. It keeps the discipline, whole or left out, and it is refused exactly where its step was
+/// refused or failed.
 pub fn edit_ends()
-    ensures one { (edit : Edit) (steps : List Step) (end : Finish) → Belongs (edit_grammar edit) steps end → length steps ≡ 1 }
-    ensures ends { (edit : Edit) (steps : List Step) (end : Finish) → Belongs (edit_grammar edit) steps end → Ends idle steps end }
-    ensures causes { (edit : Edit) (steps : List Step) (last : Answer) → EditPattern edit steps last → IsCausedBy (Edits edit) steps last }
-    ensures cut { (edit : Edit) (steps : List Step) (end : Finish) → BelongsCut (edit_grammar edit) steps end → (steps ≡ []) × (end ≡ finish.Answer answer.Cut) }
+    ensures one { (edit : Edit) (steps : List Step) (end : Finish) → Belongs (edit_grammar edit) steps end →
+        length steps ≡ 1 }
+    ensures ends { (edit : Edit) (steps : List Step) (end : Finish) → Belongs (edit_grammar edit) steps end →
+        Ends idle steps end }
+    ensures causes { (edit : Edit) (steps : List Step) (last : Answer) → EditPattern edit steps last →
+        IsCausedBy (Edits edit) steps last }
+    ensures cut { (edit : Edit) (steps : List Step) (end : Finish) → BelongsCut (edit_grammar edit) steps end →
+        (steps ≡ []) × (end ≡ finish.Answer answer.Cut) }
 {}
 
 /// What is made of any host and of the tables is told such replies as may come.
 pub fn steps_told<H: Host>()
-    ensures made { (deed : Option Deed) (told : ActReply) (host : H) (seat : HostSeat) (tables : Tables) (host_after : H) (seat_after : HostSeat) (tables_after : Tables) →
+    ensures made { (deed : Option Deed) (told : ActReply) (host : H) (seat : HostSeat) (tables : Tables)
+        (host_after : H) (seat_after : HostSeat) (tables_after : Tables) →
         Made H.does deed told host seat tables host_after seat_after tables_after → StepMayBeTold deed told }
-    ensures alone { (steps : List Step) (host : H) (seat : HostSeat) (tables : Tables) (host_after : H) (seat_after : HostSeat) (tables_after : Tables) →
+    ensures alone { (steps : List Step) (host : H) (seat : HostSeat) (tables : Tables) (host_after : H)
+        (seat_after : HostSeat) (tables_after : Tables) →
         RunsAlone H.does steps host seat tables host_after seat_after tables_after → AllMayBeTold steps }
 {}

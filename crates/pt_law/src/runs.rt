@@ -17,30 +17,43 @@ ghost use Rattle.pt_req.specs.declared.plan.Plan.{Plan};
 ghost use Rattle.pt_law.specs.Told.{AllMayBeTold};
 ghost use Rattle.pt_law.specs.World.{World, Turn, Runs, HostRuns, TablesGo, TablesRun, steps_of};
 ghost use Rattle.pt_law.specs.Ledger.{given, inserted, handle_inserted, standing};
-ghost use Rattle.pt_law.specs.Laws.{ObjectOf, AreDisciplined, AreEnded, AreAnswered, Starts, AreDistinct, HasObject, Serves, IsCounted, IsStanding, HasEnded, SlotsAddUp, AreKept, NamesOpen, IsHonoured, IsOvertaken, TellsOvertaken, IsAtRest, LeavesRows};
+ghost use Rattle.pt_law.specs.Laws.{ObjectOf, AreDisciplined, AreEnded, AreAnswered, Starts, AreDistinct, HasObject};
+ghost use Rattle.pt_law.specs.Laws.{Serves, IsCounted, IsStanding, HasEnded, SlotsAddUp, AreKept, NamesOpen};
+ghost use Rattle.pt_law.specs.Laws.{IsHonoured, IsOvertaken, TellsOvertaken, IsAtRest, LeavesRows};
 ghost use Rattle.pt_law.specs.Entered.{IsEntered};
 ghost use Rattle.pt_law.specs.Origins.{WasRoot, WasNamed};
 
 use pt_host::Host;
 
-/// What holds of the tables in every run, whatever host there is. `turns` are the steps so far, `more` those that are still to come.
+/// What holds of the tables in every run, whatever host there is. `turns` are the steps so far, `more` those that are
+/// still to come.
 pub fn every_run()
-    ensures cut { (turns more : List Turn) (start end : Tables) → TablesRun start (turns ++ more) end → ((now : Tables) × TablesRun start turns now × TablesRun now more end) }
-    ensures agree { (limit : ℕ) (turns : List Turn) (now : Tables) → TablesRun (empty_tables limit) turns now → Agree now }
+    ensures cut { (turns more : List Turn) (start end : Tables) → TablesRun start (turns ++ more) end →
+        ((now : Tables) × TablesRun start turns now × TablesRun now more end) }
+    ensures agree { (limit : ℕ) (turns : List Turn) (now : Tables) → TablesRun (empty_tables limit) turns now →
+        Agree now }
     ensures era { (turns : List Turn) (start now : Tables) → TablesRun start turns now → start.era ≤ now.era }
-    ensures counts { (limit : ℕ) (turns : List Turn) (now : Tables) (number : ℕ) → TablesRun (empty_tables limit) turns now → IsCounted now number (given number turns) }
-    ensures standing { (limit : ℕ) (turns : List Turn) (now : Tables) (handle : ℕ) → TablesRun (empty_tables limit) turns now → IsStanding now handle (standing handle turns) }
-    ensures ended { (turns : List Turn) (start now : Tables) (serial : ℕ) → TablesRun start turns now → HasEnded start serial → HasEnded now serial }
+    ensures counts { (limit : ℕ) (turns : List Turn) (now : Tables) (number : ℕ) →
+        TablesRun (empty_tables limit) turns now → IsCounted now number (given number turns) }
+    ensures standing { (limit : ℕ) (turns : List Turn) (now : Tables) (handle : ℕ) →
+        TablesRun (empty_tables limit) turns now → IsStanding now handle (standing handle turns) }
+    ensures ended { (turns : List Turn) (start now : Tables) (serial : ℕ) → TablesRun start turns now →
+        HasEnded start serial → HasEnded now serial }
     ensures once { (limit bound : ℕ) (turns more : List Turn) (now : Tables) (number : ℕ) →
-        AreDisciplined bound (turns ++ more) → TablesRun (empty_tables limit) turns now → number ≢ 1 → inserted number turns ≤ 1 }
+        AreDisciplined bound (turns ++ more) → TablesRun (empty_tables limit) turns now → number ≢ 1 →
+        inserted number turns ≤ 1 }
     ensures handles_once { (limit bound : ℕ) (turns more : List Turn) (now : Tables) (handle : ℕ) →
-        AreDisciplined bound (turns ++ more) → TablesRun (empty_tables limit) turns now → handle_inserted handle turns ≤ 1 }
+        AreDisciplined bound (turns ++ more) → TablesRun (empty_tables limit) turns now →
+        handle_inserted handle turns ≤ 1 }
     ensures slots { (limit bound : ℕ) (turns more : List Turn) (now : Tables) →
-        AreDisciplined bound (turns ++ more) → TablesRun (empty_tables limit) turns now → SlotsAddUp limit bound turns now }
+        AreDisciplined bound (turns ++ more) → TablesRun (empty_tables limit) turns now →
+        SlotsAddUp limit bound turns now }
     ensures honoured { (limit bound : ℕ) (turns : List Turn) (turn : Turn) (more : List Turn) (now next : Tables) →
-        AreDisciplined bound (turns ++ turn ∷ more) → TablesRun (empty_tables limit) turns now → TablesGo now turn.step.deed turn.step.reply next → IsHonoured turn.step.deed turn.step.reply }
+        AreDisciplined bound (turns ++ turn ∷ more) → TablesRun (empty_tables limit) turns now →
+        TablesGo now turn.step.deed turn.step.reply next → IsHonoured turn.step.deed turn.step.reply }
     ensures overtaken { (limit bound : ℕ) (turns : List Turn) (turn : Turn) (more : List Turn) (now next : Tables) →
-        AreDisciplined bound (turns ++ turn ∷ more) → TablesRun (empty_tables limit) turns now → TablesGo now turn.step.deed turn.step.reply next →
+        AreDisciplined bound (turns ++ turn ∷ more) → TablesRun (empty_tables limit) turns now →
+        TablesGo now turn.step.deed turn.step.reply next →
         TellsOvertaken turn.step.deed turn.step.reply → IsOvertaken turn.job turns }
     ensures disciplined { (bound : ℕ) (turns : List Turn) → AreEnded bound turns → AreDisciplined bound turns }
     ensures rest { (limit bound : ℕ) (turns : List Turn) (now : Tables) →
@@ -49,36 +62,51 @@ pub fn every_run()
 
 /// What holds of objects and descriptors in every run over a host that tells its tree.
 pub fn every_told_run()
-    ensures tables { (turns : List Turn) (start now : World) → Runs start turns now → TablesRun start.tables turns now.tables }
-    ensures cut { (turns more : List Turn) (start end : World) → Runs start (turns ++ more) end → ((now : World) × Runs start turns now × Runs now more end) }
-    ensures ended { (plan : Plan) (bound : ℕ) (asked : ℕ → Asked) (ends : ℕ → Finish) (turns : List Turn) (start end : World) →
+    ensures tables { (turns : List Turn) (start now : World) → Runs start turns now →
+        TablesRun start.tables turns now.tables }
+    ensures cut { (turns more : List Turn) (start end : World) → Runs start (turns ++ more) end →
+        ((now : World) × Runs start turns now × Runs now more end) }
+    ensures ended { (plan : Plan) (bound : ℕ) (asked : ℕ → Asked) (ends : ℕ →
+        Finish) (turns : List Turn) (start end : World) →
         Runs start turns end → AreAnswered plan bound asked ends turns → AreEnded bound turns }
     ensures distinct { (limit bound : ℕ) (turns more : List Turn) (start now : World) →
         Starts limit start → AreDisciplined bound (turns ++ more) → Runs start turns now → AreDistinct now }
     ensures objects { (limit bound : ℕ) (turns more : List Turn) (start now : World) (row : Row) →
-        Starts limit start → AreDisciplined bound (turns ++ more) → Runs start turns now → IsRow now.tables row → row.live ≡ true → HasObject now row }
+        Starts limit start → AreDisciplined bound (turns ++ more) → Runs start turns now → IsRow now.tables row →
+        row.live ≡ true → HasObject now row }
     ensures handles { (limit bound : ℕ) (turns more : List Turn) (start now : World) (row : HandleRow) →
-        Starts limit start → AreDisciplined bound (turns ++ more) → Runs start turns now → IsHandleRow now.tables row → Serves now row }
+        Starts limit start → AreDisciplined bound (turns ++ more) → Runs start turns now →
+        IsHandleRow now.tables row → Serves now row }
     ensures origins { (limit bound : ℕ) (turns more : List Turn) (start now : World) (number object : ℕ) →
-        Starts limit start → AreDisciplined bound (turns ++ more) → Runs start turns now → ObjectOf now number object → WasRoot start turns object ⊎ WasNamed start turns object }
+        Starts limit start → AreDisciplined bound (turns ++ more) → Runs start turns now →
+        ObjectOf now number object → WasRoot start turns object ⊎ WasNamed start turns object }
     ensures descriptors { (limit bound : ℕ) (turns more : List Turn) (start now : World) →
-        Starts limit start → AreDisciplined bound (turns ++ more) → Runs start turns now → AreKept start bound turns now }
+        Starts limit start → AreDisciplined bound (turns ++ more) → Runs start turns now →
+        AreKept start bound turns now }
     ensures named { (limit bound : ℕ) (turns : List Turn) (turn : Turn) (more : List Turn) (start now : World) →
-        Starts limit start → AreDisciplined bound (turns ++ turn ∷ more) → Runs start turns now → NamesOpen now.tree turn.step.deed }
-    ensures entries { (limit bound : ℕ) (plan : Plan) (turns : List Turn) (start end : World) (job parent : ℕ) (name : List ℕ) (entry : Entry) →
+        Starts limit start → AreDisciplined bound (turns ++ turn ∷ more) → Runs start turns now →
+        NamesOpen now.tree turn.step.deed }
+    ensures entries { (limit bound : ℕ) (plan : Plan) (turns : List Turn) (start end : World) (job parent : ℕ)
+        (name : List ℕ) (entry : Entry) →
         Starts limit start → AreDisciplined bound turns → Runs start turns end → job < bound →
-        Belongs (grammar_of plan (request.Lookup parent name)) (steps_of job turns) (finish.Answer (answer.Entry entry)) → IsEntered plan start turns end job parent name entry }
+        Belongs (grammar_of plan (request.Lookup parent name)) (steps_of job turns)
+        (finish.Answer (answer.Entry entry)) → IsEntered plan start turns end job parent name entry }
     ensures rest { (limit bound : ℕ) (turns : List Turn) (start end : World) →
         Starts limit start → AreEnded bound turns → Runs start turns end → LeavesRows start end }
 {}
 
-/// A run over any host is one of the tables, and where the host tells its tree one of trees and tables; where each job's steps belong to what it
-/// asked, they keep the discipline to their end.
+/// A run over any host is one of the tables, and where the host tells its tree one of trees and tables; where each
+/// job's steps belong to what it asked, they keep the discipline to their end.
 pub fn every_host<H: Host>()
-    ensures tables { (turns : List Turn) (host after : H) (tables tables_after : Tables) → HostRuns H.does turns host tables after tables_after → TablesRun tables turns tables_after }
-    ensures world { (turns : List Turn) (start : World) (host after : H) (tables_after : Tables) → H.tree host ≡ Some start.tree → HostRuns H.does turns host start.tables after tables_after →
+    ensures tables { (turns : List Turn) (host after : H) (tables tables_after : Tables) →
+        HostRuns H.does turns host tables after tables_after → TablesRun tables turns tables_after }
+    ensures world { (turns : List Turn) (start : World) (host after : H) (tables_after : Tables) →
+        H.tree host ≡ Some start.tree → HostRuns H.does turns host start.tables after tables_after →
         ((end : World) × (H.tree after ≡ Some end.tree) × (end.tables ≡ tables_after) × Runs start turns end) }
-    ensures told { (job : ℕ) (turns : List Turn) (host after : H) (tables tables_after : Tables) → HostRuns H.does turns host tables after tables_after → AllMayBeTold (steps_of job turns) }
-    ensures ended { (plan : Plan) (bound : ℕ) (asked : ℕ → Asked) (ends : ℕ → Finish) (turns : List Turn) (host after : H) (tables tables_after : Tables) →
-        HostRuns H.does turns host tables after tables_after → AreAnswered plan bound asked ends turns → AreEnded bound turns }
+    ensures told { (job : ℕ) (turns : List Turn) (host after : H) (tables tables_after : Tables) →
+        HostRuns H.does turns host tables after tables_after → AllMayBeTold (steps_of job turns) }
+    ensures ended { (plan : Plan) (bound : ℕ) (asked : ℕ → Asked) (ends : ℕ →
+        Finish) (turns : List Turn) (host after : H) (tables tables_after : Tables) →
+        HostRuns H.does turns host tables after tables_after → AreAnswered plan bound asked ends turns →
+        AreEnded bound turns }
 {}

@@ -22,36 +22,50 @@ ghost use Rattle.pt_law.specs.Ledger.{inserted};
 ghost use Rattle.pt_law.specs.Laws.{AreDisciplined, Starts, IsLive, ObjectOf};
 ghost use Rattle.pt_law.specs.Uses.{StaysLive, asked, IsOn};
 
-/// While a number stays live its object stays, and every other live number that stands for that object is this one: so two lookups of one object give one
-/// number, in whatever order their steps come.
+/// While a number stays live its object stays, and every other live number that stands for that object is this one:
+/// so two lookups of one object give one number, in whatever order their steps come.
 pub fn one_number()
     ensures stays { (turns : List Turn) (start now : World) (number object : ℕ) →
-        StaysLive start turns number → Runs start turns now → ObjectOf start number object → ObjectOf now number object }
-    ensures one { (limit bound : ℕ) (turns between more : List Turn) (start first second : World) (number other object : ℕ) →
-        Starts limit start → AreDisciplined bound ((turns ++ between) ++ more) → Runs start turns first → Runs first between second →
-        StaysLive first between number → ObjectOf first number object → IsLive second.tables other → ObjectOf second other object → other ≡ number }
+        StaysLive start turns number → Runs start turns now → ObjectOf start number object →
+        ObjectOf now number object }
+    ensures one { (limit bound : ℕ) (turns between more : List Turn) (start first second : World)
+        (number other object : ℕ) →
+        Starts limit start → AreDisciplined bound ((turns ++ between) ++ more) → Runs start turns first →
+        Runs first between second →
+        StaysLive first between number → ObjectOf first number object → IsLive second.tables other →
+        ObjectOf second other object → other ≡ number }
 {}
 
-/// A forget of at least the count removes the number, and no row of a handle; the number is not live and not inserted again, unless it is the root's. A request on it
-/// is answered EBADF for as long as it is not inserted again, or finds no memory.
+/// A forget of at least the count removes the number, and no row of a handle; the number is not live and not inserted
+/// again, unless it is the root's. A request on it is answered EBADF for as long as it is not inserted again, or
+/// finds no memory.
 pub fn forgotten_number()
     ensures gone { (before after : Tables) (list : List (ℕ × ℕ)) (closings number : ℕ) →
         Agree before → Happens before (change.Forget list) (event.Done closings) after →
-        Each (λ row. HasNumber number row → row.count ≤ asked number list) before.rows → NoRow after (HasNumber number) }
+        Each (λ row. HasNumber number row → row.count ≤ asked number list) before.rows →
+        NoRow after (HasNumber number) }
     ensures handles { (before after : Tables) (list : List (ℕ × ℕ)) (closings : ℕ) →
         Happens before (change.Forget list) (event.Done closings) after → after.handles ≡ before.handles }
-    ensures never_again { (limit bound : ℕ) (turns later more : List Turn) (was now : Tables) (number : ℕ) → number ≢ 1 →
-        AreDisciplined bound ((turns ++ later) ++ more) → TablesRun (empty_tables limit) turns was → TablesRun was later now →
-        0 < inserted number turns → NoRow was (HasNumber number) → NoRow now (HasNumber number) × (inserted number later ≡ 0) }
+    ensures never_again { (limit bound : ℕ) (turns later more : List Turn) (was now : Tables) (number : ℕ) →
+        number ≢ 1 →
+        AreDisciplined bound ((turns ++ later) ++ more) → TablesRun (empty_tables limit) turns was →
+        TablesRun was later now →
+        0 < inserted number turns → NoRow was (HasNumber number) →
+        NoRow now (HasNumber number) × (inserted number later ≡ 0) }
     ensures refused { (before after : Tables) (number : ℕ) (told : EventReply) →
-        NoRow before (HasNumber number) → Happens before (change.Resolve number) told after → (told ≡ event.Refused NotLive) × (after ≡ before) }
-    ensures answered { (limit job : ℕ) (plan : Plan) (what : Request) (turns later : List Turn) (was now : Tables) (number : ℕ) (end : Finish) →
-        TablesRun (empty_tables limit) turns was → NoRow was (HasNumber number) → TablesRun was later now → inserted number later ≡ 0 → IsOn number what →
-        Belongs (grammar_of plan what) (steps_of job later) end → (end ≡ finish.Answer (answer.Refused ebadf)) ⊎ IsGivenUp end }
+        NoRow before (HasNumber number) → Happens before (change.Resolve number) told after →
+        (told ≡ event.Refused NotLive) × (after ≡ before) }
+    ensures answered { (limit job : ℕ) (plan : Plan) (what : Request) (turns later : List Turn) (was now : Tables)
+        (number : ℕ) (end : Finish) →
+        TablesRun (empty_tables limit) turns was → NoRow was (HasNumber number) → TablesRun was later now →
+        inserted number later ≡ 0 → IsOn number what →
+        Belongs (grammar_of plan what) (steps_of job later) end →
+        (end ≡ finish.Answer (answer.Refused ebadf)) ⊎ IsGivenUp end }
 {}
 
 /// A forget of an unknown number, or of none of it, changes nothing.
 pub fn forgotten_nothing()
-    ensures { (before after : Tables) (number amount : ℕ) (told : EventReply) → Agree before → NoRow before (HasNumber number) ⊎ (amount ≡ 0) →
+    ensures { (before after : Tables) (number amount : ℕ) (told : EventReply) → Agree before →
+        NoRow before (HasNumber number) ⊎ (amount ≡ 0) →
         Happens before (change.Forget ((number, amount) ∷ [])) told after → (told ≡ event.Done 0) × (after ≡ before) }
 {}

@@ -1,5 +1,7 @@
 -- The heap of the free numbers through an opening and a close.
-use Rattle.std.proofs.Common.{◌≡◌, ◌≢◌, ◌≤◌, ◌<◌, ◌+◌, ◌-◌, ℕ, suc, true, false, cond, List, [], ◌∷◌, ◌++◌, length, Option, Some, None, sum_by, take, slice_get, slice_set, refl, ap, sym, ◌∙◌, subst, arith, get_or, length-set, ◌^◌, inl, inr}
+use Rattle.std.proofs.Common.{◌≡◌, ◌≢◌, ◌≤◌, ◌<◌, ◌+◌, ◌-◌, ℕ, suc, true, false, cond, List, [], ◌∷◌, ◌++◌, length}
+use Rattle.std.proofs.Common.{Option, Some, None, sum_by, take, slice_get, slice_set, refl, ap, sym, ◌∙◌, subst}
+use Rattle.std.proofs.Common.{arith, get_or, length-set, ◌^◌, inl, inr}
 use Rattle.std.specs.Option.{is_some}
 use Rattle.std.specs.Result.{IsOk, OnOk}
 use Rattle.std.specs.Prelude.{Result, Ok, Err}
@@ -39,21 +41,23 @@ not_free Free none = absurd (omega arith)
 not_free (Open file) none = refl
 
 counts_apart : (number : ℕ) (item : Reverse ℕ) → number ≢ item.0 → counts_as number item ≡ 0
-counts_apart number item apart = elim (eqb_tells number item.0) [ inl same ↦ absurd (apart same.1) | inr differ ↦ ap (λ b. cond b 1 0) differ.0 ]
+counts_apart number item apart =
+    elim (eqb_tells number item.0) [ inl same ↦ absurd (apart same.1) | inr differ ↦ ap (λ b. cond b 1 0) differ.0 ]
 
 counts_same : (number : ℕ) (item : Reverse ℕ) → number ≡ item.0 → counts_as number item ≡ 1
 counts_same number item same = ap (λ b. cond b 1 0) (eq-eqb number item.0 same)
 
 -- the number that is popped is free
-pub popped_free : (slots : List Slot) (items more : List (Reverse ℕ)) (capacity : ℕ) (item : Reverse ℕ) → IsTable slots items capacity →
-    IsPermutation items (item ∷ more) → slice_get slots item.0 ≡ Some Free
+pub popped_free : (slots : List Slot) (items more : List (Reverse ℕ)) (capacity : ℕ) (item : Reverse ℕ) →
+    IsTable slots items capacity → IsPermutation items (item ∷ more) → slice_get slots item.0 ≡ Some Free
 popped_free slots items more capacity item table same =
     let each = table.each item.0 in
     let counted = sum_by_popped (counts_as item.0) item items more same in
     let itself = counts_same item.0 item refl in
     weighs_free (slice_get slots item.0) (omega (arith, each, counted, itself))
 
-none_below : (k : ℕ) (item : Reverse ℕ) (items : List (Reverse ℕ)) → k < item.0 → IsUpperBound (λ x y. nat_cmp y.0 x.0) item items → times k items ≡ 0
+none_below : (k : ℕ) (item : Reverse ℕ) (items : List (Reverse ℕ)) → k < item.0 →
+    IsUpperBound (λ x y. nat_cmp y.0 x.0) item items → times k items ≡ 0
 none_below k item [] below bound = refl
 none_below k item (first ∷ items) below bound =
     let first_above = ge_from_not_lt first.0 item.0 bound.0 in
@@ -62,26 +66,32 @@ none_below k item (first ∷ items) below bound =
     omega (arith, apart, rest, sum_by-cons (counts_as k) first items)
 
 -- and it is the least
-pub popped_least : (slots : List Slot) (items more : List (Reverse ℕ)) (capacity : ℕ) (item : Reverse ℕ) → IsTable slots items capacity →
-    IsPermutation items (item ∷ more) → PopsGreatest (λ x y. nat_cmp y.0 x.0) items item more → least_free slots ≡ item.0
+pub popped_least : (slots : List Slot) (items more : List (Reverse ℕ)) (capacity : ℕ) (item : Reverse ℕ) →
+    IsTable slots items capacity →
+    IsPermutation items (item ∷ more) → PopsGreatest (λ x y. nat_cmp y.0 x.0) items item more →
+    least_free slots ≡ item.0
 popped_least slots items more capacity item table same greatest =
     let free = popped_free slots items more capacity item table same in
     let within = slice_get_within slots item.0 Free free in
     let bound = (greatest table.heap).1 in
     position_or_len_is is_free slots item.0 Reserved (omega (arith, within))
     (λ k below. not_free (get_or slots k Reserved)
-    (ap free_weight (sym (slice_get-get_or slots k Reserved (omega (arith, within)))) ∙ sym (table.each k) ∙ none_below k item items below bound))
+    (ap free_weight (sym (slice_get-get_or slots k Reserved (omega (arith, within)))) ∙ sym (table.each k)
+    ∙ none_below k item items below bound))
     (λ _. ap is_free (get_or_from_slice_get slots item.0 Free Reserved free))
 
-pub none_is_free : (slots : List Slot) (items : List (Reverse ℕ)) (capacity : ℕ) → IsTable slots items capacity → items ≡ [] → least_free slots ≡ length slots
+pub none_is_free : (slots : List Slot) (items : List (Reverse ℕ)) (capacity : ℕ) → IsTable slots items capacity →
+    items ≡ [] → least_free slots ≡ length slots
 none_is_free slots items capacity table empty =
     position_or_len_is is_free slots (length slots) Reserved (omega arith)
     (λ k below. not_free (get_or slots k Reserved)
     (ap free_weight (sym (slice_get-get_or slots k Reserved below)) ∙ sym (table.each k) ∙ ap (times k) empty))
     (λ past. absurd (omega arith))
 
-pub popped_table : (slots : List Slot) (items more : List (Reverse ℕ)) (capacity : ℕ) (item : Reverse ℕ) (file : OpenFile) → IsTable slots items capacity →
-    IsPermutation items (item ∷ more) → PopsGreatest (λ x y. nat_cmp y.0 x.0) items item more → IsTable (slice_set slots item.0 (Open file)) more capacity
+pub popped_table : (slots : List Slot) (items more : List (Reverse ℕ)) (capacity : ℕ) (item : Reverse ℕ)
+    (file : OpenFile) → IsTable slots items capacity →
+    IsPermutation items (item ∷ more) → PopsGreatest (λ x y. nat_cmp y.0 x.0) items item more →
+    IsTable (slice_set slots item.0 (Open file)) more capacity
 popped_table slots items more capacity item file table same greatest =
     let free = popped_free slots items more capacity item table same in
     let within = slice_get_within slots item.0 Free free in
@@ -97,7 +107,8 @@ popped_table slots items more capacity item file table same greatest =
           elim (eqb_tells number item.0) [
             | inl e ↦ (let one = counts_same number item e.1 in
                 let small = free_weight-le (slice_get slots number) in
-                let now = ap free_weight (ap (slice_get (slice_set slots item.0 (Open file))) e.1 ∙ get-set_here slots item.0 (Open file) within) in
+                let now = ap free_weight (ap (slice_get (slice_set slots item.0 (Open file))) e.1
+                ∙ get-set_here slots item.0 (Open file) within) in
                 let none : times number more ≡ 0 = omega (arith, counted, each, one, small) in
                 none ∙ sym now)
             | inr e ↦ (let none = counts_apart number item e.1 in
@@ -115,7 +126,8 @@ open_weights-le (Reserved ∷ slots) = omega (arith, open_weights-le slots, sum_
 open_weights-le (Free ∷ slots) = omega (arith, open_weights-le slots, sum_by-cons open_weight Free slots)
 open_weights-le (Open file ∷ slots) = omega (arith, open_weights-le slots, sum_by-cons open_weight (Open file) slots)
 
-pub grown_table : (slots : List Slot) (items : List (Reverse ℕ)) (capacity room : ℕ) (file : OpenFile) → IsTable slots items capacity → items ≡ [] →
+pub grown_table : (slots : List Slot) (items : List (Reverse ℕ)) (capacity room : ℕ) (file : OpenFile) →
+    IsTable slots items capacity → items ≡ [] →
     length slots < 2 ^ 32 → length slots + 1 ≤ room → IsTable (slots ++ Open file ∷ []) items room
 grown_table slots items capacity room file table empty few enough =
     let longer = sum_by_push open_weight slots (Open file) in
@@ -142,15 +154,17 @@ open_weighs slots place file is =
     omega (arith, weights, was)
 
 -- the heap has room for the number of an open descriptor
-pub room_to_close : (slots : List Slot) (items : List (Reverse ℕ)) (capacity place : ℕ) (file : OpenFile) → IsTable slots items capacity →
-    slice_get slots place ≡ Some (Open file) → length items < capacity
+pub room_to_close : (slots : List Slot) (items : List (Reverse ℕ)) (capacity place : ℕ) (file : OpenFile) →
+    IsTable slots items capacity → slice_get slots place ≡ Some (Open file) → length items < capacity
 room_to_close slots items capacity place file table is =
     let weighs = open_weighs slots place file is in
     let room = table.room in
     omega (arith, weighs, room)
 
-pub closed_table : (slots : List Slot) (items more : List (Reverse ℕ)) (capacity room place : ℕ) (file : OpenFile) → IsTable slots items capacity →
-    slice_get slots place ≡ Some (Open file) → IsPermutation (record { 0 = place } ∷ items) more → (IsHeap (λ x y. nat_cmp y.0 x.0) items → IsHeap (λ x y. nat_cmp y.0 x.0) more) →
+pub closed_table : (slots : List Slot) (items more : List (Reverse ℕ)) (capacity room place : ℕ) (file : OpenFile) →
+    IsTable slots items capacity →
+    slice_get slots place ≡ Some (Open file) → IsPermutation (record { 0 = place } ∷ items) more →
+    (IsHeap (λ x y. nat_cmp y.0 x.0) items → IsHeap (λ x y. nat_cmp y.0 x.0) more) →
     capacity ≤ room → IsTable (slice_set slots place Free) more room
 closed_table slots items more capacity room place file table is same keeps enough =
     let within = slice_get_within slots place (Open file) is in
@@ -165,7 +179,8 @@ closed_table slots items more capacity room place file table is same keeps enoug
           elim (eqb_tells number place) [
             | inl e ↦ (let one = counts_same number (record { 0 = place }) e.1 in
                 let was = ap free_weight (ap (slice_get slots) e.1 ∙ is) in
-                let now = ap free_weight (ap (slice_get (slice_set slots place Free)) e.1 ∙ get-set_here slots place Free within) in
+                let now = ap free_weight (ap (slice_get (slice_set slots place Free)) e.1
+                ∙ get-set_here slots place Free within) in
                 let once : times number more ≡ 1 = omega (arith, counted, each, one, was) in
                 once ∙ sym now)
             | inr e ↦ (let none = counts_apart number (record { 0 = place }) e.1 in
@@ -182,18 +197,23 @@ no_items [] none = refl
 no_items (item ∷ items) none = absurd (omega arith)
 
 -- before the end a slot is replaced
-pub replaced_at : (place : ℕ) (slot : Slot) (slots : List Slot) → place < length slots → put_at place slot slots ≡ slice_set slots place slot
+pub replaced_at : (place : ℕ) (slot : Slot) (slots : List Slot) → place < length slots →
+    put_at place slot slots ≡ slice_set slots place slot
 replaced_at place slot slots within = elim (eqb_tells place (length slots)) [
   | inl same ↦ absurd (omega (arith, same.1))
   | inr apart ↦ put_before place slot slots apart.0
 ]
 
-pub same_table : (slots : List Slot) (items : List (Reverse ℕ)) (capacity room : ℕ) → room ≡ capacity → IsTable slots items capacity → IsTable slots items room
+pub same_table : (slots : List Slot) (items : List (Reverse ℕ)) (capacity room : ℕ) → room ≡ capacity →
+    IsTable slots items capacity → IsTable slots items room
 same_table slots items capacity room same table = subst (λ n. IsTable slots items n) (sym same) table
 
-pub other_table : (slots same : List Slot) (items like : List (Reverse ℕ)) (capacity : ℕ) → same ≡ slots → like ≡ items → IsTable slots items capacity → IsTable same like capacity
+pub other_table : (slots same : List Slot) (items like : List (Reverse ℕ)) (capacity : ℕ) → same ≡ slots →
+    like ≡ items → IsTable slots items capacity → IsTable same like capacity
 other_table slots same items like capacity e f table =
-    subst (λ (table : List Slot). IsTable table like capacity) (sym e) (subst (λ (heap : List (Reverse ℕ)). IsTable slots heap capacity) (sym f) table)
+    subst (λ (table : List Slot).
+    IsTable table like capacity) (sym e)
+    (subst (λ (heap : List (Reverse ℕ)). IsTable slots heap capacity) (sym f) table)
 
 is_open : (slot : Option Slot) → is_some (file_of slot) ≡ true → (file : OpenFile) × (slot ≡ Some (Open file))
 is_open None some = cc
@@ -201,7 +221,8 @@ is_open (Some Reserved) some = cc
 is_open (Some Free) some = cc
 is_open (Some (Open file)) some = (file, refl)
 
-pub open_slot_of : (slots : List Slot) (fd : ℕ) → is_some (open_at slots fd) ≡ true → (file : OpenFile) × (slice_get slots fd ≡ Some (Open file))
+pub open_slot_of : (slots : List Slot) (fd : ℕ) → is_some (open_at slots fd) ≡ true →
+    (file : OpenFile) × (slice_get slots fd ≡ Some (Open file))
 open_slot_of slots fd some = is_open (slice_get slots fd) some
 
 pub when_ok : {T E : Type 0} (result : Result T E) (P : Type 0) → IsOk result → OnOk result P → P
@@ -209,7 +230,8 @@ when_ok (Ok value) P ok holds = holds
 when_ok (Err error) P ok holds = cc
 
 -- an open descriptor goes on elsewhere
-pub reopened_table : (slots : List Slot) (items : List (Reverse ℕ)) (capacity place : ℕ) (file after : OpenFile) → IsTable slots items capacity →
+pub reopened_table : (slots : List Slot) (items : List (Reverse ℕ)) (capacity place : ℕ) (file after : OpenFile) →
+    IsTable slots items capacity →
     slice_get slots place ≡ Some (Open file) → IsTable (slice_set slots place (Open after)) items capacity
 reopened_table slots items capacity place file after table is =
     let within = slice_get_within slots place (Open file) is in
@@ -220,7 +242,8 @@ reopened_table slots items capacity place file after table is =
       heap = table.heap;
       each = λ number. elim (eqb_tells number place) [
         | inl e ↦ table.each number ∙ ap free_weight (ap (slice_get slots) e.1 ∙ is)
-            ∙ sym (ap free_weight (ap (slice_get (slice_set slots place (Open after))) e.1 ∙ get-set_here slots place (Open after) within))
+            ∙ sym (ap free_weight (ap (slice_get (slice_set slots place (Open after))) e.1
+            ∙ get-set_here slots place (Open after) within))
         | inr e ↦ table.each number ∙ sym (ap free_weight (get-set_apart slots place (Open after) number e.1))
       ];
       few = (let few = table.few in omega (arith, few, long));
@@ -231,15 +254,16 @@ none_at_end : (slots : List Slot) → slice_get slots (length slots) ≡ None
 none_at_end [] = refl
 none_at_end (slot ∷ slots) = none_at_end slots
 
-shorter_table : (front : List Slot) (file : OpenFile) (items : List (Reverse ℕ)) (capacity : ℕ) → IsTable (front ++ Open file ∷ []) items capacity →
-    IsTable front items capacity
+shorter_table : (front : List Slot) (file : OpenFile) (items : List (Reverse ℕ)) (capacity : ℕ) →
+    IsTable (front ++ Open file ∷ []) items capacity → IsTable front items capacity
 shorter_table front file items capacity table =
     let long = length_push front (Open file) in
     let weights = sum_by_push open_weight front (Open file) in
     record {
       heap = table.heap;
       each = λ number. elim (eqb_tells number (length front)) [
-        | inl e ↦ table.each number ∙ ap free_weight (ap (slice_get (front ++ Open file ∷ [])) e.1 ∙ get-push_here front (Open file))
+        | inl e ↦ table.each number
+            ∙ ap free_weight (ap (slice_get (front ++ Open file ∷ [])) e.1 ∙ get-push_here front (Open file))
             ∙ sym (ap free_weight (ap (slice_get front) e.1 ∙ none_at_end front))
         | inr e ↦ table.each number ∙ ap free_weight (get-push_apart front (Open file) number e.1)
       ];
@@ -247,7 +271,8 @@ shorter_table front file items capacity table =
       room = (let room = table.room in omega (arith, room, weights));
     }
 
-last_slot : (slots : List Slot) (slot : Slot) → slice_get slots (length slots - 1) ≡ Some slot → slots ≡ take (length slots - 1) slots ++ slot ∷ []
+last_slot : (slots : List Slot) (slot : Slot) → slice_get slots (length slots - 1) ≡ Some slot →
+    slots ≡ take (length slots - 1) slots ++ slot ∷ []
 last_slot [] slot is = cc
 last_slot (first ∷ []) slot is = (let same : first ≡ slot = cc in ap (λ s. s ∷ []) same)
 last_slot (first ∷ next ∷ slots) slot is =
@@ -256,7 +281,8 @@ last_slot (first ∷ next ∷ slots) slot is =
     ap (λ more. first ∷ more) later ∙ ap (λ k. take k (first ∷ next ∷ slots) ++ slot ∷ []) (sym n)
 
 -- the last number is there no more
-pub popped_last : (slots : List Slot) (items : List (Reverse ℕ)) (capacity : ℕ) (file : OpenFile) → IsTable slots items capacity →
+pub popped_last : (slots : List Slot) (items : List (Reverse ℕ)) (capacity : ℕ) (file : OpenFile) →
+    IsTable slots items capacity →
     slice_get slots (length slots - 1) ≡ Some (Open file) → IsTable (take (length slots - 1) slots) items capacity
 popped_last slots items capacity file table is =
     shorter_table (take (length slots - 1) slots) file items capacity

@@ -1,4 +1,5 @@
--- Believed. What the calls on status, contents and attributes make of an object, after chmod(2), chown(2), utimensat(2), write(2) and setxattr(2).
+-- Believed. What the calls on status, contents and attributes make of an object, after chmod(2), chown(2),
+-- utimensat(2), write(2) and setxattr(2).
 use Rattle.std.specs.Prelude.{ℕ, ◌%◌, ◌==◌, List, if◌then◌else◌}
 use Rattle.pt_host.specs.Seat.{kept_id}
 use Rattle.pt_host.specs.declared.ids.Time.{Time}
@@ -26,7 +27,8 @@ time_after now old Now = now
 time_after now old (At time) = time
 
 abbrev pub timed : Time → TimeSet → TimeSet → Node → Node
-timed now atime mtime node = record node { atime = time_after now node.atime atime; mtime = time_after now node.mtime mtime }
+timed now atime mtime node =
+    record node { atime = time_after now node.atime atime; mtime = time_after now node.mtime mtime }
 
 abbrev pub valued : List ℕ → List ℕ → Node → Node
 valued name bytes node = record node { xattrs = with_value name bytes node.xattrs }
@@ -36,4 +38,5 @@ unvalued name node = record node { xattrs = without_value name node.xattrs }
 
 -- a file that this seat wrote, which clears set-id bits
 abbrev pub refilled : HostSeat → Time → List ℕ → Node → Node
-refilled seat now bytes node = rewritten now bytes (record node { permissions = permissions_after seat node.permissions })
+refilled seat now bytes node =
+    rewritten now bytes (record node { permissions = permissions_after seat node.permissions })

@@ -1,4 +1,5 @@
--- Believed. The names of a directory as they come and go, with the links and the times that they change, after `stat(2)` and `inode(7)`.
+-- Believed. The names of a directory as they come and go, with the links and the times that they change, after
+-- `stat(2)` and `inode(7)`.
 use Rattle.std.specs.Prelude.{ℕ, ◌+◌, ◌-◌, min, Bool, true, false, List, [], Option, Some, None, slice_get, slice_set}
 use Rattle.pt_host.specs.declared.ids.Time.{Time}
 use Rattle.pt_node.specs.Names.{named, unnamed}
@@ -46,7 +47,8 @@ abbrev pub links_without : Bool → ℕ → ℕ
 links_without true links = links - 1
 links_without false links = links
 
--- the directory with a name that leads to an object; the Bools say whether that is a directory, and whether one that had the name is gone
+-- the directory with a name that leads to an object; the Bools say whether that is a directory, and whether one that
+-- had the name is gone
 abbrev pub with_entry : List ℕ → ℕ → Bool → Bool → Node → Node
 with_entry name object directory replaced dir = record dir {
   nlink = links_with directory (links_without replaced dir.nlink);

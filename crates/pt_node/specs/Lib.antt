@@ -1,3 +1,4 @@
+-- Inner. The files of definitions, lowest first.
 pub mod Changes
 pub mod Attributes
 pub mod Paths

@@ -1,5 +1,6 @@
 -- Believed. Where a new name may stand, by its path.
-use Rattle.std.specs.Prelude.{ℕ, ◌==◌, nat_le, ◌&&◌, ◌||◌, not, Bool, false, List, [], ◌∷◌, length, Option, Some, None, option_and_then, is_none, slice_get, if◌then◌else◌}
+use Rattle.std.specs.Prelude.{ℕ, ◌==◌, nat_le, ◌&&◌, ◌||◌, not, Bool, false, List, [], ◌∷◌, length, Option, Some}
+use Rattle.std.specs.Prelude.{None, option_and_then, is_none, slice_get, if◌then◌else◌}
 use Rattle.std.specs.Borrow.{Bor}
 use Rattle.std.specs.List.{list_any}
 use Rattle.std.specs.Str.{bytes_eq}
@@ -27,9 +28,11 @@ takes_name name (Some dir) = is_directory dir && is_none (found name (names_in d
 
 -- the directory and the new name in it that the parts lead to
 abbrev pub new_place : List Node → ℕ → List ℕ → List (List ℕ) → Option (ℕ × List ℕ)
-new_place nodes dir name [] = if is_good_name name && takes_name name (slice_get nodes dir) then Some (dir, name) else None
+new_place nodes dir name [] =
+    if is_good_name name && takes_name name (slice_get nodes dir) then Some (dir, name) else None
 new_place nodes dir name (next ∷ more) =
-    if is_good_name name then option_and_then (λ child. new_place nodes child next more) (name_at nodes dir name) else None
+    if is_good_name name then option_and_then (λ child.
+    new_place nodes child next more) (name_at nodes dir name) else None
 
 abbrev pub place_in : List Node → ℕ → List (List ℕ) → Option (ℕ × List ℕ)
 place_in nodes dir [] = None

@@ -1,5 +1,6 @@
 -- Believed. An object with its status, after `stat(2)` and `inode(7)`.
-use Rattle.std.specs.Prelude.{ℕ, pos, ◌+◌, ◌*◌, ◌/◌, ◌++◌, Bool, true, false, List, [], length, Option, Some, None, option_and_then, slice_get, if◌then◌else◌}
+use Rattle.std.specs.Prelude.{ℕ, pos, ◌+◌, ◌*◌, ◌/◌, ◌++◌, Bool, true, false, List, [], length, Option, Some, None}
+use Rattle.std.specs.Prelude.{option_and_then, slice_get, if◌then◌else◌}
 use Rattle.std.specs.Int.{to_le_bytes, w64}
 use Rattle.pt_host.specs.Tree.{Object}
 use Rattle.pt_host.specs.declared.stat.Stat.{Stat}

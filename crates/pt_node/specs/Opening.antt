@@ -1,5 +1,6 @@
 -- Believed. When an object may be opened and what that changes, after `open(2)`.
-use Rattle.std.specs.Prelude.{ℕ, ◌%◌, ◌-◌, Bool, not, ◌&&◌, ◌||◌, ◌==◌, ◌∷◌, [], List, Option, Some, None, if◌then◌else◌}
+use Rattle.std.specs.Prelude.{ℕ, ◌%◌, ◌-◌, Bool, not, ◌&&◌, ◌||◌, ◌==◌, ◌∷◌, [], List, Option, Some, None}
+use Rattle.std.specs.Prelude.{if◌then◌else◌}
 use Rattle.pt_host.specs.Flags.{includes, o_directory, o_path, o_tmpfile, o_trunc}
 use Rattle.pt_host.specs.Errno.{eopnotsupp, enotdir, einval, eisdir, eacces, eloop, enxio}
 use Rattle.pt_host.specs.declared.ids.Errno.{Errno}
@@ -47,7 +48,8 @@ open_checks seat node flags =
 -- the refusal of an opening of this object
 abbrev pub opening_refusal : HostSeat → Node → ℕ → Option Errno
 opening_refusal seat node flags =
-    if includes flags o_path then first_refusal (path_checks node flags) else first_refusal (open_checks seat node flags)
+    if includes flags o_path then first_refusal (path_checks node flags) else first_refusal
+    (open_checks seat node flags)
 
 -- without the set-user-id bit, and without the set-group-id bit where the group may execute
 abbrev pub without_set_user : ℕ → ℕ
@@ -63,7 +65,12 @@ permissions_after seat permissions =
 -- a regular file that is emptied
 abbrev pub emptied : HostSeat → Time → Node → Content → Node
 emptied seat now node (Regular bytes) =
-    record node { permissions = permissions_after seat node.permissions; mtime = now; ctime = now; content = Regular [] }
+    record node {
+      permissions = permissions_after seat node.permissions;
+      mtime = now;
+      ctime = now;
+      content = Regular [];
+    }
 emptied seat now node (Directory names) = node
 emptied seat now node (Link target) = node
 emptied seat now node (Special kind) = node

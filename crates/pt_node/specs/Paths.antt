@@ -1,5 +1,6 @@
 -- Believed. Where a path leads, after path_resolution(7).
-use Rattle.std.specs.Prelude.{ℕ, ◌==◌, List, [], ◌∷◌, Option, Some, None, Result, Ok, Err, ok_or, slice_get, if◌then◌else◌, option_and_then}
+use Rattle.std.specs.Prelude.{ℕ, ◌==◌, List, [], ◌∷◌, Option, Some, None, Result, Ok, Err, ok_or, slice_get}
+use Rattle.std.specs.Prelude.{if◌then◌else◌, option_and_then}
 use Rattle.std.specs.List.{slice_split}
 use Rattle.pt_host.specs.Errno.{eio, enoent, enotdir}
 use Rattle.pt_host.specs.declared.ids.Errno.{Errno}
@@ -11,7 +12,8 @@ use Rattle.pt_node.specs.declared.node.Node.{Node}
 abbrev pub step_from : ℕ → List ℕ → Option Node → Result ℕ Errno
 step_from at [] found_node = Ok at
 step_from at name None = Err eio
-step_from at name (Some node) = if is_directory node then ok_or (found name (names_in node.content)) enoent else Err enotdir
+step_from at name (Some node) =
+    if is_directory node then ok_or (found name (names_in node.content)) enoent else Err enotdir
 
 -- on from where the part led, unless it is refused
 abbrev pub then_on : {A B : Type 0} → Result A Errno → (A → Result B Errno) → Result B Errno
@@ -46,7 +48,8 @@ names_at (Some node) = names_in node.content
 -- a path that begins with a slash is walked from the root, any other from here; an empty one leads nowhere
 abbrev pub walk_from : List Node → ℕ → List ℕ → Result ℕ Errno
 walk_from nodes here [] = Err enoent
-walk_from nodes here (first ∷ path) = if first == 47 then walk nodes 0 (parts path) else walk nodes here (parts (first ∷ path))
+walk_from nodes here (first ∷ path) =
+    if first == 47 then walk nodes 0 (parts path) else walk nodes here (parts (first ∷ path))
 
 -- what stands at the end of a path
 abbrev pub object_below : List Node → ℕ → List (List ℕ) → Option ℕ

@@ -1,4 +1,5 @@
--- Believed. When an object may be read by a descriptor, what that tells and what it changes, after `pread(2)` and `inode(7)`.
+-- Believed. When an object may be read by a descriptor, what that tells and what it changes, after `pread(2)` and
+-- `inode(7)`.
 use Rattle.std.specs.Prelude.{ℕ, Bool, not, ◌||◌, ◌∷◌, [], List, Option, take, drop}
 use Rattle.pt_host.specs.Flags.{includes, o_path}
 use Rattle.pt_host.specs.Errno.{ebadf, eisdir}
@@ -8,7 +9,8 @@ use Rattle.pt_node.specs.Node.{is_directory}
 use Rattle.pt_node.specs.Opening.{first_refusal, wants_read}
 use Rattle.pt_node.specs.declared.node.Node.{Node}
 
--- what a reading is refused for, in this order: the descriptor only stands for its object or is not open for reading; a directory
+-- what a reading is refused for, in this order: the descriptor only stands for its object or is not open for reading;
+-- a directory
 abbrev pub read_checks : Node → ℕ → List (Bool × Errno)
 read_checks node flags =
     (includes flags o_path || not (wants_read flags), ebadf)

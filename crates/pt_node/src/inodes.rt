@@ -100,7 +100,9 @@ fn give_number(
 ) -> Result<u64, AllocError>
     ensures number { IfOk result (λ number. number ≡ least_free (table_in tables.old.items dev)) }
     ensures tables { IfOk result (λ number. (other : ℕ) →
-        table_in tables.new.items other ≡ set_at dev (put_at number (Open (having object)) (table_in tables.old.items dev)) (table_in tables.old.items) other) }
+        table_in tables.new.items other
+        ≡ set_at dev (put_at number (Open (having object)) (table_in tables.old.items dev))
+        (table_in tables.old.items) other) }
     ensures same { OnErr result ((other : ℕ) → table_in tables.new.items other ≡ table_in tables.old.items other) }
 {
     let place = table_for(alloc, tables, dev)?;
@@ -125,9 +127,12 @@ impl Inodes {
         ensures number { IfOk result (λ number. number ≡ least_free (table_in self.old.tables.items dev)) }
         ensures holds { IfOk result (λ number. self.new.holds.items ≡ self.old.holds.items ++ 1 ∷ []) }
         ensures tables { IfOk result (λ number. (other : ℕ) →
-            table_in self.new.tables.items other ≡ set_at dev (put_at number (Open (having object)) (table_in self.old.tables.items dev)) (table_in self.old.tables.items) other) }
+            table_in self.new.tables.items other
+            ≡ set_at dev (put_at number (Open (having object)) (table_in self.old.tables.items dev))
+            (table_in self.old.tables.items) other) }
         ensures same_holds { OnErr result (self.new.holds.items ≡ self.old.holds.items) }
-        ensures same_tables { OnErr result ((other : ℕ) → table_in self.new.tables.items other ≡ table_in self.old.tables.items other) }
+        ensures same_tables { OnErr result ((other : ℕ) →
+            table_in self.new.tables.items other ≡ table_in self.old.tables.items other) }
     {
         self.holds.reserve(1)?;
         let number = give_number(alloc, &mut self.tables, dev, object)?;
@@ -138,7 +143,8 @@ impl Inodes {
     /// Takes the addition of the last object back.
     pub fn take_back(&mut self, dev: u64, number: u64)
         ensures holds { self.new.holds.items ≡ take (length self.old.holds.items - 1) self.old.holds.items }
-        ensures tables { (other : ℕ) → table_in self.new.tables.items other ≡ freed dev number (table_in self.old.tables.items) other }
+        ensures tables { (other : ℕ) →
+            table_in self.new.tables.items other ≡ freed dev number (table_in self.old.tables.items) other }
     {
         let _ = self.holds.pop();
         free_number(&mut self.tables, dev, number);
@@ -156,7 +162,8 @@ impl Inodes {
 
     /// How often the object is held after one hold more, where that can be counted.
     pub fn one_more(&self, object: usize) -> Option<usize>
-        ensures { SomeIff result ((object < length self.now.holds.items) × (slice_index self.now.holds.items object + 1 < 2 ^ 64)) (slice_index self.now.holds.items object + 1) }
+        ensures { SomeIff result ((object < length self.now.holds.items)
+            × (slice_index self.now.holds.items object + 1 < 2 ^ 64)) (slice_index self.now.holds.items object + 1) }
     {
         match self.holds.get(object) {
             None => None,
@@ -167,7 +174,9 @@ impl Inodes {
     /// One hold of the object, which has this number of the device, ends; with the last one its number is free.
     pub fn release(&mut self, object: usize, dev: u64, number: u64)
         ensures holds { self.new.holds.items ≡ released object self.old.holds.items }
-        ensures tables { (other : ℕ) → table_in self.new.tables.items other ≡ given_up dev number object self.old.holds.items (table_in self.old.tables.items) other }
+        ensures tables { (other : ℕ) →
+            table_in self.new.tables.items other
+            ≡ given_up dev number object self.old.holds.items (table_in self.old.tables.items) other }
     {
         let Some(held) = self.holds.get_mut(object) else {
             return;
@@ -182,7 +191,9 @@ impl Inodes {
     /// The same where there is such an object.
     pub fn release_where(&mut self, object: Option<usize>, dev: u64, number: u64)
         ensures holds { self.new.holds.items ≡ released_where object self.old.holds.items }
-        ensures tables { (other : ℕ) → table_in self.new.tables.items other ≡ given_up_where dev number object self.old.holds.items (table_in self.old.tables.items) other }
+        ensures tables { (other : ℕ) →
+            table_in self.new.tables.items other
+            ≡ given_up_where dev number object self.old.holds.items (table_in self.old.tables.items) other }
     {
         if let Some(object) = object {
             self.release(object, dev, number);

@@ -29,7 +29,8 @@ impl Model for Names {
 /// Leads a name that is there elsewhere.
 fn lead_in(kept: &mut BTreeMap<Vec<u8>, usize>, name: &[u8], object: usize)
     requires { is_some (lookup (is_at (λ key. slice_cmp nat_cmp name.now key.items)) kept.old.entries) ≡ true }
-    ensures entries { kept.new.entries ≡ set_value (is_at (λ key. slice_cmp nat_cmp name.now key.items)) kept.old.entries object }
+    ensures entries { kept.new.entries
+        ≡ set_value (is_at (λ key. slice_cmp nat_cmp name.now key.items)) kept.old.entries object }
     ensures ordered { IsOrdered (λ one other. slice_cmp nat_cmp one.items other.items) kept.old }
 {
     if let Some(led) = kept.get_mut(name) {

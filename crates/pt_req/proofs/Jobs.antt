@@ -11,7 +11,9 @@ use Rattle.pt_req.specs.declared.job.Work.TheVariants as work
 use Rattle.pt_req.proofs.Framing.{end_over}
 
 ended_work : (plan : Plan) (what : Work) → is_end (work_owes plan what) ≡ is_work_over what
-ended_work plan (work.Request framed) = end_over framed.taken framed.closings framed.mode (request_left framed.body plan) framed.holds (request_asks framed.body plan) framed.enough
+ended_work plan (work.Request framed) =
+    end_over framed.taken framed.closings framed.mode (request_left framed.body plan) framed.holds
+    (request_asks framed.body plan) framed.enough
 ended_work plan (work.Edit (editing.Asks edit)) = refl
 ended_work plan (work.Edit (editing.Ends last)) = refl
 

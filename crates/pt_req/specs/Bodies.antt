@@ -5,9 +5,11 @@ use Rattle.pt_iface.specs.declared.answer.Answer.TheVariants as answer
 use Rattle.pt_req.specs.Deed.{Changes}
 use Rattle.pt_req.specs.Tree.{Tree, Gives, Asks}
 use Rattle.pt_req.specs.Options.{init_options}
-use Rattle.pt_req.specs.Requests.{on_done, on_pinned, begun, answers_entry, answers_opened, init, destroy, root, lookup, open_file, release, read, read_pinned, unheld}
+use Rattle.pt_req.specs.Requests.{on_done, on_pinned, begun, answers_entry, answers_opened, init, destroy, root}
+use Rattle.pt_req.specs.Requests.{lookup, open_file, release, read, read_pinned, unheld}
 use Rattle.pt_req.specs.Next.{IsAsks}
-use Rattle.pt_req.specs.Parts.{look_up_left, look_up_acts, look_up_room, look_up_asks, root_open_left, root_open_acts, root_open_room, root_open_asks}
+use Rattle.pt_req.specs.Parts.{look_up_left, look_up_acts, look_up_room, look_up_asks, root_open_left, root_open_acts}
+use Rattle.pt_req.specs.Parts.{root_open_room, root_open_asks}
 use Rattle.pt_req.specs.Opening.{handle_open_left, handle_open_acts, handle_open_room, handle_open_asks}
 use Rattle.pt_req.specs.declared.plan.Plan.{Plan}
 use Rattle.pt_req.specs.declared.requests.root.Root.{Root}
@@ -214,7 +216,8 @@ release_asks it plan = release_at_asks it.at it
 
 abbrev pub reading_left : Reading → Read → Tree
 reading_left at_read.Begin it = read it.inode it.handle it.size it.offset
-reading_left at_read.Pin it = Asks (Changes (change.PinHandle it.handle it.inode)) (on_pinned (read_pinned it.size it.offset))
+reading_left at_read.Pin it =
+    Asks (Changes (change.PinHandle it.handle it.inode)) (on_pinned (read_pinned it.size it.offset))
 reading_left (at_read.Read fd) it = read_pinned it.size it.offset fd
 
 abbrev pub read_left : Read → Plan → Tree

@@ -45,7 +45,8 @@ pub record Step : Type 0 where
   pub deed : Option Deed
   pub reply : ActReply
 
--- The step is one of this deed. An act that could not be copied was not made; of one that was made the reply may not have been copied.
+-- The step is one of this deed. An act that could not be copied was not made; of one that was made the reply may not
+-- have been copied.
 abbrev pub IsStepOf : Deed → Option Deed → ActReply → Type 0
 IsStepOf deed (Some same) told.NoCopy = (same ≡ deed) × MayTellBytes deed
 IsStepOf deed (Some same) reply = same ≡ deed

@@ -42,5 +42,8 @@ JobsAreDetermined = (plan : Plan) (asked : Asked) → IsDetermined (grammar_for 
 
 -- two steps of a host that make the same call from the same place are alike
 abbrev pub IsDeterminedHost : {H : Type 0} → Does H → Type 0
-IsDeterminedHost {H} does = (before after after' : H) (seat left left' : HostSeat) (asked : Call) (told told' : HostReply) → told ≢ host.NoMemory → told' ≢ host.NoMemory →
-    does before seat asked told after left → does before seat asked told' after' left' → (told ≡ told') × (after ≡ after') × (left ≡ left')
+IsDeterminedHost {H} does =
+    (before after after' : H) (seat left left' : HostSeat) (asked : Call) (told told' : HostReply) →
+    told ≢ host.NoMemory → told' ≢ host.NoMemory →
+    does before seat asked told after left → does before seat asked told' after' left' →
+    (told ≡ told') × (after ≡ after') × (left ≡ left')

@@ -25,18 +25,21 @@ give_slot false count holds rest = rest
 abbrev pub give_taken : Taken → ℕ → List Hold → Grammar → Grammar
 give_taken taken.Nothing count holds rest = rest
 give_taken taken.Slot count holds rest = give_slot true count holds rest
-give_taken (taken.Fd fd slot) count holds rest = Do (Calls (call.Close fd)) (owing (taken.Fd fd slot) count holds) (λ told. give_slot slot count holds rest)
+give_taken (taken.Fd fd slot) count holds rest =
+    Do (Calls (call.Close fd)) (owing (taken.Fd fd slot) count holds) (λ told. give_slot slot count holds rest)
 
 -- the closings of an event follow it at once, and these holds stay; where none is there to take, nothing is given back
 abbrev pub closings : ℕ → List Hold → Grammar → Grammar
 closings zero holds next = next
 closings (suc count) holds next =
-    Do (Changes change.TakeClosing) (owing taken.Nothing (suc count) holds) (λ told. give_taken (taken_in told) count holds (closings count holds next))
+    Do (Changes change.TakeClosing) (owing taken.Nothing (suc count) holds) (λ told.
+    give_taken (taken_in told) count holds (closings count holds next))
 
 -- one of the holds is given back, and these are left; the reply is passed over, but for a scope that was not ended
 abbrev pub give : Hold → List Hold → List Hold → (Option Errno → Grammar) → Grammar
 give one holds left next =
-    Do (giving one) (owing taken.Nothing 0 holds) (λ told. closings (closings_in (giving one) told) left (next (lost_by one told)))
+    Do (giving one) (owing taken.Nothing 0 holds) (λ told.
+    closings (closings_in (giving one) told) left (next (lost_by one told)))
 
 -- all holds are given back, the last one first, and then this is the end
 abbrev pub leave : List Hold → Finish → Grammar
@@ -53,7 +56,8 @@ abbrev pub shut : Option Hold → ℕ → List Hold → (List Hold → Grammar) 
 shut passing zero holds next = next (under passing holds)
 shut passing (suc count) [] next = next (under passing [])
 shut passing (suc count) (one ∷ holds) next =
-    give one (under passing (one ∷ holds)) (under passing holds) (λ fault. or_lost fault (under passing holds) (shut passing count holds next))
+    give one (under passing (one ∷ holds)) (under passing holds) (λ fault.
+    or_lost fault (under passing holds) (shut passing count holds next))
 
 -- what is owed at once, and then the rest
 abbrev pub close_first : Taken → ℕ → List Hold → Grammar → Grammar
@@ -68,5 +72,6 @@ abbrev pub BelongsCut : Grammar → List Step → Finish → Type 0
 BelongsCut (End last) steps end = ⊥
 BelongsCut (Do deed owed next) [] end = Belongs (cut owed) [] end
 BelongsCut (Do deed owed next) (step ∷ steps) end =
-    Belongs (cut owed) (step ∷ steps) end ⊎ (IsStepOf deed step.deed step.reply × BelongsCut (next step.reply) steps end)
+    Belongs (cut owed) (step ∷ steps) end
+    ⊎ (IsStepOf deed step.deed step.reply × BelongsCut (next step.reply) steps end)
 BelongsCut (May one other) steps end = BelongsCut one steps end ⊎ BelongsCut other steps end

@@ -26,7 +26,8 @@ abbrev pub Belongs : Grammar → List Step → Finish → Type 0
 Belongs (End last) [] end = end ≡ last
 Belongs (End last) (step ∷ steps) end = ⊥
 Belongs (Do deed owed next) [] end = ⊥
-Belongs (Do deed owed next) (step ∷ steps) end = IsStepOf deed step.deed step.reply × Belongs (next step.reply) steps end
+Belongs (Do deed owed next) (step ∷ steps) end =
+    IsStepOf deed step.deed step.reply × Belongs (next step.reply) steps end
 Belongs (May one other) steps end = Belongs one steps end ⊎ Belongs other steps end
 
 -- what may follow the reply

@@ -28,7 +28,8 @@ use Rattle.pt_req.specs.declared.hold.Taken.TheVariants as taken
 abbrev pub fd_of : RowForm → Fd
 fd_of (File fd) = fd
 
--- A scope of credentials or of a capability is a hold too: what it changed of the seat has to be put back. No request opens one yet.
+-- A scope of credentials or of a capability is a hold too: what it changed of the seat has to be put back. No request
+-- opens one yet.
 abbrev pub is_scope : Hold → Bool
 is_scope _ = false
 
@@ -42,16 +43,21 @@ abbrev pub held : Deed → ActReply → List Hold → List Hold
 held (Calls (call.OpenRoot path flags)) (Host (host.Ok (value.Fd fd))) holds = laid (hold.Fd fd None) holds
 held (Calls (call.OpenAt dir name flags mode)) (Host (host.Ok (value.Fd fd))) holds = laid (hold.Fd fd None) holds
 held (Calls (call.Reopen same flags)) (Host (host.Ok (value.Fd fd))) holds = laid (hold.Fd fd None) holds
-held (Calls (call.Stat fd)) (Host (host.Ok (value.Stat stat))) (hold.Fd same was ∷ holds) = hold.Fd same (Some stat.ids) ∷ holds
-held (Changes (change.Resolve number)) (Event (event.Resolved row form ids mode)) holds = laid (hold.Pin row (fd_of form)) holds
+held (Calls (call.Stat fd)) (Host (host.Ok (value.Stat stat))) (hold.Fd same was ∷ holds) =
+    hold.Fd same (Some stat.ids) ∷ holds
+held (Changes (change.Resolve number)) (Event (event.Resolved row form ids mode)) holds =
+    laid (hold.Pin row (fd_of form)) holds
 held (Changes change.TakeFd) (Event event.Taken) (top ∷ holds) = top ∷ hold.Slot ∷ holds
 held (Changes change.TakeFd) (Event event.Taken) [] = hold.Slot ∷ []
 held (Changes (change.Claim era handle ids)) (Event (event.Claimed number)) holds = hold.Count era number ∷ holds
-held (Changes (change.Insert era number form ids mode)) (Event (event.Inserted given)) (hold.Fd fd was ∷ hold.Slot ∷ holds) = hold.Count era given ∷ holds
+held (Changes (change.Insert era number form ids mode)) (Event (event.Inserted given)) (hold.Fd fd was ∷ hold.Slot
+    ∷ holds) = hold.Count era given ∷ holds
 held (Changes (change.Insert era number form ids mode)) (Event (event.Found given)) holds = hold.Count era given ∷ holds
-held (Changes (change.InsertRoot era form ids mode agreed)) (Event (event.Inserted given)) (hold.Fd fd was ∷ hold.Slot ∷ holds) = holds
+held (Changes (change.InsertRoot era form ids mode agreed)) (Event (event.Inserted given)) (hold.Fd fd was ∷ hold.Slot
+    ∷ holds) = holds
 held (Changes (change.PinHandle handle number)) (Event (event.Pinned row fd)) holds = laid (hold.HandlePin row fd) holds
-held (Changes (change.InsertHandle era handle number fd)) (Event (event.Inserted given)) (hold.Fd same was ∷ hold.Slot ∷ holds) = holds
+held (Changes (change.InsertHandle era handle number fd)) (Event (event.Inserted given)) (hold.Fd same was ∷ hold.Slot
+    ∷ holds) = holds
 held _ _ holds = holds
 
 -- how a refused event is answered

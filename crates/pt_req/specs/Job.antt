@@ -3,7 +3,8 @@ use Rattle.std.specs.Prelude.{ℕ, ◌+◌, Bool, false, List, length, Option, N
 use Rattle.pt_host.specs.declared.ids.Errno.{Errno}
 use Rattle.pt_req.specs.Edit.{edit_left, edit_steps, is_edit_over}
 use Rattle.pt_req.specs.Grammar.{Grammar}
-use Rattle.pt_req.specs.Left.{left_of, is_all_over, lost_in, is_giving_scope, bound_left, measure_left, mode_counts, body_counts}
+use Rattle.pt_req.specs.Left.{left_of, is_all_over, lost_in, is_giving_scope, bound_left, measure_left, mode_counts}
+use Rattle.pt_req.specs.Left.{body_counts}
 use Rattle.pt_req.specs.Bodies.{request_left, request_acts, request_inserts}
 use Rattle.pt_req.specs.declared.plan.Plan.{Plan}
 use Rattle.pt_req.specs.declared.frame.mode.Mode.{Mode}
@@ -14,7 +15,8 @@ use Rattle.pt_req.specs.declared.job.Work.TheVariants as work
 use Rattle.pt_req.specs.declared.requests.any.RequestBody.{RequestBody}
 
 abbrev pub work_owes : Plan → Work → Grammar
-work_owes plan (work.Request framed) = left_of framed.taken framed.closings framed.mode (request_left framed.body plan) framed.holds
+work_owes plan (work.Request framed) =
+    left_of framed.taken framed.closings framed.mode (request_left framed.body plan) framed.holds
 work_owes plan (work.Edit editing) = edit_left editing
 
 -- what it may do from here on
@@ -26,7 +28,8 @@ abbrev pub more_of : List Hold → Mode → RequestBody → ℕ
 more_of holds at body = length holds + mode_counts at (request_acts body)
 
 abbrev pub work_left : Work → ℕ
-work_left (work.Request framed) = measure_left framed.taken framed.closings (more_of framed.holds framed.mode framed.body)
+work_left (work.Request framed) =
+    measure_left framed.taken framed.closings (more_of framed.holds framed.mode framed.body)
 work_left (work.Edit editing) = edit_steps editing
 
 -- a number that falls with each step
@@ -34,7 +37,8 @@ unfoldable pub steps_left : JobState → ℕ
 steps_left job = work_left job.work
 
 abbrev pub work_bound : Work → ℕ
-work_bound (work.Request framed) = bound_left framed.taken framed.closings (more_of framed.holds framed.mode framed.body)
+work_bound (work.Request framed) =
+    bound_left framed.taken framed.closings (more_of framed.holds framed.mode framed.body)
 work_bound (work.Edit editing) = edit_steps editing
 
 -- a bound on its steps, but for those that closings yet to be told will take

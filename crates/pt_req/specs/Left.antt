@@ -31,7 +31,8 @@ tail_left (tail.Refuses last) tree holds = leave holds (finish.Answer last)
 abbrev pub mode_left : Mode → Tree → List Hold → Grammar
 mode_left mode.Body tree holds = framed tree holds
 mode_left (mode.Shut passing count more) tree holds = shut passing (suc count) holds (tail_left more tree)
-mode_left (mode.Out passing last) tree holds = shut (Some passing) (length holds) holds (λ left. End (finish.Answer last))
+mode_left (mode.Out passing last) tree holds =
+    shut (Some passing) (length holds) holds (λ left. End (finish.Answer last))
 mode_left (mode.Leave last) tree holds = leave holds last
 
 abbrev pub passing_in : Mode → Option Hold
@@ -116,5 +117,6 @@ then_left then.Refuses refused tree holds = leave holds (finish.Answer refused)
 
 abbrev pub next_left : Next → Answer → Tree → List Hold → Grammar
 next_left (next.At what) refused tree holds = then_left what refused tree holds
-next_left (next.Shuts passes count what) refused tree holds = shut (front passes holds) count (behind passes holds) (then_left what refused tree)
+next_left (next.Shuts passes count what) refused tree holds =
+    shut (front passes holds) count (behind passes holds) (then_left what refused tree)
 next_left next.NoMemory refused tree holds = leave holds (finish.Answer answer.NoMemory)

@@ -14,11 +14,14 @@ use Rattle.pt_req.specs.declared.act.ActReply.TheVariants.{Event, Host, NoCopy}
 abbrev pub Does : Type 0 → Type 1
 Does H = H → HostSeat → Call → HostReply → H → HostSeat → Type 0
 
--- The step led from host, seat and tables to these, and nothing else changed. One that could not be copied was not made; where the reply alone
--- could not be copied, it held bytes.
-abbrev pub Made : {H : Type 0} → Does H → Option Deed → ActReply → H → HostSeat → Tables → H → HostSeat → Tables → Type 0
-Made does (Some (Changes asked)) (Event reply) host seat tables host' seat' tables' = Happens tables asked reply tables' × (host' ≡ host) × (seat' ≡ seat)
-Made does (Some (Calls asked)) (Host reply) host seat tables host' seat' tables' = does host seat asked reply host' seat' × (tables' ≡ tables)
+-- The step led from host, seat and tables to these, and nothing else changed. One that could not be copied was not
+-- made; where the reply alone could not be copied, it held bytes.
+abbrev pub Made : {H : Type 0} → Does H → Option Deed → ActReply → H → HostSeat → Tables → H → HostSeat → Tables →
+    Type 0
+Made does (Some (Changes asked)) (Event reply) host seat tables host' seat' tables' =
+    Happens tables asked reply tables' × (host' ≡ host) × (seat' ≡ seat)
+Made does (Some (Calls asked)) (Host reply) host seat tables host' seat' tables' =
+    does host seat asked reply host' seat' × (tables' ≡ tables)
 Made does (Some (Calls asked)) NoCopy host seat tables host' seat' tables' =
     ((reply : HostReply) × ReplyHoldsBytes reply × does host seat asked reply host' seat') × (tables' ≡ tables)
 Made does None NoCopy host seat tables host' seat' tables' = (host' ≡ host) × (seat' ≡ seat) × (tables' ≡ tables)
@@ -28,5 +31,6 @@ Made does deed reply host seat tables host' seat' tables' = ⊥
 abbrev pub RunsAlone : {H : Type 0} → Does H → List Step → H → HostSeat → Tables → H → HostSeat → Tables → Type 0
 RunsAlone does [] host seat tables host' seat' tables' = (host' ≡ host) × (seat' ≡ seat) × (tables' ≡ tables)
 RunsAlone {H} does (step ∷ steps) host seat tables host' seat' tables' =
-    (host1 : H) × (seat1 : HostSeat) × (tables1 : Tables) × Made does step.deed step.reply host seat tables host1 seat1 tables1
+    (host1 : H) × (seat1 : HostSeat) × (tables1 : Tables)
+    × Made does step.deed step.reply host seat tables host1 seat1 tables1
     × RunsAlone does steps host1 seat1 tables1 host' seat' tables'

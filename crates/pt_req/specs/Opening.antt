@@ -19,12 +19,14 @@ use Rattle.pt_req.specs.declared.parts.open.HandleOpened.{HandleOpened}
 use Rattle.pt_req.specs.declared.parts.open.HandleOpened.TheVariants as opened
 
 abbrev pub drawing_handle : HandleOpen → (ℕ → Tree) → Fd → Tree
-drawing_handle it next fd = Asks (Changes change.DrawHandle) (on_drawn (λ handle. handled it.session it.inode fd handle (next handle)))
+drawing_handle it next fd =
+    Asks (Changes change.DrawHandle) (on_drawn (λ handle. handled it.session it.inode fd handle (next handle)))
 
 abbrev pub handle_open_at_left : HandleOpenAt → HandleOpen → Plan → (ℕ → Tree) → Tree
 handle_open_at_left at.Resolve it plan next = do_open plan it.session it.inode it.flags next
 handle_open_at_left (at.Reopen path) it plan next =
-    Asks (Calls (call.Reopen path (without_nofollow (host_flags plan.config it.flags)))) (on_fd (λ fd. drawing_handle it next fd))
+    Asks (Calls (call.Reopen path (without_nofollow (host_flags plan.config it.flags))))
+    (on_fd (λ fd. drawing_handle it next fd))
 handle_open_at_left (at.Draw fd) it plan next = drawing_handle it next fd
 handle_open_at_left (at.Take fd handle) it plan next = handled it.session it.inode fd handle (next handle)
 handle_open_at_left (at.Insert fd handle) it plan next =
@@ -67,7 +69,8 @@ handle_open_room it = handle_open_at_room it.at
 abbrev pub handle_open_inserts : HandleOpen → ℕ
 handle_open_inserts it = 1
 
-handle_open_at_asks : (at : HandleOpenAt) (it : HandleOpen) (plan : Plan) (next : ℕ → Tree) → IsAsks (handle_open_at_left at it plan next)
+handle_open_at_asks : (at : HandleOpenAt) (it : HandleOpen) (plan : Plan) (next : ℕ → Tree) →
+    IsAsks (handle_open_at_left at it plan next)
 handle_open_at_asks at.Resolve it plan next = tt
 handle_open_at_asks (at.Reopen path) it plan next = tt
 handle_open_at_asks (at.Draw fd) it plan next = tt

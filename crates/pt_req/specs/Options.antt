@@ -32,7 +32,8 @@ without flags bits = bit_and flags (2 ^ 32 - 1 - bits)
 
 -- Each write says itself whether it appends, so no handle does; access times are the host's own, where it is set up so.
 abbrev pub cleaned : Config → ℕ → ℕ
-cleaned config flags = if config.clean_noatime then without (without flags o_append) o_noatime else without flags o_append
+cleaned config flags =
+    if config.clean_noatime then without (without flags o_append) o_noatime else without flags o_append
 
 -- direct I/O of the guest is not passed on, unless it is allowed; the daemon runs no other program
 abbrev pub inode_flags : Config → ℕ → ℕ

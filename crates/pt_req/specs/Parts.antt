@@ -6,7 +6,8 @@ use Rattle.pt_session.specs.declared.event.KeptEvent.TheVariants as change
 use Rattle.pt_iface.specs.declared.entry.Entry.{Entry}
 use Rattle.pt_req.specs.Deed.{Calls, Changes}
 use Rattle.pt_req.specs.Tree.{Tree, Refuses, Asks, Shuts}
-use Rattle.pt_req.specs.Requests.{on_stat, on_taken, on_drawn, on_inserted, on_root, root_open, entry_of, inserted, numbered, told_of, opened_in, look_up}
+use Rattle.pt_req.specs.Requests.{on_stat, on_taken, on_drawn, on_inserted, on_root, root_open, entry_of, inserted}
+use Rattle.pt_req.specs.Requests.{numbered, told_of, opened_in, look_up}
 use Rattle.pt_req.specs.Next.{IsAsks}
 use Rattle.pt_req.specs.declared.act.ActReply.{ActReply}
 use Rattle.pt_req.specs.declared.plan.Plan.{Plan}
@@ -25,7 +26,8 @@ abbrev pub with_number : Plan → Opened → (Entry → Tree) → ℕ → Tree
 with_number plan it next number = next (entry_of plan it.session.agreed it.parent it.stat number)
 
 abbrev pub drawing : Plan → Opened → (Entry → Tree) → Tree
-drawing plan it next = Asks (Changes change.DrawNode) (on_drawn (inserted it.session it.fd it.stat (with_number plan it next)))
+drawing plan it next =
+    Asks (Changes change.DrawNode) (on_drawn (inserted it.session it.fd it.stat (with_number plan it next)))
 
 abbrev pub look_up_left : LookUp → List ℕ → Plan → (Entry → Tree) → Tree
 look_up_left (look.Resolve session parent) name plan next = look_up plan session parent name next
@@ -36,7 +38,8 @@ look_up_left (look.Take it) name plan next = Asks (Changes change.TakeFd) (on_ta
 look_up_left (look.Draw it) name plan next = drawing plan it next
 look_up_left (look.Insert it form fresh) name plan next =
     Asks (Changes (change.Insert it.session.era fresh form it.stat.ids it.stat.mode))
-    (on_inserted (λ number. Shuts true 1 (with_number plan it next number)) (λ number. Shuts true 3 (with_number plan it next number)))
+    (on_inserted (λ number. Shuts true 1 (with_number plan it next number)) (λ number.
+    Shuts true 3 (with_number plan it next number)))
 
 abbrev pub looked_up_tree : LookedUp → ActReply → Tree → (Entry → Tree) → Tree
 looked_up_tree looked.Goes told left next = left
@@ -68,7 +71,8 @@ look_up_room _ = 1
 abbrev pub look_up_inserts : LookUp → ℕ
 look_up_inserts it = 1
 
-pub look_up_asks : (it : LookUp) (name : List ℕ) (plan : Plan) (next : Entry → Tree) → IsAsks (look_up_left it name plan next)
+pub look_up_asks : (it : LookUp) (name : List ℕ) (plan : Plan) (next : Entry → Tree) →
+    IsAsks (look_up_left it name plan next)
 look_up_asks (look.Resolve session parent) name plan next = tt
 look_up_asks (look.Open session parent dir) name plan next = tt
 look_up_asks (look.Stat session parent fd) name plan next = tt
@@ -86,7 +90,8 @@ root_open_left (at.Stat session agreed fd) plan next =
 root_open_left (at.Take session agreed fd stat) plan next =
     Asks (Changes change.TakeFd) (on_taken (
     Asks (Changes (change.InsertRoot session.era (File fd) stat.ids stat.mode agreed)) (on_root next)))
-root_open_left (at.Insert session agreed form stat) plan next = Asks (Changes (change.InsertRoot session.era form stat.ids stat.mode agreed)) (on_root next)
+root_open_left (at.Insert session agreed form stat) plan next =
+    Asks (Changes (change.InsertRoot session.era form stat.ids stat.mode agreed)) (on_root next)
 
 abbrev pub root_opened_tree : RootOpened → ActReply → Tree → Tree → Tree
 root_opened_tree opened_root.Goes told left next = left

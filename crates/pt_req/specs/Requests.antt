@@ -1,7 +1,8 @@
 -- Believed. The requests, by their parts. After virtiofsd's passthrough file system: `init`, `open_root_node`,
 -- `do_lookup`, `forget`, `open_inode`,
 -- `do_open`, `do_release`, `read`.
-use Rattle.std.specs.Prelude.{ℕ, ◌-◌, ◌^◌, Bool, true, false, ◌&&◌, ◌||◌, not, ◌==◌, nat_lt, if◌then◌else◌, List, [], ◌∷◌, Some, None, Option}
+use Rattle.std.specs.Prelude.{ℕ, ◌-◌, ◌^◌, Bool, true, false, ◌&&◌, ◌||◌, not, ◌==◌, nat_lt, if◌then◌else◌, List, []}
+use Rattle.std.specs.Prelude.{◌∷◌, Some, None, Option}
 use Rattle.std.specs.List.{list_any}
 use Rattle.pt_host.specs.Errno.{ebadf, einval, errno_of}
 use Rattle.pt_host.specs.Flags.{path_flags, o_directory}
@@ -26,7 +27,8 @@ use Rattle.pt_iface.specs.declared.request.Request.{Request}
 use Rattle.pt_iface.specs.declared.request.Request.TheVariants as request
 use Rattle.pt_req.specs.Deed.{Calls, Changes}
 use Rattle.pt_req.specs.Held.{fd_of}
-use Rattle.pt_req.specs.Options.{with_bits, host_flags, without_nofollow, agreed_with, nothing_agreed, init_options, open_options}
+use Rattle.pt_req.specs.Options.{with_bits, host_flags, without_nofollow, agreed_with, nothing_agreed, init_options}
+use Rattle.pt_req.specs.Options.{open_options}
 use Rattle.pt_req.specs.Tree.{Tree, Gives, Refuses, Asks, Shuts}
 use Rattle.pt_req.specs.declared.act.ActReply.{ActReply}
 use Rattle.pt_req.specs.declared.act.ActReply.TheVariants.{Event, Host}
@@ -128,7 +130,8 @@ named name next = if is_bad_name name then Gives (answer.Refused einval) else ne
 -- the flag of a directory on another device or mount than its parent, where the guest is told of mounts
 abbrev pub mount_flag : Negotiated → ObjIds → Stat → ℕ
 mount_flag agreed parent stat =
-    if agreed.announce_submounts && (kind_of stat.mode == 4) && not ((stat.ids.dev == parent.dev) && (stat.ids.mnt_id == parent.mnt_id)) then 1 else 0
+    if agreed.announce_submounts && (kind_of stat.mode == 4)
+    && not ((stat.ids.dev == parent.dev) && (stat.ids.mnt_id == parent.mnt_id)) then 1 else 0
 
 abbrev pub attr_of : Stat → ℕ → Attr
 attr_of stat flags = record {
@@ -156,11 +159,13 @@ entry_of plan agreed parent stat number = record {
   entry_timeout = plan.config.entry_timeout;
 }
 
--- what was opened gets a number: its row's, where the object has one, or a new one; the bracket ends with the pin and the descriptor, with the
--- pin alone where the table took the descriptor and its slot, or with all three where another was faster, and the count passes
+-- what was opened gets a number: its row's, where the object has one, or a new one; the bracket ends with the pin and
+-- the descriptor, with the pin alone where the table took the descriptor and its slot, or with all three where
+-- another was faster, and the count passes
 abbrev pub inserted : Session → Fd → Stat → (ℕ → Tree) → ℕ → Tree
 inserted session fd stat next fresh =
-    Asks (Changes (change.Insert session.era fresh (File fd) stat.ids stat.mode)) (on_inserted (λ number. Shuts true 1 (next number)) (λ number. Shuts true 3 (next number)))
+    Asks (Changes (change.Insert session.era fresh (File fd) stat.ids stat.mode))
+    (on_inserted (λ number. Shuts true 1 (next number)) (λ number. Shuts true 3 (next number)))
 
 abbrev pub numbered : Session → Fd → Stat → (ℕ → Tree) → Tree
 numbered session fd stat next =
@@ -170,10 +175,12 @@ numbered session fd stat next =
 
 abbrev pub told_of : Plan → Session → ObjIds → Fd → (Entry → Tree) → Tree
 told_of plan session parent fd next =
-    Asks (Calls (call.Stat fd)) (on_stat (λ stat. numbered session fd stat (λ number. next (entry_of plan session.agreed parent stat number))))
+    Asks (Calls (call.Stat fd))
+    (on_stat (λ stat. numbered session fd stat (λ number. next (entry_of plan session.agreed parent stat number))))
 
 abbrev pub opened_in : Plan → Session → ObjIds → Fd → List ℕ → (Entry → Tree) → Tree
-opened_in plan session parent dir name next = Asks (Calls (call.OpenAt dir name path 0)) (on_fd (λ fd. told_of plan session parent fd next))
+opened_in plan session parent dir name next =
+    Asks (Calls (call.OpenAt dir name path 0)) (on_fd (λ fd. told_of plan session parent fd next))
 
 -- a name in a numbered directory becomes an entry
 abbrev pub look_up : Plan → Session → ℕ → List ℕ → (Entry → Tree) → Tree
@@ -186,10 +193,12 @@ can_open mode = (kind_of mode == 8) || (kind_of mode == 4)
 
 abbrev pub reopened : ℕ → RowForm → ℕ → (Fd → Tree) → Tree
 reopened flags form mode next =
-    if can_open mode then Asks (Calls (call.Reopen (fd_of form) (without_nofollow flags))) (on_fd next) else Gives (answer.Refused ebadf)
+    if can_open mode then Asks (Calls (call.Reopen (fd_of form) (without_nofollow flags))) (on_fd next) else Gives
+    (answer.Refused ebadf)
 
 abbrev pub open_inode : ℕ → ℕ → (Fd → Tree) → Tree
-open_inode inode flags next = Asks (Changes (change.Resolve inode)) (on_row (λ form mode. reopened flags form mode next))
+open_inode inode flags next =
+    Asks (Changes (change.Resolve inode)) (on_row (λ form mode. reopened flags form mode next))
 
 -- what was opened gets a handle; the bracket ends with the pin, since the table took the descriptor and its slot
 abbrev pub handled : Session → ℕ → Fd → ℕ → Tree → Tree
@@ -222,7 +231,10 @@ answers_bytes bytes = Gives (answer.Read bytes)
 abbrev pub init : Plan → FsOptions → Tree
 init plan capable =
     Asks (Changes change.Clear) (on_cleared (λ era.
-    root_open plan (record { era = era; agreed = nothing_agreed }) (Some (agreed_with capable)) (Gives (answer.Inited (init_options plan.config)))))
+    root_open plan (record {
+      era = era;
+      agreed = nothing_agreed;
+    }) (Some (agreed_with capable)) (Gives (answer.Inited (init_options plan.config)))))
 
 abbrev pub destroy : Tree
 destroy = Asks (Changes change.Clear) (on_cleared (λ era. Gives answer.NoReply))
@@ -253,7 +265,8 @@ read_pinned size offset fd = Asks (Calls (call.ReadAt fd offset size)) (on_bytes
 
 abbrev pub read : ℕ → ℕ → ℕ → ℕ → Tree
 read inode handle size offset =
-    begun (λ session. placed offset (Asks (Changes (change.PinHandle handle inode)) (on_pinned (read_pinned size offset))))
+    begun (λ session. placed offset
+    (Asks (Changes (change.PinHandle handle inode)) (on_pinned (read_pinned size offset))))
 
 -- the function is not implemented, `ENOSYS`
 abbrev pub unheld : Tree

@@ -12,7 +12,8 @@ use Rattle.pt_req.specs.declared.finish.Finish.TheVariants as finish
 use Rattle.pt_req.specs.declared.hold.Hold.{Hold}
 use Rattle.pt_req.specs.declared.hold.Taken.TheVariants.{Nothing}
 
--- What is held is said by the deeds and their replies: a tree says only what it asks, how a bracket ends, and how it is answered.
+-- What is held is said by the deeds and their replies: a tree says only what it asks, how a bracket ends, and how it
+-- is answered.
 pub data Tree : Type 0 where
   Gives : Answer → Tree
   -- this reply is answered as a refusal
@@ -31,6 +32,8 @@ abbrev pub framed : Tree → List Hold → Grammar
 framed (Gives last) holds = answered (passes_with (finish.Answer last)) holds (finish.Answer last)
 framed (Refuses told) holds = leave holds (finish.Answer (refusal told))
 framed (Asks deed next) holds = Do deed (owing Nothing 0 holds) (λ told. May
-    (closings (closings_in deed told) (held deed told holds) (leave (held deed told holds) (finish.Answer answer.NoMemory)))
+    (closings (closings_in deed told) (held deed told holds)
+    (leave (held deed told holds) (finish.Answer answer.NoMemory)))
     (closings (closings_in deed told) (held deed told holds) (framed (next told) (held deed told holds))))
-framed (Shuts passes count rest) holds = shut (front passes holds) count (behind passes holds) (λ left. framed rest left)
+framed (Shuts passes count rest) holds =
+    shut (front passes holds) count (behind passes holds) (λ left. framed rest left)

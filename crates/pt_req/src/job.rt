@@ -98,7 +98,8 @@ impl JobState {
     ghost use Rattle.pt_req.specs.declared.finish.Finish.{Finish};
     ghost use Rattle.pt_req.specs.declared.finish.Finish.TheVariants.{Lost};
 
-    /// A job that has made no step. An `Err`, which gives the request back, is want of memory; these requests take none.
+    /// A job that has made no step. An `Err`, which gives the request back, is want of memory; these requests take
+    /// none.
     pub fn start(
         _alloc: Global,
         plan: &Plan,
@@ -138,10 +139,13 @@ impl JobState {
     /// Goes on from the reply of the step that was wanted.
     pub fn take(&mut self, plan: &Plan, reply: ActReply, seat: &HostSeat)
         requires { is_end (owes plan.now self.old) ≡ false }
-        ensures belongs { (steps : List Step) (end : Finish) → Belongs (owes plan.now self.new) steps end → Belongs (after reply (owes plan.now self.old)) steps end }
-        ensures belongs_cut { (steps : List Step) (end : Finish) → BelongsCut (owes plan.now self.new) steps end → BelongsCut (after reply (owes plan.now self.old)) steps end }
+        ensures belongs { (steps : List Step) (end : Finish) → Belongs (owes plan.now self.new) steps end →
+            Belongs (after reply (owes plan.now self.old)) steps end }
+        ensures belongs_cut { (steps : List Step) (end : Finish) → BelongsCut (owes plan.now self.new) steps end →
+            BelongsCut (after reply (owes plan.now self.old)) steps end }
         ensures fewer { steps_left self.new < steps_left self.old }
-        ensures within { steps_bound self.new + 1 ≤ steps_bound self.old + 3 * told_closings (owes plan.now self.old) reply }
+        ensures within { steps_bound self.new + 1
+            ≤ steps_bound self.old + 3 * told_closings (owes plan.now self.old) reply }
         ensures inserts { inserts_left self.new + told_inserted (owes plan.now self.old) reply ≤ inserts_left self.old }
     {
         match &mut self.work {
@@ -160,7 +164,8 @@ impl JobState {
         }
     }
 
-    /// Makes it want only the end of its open scopes, the closings that it owes and its holds; it then finishes with the answer `Cut`.
+    /// Makes it want only the end of its open scopes, the closings that it owes and its holds; it then finishes with
+    /// the answer `Cut`.
     pub fn cut(&mut self)
         requires { is_finished self.old ≡ false }
         ensures left { (plan : Plan) → owes plan self.new ≡ cut (owed_by (owes plan self.old)) }
@@ -173,10 +178,12 @@ impl JobState {
         }
     }
 
-    /// What the first step that was to end a scope and was refused was answered, in a job that was not cut. It then finishes with that.
+    /// What the first step that was to end a scope and was refused was answered, in a job that was not cut. It then
+    /// finishes with that.
     pub fn lost(&self) -> Option<Errno>
         ensures lost { result ≡ lost_of self.now }
-        ensures ends { IfSome result (λ errno. (plan : Plan) (steps : List Step) (end : Finish) → Belongs (owes plan self.now) steps end → end ≡ Lost errno) }
+        ensures ends { IfSome result (λ errno. (plan : Plan) (steps : List Step) (end : Finish) →
+            Belongs (owes plan self.now) steps end → end ≡ Lost errno) }
     {
         match &self.work {
             Work::Request(framed) => framed.lost(),

@@ -14,7 +14,8 @@ ghost use Rattle.pt_req.specs.declared.plan.Plan.{Plan};
 
 /// No request of today opens a scope, nor does an edit, so none ends as one that lost its seat.
 pub fn calm()
-    ensures { (plan : Plan) (asked : Asked) (steps : List Step) (end : Finish) → Belongs (grammar_for plan asked) steps end → IsAnswered end }
+    ensures { (plan : Plan) (asked : Asked) (steps : List Step) (end : Finish) →
+        Belongs (grammar_for plan asked) steps end → IsAnswered end }
 {}
 
 /// A job that was cut is answered `Cut`.

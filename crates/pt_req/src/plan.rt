@@ -40,8 +40,9 @@ pub struct Config {
 }
 
 impl Config {
-    /// The defaults: timeouts of five seconds, the host's root, no limit of descriptors, cached as the guest decides, with attributes of whole
-    /// directories, and neither direct I/O nor `O_NOATIME` on the host. Its one refusal is want of memory.
+    /// The defaults: timeouts of five seconds, the host's root, no limit of descriptors, cached as the guest decides,
+    /// with attributes of whole directories, and neither direct I/O nor `O_NOATIME` on the host. Its one refusal is
+    /// want of memory.
     pub fn new(alloc: Global) -> Result<Config, Refusal>
         ensures ok { IfOk result IsDefault }
         ensures err { OnErr result (result ≡ Err Refusal.Memory) }

@@ -1,6 +1,7 @@
--- Believed. The calls on an object's status and on its extended attributes: chmod(2), chown(2), utimensat(2), setxattr(2), getxattr(2), listxattr(2)
--- and removexattr(2). Each that changes something sets the time of the status.
-use Rattle.std.specs.Prelude.{ℕ, ◌==◌, nat_lt, not, ◌||◌, ◌&&◌, Bool, false, List, [], ◌∷◌, length, Option, is_none, is_some, if◌then◌else◌, unwrap_or}
+-- Believed. The calls on an object's status and on its extended attributes: chmod(2), chown(2), utimensat(2),
+-- setxattr(2), getxattr(2), listxattr(2) and removexattr(2). Each that changes something sets the time of the status.
+use Rattle.std.specs.Prelude.{ℕ, ◌==◌, nat_lt, not, ◌||◌, ◌&&◌, Bool, false, List, [], ◌∷◌, length, Option, is_none}
+use Rattle.std.specs.Prelude.{is_some, if◌then◌else◌, unwrap_or}
 use Rattle.pt_host.specs.Errno.{e2big, ebadf, eexist, einval, enodata, eopnotsupp, eperm, erange}
 use Rattle.pt_host.specs.Flags.{includes, o_path}
 use Rattle.pt_host.specs.declared.ids.Errno.{Errno}
@@ -44,7 +45,8 @@ chmod_row state seat through mode file node =
 
 abbrev pub chown_row : State → HostSeat → ℕ → ℕ → OpenFile → Node → Row
 chown_row state seat uid gid file node =
-    row ((not (includes seat.eff_caps.0 chown), eperm) ∷ []) value.Unit (Becomes (restamped (time_of state) (owned uid gid node)))
+    row ((not (includes seat.eff_caps.0 chown), eperm)
+    ∷ []) value.Unit (Becomes (restamped (time_of state) (owned uid gid node)))
 
 abbrev pub is_no_time : TimeSet → Bool
 is_no_time Omit = false
@@ -104,7 +106,8 @@ get_xattr_checks file through there size =
 
 abbrev pub get_xattr_row : Bool → List ℕ → ℕ → OpenFile → Node → Row
 get_xattr_row through name size file node =
-    row (get_xattr_checks file through (value_of name node.xattrs) size) (sized size (unwrap_or (value_of name node.xattrs) [])) Stays
+    row (get_xattr_checks file through (value_of name node.xattrs) size)
+    (sized size (unwrap_or (value_of name node.xattrs) [])) Stays
 
 abbrev pub list_xattr_checks : OpenFile → Bool → List ℕ → ℕ → List (Bool × Errno)
 list_xattr_checks file through names size = (does_not_serve file through, ebadf) ∷ (is_too_long size names, erange) ∷ []

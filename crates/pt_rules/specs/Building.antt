@@ -1,5 +1,7 @@
 -- Believed. What the lines of a tree add: objects, other names, attributes and mounts, at a time before every call.
-use Rattle.std.specs.Prelude.{ℕ, ◌≡◌, ◌+◌, ◌%◌, ◌==◌, nat_lt, nat_le, ◌&&◌, not, Bool, true, false, List, [], ◌∷◌, length, count_by, pos, Option, Some, None, option_map, option_and_then, is_none, slice_get, if◌then◌else◌}
+use Rattle.std.specs.Prelude.{ℕ, ◌≡◌, ◌+◌, ◌%◌, ◌==◌, nat_lt, nat_le, ◌&&◌, not, Bool, true, false, List, [], ◌∷◌}
+use Rattle.std.specs.Prelude.{length, count_by, pos, Option, Some, None, option_map, option_and_then, is_none}
+use Rattle.std.specs.Prelude.{slice_get, if◌then◌else◌}
 use Rattle.std.specs.List.{list_all}
 use Rattle.pt_host.specs.declared.ids.Time.{Time}
 use Rattle.pt_node.specs.Attributes.{with_value}
@@ -42,7 +44,8 @@ add_object state path permissions uid gid rdev content =
 
 -- modes have permissions alone
 abbrev pub add_of_mode : State → List ℕ → ℕ → ℕ → ℕ → Content → Option State
-add_of_mode state path mode uid gid content = if nat_lt mode 4096 then add_object state path mode uid gid 0 content else None
+add_of_mode state path mode uid gid content =
+    if nat_lt mode 4096 then add_object state path mode uid gid 0 content else None
 
 abbrev pub add_file : State → List ℕ → ℕ → ℕ → ℕ → List ℕ → Option State
 add_file state path mode uid gid bytes =
@@ -55,7 +58,8 @@ add_symlink state path uid gid target =
 
 abbrev pub add_special : State → List ℕ → ℕ → ℕ → ℕ → ℕ → Option SpecialKind → Option State
 add_special state path mode uid gid rdev None = None
-add_special state path mode uid gid rdev (Some kind) = add_object state path (mode % 4096) uid gid rdev (content.Special kind)
+add_special state path mode uid gid rdev (Some kind) =
+    add_object state path (mode % 4096) uid gid rdev (content.Special kind)
 
 -- an object that may get this other name: no directory, and on the mount of the name's directory
 abbrev pub is_linkable : Option Node → Option Node → Bool
@@ -64,18 +68,25 @@ is_linkable _ _ = false
 
 abbrev pub add_link : State → ℕ × List ℕ → ℕ → Option State
 add_link state place object =
-    if is_linkable (slice_get state.nodes object) (slice_get state.nodes place.0) then Some (with_linked state place.0 place.1 object) else None
+    if is_linkable (slice_get state.nodes object) (slice_get state.nodes place.0) then Some
+    (with_linked state place.0 place.1 object) else None
 
 abbrev pub add_hard : State → List ℕ → List ℕ → Option State
-add_hard state path old = option_and_then (λ place. option_and_then (add_link state place) (object_named state.nodes old)) (place_of state.nodes path)
+add_hard state path old =
+    option_and_then (λ place.
+    option_and_then (add_link state place) (object_named state.nodes old)) (place_of state.nodes path)
 
 abbrev pub with_xattr : State → List ℕ → List ℕ → ℕ → State
 with_xattr state name bytes object =
-    record state { nodes = changed_at object (λ node. record node { xattrs = with_value name bytes node.xattrs }) state.nodes }
+    record state {
+      nodes = changed_at object (λ node. record node { xattrs = with_value name bytes node.xattrs }) state.nodes;
+    }
 
 abbrev pub add_xattr : State → List ℕ → List ℕ → List ℕ → Option State
 add_xattr state path name bytes =
-    if nat_le (length name) xattr_name_max && nat_le (length bytes) xattr_value_max then option_map (with_xattr state name bytes) (object_named state.nodes path) else None
+    if nat_le (length name) xattr_name_max
+    && nat_le (length bytes) xattr_value_max then option_map (with_xattr state name bytes)
+    (object_named state.nodes path) else None
 
 -- the directory of a mount: the first object of its device
 abbrev pub mount_root : ℕ → ℕ → ℕ → Bool → Node
@@ -102,20 +113,24 @@ is_printed byte = nat_lt 32 byte && nat_lt byte 127
 -- an id and a device that no mount has yet
 abbrev pub is_new_mount : List (ℕ × MountRecord) → ℕ → ℕ → List ℕ → Bool
 is_new_mount mounts id dev path =
-    nat_lt 0 id && nat_lt 0 dev && is_none (mount_of id mounts) && not (has_device dev mounts) && list_all is_printed path
+    nat_lt 0 id && nat_lt 0 dev && is_none (mount_of id mounts) && not (has_device dev mounts)
+    && list_all is_printed path
 
 abbrev pub mounted : State → ℕ → ℕ → ℕ → List ℕ → State
-mounted state parent id dev path = record state { mounts = with_mount id (record { parent = parent; dev = dev; path = path }) state.mounts }
+mounted state parent id dev path =
+    record state { mounts = with_mount id (record { parent = parent; dev = dev; path = path }) state.mounts }
 
 -- its directory's mount is the parent
 abbrev pub mount_in : State → ℕ → ℕ → List ℕ → Bool → ℕ × List ℕ → Option State
 mount_in state id dev path handles at = option_map
-    (λ (dir : Node). mounted (with_made state at.0 at.1 (mount_root id dev (length state.nodes + 1) handles)) dir.ids.mnt_id id dev path)
+    (λ (dir : Node). mounted
+    (with_made state at.0 at.1 (mount_root id dev (length state.nodes + 1) handles)) dir.ids.mnt_id id dev path)
     (slice_get state.nodes at.0)
 
 abbrev pub add_mount : State → ℕ → ℕ → List ℕ → Bool → Option State
 add_mount state id dev path handles =
-    if is_new_mount state.mounts id dev path then option_and_then (mount_in state id dev path handles) (place_of state.nodes path) else None
+    if is_new_mount state.mounts id dev path then option_and_then (mount_in state id dev path handles)
+    (place_of state.nodes path) else None
 
 -- with the root alone, no descriptor and no call
 abbrev pub start_with : Node → State

@@ -1,5 +1,6 @@
 -- Believed. The calls one by one: what each is answered and what it leaves.
-use Rattle.std.specs.Prelude.{ℕ, nat_lt, not, ◌&&◌, Bool, List, [], ◌∷◌, length, Option, Some, None, Result, Ok, Err, slice_get, slice_set}
+use Rattle.std.specs.Prelude.{ℕ, nat_lt, not, ◌&&◌, Bool, List, [], ◌∷◌, length, Option, Some, None, Result, Ok, Err}
+use Rattle.std.specs.Prelude.{slice_get, slice_set}
 use Rattle.pt_host.specs.Flags.{includes, o_creat, o_excl}
 use Rattle.pt_host.specs.Errno.{ebadf, eacces, eexist, eio, enotdir, enametoolong}
 use Rattle.pt_host.specs.declared.ids.Errno.{Errno}
@@ -100,7 +101,8 @@ name_refusal seat dir name = first_refusal (name_checks seat dir name)
 
 -- the call on a name in the directory that the descriptor is open on
 abbrev pub on_name : State → HostSeat → Fd → List ℕ → (ℕ → Node → Answered) → Answered
-on_name state seat fd name rest = on_fd state fd (λ file dir. unless state (name_refusal seat dir name) (rest file.object dir))
+on_name state seat fd name rest =
+    on_fd state fd (λ file dir. unless state (name_refusal seat dir name) (rest file.object dir))
 
 -- ---- Reopen, Close, Stat
 
@@ -112,10 +114,12 @@ on_slot state (Some file) rest = rest file
 -- `O_CREAT` with `O_EXCL` asks for a new object
 abbrev pub reopen : State → HostSeat → Fd → OpenFlags → Answered
 reopen state seat fd flags = on_slot state (open_at state.slots fd.0)
-    (λ file. checked state ((includes flags.0 o_creat && includes flags.0 o_excl, eexist) ∷ []) (opening state seat flags file.object))
+    (λ file. checked state ((includes flags.0 o_creat && includes flags.0 o_excl, eexist)
+    ∷ []) (opening state seat flags file.object))
 
 abbrev pub close_file : State → Fd → Answered
-close_file state fd = on_slot state (open_at state.slots fd.0) (λ file. done (record state { slots = closed fd.0 state.slots }))
+close_file state fd =
+    on_slot state (open_at state.slots fd.0) (λ file. done (record state { slots = closed fd.0 state.slots }))
 
 abbrev pub tell_status : State → Fd → Answered
 tell_status state fd = on_fd state fd (λ file node. tells state (value.Stat (status_of node)))

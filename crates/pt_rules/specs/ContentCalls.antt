@@ -1,6 +1,8 @@
--- Believed. The calls on what files hold: pwritev2(2), ftruncate(2), fallocate(2), lseek(2), copy_file_range(2), fsync(2) and syncfs(2), with the set-id
--- bits that they clear and the times that they set, after inode(7).
-use Rattle.std.specs.Prelude.{ℕ, ◌+◌, ◌-◌, ◌^◌, ◌==◌, nat_lt, not, ◌||◌, ◌&&◌, Bool, List, [], ◌∷◌, ◌++◌, length, take, drop, replicate, ℤ, pos, negsuc, ◌+ℤ◌, Option, Some, None, Result, Ok, Err, ok_or, option_map, if◌then◌else◌}
+-- Believed. The calls on what files hold: pwritev2(2), ftruncate(2), fallocate(2), lseek(2), copy_file_range(2),
+-- fsync(2) and syncfs(2), with the set-id bits that they clear and the times that they set, after inode(7).
+use Rattle.std.specs.Prelude.{ℕ, ◌+◌, ◌-◌, ◌^◌, ◌==◌, nat_lt, not, ◌||◌, ◌&&◌, Bool, List, [], ◌∷◌, ◌++◌, length}
+use Rattle.std.specs.Prelude.{take, drop, replicate, ℤ, pos, negsuc, ◌+ℤ◌, Option, Some, None, Result, Ok, Err, ok_or}
+use Rattle.std.specs.Prelude.{option_map, if◌then◌else◌}
 use Rattle.pt_host.specs.Errno.{ebadf, efbig, einval, eisdir, enxio, eopnotsupp, eoverflow}
 use Rattle.pt_host.specs.Flags.{includes, o_path}
 use Rattle.pt_host.specs.declared.ids.Errno.{Errno}
@@ -58,7 +60,8 @@ with_written state seat object start (byte ∷ bytes) =
 
 abbrev pub becomes_written : State → HostSeat → ℕ → List ℕ → Node → Effect
 becomes_written state seat start [] node = Stays
-becomes_written state seat start (byte ∷ bytes) node = Becomes (after_writing seat (time_of state) start (byte ∷ bytes) node)
+becomes_written state seat start (byte ∷ bytes) node =
+    Becomes (after_writing seat (time_of state) start (byte ∷ bytes) node)
 
 abbrev pub write_row : State → HostSeat → ℕ → List ℕ → Bool → OpenFile → Node → Row
 write_row state seat offset bytes append file node =
@@ -81,7 +84,8 @@ resized size bytes = take size (padded size bytes)
 -- the times and the set-id bits change where the size stays too
 abbrev pub truncate_row : State → HostSeat → ℕ → OpenFile → Node → Row
 truncate_row state seat size file node =
-    row (truncate_checks file size) value.Unit (Becomes (refilled seat (time_of state) (resized size (bytes_in node.content)) node))
+    row (truncate_checks file size) value.Unit
+    (Becomes (refilled seat (time_of state) (resized size (bytes_in node.content)) node))
 
 -- ---- Allocate
 
@@ -145,7 +149,8 @@ seek_to state fd (Ok position) = tells (with_position state fd position) (value.
 
 abbrev pub seek : State → Fd → ℤ → ℕ → Answered
 seek state fd offset whence = on_fd state fd
-    (λ file node. checked state (seek_checks file node) (seek_to state fd.0 (sought file.position (size_of node.content) offset whence)))
+    (λ file node. checked state (seek_checks file node)
+    (seek_to state fd.0 (sought file.position (size_of node.content) offset whence)))
 
 -- ---- CopyRange
 
@@ -174,13 +179,15 @@ with_copied state seat object node object2 offset2 bytes =
 abbrev pub copy_range : State → HostSeat → Fd → ℕ → Fd → ℕ → ℕ → ℕ → Answered
 copy_range state seat fd offset fd2 offset2 size flags = on_fd state fd (λ file node. on_fd state fd2
     (λ file2 node2. checked state (copy_checks file node file2 offset offset2 (length (copied offset size node)) flags)
-    (tells (with_copied state seat file.object node file2.object offset2 (copied offset size node)) (value.Count (length (copied offset size node))))))
+    (tells (with_copied state seat file.object node file2.object offset2 (copied offset size node))
+    (value.Count (length (copied offset size node))))))
 
 -- ---- ReadAt, Flush, Sync, SyncFs
 
 abbrev pub read_row : State → ℕ → ℕ → OpenFile → Node → Row
 read_row state offset size file node =
-    row (read_checks node file.flags.0) (value.Bytes (part_of offset size (bytes_in node.content))) (Becomes (after_reading (time_of state) node))
+    row (read_checks node file.flags.0) (value.Bytes (part_of offset size (bytes_in node.content)))
+    (Becomes (after_reading (time_of state) node))
 
 abbrev pub flush_row : OpenFile → Node → Row
 flush_row file node = row [] value.Unit Stays

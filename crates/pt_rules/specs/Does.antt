@@ -48,23 +48,27 @@ without_memory before seat = (reply.NoMemory, before, seat)
 -- by the table, or without memory
 abbrev pub ComesTo : State → HostSeat → Call → Outcome → HostReply → State → HostSeat → Type 0
 ComesTo before seat asked told given after seat_after =
-    ((given, after, seat_after) ≡ told) ⊎ (TakesMemory asked × ((given, after, seat_after) ≡ without_memory before seat))
+    ((given, after, seat_after) ≡ told)
+    ⊎ (TakesMemory asked × ((given, after, seat_after) ≡ without_memory before seat))
 
 -- a failure that is planned for the call comes before all else
 abbrev pub AnswersCall : Option Errno → State → (ℕ → ℕ) → HostSeat → Call → HostReply → State → HostSeat → Type 0
-AnswersCall (Some errno) before numbers seat asked given after seat_after = (given, after, seat_after) ≡ failing_outcome before seat asked errno
+AnswersCall (Some errno) before numbers seat asked given after seat_after =
+    (given, after, seat_after) ≡ failing_outcome before seat asked errno
 AnswersCall None before numbers seat asked given after seat_after =
     ComesTo before seat asked (outcome before numbers seat asked) given after seat_after
 
 -- a call is answered by the table and then counted; want of memory is all that is left open
-pub record Answers (before : State) (seat : HostSeat) (asked : Call) (given : HostReply) (after : State) (seat_after : HostSeat) : Type 0 where
+pub record Answers (before : State) (seat : HostSeat) (asked : Call) (given : HostReply) (after : State)
+    (seat_after : HostSeat) : Type 0 where
   pub numbers : ℕ → ℕ
   pub least : AreLeastFree before numbers
   pub state : State
   pub answered : AnswersCall (failure_of before asked) before numbers seat asked given state seat_after
   pub counts : after ≡ counted (past_plan state)
 
-pub record Does (before : State) (seat : HostSeat) (asked : Call) (given : HostReply) (after : State) (seat_after : HostSeat) : Type 0 where
+pub record Does (before : State) (seat : HostSeat) (asked : Call) (given : HostReply) (after : State)
+    (seat_after : HostSeat) : Type 0 where
   pub sound : IsSound before
   pub answers : Answers before seat asked given after seat_after
   -- what a machine could not number is want of memory

@@ -1,5 +1,6 @@
 -- Believed. Where the path of an edit leads, after `path_resolution(7)`.
-use Rattle.std.specs.Prelude.{ℕ, ◌==◌, nat_lt, not, ◌||◌, Bool, false, List, [], ◌∷◌, length, Option, Some, None, Result, Ok, Err, slice_get, if◌then◌else◌}
+use Rattle.std.specs.Prelude.{ℕ, ◌==◌, nat_lt, not, ◌||◌, Bool, false, List, [], ◌∷◌, length, Option, Some, None}
+use Rattle.std.specs.Prelude.{Result, Ok, Err, slice_get, if◌then◌else◌}
 use Rattle.std.specs.Borrow.{Bor}
 use Rattle.pt_host.specs.Errno.{einval, eio, enametoolong, enoent, enotdir}
 use Rattle.pt_host.specs.declared.ids.Errno.{Errno}
@@ -10,8 +11,8 @@ use Rattle.pt_node.specs.NewPlace.{has_nul, is_dots}
 use Rattle.pt_node.specs.declared.node.Node.{Node}
 use Rattle.pt_node.specs.Limits.{name_max}
 
--- A place is a directory and a name in it; the empty name stands for the directory itself. On from a place by one part of a path: an empty
--- part leads nowhere else, another one is a name in what the place's own name leads to.
+-- A place is a directory and a name in it; the empty name stands for the directory itself. On from a place by one
+-- part of a path: an empty part leads nowhere else, another one is a name in what the place's own name leads to.
 abbrev pub past : List Node → ℕ × List ℕ → List ℕ → Result (ℕ × List ℕ) Errno
 past nodes at [] = Ok at
 past nodes at (first ∷ part) = then_on (step_from at.0 at.1 (slice_get nodes at.0)) (λ dir. Ok (dir, first ∷ part))
@@ -44,7 +45,8 @@ judged_at nodes place = ok_unless (last_refusal (slice_get nodes place.0) place.
 -- the place at the end of the path, which begins at the root with a slash
 abbrev pub judged : List Node → List ℕ → Result (ℕ × List ℕ) Errno
 judged nodes [] = Err enoent
-judged nodes (first ∷ path) = if first == 47 then then_on (place_from nodes at_root (parts path)) (judged_at nodes) else Err enoent
+judged nodes (first ∷ path) =
+    if first == 47 then then_on (place_from nodes at_root (parts path)) (judged_at nodes) else Err enoent
 
 abbrev pub goes_on_through : Result (ℕ × List ℕ) Errno → (ℕ × List ℕ → Bool) → Bool
 goes_on_through (Ok next) rest = rest next
@@ -53,7 +55,8 @@ goes_on_through (Err errno) rest = false
 -- the way to the last name goes through this object, which may be the directory of that name
 abbrev pub goes_through : ℕ → List Node → ℕ × List ℕ → List (List ℕ) → Bool
 goes_through object nodes at [] = at.0 == object
-goes_through object nodes at (part ∷ more) = (at.0 == object) || goes_on_through (past nodes at part) (λ next. goes_through object nodes next more)
+goes_through object nodes at (part ∷ more) =
+    (at.0 == object) || goes_on_through (past nodes at part) (λ next. goes_through object nodes next more)
 
 abbrev pub path_goes_through : ℕ → List Node → List ℕ → Bool
 path_goes_through object nodes [] = false

@@ -1,8 +1,11 @@
--- Believed. The edits: what each is refused for, in what order, and what it changes. An edit is answered as its like call is, without a seat and
--- without permission checks: unlink(2) and rmdir(2), rename(2), open(2) with O_CREAT and O_EXCL, mkdir(2), write(2).
-use Rattle.std.specs.Prelude.{ℕ, ◌+◌, ◌%◌, ◌==◌, nat_lt, not, ◌||◌, ◌&&◌, Bool, false, List, [], ◌∷◌, ◌++◌, length, Option, Some, None, is_some, option_and_then, Result, Ok, Err, slice_get, if◌then◌else◌}
+-- Believed. The edits: what each is refused for, in what order, and what it changes. An edit is answered as its like
+-- call is, without a seat and without permission checks: unlink(2) and rmdir(2), rename(2), open(2) with O_CREAT and
+-- O_EXCL, mkdir(2), write(2).
+use Rattle.std.specs.Prelude.{ℕ, ◌+◌, ◌%◌, ◌==◌, nat_lt, not, ◌||◌, ◌&&◌, Bool, false, List, [], ◌∷◌, ◌++◌, length}
+use Rattle.std.specs.Prelude.{Option, Some, None, is_some, option_and_then, Result, Ok, Err, slice_get, if◌then◌else◌}
 use Rattle.std.specs.Option.{option_map_or}
-use Rattle.pt_host.specs.Errno.{ebusy, eexist, efbig, einval, eio, eisdir, eloop, enoent, enotdir, enotempty, enxio, exdev}
+use Rattle.pt_host.specs.Errno.{ebusy, eexist, efbig, einval, eio, eisdir, eloop, enoent, enotdir, enotempty, enxio}
+use Rattle.pt_host.specs.Errno.{exdev}
 use Rattle.pt_host.specs.declared.edit.Edit.{Edit}
 use Rattle.pt_host.specs.declared.edit.Edit.TheVariants as edit
 use Rattle.pt_host.specs.declared.ids.Errno.{Errno}
@@ -11,7 +14,8 @@ use Rattle.pt_node.specs.Node.{is_directory, is_link, is_special, name_at, names
 use Rattle.pt_rules.specs.State.{State, time_of}
 use Rattle.pt_node.specs.Opening.{first_refusal}
 use Rattle.pt_rules.specs.Calls.{Answered, done, refused, unless}
-use Rattle.pt_node.specs.Entries.{after_losing, changed_at, is_directory_at, new_object, restamped, rewritten, touched, with_entry, without_entry}
+use Rattle.pt_node.specs.Entries.{after_losing, changed_at, is_directory_at, new_object, restamped, rewritten}
+use Rattle.pt_node.specs.Entries.{touched, with_entry, without_entry}
 use Rattle.pt_rules.specs.EditPaths.{judged, path_goes_through}
 use Rattle.pt_node.specs.declared.node.Node.{Node}
 use Rattle.pt_node.specs.declared.node.Content.{Content}
@@ -46,14 +50,16 @@ unlink_refusal _ _ = Some eio
 -- the objects after this one lost this name
 abbrev pub unlinked : Time → ℕ → List ℕ → ℕ → List Node → List Node
 unlinked now dir name object nodes =
-    changed_at object (after_losing now) (changed_at dir (λ at. touched now (without_entry name (is_directory_at nodes object) at)) nodes)
+    changed_at object (after_losing now)
+    (changed_at dir (λ at. touched now (without_entry name (is_directory_at nodes object) at)) nodes)
 
 abbrev pub with_unlinked : State → ℕ → List ℕ → ℕ → State
 with_unlinked state dir name object = record state { nodes = unlinked (time_of state) dir name object state.nodes }
 
 abbrev pub unlink_found : State → ℕ → List ℕ → Option ℕ → Answered
 unlink_found state dir name None = refused state enoent
-unlink_found state dir name (Some object) = unless state (unlink_refusal (slice_get state.nodes dir) (slice_get state.nodes object))
+unlink_found state dir name (Some object) =
+    unless state (unlink_refusal (slice_get state.nodes dir) (slice_get state.nodes object))
     (done (with_unlinked state dir name object))
 
 abbrev pub unlink_at : State → ℕ → List ℕ → Answered
@@ -74,7 +80,8 @@ move_checks into_itself from to node target =
     ∷ []
 
 abbrev pub move_refusal : Bool → Option Node → Option Node → Option Node → Option Node → Option Errno
-move_refusal into_itself (Some from) (Some to) (Some node) target = first_refusal (move_checks into_itself from to node target)
+move_refusal into_itself (Some from) (Some to) (Some node) target =
+    first_refusal (move_checks into_itself from to node target)
 move_refusal into_itself _ _ _ target = Some eio
 
 abbrev pub replace_checks : Node → Node → List (Bool × Errno)
@@ -102,21 +109,26 @@ moved now from to object target nodes =
     changed_at object (restamped now)
     (changed_at from.0 (λ dir. touched now (without_entry from.1 (is_directory_at nodes object) dir))
     (replaced now target
-    (changed_at to.0 (λ dir. touched now (with_entry to.1 object (is_directory_at nodes object) (is_target_directory nodes target) dir)) nodes)))
+    (changed_at to.0 (λ dir.
+    touched now (with_entry to.1 object (is_directory_at nodes object)
+    (is_target_directory nodes target) dir)) nodes)))
 
 abbrev pub with_moved : State → ℕ × List ℕ → ℕ × List ℕ → ℕ → Option ℕ → State
-with_moved state from to object target = record state { nodes = moved (time_of state) from to object target state.nodes }
+with_moved state from to object target =
+    record state { nodes = moved (time_of state) from to object target state.nodes }
 
 -- one object under both names stays as it is
 abbrev pub rename_onto : State → ℕ × List ℕ → ℕ × List ℕ → ℕ → Option ℕ → Answered
 rename_onto state from to object None = done (with_moved state from to object None)
 rename_onto state from to object (Some target) =
     if target == object then done state
-    else unless state (replace_refusal (slice_get state.nodes object) (slice_get state.nodes target)) (done (with_moved state from to object (Some target)))
+    else unless state (replace_refusal (slice_get state.nodes object) (slice_get state.nodes target))
+    (done (with_moved state from to object (Some target)))
 
 abbrev pub rename_object : State → List ℕ → ℕ × List ℕ → ℕ × List ℕ → ℕ → Option ℕ → Answered
 rename_object state new from to object target =
-    unless state (move_refusal (path_goes_through object state.nodes new) (slice_get state.nodes from.0) (slice_get state.nodes to.0)
+    unless state (move_refusal (path_goes_through object state.nodes new) (slice_get state.nodes from.0)
+    (slice_get state.nodes to.0)
     (slice_get state.nodes object) (node_at state.nodes target)) (rename_onto state from to object target)
 
 abbrev pub rename_found : State → List ℕ → ℕ × List ℕ → ℕ × List ℕ → Option ℕ → Answered
@@ -128,7 +140,9 @@ abbrev pub rename_judged : State → List ℕ → Result (ℕ × List ℕ) Errno
 rename_judged state new (Err errno) to = refused state errno
 rename_judged state new (Ok from) (Err errno) = refused state errno
 rename_judged state new (Ok from) (Ok to) =
-    if (length from.1 == 0) || (length to.1 == 0) then refused state ebusy else rename_found state new from to (name_at state.nodes from.0 from.1)
+    if (length from.1 == 0)
+    || (length to.1 == 0) then refused state ebusy else rename_found state new from to
+    (name_at state.nodes from.0 from.1)
 
 -- ---- File and Dir
 
@@ -138,7 +152,8 @@ make_refusal there size = first_refusal ((is_some there, eexist) ∷ (nat_lt fil
 -- the objects with this new one, to which the name in the directory leads
 abbrev pub grown : Time → ℕ → List ℕ → Node → List Node → List Node
 grown now dir name node nodes =
-    changed_at dir (λ parent. touched now (with_entry name (length nodes) (is_directory node) false parent)) nodes ++ node ∷ []
+    changed_at dir (λ parent. touched now (with_entry name (length nodes) (is_directory node) false parent)) nodes
+    ++ node ∷ []
 
 -- an object that is made in this directory: its serial is one more than that of the last one made
 abbrev pub made : State → (ℕ → ℕ) → ℕ → ℕ → ℕ → ℕ → Content → Node → Node
@@ -155,7 +170,8 @@ make_in state numbers dir name permissions uid gid rdev content (Some parent) =
 
 -- the mode is cut to permissions
 abbrev pub make_at : State → (ℕ → ℕ) → ℕ → ℕ → ℕ → Content → ℕ → List ℕ → Answered
-make_at state numbers mode uid gid content dir name = unless state (make_refusal (name_at state.nodes dir name) (size_of content))
+make_at state numbers mode uid gid content dir name =
+    unless state (make_refusal (name_at state.nodes dir name) (size_of content))
     (make_in state numbers dir name (mode % 4096) uid gid 0 content (slice_get state.nodes dir))
 
 -- ---- Write
@@ -174,7 +190,8 @@ write_refusal (Some node) size = first_refusal (write_checks node size)
 
 -- the permissions of the file stay
 abbrev pub with_rewritten : State → ℕ → List ℕ → State
-with_rewritten state object bytes = record state { nodes = changed_at object (rewritten (time_of state) bytes) state.nodes }
+with_rewritten state object bytes =
+    record state { nodes = changed_at object (rewritten (time_of state) bytes) state.nodes }
 
 abbrev pub write_found : State → List ℕ → Option ℕ → Answered
 write_found state bytes None = refused state enoent
@@ -188,6 +205,7 @@ edited state numbers (edit.Unlink path) = at_place state ebusy (judged state.nod
 edited state numbers (edit.Rename old new) = rename_judged state new (judged state.nodes old) (judged state.nodes new)
 edited state numbers (edit.File path mode uid gid bytes) =
     at_place state eexist (judged state.nodes path) (make_at state numbers mode uid gid (Regular bytes))
-edited state numbers (edit.Dir path mode uid gid) = at_place state eexist (judged state.nodes path) (make_at state numbers mode uid gid (Directory []))
+edited state numbers (edit.Dir path mode uid gid) =
+    at_place state eexist (judged state.nodes path) (make_at state numbers mode uid gid (Directory []))
 edited state numbers (edit.Write path bytes) =
     at_place state eisdir (judged state.nodes path) (λ dir name. write_found state bytes (name_at state.nodes dir name))

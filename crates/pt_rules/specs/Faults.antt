@@ -1,5 +1,6 @@
 -- Believed. Planned failures: the calls that are to fail, by their numbers, counted from 1 since the host was made.
-use Rattle.std.specs.Prelude.{ℕ, ◌+◌, ◌-◌, ◌^◌, ◌==◌, nat_lt, ◌||◌, Bool, List, Option, Some, None, option_and_then, if◌then◌else◌}
+use Rattle.std.specs.Prelude.{ℕ, ◌+◌, ◌-◌, ◌^◌, ◌==◌, nat_lt, ◌||◌, Bool, List, Option, Some, None, option_and_then}
+use Rattle.std.specs.Prelude.{if◌then◌else◌}
 use Rattle.std.specs.Map.{lookup, remove_entry}
 use Rattle.std.specs.Ordering.{int_eq, nat_cmp}
 use Rattle.std.specs.BTreeMap.{insert_entry}
@@ -27,7 +28,8 @@ without_plan number plans = remove_entry (λ other. number == other) plans
 
 -- A plan for call 0 or for one that was answered is dropped; a second plan for one call replaces the first.
 abbrev pub planned : State → ℕ → Errno → State
-planned state number errno = if nat_lt state.calls number then record state { plans = with_plan number errno state.plans } else state
+planned state number errno =
+    if nat_lt state.calls number then record state { plans = with_plan number errno state.plans } else state
 
 abbrev pub is_errno : Errno → Errno → Bool
 is_errno one other = int_eq one.0 other.0
@@ -35,11 +37,13 @@ is_errno one other = int_eq one.0 other.0
 abbrev pub eio_where : Bool → Errno → Errno
 eio_where told errno = if told then eio else errno
 
--- With what the call fails. `SetUmask` never fails; an error by which a call tells that something is not there becomes EIO.
+-- With what the call fails. `SetUmask` never fails; an error by which a call tells that something is not there
+-- becomes EIO.
 abbrev pub failure : Call → Errno → Option Errno
 failure (call.SetUmask mask) errno = None
 failure (call.HandleOf fd) errno = Some (eio_where (is_errno errno eopnotsupp || is_errno errno eoverflow) errno)
-failure (call.RemoveXattr fd through name) errno = Some (eio_where (is_errno errno enodata || is_errno errno eopnotsupp) errno)
+failure (call.RemoveXattr fd through name) errno =
+    Some (eio_where (is_errno errno enodata || is_errno errno eopnotsupp) errno)
 failure asked errno = Some errno
 
 -- the failure that is planned for the next call

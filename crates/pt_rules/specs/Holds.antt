@@ -1,4 +1,5 @@
--- Inner. What holds an object, one thing at a time, as code finds it: where there is one the object lives, and where it lives there is one.
+-- Inner. What holds an object, one thing at a time, as code finds it: where there is one the object lives, and where
+-- it lives there is one.
 use Rattle.std.specs.Prelude.{◌≡◌, ◌⊎◌, ℕ, List, Some}
 use Rattle.pt_node.specs.Node.{name_at}
 use Rattle.pt_node.specs.Slots.{open_at}

@@ -1,3 +1,4 @@
+-- Inner. The files of definitions, lowest first.
 pub mod AttributeCalls
 pub mod Calls
 pub mod Rows

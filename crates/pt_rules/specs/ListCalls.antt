@@ -1,5 +1,6 @@
 -- Believed. The listing of a directory by records, after getdents64(2).
-use Rattle.std.specs.Prelude.{ℕ, ◌+◌, ◌-◌, nat_lt, nat_le, not, Bool, false, List, [], ◌∷◌, ◌++◌, length, drop, replicate, Option, Some, None, unwrap_or, slice_get, if◌then◌else◌}
+use Rattle.std.specs.Prelude.{ℕ, ◌+◌, ◌-◌, nat_lt, nat_le, not, Bool, false, List, [], ◌∷◌, ◌++◌, length, drop}
+use Rattle.std.specs.Prelude.{replicate, Option, Some, None, unwrap_or, slice_get, if◌then◌else◌}
 use Rattle.std.specs.Int.{next_multiple_of, to_le_bytes, w16, w64}
 use Rattle.pt_host.specs.Errno.{ebadf, einval, enotdir}
 use Rattle.pt_host.specs.declared.ids.Errno.{Errno}
@@ -19,11 +20,13 @@ record_size name = next_multiple_of (length name + 20) 8
 
 -- inode number, the offset of the next record, length, kind
 abbrev pub record_head : ℕ → ℕ → Node → List ℕ
-record_head next size node = to_le_bytes w64 node.ids.ino ++ (to_le_bytes w64 next ++ (to_le_bytes w16 size ++ kind_number node.content ∷ []))
+record_head next size node =
+    to_le_bytes w64 node.ids.ino ++ (to_le_bytes w64 next ++ (to_le_bytes w16 size ++ kind_number node.content ∷ []))
 
 -- and then the name, a NUL and zeros
 abbrev pub record_of : ℕ → List ℕ → Node → List ℕ
-record_of next name node = record_head next (record_size name) node ++ (name ++ replicate (record_size name - length name - 19) 0)
+record_of next name node =
+    record_head next (record_size name) node ++ (name ++ replicate (record_size name - length name - 19) 0)
 
 abbrev pub record_at : ℕ → List ℕ → Option Node → List ℕ
 record_at next name None = []
@@ -37,7 +40,8 @@ abbrev pub records : ℕ → ℕ → List Node → List (List ℕ × ℕ) → Li
 records size place nodes [] = ([], place)
 records size place nodes (entry ∷ more) =
     if nat_le (record_size entry.0) size
-    then before_others (record_at (place + 1) entry.0 (slice_get nodes entry.1)) (records (size - record_size entry.0) (place + 1) nodes more)
+    then before_others (record_at (place + 1) entry.0 (slice_get nodes entry.1))
+    (records (size - record_size entry.0) (place + 1) nodes more)
     else ([], place)
 
 -- the names of a directory from a place on
@@ -70,4 +74,5 @@ list_from state fd file node place size = checked state (list_checks file node p
     (tell_records state fd file node (records size place state.nodes (names_from place node)))
 
 abbrev pub list_at : State → Fd → Option ℕ → ℕ → Answered
-list_at state fd offset size = on_fd state fd (λ file node. list_from state fd.0 file node (unwrap_or offset file.position) size)
+list_at state fd offset size =
+    on_fd state fd (λ file node. list_from state fd.0 file node (unwrap_or offset file.position) size)

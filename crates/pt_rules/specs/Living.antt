@@ -1,5 +1,6 @@
 -- Believed. Which objects live, and the inode numbers that new ones get, after `unlink(2)`, `close(2)` and `inode(7)`.
-use Rattle.std.specs.Prelude.{◌≡◌, ◌<◌, ◌+◌, ◌==◌, ◌&&◌, nat_lt, ℕ, Bool, false, List, Option, Some, None, slice_get, sum_by, count_by}
+use Rattle.std.specs.Prelude.{◌≡◌, ◌<◌, ◌+◌, ◌==◌, ◌&&◌, nat_lt, ℕ, Bool, false, List, Option, Some, None, slice_get}
+use Rattle.std.specs.Prelude.{sum_by, count_by}
 use Rattle.std.specs.List.{enumerate_from}
 use Rattle.std.specs.Map.{values_of}
 use Rattle.pt_host.specs.Words.{is}
@@ -42,7 +43,8 @@ is_alive state object = nat_lt 0 (held_by state object)
 -- a living object of the device has the inode number
 abbrev pub IsTaken : State → ℕ → ℕ → Type 0
 IsTaken state dev number =
-    (object : ℕ) × (node : Node) × (slice_get state.nodes object ≡ Some node) × Lives state object × (node.ids.dev ≡ dev) × (node.ids.ino ≡ number)
+    (object : ℕ) × (node : Node) × (slice_get state.nodes object ≡ Some node) × Lives state object
+    × (node.ids.dev ≡ dev) × (node.ids.ino ≡ number)
 
 -- the least number of the device, from 1, that no living object has
 pub record IsLeastFree (state : State) (dev number : ℕ) : Type 0 where

@@ -1,9 +1,13 @@
--- Believed. The calls that make, take and move names: what each is refused for, in what order, and what it changes. After mkdir(2), mknod(2), link(2),
--- symlink(2), unlink(2), rmdir(2), rename(2), stat(2) and inode(7). What every call on a name is refused for comes first.
-use Rattle.std.specs.Prelude.{ℕ, zero, suc, ◌-◌, ◌/◌, ◌%◌, ◌^◌, ◌==◌, bit_and, nat_lt, not, ◌||◌, ◌&&◌, Bool, false, List, [], ◌∷◌, length, Option, Some, None, is_none, is_some, option_map, slice_get, if◌then◌else◌}
+-- Believed. The calls that make, take and move names: what each is refused for, in what order, and what it changes.
+-- After mkdir(2), mknod(2), link(2), symlink(2), unlink(2), rmdir(2), rename(2), stat(2) and inode(7). What every
+-- call on a name is refused for comes first.
+use Rattle.std.specs.Prelude.{ℕ, zero, suc, ◌-◌, ◌/◌, ◌%◌, ◌^◌, ◌==◌, bit_and, nat_lt, not, ◌||◌, ◌&&◌, Bool, false}
+use Rattle.std.specs.Prelude.{List, [], ◌∷◌, length, Option, Some, None, is_none, is_some, option_map, slice_get}
+use Rattle.std.specs.Prelude.{if◌then◌else◌}
 use Rattle.std.specs.List.{list_any}
 use Rattle.std.specs.Option.{option_map_or}
-use Rattle.pt_host.specs.Errno.{eacces, ebusy, eexist, einval, eio, eisdir, enametoolong, enoent, enotdir, enotempty, eperm, exdev}
+use Rattle.pt_host.specs.Errno.{eacces, ebusy, eexist, einval, eio, eisdir, enametoolong, enoent, enotdir, enotempty}
+use Rattle.pt_host.specs.Errno.{eperm, exdev}
 use Rattle.pt_host.specs.Flags.{includes}
 use Rattle.pt_host.specs.declared.ids.Errno.{Errno}
 use Rattle.pt_host.specs.declared.ids.Fd.{Fd}
@@ -49,7 +53,8 @@ make_in_dir state numbers seat dir name permissions rdev content parent =
 
 abbrev pub make_dir : State → (ℕ → ℕ) → HostSeat → Fd → List ℕ → ℕ → Answered
 make_dir state numbers seat fd name mode = on_name state seat fd name
-    (λ dir parent. checked state (make_checks seat parent name) (make_in_dir state numbers seat dir name (masked seat mode) 0 (Directory []) parent))
+    (λ dir parent. checked state (make_checks seat parent name)
+    (make_in_dir state numbers seat dir name (masked seat mode) 0 (Directory []) parent))
 
 -- the kind bits of a mode
 abbrev pub kind_bits : ℕ → ℕ
@@ -69,7 +74,9 @@ special_kind kind =
 
 -- what a node of these kind bits holds, 0 meaning a regular file; nothing where there is no such node
 abbrev pub content_of_kind : ℕ → Option Content
-content_of_kind kind = if (kind == 0) || (kind == 8) then Some (Regular []) else option_map (λ special. Special special) (special_kind kind)
+content_of_kind kind =
+    if (kind == 0) || (kind == 8) then Some (Regular []) else option_map (λ special.
+    Special special) (special_kind kind)
 
 -- as of a directory; a device without `MKNOD`
 abbrev pub node_checks : HostSeat → Node → List ℕ → ℕ → List (Bool × Errno)
@@ -81,7 +88,8 @@ node_checks seat dir name kind =
 
 abbrev pub make_of_kind : State → (ℕ → ℕ) → HostSeat → ℕ → List ℕ → ℕ → ℕ → Option Content → Node → Answered
 make_of_kind state numbers seat dir name permissions rdev None parent = refused state einval
-make_of_kind state numbers seat dir name permissions rdev (Some content) parent = make_in_dir state numbers seat dir name permissions rdev content parent
+make_of_kind state numbers seat dir name permissions rdev (Some content) parent =
+    make_in_dir state numbers seat dir name permissions rdev content parent
 
 abbrev pub make_node : State → (ℕ → ℕ) → HostSeat → Fd → List ℕ → ℕ → ℕ → Answered
 make_node state numbers seat fd name mode rdev = on_name state seat fd name
@@ -100,7 +108,8 @@ symlink_checks seat dir name target =
 -- a link has the permissions 0o777
 abbrev pub make_symlink : State → (ℕ → ℕ) → HostSeat → Fd → List ℕ → List ℕ → Answered
 make_symlink state numbers seat fd name target = on_name state seat fd name
-    (λ dir parent. checked state (symlink_checks seat parent name target) (make_in_dir state numbers seat dir name 511 0 (Link target) parent))
+    (λ dir parent. checked state (symlink_checks seat parent name target)
+    (make_in_dir state numbers seat dir name 511 0 (Link target) parent))
 
 -- ---- MakeLink
 
@@ -116,7 +125,9 @@ link_checks seat node dir name =
 
 -- the objects after this one got this name
 abbrev pub linked : Time → ℕ → List ℕ → ℕ → List Node → List Node
-linked now dir name object nodes = changed_at object (after_gaining now) (changed_at dir (λ at. touched now (with_entry name object false false at)) nodes)
+linked now dir name object nodes =
+    changed_at object (after_gaining now)
+    (changed_at dir (λ at. touched now (with_entry name object false false at)) nodes)
 
 abbrev pub with_linked : State → ℕ → List ℕ → ℕ → State
 with_linked state dir name object = record state { nodes = linked (time_of state) dir name object state.nodes }
@@ -162,7 +173,8 @@ names_where (Some node) = names_in node.content
 abbrev pub lies_below : ℕ → List Node → ℕ → ℕ → Bool
 lies_below zero nodes object dir = object == dir
 lies_below (suc depth) nodes object dir =
-    (object == dir) || list_any (λ (entry : List ℕ × ℕ). lies_below depth nodes entry.1 dir) (names_where (slice_get nodes object))
+    (object == dir) || list_any (λ (entry : List ℕ × ℕ).
+    lies_below depth nodes entry.1 dir) (names_where (slice_get nodes object))
 
 abbrev pub lies_in : List Node → ℕ → ℕ → Bool
 lies_in nodes object dir = lies_below (length nodes) nodes object dir
@@ -200,39 +212,48 @@ is_mount_moved from to node that = is_mounted from node || option_map_or (is_mou
 
 abbrev pub rename_checks : Bool → HostSeat → Node → Node → Node → Option ℕ → Option Node → ℕ → List (Bool × Errno)
 rename_checks into_itself seat from to node target that flags =
-    rename_tests (is_unwritable seat from to) (not (from.ids.mnt_id == to.ids.mnt_id)) (is_mount_moved from to node that) into_itself target flags
+    rename_tests (is_unwritable seat from to) (not (from.ids.mnt_id == to.ids.mnt_id))
+    (is_mount_moved from to node that) into_itself target flags
 
-abbrev pub rename_refusal_of : Bool → HostSeat → Option Node → Option Node → Option Node → Option ℕ → Option Node → ℕ → Option Errno
+abbrev pub rename_refusal_of : Bool → HostSeat → Option Node → Option Node → Option Node → Option ℕ → Option Node →
+    ℕ → Option Errno
 rename_refusal_of into_itself seat (Some from) (Some to) (Some node) target that flags =
     first_refusal (rename_checks into_itself seat from to node target that flags)
 rename_refusal_of into_itself seat _ _ _ target that flags = Some eio
 
 abbrev pub rename_refusal : State → HostSeat → ℕ → ℕ → ℕ → Option ℕ → ℕ → Option Errno
 rename_refusal state seat from to object target flags =
-    rename_refusal_of (moves_into_itself state.nodes from to object target flags) seat (slice_get state.nodes from) (slice_get state.nodes to)
+    rename_refusal_of (moves_into_itself state.nodes from to object target flags) seat (slice_get state.nodes from)
+    (slice_get state.nodes to)
     (slice_get state.nodes object) target (node_at state.nodes target) flags
 
 -- the objects after each of the two got the other's name
 abbrev pub exchanged : Time → ℕ × List ℕ → ℕ × List ℕ → ℕ → ℕ → List Node → List Node
 exchanged now from to object other nodes =
     changed_at other (restamped now) (changed_at object (restamped now)
-    (changed_at from.0 (λ dir. touched now (with_entry from.1 other (is_directory_at nodes other) (is_directory_at nodes object) dir))
-    (changed_at to.0 (λ dir. touched now (with_entry to.1 object (is_directory_at nodes object) (is_directory_at nodes other) dir)) nodes)))
+    (changed_at from.0 (λ dir.
+    touched now (with_entry from.1 other (is_directory_at nodes other) (is_directory_at nodes object) dir))
+    (changed_at to.0 (λ dir.
+    touched now (with_entry to.1 object (is_directory_at nodes object) (is_directory_at nodes other) dir)) nodes)))
 
 abbrev pub with_exchanged : State → ℕ × List ℕ → ℕ × List ℕ → ℕ → ℕ → State
-with_exchanged state from to object other = record state { nodes = exchanged (time_of state) from to object other state.nodes }
+with_exchanged state from to object other =
+    record state { nodes = exchanged (time_of state) from to object other state.nodes }
 
--- Two objects change places by an exchange. All else is as of an edit: one object under both names stays as it is, and another one that had the
--- new name may have to make way.
+-- Two objects change places by an exchange. All else is as of an edit: one object under both names stays as it is,
+-- and another one that had the new name may have to make way.
 abbrev pub rename_to : State → ℕ × List ℕ → ℕ × List ℕ → ℕ → Option ℕ → ℕ → Answered
 rename_to state from to object None flags = rename_onto state from to object None
 rename_to state from to object (Some other) flags =
-    if not (other == object) && (flags == exchange) then done (with_exchanged state from to object other) else rename_onto state from to object (Some other)
+    if not (other == object)
+    && (flags == exchange) then done (with_exchanged state from to object other) else rename_onto state from to object
+    (Some other)
 
 abbrev pub rename_found : State → HostSeat → ℕ × List ℕ → ℕ × List ℕ → ℕ → Option ℕ → Option ℕ → Answered
 rename_found state seat from to flags None target = refused state enoent
 rename_found state seat from to flags (Some object) target =
-    unless state (rename_refusal state seat from.0 to.0 object target flags) (rename_to state from to object target flags)
+    unless state (rename_refusal state seat from.0 to.0 object target flags)
+    (rename_to state from to object target flags)
 
 abbrev pub rename_between : State → HostSeat → ℕ × List ℕ → ℕ × List ℕ → ℕ → Answered
 rename_between state seat from to flags =
@@ -242,4 +263,5 @@ rename_between state seat from to flags =
 -- both descriptors have to be open first; then the first name is judged, then the second
 abbrev pub rename : State → HostSeat → Fd → List ℕ → Fd → List ℕ → ℕ → Answered
 rename state seat fd name fd2 name2 flags = on_fd state fd2 (λ other another. on_name state seat fd name
-    (λ dir parent. on_name state seat fd2 name2 (λ dir2 parent2. rename_between state seat (dir, name) (dir2, name2) flags)))
+    (λ dir parent. on_name state seat fd2 name2 (λ dir2 parent2.
+    rename_between state seat (dir, name) (dir2, name2) flags)))

@@ -1,6 +1,8 @@
--- Believed. The calls that open objects and tell what they are: openat(2), open_by_handle_at(2), name_to_handle_at(2), fstatvfs(3), readlinkat(2), and
--- the links and the mountinfo of `/proc`, after proc(5).
-use Rattle.std.specs.Prelude.{ℕ, zero, suc, ◌%◌, ◌==◌, not, ◌||◌, ◌&&◌, Bool, false, List, [], ◌∷◌, ◌++◌, length, codes, decimal, fold, Option, Some, None, is_some, option_map, ok_or, unwrap_or, slice_get, Vec, if◌then◌else◌}
+-- Believed. The calls that open objects and tell what they are: openat(2), open_by_handle_at(2),
+-- name_to_handle_at(2), fstatvfs(3), readlinkat(2), and the links and the mountinfo of `/proc`, after proc(5).
+use Rattle.std.specs.Prelude.{ℕ, zero, suc, ◌%◌, ◌==◌, not, ◌||◌, ◌&&◌, Bool, false, List, [], ◌∷◌, ◌++◌, length}
+use Rattle.std.specs.Prelude.{codes, decimal, fold, Option, Some, None, is_some, option_map, ok_or, unwrap_or}
+use Rattle.std.specs.Prelude.{slice_get, Vec, if◌then◌else◌}
 use Rattle.std.specs.List.{enumerate_from, find, flat_map}
 use Rattle.std.specs.Ordering.{int_eq, is_lt, nat_cmp}
 use Rattle.std.specs.declared.alloc.Global.{Global}
@@ -23,7 +25,8 @@ use Rattle.pt_node.specs.Permission.{dac_read_search}
 use Rattle.pt_node.specs.Slots.{least_free}
 use Rattle.pt_rules.specs.State.{State, time_of}
 use Rattle.pt_node.specs.Reading.{after_reading}
-use Rattle.pt_rules.specs.Calls.{Answered, checked, on_fd, on_name, opening, open_walked, refused, tells, with_descriptor}
+use Rattle.pt_rules.specs.Calls.{Answered, checked, on_fd, on_name, opening, open_walked, refused, tells}
+use Rattle.pt_rules.specs.Calls.{with_descriptor}
 use Rattle.pt_rules.specs.Edits.{made, with_made}
 use Rattle.pt_rules.specs.NameCalls.{cannot_write, masked, names_where, there_in}
 use Rattle.pt_node.specs.declared.node.Node.{Node}
@@ -36,7 +39,8 @@ use Rattle.pt_rules.specs.Rows.{Row, row, Becomes, Stays}
 -- ---- OpenPath
 
 abbrev pub open_path : State → HostSeat → Fd → List ℕ → OpenFlags → Answered
-open_path state seat fd path flags = on_fd state fd (λ file node. open_walked state seat flags (walk_from state.nodes file.object path))
+open_path state seat fd path flags =
+    on_fd state fd (λ file node. open_walked state seat flags (walk_from state.nodes file.object path))
 
 -- ---- OpenAt with O_CREAT
 
@@ -53,7 +57,8 @@ created_checks seat dir flags = (cannot_write seat dir, eacces) ∷ (flags % 4 =
 -- The state with the new file, opened. `O_TRUNC` is of a file that was there: a new one keeps its permissions.
 abbrev pub open_made : State → OpenFlags → ℕ → List ℕ → Node → Answered
 open_made state flags dir name node =
-    tells (with_descriptor (with_made state dir name node) flags (length state.nodes)) (value.Fd (record { 0 = least_free state.slots }))
+    tells (with_descriptor (with_made state dir name node) flags (length state.nodes))
+    (value.Fd (record { 0 = least_free state.slots }))
 
 abbrev pub open_new : State → (ℕ → ℕ) → HostSeat → OpenFlags → ℕ → ℕ → List ℕ → Option Node → Answered
 open_new state numbers seat flags permissions dir name None = refused state eio
@@ -64,7 +69,8 @@ open_new state numbers seat flags permissions dir name (Some parent) =
 abbrev pub create_or_open : State → (ℕ → ℕ) → HostSeat → OpenFlags → ℕ → ℕ → Node → List ℕ → Option ℕ → Answered
 create_or_open state numbers seat flags mode dir parent name (Some object) = opening state seat flags object
 create_or_open state numbers seat flags mode dir parent name None =
-    checked state (created_checks seat parent flags.0) (open_new state numbers seat flags (masked seat mode) dir name (Some parent))
+    checked state (created_checks seat parent flags.0)
+    (open_new state numbers seat flags (masked seat mode) dir name (Some parent))
 
 abbrev pub open_creating : State → (ℕ → ℕ) → HostSeat → Fd → List ℕ → OpenFlags → ℕ → Answered
 open_creating state numbers seat fd name flags mode = on_name state seat fd name
@@ -73,7 +79,8 @@ open_creating state numbers seat fd name flags mode = on_name state seat fd name
 
 -- what the name leads to is opened
 abbrev pub open_named : State → HostSeat → Fd → List ℕ → OpenFlags → Answered
-open_named state seat fd name flags = on_name state seat fd name (λ dir parent. open_walked state seat flags (ok_or (there_in parent name) enoent))
+open_named state seat fd name flags =
+    on_name state seat fd name (λ dir parent. open_walked state seat flags (ok_or (there_in parent name) enoent))
 
 abbrev pub open_at_name : State → (ℕ → ℕ) → HostSeat → Fd → List ℕ → OpenFlags → ℕ → Answered
 open_at_name state numbers seat fd name flags mode =
@@ -88,10 +95,12 @@ same_handle one other = int_eq one.handle_type other.handle_type && bytes_eq one
 -- the object at this place lives, is on the mount and has the handle
 abbrev pub is_handled : State → ℕ → CFileHandle → ℕ × Node → Bool
 is_handled state mount handle entry =
-    (entry.1.ids.mnt_id == mount) && entry.1.has_handle && same_handle (handle_of entry.1) handle && is_alive state entry.0
+    (entry.1.ids.mnt_id == mount) && entry.1.has_handle && same_handle (handle_of entry.1) handle
+    && is_alive state entry.0
 
 abbrev pub handled : State → ℕ → CFileHandle → Option ℕ
-handled state mount handle = option_map (λ (entry : ℕ × Node). entry.0) (find (is_handled state mount handle) (enumerate_from 0 state.nodes))
+handled state mount handle =
+    option_map (λ (entry : ℕ × Node). entry.0) (find (is_handled state mount handle) (enumerate_from 0 state.nodes))
 
 -- the same of what stands at a place, if anything
 abbrev pub handled_where : State → ℕ → CFileHandle → ℕ → Option Node → Bool
@@ -99,18 +108,21 @@ handled_where state mount handle place None = false
 handled_where state mount handle place (Some node) = is_handled state mount handle (place, node)
 
 abbrev pub handle_checks : HostSeat → OpenFile → List (Bool × Errno)
-handle_checks seat file = (includes file.flags.0 o_path, ebadf) ∷ (not (includes seat.eff_caps.0 dac_read_search), eperm) ∷ []
+handle_checks seat file =
+    (includes file.flags.0 o_path, ebadf) ∷ (not (includes seat.eff_caps.0 dac_read_search), eperm) ∷ []
 
 abbrev pub open_by_handle : State → HostSeat → Fd → CFileHandle → OpenFlags → Answered
 open_by_handle state seat fd handle flags = on_fd state fd
-    (λ file node. checked state (handle_checks seat file) (open_walked state seat flags (ok_or (handled state node.ids.mnt_id handle) estale)))
+    (λ file node. checked state (handle_checks seat file)
+    (open_walked state seat flags (ok_or (handled state node.ids.mnt_id handle) estale)))
 
 abbrev pub told_handle : Node → FileHandle
 told_handle node = record { mnt_id = node.ids.mnt_id; handle = handle_of node }
 
 abbrev pub tell_handle : State → Fd → Answered
 tell_handle state fd = on_fd state fd
-    (λ file node. checked state ((not node.has_handle, eopnotsupp) ∷ []) (tells state (value.Handle (told_handle node))))
+    (λ file node. checked state ((not node.has_handle, eopnotsupp)
+    ∷ []) (tells state (value.Handle (told_handle node))))
 
 -- ---- StatFs
 
@@ -133,7 +145,8 @@ stat_fs_row state file node = row [] (value.FsStat (fs_status state node.ids.dev
 
 abbrev pub read_link_row : State → OpenFile → Node → Row
 read_link_row state file node =
-    row ((not (is_link node), einval) ∷ []) (value.Bytes (bytes_in node.content)) (Becomes (after_reading (time_of state) node))
+    row ((not (is_link node), einval)
+    ∷ []) (value.Bytes (bytes_in node.content)) (Becomes (after_reading (time_of state) node))
 
 -- ---- FdPath
 

@@ -1,5 +1,5 @@
--- Believed. A call on what a descriptor is open on, as a row: what it is refused for, in this order, what it tells, and what becomes of
--- the object.
+-- Believed. A call on what a descriptor is open on, as a row: what it is refused for, in this order, what it tells,
+-- and what becomes of the object.
 use Rattle.std.specs.Prelude.{ℕ, Bool, List}
 use Rattle.pt_host.specs.declared.ids.Errno.{Errno}
 use Rattle.pt_host.specs.declared.ids.Fd.{Fd}

@@ -23,14 +23,17 @@ pub record IsMade (place : ℕ) (node : Node) : Type 0 where
 
 -- living objects of one device with one inode number are one
 abbrev pub AreApart : State → Type 0
-AreApart state = (object another : ℕ) (node that : Node) → slice_get state.nodes object ≡ Some node → slice_get state.nodes another ≡ Some that →
-    Lives state object → Lives state another → node.ids.dev ≡ that.ids.dev → node.ids.ino ≡ that.ids.ino → object ≡ another
+AreApart state = (object another : ℕ) (node that : Node) → slice_get state.nodes object ≡ Some node →
+    slice_get state.nodes another ≡ Some that →
+    Lives state object → Lives state another → node.ids.dev ≡ that.ids.dev → node.ids.ino ≡ that.ids.ino →
+    object ≡ another
 
 pub record IsSound (state : State) : Type 0 where
   pub timely : state.calls < 2 ^ 63
   pub few : length state.nodes < 2 ^ 63
   pub made : (place : ℕ) (node : Node) → slice_get state.nodes place ≡ Some node → IsMade place node
-  pub named : (dir : ℕ) (name : List ℕ) (object : ℕ) → name_at state.nodes dir name ≡ Some object → object < length state.nodes
+  pub named : (dir : ℕ) (name : List ℕ) (object : ℕ) → name_at state.nodes dir name ≡ Some object →
+      object < length state.nodes
   pub opened : (fd : ℕ) (file : OpenFile) → open_at state.slots fd ≡ Some file → file.object < length state.nodes
   pub apart : AreApart state
 

@@ -4,7 +4,8 @@ use Rattle.std.specs.Str.{bytes_eq}
 use Rattle.std.proofs.lemmas.Slice.Eq.{bytes_eq-Decides}
 
 -- a list of one word is compared by that word
-pub one_word : {S : Type 0} (f : S → List ℕ) (words : List S) (word : S) (target : List ℕ) (r : Bool) → 1 ≤ length words → length words < 2 → word ≡ get_or words 0 word →
+pub one_word : {S : Type 0} (f : S → List ℕ) (words : List S) (word : S) (target : List ℕ) (r : Bool) →
+    1 ≤ length words → length words < 2 → word ≡ get_or words 0 word →
     r ≡ bytes_eq (f word) target → (IsTrue r → map f words ≡ target ∷ []) × (map f words ≡ target ∷ [] → IsTrue r)
 one_word f [] word target r low high is eq = absurd (omega arith)
 one_word f (w ∷ []) word target r low high is eq =

@@ -41,7 +41,8 @@ use Rattle.pt_script.specs.declared.settings.Settings.{Settings}
 abbrev IsOne : (Option ℕ → Option (ℕ × ℕ) → Type 0) → Type 0
 IsOne Next = (above : Option ℕ) (one other : Option (ℕ × ℕ)) → Next above one → Next above other → one ≡ other
 
-all_one : (Next : Option ℕ → Option (ℕ × ℕ) → Type 0) → IsOne Next → (above : Option ℕ) (xs ys : List (ℕ × ℕ)) → AllAbove Next above xs → AllAbove Next above ys → xs ≡ ys
+all_one : (Next : Option ℕ → Option (ℕ × ℕ) → Type 0) → IsOne Next → (above : Option ℕ) (xs ys : List (ℕ × ℕ)) →
+    AllAbove Next above xs → AllAbove Next above ys → xs ≡ ys
 all_one Next one above [] [] h k = refl
 all_one Next one above [] (y ∷ ys) h k = let e = one above None (Some y) h k.0 in absurd (cc)
 all_one Next one above (x ∷ xs) [] h k = let e = one above (Some x) None h.0 k in absurd (cc)
@@ -58,12 +59,18 @@ lives_one tables agree above None None h k = refl
 lives_one tables agree above None (Some found) h k = absurd (none_taken (IsLiveAbove above) h k.0.1.1 k.0.2)
 lives_one tables agree above (Some found) None h k = absurd (none_taken (IsLiveAbove above) k h.0.1.1 h.0.2)
 lives_one tables agree above (Some one) (Some other) h k =
-    let a : one.0 ≤ k.0.0.number = each_taken (λ (row : Row). IsLiveAbove above row → one.0 ≤ row.number) k.0.1.1 h.1 k.0.2 in
-    let b : other.0 ≤ h.0.0.number = each_taken (λ (row : Row). IsLiveAbove above row → other.0 ≤ row.number) h.0.1.1 k.1 h.0.2 in
+    let a : one.0 ≤ k.0.0.number =
+    each_taken (λ (row : Row). IsLiveAbove above row → one.0 ≤ row.number) k.0.1.1 h.1 k.0.2 in
+    let b : other.0 ≤ h.0.0.number =
+    each_taken (λ (row : Row). IsLiveAbove above row → other.0 ≤ row.number) h.0.1.1 k.1 h.0.2 in
     let c = h.0.3 in
     let d = k.0.3 in
     let e : k.0.0.number ≡ h.0.0.number = omega (arith, a, b, c, d) in
-    let same : h.0.0 ≡ k.0.0 = (takes_one AreApart (HasNumber h.0.0.number) (number_one h.0.0.number) agree.apart h.0.1.1 k.0.1.1 (h.0.2.0, refl) (k.0.2.0, e)).0 in
+    let same : h.0.0 ≡ k.0.0 =
+    (takes_one AreApart (HasNumber h.0.0.number) (number_one h.0.0.number) agree.apart h.0.1.1 k.0.1.1 (
+      h.0.2.0,
+      refl,
+    ) (k.0.2.0, e)).0 in
     pair_same one other (sym c ∙ sym e ∙ d) (sym h.0.4 ∙ ap (λ (row : Row). row.count) same ∙ k.0.4)
 
 handles_one : (tables : Tables) → Agree tables → IsOne (IsHandleAfter tables.handles)
@@ -71,17 +78,23 @@ handles_one tables agree above None None h k = refl
 handles_one tables agree above None (Some found) h k = absurd (none_taken (IsHandleAbove above) h k.0.1.1 k.0.2)
 handles_one tables agree above (Some found) None h k = absurd (none_taken (IsHandleAbove above) k h.0.1.1 h.0.2)
 handles_one tables agree above (Some one) (Some other) h k =
-    let a : one.0 ≤ k.0.0.handle = each_taken (λ (row : HandleRow). IsHandleAbove above row → one.0 ≤ row.handle) k.0.1.1 h.1 k.0.2 in
-    let b : other.0 ≤ h.0.0.handle = each_taken (λ (row : HandleRow). IsHandleAbove above row → other.0 ≤ row.handle) h.0.1.1 k.1 h.0.2 in
+    let a : one.0 ≤ k.0.0.handle =
+    each_taken (λ (row : HandleRow). IsHandleAbove above row → one.0 ≤ row.handle) k.0.1.1 h.1 k.0.2 in
+    let b : other.0 ≤ h.0.0.handle =
+    each_taken (λ (row : HandleRow). IsHandleAbove above row → other.0 ≤ row.handle) h.0.1.1 k.1 h.0.2 in
     let c = h.0.3 in
     let d = k.0.3 in
     let e : k.0.0.handle ≡ h.0.0.handle = omega (arith, a, b, c, d) in
-    let same : h.0.0 ≡ k.0.0 = (takes_one AreHandlesApart (HasHandle h.0.0.handle) (handle_one h.0.0.handle) agree.handles_apart h.0.1.1 k.0.1.1 (h.0.2.0, refl) (k.0.2.0, e)).0 in
+    let same : h.0.0 ≡ k.0.0 =
+    (takes_one AreHandlesApart (HasHandle h.0.0.handle)
+    (handle_one h.0.0.handle) agree.handles_apart h.0.1.1 k.0.1.1 (h.0.2.0, refl) (k.0.2.0, e)).0 in
     pair_same one other (sym c ∙ sym e ∙ d) (sym h.0.4 ∙ ap (λ (row : HandleRow). row.number) same ∙ k.0.4)
 
 -- the lines tell one host
-start_one : (lines : List TreeLine) (faults : List PlannedFault) (start other : State) → BeginsAs lines faults start → BeginsAs lines faults other → start ≡ other
-start_one lines faults start other h k = let e : h.0 ≡ k.0 = let f = h.1 in let g = k.1 in cc in h.2 ∙ ap (planned_all faults) e ∙ sym k.2
+start_one : (lines : List TreeLine) (faults : List PlannedFault) (start other : State) → BeginsAs lines faults start →
+    BeginsAs lines faults other → start ≡ other
+start_one lines faults start other h k = let e : h.0 ≡ k.0 = let f = h.1 in let g = k.1 in cc in
+    h.2 ∙ ap (planned_all faults) e ∙ sym k.2
 
 default_one : (config other : Config) → IsDefault config → IsDefault other → config ≡ other
 default_one config other d e = λ i. record {
@@ -95,14 +108,16 @@ default_one config other d e = λ i. record {
   clean_noatime = (d.clean_noatime ∙ sym e.clean_noatime) i;
 }
 
-configured_one : (settings : Settings) (config other : Config) → IsConfigured settings config → IsConfigured settings other → config ≡ other
+configured_one : (settings : Settings) (config other : Config) → IsConfigured settings config →
+    IsConfigured settings other → config ≡ other
 configured_one settings config other h k = h.2 ∙ ap (configured settings) (default_one h.0 k.0 h.1 k.1) ∙ sym k.2
 
 made_memory : (told : HostReply) (fs : FileSystem) → IsMadeBy told (Ok fs) → told ≢ reply.NoMemory
 made_memory (reply.Ok (value.Fd fd)) fs made e = cc
 made_memory told fs made e = absurd (subst (λ (t : HostReply). IsMadeBy t (Ok fs)) e made)
 
-made_root : (told : HostReply) (fs other : FileSystem) → IsMadeBy told (Ok fs) → IsMadeBy told (Ok other) → fs.root ≡ other.root
+made_root : (told : HostReply) (fs other : FileSystem) → IsMadeBy told (Ok fs) → IsMadeBy told (Ok other) →
+    fs.root ≡ other.root
 made_root (reply.Ok (value.Fd fd)) fs other h k = h ∙ sym k
 made_root told fs other h k = absurd h
 
@@ -111,58 +126,101 @@ record AreOpenedAlike (fs other : FileSystem) (host host' : State) : Type 0 wher
   made : fs ≡ other
   hosts : host ≡ host'
 
-opened_one : (settings : Settings) (before : State) (fs other : FileSystem) (after after' : State) → IsOpened settings before fs after → IsOpened settings before other after' → AreOpenedAlike fs other after after'
+opened_one : (settings : Settings) (before : State) (fs other : FileSystem) (after after' : State) →
+    IsOpened settings before fs after → IsOpened settings before other after' → AreOpenedAlike fs other after after'
 opened_one settings before fs other after after' h k =
     let told = h.call.0 in
     let told' = k.call.0 in
     let seat = start_seat settings in
-    let same = host_determined before after after' seat seat seat opens_root told told' (made_memory told fs h.call.2) (made_memory told' other k.call.2) h.call.1 k.call.1 in
+    let same = host_determined before after after' seat seat seat opens_root told told' (made_memory told fs h.call.2)
+    (made_memory told' other k.call.2) h.call.1 k.call.1 in
     let made : IsMadeBy told (Ok other) = subst (λ (t : HostReply). IsMadeBy t (Ok other)) (sym same.0) k.call.2 in
     let root : fs.root ≡ other.root = made_root told fs other h.call.2 made in
-    let config : fs.plan.config ≡ other.plan.config = configured_one settings fs.plan.config other.plan.config h.plan k.plan in
-    let tables : fs.tables ≡ other.tables = h.tables ∙ ap (λ (c : Config). empty_tables c.guest_fd_limit) config ∙ sym k.tables in
-    record { made = λ i. record { plan = record { config = config i }; tables = tables i; root = root i }; hosts = same.1 }
+    let config : fs.plan.config ≡ other.plan.config =
+    configured_one settings fs.plan.config other.plan.config h.plan k.plan in
+    let tables : fs.tables ≡ other.tables =
+    h.tables ∙ ap (λ (c : Config). empty_tables c.guest_fd_limit) config ∙ sym k.tables in
+    record {
+      made = λ i. record { plan = record { config = config i }; tables = tables i; root = root i };
+      hosts = same.1;
+    }
 
 -- the run as one of jobs in order
-ran_in_order : (settings : Settings) (start : State) (lines : List ScriptJob) (schedule : List ℕ) (trace : List TraceStep) (answers : List Answer) (tables : Tables) (host : State) → (run : IsRunFrom settings start lines schedule trace answers tables host) →
-    FoundMemory trace answers → RanInOrder Does run.fs.plan schedule (jobs_of settings lines) run.opened_host run.fs.tables trace answers host run.seats tables
-ran_in_order settings start lines schedule trace answers tables host run found = record { steps = run.steps; order = run.order; answers_each = run.answers_each; memory = found }
+ran_in_order : (settings : Settings) (start : State) (lines : List ScriptJob) (schedule : List ℕ)
+    (trace : List TraceStep) (answers : List Answer) (tables : Tables) (host : State) →
+    (run : IsRunFrom settings start lines schedule trace answers tables host) →
+    FoundMemory trace answers →
+    RanInOrder Does run.fs.plan schedule
+    (jobs_of settings lines) run.opened_host run.fs.tables trace answers host run.seats tables
+ran_in_order settings start lines schedule trace answers tables host run found =
+    record { steps = run.steps; order = run.order; answers_each = run.answers_each; memory = found }
 
-end_agrees : (settings : Settings) (start : State) (lines : List ScriptJob) (schedule : List ℕ) (trace : List TraceStep) (answers : List Answer) (tables : Tables) (host : State) → IsRunFrom settings start lines schedule trace answers tables host → Agree tables
+end_agrees : (settings : Settings) (start : State) (lines : List ScriptJob) (schedule : List ℕ)
+    (trace : List TraceStep) (answers : List Answer) (tables : Tables) (host : State) →
+    IsRunFrom settings start lines schedule trace answers tables host → Agree tables
 end_agrees settings start lines schedule trace answers tables host run =
     agree_law run.fs.plan.config.guest_fd_limit (turns_of trace) tables
-    (subst (λ (t : Tables). TablesRun t (turns_of trace) tables) run.opened.tables (hosts_tables Does (turns_of trace) run.opened_host run.fs.tables host tables (host_runs Does trace run.opened_host _ run.fs.tables host run.steps.seats tables run.steps.runs)))
+    (subst (λ (t : Tables).
+    TablesRun t (turns_of trace) tables) run.opened.tables
+    (hosts_tables Does (turns_of trace) run.opened_host run.fs.tables host tables
+    (host_runs Does trace run.opened_host _ run.fs.tables host run.steps.seats tables run.steps.runs)))
 
-runs_one : (settings : Settings) (start : State) (lines : List ScriptJob) (schedule : List ℕ) (trace trace' : List TraceStep) (answers answers' : List Answer) (tables tables' : Tables) (host host' : State) →
-    (run : IsRunFrom settings start lines schedule trace answers tables host) (run' : IsRunFrom settings start lines schedule trace' answers' tables' host') → FoundMemory trace answers → FoundMemory trace' answers' →
+runs_one : (settings : Settings) (start : State) (lines : List ScriptJob) (schedule : List ℕ)
+    (trace trace' : List TraceStep) (answers answers' : List Answer) (tables tables' : Tables) (host host' : State) →
+    (run : IsRunFrom settings start lines schedule trace answers tables host)
+    (run' : IsRunFrom settings start lines schedule trace' answers' tables' host') → FoundMemory trace answers →
+    FoundMemory trace' answers' →
     AreOneRun trace trace' answers answers' host host' run.seats run'.seats tables tables'
 runs_one settings start lines schedule trace trace' answers answers' tables tables' host host' run run' found found' =
     let same = opened_one settings start run.fs run'.fs run.opened_host run'.opened_host run.opened run'.opened in
     let here = ran_in_order settings start lines schedule trace answers tables host run found in
     let there = ran_in_order settings start lines schedule trace' answers' tables' host' run' found' in
-    let moved : RanInOrder Does run.fs.plan schedule (jobs_of settings lines) run.opened_host run.fs.tables trace' answers' host' run'.seats tables' =
-    subst (λ (fs : FileSystem). RanInOrder Does fs.plan schedule (jobs_of settings lines) run.opened_host fs.tables trace' answers' host' run'.seats tables') (sym same.made)
-    (subst (λ (state : State). RanInOrder Does run'.fs.plan schedule (jobs_of settings lines) state run'.fs.tables trace' answers' host' run'.seats tables') (sym same.hosts) there) in
-    let agree : Agree run.fs.tables = subst Agree (sym run.opened.tables) (agree_law run.fs.plan.config.guest_fd_limit [] (empty_tables run.fs.plan.config.guest_fd_limit) refl) in
-    turns_determined Does host_determined run.fs.plan schedule (jobs_of settings lines) run.opened_host run.fs.tables trace trace' answers answers' host host' run.seats run'.seats tables tables' agree here moved
+    let moved : RanInOrder Does run.fs.plan schedule
+    (jobs_of settings lines) run.opened_host run.fs.tables trace' answers' host' run'.seats tables' =
+    subst (λ (fs : FileSystem).
+    RanInOrder Does fs.plan schedule
+    (jobs_of settings lines) run.opened_host fs.tables trace' answers' host' run'.seats tables') (sym same.made)
+    (subst (λ (state : State).
+    RanInOrder Does run'.fs.plan schedule
+    (jobs_of settings lines) state run'.fs.tables trace' answers' host' run'.seats tables')
+    (sym same.hosts) there) in
+    let agree : Agree run.fs.tables =
+    subst Agree (sym run.opened.tables)
+    (agree_law run.fs.plan.config.guest_fd_limit [] (empty_tables run.fs.plan.config.guest_fd_limit) refl) in
+    turns_determined Does host_determined run.fs.plan schedule
+    (jobs_of settings lines) run.opened_host run.fs.tables trace trace' answers answers' host host' run.seats run'.seats tables tables' agree here moved
 
-report_same : (trace trace' : List TraceStep) (answers answers' : List Answer) (lives lives' handles handles' : List (ℕ × ℕ)) (seats seats' : List HostSeat) (tables tables' : Tables) (host host' : State) →
-    AreOneRun trace trace' answers answers' host host' seats seats' tables tables' → lives ≡ lives' → handles ≡ handles' → report_of trace answers lives handles tables host ≡ report_of trace' answers' lives' handles' tables' host'
+report_same : (trace trace' : List TraceStep) (answers answers' : List Answer)
+    (lives lives' handles handles' : List (ℕ × ℕ)) (seats seats' : List HostSeat) (tables tables' : Tables)
+    (host host' : State) →
+    AreOneRun trace trace' answers answers' host host' seats seats' tables tables' → lives ≡ lives' →
+    handles ≡ handles' →
+    report_of trace answers lives handles tables host ≡ report_of trace' answers' lives' handles' tables' host'
 report_same trace trace' answers answers' lives lives' handles handles' seats seats' tables tables' host host' one l h = λ i. report_of (one.traces i) (one.answered i) (l i) (h i) (one.left i) (one.hosts i)
 
-determined : (bytes report other : List ℕ) (ran : IsReportOf bytes report) (again : IsReportOf bytes other) → IsFull ran → IsFull again → report ≡ other
+determined : (bytes report other : List ℕ) (ran : IsReportOf bytes report) (again : IsReportOf bytes other) →
+    IsFull ran → IsFull again → report ≡ other
 determined bytes report other ran again full full' =
     let begun : again.begun ≡ ran.begun = let e = ran.script in let f = again.script in cc in
-    let starts : BeginsAs ran.begun.tree ran.begun.faults again.start = subst (λ (b : Begun). BeginsAs b.tree b.faults again.start) begun again.starts in
-    let start : again.start ≡ ran.start = start_one ran.begun.tree ran.begun.faults again.start ran.start starts ran.starts in
+    let starts : BeginsAs ran.begun.tree ran.begun.faults again.start =
+    subst (λ (b : Begun). BeginsAs b.tree b.faults again.start) begun again.starts in
+    let start : again.start ≡ ran.start =
+    start_one ran.begun.tree ran.begun.faults again.start ran.start starts ran.starts in
     let run : IsRunFrom ran.begun.settings ran.start ran.begun.jobs ran.begun.order again.trace again.answers again.tables again.host =
-    subst (λ (s : State). IsRunFrom ran.begun.settings s ran.begun.jobs ran.begun.order again.trace again.answers again.tables again.host) start
-    (subst (λ (b : Begun). IsRunFrom b.settings again.start b.jobs b.order again.trace again.answers again.tables again.host) begun again.run) in
+    subst (λ (s : State).
+    IsRunFrom ran.begun.settings s ran.begun.jobs ran.begun.order again.trace again.answers again.tables again.host) start
+    (subst (λ (b : Begun).
+    IsRunFrom b.settings again.start b.jobs b.order again.trace again.answers again.tables again.host) begun again.run) in
     let one = runs_one ran.begun.settings ran.start ran.begun.jobs ran.begun.order ran.trace again.trace ran.answers again.answers ran.tables again.tables ran.host again.host ran.run run full full' in
     let agree = end_agrees ran.begun.settings ran.start ran.begun.jobs ran.begun.order ran.trace ran.answers ran.tables ran.host ran.run in
-    let live : AreLive ran.tables again.lives again.handles = subst (λ (t : Tables). AreLive t again.lives again.handles) (sym one.left) again.live in
-    let lives : ran.lives ≡ again.lives = all_one (IsLiveAfter ran.tables.rows) (lives_one ran.tables agree) None ran.lives again.lives ran.live.0 live.0 in
-    let handles : ran.handles ≡ again.handles = all_one (IsHandleAfter ran.tables.handles) (handles_one ran.tables agree) None ran.handles again.handles ran.live.1 live.1 in
+    let live : AreLive ran.tables again.lives again.handles =
+    subst (λ (t : Tables). AreLive t again.lives again.handles) (sym one.left) again.live in
+    let lives : ran.lives ≡ again.lives =
+    all_one (IsLiveAfter ran.tables.rows)
+    (lives_one ran.tables agree) None ran.lives again.lives ran.live.0 live.0 in
+    let handles : ran.handles ≡ again.handles =
+    all_one (IsHandleAfter ran.tables.handles)
+    (handles_one ran.tables agree) None ran.handles again.handles ran.live.1 live.1 in
     ran.text ∙ report_same ran.trace again.trace ran.answers again.answers ran.lives again.lives ran.handles again.handles ran.run.seats run.seats ran.tables again.tables ran.host again.host one lives handles ∙ sym again.text
 
 pub only : (bytes report : List ℕ) (ran : IsReportOf bytes report) → IsOnly ran

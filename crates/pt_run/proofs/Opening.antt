@@ -1,5 +1,6 @@
 -- The host's tree as the jobs of a script find it, and why there is none.
-use Rattle.std.proofs.Common.{◌≡◌, ◌⊎◌, inl, inr, ◌∙◌, ℕ, List, Option, Some, None, Result, Err, refl, ap, sym, subst, slice_get}
+use Rattle.std.proofs.Common.{◌≡◌, ◌⊎◌, inl, inr, ◌∙◌, ℕ, List, Option, Some, None, Result, Err, refl, ap, sym, subst}
+use Rattle.std.proofs.Common.{slice_get}
 use Rattle.pt_host.specs.Tree.{IsWellFormed}
 use Rattle.pt_host.specs.declared.ids.Errno.{Errno}
 use Rattle.pt_host.specs.declared.ids.Fd.{Fd}
@@ -31,17 +32,20 @@ some_same : {A : Type 0} (x y : A) → Some x ≡ Some y → x ≡ y
 some_same x y e = cc
 
 -- it is well formed, since the host was sound as the file system was made
-pub opened_well : (settings : Settings) (before : State) (fs : FileSystem) (after : State) → IsOpened settings before fs after → IsWellFormed (tree_of after)
+pub opened_well : (settings : Settings) (before : State) (fs : FileSystem) (after : State) →
+    IsOpened settings before fs after → IsWellFormed (tree_of after)
 opened_well settings before fs after opened =
     let call = opened.call in
     let seat = start_seat settings in
     let lawful = does_lawful before seat opens_root call.0 after seat call.1 (tree_of before) refl in
-    subst IsWellFormed (sym (some_same (tree_of after) lawful.0 lawful.1)) (lawful.2.well_formed (well_formed before call.1.sound))
+    subst IsWellFormed (sym (some_same (tree_of after) lawful.0 lawful.1))
+    (lawful.2.well_formed (well_formed before call.1.sound))
 
 -- the host's root is found and opened, where there is one
 root_opens : (start : State) (numbers : ℕ → ℕ) (seat : HostSeat) (node : Node) → slice_get start.nodes 0 ≡ Some node →
     (fd : Fd) × ((answer start numbers seat opens_root).0 ≡ reply.Ok (value.Fd fd))
-root_opens start numbers seat node is = (record { 0 = least_free start.slots }, ap (λ (found : Option Node). (opening_of start seat path 0 found).0) is)
+root_opens start numbers seat node is =
+    (record { 0 = least_free start.slots }, ap (λ (found : Option Node). (opening_of start seat path 0 found).0) is)
 
 -- an answer that opened the root, or found no memory, is no refusal
 not_opened : (given : HostReply) (fs : Result FileSystem Refusal) (errno : Errno) → fs ≡ Err (refusal.Errno errno) →
@@ -51,18 +55,22 @@ not_opened given fs errno refused (inl ok) made =
     subst (λ (f : Result FileSystem Refusal). IsMadeBy (reply.Ok (value.Fd ok.0)) f) refused at
 not_opened given fs errno refused (inr none) made =
     let at : IsMadeBy reply.NoMemory fs = subst (λ (r : HostReply). IsMadeBy r fs) none made in
-    let why : refusal.Errno errno ≡ refusal.Memory = subst (λ (f : Result FileSystem Refusal). IsMadeBy reply.NoMemory f) refused at in
+    let why : refusal.Errno errno ≡ refusal.Memory =
+    subst (λ (f : Result FileSystem Refusal). IsMadeBy reply.NoMemory f) refused at in
     cc
 
 -- a refusal by a fault has its error
-refused_by : (given : HostReply) (fs : Result FileSystem Refusal) (fault errno : Errno) → fs ≡ Err (refusal.Errno errno) → given ≡ reply.Fault fault → IsMadeBy given fs → fault ≡ errno
+refused_by : (given : HostReply) (fs : Result FileSystem Refusal) (fault errno : Errno) →
+    fs ≡ Err (refusal.Errno errno) → given ≡ reply.Fault fault → IsMadeBy given fs → fault ≡ errno
 refused_by given fs fault errno refused is made =
     let at : IsMadeBy (reply.Fault fault) fs = subst (λ (r : HostReply). IsMadeBy r fs) is made in
-    let why : refusal.Errno errno ≡ refusal.Errno fault = subst (λ (f : Result FileSystem Refusal). IsMadeBy (reply.Fault fault) f) refused at in
+    let why : refusal.Errno errno ≡ refusal.Errno fault =
+    subst (λ (f : Result FileSystem Refusal). IsMadeBy (reply.Fault fault) f) refused at in
     cc
 
 -- over a host with a root the making of the file system is refused only where its first call was planned to fail
-planned_refusal : (settings : Settings) (start : State) (errno : Errno) (root : Node) → slice_get start.nodes 0 ≡ Some root → IsRefused settings start errno → failure_of start opens_root ≡ Some errno
+planned_refusal : (settings : Settings) (start : State) (errno : Errno) (root : Node) →
+    slice_get start.nodes 0 ≡ Some root → IsRefused settings start errno → failure_of start opens_root ≡ Some errno
 planned_refusal settings start errno root is refused = go (failure_of start opens_root) refl answers.answered
   where
     answers : Answers start (start_seat settings) opens_root refused.call.0 refused.after (start_seat settings)
@@ -72,18 +80,27 @@ planned_refusal settings start errno root is refused = go (failure_of start open
     opens = root_opens start answers.numbers (start_seat settings) root is
 
     go : (failing : Option Errno) → failure_of start opens_root ≡ failing →
-        AnswersCall failing start answers.numbers (start_seat settings) opens_root refused.call.0 answers.state (start_seat settings) → failure_of start opens_root ≡ Some errno
-    go None e (inl told) = absurd (not_opened refused.call.0 refused.fs errno refused.refused (inl (opens.0, ap (λ (o : Outcome). o.0) told ∙ opens.1)) refused.call.2)
-    go None e (inr none) = absurd (not_opened refused.call.0 refused.fs errno refused.refused (inr (ap (λ (o : Outcome). o.0) none.1)) refused.call.2)
-    go (Some fault) e told = e ∙ ap Some (refused_by refused.call.0 refused.fs fault errno refused.refused (ap (λ (o : Outcome). o.0) told) refused.call.2)
+        AnswersCall failing start answers.numbers (start_seat settings) opens_root refused.call.0 answers.state
+        (start_seat settings) → failure_of start opens_root ≡ Some errno
+    go None e (inl told) =
+        absurd (not_opened refused.call.0 refused.fs errno refused.refused
+        (inl (opens.0, ap (λ (o : Outcome). o.0) told ∙ opens.1)) refused.call.2)
+    go None e (inr none) =
+        absurd (not_opened refused.call.0 refused.fs errno refused.refused
+        (inr (ap (λ (o : Outcome). o.0) none.1)) refused.call.2)
+    go (Some fault) e told =
+        e ∙ ap Some (refused_by refused.call.0 refused.fs fault errno refused.refused
+        (ap (λ (o : Outcome). o.0) told) refused.call.2)
 
 -- a script whose file system was not made shows no report
-pub shows_none : (bytes : List ℕ) (settings : Settings) (host : State) (jobs : List ScriptJob) (schedule : List ℕ) (why : Status) →
+pub shows_none : (bytes : List ℕ) (settings : Settings) (host : State) (jobs : List ScriptJob) (schedule : List ℕ)
+    (why : Status) →
     IsScriptOf bytes settings host jobs schedule → IsNotOpened settings host why → IsNoReport bytes why
 shows_none bytes settings host jobs schedule (status.BadConfig errno) script refused =
     let begins = script.3 in
     let root = begun_root script.0.tree script.0.faults host begins in
-    let here : IsRefused script.0.settings host errno = subst (λ (s : Settings). IsRefused s host errno) script.2 refused in
+    let here : IsRefused script.0.settings host errno =
+    subst (λ (s : Settings). IsRefused s host errno) script.2 refused in
     (script.0, script.1, host, begins, (here, planned_refusal script.0.settings host errno root.0 root.1 here))
 shows_none bytes settings host jobs schedule status.NoMemory script refused = tt
 shows_none bytes settings host jobs schedule why script refused = absurd refused

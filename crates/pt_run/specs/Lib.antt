@@ -1,3 +1,4 @@
+-- Inner. The files of definitions, lowest first.
 pub mod Streams
 pub mod Told
 pub mod Output

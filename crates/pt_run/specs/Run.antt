@@ -16,7 +16,9 @@ use Rattle.pt_iface.specs.declared.request.Context.{Context}
 use Rattle.pt_iface.specs.declared.request.Request.{Request}
 use Rattle.pt_iface.specs.declared.request.Request.TheVariants.{Root}
 use Rattle.pt_fs.specs.FileSystem.{FileSystem, opens_root, IsMadeBy}
-use Rattle.pt_fs.specs.Keeps.{turns_of, AfterEach, AfterEachTold, LeadsOn, KeepsObjects, KeepsCounts, KeepsHandles, ServesEach, InsertsOnce, OvertakenAsTold, OfEachJob, GivesBack, IsCausedIn, IsNamedIn, NamesOpenOnes, LeavesOpen}
+use Rattle.pt_fs.specs.Keeps.{turns_of, AfterEach, AfterEachTold, LeadsOn, KeepsObjects, KeepsCounts, KeepsHandles}
+use Rattle.pt_fs.specs.Keeps.{ServesEach, InsertsOnce, OvertakenAsTold, OfEachJob, GivesBack, IsCausedIn, IsNamedIn}
+use Rattle.pt_fs.specs.Keeps.{NamesOpenOnes, LeavesOpen}
 use Rattle.pt_fs.specs.Order.{IsInOrder}
 use Rattle.pt_law.specs.Laws.{SlotsAddUp, IsAtRest, AreKept}
 use Rattle.pt_fs.specs.Trace.{RunsJobs, AnswersEach, IsBounded}
@@ -84,7 +86,8 @@ pub record IsOpened (settings : Settings) (before : State) (fs : FileSystem) (af
 -- The jobs of a script run over this host: the trace leads from the new file system to these tables and that host, the
 -- steps come in the schedule's order, each job is answered by the pattern of its request, or of its edit, and each
 -- clause of `drive` holds.
-pub record IsRunFrom (settings : Settings) (start : State) (lines : List ScriptJob) (schedule : List ℕ) (trace : List TraceStep) (answers : List Answer) (tables : Tables) (host : State) : Type 0 where
+pub record IsRunFrom (settings : Settings) (start : State) (lines : List ScriptJob) (schedule : List ℕ)
+    (trace : List TraceStep) (answers : List Answer) (tables : Tables) (host : State) : Type 0 where
   pub fs : FileSystem
   pub opened_host : State
   pub opened : IsOpened settings start fs opened_host
@@ -106,7 +109,8 @@ pub record IsRunFrom (settings : Settings) (start : State) (lines : List ScriptJ
   pub told : LeadsOn (Some (tree_of opened_host)) fs.tables trace (Some (tree_of host)) tables
   pub distinct : AfterEachTold (Some (tree_of opened_host)) fs.tables trace (λ start so_far now. KeepsObjects now)
   pub serves : AfterEachTold (Some (tree_of opened_host)) fs.tables trace (λ start so_far now. ServesEach now)
-  pub entries : OfEachJob (jobs_of settings lines) answers (IsNamedIn fs.plan (Some (tree_of opened_host)) fs.tables trace)
+  pub entries : OfEachJob (jobs_of settings lines) answers
+      (IsNamedIn fs.plan (Some (tree_of opened_host)) fs.tables trace)
   pub names_open : NamesOpenOnes (Some (tree_of opened_host)) fs.tables trace
   pub descriptors : AfterEachTold (Some (tree_of opened_host)) fs.tables trace
       (λ start so_far now. AreKept start (length (jobs_of settings lines)) so_far now)

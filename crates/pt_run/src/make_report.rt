@@ -86,7 +86,8 @@ fn open_fs(alloc: Global, settings: Settings, host: &mut TreeHost) -> Result<Pas
 // Appends what the report says of the tables.
 fn push_tables(out: &mut Vec<u8>, fs: &PassthroughFs) -> Result<(), AllocError>
     ensures { OnOk result ((lives : List (ℕ × ℕ)) × (handles : List (ℕ × ℕ)) × AreLive fs.now.tables lives handles
-        × (out.new.items ≡ out.old.items ++ live_lines lives ++ handle_lines handles ++ slots_line fs.now.tables.slots)) }
+        × (out.new.items ≡ out.old.items ++ live_lines lives ++ handle_lines handles
+        ++ slots_line fs.now.tables.slots)) }
 {
     let session = fs.session();
     push_lives(out, session)?;

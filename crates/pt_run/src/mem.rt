@@ -1,4 +1,5 @@
-ghost use Rattle.std.specs.Prelude.{◌≡◌, ◌≤◌, ◌<◌, [], Some, IfOk, OnOk, OnErr, IsErr, IsTrue, is_err, min, length, take};
+ghost use Rattle.std.specs.Prelude.{◌≡◌, ◌≤◌, ◌<◌, [], Some, IfOk, OnOk, OnErr, IsErr, IsTrue, is_err, min, length};
+ghost use Rattle.std.specs.Prelude.{take};
 ghost use Rattle.pt_host.specs.Promises.{HasRisen};
 ghost use Rattle.pt_run.specs.Streams.{MemLeft, IsPulled, IsPushed, counted, is_failing};
 
@@ -64,7 +65,11 @@ impl Model for MemSource {
 
 impl MemSource {
     pub fn new(bytes: Vec<u8>, failing: Vec<u64>) -> Self
-        ensures { result ≡ record { left = bytes.items; planned = record { calls = 0; failing = failing.items }; faults = 0 } }
+        ensures { result ≡ record {
+          left = bytes.items;
+          planned = record { calls = 0; failing = failing.items };
+          faults = 0;
+        } }
     {
         MemSource {
             bytes,
@@ -127,7 +132,11 @@ impl Model for MemSink {
 
 impl MemSink {
     pub fn new(alloc: Global, failing: Vec<u64>) -> Self
-        ensures { result ≡ record { written = []; planned = record { calls = 0; failing = failing.items }; faults = 0 } }
+        ensures { result ≡ record {
+          written = [];
+          planned = record { calls = 0; failing = failing.items };
+          faults = 0;
+        } }
     {
         MemSink {
             bytes: Vec::new(alloc),
@@ -154,7 +163,8 @@ impl Sink for MemSink {
         ensures counts { self.new.planned ≡ counted self.old.planned }
         ensures within { IfOk result (λ count. count ≤ length piece.now) }
         ensures some { 0 < length piece.now → IfOk result (λ count. 0 < count) }
-        ensures pushed { IfOk result (λ count. IsPushed (Some self.old.written) piece.now count (Some self.new.written)) }
+        ensures pushed { IfOk result (λ count.
+            IsPushed (Some self.old.written) piece.now count (Some self.new.written)) }
         ensures kept { OnErr result (self.new.written ≡ self.old.written) }
         ensures fault { OnErr result (HasRisen self.old.faults self.new.faults) }
         ensures no_fault { OnOk result (self.new.faults ≡ self.old.faults) }

@@ -31,7 +31,8 @@ fn write_report<O: Sink>(alloc: Global, bytes: &[u8], output: &mut O) -> Status
         × IsFrontWritten (O.written output.old) report (O.written output.new) }
     ensures write_fault_rose { result ≡ Status.WriteFault → HasRisen (O.faults output.old) (O.faults output.new) }
     ensures others { result ≢ Status.Done → result ≢ Status.WriteFault → IsNoReport bytes.now result }
-    ensures nothing_written { result ≢ Status.Done → result ≢ Status.WriteFault → O.written output.new ≡ O.written output.old }
+    ensures nothing_written { result ≢ Status.Done → result ≢ Status.WriteFault →
+        O.written output.new ≡ O.written output.old }
     ensures no_fault { result ≢ Status.WriteFault → O.faults output.new ≡ O.faults output.old }
     ensures never_falls { O.faults output.old ≤ O.faults output.new }
 {
@@ -62,9 +63,11 @@ pub fn run<I: Source, O: Sink>(
 
     ensures usage { (result ≡ Status.Usage) ↔ (IsScriptWord (map string_bytes words.now) → ⊥) }
     ensures too_long { result ≡ Status.TooLong → IsLonger 16777216 (I.left input.old) }
-    ensures bad_script { (line : ℕ) → result ≡ Status.BadScript line → IsNoReportFrom (I.left input.old) (Status.BadScript line) }
+    ensures bad_script { (line : ℕ) → result ≡ Status.BadScript line →
+        IsNoReportFrom (I.left input.old) (Status.BadScript line) }
     // The first call of the host is the one that makes the file system, and it was planned to fail.
-    ensures bad_config { (errno : Errno) → result ≡ Status.BadConfig errno → IsNoReportFrom (I.left input.old) (Status.BadConfig errno) }
+    ensures bad_config { (errno : Errno) → result ≡ Status.BadConfig errno →
+        IsNoReportFrom (I.left input.old) (Status.BadConfig errno) }
     ensures read_fault { result ≡ Status.ReadFault → HasRisen (I.faults input.old) (I.faults input.new) }
 
     // A front of the report of one run stands in the output.
@@ -76,7 +79,8 @@ pub fn run<I: Source, O: Sink>(
     ensures read_fault_told { result ≢ Status.ReadFault → I.faults input.new ≡ I.faults input.old }
     ensures write_fault_told { result ≢ Status.WriteFault → O.faults output.new ≡ O.faults output.old }
 
-    ensures nothing_written { result ≢ Status.Done → result ≢ Status.WriteFault → O.written output.new ≡ O.written output.old }
+    ensures nothing_written { result ≢ Status.Done → result ≢ Status.WriteFault →
+        O.written output.new ≡ O.written output.old }
 {
     if !is_script(words) {
         return Status::Usage;

@@ -1,3 +1,4 @@
+-- Inner. The files of definitions, lowest first.
 pub mod Fields
 pub mod NewObjects
 pub mod TreeLine

@@ -12,7 +12,13 @@ new_file_in words = do
   uid ← small_in mode.rest
   gid ← small_in uid.rest
   bytes ← bytes_in gid.rest
-  at_end bytes.rest (record { path = path.value; mode = mode.value; uid = uid.value; gid = gid.value; bytes = bytes.value })
+  at_end bytes.rest (record {
+    path = path.value;
+    mode = mode.value;
+    uid = uid.value;
+    gid = gid.value;
+    bytes = bytes.value;
+  })
 
 -- `PATH MODE UID GID`
 abbrev pub new_dir_in : List (List ℕ) → Option NewDir

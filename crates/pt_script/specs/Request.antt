@@ -2,7 +2,8 @@
 use Rattle.std.specs.Prelude.{ℕ, List, [], ◌∷◌, Option, None, if◌then◌else◌, codes}
 use Rattle.std.specs.Str.{bytes_eq}
 use Rattle.pt_iface.specs.declared.request.Request.{Request}
-use Rattle.pt_iface.specs.declared.request.Request.TheVariants.{Init, Destroy, Root, Lookup, Forget, BatchForget, Open, OpenDir, Release, ReleaseDir, Read}
+use Rattle.pt_iface.specs.declared.request.Request.TheVariants.{Init, Destroy, Root, Lookup, Forget, BatchForget}
+use Rattle.pt_iface.specs.declared.request.Request.TheVariants.{Open, OpenDir, Release, ReleaseDir, Read}
 use Rattle.pt_script.specs.Fields.{◌>>=◌, number_in, small_in, bytes_in, switch_in, pairs_in, at_end}
 
 -- `init CAPABLE`

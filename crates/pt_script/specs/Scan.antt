@@ -1,5 +1,6 @@
 -- Inner. A script read without the rules of trees, which the host judges when it is made.
-use Rattle.std.specs.Prelude.{◌≡◌, ℕ, ◌+◌, ◌&&◌, List, [], ◌∷◌, Option, Some, None, Result, Ok, Err, if◌then◌else◌, option_and_then}
+use Rattle.std.specs.Prelude.{◌≡◌, ℕ, ◌+◌, ◌&&◌, List, [], ◌∷◌, Option, Some, None, Result, Ok, Err, if◌then◌else◌}
+use Rattle.std.specs.Prelude.{option_and_then}
 use Rattle.pt_tree.specs.Start.{start_of}
 use Rattle.pt_rules.specs.State.{State}
 use Rattle.pt_tree.specs.declared.spec.SpecError.{SpecError}

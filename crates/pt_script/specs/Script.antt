@@ -1,5 +1,6 @@
 -- Believed. A script: its lines in order, each ended by a line feed.
-use Rattle.std.specs.Prelude.{ℕ, ◌+◌, ◌-◌, nat_lt, ◌&&◌, not, Bool, true, false, List, [], ◌∷◌, ◌++◌, length, Option, Some, None, Result, Ok, Err, is_ok, if◌then◌else◌, option_and_then, slice_get}
+use Rattle.std.specs.Prelude.{ℕ, ◌+◌, ◌-◌, nat_lt, ◌&&◌, not, Bool, true, false, List, [], ◌∷◌, ◌++◌, length, Option}
+use Rattle.std.specs.Prelude.{Some, None, Result, Ok, Err, is_ok, if◌then◌else◌, option_and_then, slice_get}
 use Rattle.pt_tree.specs.declared.spec.TreeLine.{TreeLine}
 use Rattle.pt_tree.specs.Start.{start_of}
 use Rattle.pt_text.specs.Words.{lines_of}

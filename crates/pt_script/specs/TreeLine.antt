@@ -71,4 +71,5 @@ abbrev pub tree_line_in : List ℕ → List (List ℕ) → Option TreeLine
 tree_line_in word fields =
     if bytes_eq word (codes "mount") then mount_in fields
     else (if bytes_eq word (codes "dir") then option_map dir_line (new_dir_in fields)
-    else (if bytes_eq word (codes "file") then option_map file_line (new_file_in fields) else other_line_in word fields))
+    else (if bytes_eq word (codes "file") then option_map file_line
+    (new_file_in fields) else other_line_in word fields))

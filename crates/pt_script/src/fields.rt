@@ -123,7 +123,8 @@ pub fn next_pairs(
     count: u64,
     words: &mut Parts<'_>,
 ) -> Result<Vec<(u64, u64)>, LineError>
-    ensures ok { IfOk result (λ pairs. pairs_in count words.old ≡ Some (record { value = pairs.items; rest = words.new })) }
+    ensures ok { IfOk result (λ pairs. pairs_in count words.old
+        ≡ Some (record { value = pairs.items; rest = words.new })) }
     ensures bad { result ≡ Err LineError.Bad → pairs_in count words.old ≡ None }
 {
     let mut pairs = Vec::new(alloc);

@@ -32,7 +32,8 @@ pub enum ParseError {
 /// Reads a script.
 pub fn parse(alloc: Global, bytes: &[u8]) -> Result<Script, ParseError>
     requires { length bytes.now ≤ 16777216 }
-    ensures ok { IfOk result (λ script. IsScriptOf bytes.now script.settings script.host script.jobs.items script.schedule) }
+    ensures ok { IfOk result (λ script.
+        IsScriptOf bytes.now script.settings script.host script.jobs.items script.schedule) }
     ensures bad { IfErr result (λ error. IsBadLine bytes.now error) }
     ensures few { IfOk result (λ script. length script.jobs.items ≤ length bytes.now + 1) }
 {

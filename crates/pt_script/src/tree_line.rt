@@ -1,5 +1,6 @@
 ghost use Rattle.std.specs.Prelude.{◌≡◌, IfOk, Some, None};
-ghost use Rattle.pt_script.specs.TreeLine.{mount_in, file_line, dir_line, link_in, spec_in, hard_in, xattr_in, other_line_in, tree_line_in};
+ghost use Rattle.pt_script.specs.TreeLine.{mount_in, file_line, dir_line, link_in, spec_in, hard_in, xattr_in};
+ghost use Rattle.pt_script.specs.TreeLine.{other_line_in, tree_line_in};
 
 use crate::fields::{LineError, end, next_bytes, next_number, next_small, next_switch};
 use crate::new_objects::{NewDir, NewFile, next_new_dir, next_new_file};

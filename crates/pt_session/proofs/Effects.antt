@@ -1,5 +1,6 @@
 -- Each event is a few steps of a few kinds. What each kind of step keeps, each event keeps.
-use Rattle.std.proofs.Common.{◌≡◌, ◌≢◌, ◌⊎◌, ⊎_elim, inl, inr, ℕ, ◌+◌, ◌-◌, ◌<◌, ◌≤◌, List, [], ◌∷◌, true, false, Option, Some, None, refl, sym, ap, subst, ◌∙◌, arith}
+use Rattle.std.proofs.Common.{◌≡◌, ◌≢◌, ◌⊎◌, ⊎_elim, inl, inr, ℕ, ◌+◌, ◌-◌, ◌<◌, ◌≤◌, List, [], ◌∷◌, true, false}
+use Rattle.std.proofs.Common.{Option, Some, None, refl, sym, ap, subst, ◌∙◌, arith}
 use Rattle.pt_host.specs.Words.{Each}
 use Rattle.pt_host.specs.declared.ids.ObjIds.{ObjIds}
 use Rattle.pt_session.specs.Change.{Change}
@@ -9,48 +10,99 @@ use Rattle.pt_session.specs.declared.event.KeptEvent.TheVariants as change
 use Rattle.pt_session.specs.declared.reply.EventRefusal.TheVariants.{NotLive, Overtaken, NoSlot, Last, Live, Memory}
 use Rattle.pt_session.specs.declared.reply.EventReply.{EventReply}
 use Rattle.pt_session.specs.declared.reply.EventReply.TheVariants as reply
-use Rattle.pt_session.specs.Tables.{Row, HandleRow, Tables, HasNumber, HasIds, HasHandle, AreApart, AreHandlesApart, IsSoundRow, IsSoundHandle, Agree}
+use Rattle.pt_session.specs.Tables.{Row, HandleRow, Tables, HasNumber, HasIds, HasHandle, AreApart, AreHandlesApart}
+use Rattle.pt_session.specs.Tables.{IsSoundRow, IsSoundHandle, Agree}
 use Rattle.pt_session.specs.Store.{IsLater}
-use Rattle.pt_session.specs.Happens.{Happens, Changes, Ends, Dies, ForgetsOne, ForgetsAll, GivesAgain, ChangesHandle, EndsHandle, HandleDies, NumbersDie, NumbersDie.{none as no_number, next as next_number}, HandlesDie, HandlesDie.{none as no_handle, next as next_handle}, Clears, IsFree, with_row, new_row, new_handle, agreed}
-use Rattle.pt_session.specs.Effect.{IsNewRow, IsNewHandle, Effect, Effect.{nothing, counted, changed, ended, added, drawn, handle_changed, handle_ended, handle_added, begun, shut}, Effects, Effects.{none, more}}
+use Rattle.pt_session.specs.Happens.{Happens, Changes, Ends, Dies, ForgetsOne, ForgetsAll, GivesAgain, ChangesHandle}
+use Rattle.pt_session.specs.Happens.{EndsHandle, HandleDies, NumbersDie}
+use Rattle.pt_session.specs.Happens.{NumbersDie.{none as no_number, next as next_number}, HandlesDie}
+use Rattle.pt_session.specs.Happens.{HandlesDie.{none as no_handle, next as next_handle}, Clears, IsFree, with_row}
+use Rattle.pt_session.specs.Happens.{new_row, new_handle, agreed}
+use Rattle.pt_session.specs.Effect.{IsNewRow, IsNewHandle, Effect}
+use Rattle.pt_session.specs.Effect.{Effect.{nothing, counted, changed, ended, added, drawn, handle_changed, handle_ended, handle_added, begun, shut}}
+use Rattle.pt_session.specs.Effect.{Effects, Effects.{none, more}}
 use Rattle.pt_session.proofs.Dying.{clears_within}
 use Rattle.pt_session.proofs.Lists.{each_replaces, each_takes, each_map, each_both, two_takes, two_replaces}
 
 same_row : (row : Row) (count pins : ℕ) → IsLater row (record row { count = count; pins = pins })
 same_row row count pins = record { serial = refl; number = refl; ids = refl; form = refl; mode = refl; live = λ l. l }
 
-recounted : (tables after : Tables) (row : Row) (count pins : ℕ) → (row.live ≡ true → 1 ≤ row.count → 1 ≤ count) → (row.live ≡ false → 1 ≤ row.pins → 1 ≤ pins) → Changes tables row (record row { count = count; pins = pins }) after → Effect tables after
-recounted tables after row count pins f g h = changed row _ h.0 h.1 (same_row row count pins) (λ sound. record { drawn = sound.drawn; counted = λ l. f l (sound.counted l); pinned = λ d. g d (sound.pinned d) }) h.2
+recounted : (tables after : Tables) (row : Row) (count pins : ℕ) → (row.live ≡ true → 1 ≤ row.count → 1 ≤ count) →
+    (row.live ≡ false → 1 ≤ row.pins → 1 ≤ pins) →
+    Changes tables row (record row { count = count; pins = pins }) after → Effect tables after
+recounted tables after row count pins f g h =
+    changed row _ h.0 h.1 (same_row row count pins) (λ sound.
+    record { drawn = sound.drawn; counted = λ l. f l (sound.counted l); pinned = λ d. g d (sound.pinned d) }) h.2
 
 ends : (tables after : Tables) (row : Row) → Ends tables row after → Effect tables after
 ends tables after row h = ended row h.0 h.1 h.2
 
 pub dies : (tables after : Tables) (row : Row) (closings : ℕ) → Dies tables row closings after → Effect tables after
 dies tables after row closings (inl h) = ends tables after row h.2
-dies tables after row closings (inr h) = changed row _ h.2.0 h.2.1 (record { serial = refl; number = refl; ids = refl; form = refl; mode = refl; live = λ l. absurd (cc) }) (λ sound. record { drawn = sound.drawn; counted = λ l. absurd (cc); pinned = λ d. omega (arith, h.0) }) h.2.2
+dies tables after row closings (inr h) =
+    changed row _ h.2.0 h.2.1 (record {
+      serial = refl;
+      number = refl;
+      ids = refl;
+      form = refl;
+      mode = refl;
+      live =
+          λ l. absurd (cc);
+    }) (λ sound.
+    record { drawn = sound.drawn; counted = λ l. absurd (cc); pinned = λ d. omega (arith, h.0) }) h.2.2
 
-forgets_row : (tables after : Tables) (row : Row) (amount closings : ℕ) → ((amount < row.count) × (closings ≡ 0) × Changes tables row (record row { count = row.count - amount }) after) ⊎ ((row.count ≤ amount) × Dies tables row closings after) → Effect tables after
-forgets_row tables after row amount closings (inl h) = recounted tables after row (row.count - amount) row.pins (λ l m. omega (arith, h.0)) (λ d m. m) h.2
+forgets_row : (tables after : Tables) (row : Row) (amount closings : ℕ) →
+    ((amount < row.count) × (closings ≡ 0) × Changes tables row (record row { count = row.count - amount }) after)
+    ⊎ ((row.count ≤ amount) × Dies tables row closings after) → Effect tables after
+forgets_row tables after row amount closings (inl h) =
+    recounted tables after row (row.count - amount) row.pins (λ l m. omega (arith, h.0)) (λ d m. m) h.2
 forgets_row tables after row amount closings (inr h) = dies tables after row closings h.1
 
-pub forgets_one : (tables after : Tables) (number amount closings : ℕ) → ForgetsOne tables number amount closings after → Effect tables after
+pub forgets_one : (tables after : Tables) (number amount closings : ℕ) →
+    ForgetsOne tables number amount closings after → Effect tables after
 forgets_one tables after number amount closings (inl h) = nothing h.2
 forgets_one tables after number amount closings (inr h) = forgets_row tables after h.0 amount closings h.2
 
-pub forgets_all : (tables after : Tables) (list : List (ℕ × ℕ)) (closings : ℕ) → ForgetsAll tables list closings after → Effects tables after
+pub forgets_all : (tables after : Tables) (list : List (ℕ × ℕ)) (closings : ℕ) →
+    ForgetsAll tables list closings after → Effects tables after
 forgets_all tables after [] closings h = subst (λ z. Effects tables z) (sym h.1) none
-forgets_all tables after (pair ∷ list) closings h = more (forgets_one tables h.0 pair.0 pair.1 h.1 h.3) (forgets_all h.0 after list h.2 h.4)
+forgets_all tables after (pair ∷ list) closings h =
+    more (forgets_one tables h.0 pair.0 pair.1 h.1 h.3) (forgets_all h.0 after list h.2 h.4)
 
-unpins_row : (tables after : Tables) (row : Row) (pins closings : ℕ) → ((row.live ≡ false) × (pins ≡ 0) × (closings ≡ 1) × Ends tables row after) ⊎ (((row.live ≡ true) ⊎ (pins ≢ 0)) × (closings ≡ 0) × Changes tables row (record row { pins = pins }) after) → Effect tables after
+unpins_row : (tables after : Tables) (row : Row) (pins closings : ℕ) →
+    ((row.live ≡ false) × (pins ≡ 0) × (closings ≡ 1) × Ends tables row after)
+    ⊎ (((row.live ≡ true) ⊎ (pins ≢ 0)) × (closings ≡ 0) × Changes tables row (record row { pins = pins }) after) →
+    Effect tables after
 unpins_row tables after row pins closings (inl h) = ends tables after row h.3
-unpins_row tables after row pins closings (inr h) = recounted tables after row row.count pins (λ l m. m) (λ d m. ⊎_elim (λ l. absurd (cc)) (λ p. omega (arith, p)) h.0) h.2
+unpins_row tables after row pins closings (inr h) =
+    recounted tables after row row.count pins (λ l m. m) (λ d m.
+    ⊎_elim (λ l. absurd (cc)) (λ p. omega (arith, p)) h.0) h.2
 
-gives_again : (tables after : Tables) (ids : ObjIds) (number : ℕ) → GivesAgain tables ids number after → Effect tables after
-gives_again tables after ids number h = recounted tables after h.0 (h.0.count + 1) h.0.pins (λ l m. omega arith) (λ d m. m) h.4
+gives_again : (tables after : Tables) (ids : ObjIds) (number : ℕ) → GivesAgain tables ids number after →
+    Effect tables after
+gives_again tables after ids number h =
+    recounted tables after h.0 (h.0.count + 1) h.0.pins (λ l m. omega arith) (λ d m. m) h.4
 
-adds : (tables after : Tables) (number : ℕ) (form : RowForm) (ids : ObjIds) (mode count : ℕ) (negotiated : Option Negotiated) → 1 ≤ count → IsFree tables number ids → after ≡ agreed negotiated (with_row tables (new_row tables number form ids mode count)) → Effect tables after
-adds tables after number form ids mode count None l free e = added (new_row tables number form ids mode count) tables.negotiated (record { serial = refl; live = refl; count = l; pins = refl; free = free }) e
-adds tables after number form ids mode count (Some negotiated) l free e = added (new_row tables number form ids mode count) negotiated (record { serial = refl; live = refl; count = l; pins = refl; free = free }) e
+adds : (tables after : Tables) (number : ℕ) (form : RowForm) (ids : ObjIds) (mode count : ℕ)
+    (negotiated : Option Negotiated) → 1 ≤ count → IsFree tables number ids →
+    after ≡ agreed negotiated (with_row tables (new_row tables number form ids mode count)) → Effect tables after
+adds tables after number form ids mode count None l free e =
+    added (new_row tables number form ids mode count) tables.negotiated (record {
+      serial = refl;
+      live = refl;
+      count =
+          l;
+      pins = refl;
+      free = free;
+    }) e
+adds tables after number form ids mode count (Some negotiated) l free e =
+    added (new_row tables number form ids mode count) negotiated (record {
+      serial = refl;
+      live = refl;
+      count = l;
+      pins = refl;
+      free = free;
+    }) e
 
 one : {tables after : Tables} → Effect tables after → Effects tables after
 one e = more e none
@@ -58,27 +110,46 @@ one e = more e none
 stays : {tables after : Tables} → after ≡ tables → Effects tables after
 stays e = one (nothing e)
 
-handle_repinned : (tables after : Tables) (row : HandleRow) (pins : ℕ) → (row.live ≡ false → 1 ≤ row.pins → 1 ≤ pins) → ChangesHandle tables row (record row { pins = pins }) after → Effect tables after
-handle_repinned tables after row pins g h = handle_changed row _ h.0 h.1 (record { serial = refl; handle = refl; number = refl; fd = refl; live = λ l. l }) (λ sound. record { drawn = sound.drawn; pinned = λ d. g d (sound.pinned d) }) h.2
+handle_repinned : (tables after : Tables) (row : HandleRow) (pins : ℕ) →
+    (row.live ≡ false → 1 ≤ row.pins → 1 ≤ pins) → ChangesHandle tables row (record row { pins = pins }) after →
+    Effect tables after
+handle_repinned tables after row pins g h =
+    handle_changed row _ h.0 h.1 (record { serial = refl; handle = refl; number = refl; fd = refl; live = λ l. l })
+    (λ sound. record { drawn = sound.drawn; pinned = λ d. g d (sound.pinned d) }) h.2
 
 handle_ends : (tables after : Tables) (row : HandleRow) → EndsHandle tables row after → Effect tables after
 handle_ends tables after row h = handle_ended row h.0 h.1 h.2
 
-pub handle_dies : (tables after : Tables) (row : HandleRow) (closings : ℕ) → HandleDies tables row closings after → Effect tables after
+pub handle_dies : (tables after : Tables) (row : HandleRow) (closings : ℕ) → HandleDies tables row closings after →
+    Effect tables after
 handle_dies tables after row closings (inl h) = handle_ends tables after row h.2
-handle_dies tables after row closings (inr h) = handle_changed row _ h.2.0 h.2.1 (record { serial = refl; handle = refl; number = refl; fd = refl; live = λ l. absurd (cc) }) (λ sound. record { drawn = sound.drawn; pinned = λ d. omega (arith, h.0) }) h.2.2
+handle_dies tables after row closings (inr h) =
+    handle_changed row _ h.2.0 h.2.1 (record {
+      serial = refl;
+      handle = refl;
+      number = refl;
+      fd = refl;
+      live =
+          λ l. absurd (cc);
+    }) (λ sound. record { drawn = sound.drawn; pinned = λ d. omega (arith, h.0) }) h.2.2
 
-unpins_handle : (tables after : Tables) (row : HandleRow) (pins closings : ℕ) → ((row.live ≡ false) × (pins ≡ 0) × (closings ≡ 1) × EndsHandle tables row after) ⊎ (((row.live ≡ true) ⊎ (pins ≢ 0)) × (closings ≡ 0) × ChangesHandle tables row (record row { pins = pins }) after) → Effect tables after
+unpins_handle : (tables after : Tables) (row : HandleRow) (pins closings : ℕ) →
+    ((row.live ≡ false) × (pins ≡ 0) × (closings ≡ 1) × EndsHandle tables row after)
+    ⊎ (((row.live ≡ true) ⊎ (pins ≢ 0)) × (closings ≡ 0)
+    × ChangesHandle tables row (record row { pins = pins }) after) → Effect tables after
 unpins_handle tables after row pins closings (inl h) = handle_ends tables after row h.3
-unpins_handle tables after row pins closings (inr h) = handle_repinned tables after row pins (λ d m. ⊎_elim (λ l. absurd (cc)) (λ p. omega (arith, p)) h.0) h.2
+unpins_handle tables after row pins closings (inr h) =
+    handle_repinned tables after row pins (λ d m. ⊎_elim (λ l. absurd (cc)) (λ p. omega (arith, p)) h.0) h.2
 
 pub numbers_die : (tables after : Tables) (closings : ℕ) → NumbersDie tables closings after → Effects tables after
 numbers_die tables after closings (no_number h) = none
-numbers_die tables after closings (next_number {mid = mid} {one = one} {more = rest} row l least d k) = more (dies tables mid row one d) (numbers_die mid after rest k)
+numbers_die tables after closings (next_number {mid = mid} {one = one} {more = rest} row l least d k) =
+    more (dies tables mid row one d) (numbers_die mid after rest k)
 
 pub handles_die : (tables after : Tables) (closings : ℕ) → HandlesDie tables closings after → Effects tables after
 handles_die tables after closings (no_handle h) = none
-handles_die tables after closings (next_handle {mid = mid} {one = one} {more = rest} row l least d k) = more (handle_dies tables mid row one d) (handles_die mid after rest k)
+handles_die tables after closings (next_handle {mid = mid} {one = one} {more = rest} row l least d k) =
+    more (handle_dies tables mid row one d) (handles_die mid after rest k)
 
 both : {tables mid after : Tables} → Effects tables mid → Effects mid after → Effects tables after
 both none fs = fs
@@ -87,53 +158,74 @@ both (more e es) fs = more e (both es fs)
 clears : (tables after : Tables) (era closings : ℕ) → Clears tables era closings after → Effects tables after
 clears tables after era closings h =
     let same = ap (λ (t : Tables). t.era) (clears_within tables after era closings h) in
-    both (numbers_die tables h.0 h.2 h.4) (both (handles_die h.0 h.1 h.3 h.5) (one (begun era _ (omega (arith, same, h.7)) h.8)))
+    both (numbers_die tables h.0 h.2 h.4)
+    (both (handles_die h.0 h.1 h.3 h.5) (one (begun era _ (omega (arith, same, h.7)) h.8)))
 
-pub effects : (tables after : Tables) (asked : Change) (told : EventReply) → Happens tables asked told after → Effects tables after
+pub effects : (tables after : Tables) (asked : Change) (told : EventReply) → Happens tables asked told after →
+    Effects tables after
 effects tables after change.Begin (reply.Began era negotiated) h = stays h.2
-effects tables after (change.Resolve number) (reply.Resolved serial form ids mode) h = one (recounted tables after h.0 h.0.count (h.0.pins + 1) (λ l m. m) (λ d m. omega arith) h.7)
+effects tables after (change.Resolve number) (reply.Resolved serial form ids mode) h =
+    one (recounted tables after h.0 h.0.count (h.0.pins + 1) (λ l m. m) (λ d m. omega arith) h.7)
 effects tables after (change.Resolve number) (reply.Refused NotLive) h = stays h.1
 effects tables after (change.Resolve number) (reply.Refused Last) h = stays h.4
 effects tables after (change.Unpin serial) (reply.Done closings) h = one (unpins_row tables after h.0 h.1 closings h.4)
 effects tables after (change.Unpin serial) (reply.Refused NotLive) h = stays h.1
-effects tables after (change.Claim era handle ids) (reply.Claimed number) h = one (gives_again tables after ids number h.1)
+effects tables after (change.Claim era handle ids) (reply.Claimed number) h =
+    one (gives_again tables after ids number h.1)
 effects tables after (change.Claim era handle ids) reply.Absent h = stays h.2
 effects tables after (change.Claim era handle ids) (reply.Refused Overtaken) h = stays h.1
 effects tables after (change.Claim era handle ids) (reply.Refused Last) h = stays h.2
-effects tables after change.TakeFd reply.Taken h = one (counted h.0 tables.next_number (λ l. omega arith) (omega arith) h.2)
+effects tables after change.TakeFd reply.Taken h =
+    one (counted h.0 tables.next_number (λ l. omega arith) (omega arith) h.2)
 effects tables after change.TakeFd (reply.Refused NoSlot) h = stays h.1
-effects tables after change.GiveFd reply.Given h = one (counted (tables.slots + 1) tables.next_number (λ l. omega arith) (omega arith) h.1)
+effects tables after change.GiveFd reply.Given h =
+    one (counted (tables.slots + 1) tables.next_number (λ l. omega arith) (omega arith) h.1)
 effects tables after change.GiveFd (reply.Refused NotLive) h = stays h.1
-effects tables after change.DrawNode (reply.Drawn number) h = one (counted tables.slots (tables.next_number + 1) (λ l. l) (omega arith) h.2)
+effects tables after change.DrawNode (reply.Drawn number) h =
+    one (counted tables.slots (tables.next_number + 1) (λ l. l) (omega arith) h.2)
 effects tables after change.DrawNode (reply.Refused Last) h = stays h.1
-effects tables after (change.Insert era number form ids mode) (reply.Inserted given) h = one (adds tables after number form ids mode 1 None (omega arith) h.1 h.4)
-effects tables after (change.Insert era number form ids mode) (reply.Found given) h = one (gives_again tables after ids given h.1)
+effects tables after (change.Insert era number form ids mode) (reply.Inserted given) h =
+    one (adds tables after number form ids mode 1 None (omega arith) h.1 h.4)
+effects tables after (change.Insert era number form ids mode) (reply.Found given) h =
+    one (gives_again tables after ids given h.1)
 effects tables after (change.Insert era number form ids mode) (reply.Refused Overtaken) h = stays h.1
 effects tables after (change.Insert era number form ids mode) (reply.Refused Live) h = stays h.3
 effects tables after (change.Insert era number form ids mode) (reply.Refused Last) h = stays h.2
 effects tables after (change.Insert era number form ids mode) (reply.Refused Memory) h = stays h.3
-effects tables after (change.InsertRoot era form ids mode negotiated) (reply.Inserted given) h = one (adds tables after 1 form ids mode 2 negotiated (omega arith) h.1 h.4)
+effects tables after (change.InsertRoot era form ids mode negotiated) (reply.Inserted given) h =
+    one (adds tables after 1 form ids mode 2 negotiated (omega arith) h.1 h.4)
 effects tables after (change.InsertRoot era form ids mode negotiated) (reply.Refused Overtaken) h = stays h.1
 effects tables after (change.InsertRoot era form ids mode negotiated) (reply.Refused Live) h = stays h.2
 effects tables after (change.InsertRoot era form ids mode negotiated) (reply.Refused Last) h = stays h.3
 effects tables after (change.InsertRoot era form ids mode negotiated) (reply.Refused Memory) h = stays h.3
 effects tables after (change.Forget list) (reply.Done closings) h = forgets_all tables after list closings h
-effects tables after (change.GiveBack era number) (reply.Done closings) h = one (forgets_one tables after number 1 closings h.2)
+effects tables after (change.GiveBack era number) (reply.Done closings) h =
+    one (forgets_one tables after number 1 closings h.2)
 effects tables after (change.GiveBack era number) (reply.Refused Overtaken) h = stays h.1
 effects tables after (change.GiveBack era number) (reply.Refused NotLive) h = stays h.2
 effects tables after change.DrawHandle (reply.Drawn handle) h = one (drawn (tables.next_handle + 1) (omega arith) h.2)
 effects tables after change.DrawHandle (reply.Refused Last) h = stays h.1
-effects tables after (change.InsertHandle era handle number fd) (reply.Inserted given) h = one (handle_added (new_handle tables handle number fd) (record { serial = refl; live = refl; pins = refl; free = h.1 }) h.4)
+effects tables after (change.InsertHandle era handle number fd) (reply.Inserted given) h =
+    one (handle_added (new_handle tables handle number fd) (record {
+      serial = refl;
+      live = refl;
+      pins = refl;
+      free =
+          h.1;
+    }) h.4)
 effects tables after (change.InsertHandle era handle number fd) (reply.Refused Overtaken) h = stays h.1
 effects tables after (change.InsertHandle era handle number fd) (reply.Refused Live) h = stays h.2
 effects tables after (change.InsertHandle era handle number fd) (reply.Refused Last) h = stays h.3
 effects tables after (change.InsertHandle era handle number fd) (reply.Refused Memory) h = stays h.3
-effects tables after (change.PinHandle handle number) (reply.Pinned serial fd) h = one (handle_repinned tables after h.0 (h.0.pins + 1) (λ d m. omega arith) h.5)
+effects tables after (change.PinHandle handle number) (reply.Pinned serial fd) h =
+    one (handle_repinned tables after h.0 (h.0.pins + 1) (λ d m. omega arith) h.5)
 effects tables after (change.PinHandle handle number) (reply.Refused NotLive) h = stays h.1
 effects tables after (change.PinHandle handle number) (reply.Refused Last) h = stays h.4
-effects tables after (change.UnpinHandle serial) (reply.Done closings) h = one (unpins_handle tables after h.0 h.1 closings h.4)
+effects tables after (change.UnpinHandle serial) (reply.Done closings) h =
+    one (unpins_handle tables after h.0 h.1 closings h.4)
 effects tables after (change.UnpinHandle serial) (reply.Refused NotLive) h = stays h.1
-effects tables after (change.Release handle number) (reply.Done closings) h = one (handle_dies tables after h.0 closings h.2)
+effects tables after (change.Release handle number) (reply.Done closings) h =
+    one (handle_dies tables after h.0 closings h.2)
 effects tables after (change.Release handle number) (reply.Refused NotLive) h = stays h.1
 effects tables after change.Clear (reply.Cleared era closings) h = clears tables after era closings h.1
 effects tables after change.Clear (reply.Refused Last) h = stays h.1
@@ -142,15 +234,20 @@ effects tables after change.TakeClosing (reply.Refused NotLive) h = stays h.1
 effects tables after _ _ h = absurd h
 
 -- what each kind of step keeps, some steps keep
-pub effects_keep : (P : Tables → Type 0) → ((tables after : Tables) → Effect tables after → P tables → P after) → (tables after : Tables) → Effects tables after → P tables → P after
+pub effects_keep : (P : Tables → Type 0) → ((tables after : Tables) → Effect tables after → P tables → P after) →
+    (tables after : Tables) → Effects tables after → P tables → P after
 effects_keep P keeps tables after none p = p
 effects_keep P keeps tables after (more {mid = mid} e es) p = effects_keep P keeps mid after es (keeps tables mid e p)
 
 -- the new row stands apart from each that is there
 apart_new : (tables : Tables) (row : Row) → IsNewRow tables row → Agree tables → Each (AreApart row) tables.rows
 apart_new tables row new agree =
-    let named : Each (λ other. (HasIds row.ids other → ⊥) × (HasNumber row.number other → ⊥)) tables.rows = each_both (λ other. HasIds row.ids other → ⊥) (λ other. HasNumber row.number other → ⊥) (λ other. (HasIds row.ids other → ⊥) × (HasNumber row.number other → ⊥)) tables.rows (λ other p q. (p, q)) new.free.0 new.free.1 in
-    each_both (IsSoundRow tables.next_row) (λ other. (HasIds row.ids other → ⊥) × (HasNumber row.number other → ⊥)) (AreApart row) tables.rows
+    let named : Each (λ other. (HasIds row.ids other → ⊥) × (HasNumber row.number other → ⊥)) tables.rows =
+    each_both (λ other. HasIds row.ids other → ⊥) (λ other. HasNumber row.number other →
+    ⊥) (λ other. (HasIds row.ids other → ⊥)
+    × (HasNumber row.number other → ⊥)) tables.rows (λ other p q. (p, q)) new.free.0 new.free.1 in
+    each_both (IsSoundRow tables.next_row) (λ other. (HasIds row.ids other → ⊥)
+    × (HasNumber row.number other → ⊥)) (AreApart row) tables.rows
     (λ other sound free. record {
       serials = λ e. let l = sound.drawn in let s = new.serial in absurd (omega (arith, e));
       numbers = λ l m e. free.1 (m, sym e);
@@ -158,9 +255,11 @@ apart_new tables row new agree =
     })
     agree.sound named
 
-handles_apart_new : (tables : Tables) (row : HandleRow) → IsNewHandle tables row → Agree tables → Each (AreHandlesApart row) tables.handles
+handles_apart_new : (tables : Tables) (row : HandleRow) → IsNewHandle tables row → Agree tables →
+    Each (AreHandlesApart row) tables.handles
 handles_apart_new tables row new agree =
-    each_both (IsSoundHandle tables.next_row) (λ other. HasHandle row.handle other → ⊥) (AreHandlesApart row) tables.handles
+    each_both (IsSoundHandle tables.next_row) (λ other. HasHandle row.handle other →
+    ⊥) (AreHandlesApart row) tables.handles
     (λ other sound free. record {
       serials = λ e. let l = sound.drawn in let s = new.serial in absurd (omega (arith, e));
       handles = λ l m e. free (m, sym e);
@@ -172,52 +271,117 @@ abbrev AreOthers : List HandleRow → Row → Type 0
 AreOthers handles row = Each (λ handle. row.serial ≢ handle.serial) handles
 
 -- the same of serials, as rows are known by them
-others_later : (handles : List HandleRow) (was now : Row) → now.serial ≡ was.serial → AreOthers handles was → AreOthers handles now
-others_later handles was now e h = each_map (λ (handle : HandleRow). was.serial ≢ handle.serial) (λ (handle : HandleRow). now.serial ≢ handle.serial) handles (λ handle n f. n (sym e ∙ f)) h
+others_later : (handles : List HandleRow) (was now : Row) → now.serial ≡ was.serial → AreOthers handles was →
+    AreOthers handles now
+others_later handles was now e h =
+    each_map (λ (handle : HandleRow). was.serial ≢ handle.serial) (λ (handle : HandleRow). now.serial
+    ≢ handle.serial) handles (λ handle n f. n (sym e ∙ f)) h
 
 -- a serial that none of the handles has had yet
 others_new : (tables : Tables) (row : Row) → row.serial ≡ tables.next_row → Agree tables → AreOthers tables.handles row
-others_new tables row s agree = each_map (IsSoundHandle tables.next_row) (λ (handle : HandleRow). row.serial ≢ handle.serial) tables.handles (λ handle sound e. let l = sound.drawn in absurd (omega (arith, e, s))) agree.sound_handles
+others_new tables row s agree =
+    each_map (IsSoundHandle tables.next_row) (λ (handle : HandleRow). row.serial
+    ≢ handle.serial) tables.handles (λ handle sound e. let l = sound.drawn in
+    absurd (omega (arith, e, s))) agree.sound_handles
 
-others_handle : (tables : Tables) (row : HandleRow) → row.serial ≡ tables.next_row → Agree tables → Each (AreOthers (row ∷ tables.handles)) tables.rows
-others_handle tables row s agree = each_both (IsSoundRow tables.next_row) (AreOthers tables.handles) (AreOthers (row ∷ tables.handles)) tables.rows (λ other sound others. ((λ e. let l = sound.drawn in absurd (omega (arith, e, s))), others)) agree.sound agree.serials
+others_handle : (tables : Tables) (row : HandleRow) → row.serial ≡ tables.next_row → Agree tables →
+    Each (AreOthers (row ∷ tables.handles)) tables.rows
+others_handle tables row s agree =
+    each_both (IsSoundRow tables.next_row) (AreOthers tables.handles) (AreOthers (row ∷ tables.handles)) tables.rows
+    (λ other sound others.
+    ((λ e. let l = sound.drawn in absurd (omega (arith, e, s))), others)) agree.sound agree.serials
 
 handles_drawn : (tables : Tables) → Agree tables → Each (IsSoundHandle (tables.next_row + 1)) tables.handles
-handles_drawn tables agree = each_map (IsSoundHandle tables.next_row) (IsSoundHandle (tables.next_row + 1)) tables.handles (λ other sound. record { drawn = let l = sound.drawn in omega arith; pinned = sound.pinned }) agree.sound_handles
+handles_drawn tables agree =
+    each_map (IsSoundHandle tables.next_row) (IsSoundHandle (tables.next_row + 1)) tables.handles (λ other sound.
+    record { drawn = let l = sound.drawn in omega arith; pinned = sound.pinned }) agree.sound_handles
 
 pub agree_effect : (tables after : Tables) → Effect tables after → Agree tables → Agree after
 agree_effect tables after (nothing e) agree = subst Agree (sym e) agree
-agree_effect tables after (counted slots next l m e) agree = subst Agree (sym e) (record { sound = agree.sound; apart = agree.apart; sound_handles = agree.sound_handles; handles_apart = agree.handles_apart; serials = agree.serials; slots = l agree.slots })
+agree_effect tables after (counted slots next l m e) agree =
+    subst Agree (sym e) (record {
+      sound = agree.sound;
+      apart = agree.apart;
+      sound_handles = agree.sound_handles;
+      handles_apart = agree.handles_apart;
+      serials = agree.serials;
+      slots = l agree.slots;
+    })
 agree_effect tables after (changed was now rows r later sound e) agree = subst Agree (sym e) (record {
   sound = each_replaces (IsSoundRow tables.next_row) r sound agree.sound;
   apart = two_replaces AreApart r
-      (λ other p. record { serials = λ e. p.serials (sym later.serial ∙ e); numbers = λ l m e. p.numbers (later.live l) m (sym later.number ∙ e); objects = λ l m e. p.objects (later.live l) m (sym later.ids ∙ e) })
-      (λ other p. record { serials = λ e. p.serials (e ∙ later.serial); numbers = λ l m e. p.numbers l (later.live m) (e ∙ later.number); objects = λ l m e. p.objects l (later.live m) (e ∙ later.ids) })
+      (λ other p. record {
+        serials = λ e. p.serials (sym later.serial ∙ e);
+        numbers = λ l m e. p.numbers (later.live l) m (sym later.number ∙ e);
+        objects = λ l m e. p.objects (later.live l) m (sym later.ids ∙ e);
+      })
+      (λ other p. record {
+        serials = λ e. p.serials (e ∙ later.serial);
+        numbers = λ l m e. p.numbers l (later.live m) (e ∙ later.number);
+        objects = λ l m e. p.objects l (later.live m) (e ∙ later.ids);
+      })
       agree.apart;
   sound_handles = agree.sound_handles;
   handles_apart = agree.handles_apart;
   serials = each_replaces (AreOthers tables.handles) r (others_later tables.handles was now later.serial) agree.serials;
   slots = agree.slots;
 })
-agree_effect tables after (ended row rows t e) agree = subst Agree (sym e) (record { sound = each_takes (IsSoundRow tables.next_row) t agree.sound; apart = two_takes AreApart t agree.apart; sound_handles = agree.sound_handles; handles_apart = agree.handles_apart; serials = each_takes (AreOthers tables.handles) t agree.serials; slots = agree.slots })
+agree_effect tables after (ended row rows t e) agree =
+    subst Agree (sym e) (record {
+      sound = each_takes (IsSoundRow tables.next_row) t agree.sound;
+      apart =
+          two_takes AreApart t agree.apart;
+      sound_handles = agree.sound_handles;
+      handles_apart = agree.handles_apart;
+      serials = each_takes (AreOthers tables.handles) t agree.serials;
+      slots = agree.slots;
+    })
 agree_effect tables after (added row negotiated new e) agree = subst Agree (sym e) (record {
-  sound = (record { drawn = let s = new.serial in omega arith; counted = λ l. new.count; pinned = λ d. absurd (let l = new.live in cc) }, each_map (IsSoundRow tables.next_row) (IsSoundRow (tables.next_row + 1)) tables.rows (λ other sound. record { drawn = let l = sound.drawn in omega arith; counted = sound.counted; pinned = sound.pinned }) agree.sound);
+  sound = (
+    record {
+      drawn = let s = new.serial in omega arith;
+      counted = λ l. new.count;
+      pinned = λ d. absurd (let l = new.live in cc);
+    },
+    each_map (IsSoundRow tables.next_row) (IsSoundRow (tables.next_row + 1)) tables.rows (λ other sound.
+        record {
+          drawn = let l = sound.drawn in omega arith;
+          counted = sound.counted;
+          pinned = sound.pinned;
+        }) agree.sound,
+  );
   apart = (apart_new tables row new agree, agree.apart);
   sound_handles = handles_drawn tables agree;
   handles_apart = agree.handles_apart;
   serials = (others_new tables row new.serial agree, agree.serials);
   slots = agree.slots;
 })
-agree_effect tables after (drawn next l e) agree = subst Agree (sym e) (record { sound = agree.sound; apart = agree.apart; sound_handles = agree.sound_handles; handles_apart = agree.handles_apart; serials = agree.serials; slots = agree.slots })
+agree_effect tables after (drawn next l e) agree =
+    subst Agree (sym e) (record {
+      sound = agree.sound;
+      apart = agree.apart;
+      sound_handles = agree.sound_handles;
+      handles_apart = agree.handles_apart;
+      serials = agree.serials;
+      slots = agree.slots;
+    })
 agree_effect tables after (handle_changed was now handles r later sound e) agree = subst Agree (sym e) (record {
   sound = agree.sound;
   apart = agree.apart;
   sound_handles = each_replaces (IsSoundHandle tables.next_row) r sound agree.sound_handles;
   handles_apart = two_replaces AreHandlesApart r
-      (λ other p. record { serials = λ e. p.serials (sym later.serial ∙ e); handles = λ l m e. p.handles (later.live l) m (sym later.handle ∙ e) })
-      (λ other p. record { serials = λ e. p.serials (e ∙ later.serial); handles = λ l m e. p.handles l (later.live m) (e ∙ later.handle) })
+      (λ other p. record {
+        serials = λ e. p.serials (sym later.serial ∙ e);
+        handles = λ l m e. p.handles (later.live l) m (sym later.handle ∙ e);
+      })
+      (λ other p. record {
+        serials = λ e. p.serials (e ∙ later.serial);
+        handles = λ l m e. p.handles l (later.live m) (e ∙ later.handle);
+      })
       agree.handles_apart;
-  serials = each_map (AreOthers tables.handles) (AreOthers handles) tables.rows (λ row others. each_replaces (λ (handle : HandleRow). row.serial ≢ handle.serial) r (λ n e. n (e ∙ later.serial)) others) agree.serials;
+  serials = each_map (AreOthers tables.handles) (AreOthers handles) tables.rows (λ row others.
+      each_replaces (λ (handle : HandleRow). row.serial
+      ≢ handle.serial) r (λ n e. n (e ∙ later.serial)) others) agree.serials;
   slots = agree.slots;
 })
 agree_effect tables after (handle_ended row handles t e) agree = subst Agree (sym e) (record {
@@ -225,19 +389,49 @@ agree_effect tables after (handle_ended row handles t e) agree = subst Agree (sy
   apart = agree.apart;
   sound_handles = each_takes (IsSoundHandle tables.next_row) t agree.sound_handles;
   handles_apart = two_takes AreHandlesApart t agree.handles_apart;
-  serials = each_map (AreOthers tables.handles) (AreOthers handles) tables.rows (λ row others. each_takes (λ (handle : HandleRow). row.serial ≢ handle.serial) t others) agree.serials;
+  serials = each_map (AreOthers tables.handles) (AreOthers handles) tables.rows (λ row others.
+      each_takes (λ (handle : HandleRow). row.serial ≢ handle.serial) t others) agree.serials;
   slots = agree.slots;
 })
 agree_effect tables after (handle_added row new e) agree = subst Agree (sym e) (record {
-  sound = each_map (IsSoundRow tables.next_row) (IsSoundRow (tables.next_row + 1)) tables.rows (λ other sound. record { drawn = let l = sound.drawn in omega arith; counted = sound.counted; pinned = sound.pinned }) agree.sound;
+  sound = each_map (IsSoundRow tables.next_row) (IsSoundRow (tables.next_row + 1)) tables.rows (λ other sound.
+      record {
+        drawn = let l = sound.drawn in omega arith;
+        counted = sound.counted;
+        pinned = sound.pinned;
+      }) agree.sound;
   apart = agree.apart;
-  sound_handles = (record { drawn = let s = new.serial in omega arith; pinned = λ d. absurd (let l = new.live in cc) }, handles_drawn tables agree);
+  sound_handles = (
+    record {
+      drawn = let s = new.serial in omega arith;
+      pinned = λ d. absurd (let l = new.live in cc);
+    },
+    handles_drawn tables agree,
+  );
   handles_apart = (handles_apart_new tables row new agree, agree.handles_apart);
   serials = others_handle tables row new.serial agree;
   slots = agree.slots;
 })
-agree_effect tables after (begun era negotiated l e) agree = subst Agree (sym e) (record { sound = agree.sound; apart = agree.apart; sound_handles = agree.sound_handles; handles_apart = agree.handles_apart; serials = agree.serials; slots = agree.slots })
-agree_effect tables after (shut first rest s e) agree = subst Agree (sym e) (record { sound = agree.sound; apart = agree.apart; sound_handles = agree.sound_handles; handles_apart = agree.handles_apart; serials = agree.serials; slots = agree.slots })
+agree_effect tables after (begun era negotiated l e) agree =
+    subst Agree (sym e) (record {
+      sound = agree.sound;
+      apart = agree.apart;
+      sound_handles = agree.sound_handles;
+      handles_apart = agree.handles_apart;
+      serials = agree.serials;
+      slots = agree.slots;
+    })
+agree_effect tables after (shut first rest s e) agree =
+    subst Agree (sym e) (record {
+      sound = agree.sound;
+      apart = agree.apart;
+      sound_handles = agree.sound_handles;
+      handles_apart = agree.handles_apart;
+      serials = agree.serials;
+      slots = agree.slots;
+    })
 
-pub keeps_agree : (tables after : Tables) (asked : Change) (told : EventReply) → Happens tables asked told after → Agree tables → Agree after
-keeps_agree tables after asked told h agree = effects_keep Agree agree_effect tables after (effects tables after asked told h) agree
+pub keeps_agree : (tables after : Tables) (asked : Change) (told : EventReply) → Happens tables asked told after →
+    Agree tables → Agree after
+keeps_agree tables after asked told h agree =
+    effects_keep Agree agree_effect tables after (effects tables after asked told h) agree

@@ -17,8 +17,10 @@ equal_from Greater e = absurd (false≢true e)
 nat_same : (k : ℕ) → nat_cmp k k ≡ Equal
 nat_same k = sym (nat_cmp_is k k Equal refl)
 
-module _ {K X : Type 0} (cmp : K → K → Ordering) (exact : CmpEqualImpliesEq cmp) (same : (k : K) → cmp k k ≡ Equal) (key : K) (value : Option X) (old new : K → Option X) where
-  puts_one : (other : K) (b : Bool) → is_at (cmp key) other ≡ b → new other ≡ cond b value (old other) → ((other ≡ key) × (new other ≡ value)) ⊎ ((other ≢ key) × (new other ≡ old other))
+module _ {K X : Type 0} (cmp : K → K → Ordering) (exact : CmpEqualImpliesEq cmp) (same : (k : K) → cmp k k ≡ Equal)
+    (key : K) (value : Option X) (old new : K → Option X) where
+  puts_one : (other : K) (b : Bool) → is_at (cmp key) other ≡ b → new other ≡ cond b value (old other) →
+      ((other ≡ key) × (new other ≡ value)) ⊎ ((other ≢ key) × (new other ≡ old other))
   puts_one other true t e = inl (sym (exact key other (equal_from (cmp key other) t)), e)
   puts_one other false t e = inr ((λ s. false≢true (sym t ∙ ap is_eq (ap (cmp key) s ∙ same key))), e)
 
@@ -38,14 +40,20 @@ at_other_by serial key false t n = refl
 pub at_other : (serial key : ℕ) → key ≢ serial → is_at (nat_cmp serial) key ≡ false
 at_other serial key n = at_other_by serial key (is_at (nat_cmp serial) key) refl n
 
-pub puts_number : {X : Type 0} (key : ℕ) (value : Option X) (old new : ℕ → Option X) → ((other : ℕ) → new other ≡ cond (is_at (nat_cmp key) other) value (old other)) → Puts key value old new
+pub puts_number : {X : Type 0} (key : ℕ) (value : Option X) (old new : ℕ → Option X) →
+    ((other : ℕ) → new other ≡ cond (is_at (nat_cmp key) other) value (old other)) → Puts key value old new
 puts_number key value old new h = puts_from nat_cmp exact_unsigned nat_same key value old new h
 
 then_same : (p q : Ordering) → p ≡ Equal → q ≡ Equal → ordering_then p q ≡ Equal
 then_same p q e f = rw (e, f) refl
 
 object_same : (k : ObjectKey) → object_cmp k k ≡ Equal
-object_same k = then_same (pair_cmp k.0 k.0) (nat_cmp k.1 k.1) (then_same (nat_cmp k.0.0 k.0.0) (nat_cmp k.0.1 k.0.1) (nat_same k.0.0) (nat_same k.0.1)) (nat_same k.1)
+object_same k = then_same (pair_cmp k.0 k.0) (nat_cmp k.1 k.1)
+    (then_same (nat_cmp k.0.0 k.0.0) (nat_cmp k.0.1 k.0.1) (nat_same k.0.0) (nat_same k.0.1)) (nat_same k.1)
 
-pub puts_object : {X : Type 0} (key : ObjectKey) (value : Option X) (old new : ObjectKey → Option X) → ((other : ObjectKey) → new other ≡ cond (is_at (object_cmp key) other) value (old other)) → Puts key value old new
-puts_object key value old new h = puts_from object_cmp (exact_pairs pair_cmp nat_cmp (exact_pairs nat_cmp nat_cmp exact_unsigned exact_unsigned) exact_unsigned) object_same key value old new h
+pub puts_object : {X : Type 0} (key : ObjectKey) (value : Option X) (old new : ObjectKey → Option X) →
+    ((other : ObjectKey) → new other ≡ cond (is_at (object_cmp key) other) value (old other)) → Puts key value old new
+puts_object key value old new h =
+    puts_from object_cmp
+    (exact_pairs pair_cmp nat_cmp
+    (exact_pairs nat_cmp nat_cmp exact_unsigned exact_unsigned) exact_unsigned) object_same key value old new h

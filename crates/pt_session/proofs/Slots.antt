@@ -12,7 +12,8 @@ use Rattle.pt_session.specs.Pending.{holds_slot, row_slots}
 form_holds : (form : RowForm) → holds_slot form ≡ true
 form_holds (File fd) = refl
 
-one_more : (row : Row) (rows : List Row) → length (row ∷ rows) ≡ cond (holds_slot row.form) (1 + length rows) (length rows)
+one_more : (row : Row) (rows : List Row) →
+    length (row ∷ rows) ≡ cond (holds_slot row.form) (1 + length rows) (length rows)
 one_more row rows = rw (form_holds row.form) (omega arith)
 
 -- each row is in file form
@@ -20,5 +21,7 @@ pub rows_hold : (rows : List Row) → row_slots rows ≡ length rows
 rows_hold rows = sym (is_count_by (λ (xs : List Row). length xs) (λ row. holds_slot row.form) refl one_more rows)
 
 -- as many rows are seen as the map holds
-pub length_seen : (entries : List (ℕ × Row)) (seen : List Row) → reverse (values_of entries) ≡ seen → length seen ≡ length entries
-length_seen entries seen e = ap (λ (xs : List Row). length xs) (sym e) ∙ length-reverse (values_of entries) ∙ length-values_of entries
+pub length_seen : (entries : List (ℕ × Row)) (seen : List Row) → reverse (values_of entries) ≡ seen →
+    length seen ≡ length entries
+length_seen entries seen e =
+    ap (λ (xs : List Row). length xs) (sym e) ∙ length-reverse (values_of entries) ∙ length-values_of entries

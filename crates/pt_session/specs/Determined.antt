@@ -10,4 +10,5 @@ use Rattle.pt_session.specs.declared.reply.EventReply.TheVariants.{Refused}
 -- two times that an event happens from the same tables are alike
 abbrev pub EventsAreDetermined : Type 0
 EventsAreDetermined = (tables after after' : Tables) (asked : Change) (told told' : EventReply) → Agree tables →
-    told ≢ Refused Memory → told' ≢ Refused Memory → Happens tables asked told after → Happens tables asked told' after' → (told ≡ told') × (after ≡ after')
+    told ≢ Refused Memory → told' ≢ Refused Memory → Happens tables asked told after →
+    Happens tables asked told' after' → (told ≡ told') × (after ≡ after')

@@ -59,7 +59,8 @@ row_at entries serial = lookup (is_at (nat_cmp serial)) entries
 
 -- the same but for one key, which has this now
 abbrev pub Puts : {K X : Type 0} → K → Option X → (K → Option X) → (K → Option X) → Type 0
-Puts {K} key value old new = (other : K) → ((other ≡ key) × (new other ≡ value)) ⊎ ((other ≢ key) × (new other ≡ old other))
+Puts {K} key value old new =
+    (other : K) → ((other ≡ key) × (new other ≡ value)) ⊎ ((other ≢ key) × (new other ≡ old other))
 
 -- each key has what it had
 abbrev pub SameAt : {K X : Type 0} → (K → Option X) → (K → Option X) → Type 0
@@ -71,16 +72,20 @@ Leaves true key old new = Puts key None old new
 Leaves false key old new = SameAt old new
 
 -- an index of the live rows: a key leads to the serial of the row that has it
-pub record Indexes {R K : Type 0} (is_live : R → Bool) (key : R → K) (rows : ℕ → Option R) (index : K → Option ℕ) : Type 0 where
-  pub sound : (k : K) (serial : ℕ) → index k ≡ Some serial → (row : R) × (rows serial ≡ Some row) × (is_live row ≡ true) × (key row ≡ k)
+pub record Indexes {R K : Type 0} (is_live : R → Bool) (key : R → K) (rows : ℕ → Option R)
+    (index : K → Option ℕ) : Type 0 where
+  pub sound : (k : K) (serial : ℕ) → index k ≡ Some serial →
+      (row : R) × (rows serial ≡ Some row) × (is_live row ≡ true) × (key row ≡ k)
   pub whole : (serial : ℕ) (row : R) → rows serial ≡ Some row → is_live row ≡ true → index (key row) ≡ Some serial
 
 -- each row stands under its serial
 abbrev pub IsKeyed : {R : Type 0} → (R → ℕ) → List (ℕ × R) → Type 0
 IsKeyed serial_of entries = Each (λ entry. serial_of entry.1 ≡ entry.0) entries
 
--- Each row can still be put on the closing list without memory, where others have their room, stands under its serial, and is found by what it stands for.
-pub record IsSoundStore (entries : List (ℕ × Row)) (number_index : ℕ → Option ℕ) (object_index : ObjectKey → Option ℕ) (others : ℕ) (capacity : ℕ) : Type 0 where
+-- Each row can still be put on the closing list without memory, where others have their room, stands under its
+-- serial, and is found by what it stands for.
+pub record IsSoundStore (entries : List (ℕ × Row)) (number_index : ℕ → Option ℕ) (object_index : ObjectKey → Option ℕ)
+    (others : ℕ) (capacity : ℕ) : Type 0 where
   pub room : length entries + others ≤ capacity
   pub keyed : IsKeyed serial_of_row entries
   pub ordered : EachTwo (IsOlder serial_of_row) (values_of entries)

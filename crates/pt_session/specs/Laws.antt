@@ -13,7 +13,8 @@ use Rattle.pt_session.specs.declared.reply.EventReply.TheVariants.{Refused, Clea
 
 -- it holds of each event that happens
 abbrev pub OfEachEvent : (Tables → Change → EventReply → Tables → Type 0) → Type 0
-OfEachEvent P = (tables after : Tables) (asked : Change) (told : EventReply) → Happens tables asked told after → P tables asked told after
+OfEachEvent P = (tables after : Tables) (asked : Change) (told : EventReply) → Happens tables asked told after →
+    P tables asked told after
 
 -- tables that agree go on to agree
 abbrev pub EventsKeepAgreement : Type 0
@@ -25,7 +26,9 @@ NewTablesAgree = (limit : ℕ) → Agree (empty_tables limit)
 
 -- a refused event changes nothing
 abbrev pub RefusalsChangeNothing : Type 0
-RefusalsChangeNothing = (tables after : Tables) (asked : Change) (refusal : EventRefusal) → Happens tables asked (Refused refusal) after → after ≡ tables
+RefusalsChangeNothing =
+    (tables after : Tables) (asked : Change) (refusal : EventRefusal) → Happens tables asked (Refused refusal) after →
+    after ≡ tables
 
 -- an event has one of its replies
 abbrev pub EventsAreAnswered : Type 0
@@ -33,13 +36,15 @@ EventsAreAnswered = OfEachEvent (λ tables asked told after. IsReplyFor asked to
 
 -- each closing that is put on the list is paid by a row
 abbrev pub ClosingsArePaid : Type 0
-ClosingsArePaid = OfEachEvent (λ tables asked told after. pending_in after + put_by told ≤ pending_in tables + added_by asked told)
+ClosingsArePaid = OfEachEvent (λ tables asked told after. pending_in after + put_by told
+    ≤ pending_in tables + added_by asked told)
 
 -- an event is some of the few kinds of steps
 abbrev pub EventsHaveEffects : Type 0
 EventsHaveEffects = OfEachEvent (λ tables asked told after. Effects tables after)
 
--- a clearing leaves no number and no handle live and nothing agreed on; the era is the next one, and counters and slots are as they were
+-- a clearing leaves no number and no handle live and nothing agreed on; the era is the next one, and counters and
+-- slots are as they were
 pub record IsCleared (tables after : Tables) (era : ℕ) : Type 0 where
   pub numbers : NoRow after (λ row. row.live ≡ true)
   pub handles : NoHandle after (λ row. row.live ≡ true)
@@ -53,4 +58,5 @@ pub record IsCleared (tables after : Tables) (era : ℕ) : Type 0 where
   pub limit : after.limit ≡ tables.limit
 
 abbrev pub ClearingsClear : Type 0
-ClearingsClear = (tables after : Tables) (era closings : ℕ) → Happens tables Clear (Cleared era closings) after → IsCleared tables after era
+ClearingsClear = (tables after : Tables) (era closings : ℕ) → Happens tables Clear (Cleared era closings) after →
+    IsCleared tables after era

@@ -33,8 +33,10 @@ IsHandleAfter rows above (Some found) =
 
 -- a live row, and no live one has a lesser number
 abbrev pub IsLeast : List Row → Row → Type 0
-IsLeast rows row = (row.live ≡ true) × IsAmong row rows × Each (λ other. other.live ≡ true → row.number ≤ other.number) rows
+IsLeast rows row = (row.live ≡ true) × IsAmong row rows
+    × Each (λ other. other.live ≡ true → row.number ≤ other.number) rows
 
 -- a live handle's row, and no live one has a lesser handle
 abbrev pub IsLeastHandle : List HandleRow → HandleRow → Type 0
-IsLeastHandle rows row = (row.live ≡ true) × IsAmong row rows × Each (λ other. other.live ≡ true → row.handle ≤ other.handle) rows
+IsLeastHandle rows row =
+    (row.live ≡ true) × IsAmong row rows × Each (λ other. other.live ≡ true → row.handle ≤ other.handle) rows

@@ -42,4 +42,5 @@ closing_slots closing = count_by (λ entry. entry.slot) closing
 
 -- the slots that are left and those that are held are all that there are
 abbrev pub AddsUp : Tables → Type 0
-AddsUp tables = tables.slots + row_slots tables.rows + length tables.handles + closing_slots tables.closing ≡ tables.limit
+AddsUp tables = tables.slots + row_slots tables.rows + length tables.handles + closing_slots tables.closing
+    ≡ tables.limit

@@ -9,7 +9,8 @@ pub use Rattle.pt_session.specs.declared.row.Row.{Row}
 pub use Rattle.pt_session.specs.declared.row.HandleRow.{HandleRow}
 pub use Rattle.pt_session.specs.declared.row.Closing.{Closing}
 
--- The newest row stands first in either list; the closing list is first in, first out. All rows' serials come from one counter.
+-- The newest row stands first in either list; the closing list is first in, first out. All rows' serials come from
+-- one counter.
 pub record Tables : Type 0 where
   pub era : ℕ
   pub next_number : ℕ

@@ -53,7 +53,9 @@ impl SessionTables {
     fn add(&mut self, new: &NewRow<'_>) -> Result<(), EventRefusal>
         requires agree { Agree (tables_of self.old) }
         requires absent { NoRow (tables_of self.old) (HasIds new.now.ids) }
-        ensures ok { OnOk result (tables_of self.new ≡ with_row (tables_of self.old) (new_row (tables_of self.old) new.now.number new.now.form.now new.now.ids new.now.mode new.now.count)) }
+        ensures ok { OnOk result (tables_of self.new
+            ≡ with_row (tables_of self.old)
+            (new_row (tables_of self.old) new.now.number new.now.form.now new.now.ids new.now.mode new.now.count)) }
         ensures free { OnOk result (IsFree (tables_of self.old) new.now.number new.now.ids) }
         ensures drawn { OnOk result (self.old.next_row < last_u64) }
         ensures refused { IfErr result (λ refusal. IsNotAdded (tables_of self.old) new.now.number new.now.ids refusal) }
@@ -84,7 +86,8 @@ impl SessionTables {
     }
 
     pub fn claim(&mut self, era: u64, handle: Option<&FileHandle>, ids: ObjIds) -> EventReply
-        ensures { Happens (tables_of self.old) (KeptEvent.Claim era (option_copied handle.entry) ids) result (tables_of self.new) }
+        ensures { Happens (tables_of self.old) (KeptEvent.Claim era (option_copied handle.entry) ids) result
+            (tables_of self.new) }
     {
         if era != self.era {
             return EventReply::Refused(EventRefusal::Overtaken);
@@ -99,7 +102,9 @@ impl SessionTables {
     pub fn insert(&mut self, era: u64, new: &NewRow<'_>) -> EventReply
         requires agree { Agree (tables_of self.old) }
         requires once { new.now.count ≡ 1 }
-        ensures { Happens (tables_of self.old) (KeptEvent.Insert era new.now.number new.now.form.now new.now.ids new.now.mode) result (tables_of self.new) }
+        ensures { Happens (tables_of self.old)
+            (KeptEvent.Insert era new.now.number new.now.form.now new.now.ids new.now.mode) result
+            (tables_of self.new) }
     {
         if era != self.era {
             return EventReply::Refused(EventRefusal::Overtaken);
@@ -123,7 +128,9 @@ impl SessionTables {
         requires agree { Agree (tables_of self.old) }
         requires root { new.now.number ≡ 1 }
         requires twice { new.now.count ≡ 2 }
-        ensures { Happens (tables_of self.old) (KeptEvent.InsertRoot era new.now.form.now new.now.ids new.now.mode negotiated) result (tables_of self.new) }
+        ensures { Happens (tables_of self.old)
+            (KeptEvent.InsertRoot era new.now.form.now new.now.ids new.now.mode negotiated) result
+            (tables_of self.new) }
     {
         if era != self.era {
             return EventReply::Refused(EventRefusal::Overtaken);

@@ -61,7 +61,8 @@ fn put_handle(rows: &mut HandleRows, serial: u64, now: HandleRow)
 
 /// Enters a row into the index, or leaves that as it is.
 fn enter_handle(handles: &mut Numbers, row: &HandleRow) -> Result<(), AllocError>
-    ensures ok { OnOk result (Puts row.now.handle (Some row.now.serial) (by_number handles.old) (by_number handles.new)) }
+    ensures ok { OnOk result
+        (Puts row.now.handle (Some row.now.serial) (by_number handles.old) (by_number handles.new)) }
     ensures err { OnErr result (SameAt (by_number handles.old) (by_number handles.new)) }
 {
     if handles.insert(row.handle, row.serial).is_err() {
@@ -98,8 +99,10 @@ impl HandleStore {
 
     /// The live row of this handle.
     pub fn live(&self, handle: u64) -> Option<HandleRow>
-        ensures found { MatchOption result (NoneOf (HasHandle handle) self.now) (λ row. HasHandle handle row × IsAmong row self.now) }
-        ensures alone { MatchOption result (Unit {0}) (λ row. Each (λ other. HasHandle handle other → other ≡ row) self.now) }
+        ensures found { MatchOption result (NoneOf (HasHandle handle) self.now) (λ row. HasHandle handle row
+            × IsAmong row self.now) }
+        ensures alone { MatchOption result (Unit {0}) (λ row.
+            Each (λ other. HasHandle handle other → other ≡ row) self.now) }
     {
         match self.handles.get(&handle) {
             None => None,
@@ -109,7 +112,8 @@ impl HandleStore {
 
     /// The live row of this handle, if it was opened for this number.
     pub fn of_number(&self, handle: u64, number: u64) -> Option<HandleRow>
-        ensures { MatchOption result (NoneOf (IsHandle handle number) self.now) (λ row. IsHandle handle number row × IsAmong row self.now) }
+        ensures { MatchOption result (NoneOf (IsHandle handle number) self.now) (λ row. IsHandle handle number row
+            × IsAmong row self.now) }
     {
         match self.live(handle) {
             None => None,
@@ -124,7 +128,8 @@ impl HandleStore {
 
     /// The row of this serial, if it has a pin.
     pub fn pinned(&self, serial: u64) -> Option<HandleRow>
-        ensures { MatchOption result (NoneOf (IsPinnedHandle serial) self.now) (λ row. IsPinnedHandle serial row × IsAmong row self.now) }
+        ensures { MatchOption result (NoneOf (IsPinnedHandle serial) self.now) (λ row. IsPinnedHandle serial row
+            × IsAmong row self.now) }
     {
         match handle_row_at(&self.rows, serial) {
             None => None,

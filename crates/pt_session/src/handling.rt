@@ -58,7 +58,8 @@ impl SessionTables {
 
     pub fn insert_handle(&mut self, era: u64, handle: u64, number: u64, fd: Fd) -> EventReply
         requires { Agree (tables_of self.old) }
-        ensures { Happens (tables_of self.old) (KeptEvent.InsertHandle era handle number fd) result (tables_of self.new) }
+        ensures { Happens (tables_of self.old) (KeptEvent.InsertHandle era handle number fd) result
+            (tables_of self.new) }
     {
         if era != self.era {
             return EventReply::Refused(EventRefusal::Overtaken);

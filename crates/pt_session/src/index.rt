@@ -27,8 +27,10 @@ pub fn object_key(ids: ObjIds) -> ObjectKey
 pub fn enter(numbers: &mut Numbers, objects: &mut Objects, row: &Row) -> Result<(), AllocError>
     requires number { by_number numbers.old row.now.number ≡ None }
     requires object { by_object objects.old (key_of row.now.ids) ≡ None }
-    ensures numbers { OnOk result (Puts row.now.number (Some row.now.serial) (by_number numbers.old) (by_number numbers.new)) }
-    ensures objects { OnOk result (Puts (key_of row.now.ids) (Some row.now.serial) (by_object objects.old) (by_object objects.new)) }
+    ensures numbers { OnOk result
+        (Puts row.now.number (Some row.now.serial) (by_number numbers.old) (by_number numbers.new)) }
+    ensures objects { OnOk result
+        (Puts (key_of row.now.ids) (Some row.now.serial) (by_object objects.old) (by_object objects.new)) }
     ensures numbers_stay { OnErr result (SameAt (by_number numbers.old) (by_number numbers.new)) }
     ensures objects_stay { OnErr result (SameAt (by_object objects.old) (by_object objects.new)) }
 {

@@ -17,7 +17,8 @@ pub struct Row {
     pub live: bool,
 }
 
-/// A handle's row, with the number that it was opened for. It is not live once it was released, and stays until its last pin is given back.
+/// A handle's row, with the number that it was opened for. It is not live once it was released, and stays until its
+/// last pin is given back.
 #[derive(Clone, Copy, Debug, PartialEq, Eq)]
 pub struct HandleRow {
     pub serial: u64,

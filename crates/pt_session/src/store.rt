@@ -1,11 +1,13 @@
-ghost use Rattle.std.specs.Prelude.{◌≡◌, ◌<◌, ◌≤◌, ◌+◌, length, ◌++◌, ◌∷◌, [], true, Some, MatchOption, OnOk, OnErr, IsSome};
+ghost use Rattle.std.specs.Prelude.{◌≡◌, ◌<◌, ◌≤◌, ◌+◌, length, ◌++◌, ◌∷◌, [], true, Some, MatchOption, OnOk, OnErr};
+ghost use Rattle.std.specs.Prelude.{IsSome};
 ghost use Rattle.std.specs.Ordering.{nat_cmp};
 ghost use Rattle.std.specs.Map.{set_value};
 ghost use Rattle.std.specs.BTreeMap.{is_at};
 ghost use Rattle.std.specs.VecDeque.{deque_capacity};
 ghost use Rattle.pt_host.specs.Words.{Each, Takes, Replaces};
 ghost use Rattle.pt_session.specs.Tables.{closing_of, closing_of_handle, HasNumber, HasIds, HasHandle, IsHandle};
-ghost use Rattle.pt_session.specs.Store.{IsAmong, NoneOf, IsPinned, IsPinnedHandle, IsLater, IsLaterHandle, dead_row, dead_handle};
+ghost use Rattle.pt_session.specs.Store.{IsAmong, NoneOf, IsPinned, IsPinnedHandle, IsLater, IsLaterHandle, dead_row};
+ghost use Rattle.pt_session.specs.Store.{dead_handle};
 ghost use Rattle.pt_session.specs.Index.{row_at, Puts};
 ghost use Rattle.pt_session.specs.Pending.{row_slots, closing_slots};
 ghost use Rattle.pt_session.specs.LiveAfter.{IsLiveAfter, IsHandleAfter, IsLeast, IsLeastHandle};
@@ -47,7 +49,9 @@ impl Model for RowStore {
       closing = store.closing.items;
     } };
 
-    ghost invariant = { λ store. IsSoundStore store.rows.entries (by_number store.numbers) (by_object store.objects) (length store.handles + length store.closing.items) (deque_capacity store.closing) };
+    ghost invariant = { λ store.
+        IsSoundStore store.rows.entries (by_number store.numbers) (by_object store.objects) (length store.handles
+        + length store.closing.items) (deque_capacity store.closing) };
 }
 
 fn row_of(rows: &Rows, serial: u64) -> Option<Row>
@@ -105,7 +109,8 @@ impl RowStore {
 
     /// The live row of this number.
     pub fn live(&self, number: u64) -> Option<Row>
-        ensures { MatchOption result (NoneOf (HasNumber number) self.now.rows) (λ row. HasNumber number row × IsAmong row self.now.rows) }
+        ensures { MatchOption result (NoneOf (HasNumber number) self.now.rows) (λ row. HasNumber number row
+            × IsAmong row self.now.rows) }
     {
         match self.numbers.get(&number) {
             None => None,
@@ -115,7 +120,8 @@ impl RowStore {
 
     /// The live row of this object.
     pub fn object(&self, ids: ObjIds) -> Option<Row>
-        ensures { MatchOption result (NoneOf (HasIds ids) self.now.rows) (λ row. HasIds ids row × IsAmong row self.now.rows) }
+        ensures { MatchOption result (NoneOf (HasIds ids) self.now.rows) (λ row. HasIds ids row
+            × IsAmong row self.now.rows) }
     {
         match self.objects.get(&object_key(ids)) {
             None => None,
@@ -125,7 +131,8 @@ impl RowStore {
 
     /// The row of this serial, if it has a pin.
     pub fn pinned(&self, serial: u64) -> Option<Row>
-        ensures { MatchOption result (NoneOf (IsPinned serial) self.now.rows) (λ row. IsPinned serial row × IsAmong row self.now.rows) }
+        ensures { MatchOption result (NoneOf (IsPinned serial) self.now.rows) (λ row. IsPinned serial row
+            × IsAmong row self.now.rows) }
     {
         match row_of(&self.rows, serial) {
             None => None,
@@ -198,7 +205,9 @@ impl RowStore {
 
     /// Takes the first descriptor that is to be closed.
     pub fn take_closing(&mut self) -> Option<Closing>
-        ensures { MatchOption result (self.old.closing ≡ [] × self.new ≡ self.old) (λ closing. self.old.closing ≡ closing ∷ self.new.closing × self.new.rows ≡ self.old.rows × self.new.handles ≡ self.old.handles) }
+        ensures { MatchOption result (self.old.closing ≡ []
+            × self.new ≡ self.old) (λ closing. self.old.closing ≡ closing ∷ self.new.closing
+            × self.new.rows ≡ self.old.rows × self.new.handles ≡ self.old.handles) }
     {
         self.closing.pop_front()
     }
@@ -218,7 +227,8 @@ impl RowStore {
 
     /// The live row of the least number.
     pub fn least(&self) -> Option<Row>
-        ensures least { MatchOption result (NoneOf (λ row. row.live ≡ true) self.now.rows) (λ row. IsLeast self.now.rows row) }
+        ensures least { MatchOption result (NoneOf (λ row. row.live ≡ true) self.now.rows) (λ row.
+            IsLeast self.now.rows row) }
         ensures few { length self.now.rows + length self.now.closing ≤ usize.MAX }
     {
         match next_number(&self.numbers, None) {
@@ -229,21 +239,24 @@ impl RowStore {
 
     /// The live row of this handle.
     pub fn live_handle(&self, handle: u64) -> Option<HandleRow>
-        ensures { MatchOption result (NoneOf (HasHandle handle) self.now.handles) (λ row. HasHandle handle row × IsAmong row self.now.handles) }
+        ensures { MatchOption result (NoneOf (HasHandle handle) self.now.handles) (λ row. HasHandle handle row
+            × IsAmong row self.now.handles) }
     {
         self.handles.live(handle)
     }
 
     /// The live row of this handle, if it was opened for this number.
     pub fn handle_of(&self, handle: u64, number: u64) -> Option<HandleRow>
-        ensures { MatchOption result (NoneOf (IsHandle handle number) self.now.handles) (λ row. IsHandle handle number row × IsAmong row self.now.handles) }
+        ensures { MatchOption result (NoneOf (IsHandle handle number) self.now.handles) (λ row.
+            IsHandle handle number row × IsAmong row self.now.handles) }
     {
         self.handles.of_number(handle, number)
     }
 
     /// The handle's row of this serial, if it has a pin.
     pub fn pinned_handle(&self, serial: u64) -> Option<HandleRow>
-        ensures { MatchOption result (NoneOf (IsPinnedHandle serial) self.now.handles) (λ row. IsPinnedHandle serial row × IsAmong row self.now.handles) }
+        ensures { MatchOption result (NoneOf (IsPinnedHandle serial) self.now.handles) (λ row.
+            IsPinnedHandle serial row × IsAmong row self.now.handles) }
     {
         self.handles.pinned(serial)
     }
@@ -305,7 +318,8 @@ impl RowStore {
 
     /// The live row of the least handle.
     pub fn least_handle(&self) -> Option<HandleRow>
-        ensures least { MatchOption result (NoneOf (λ row. row.live ≡ true) self.now.handles) (λ row. IsLeastHandle self.now.handles row) }
+        ensures least { MatchOption result (NoneOf (λ row. row.live ≡ true) self.now.handles) (λ row.
+            IsLeastHandle self.now.handles row) }
         ensures few { length self.now.handles + length self.now.closing ≤ usize.MAX }
     {
         self.handles.least()

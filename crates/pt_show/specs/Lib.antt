@@ -1,3 +1,4 @@
+-- Inner. The files of definitions, lowest first.
 pub mod Texts
 pub mod EditTexts
 pub mod HostTexts

@@ -1,4 +1,5 @@
-ghost use Rattle.pt_show.specs.AnswerTexts.{timeout_text, attr_text, entry_text, options_text, open_options_text, dir_entry_text, listing_text, xattr_text, xattrs_text, answer_text};
+ghost use Rattle.pt_show.specs.AnswerTexts.{timeout_text, attr_text, entry_text, options_text, open_options_text};
+ghost use Rattle.pt_show.specs.AnswerTexts.{dir_entry_text, listing_text, xattr_text, xattrs_text, answer_text};
 
 use crate::plain::{push_named, push_word};
 use crate::text::Text;

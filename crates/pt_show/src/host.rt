@@ -1,4 +1,5 @@
-ghost use Rattle.pt_show.specs.HostTexts.{errno_text, fd_text, flags_text, ids_text, time_text, stat_text, fs_stat_text, c_handle_text, handle_text, value_text, host_reply_text};
+ghost use Rattle.pt_show.specs.HostTexts.{errno_text, fd_text, flags_text, ids_text, time_text, stat_text};
+ghost use Rattle.pt_show.specs.HostTexts.{fs_stat_text, c_handle_text, handle_text, value_text, host_reply_text};
 
 use crate::plain::{push_bytes, push_named, push_word};
 use crate::text::Text;

@@ -1,4 +1,5 @@
-//! The texts of calls, events, their replies and answers: what a report prints of them. Calls and events are read from theirs.
+//! The texts of calls, events, their replies and answers: what a report prints of them. Calls and events are read
+//! from theirs.
 #![tactic(auto)]
 
 mod act;

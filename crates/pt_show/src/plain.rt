@@ -43,7 +43,8 @@ pub fn push_three<A: Text, B: Text, C: Text>(
     second: &B,
     third: &C,
 ) -> Result<(), AllocError>
-    ensures { OnOk result (out.new.items ≡ out.old.items ++ (word name.now ++ A.text first.now ++ B.text second.now ++ C.text third.now)) }
+    ensures { OnOk result (out.new.items ≡ out.old.items
+        ++ (word name.now ++ A.text first.now ++ B.text second.now ++ C.text third.now)) }
 {
     push_two(out, name, first, second)?;
     third.write(out)
@@ -59,7 +60,8 @@ pub fn push_four<A: Text, B: Text, C: Text, D: Text>(
     fourth: &D,
 ) -> Result<(), AllocError>
     ensures { OnOk result (out.new.items
-        ≡ out.old.items ++ (word name.now ++ A.text first.now ++ B.text second.now ++ C.text third.now ++ D.text fourth.now)) }
+        ≡ out.old.items ++ (word name.now ++ A.text first.now ++ B.text second.now ++ C.text third.now
+        ++ D.text fourth.now)) }
 {
     push_three(out, name, first, second, third)?;
     fourth.write(out)

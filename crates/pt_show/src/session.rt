@@ -1,5 +1,6 @@
 ghost use Rattle.std.specs.Prelude.{◌≡◌, ◌++◌, OnOk};
-ghost use Rattle.pt_show.specs.SessionTexts.{form_text, row_text, negotiated_text, pair_text, forgets_text, new_handle_text, event_text, refusal_text, event_reply_text};
+ghost use Rattle.pt_show.specs.SessionTexts.{form_text, row_text, negotiated_text, pair_text, forgets_text};
+ghost use Rattle.pt_show.specs.SessionTexts.{new_handle_text, event_text, refusal_text, event_reply_text};
 
 use crate::plain::{push_named, push_word};
 use crate::text::Text;

@@ -1,5 +1,6 @@
 -- What a file holds after a cut, a lengthening or a write.
-use Rattle.std.proofs.Common.{◌≡◌, ◌<◌, ◌≤◌, ◌+◌, ◌-◌, ◌++◌, ◌∷◌, [], inl, inr, ℕ, zero, suc, List, Some, take, drop, length, replicate, min, refl, ap, sym, ◌∙◌, arith, slice_get, slice_set}
+use Rattle.std.proofs.Common.{◌≡◌, ◌<◌, ◌≤◌, ◌+◌, ◌-◌, ◌++◌, ◌∷◌, [], inl, inr, ℕ, zero, suc, List, Some, take, drop}
+use Rattle.std.proofs.Common.{length, replicate, min, refl, ap, sym, ◌∙◌, arith, slice_get, slice_set}
 use Rattle.std.proofs.lemmas.Bool.{cases_lt}
 use Rattle.std.proofs.Math.Seq.{take-append-add}
 use Rattle.pt_host.specs.declared.seat.HostSeat.{HostSeat}
@@ -17,13 +18,15 @@ no_more [] = refl
 no_more (x ∷ xs) = ap (λ more. x ∷ more) (no_more xs)
 
 -- cut or lengthened, by parts
-pub resized_parts : (size kept : ℕ) (old : List ℕ) → kept ≡ min (length old) size → resized size old ≡ take kept old ++ replicate (size - kept) 0
+pub resized_parts : (size kept : ℕ) (old : List ℕ) → kept ≡ min (length old) size →
+    resized size old ≡ take kept old ++ replicate (size - kept) 0
 resized_parts size kept old is = elim (cases_lt size (length old)) [
   | inl shorter ↦ (let k : kept ≡ size = omega (arith, is, shorter) in
       let none : size - length old ≡ 0 = omega (arith, shorter) in
       let none_too : size - kept ≡ 0 = omega (arith, k) in
       ap (λ n. take {A = ℕ} size (old ++ replicate n 0)) none ∙ ap (take {A = ℕ} size) (no_more old)
-      ∙ sym (ap (λ n. take {A = ℕ} n old ++ replicate (size - kept) 0) k ∙ ap (λ n. take {A = ℕ} size old ++ replicate n 0) none_too ∙ no_more (take {A = ℕ} size old)))
+      ∙ sym (ap (λ n. take {A = ℕ} n old ++ replicate (size - kept) 0) k
+      ∙ ap (λ n. take {A = ℕ} size old ++ replicate n 0) none_too ∙ no_more (take {A = ℕ} size old)))
   | inr longer ↦ (let k : kept ≡ length old = omega (arith, is, longer) in
       let e : size ≡ length old + (size - length old) = omega (arith, longer) in
       let zeros : List ℕ = replicate (size - length old) 0 in
@@ -41,7 +44,8 @@ resized_parts size kept old is = elim (cases_lt size (length old)) [
     whole (x ∷ xs) = ap (λ more. x ∷ more) (whole xs)
 
 -- what stands from an offset on, by where it can begin
-pub rest_parts : (offset start : ℕ) (bytes : List ℕ) → start ≡ min (length bytes) offset → drop start bytes ≡ drop offset bytes
+pub rest_parts : (offset start : ℕ) (bytes : List ℕ) → start ≡ min (length bytes) offset →
+    drop start bytes ≡ drop offset bytes
 rest_parts offset start bytes is = elim (cases_lt offset (length bytes)) [
   | inl before ↦ (let e : start ≡ offset = omega (arith, is, before) in ap (λ n. drop n bytes) e)
   | inr past ↦ (let e : start ≡ length bytes = omega (arith, is, past) in
@@ -55,17 +59,21 @@ rest_parts offset start bytes is = elim (cases_lt offset (length bytes)) [
     past_end (suc k) (x ∷ xs) low = past_end k xs (omega arith)
 
 -- the objects after a write of something
-pub written_there : (state : State) (seat : HostSeat) (object start : ℕ) (bytes : List ℕ) (node : Node) → 0 < length bytes →
-    slice_get state.nodes object ≡ Some node →
+pub written_there : (state : State) (seat : HostSeat) (object start : ℕ) (bytes : List ℕ) (node : Node) →
+    0 < length bytes → slice_get state.nodes object ≡ Some node →
     with_written state seat object start bytes
-    ≡ nodes_in state (slice_set state.nodes object (refilled seat (time_of state) (written start bytes (bytes_in node.content)) node))
+    ≡ nodes_in state (slice_set state.nodes object
+    (refilled seat (time_of state) (written start bytes (bytes_in node.content)) node))
 written_there state seat object start [] node some there = absurd (omega arith)
 written_there state seat object start (byte ∷ bytes) node some there =
-    ap (nodes_in state) (changed_is object (after_writing seat (time_of state) start (byte ∷ bytes)) state.nodes node there)
+    ap (nodes_in state)
+    (changed_is object (after_writing seat (time_of state) start (byte ∷ bytes)) state.nodes node there)
 
 -- a write, by what becomes of its object
-pub written_left : (state : State) (seat : HostSeat) (object start : ℕ) (bytes : List ℕ) (node : Node) → slice_get state.nodes object ≡ Some node →
+pub written_left : (state : State) (seat : HostSeat) (object start : ℕ) (bytes : List ℕ) (node : Node) →
+    slice_get state.nodes object ≡ Some node →
     with_written state seat object start bytes ≡ left_by state object (becomes_written state seat start bytes node)
 written_left state seat object start [] node there = refl
 written_left state seat object start (byte ∷ bytes) node there =
-    ap (nodes_in state) (changed_is object (after_writing seat (time_of state) start (byte ∷ bytes)) state.nodes node there)
+    ap (nodes_in state)
+    (changed_is object (after_writing seat (time_of state) start (byte ∷ bytes)) state.nodes node there)

@@ -8,11 +8,14 @@ use Rattle.pt_rules.specs.State.{State}
 use Rattle.pt_node.specs.declared.node.Node.{Node}
 use Rattle.pt_node.specs.declared.slots.Slot.{Slot}
 
-pub held_count : (state : State) (holds : List ℕ) (tables : ℕ → List Slot) (place : ℕ) (node : Node) → IsKept state holds tables →
+pub held_count : (state : State) (holds : List ℕ) (tables : ℕ → List Slot) (place : ℕ) (node : Node) →
+    IsKept state holds tables →
     slice_get state.nodes place ≡ Some node → slice_index holds place ≡ held_by state place
 held_count state holds tables place node kept there =
-    get_or_from_slice_get holds place (held_by state place) 0 (kept.held place (slice_get_within state.nodes place node there))
+    get_or_from_slice_get holds place (held_by state place) 0
+    (kept.held place (slice_get_within state.nodes place node there))
 
-pub alive_is : (state : State) (holds : List ℕ) (tables : ℕ → List Slot) (place : ℕ) (node : Node) → IsKept state holds tables →
+pub alive_is : (state : State) (holds : List ℕ) (tables : ℕ → List Slot) (place : ℕ) (node : Node) →
+    IsKept state holds tables →
     slice_get state.nodes place ≡ Some node → nat_lt 0 (slice_index holds place) ≡ is_alive state place
 alive_is state holds tables place node kept there = ap (nat_lt 0) (held_count state holds tables place node kept there)

@@ -1,5 +1,6 @@
 -- How often an object is held, through each change of names and descriptors.
-use Rattle.std.proofs.Common.{◌≡◌, ◌<◌, ◌+◌, inl, inr, ℕ, zero, suc, Bool, List, [], ◌∷◌, ◌++◌, length, Option, Some, None, slice_get, refl, ap, sym, ◌∙◌, subst, arith}
+use Rattle.std.proofs.Common.{◌≡◌, ◌<◌, ◌+◌, inl, inr, ℕ, zero, suc, Bool, List, [], ◌∷◌, ◌++◌, length, Option, Some}
+use Rattle.std.proofs.Common.{None, slice_get, refl, ap, sym, ◌∙◌, subst, arith}
 use Rattle.std.specs.Cmp.Lexicographic.{slice_cmp}
 use Rattle.std.specs.Map.{lookup}
 use Rattle.std.specs.BTreeMap.{is_at}
@@ -35,29 +36,38 @@ pub gained_names : (object : ℕ) (name : List ℕ) (v : ℕ) (names : List (Lis
     names_to object (named name v names) + counts_where object (found name names) ≡ names_to object names + is object v
 gained_names object name v names ordered =
     let tests : is_at (slice_cmp nat_cmp name) ≡ bytes_eq name = λ k key. is_eq-slice_cmp name key k in
-    subst (λ (test : List ℕ → Bool). names_to object (named name v names) + counts_where object (lookup test names) ≡ names_to object names + is object v) tests
+    subst (λ (test : List ℕ → Bool). names_to object (named name v names) + counts_where object (lookup test names)
+    ≡ names_to object names + is object v) tests
     (sum_by-insert_entry (is object) nat_list_cmp_total names name v ordered)
 
 -- ---- over all directories
 
-changed_weight : (found_node : Option Node) (place : ℕ) (f : Node → Node) (nodes : List Node) (object : ℕ) (node : Node) → slice_get nodes place ≡ Some node →
+changed_weight : (found_node : Option Node) (place : ℕ) (f : Node →
+    Node) (nodes : List Node) (object : ℕ) (node : Node) → slice_get nodes place ≡ Some node →
     found_node ≡ Some node →
-    names_of (changed_where found_node place f nodes) object + names_to object (names_in node.content) ≡ names_of nodes object + names_to object (names_in (f node).content)
+    names_of (changed_where found_node place f nodes) object + names_to object (names_in node.content)
+    ≡ names_of nodes object + names_to object (names_in (f node).content)
 changed_weight None place f nodes object node is there = cc
 changed_weight (Some other) place f nodes object node is there =
     let same : other ≡ node = same_Some other node there in
-    let sums = sum_by-set (λ (n : Node). names_to object (names_in n.content)) nodes place (f other) node (slice_get_within nodes place node is) in
-    let was = ap (λ (n : Node). names_to object (names_in n.content)) (get_or_from_slice_get nodes place node node is) in
+    let sums = sum_by-set (λ (n : Node).
+    names_to object (names_in n.content)) nodes place (f other) node (slice_get_within nodes place node is) in
+    let was = ap (λ (n : Node).
+    names_to object (names_in n.content)) (get_or_from_slice_get nodes place node node is) in
     let now = ap (λ (n : Node). names_to object (names_in (f n).content)) same in
     omega (arith, sums, was, now)
 
 -- what one object's change does to the count
-pub names_of-changed : (place : ℕ) (f : Node → Node) (nodes : List Node) (object : ℕ) (node : Node) → slice_get nodes place ≡ Some node →
-    names_of (changed_at place f nodes) object + names_to object (names_in node.content) ≡ names_of nodes object + names_to object (names_in (f node).content)
+pub names_of-changed : (place : ℕ) (f : Node → Node) (nodes : List Node) (object : ℕ) (node : Node) →
+    slice_get nodes place ≡ Some node →
+    names_of (changed_at place f nodes) object + names_to object (names_in node.content)
+    ≡ names_of nodes object + names_to object (names_in (f node).content)
 names_of-changed place f nodes object node is = changed_weight (slice_get nodes place) place f nodes object node is is
 
-same_weight : (found_node : Option Node) (place : ℕ) (f : Node → Node) (nodes : List Node) (object : ℕ) → slice_get nodes place ≡ found_node →
-    ((node : Node) → found_node ≡ Some node → names_in (f node).content ≡ names_in node.content) → names_of (changed_where found_node place f nodes) object ≡ names_of nodes object
+same_weight : (found_node : Option Node) (place : ℕ) (f : Node → Node) (nodes : List Node) (object : ℕ) →
+    slice_get nodes place ≡ found_node →
+    ((node : Node) → found_node ≡ Some node → names_in (f node).content ≡ names_in node.content) →
+    names_of (changed_where found_node place f nodes) object ≡ names_of nodes object
 same_weight None place f nodes object is same = refl
 same_weight (Some node) place f nodes object is same =
     let sums = changed_weight (Some node) place f nodes object node is refl in
@@ -65,10 +75,12 @@ same_weight (Some node) place f nodes object is same =
     omega (arith, sums, e)
 
 pub names_of-same : (place : ℕ) (f : Node → Node) (nodes : List Node) (object : ℕ) →
-    ((node : Node) → slice_get nodes place ≡ Some node → names_in (f node).content ≡ names_in node.content) → names_of (changed_at place f nodes) object ≡ names_of nodes object
+    ((node : Node) → slice_get nodes place ≡ Some node → names_in (f node).content ≡ names_in node.content) →
+    names_of (changed_at place f nodes) object ≡ names_of nodes object
 names_of-same place f nodes object same = same_weight (slice_get nodes place) place f nodes object refl same
 
-pub names_of-pushed : (nodes : List Node) (node : Node) (object : ℕ) → names_in node.content ≡ [] → names_of (nodes ++ node ∷ []) object ≡ names_of nodes object
+pub names_of-pushed : (nodes : List Node) (node : Node) (object : ℕ) → names_in node.content ≡ [] →
+    names_of (nodes ++ node ∷ []) object ≡ names_of nodes object
 names_of-pushed nodes node object none =
     let sums = sum_by_push (λ (n : Node). names_to object (names_in n.content)) nodes node in
     let e = ap (names_to object) none in
@@ -88,9 +100,11 @@ get_there [] k within = absurd (omega arith)
 get_there (x ∷ xs) zero within = (x, refl)
 get_there (x ∷ xs) (suc k) within = get_there xs k (omega arith)
 
-pub opens_of-put : (slots : List Slot) (file : OpenFile) (object : ℕ) → opens_of (put_at (least_free slots) (Open file) slots) object ≡ opens_of slots object + is object file.object
+pub opens_of-put : (slots : List Slot) (file : OpenFile) (object : ℕ) →
+    opens_of (put_at (least_free slots) (Open file) slots) object ≡ opens_of slots object + is object file.object
 opens_of-put slots file object = elim (eqb_tells (least_free slots) (length slots)) [
-  | inl end ↦ ap (λ ys. opens_of ys object) (put_end (least_free slots) (Open file) slots end.0) ∙ sum_by_push (opens object) slots (Open file)
+  | inl end ↦ ap (λ ys. opens_of ys object) (put_end (least_free slots) (Open file) slots end.0)
+      ∙ sum_by_push (opens object) slots (Open file)
   | inr before ↦ (let low = least_free-le-length slots in
       let within : least_free slots < length slots = (let apart = before.1 in omega arith) in
       let slot = get_there slots (least_free slots) within in

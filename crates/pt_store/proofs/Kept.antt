@@ -1,5 +1,7 @@
 -- A store goes on knowing what lives.
-use Rattle.std.proofs.Common.{◌≡◌, ◌≢◌, ◌<◌, ◌+◌, ◌-◌, ◌⊎◌, inl, inr, ℕ, Bool, true, false, not, cond, ◌==◌, List, [], ◌∷◌, length, Option, Some, None, slice_get, slice_set, get_or, refl, ap, sym, ◌∙◌, subst, arith, length-set}
+use Rattle.std.proofs.Common.{◌≡◌, ◌≢◌, ◌<◌, ◌+◌, ◌-◌, ◌⊎◌, inl, inr, ℕ, Bool, true, false, not, cond, ◌==◌, List, []}
+use Rattle.std.proofs.Common.{◌∷◌, length, Option, Some, None, slice_get, slice_set, get_or, refl, ap, sym, ◌∙◌}
+use Rattle.std.proofs.Common.{subst, arith, length-set}
 use Rattle.std.specs.Prelude.{slice_index}
 use Rattle.std.proofs.lemmas.Bool.Decides.{eqb_tells}
 use Rattle.std.proofs.lemmas.List.Sums.{prefix_len_passes}
@@ -23,8 +25,8 @@ use Rattle.pt_node.specs.Laws.Updates.{get-set_apart, get-set_cases, get-set_her
 use Rattle.pt_store.proofs.Holding.{is_none, is_one}
 
 -- what stood at a place, and has become alike
-pub alike_there : (before after : List Node) (place : ℕ) (node : Node) → AreAlike before after → slice_get before place ≡ Some node →
-    (that : Node) × (slice_get after place ≡ Some that) × (that.ids ≡ node.ids)
+pub alike_there : (before after : List Node) (place : ℕ) (node : Node) → AreAlike before after →
+    slice_get before place ≡ Some node → (that : Node) × (slice_get after place ≡ Some that) × (that.ids ≡ node.ids)
 alike_there before after place node alike is =
     let within = slice_get_within before place node is in
     let that = slice_get-get_or after place node (let long = alike.long in omega arith) in
@@ -34,9 +36,12 @@ alike_there before after place node alike is =
 -- ---- as often as before
 
 -- what is held on the device is what was held
-pub numbered_alike : (state after : State) (dev : ℕ) (numbers : List Slot) → AreNumbered state dev numbers → AreAlike state.nodes after.nodes →
-    ((object : ℕ) (node : Node) → slice_get state.nodes object ≡ Some node → node.ids.dev ≡ dev → 0 < held_by after object → 0 < held_by state object) →
-    ((object : ℕ) (node : Node) → slice_get state.nodes object ≡ Some node → node.ids.dev ≡ dev → 0 < held_by state object → 0 < held_by after object) →
+pub numbered_alike : (state after : State) (dev : ℕ) (numbers : List Slot) → AreNumbered state dev numbers →
+    AreAlike state.nodes after.nodes →
+    ((object : ℕ) (node : Node) → slice_get state.nodes object ≡ Some node → node.ids.dev ≡ dev →
+    0 < held_by after object → 0 < held_by state object) →
+    ((object : ℕ) (node : Node) → slice_get state.nodes object ≡ Some node → node.ids.dev ≡ dev →
+    0 < held_by state object → 0 < held_by after object) →
     AreNumbered after dev numbers
 numbered_alike state after dev numbers are alike back on = record {
   has = λ object node there of some.
@@ -57,12 +62,14 @@ numbered_alike state after dev numbers are alike back on = record {
   no_other = are.no_other;
 }
 
-pub kept_alike : (state after : State) (holds : List ℕ) (tables : ℕ → List Slot) → IsKept state holds tables → IsSound after → AreAlike state.nodes after.nodes →
+pub kept_alike : (state after : State) (holds : List ℕ) (tables : ℕ → List Slot) → IsKept state holds tables →
+    IsSound after → AreAlike state.nodes after.nodes →
     ((object : ℕ) → held_by after object ≡ held_by state object) → IsKept after holds tables
 kept_alike state after holds tables kept sound alike same = record {
   sound = sound;
   long = kept.long ∙ sym alike.long;
-  held = λ object within. kept.held object (subst (λ n. object < n) alike.long within) ∙ ap (λ n. Some n) (sym (same object));
+  held = λ object within. kept.held object (subst (λ n. object < n) alike.long within)
+      ∙ ap (λ n. Some n) (sym (same object));
   numbered = λ dev. numbered_alike state after dev (tables dev) (kept.numbered dev) alike
       (λ object node there of some. subst (λ n. 0 < n) (same object) some)
       (λ object node there of some. subst (λ n. 0 < n) (sym (same object)) some);
@@ -73,7 +80,8 @@ kept_alike state after holds tables kept sound alike same = record {
 index_is : (xs : List ℕ) (place value : ℕ) → slice_get xs place ≡ Some value → slice_index xs place ≡ value
 index_is xs place value is = get_or_from_slice_get xs place value 0 is
 
-held_value : (holds : List ℕ) (object value other count after : ℕ) → slice_get holds other ≡ Some count → (other ≡ object → after ≡ value) →
+held_value : (holds : List ℕ) (object value other count after : ℕ) → slice_get holds other ≡ Some count →
+    (other ≡ object → after ≡ value) →
     (other ≢ object → after ≡ count) → slice_get (slice_set holds object value) other ≡ Some after
 held_value holds object value other count after is here there = elim (eqb_tells other object) [
   | inl e ↦ ap (slice_get (slice_set holds object value)) e.1
@@ -82,7 +90,8 @@ held_value holds object value other count after is here there = elim (eqb_tells 
   | inr apart ↦ get-set_apart holds object value other apart.1 ∙ is ∙ ap (λ n. Some n) (sym (there apart.1))
 ]
 
-module _ (state after : State) (holds : List ℕ) (tables : ℕ → List Slot) (object : ℕ) (kept : IsKept state holds tables) (sound : IsSound after)
+module _ (state after : State) (holds : List ℕ) (tables : ℕ → List Slot) (object : ℕ)
+    (kept : IsKept state holds tables) (sound : IsSound after)
     (alike : AreAlike state.nodes after.nodes) (within : object < length state.nodes) where
   held_before : slice_index holds object ≡ held_by state object
   held_before = index_is holds object (held_by state object) (kept.held object within)
@@ -93,8 +102,10 @@ module _ (state after : State) (holds : List ℕ) (tables : ℕ → List Slot) (
     sound = sound;
     long = length-set holds object (slice_index holds object + 1) ∙ kept.long ∙ sym alike.long;
     held = λ o below.
-        held_value holds object (slice_index holds object + 1) o (held_by state o) (held_by after o) (kept.held o (subst (λ n. o < n) alike.long below))
-        (λ same. let a = more o in let one = is_one o object same in let e = ap (held_by state) same in let h = held_before in omega arith)
+        held_value holds object (slice_index holds object
+        + 1) o (held_by state o) (held_by after o) (kept.held o (subst (λ n. o < n) alike.long below))
+        (λ same. let a = more o in let one = is_one o object same in let e = ap (held_by state) same in
+        let h = held_before in omega arith)
         (λ apart. let a = more o in let none = is_none o object apart in omega arith);
     numbered = λ dev. numbered_alike state after dev (tables dev) (kept.numbered dev) alike
         (λ o node there of some. still_held o some)
@@ -109,17 +120,20 @@ module _ (state after : State) (holds : List ℕ) (tables : ℕ → List Slot) (
 
 -- ---- a number is free again
 
-pub closed_apart : (file : Option OpenFile) (number : ℕ) (numbers : List Slot) (k : ℕ) → k ≢ number → slice_get (closed_where file number numbers) k ≡ slice_get numbers k
+pub closed_apart : (file : Option OpenFile) (number : ℕ) (numbers : List Slot) (k : ℕ) → k ≢ number →
+    slice_get (closed_where file number numbers) k ≡ slice_get numbers k
 closed_apart None number numbers k apart = refl
 closed_apart (Some file) number numbers k apart = get-set_apart numbers number Free k apart
 
-pub shut : (file : Option OpenFile) (number : ℕ) (numbers : List Slot) → open_at numbers number ≡ file → open_at (closed_where file number numbers) number ≡ None
+pub shut : (file : Option OpenFile) (number : ℕ) (numbers : List Slot) → open_at numbers number ≡ file →
+    open_at (closed_where file number numbers) number ≡ None
 shut None number numbers there = there
 shut (Some file) number numbers there =
-    ap file_of (get-set_here numbers number Free (slice_get_within numbers number (Open file) (open_slot (slice_get numbers number) file there)))
+    ap file_of (get-set_here numbers number Free
+    (slice_get_within numbers number (Open file) (open_slot (slice_get numbers number) file there)))
 
-reserved_still : (file : Option OpenFile) (number : ℕ) (numbers : List Slot) (k : ℕ) → open_at numbers number ≡ file → slice_get numbers k ≡ Some Reserved →
-    slice_get (closed_where file number numbers) k ≡ Some Reserved
+reserved_still : (file : Option OpenFile) (number : ℕ) (numbers : List Slot) (k : ℕ) → open_at numbers number ≡ file →
+    slice_get numbers k ≡ Some Reserved → slice_get (closed_where file number numbers) k ≡ Some Reserved
 reserved_still None number numbers k there reserved = reserved
 reserved_still (Some file) number numbers k there reserved = elim (eqb_tells k number) [
   | inl e ↦ absurd (let a : open_at numbers number ≡ None = ap file_of (sym (ap (slice_get numbers) e.1) ∙ reserved) in
@@ -127,32 +141,40 @@ reserved_still (Some file) number numbers k there reserved = elim (eqb_tells k n
   | inr apart ↦ get-set_apart numbers number Free k apart.1 ∙ reserved
 ]
 
-pub reserved_before : (file : Option OpenFile) (number : ℕ) (numbers : List Slot) (k : ℕ) → slice_get (closed_where file number numbers) k ≡ Some Reserved →
-    slice_get numbers k ≡ Some Reserved
+pub reserved_before : (file : Option OpenFile) (number : ℕ) (numbers : List Slot) (k : ℕ) →
+    slice_get (closed_where file number numbers) k ≡ Some Reserved → slice_get numbers k ≡ Some Reserved
 reserved_before None number numbers k there = there
-reserved_before (Some file) number numbers k there = elim (get-set_cases numbers number Free k Reserved there) [ inl both ↦ cc | inr before ↦ before ]
+reserved_before (Some file) number numbers k there =
+    elim (get-set_cases numbers number Free k Reserved there) [ inl both ↦ cc | inr before ↦ before ]
 
 -- the number is still open on the object, or it was closed
-still_open_at : (number k : ℕ) (numbers : List Slot) (file : OpenFile) → open_at (closed number numbers) k ≡ Some file → (k ≢ number) × (open_at numbers k ≡ Some file)
+still_open_at : (number k : ℕ) (numbers : List Slot) (file : OpenFile) →
+    open_at (closed number numbers) k ≡ Some file → (k ≢ number) × (open_at numbers k ≡ Some file)
 still_open_at number k numbers file there = elim (eqb_tells k number) [
-  | inl e ↦ absurd (let a : open_at (closed number numbers) number ≡ Some file = sym (ap (open_at (closed number numbers)) e.1) ∙ there in
+  | inl e ↦ absurd (let a : open_at (closed number numbers) number ≡ Some file =
+      sym (ap (open_at (closed number numbers)) e.1) ∙ there in
       let b : Some file ≡ None = sym a ∙ shut (open_at numbers number) number numbers refl in cc)
   | inr apart ↦ (apart.1, sym (ap file_of (closed_apart (open_at numbers number) number numbers k apart.1)) ∙ there)
 ]
 
 -- ---- the table of one device changes
 
-pub numbered_put : (state : State) (dev : ℕ) (table : List Slot) (tables : ℕ → List Slot) → AreNumbered state dev table →
-    ((other : ℕ) → other ≢ dev → AreNumbered state other (tables other)) → (other : ℕ) → AreNumbered state other (set_at dev table tables other)
+pub numbered_put : (state : State) (dev : ℕ) (table : List Slot) (tables : ℕ → List Slot) →
+    AreNumbered state dev table →
+    ((other : ℕ) → other ≢ dev → AreNumbered state other (tables other)) → (other : ℕ) →
+    AreNumbered state other (set_at dev table tables other)
 unfolding set_at
 numbered_put state dev table tables here there other = elim (eqb_tells other dev) [
-  | inl e ↦ subst (λ b. AreNumbered state other (cond b table (tables other))) (sym e.0) (subst (λ k. AreNumbered state k table) (sym e.1) here)
+  | inl e ↦ subst (λ b.
+      AreNumbered state other (cond b table (tables other))) (sym e.0)
+      (subst (λ k. AreNumbered state k table) (sym e.1) here)
   | inr apart ↦ subst (λ b. AreNumbered state other (cond b table (tables other))) (sym apart.0) (there other apart.1)
 ]
 
 -- ---- once less
 
-module _ (state after : State) (holds : List ℕ) (tables : ℕ → List Slot) (object : ℕ) (node : Node) (kept : IsKept state holds tables) (sound : IsSound after)
+module _ (state after : State) (holds : List ℕ) (tables : ℕ → List Slot) (object : ℕ) (node : Node)
+    (kept : IsKept state holds tables) (sound : IsSound after)
     (alike : AreAlike state.nodes after.nodes) (here : slice_get state.nodes object ≡ Some node)
     (less : (o : ℕ) → held_by after o + is o object ≡ held_by state o) where
   below : object < length state.nodes
@@ -166,8 +188,10 @@ module _ (state after : State) (holds : List ℕ) (tables : ℕ → List Slot) (
 
   held_less : (o : ℕ) → o < length after.nodes → slice_get (released object holds) o ≡ Some (held_by after o)
   held_less o within =
-      held_value holds object (slice_index holds object - 1) o (held_by state o) (held_by after o) (kept.held o (subst (λ n. o < n) alike.long within))
-      (λ same. let a = less o in let one = is_one o object same in let e = ap (held_by state) same in let h = count_is in omega arith)
+      held_value holds object (slice_index holds object
+      - 1) o (held_by state o) (held_by after o) (kept.held o (subst (λ n. o < n) alike.long within))
+      (λ same. let a = less o in let one = is_one o object same in let e = ap (held_by state) same in
+      let h = count_is in omega arith)
       (λ apart. let a = less o in let none = is_none o object apart in omega arith)
 
   more_before : (o : ℕ) → 0 < held_by after o → 0 < held_by state o
@@ -192,9 +216,11 @@ module _ (state after : State) (holds : List ℕ) (tables : ℕ → List Slot) (
       ]
 
   -- what stands on another device is another object
-  on_other : (dev o : ℕ) (that : Node) → dev ≢ node.ids.dev → slice_get state.nodes o ≡ Some that → that.ids.dev ≡ dev → o ≢ object
+  on_other : (dev o : ℕ) (that : Node) → dev ≢ node.ids.dev → slice_get state.nodes o ≡ Some that →
+      that.ids.dev ≡ dev → o ≢ object
   on_other dev o that apart there of same =
-      apart (sym of ∙ ap (λ (n : Node). n.ids.dev) (same_Some that node (sym there ∙ ap (slice_get state.nodes) same ∙ here)))
+      apart (sym of ∙ ap (λ (n : Node).
+      n.ids.dev) (same_Some that node (sym there ∙ ap (slice_get state.nodes) same ∙ here)))
 
   -- it is dead
   numbered_dead : held_by state object ≡ 1 → AreNumbered after node.ids.dev (closed node.ids.ino (tables node.ids.dev))
@@ -204,32 +230,41 @@ module _ (state after : State) (holds : List ℕ) (tables : ℕ → List Slot) (
         let was_of : was.0.ids.dev ≡ node.ids.dev = sym (ap (λ ids. ids.dev) was.2.ids) ∙ of in
         let file = (kept.numbered node.ids.dev).has o was.0 was.1 was_of (more_before o some) in
         let apart : was.0.ids.ino ≢ node.ids.ino = λ same. other_object o some
-        (sym file.2 ∙ ap (λ (f : OpenFile). f.object) (same_Some file.0 mine.0 (sym file.1 ∙ ap (open_at (tables node.ids.dev)) same ∙ mine.1)) ∙ mine.2) in (
+        (sym file.2 ∙ ap (λ (f : OpenFile).
+        f.object) (same_Some file.0 mine.0 (sym file.1 ∙ ap (open_at (tables node.ids.dev)) same ∙ mine.1))
+        ∙ mine.2) in (
           file.0,
           ap (λ ids. open_at (closed node.ids.ino (tables node.ids.dev)) ids.ino) was.2.ids
-              ∙ ap file_of (closed_apart (open_at (tables node.ids.dev) node.ids.ino) node.ids.ino (tables node.ids.dev) was.0.ids.ino apart) ∙ file.1,
+              ∙ ap file_of (closed_apart (open_at (tables node.ids.dev) node.ids.ino) node.ids.ino
+              (tables node.ids.dev) was.0.ids.ino apart) ∙ file.1,
           file.2,
         );
     had = λ number file there.
         let open_still = still_open_at node.ids.ino number (tables node.ids.dev) file there in
         let held = (kept.numbered node.ids.dev).had number file open_still.1 in
         let that = alike_there state.nodes after.nodes file.object held.0 alike held.1 in
-        let apart : file.object ≢ object = λ same. open_still.0 (sym held.3 ∙ ap (λ n. n.ids.ino) (same_Some held.0 node (sym held.1 ∙ ap (slice_get state.nodes) same ∙ here))) in (
+        let apart : file.object ≢ object =
+        λ same. open_still.0 (sym held.3
+        ∙ ap (λ n. n.ids.ino) (same_Some held.0 node (sym held.1 ∙ ap (slice_get state.nodes) same ∙ here))) in (
           that.0,
           that.1,
           ap (λ ids. ids.dev) that.2 ∙ held.2,
           ap (λ ids. ids.ino) that.2 ∙ held.3,
           (let a = less file.object in let none = is_none file.object object apart in let some = held.4 in omega arith),
         );
-    from_one = reserved_still (open_at (tables node.ids.dev) node.ids.ino) node.ids.ino (tables node.ids.dev) 0 refl (kept.numbered node.ids.dev).from_one;
-    no_other = λ number some there. (kept.numbered node.ids.dev).no_other number some (reserved_before (open_at (tables node.ids.dev) node.ids.ino) node.ids.ino (tables node.ids.dev) number there);
+    from_one = reserved_still (open_at (tables node.ids.dev) node.ids.ino) node.ids.ino (tables node.ids.dev) 0 refl
+        (kept.numbered node.ids.dev).from_one;
+    no_other = λ number some there.
+        (kept.numbered node.ids.dev).no_other number some
+        (reserved_before (open_at (tables node.ids.dev) node.ids.ino) node.ids.ino (tables node.ids.dev) number there);
   }
     where
       mine : (file : OpenFile) × (open_at (tables node.ids.dev) node.ids.ino ≡ Some file) × (file.object ≡ object)
       mine = (kept.numbered node.ids.dev).has object node here refl (omega arith)
 
       other_object : (o : ℕ) → 0 < held_by after o → o ≡ object → ⊥
-      other_object o some same = let a = less o in let one = is_one o object same in let e = ap (held_by state) same in omega arith
+      other_object o some same = let a = less o in let one = is_one o object same in
+          let e = ap (held_by state) same in omega arith
 
   kept_dead : held_by state object ≡ 1 → IsKept after (released object holds) (freed node.ids.dev node.ids.ino tables)
   kept_dead last = record {
@@ -239,7 +274,8 @@ module _ (state after : State) (holds : List ℕ) (tables : ℕ → List Slot) (
     numbered = numbered_put after node.ids.dev (closed node.ids.ino (tables node.ids.dev)) tables (numbered_dead last)
         (λ dev apart. numbered_alike state after dev (tables dev) (kept.numbered dev) alike
         (λ o that there of some. more_before o some)
-        (λ o that there of some. let a = less o in let none = is_none o object (on_other dev o that apart there of) in omega arith));
+        (λ o that there of some. let a = less o in let none = is_none o object (on_other dev o that apart there of) in
+        omega arith));
   }
 
   by_count : (b : Bool) → (b ≡ true → held_by state object ≡ 1) → (b ≡ false → held_by state object ≢ 1) →
@@ -249,8 +285,10 @@ module _ (state after : State) (holds : List ℕ) (tables : ℕ → List Slot) (
 
   pub kept_released : IsKept after (released object holds) (given_up node.ids.dev node.ids.ino object holds tables)
   kept_released = elim (eqb_tells (slice_index holds object) 1) [
-    | inl e ↦ by_count (slice_index holds object == 1) (λ _. sym count_is ∙ e.1) (λ f. absurd (let g : true ≡ false = sym e.0 ∙ f in cc))
-    | inr apart ↦ by_count (slice_index holds object == 1) (λ f. absurd (let g : true ≡ false = sym f ∙ apart.0 in cc)) (λ _ one. apart.1 (count_is ∙ one))
+    | inl e ↦ by_count (slice_index holds object == 1) (λ _. sym count_is
+        ∙ e.1) (λ f. absurd (let g : true ≡ false = sym e.0 ∙ f in cc))
+    | inr apart ↦ by_count (slice_index holds object == 1) (λ f.
+        absurd (let g : true ≡ false = sym f ∙ apart.0 in cc)) (λ _ one. apart.1 (count_is ∙ one))
   ]
 
 -- ---- the next number
@@ -271,10 +309,15 @@ not_true : (b : Bool) → not b ≡ true → b ≡ false
 not_true true is = cc
 not_true false is = refl
 
-taken_below : (numbers : List Slot) (k : ℕ) → k < least_free numbers → (slot : Slot) × (slice_get numbers k ≡ Some slot) × (is_free slot ≡ false)
+taken_below : (numbers : List Slot) (k : ℕ) → k < least_free numbers →
+    (slot : Slot) × (slice_get numbers k ≡ Some slot) × (is_free slot ≡ false)
 taken_below numbers k low =
-    let within : k < length numbers = (let le = least_free-le-length numbers in omega arith) in
-    (get_or numbers k Reserved, slice_get-get_or numbers k Reserved within, not_true (is_free (get_or numbers k Reserved)) (prefix_len_passes (λ s. not (is_free s)) numbers k Reserved low))
+    let within : k < length numbers = (let le = least_free-le-length numbers in omega arith) in (
+      get_or numbers k Reserved,
+      slice_get-get_or numbers k Reserved within,
+      not_true (is_free (get_or numbers k Reserved))
+          (prefix_len_passes (λ s. not (is_free s)) numbers k Reserved low),
+    )
 
 module _ (state : State) (dev : ℕ) (numbers : List Slot) (are : AreNumbered state dev numbers) where
   taken_open : (number : ℕ) (file : OpenFile) → open_at numbers number ≡ Some file → IsTaken state dev number
@@ -284,8 +327,10 @@ module _ (state : State) (dev : ℕ) (numbers : List Slot) (are : AreNumbered st
 
   taken_other : (number : ℕ) → 0 < number → (slot : Slot) → slice_get numbers number ≡ Some slot →
       (slot ≡ Reserved) ⊎ ((file : OpenFile) × (slot ≡ Open file)) → IsTaken state dev number
-  taken_other number some slot is (inl reserved) = absurd (are.no_other number some (is ∙ ap (λ (s : Slot). Some s) reserved))
-  taken_other number some slot is (inr (file, open_on)) = taken_open number file (ap file_of (is ∙ ap (λ (s : Slot). Some s) open_on))
+  taken_other number some slot is (inl reserved) =
+      absurd (are.no_other number some (is ∙ ap (λ (s : Slot). Some s) reserved))
+  taken_other number some slot is (inr (file, open_on)) =
+      taken_open number file (ap file_of (is ∙ ap (λ (s : Slot). Some s) open_on))
 
   pub least_numbered : IsLeastFree state dev (least_free numbers)
   least_numbered = record {
@@ -301,5 +346,6 @@ module _ (state : State) (dev : ℕ) (numbers : List Slot) (are : AreNumbered st
   }
 
 -- the numbers that new objects get are the least
-pub next_least : (state : State) (holds : List ℕ) (tables : ℕ → List Slot) → IsKept state holds tables → AreLeastFree state (λ dev. least_free (tables dev))
+pub next_least : (state : State) (holds : List ℕ) (tables : ℕ → List Slot) → IsKept state holds tables →
+    AreLeastFree state (λ dev. least_free (tables dev))
 next_least state holds tables kept dev = least_numbered state dev (tables dev) (kept.numbered dev)

@@ -1,5 +1,7 @@
 -- A store goes on knowing what lives through the calls that make, take and lead no name.
-use Rattle.std.proofs.Common.{◌≡◌, ◌+◌, ◌%◌, ◌==◌, ◌&&◌, nat_lt, inl, inr, ℕ, ℤ, Bool, true, false, not, cond, List, [], ◌∷◌, length, Option, Some, None, Result, Ok, Err, slice_get, unwrap_or, refl, ap, sym, subst, arith}
+use Rattle.std.proofs.Common.{◌≡◌, ◌+◌, ◌%◌, ◌==◌, ◌&&◌, nat_lt, inl, inr, ℕ, ℤ, Bool, true, false, not, cond, List}
+use Rattle.std.proofs.Common.{[], ◌∷◌, length, Option, Some, None, Result, Ok, Err, slice_get, unwrap_or, refl, ap}
+use Rattle.std.proofs.Common.{sym, subst, arith}
 use Rattle.std.proofs.lemmas.List.Sums.{sum_by-set}
 use Rattle.std.proofs.lemmas.Option.{slice_get_within, get_or_from_slice_get}
 use Rattle.pt_host.specs.Errno.{einval, eperm}
@@ -42,23 +44,28 @@ use Rattle.pt_rules.specs.Living.{opens, opens_of}
 
 -- ---- what an answer leaves is kept where what the table leaves is
 
-pub kept_told : (told : Answered) (given : HostReply) (after : State) (holds : List ℕ) (tables : ℕ → List Slot) → (given, after) ≡ told →
-    IsKept told.1 holds tables → IsKept after holds tables
-kept_told told given after holds tables is kept = subst (λ (s : State). IsKept s holds tables) (sym (ap (λ (both : Answered). both.1) is)) kept
+pub kept_told : (told : Answered) (given : HostReply) (after : State) (holds : List ℕ) (tables : ℕ → List Slot) →
+    (given, after) ≡ told → IsKept told.1 holds tables → IsKept after holds tables
+kept_told told given after holds tables is kept =
+    subst (λ (s : State). IsKept s holds tables) (sym (ap (λ (both : Answered). both.1) is)) kept
 
-pub kept_answer : (told : Answered) (before : State) (given : HostReply) (after : State) (holds : List ℕ) (tables : ℕ → List Slot) → AnswersAs told before given after →
+pub kept_answer : (told : Answered) (before : State) (given : HostReply) (after : State) (holds : List ℕ)
+    (tables : ℕ → List Slot) → AnswersAs told before given after →
     IsKept before holds tables → IsKept told.1 holds tables → IsKept after holds tables
-kept_answer told before given after holds tables (inl is) kept by_table = kept_told told given after holds tables is by_table
-kept_answer told before given after holds tables (inr none) kept by_table = subst (λ (s : State). IsKept s holds tables) (sym none.1) kept
+kept_answer told before given after holds tables (inl is) kept by_table =
+    kept_told told given after holds tables is by_table
+kept_answer told before given after holds tables (inr none) kept by_table =
+    subst (λ (s : State). IsKept s holds tables) (sym none.1) kept
 
 -- ---- another position
 
-opens_of-placed : (file : Option OpenFile) (fd position : ℕ) (slots : List Slot) (object : ℕ) → open_at slots fd ≡ file →
-    opens_of (placed_where file fd position slots) object ≡ opens_of slots object
+opens_of-placed : (file : Option OpenFile) (fd position : ℕ) (slots : List Slot) (object : ℕ) →
+    open_at slots fd ≡ file → opens_of (placed_where file fd position slots) object ≡ opens_of slots object
 opens_of-placed None fd position slots object is = refl
 opens_of-placed (Some file) fd position slots object is =
     let slot = open_slot (slice_get slots fd) file is in
-    let sums = sum_by-set (opens object) slots fd (Open (record file { position = position })) (Open file) (slice_get_within slots fd (Open file) slot) in
+    let sums = sum_by-set (opens object) slots fd (Open (record file { position = position })) (Open file)
+    (slice_get_within slots fd (Open file) slot) in
     let was = ap (opens object) (get_or_from_slice_get slots fd (Open file) (Open file) slot) in
     omega (arith, sums, was)
 
@@ -69,28 +76,33 @@ module _ (state : State) (holds : List ℕ) (tables : ℕ → List Slot) (kept :
   pub kept_node : (object : ℕ) (node after : Node) → slice_get state.nodes object ≡ Some node → Keeps node after →
       IsKept (with_node state object after) holds tables
   kept_node object node after there keeps =
-      kept_alike state (with_node state object after) holds tables kept (sound-with_node state object node after kept.sound there keeps)
+      kept_alike state (with_node state object after) holds tables kept
+      (sound-with_node state object node after kept.sound there keeps)
       (alike_set state.nodes object node after there keeps)
       (λ o. let names = names_of-set state.nodes object node after o there keeps.names in omega (arith, names))
 
   pub kept_placed : (fd position : ℕ) → IsKept (with_position state fd position) holds tables
   kept_placed fd position =
-      kept_alike state (with_position state fd position) holds tables kept (sound-with_position state fd position kept.sound) (alike_itself state.nodes)
+      kept_alike state (with_position state fd position) holds tables kept
+      (sound-with_position state fd position kept.sound) (alike_itself state.nodes)
       (λ o. let opens = opens_of-placed (open_at state.slots fd) fd position state.slots o refl in omega (arith, opens))
 
-  kept_where : (object : ℕ) (f : Node → Node) → ((node : Node) → Keeps node (f node)) → (at : Option Node) → slice_get state.nodes object ≡ at →
-      IsKept (nodes_in state (changed_where at object f state.nodes)) holds tables
+  kept_where : (object : ℕ) (f : Node → Node) → ((node : Node) → Keeps node (f node)) → (at : Option Node) →
+      slice_get state.nodes object ≡ at → IsKept (nodes_in state (changed_where at object f state.nodes)) holds tables
   kept_where object f keeps None is = kept
   kept_where object f keeps (Some node) is = kept_node object node (f node) is (keeps node)
 
-  pub kept_changed : (object : ℕ) (f : Node → Node) → ((node : Node) → Keeps node (f node)) → IsKept (nodes_in state (changed_at object f state.nodes)) holds tables
+  pub kept_changed : (object : ℕ) (f : Node → Node) → ((node : Node) → Keeps node (f node)) →
+      IsKept (nodes_in state (changed_at object f state.nodes)) holds tables
   kept_changed object f keeps = kept_where object f keeps (slice_get state.nodes object) refl
 
   -- what is planned, counted and told beside the tree
   pub kept_counted : IsKept (counted (past_plan state)) holds tables
-  kept_counted = kept_alike state (counted (past_plan state)) holds tables kept (sound-counted state kept.sound) (alike_itself state.nodes) (λ o. refl)
+  kept_counted = kept_alike state (counted (past_plan state)) holds tables kept (sound-counted state kept.sound)
+      (alike_itself state.nodes) (λ o. refl)
 
-  pub kept_beside : (plans : List (ℕ × Errno)) (faults : ℕ) → IsKept (record state { plans = plans; faults = faults }) holds tables
+  pub kept_beside : (plans : List (ℕ × Errno)) (faults : ℕ) →
+      IsKept (record state { plans = plans; faults = faults }) holds tables
   kept_beside plans faults =
       kept_alike state (record state { plans = plans; faults = faults }) holds tables kept (record {
         timely = kept.sound.timely;
@@ -102,7 +114,8 @@ module _ (state : State) (holds : List ℕ) (tables : ℕ → List Slot) (kept :
       })
       (alike_itself state.nodes) (λ o. refl)
 
-  pub kept_written : (seat : HostSeat) (object start : ℕ) (bytes : List ℕ) → IsKept (with_written state seat object start bytes) holds tables
+  pub kept_written : (seat : HostSeat) (object start : ℕ) (bytes : List ℕ) →
+      IsKept (with_written state seat object start bytes) holds tables
   kept_written seat object start [] = kept
   kept_written seat object start (byte ∷ bytes) =
       kept_where object (after_writing seat (time_of state) start (byte ∷ bytes))
@@ -122,5 +135,6 @@ module _ (state : State) (holds : List ℕ) (tables : ℕ → List Slot) (kept :
       (λ file2 node2 is2 there2. by_checks state (λ (told : Answered). IsKept told.1 holds tables) (λ errno. kept)
       (copy_checks file node file2 offset offset2 (length (copied offset size node)) flags) _
       (λ none. kept_written (with_node state file.object (after_reading (time_of state) node)) holds tables
-      (kept_node state holds tables kept file.object node (after_reading (time_of state) node) there (keeps_reading (time_of state) node))
+      (kept_node state holds tables kept file.object node (after_reading (time_of state) node) there
+      (keeps_reading (time_of state) node))
       seat file2.object offset2 (copied offset size node))))

@@ -1,5 +1,8 @@
--- A store goes on knowing what lives where an object gets one name more, two objects change places, and a new file is opened.
-use Rattle.std.proofs.Common.{◌≡◌, ◌<◌, ◌≤◌, ◌+◌, ◌-◌, ◌^◌, inl, inr, ℕ, zero, suc, true, false, cond, List, [], ◌∷◌, ◌++◌, length, take, Option, Some, None, slice_get, slice_set, refl, ap, sym, ◌∙◌, subst, arith, length-set}
+-- A store goes on knowing what lives where an object gets one name more, two objects change places, and a new file is
+-- opened.
+use Rattle.std.proofs.Common.{◌≡◌, ◌<◌, ◌≤◌, ◌+◌, ◌-◌, ◌^◌, inl, inr, ℕ, zero, suc, true, false, cond, List, [], ◌∷◌}
+use Rattle.std.proofs.Common.{◌++◌, length, take, Option, Some, None, slice_get, slice_set, refl, ap, sym, ◌∙◌, subst}
+use Rattle.std.proofs.Common.{arith, length-set}
 use Rattle.std.specs.Option.{is_some}
 use Rattle.std.specs.Prelude.{slice_index}
 use Rattle.std.proofs.lemmas.Bool.{le-ltb, lt-ltb}
@@ -25,7 +28,9 @@ use Rattle.pt_node.specs.declared.slots.OpenFile.{OpenFile}
 use Rattle.pt_node.specs.declared.slots.Slot.{Slot}
 use Rattle.pt_node.specs.declared.slots.Slot.TheVariants.{Reserved, Free, Open}
 use Rattle.pt_rules.specs.Laws.EditSound.{all_ordered}
-use Rattle.pt_rules.specs.Laws.NamesLed.{alike_exchanged, alike_linked, leads_from, leads_still, ordered_one, put_back, put_there, sound_exchanged, sound_linked, with_both, with_link, with_one, with_stamp}
+use Rattle.pt_rules.specs.Laws.NamesLed.{alike_exchanged, alike_linked, leads_from, leads_still, ordered_one}
+use Rattle.pt_rules.specs.Laws.NamesLed.{put_back, put_there, sound_exchanged, sound_linked, with_both, with_link}
+use Rattle.pt_rules.specs.Laws.NamesLed.{with_one, with_stamp}
 use Rattle.pt_rules.specs.Laws.SlotTable.{least_free-le-length}
 use Rattle.pt_node.specs.Laws.Updates.{get-push_here, get-set_here, put_before, put_end}
 use Rattle.pt_rules.specs.Laws.Held.{held_lives}
@@ -36,30 +41,36 @@ use Rattle.pt_store.proofs.KeptEdits.{kept_descriptor, names_of-gained}
 use Rattle.pt_store.proofs.KeptMade.{given, kept_made, new_held, new_there}
 use Rattle.pt_rules.specs.Living.{held_by}
 
-pub lives_within : (state : State) (object : ℕ) → IsSound state → 0 < length state.nodes → HasHold state object → object < length state.nodes
+pub lives_within : (state : State) (object : ℕ) → IsSound state → 0 < length state.nodes → HasHold state object →
+    object < length state.nodes
 lives_within state object sound some (inl root) = omega (arith, root)
 lives_within state object sound some (inr (inl has)) = sound.named has.0 has.1 object has.2
-lives_within state object sound some (inr (inr (fd, file, there, same))) = let within = sound.opened fd file there in omega (arith, within, same)
+lives_within state object sound some (inr (inr (fd, file, there, same))) = let within = sound.opened fd file there in
+    omega (arith, within, same)
 
 pub some_node : (nodes : List Node) (dir : ℕ) → is_directory_at nodes dir ≡ true → 0 < length nodes
 some_node [] dir into = cc
 some_node (node ∷ nodes) dir into = omega arith
 
-pub kept_linked : (state : State) (holds : List ℕ) (tables : ℕ → List Slot) (dir : ℕ) (name : List ℕ) (object : ℕ) → IsKept state holds tables →
+pub kept_linked : (state : State) (holds : List ℕ) (tables : ℕ → List Slot) (dir : ℕ) (name : List ℕ) (object : ℕ) →
+    IsKept state holds tables →
     is_directory_at state.nodes dir ≡ true → name_at state.nodes dir name ≡ None → HasHold state object →
     IsKept (with_linked state dir name object) (slice_set holds object (slice_index holds object + 1)) tables
 kept_linked state holds tables dir name object kept into free lives =
     let now = time_of state in
     let within = lives_within state object kept.sound (some_node state.nodes dir into) lives in
-    kept_more state (with_linked state dir name object) holds tables object kept (sound_linked state dir name object kept.sound into lives within)
+    kept_more state (with_linked state dir name object) holds tables object kept
+    (sound_linked state dir name object kept.sound into lives within)
     (alike_linked now dir name object state.nodes) within (lives_held state object lives)
     (λ o.
     let same = names_of-same object (after_gaining now) (with_link now dir name object state.nodes) o (λ n is. refl) in
-    let gained = names_of-gained state.nodes dir name object (λ at. touched now (with_entry name object false false at)) o None (λ n. refl)
+    let gained = names_of-gained state.nodes dir name object (λ at.
+    touched now (with_entry name object false false at)) o None (λ n. refl)
     (all_ordered state kept.sound) into free in
     omega (arith, same, gained))
 
-pub kept_exchanged : (state : State) (holds : List ℕ) (tables : ℕ → List Slot) (from to : ℕ × List ℕ) (object other : ℕ) → IsKept state holds tables →
+pub kept_exchanged : (state : State) (holds : List ℕ) (tables : ℕ →
+    List Slot) (from to : ℕ × List ℕ) (object other : ℕ) → IsKept state holds tables →
     name_at state.nodes from.0 from.1 ≡ Some object → name_at state.nodes to.0 to.1 ≡ Some other →
     IsKept (with_exchanged state from to object other) holds tables
 kept_exchanged state holds tables from to object other kept there too =
@@ -67,23 +78,31 @@ kept_exchanged state holds tables from to object other kept there too =
     let nodes = state.nodes in
     let one = with_one now from to object other nodes in
     let still = leads_still now from to object other nodes there too in
-    kept_alike state (with_exchanged state from to object other) holds tables kept (sound_exchanged state from to object other kept.sound there too)
+    kept_alike state (with_exchanged state from to object other) holds tables kept
+    (sound_exchanged state from to object other kept.sound there too)
     (alike_exchanged now from to object other nodes)
     (λ o.
     let a = names_of-same other (restamped now) (with_stamp now from to object other nodes) o (λ n is. refl) in
     let b = names_of-same object (restamped now) (with_both now from to object other nodes) o (λ n is. refl) in
-    let c = names_of-gained one from.0 from.1 other (put_back now from to object other nodes) o (Some object) (λ n. refl)
-    (ordered_one now from to object other nodes (all_ordered state kept.sound)) (leads_from one from.0 from.1 object still) still in
+    let c = names_of-gained one from.0 from.1 other (put_back now from to object other nodes) o (Some object) (λ n.
+    refl)
+    (ordered_one now from to object other nodes (all_ordered state kept.sound))
+    (leads_from one from.0 from.1 object still) still in
     let d = names_of-gained nodes to.0 to.1 object (put_there now from to object other nodes) o (Some other) (λ n. refl)
     (all_ordered state kept.sound) (leads_from nodes to.0 to.1 other too) too in
     omega (arith, a, b, c, d))
 
 -- ---- a new file, opened
 
-pub kept_open_made : (state : State) (holds : List ℕ) (tables : ℕ → List Slot) (kept : IsKept state holds tables) (dir : ℕ) (name : List ℕ) (node parent : Node)
-    (into : is_directory_at state.nodes dir ≡ true) (free : name_at state.nodes dir name ≡ None) (empty : names_in node.content ≡ [])
-    (serial : node.serial ≡ length state.nodes + 1) (small : node.permissions < 4096) (at_dir : slice_get state.nodes dir ≡ Some parent)
-    (number : node.ids.ino ≡ least_free (tables node.ids.dev)) (few : length (with_made state dir name node).nodes < 2 ^ 63) (seat : HostSeat) (flags : OpenFlags) →
+pub kept_open_made : (state : State) (holds : List ℕ) (tables : ℕ →
+    List Slot) (kept : IsKept state holds tables) (dir : ℕ) (name : List ℕ) (node parent : Node)
+    (into : is_directory_at state.nodes dir ≡ true) (free : name_at state.nodes dir name
+    ≡ None) (empty : names_in node.content ≡ [])
+    (serial : node.serial
+    ≡ length state.nodes + 1) (small : node.permissions < 4096) (at_dir : slice_get state.nodes dir ≡ Some parent)
+    (number : node.ids.ino
+    ≡ least_free (tables node.ids.dev)) (few : length (with_made state dir name node).nodes
+    < 2 ^ 63) (seat : HostSeat) (flags : OpenFlags) →
     IsKept (with_descriptor (with_made state dir name node) flags (length state.nodes))
     (slice_set (holds ++ 1 ∷ []) (length state.nodes) 2) (given node.ids.dev (having (length state.nodes)) tables)
 kept_open_made state holds tables kept dir name node parent into free empty serial small at_dir number few seat flags =
@@ -93,11 +112,14 @@ kept_open_made state holds tables kept dir name node parent into free empty seri
     let some : 0 < held_by (with_made state dir name node) (length state.nodes) = omega (arith, once) in
     let lives = held_lives (with_made state dir name node) (length state.nodes) made.sound some in
     let last = ap (slice_get (holds ++ 1 ∷ [])) (sym kept.long) ∙ get-push_here holds 1 in
-    let index : slice_index (holds ++ 1 ∷ []) (length state.nodes) ≡ 1 = get_or_from_slice_get (holds ++ 1 ∷ []) (length state.nodes) 1 0 last in
+    let index : slice_index (holds ++ 1 ∷ []) (length state.nodes) ≡ 1 =
+    get_or_from_slice_get (holds ++ 1 ∷ []) (length state.nodes) 1 0 last in
     let twice : slice_index (holds ++ 1 ∷ []) (length state.nodes) + 1 ≡ 2 = omega (arith, index) in
     subst (λ (n : ℕ). IsKept (with_descriptor (with_made state dir name node) flags (length state.nodes))
-    (slice_set (holds ++ 1 ∷ []) (length state.nodes) n) (given node.ids.dev (having (length state.nodes)) tables)) twice
-    (kept_descriptor (with_made state dir name node) (holds ++ 1 ∷ []) (given node.ids.dev (having (length state.nodes)) tables) seat flags (length state.nodes) node
+    (slice_set (holds ++ 1 ∷ []) (length state.nodes) n)
+    (given node.ids.dev (having (length state.nodes)) tables)) twice
+    (kept_descriptor (with_made state dir name node) (holds
+    ++ 1 ∷ []) (given node.ids.dev (having (length state.nodes)) tables) seat flags (length state.nodes) node
     made there lives)
 
 -- ---- an opening taken back
@@ -106,7 +128,8 @@ take_all : (slots : List Slot) (slot : Slot) → take (length slots) (slots ++ s
 take_all [] slot = refl
 take_all (first ∷ slots) slot = ap (λ more. first ∷ more) (take_all slots slot)
 
-set_back : (slots : List Slot) (place : ℕ) (slot was : Slot) → slice_get slots place ≡ Some was → slice_set (slice_set slots place slot) place was ≡ slots
+set_back : (slots : List Slot) (place : ℕ) (slot was : Slot) → slice_get slots place ≡ Some was →
+    slice_set (slice_set slots place slot) place was ≡ slots
 set_back [] place slot was there = refl
 set_back (first ∷ slots) zero slot was there = (let same : first ≡ was = cc in ap (λ s. s ∷ slots) (sym same))
 set_back (first ∷ slots) (suc place) slot was there = ap (λ more. first ∷ more) (set_back slots place slot was there)
@@ -123,14 +146,16 @@ free_there slots within =
     ap is_free (sym (get_or_from_slice_get slots (least_free slots) slot.0 slot.0 slot.1)) ∙ test))
 
 -- the table is as it was
-pub taken_back-put : (slots : List Slot) (file : OpenFile) → taken_back (least_free slots) (length slots) (put_at (least_free slots) (Open file) slots) ≡ slots
+pub taken_back-put : (slots : List Slot) (file : OpenFile) →
+    taken_back (least_free slots) (length slots) (put_at (least_free slots) (Open file) slots) ≡ slots
 taken_back-put slots file = elim (eqb_tells (least_free slots) (length slots)) [
   | inl end ↦ (let pushed = put_end (least_free slots) (Open file) slots end.0 in
       let long = length_push slots (Open file) in
       let more : length slots < length (slots ++ Open file ∷ []) = omega (arith, long) in
       let less : length (slots ++ Open file ∷ []) - 1 ≡ length slots = omega (arith, long) in
       ap (taken_back (least_free slots) (length slots)) pushed
-      ∙ ap (λ b. cond b (take (length (slots ++ Open file ∷ []) - 1) (slots ++ Open file ∷ [])) (closed (least_free slots) (slots ++ Open file ∷ [])))
+      ∙ ap (λ b. cond b (take (length (slots ++ Open file ∷ []) - 1) (slots ++ Open file ∷ []))
+      (closed (least_free slots) (slots ++ Open file ∷ [])))
       (lt-ltb (length slots) (length (slots ++ Open file ∷ [])) more)
       ∙ ap (λ n. take n (slots ++ Open file ∷ [])) less ∙ take_all slots (Open file))
   | inr before ↦ (let low = least_free-le-length slots in
@@ -142,20 +167,24 @@ taken_back-put slots file = elim (eqb_tells (least_free slots) (length slots)) [
       let no_more : length set ≤ length slots = omega (arith, long) in
       let held = ap file_of (get-set_here slots (least_free slots) (Open file) within) in
       ap (taken_back (least_free slots) (length slots)) put
-      ∙ ap (λ b. cond b (take (length set - 1) set) (closed (least_free slots) set)) (le-ltb (length slots) (length set) no_more)
+      ∙ ap (λ b. cond b (take (length set - 1) set) (closed (least_free slots) set))
+      (le-ltb (length slots) (length set) no_more)
       ∙ ap (λ (f : Option OpenFile). closed_where f (least_free slots) set) held
       ∙ set_back slots (least_free slots) (Open file) Free (free_there slots within))
 ]
 
 -- what was just opened is the last number where there is one number more
-pub last_opened : (slots : List Slot) (file : OpenFile) → length slots < length (put_at (least_free slots) (Open file) slots) →
-    is_some (open_at (put_at (least_free slots) (Open file) slots) (length (put_at (least_free slots) (Open file) slots) - 1)) ≡ true
+pub last_opened : (slots : List Slot) (file : OpenFile) →
+    length slots < length (put_at (least_free slots) (Open file) slots) →
+    is_some (open_at (put_at (least_free slots) (Open file) slots)
+    (length (put_at (least_free slots) (Open file) slots) - 1)) ≡ true
 last_opened slots file more = elim (eqb_tells (least_free slots) (length slots)) [
   | inl end ↦ (let pushed = put_end (least_free slots) (Open file) slots end.0 in
       let long = length_push slots (Open file) in
       let last : length (slots ++ Open file ∷ []) - 1 ≡ length slots = omega (arith, long) in
       ap (λ (ss : List Slot). is_some (open_at ss (length ss - 1))) pushed
-      ∙ ap (λ n. is_some (open_at (slots ++ Open file ∷ []) n)) last ∙ ap (λ s. is_some (file_of s)) (get-push_here slots (Open file)))
+      ∙ ap (λ n. is_some (open_at (slots ++ Open file ∷ []) n)) last
+      ∙ ap (λ s. is_some (file_of s)) (get-push_here slots (Open file)))
   | inr before ↦ absurd (let put = ap length (put_before (least_free slots) (Open file) slots before.0) in
       let long = length-set slots (least_free slots) (Open file) in omega (arith, put, long, more))
 ]

@@ -1,5 +1,6 @@
 -- A store goes on knowing what lives where an object is made, or was nearly made.
-use Rattle.std.proofs.Common.{◌≡◌, ◌≢◌, ◌<◌, ◌+◌, ◌-◌, ◌^◌, inl, inr, ℕ, true, false, cond, List, [], ◌∷◌, ◌++◌, length, take, Some, None, slice_get, refl, ap, sym, ◌∙◌, subst, arith}
+use Rattle.std.proofs.Common.{◌≡◌, ◌≢◌, ◌<◌, ◌+◌, ◌-◌, ◌^◌, inl, inr, ℕ, true, false, cond, List, [], ◌∷◌, ◌++◌}
+use Rattle.std.proofs.Common.{length, take, Some, None, slice_get, refl, ap, sym, ◌∙◌, subst, arith}
 use Rattle.std.proofs.lemmas.Bool.Decides.{eqb_tells, leb_tells}
 use Rattle.std.proofs.lemmas.List.{length_push}
 use Rattle.std.proofs.lemmas.Option.{same_Some, slice_get_within}
@@ -29,10 +30,14 @@ use Rattle.pt_store.proofs.Holding.{get_there, is_none, is_one, names_of-pushed}
 use Rattle.pt_store.proofs.Kept.{closed_apart, least_not_0, next_least, numbered_put, reserved_before, shut}
 use Rattle.pt_store.proofs.KeptEdits.{names_of-gained}
 
-module _ (state : State) (holds : List ℕ) (tables : ℕ → List Slot) (kept : IsKept state holds tables) (dir : ℕ) (name : List ℕ) (node parent : Node)
-    (into : is_directory_at state.nodes dir ≡ true) (free : name_at state.nodes dir name ≡ None) (empty : names_in node.content ≡ [])
-    (serial : node.serial ≡ length state.nodes + 1) (small : node.permissions < 4096) (at_dir : slice_get state.nodes dir ≡ Some parent)
-    (number : node.ids.ino ≡ least_free (tables node.ids.dev)) (few : length (with_made state dir name node).nodes < 2 ^ 63) where
+module _ (state : State) (holds : List ℕ) (tables : ℕ → List Slot) (kept : IsKept state holds tables) (dir : ℕ)
+    (name : List ℕ) (node parent : Node)
+    (into : is_directory_at state.nodes dir ≡ true) (free : name_at state.nodes dir name
+    ≡ None) (empty : names_in node.content ≡ [])
+    (serial : node.serial
+    ≡ length state.nodes + 1) (small : node.permissions < 4096) (at_dir : slice_get state.nodes dir ≡ Some parent)
+    (number : node.ids.ino
+    ≡ least_free (tables node.ids.dev)) (few : length (with_made state dir name node).nodes < 2 ^ 63) where
   least : IsLeastFree state node.ids.dev node.ids.ino
   least = subst (IsLeastFree state node.ids.dev) (sym number) (next_least state holds tables kept node.ids.dev)
 
@@ -46,12 +51,14 @@ module _ (state : State) (holds : List ℕ) (tables : ℕ → List Slot) (kept :
   held_made o =
       let pushed = names_of-pushed (entered (time_of state) dir name node state.nodes) node o empty in
       let gained = names_of-gained state.nodes dir name (length state.nodes)
-      (λ at. touched (time_of state) (with_entry name (length state.nodes) (is_directory node) false at)) o None (λ n. refl) (all_ordered state kept.sound) into free in
+      (λ at. touched (time_of state) (with_entry name (length state.nodes) (is_directory node) false at)) o None (λ n.
+      refl) (all_ordered state kept.sound) into free in
       omega (arith, pushed, gained)
 
   not_there : HasHold state (length state.nodes) → ⊥
   not_there (inl root) = let some = slice_get_within state.nodes dir parent at_dir in absurd (omega arith)
-  not_there (inr (inl has)) = let within = kept.sound.named has.0 has.1 (length state.nodes) has.2 in absurd (omega arith)
+  not_there (inr (inl has)) = let within = kept.sound.named has.0 has.1 (length state.nodes) has.2 in
+      absurd (omega arith)
   not_there (inr (inr (fd, file, there, same))) = let within = kept.sound.opened fd file there in absurd (omega arith)
 
   unheld : held_by state (length state.nodes) ≡ 0
@@ -61,7 +68,8 @@ module _ (state : State) (holds : List ℕ) (tables : ℕ → List Slot) (kept :
   ]
 
   pub new_held : held_by (with_made state dir name node) (length state.nodes) ≡ 1
-  new_held = let a = held_made (length state.nodes) in let none = unheld in let one = is_one (length state.nodes) (length state.nodes) refl in omega arith
+  new_held = let a = held_made (length state.nodes) in let none = unheld in
+      let one = is_one (length state.nodes) (length state.nodes) refl in omega arith
 
   old_held : (o : ℕ) → o < length state.nodes → held_by (with_made state dir name node) o ≡ held_by state o
   old_held o within =
@@ -70,7 +78,8 @@ module _ (state : State) (holds : List ℕ) (tables : ℕ → List Slot) (kept :
       let none = is_none o (length state.nodes) apart in
       omega arith
 
-  count_made : (o : ℕ) → o < length (with_made state dir name node).nodes → slice_get (holds ++ 1 ∷ []) o ≡ Some (held_by (with_made state dir name node) o)
+  count_made : (o : ℕ) → o < length (with_made state dir name node).nodes →
+      slice_get (holds ++ 1 ∷ []) o ≡ Some (held_by (with_made state dir name node) o)
   count_made o within = elim (eqb_tells o (length holds)) [
     | inl e ↦ ap (slice_get (holds ++ 1 ∷ [])) e.1 ∙ get-push_here holds 1
         ∙ ap (λ n. Some n) (sym new_held ∙ ap (held_by (with_made state dir name node)) (sym kept.long ∙ sym e.1))
@@ -82,28 +91,35 @@ module _ (state : State) (holds : List ℕ) (tables : ℕ → List Slot) (kept :
   table : List Slot
   table = put_at (least_free (tables node.ids.dev)) (Open (having (length state.nodes))) (tables node.ids.dev)
 
-  has_made : (o : ℕ) (that : Node) → slice_get (with_made state dir name node).nodes o ≡ Some that → that.ids.dev ≡ node.ids.dev →
-      0 < held_by (with_made state dir name node) o → (file : OpenFile) × (open_at table that.ids.ino ≡ Some file) × (file.object ≡ o)
+  has_made : (o : ℕ) (that : Node) → slice_get (with_made state dir name node).nodes o ≡ Some that →
+      that.ids.dev ≡ node.ids.dev →
+      0 < held_by (with_made state dir name node) o →
+      (file : OpenFile) × (open_at table that.ids.ino ≡ Some file) × (file.object ≡ o)
   unfolding table
-  has_made o that there of some = elim (at_place state dir name node kept.sound into empty serial small least o that there) [
-    | inl new ↦ (
-      having (length state.nodes),
-      ap (open_at table) (ap (λ n. n.ids.ino) new.1 ∙ number)
-          ∙ ap file_of (get-put_here (least_free (tables node.ids.dev)) (Open (having (length state.nodes))) (tables node.ids.dev) (least_free-le-length (tables node.ids.dev))),
-      sym new.0,
-    )
-    | inr old ↦ (let within = slice_get_within state.nodes o old.0 old.1 in
-        let was_of : old.0.ids.dev ≡ node.ids.dev = sym (ap (λ ids. ids.dev) old.2) ∙ of in
-        let file = (kept.numbered node.ids.dev).has o old.0 old.1 was_of (subst (λ n. 0 < n) (old_held o within) some) in
-        let apart : old.0.ids.ino ≢ least_free (tables node.ids.dev) = λ same.
-        (let a : open_at (tables node.ids.dev) (least_free (tables node.ids.dev)) ≡ Some file.0 = sym (ap (open_at (tables node.ids.dev)) same) ∙ file.1 in
-        let b : Some file.0 ≡ None = sym a ∙ least_free-closed (tables node.ids.dev) in cc) in (
-          file.0,
-          ap (λ ids. open_at table ids.ino) old.2
-              ∙ ap file_of (get-put_apart (least_free (tables node.ids.dev)) (Open (having (length state.nodes))) (tables node.ids.dev) old.0.ids.ino apart) ∙ file.1,
-          file.2,
-        ))
-  ]
+  has_made o that there of some =
+      elim (at_place state dir name node kept.sound into empty serial small least o that there) [
+        | inl new ↦ (
+          having (length state.nodes),
+          ap (open_at table) (ap (λ n. n.ids.ino) new.1 ∙ number)
+              ∙ ap file_of (get-put_here (least_free (tables node.ids.dev)) (Open (having (length state.nodes)))
+              (tables node.ids.dev) (least_free-le-length (tables node.ids.dev))),
+          sym new.0,
+        )
+        | inr old ↦ (let within = slice_get_within state.nodes o old.0 old.1 in
+            let was_of : old.0.ids.dev ≡ node.ids.dev = sym (ap (λ ids. ids.dev) old.2) ∙ of in
+            let file = (kept.numbered node.ids.dev).has o old.0 old.1 was_of
+            (subst (λ n. 0 < n) (old_held o within) some) in
+            let apart : old.0.ids.ino ≢ least_free (tables node.ids.dev) = λ same.
+            (let a : open_at (tables node.ids.dev) (least_free (tables node.ids.dev)) ≡ Some file.0 =
+            sym (ap (open_at (tables node.ids.dev)) same) ∙ file.1 in
+            let b : Some file.0 ≡ None = sym a ∙ least_free-closed (tables node.ids.dev) in cc) in (
+              file.0,
+              ap (λ ids. open_at table ids.ino) old.2
+                  ∙ ap file_of (get-put_apart (least_free (tables node.ids.dev)) (Open (having (length state.nodes)))
+                  (tables node.ids.dev) old.0.ids.ino apart) ∙ file.1,
+              file.2,
+            ))
+      ]
 
   entered_there : (place : ℕ) (that : Node) → slice_get state.nodes place ≡ Some that →
       (now : Node) × (slice_get (with_made state dir name node).nodes place ≡ Some now) × (now.ids ≡ that.ids)
@@ -121,24 +137,28 @@ module _ (state : State) (holds : List ℕ) (tables : ℕ → List Slot) (kept :
       let longer = long_made in
       let pushed = length_push (entered (time_of state) dir name node state.nodes) node in
       let same : length (entered (time_of state) dir name node state.nodes) ≡ length state.nodes = omega arith in
-      ap (slice_get (with_made state dir name node).nodes) (sym same) ∙ get-push_here (entered (time_of state) dir name node state.nodes) node
+      ap (slice_get (with_made state dir name node).nodes) (sym same)
+      ∙ get-push_here (entered (time_of state) dir name node state.nodes) node
 
   same_open : (file other : OpenFile) → Open file ≡ Open other → file ≡ other
   same_open file other is = cc
 
   had_made : (k : ℕ) (file : OpenFile) → open_at table k ≡ Some file →
-      (that : Node) × (slice_get (with_made state dir name node).nodes file.object ≡ Some that) × (that.ids.dev ≡ node.ids.dev) × (that.ids.ino ≡ k)
+      (that : Node) × (slice_get (with_made state dir name node).nodes file.object ≡ Some that)
+      × (that.ids.dev ≡ node.ids.dev) × (that.ids.ino ≡ k)
       × (0 < held_by (with_made state dir name node) file.object)
   unfolding table
   had_made k file there =
-      elim (get-put_cases (least_free (tables node.ids.dev)) (Open (having (length state.nodes))) (tables node.ids.dev) k (Open file) (open_slot (slice_get table k) file there)) [
+      elim (get-put_cases (least_free (tables node.ids.dev)) (Open (having (length state.nodes)))
+      (tables node.ids.dev) k (Open file) (open_slot (slice_get table k) file there)) [
         | inl new ↦ (let same = same_open file (having (length state.nodes)) new.1 in
             let object = ap (λ (f : OpenFile). f.object) same in (
               node,
               ap (slice_get (with_made state dir name node).nodes) object ∙ new_there,
               refl,
               number ∙ sym new.0,
-              subst (λ o. 0 < held_by (with_made state dir name node) o) (sym object) (let one = new_held in omega arith),
+              subst (λ o. 0 < held_by (with_made state dir name node) o) (sym object) (let one = new_held in
+                  omega arith),
             ))
         | inr before ↦ (let held = (kept.numbered node.ids.dev).had k file (ap file_of before) in
             let that = entered_there file.object held.0 held.1 in (
@@ -146,7 +166,8 @@ module _ (state : State) (holds : List ℕ) (tables : ℕ → List Slot) (kept :
               that.1,
               ap (λ ids. ids.dev) that.2 ∙ held.2,
               ap (λ ids. ids.ino) that.2 ∙ held.3,
-              subst (λ n. 0 < n) (sym (old_held file.object (slice_get_within state.nodes file.object held.0 held.1))) held.4,
+              subst (λ n. 0 < n) (sym
+                  (old_held file.object (slice_get_within state.nodes file.object held.0 held.1))) held.4,
             ))
       ]
 
@@ -155,11 +176,13 @@ module _ (state : State) (holds : List ℕ) (tables : ℕ → List Slot) (kept :
   numbered_here = record {
     has = has_made;
     had = had_made;
-    from_one = get-put_apart (least_free (tables node.ids.dev)) (Open (having (length state.nodes))) (tables node.ids.dev) 0
+    from_one = get-put_apart (least_free (tables node.ids.dev)) (Open (having (length state.nodes)))
+        (tables node.ids.dev) 0
         (let some = least_not_0 (tables node.ids.dev) (kept.numbered node.ids.dev).from_one in omega arith)
         ∙ (kept.numbered node.ids.dev).from_one;
     no_other = λ k some there.
-        elim (get-put_cases (least_free (tables node.ids.dev)) (Open (having (length state.nodes))) (tables node.ids.dev) k Reserved there) [
+        elim (get-put_cases (least_free (tables node.ids.dev)) (Open (having (length state.nodes)))
+        (tables node.ids.dev) k Reserved there) [
           | inl both ↦ cc
           | inr before ↦ (kept.numbered node.ids.dev).no_other k some before
         ];
@@ -168,12 +191,13 @@ module _ (state : State) (holds : List ℕ) (tables : ℕ → List Slot) (kept :
   -- on another device there are the objects of before
   numbered_there : (dev : ℕ) → dev ≢ node.ids.dev → AreNumbered (with_made state dir name node) dev (tables dev)
   numbered_there dev apart = record {
-    has = λ o that there of some. elim (at_place state dir name node kept.sound into empty serial small least o that there) [
-      | inl new ↦ absurd (apart (sym of ∙ ap (λ n. n.ids.dev) new.1))
-      | inr old ↦ (let file = (kept.numbered dev).has o old.0 old.1 (sym (ap (λ ids. ids.dev) old.2) ∙ of)
-          (subst (λ n. 0 < n) (old_held o (slice_get_within state.nodes o old.0 old.1)) some) in
-          (file.0, ap (λ ids. open_at (tables dev) ids.ino) old.2 ∙ file.1, file.2))
-    ];
+    has = λ o that there of some.
+        elim (at_place state dir name node kept.sound into empty serial small least o that there) [
+          | inl new ↦ absurd (apart (sym of ∙ ap (λ n. n.ids.dev) new.1))
+          | inr old ↦ (let file = (kept.numbered dev).has o old.0 old.1 (sym (ap (λ ids. ids.dev) old.2) ∙ of)
+              (subst (λ n. 0 < n) (old_held o (slice_get_within state.nodes o old.0 old.1)) some) in
+              (file.0, ap (λ ids. open_at (tables dev) ids.ino) old.2 ∙ file.1, file.2))
+        ];
     had = λ k file there.
         let held = (kept.numbered dev).had k file there in
         let that = entered_there file.object held.0 held.1 in (
@@ -181,14 +205,16 @@ module _ (state : State) (holds : List ℕ) (tables : ℕ → List Slot) (kept :
           that.1,
           ap (λ ids. ids.dev) that.2 ∙ held.2,
           ap (λ ids. ids.ino) that.2 ∙ held.3,
-          subst (λ n. 0 < n) (sym (old_held file.object (slice_get_within state.nodes file.object held.0 held.1))) held.4,
+          subst (λ n. 0 < n) (sym
+              (old_held file.object (slice_get_within state.nodes file.object held.0 held.1))) held.4,
         );
     from_one = (kept.numbered dev).from_one;
     no_other = (kept.numbered dev).no_other;
   }
 
   pub kept_made : IsKept (with_made state dir name node) (holds ++ 1 ∷ [])
-      (set_at node.ids.dev (put_at (least_free (tables node.ids.dev)) (Open (having (length state.nodes))) (tables node.ids.dev)) tables)
+      (set_at node.ids.dev
+      (put_at (least_free (tables node.ids.dev)) (Open (having (length state.nodes))) (tables node.ids.dev)) tables)
   unfolding table
   kept_made = record {
     sound = sound;
@@ -200,8 +226,10 @@ module _ (state : State) (holds : List ℕ) (tables : ℕ → List Slot) (kept :
 -- ---- taken back
 
 -- a table of the same open numbers
-numbered_same : (state : State) (dev : ℕ) (numbers other : List Slot) → AreNumbered state dev numbers → ((k : ℕ) → open_at other k ≡ open_at numbers k) →
-    slice_get other 0 ≡ Some Reserved → ((k : ℕ) → 0 < k → slice_get other k ≡ Some Reserved → ⊥) → AreNumbered state dev other
+numbered_same : (state : State) (dev : ℕ) (numbers other : List Slot) → AreNumbered state dev numbers →
+    ((k : ℕ) → open_at other k ≡ open_at numbers k) →
+    slice_get other 0 ≡ Some Reserved → ((k : ℕ) → 0 < k → slice_get other k ≡ Some Reserved → ⊥) →
+    AreNumbered state dev other
 numbered_same state dev numbers other are same reserved none = record {
   has = λ o node there of some. let file = are.has o node there of some in (file.0, same node.ids.ino ∙ file.1, file.2);
   had = λ k file there. are.had k file (sym (same k) ∙ there);
@@ -219,8 +247,10 @@ numbered_back state dev numbers file are =
     let not_first : 0 ≢ least_free numbers = omega arith in
     numbered_same state dev numbers (closed n put) are
     (λ k. elim (eqb_tells k n) [
-      | inl e ↦ ap (open_at (closed n put)) e.1 ∙ shut (open_at put n) n put refl ∙ sym (ap (open_at numbers) e.1 ∙ least_free-closed numbers)
-      | inr apart ↦ ap file_of (closed_apart (open_at put n) n put k apart.1 ∙ get-put_apart n (Open file) numbers k apart.1)
+      | inl e ↦ ap (open_at (closed n put)) e.1 ∙ shut (open_at put n) n put refl
+          ∙ sym (ap (open_at numbers) e.1 ∙ least_free-closed numbers)
+      | inr apart ↦ ap file_of (closed_apart (open_at put n) n put k apart.1
+          ∙ get-put_apart n (Open file) numbers k apart.1)
     ])
     (closed_apart (open_at put n) n put 0 not_first ∙ get-put_apart n (Open file) numbers 0 not_first ∙ are.from_one)
     (λ k more there.
@@ -236,7 +266,8 @@ set_here dev table tables = elim (eqb_tells dev dev) [
   | inr apart ↦ absurd (apart.1 refl)
 ]
 
-set_there : (dev : ℕ) (table : List Slot) (tables : ℕ → List Slot) (other : ℕ) → other ≢ dev → set_at dev table tables other ≡ tables other
+set_there : (dev : ℕ) (table : List Slot) (tables : ℕ → List Slot) (other : ℕ) → other ≢ dev →
+    set_at dev table tables other ≡ tables other
 unfolding set_at
 set_there dev table tables other apart = elim (eqb_tells other dev) [
   | inl e ↦ absurd (apart e.1)
@@ -247,17 +278,23 @@ set_there dev table tables other apart = elim (eqb_tells other dev) [
 abbrev pub given : ℕ → OpenFile → (ℕ → List Slot) → ℕ → List Slot
 given dev file tables = set_at dev (put_at (least_free (tables dev)) (Open file) (tables dev)) tables
 
-pub kept_back : (state : State) (holds : List ℕ) (tables : ℕ → List Slot) (dev : ℕ) (file : OpenFile) → IsKept state holds tables →
-    IsKept state (take (length (holds ++ 1 ∷ []) - 1) (holds ++ 1 ∷ [])) (freed dev (least_free (tables dev)) (given dev file tables))
+pub kept_back : (state : State) (holds : List ℕ) (tables : ℕ → List Slot) (dev : ℕ) (file : OpenFile) →
+    IsKept state holds tables →
+    IsKept state (take (length (holds ++ 1 ∷ []) - 1) (holds ++ 1 ∷ []))
+    (freed dev (least_free (tables dev)) (given dev file tables))
 kept_back state holds tables dev file kept =
-    subst (λ (xs : List ℕ). IsKept state xs (freed dev (least_free (tables dev)) (given dev file tables))) (sym (front holds)) (record {
+    subst (λ (xs : List ℕ).
+    IsKept state xs (freed dev (least_free (tables dev)) (given dev file tables))) (sym (front holds)) (record {
       sound = kept.sound;
       long = kept.long;
       held = kept.held;
-      numbered = numbered_put state dev (closed (least_free (tables dev)) (given dev file tables dev)) (given dev file tables)
+      numbered = numbered_put state dev (closed (least_free (tables dev)) (given dev file tables dev))
+          (given dev file tables)
           (subst (λ (xs : List Slot). AreNumbered state dev (closed (least_free (tables dev)) xs))
-          (sym (set_here dev (put_at (least_free (tables dev)) (Open file) (tables dev)) tables)) (numbered_back state dev (tables dev) file (kept.numbered dev)))
-          (λ other apart. subst (AreNumbered state other) (sym (set_there dev (put_at (least_free (tables dev)) (Open file) (tables dev)) tables other apart))
+          (sym (set_here dev (put_at (least_free (tables dev)) (Open file) (tables dev)) tables))
+          (numbered_back state dev (tables dev) file (kept.numbered dev)))
+          (λ other apart. subst (AreNumbered state other)
+          (sym (set_there dev (put_at (least_free (tables dev)) (Open file) (tables dev)) tables other apart))
           (kept.numbered other));
     })
   where

@@ -5,11 +5,12 @@ use Rattle.pt_rules.specs.State.{State}
 use Rattle.pt_node.specs.declared.node.Node.{Node}
 use Rattle.pt_node.specs.declared.slots.Slot.{Slot}
 
-pub kept_as : (state after : State) (holds held : List ℕ) (tables others : ℕ → List Slot) → after ≡ state → held ≡ holds → others ≡ tables →
-    IsKept state holds tables → IsKept after held others
+pub kept_as : (state after : State) (holds held : List ℕ) (tables others : ℕ → List Slot) → after ≡ state →
+    held ≡ holds → others ≡ tables → IsKept state holds tables → IsKept after held others
 kept_as state after holds held tables others same counts numbers kept =
     subst (λ (s : State). IsKept s held others) (sym same)
-    (subst (λ (xs : List ℕ). IsKept state xs others) (sym counts) (subst (λ (xs : ℕ → List Slot). IsKept state holds xs) (sym numbers) kept))
+    (subst (λ (xs : List ℕ).
+    IsKept state xs others) (sym counts) (subst (λ (xs : ℕ → List Slot). IsKept state holds xs) (sym numbers) kept))
 
 -- the state with other objects
 abbrev pub nodes_in : State → List Node → State

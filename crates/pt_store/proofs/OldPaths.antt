@@ -1,5 +1,6 @@
 -- What an old path leads to lives.
-use Rattle.std.proofs.Common.{◌≡◌, ◌==◌, ◌⊎◌, inl, inr, ℕ, Bool, true, false, cond, List, [], ◌∷◌, Option, Some, None, ap, sym, ◌∙◌}
+use Rattle.std.proofs.Common.{◌≡◌, ◌==◌, ◌⊎◌, inl, inr, ℕ, Bool, true, false, cond, List, [], ◌∷◌, Option, Some, None}
+use Rattle.std.proofs.Common.{ap, sym, ◌∙◌}
 use Rattle.std.proofs.lemmas.Option.{same_Some}
 use Rattle.pt_node.specs.Paths.{parts}
 use Rattle.pt_rules.specs.Holds.{HasName, HasHold}
@@ -9,7 +10,8 @@ use Rattle.pt_rules.specs.State.{State}
 use Rattle.pt_node.specs.declared.node.Node.{Node}
 use Rattle.pt_rules.specs.Laws.WellFormed.{and_then_some}
 
-below_lives : (nodes : List Node) (at : ℕ) (names : List (List ℕ)) (object : ℕ) → object_below nodes at names ≡ Some object → (object ≡ at) ⊎ HasName nodes object
+below_lives : (nodes : List Node) (at : ℕ) (names : List (List ℕ)) (object : ℕ) →
+    object_below nodes at names ≡ Some object → (object ≡ at) ⊎ HasName nodes object
 below_lives nodes at [] object is = inl (sym (same_Some at object is))
 below_lives nodes at (name ∷ more) object is =
     let child = and_then_some (λ child. object_below nodes child more) (name_at nodes at name) object is in
@@ -18,7 +20,8 @@ below_lives nodes at (name ∷ more) object is =
       | inr has ↦ inr has
     ]
 
-after_lives : (nodes : List Node) (path : List ℕ) (object : ℕ) → object_after nodes path ≡ Some object → (object ≡ 0) ⊎ HasName nodes object
+after_lives : (nodes : List Node) (path : List ℕ) (object : ℕ) → object_after nodes path ≡ Some object →
+    (object ≡ 0) ⊎ HasName nodes object
 after_lives nodes [] object is = inl (sym (same_Some 0 object is))
 after_lives nodes (byte ∷ path) object is = below_lives nodes 0 (parts (byte ∷ path)) object is
 
@@ -26,9 +29,11 @@ past_test : {A : Type 0} (b : Bool) (led : Option A) (told : A) → cond b led N
 past_test true led told is = is
 past_test false led told is = cc
 
-pub named_lives : (state : State) (path : List ℕ) (object : ℕ) → object_named state.nodes path ≡ Some object → HasHold state object
+pub named_lives : (state : State) (path : List ℕ) (object : ℕ) → object_named state.nodes path ≡ Some object →
+    HasHold state object
 named_lives state [] object is = cc
-named_lives state (byte ∷ path) object is = elim (after_lives state.nodes path object (past_test (byte == 47) (object_after state.nodes path) object is)) [
-  | inl root ↦ inl root
-  | inr has ↦ inr (inl has)
-]
+named_lives state (byte ∷ path) object is =
+    elim (after_lives state.nodes path object (past_test (byte == 47) (object_after state.nodes path) object is)) [
+      | inl root ↦ inl root
+      | inr has ↦ inr (inl has)
+    ]

@@ -1,5 +1,6 @@
 -- A store with the root alone.
-use Rattle.std.proofs.Common.{◌≡◌, ◌≢◌, ◌<◌, ◌+◌, ◌||◌, inl, inr, ℕ, zero, suc, Bool, true, false, cond, List, [], ◌∷◌, Some, slice_get, refl, ap, sym, ◌∙◌, subst, arith}
+use Rattle.std.proofs.Common.{◌≡◌, ◌≢◌, ◌<◌, ◌+◌, ◌||◌, inl, inr, ℕ, zero, suc, Bool, true, false, cond, List, []}
+use Rattle.std.proofs.Common.{◌∷◌, Some, slice_get, refl, ap, sym, ◌∙◌, subst, arith}
 use Rattle.std.proofs.lemmas.Bool.Decides.{eqb_tells}
 use Rattle.std.proofs.lemmas.Option.{same_Some}
 use Rattle.pt_host.specs.Words.{set_at}
@@ -58,7 +59,8 @@ module _ (id dev : ℕ) (path : List ℕ) (handles : Bool) where
         };
     named = none_named;
     opened = none_opened;
-    apart = λ object another node that there too lives lives_too same_dev same_ino. (only_root object node there).0 ∙ sym (only_root another that too).0;
+    apart = λ object another node that there too lives lives_too same_dev same_ino. (only_root object node there).0
+        ∙ sym (only_root another that too).0;
   }
 
   held_once : held_by state 0 ≡ 1
@@ -75,7 +77,8 @@ module _ (id dev : ℕ) (path : List ℕ) (handles : Bool) where
   }
     where
       had_here : (number : ℕ) (file : OpenFile) → open_at (Reserved ∷ Open (having 0) ∷ []) number ≡ Some file →
-          (node : Node) × (slice_get state.nodes file.object ≡ Some node) × (node.ids.dev ≡ dev) × (node.ids.ino ≡ number) × (0 < held_by state file.object)
+          (node : Node) × (slice_get state.nodes file.object ≡ Some node) × (node.ids.dev ≡ dev)
+          × (node.ids.ino ≡ number) × (0 < held_by state file.object)
       had_here zero file there = cc
       had_here (suc zero) file there =
           let same = same_Some (having 0) file there in (
@@ -94,14 +97,16 @@ module _ (id dev : ℕ) (path : List ℕ) (handles : Bool) where
 
   numbered_there : (other : ℕ) → other ≢ dev → AreNumbered state other no_numbers
   numbered_there other apart = record {
-    has = λ object node there of some. absurd (apart (sym of ∙ ap (λ (n : Node). n.ids.dev) (only_root object node there).1));
+    has = λ object node there of some.
+        absurd (apart (sym of ∙ ap (λ (n : Node). n.ids.dev) (only_root object node there).1));
     had = had_none;
     from_one = refl;
     no_other = none_reserved;
   }
     where
       had_none : (number : ℕ) (file : OpenFile) → open_at no_numbers number ≡ Some file →
-          (node : Node) × (slice_get state.nodes file.object ≡ Some node) × (node.ids.dev ≡ other) × (node.ids.ino ≡ number) × (0 < held_by state file.object)
+          (node : Node) × (slice_get state.nodes file.object ≡ Some node) × (node.ids.dev ≡ other)
+          × (node.ids.ino ≡ number) × (0 < held_by state file.object)
       had_none zero file there = cc
       had_none (suc number) file there = cc
 
@@ -122,7 +127,9 @@ module _ (id dev : ℕ) (path : List ℕ) (handles : Bool) where
     numbered = λ other. elim (eqb_tells other dev) [
       | inl e ↦ subst (λ b. AreNumbered state other (cond b (Reserved ∷ Open (having 0) ∷ []) no_numbers)) (sym e.0)
           (subst (λ d. AreNumbered state d (Reserved ∷ Open (having 0) ∷ [])) (sym e.1) numbered_here)
-      | inr apart ↦ subst (λ b. AreNumbered state other (cond b (Reserved ∷ Open (having 0) ∷ []) no_numbers)) (sym apart.0) (numbered_there other apart.1)
+      | inr apart ↦ subst (λ b.
+          AreNumbered state other (cond b (Reserved ∷ Open (having 0) ∷ []) no_numbers)) (sym apart.0)
+          (numbered_there other apart.1)
     ];
   }
 
@@ -130,13 +137,19 @@ module _ (id dev : ℕ) (path : List ℕ) (handles : Bool) where
   unfolding set_at
   dense other = elim (eqb_tells other dev) [
     | inl e ↦ elim (eqb_tells dev other) [
-      | inl same ↦ subst (λ b. IsDense (cond b (Reserved ∷ Open (having 0) ∷ []) no_numbers) (next_number state.nodes other)) (sym e.0)
-          (subst (λ b. IsDense (Reserved ∷ Open (having 0) ∷ []) (1 + (0 + cond b 1 0))) (sym same.0) (record { long = refl; full = refl }))
+      | inl same ↦ subst (λ b.
+          IsDense (cond b (Reserved ∷ Open (having 0) ∷ []) no_numbers) (next_number state.nodes other)) (sym e.0)
+          (subst (λ b. IsDense (Reserved ∷ Open (having 0) ∷ []) (1 + (0 + cond b 1 0))) (sym same.0) (record {
+            long =
+                refl;
+            full = refl;
+          }))
       | inr apart ↦ absurd (apart.1 (sym e.1))
     ]
     | inr apart ↦ elim (eqb_tells dev other) [
       | inl same ↦ absurd (apart.1 (sym same.1))
-      | inr differs ↦ subst (λ b. IsDense (cond b (Reserved ∷ Open (having 0) ∷ []) no_numbers) (next_number state.nodes other)) (sym apart.0)
+      | inr differs ↦ subst (λ b.
+          IsDense (cond b (Reserved ∷ Open (having 0) ∷ []) no_numbers) (next_number state.nodes other)) (sym apart.0)
           (subst (λ b. IsDense no_numbers (1 + (0 + cond b 1 0))) (sym differs.0) (record { long = refl; full = refl }))
     ]
   ]
@@ -146,7 +159,8 @@ module _ (id dev : ℕ) (path : List ℕ) (handles : Bool) where
     kept = kept;
     begun = refl;
     dense = dense;
-    mounted = λ place node there. ap (λ (n : Node). has_device n.ids.dev state.mounts) (only_root place node there).1 ∙ own_device;
+    mounted = λ place node there. ap (λ (n : Node). has_device n.ids.dev state.mounts) (only_root place node there).1
+        ∙ own_device;
   }
     where
       own_device : has_device dev state.mounts ≡ true

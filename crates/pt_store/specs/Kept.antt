@@ -11,10 +11,12 @@ use Rattle.pt_node.specs.declared.slots.Slot.TheVariants.{Reserved}
 
 -- In the table of a device a number is open on the object that has it. Number 0 is none.
 pub record AreNumbered (state : State) (dev : ℕ) (numbers : List Slot) : Type 0 where
-  pub has : (object : ℕ) (node : Node) → slice_get state.nodes object ≡ Some node → node.ids.dev ≡ dev → 0 < held_by state object →
+  pub has : (object : ℕ) (node : Node) → slice_get state.nodes object ≡ Some node → node.ids.dev ≡ dev →
+      0 < held_by state object →
       (file : OpenFile) × (open_at numbers node.ids.ino ≡ Some file) × (file.object ≡ object)
   pub had : (number : ℕ) (file : OpenFile) → open_at numbers number ≡ Some file →
-      (node : Node) × (slice_get state.nodes file.object ≡ Some node) × (node.ids.dev ≡ dev) × (node.ids.ino ≡ number) × (0 < held_by state file.object)
+      (node : Node) × (slice_get state.nodes file.object ≡ Some node) × (node.ids.dev ≡ dev) × (node.ids.ino ≡ number)
+      × (0 < held_by state file.object)
   pub from_one : slice_get numbers 0 ≡ Some Reserved
   pub no_other : (number : ℕ) → 0 < number → slice_get numbers number ≡ Some Reserved → ⊥
 

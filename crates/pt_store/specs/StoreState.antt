@@ -35,7 +35,8 @@ pub record IsStarted (state : State) (holds : List ℕ) (tables : ℕ → List S
   pub kept : IsKept state holds tables
   pub begun : state.calls ≡ 0
   pub dense : (dev : ℕ) → IsDense (tables dev) (next_number state.nodes dev)
-  pub mounted : (place : ℕ) (node : Node) → slice_get state.nodes place ≡ Some node → has_device node.ids.dev state.mounts ≡ true
+  pub mounted : (place : ℕ) (node : Node) → slice_get state.nodes place ≡ Some node →
+      has_device node.ids.dev state.mounts ≡ true
 
 abbrev pub IsStarting : Store → Type 0
 IsStarting store = IsStarted (state_of store) store.inodes.holds.items (table_in store.inodes.tables.items)

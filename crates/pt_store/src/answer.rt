@@ -56,7 +56,9 @@ impl Store {
     /// Answers a call on the tree or the seat, which is not counted yet.
     fn answer(&mut self, seat: &mut HostSeat, op: &HostOp<'_>) -> HostReply
         requires { IsKeptBy self.old }
-        ensures answers { ComesTo (state_of self.old) seat.old (call_of op.now) (outcome (state_of self.old) (numbers_of self.old) seat.old (call_of op.now)) result (state_of self.new) seat.new }
+        ensures answers { ComesTo (state_of self.old) seat.old (call_of op.now)
+            (outcome (state_of self.old) (numbers_of self.old) seat.old (call_of op.now)) result
+            (state_of self.new) seat.new }
         ensures kept { IsKeptBy self.new }
     {
         match *op {
@@ -205,7 +207,8 @@ impl Store {
     /// Answers a call as planned, or else by the table.
     fn answer_or_fail(&mut self, seat: &mut HostSeat, op: &HostOp<'_>) -> HostReply
         requires { IsKeptBy self.old }
-        ensures answers { AnswersCall (failure_of (state_of self.old) (call_of op.now)) (state_of self.old) (numbers_of self.old) seat.old (call_of op.now) result (state_of self.new) seat.new }
+        ensures answers { AnswersCall (failure_of (state_of self.old) (call_of op.now)) (state_of self.old)
+            (numbers_of self.old) seat.old (call_of op.now) result (state_of self.new) seat.new }
         ensures kept { IsKeptBy self.new }
     {
         match self.failure_of(op) {
@@ -217,7 +220,9 @@ impl Store {
     /// The same of an edit, for which no seat matters.
     fn edit_or_fail(&mut self, edit: &Edit) -> HostReply
         requires { IsKeptBy self.old }
-        ensures answers { (seat : HostSeat) → AnswersCall (failure_of (state_of self.old) (call.Edit edit.now)) (state_of self.old) (numbers_of self.old) seat (call.Edit edit.now) result (state_of self.new) seat }
+        ensures answers { (seat : HostSeat) →
+            AnswersCall (failure_of (state_of self.old) (call.Edit edit.now)) (state_of self.old)
+            (numbers_of self.old) seat (call.Edit edit.now) result (state_of self.new) seat }
         ensures kept { IsKeptBy self.new }
     {
         let op = HostOp::Edit(edit);
@@ -241,7 +246,8 @@ impl Store {
     /// Makes an edit and counts it.
     pub fn make_edit(&mut self, edit: &Edit) -> HostReply
         requires { IsKeptBy self.old }
-        ensures answers { (seat : HostSeat) → Answers (state_of self.old) seat (call.Edit edit.now) result (state_of self.new) seat }
+        ensures answers { (seat : HostSeat) →
+            Answers (state_of self.old) seat (call.Edit edit.now) result (state_of self.new) seat }
         ensures kept { IsKeptBy self.new }
     {
         let reply = self.edit_or_fail(edit);

@@ -24,7 +24,8 @@ use pt_host::{Bytes, Caps, Errno, Fd, HostReply, HostSeat, HostValue, TimeSet};
 impl Store {
     pub fn change_mode(&mut self, seat: &HostSeat, fd: Fd, through: bool, mode: u32) -> HostReply
         requires { IsKeptBy self.old }
-        ensures answers { (result, state_of self.new) ≡ on_row (state_of self.old) fd (chmod_row (state_of self.old) seat.now through mode) }
+        ensures answers { (result, state_of self.new)
+            ≡ on_row (state_of self.old) fd (chmod_row (state_of self.old) seat.now through mode) }
         ensures kept { IsKeptBy self.new }
     {
         let Some(file) = self.files.get(fd) else {
@@ -43,7 +44,8 @@ impl Store {
 
     pub fn change_owner(&mut self, seat: &HostSeat, fd: Fd, uid: u32, gid: u32) -> HostReply
         requires { IsKeptBy self.old }
-        ensures answers { (result, state_of self.new) ≡ on_row (state_of self.old) fd (chown_row (state_of self.old) seat.now uid gid) }
+        ensures answers { (result, state_of self.new)
+            ≡ on_row (state_of self.old) fd (chown_row (state_of self.old) seat.now uid gid) }
         ensures kept { IsKeptBy self.new }
     {
         let Some(file) = self.files.get(fd) else {
@@ -69,7 +71,8 @@ impl Store {
         mtime: TimeSet,
     ) -> HostReply
         requires { IsKeptBy self.old }
-        ensures answers { (result, state_of self.new) ≡ on_row (state_of self.old) fd (times_row (state_of self.old) seat.now through atime mtime) }
+        ensures answers { (result, state_of self.new)
+            ≡ on_row (state_of self.old) fd (times_row (state_of self.old) seat.now through atime mtime) }
         ensures kept { IsKeptBy self.new }
     {
         let Some(file) = self.files.get(fd) else {
@@ -95,7 +98,9 @@ impl Store {
         flags: u32,
     ) -> HostReply
         requires { IsKeptBy self.old }
-        ensures answers { AnswersAs (on_row (state_of self.old) fd (set_xattr_row (state_of self.old) through name.now value.now flags)) (state_of self.old) result (state_of self.new) }
+        ensures answers { AnswersAs
+            (on_row (state_of self.old) fd (set_xattr_row (state_of self.old) through name.now value.now flags))
+            (state_of self.old) result (state_of self.new) }
         ensures kept { IsKeptBy self.new }
     {
         let Some(file) = self.files.get(fd) else {
@@ -122,7 +127,8 @@ impl Store {
 
     pub fn get_xattr(&self, fd: Fd, through: bool, name: &[u8], size: u32) -> HostReply
         requires { IsKeptBy self.now }
-        ensures { AnswersAs (on_row (state_of self.now) fd (get_xattr_row through name.now size)) (state_of self.now) result (state_of self.now) }
+        ensures { AnswersAs (on_row (state_of self.now) fd (get_xattr_row through name.now size))
+            (state_of self.now) result (state_of self.now) }
     {
         let Some(file) = self.files.get(fd) else {
             return HostReply::Refused(Errno::EBADF);
@@ -147,7 +153,8 @@ impl Store {
 
     pub fn list_xattr(&self, fd: Fd, through: bool, size: u32) -> HostReply
         requires { IsKeptBy self.now }
-        ensures { AnswersAs (on_row (state_of self.now) fd (list_xattr_row through size)) (state_of self.now) result (state_of self.now) }
+        ensures { AnswersAs (on_row (state_of self.now) fd (list_xattr_row through size)) (state_of self.now) result
+            (state_of self.now) }
     {
         let Some(file) = self.files.get(fd) else {
             return HostReply::Refused(Errno::EBADF);
@@ -172,7 +179,8 @@ impl Store {
 
     pub fn remove_xattr(&mut self, fd: Fd, through: bool, name: &[u8]) -> HostReply
         requires { IsKeptBy self.old }
-        ensures answers { (result, state_of self.new) ≡ on_row (state_of self.old) fd (remove_xattr_row (state_of self.old) through name.now) }
+        ensures answers { (result, state_of self.new)
+            ≡ on_row (state_of self.old) fd (remove_xattr_row (state_of self.old) through name.now) }
         ensures kept { IsKeptBy self.new }
     {
         let Some(file) = self.files.get(fd) else {

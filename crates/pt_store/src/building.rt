@@ -102,7 +102,9 @@ impl Store {
         requires starting { IsStarting self.old }
         requires small { permissions < 4096 }
         requires empty { names_in content ≡ [] }
-        ensures added { IfOk result (λ added. AddsIf added (add_object (state_of self.old) path.now permissions uid gid rdev content) (state_of self.new)) }
+        ensures added { IfOk result (λ added.
+            AddsIf added (add_object (state_of self.old) path.now permissions uid gid rdev content)
+            (state_of self.new)) }
         ensures starting { IfOk result (λ added. IsTrue added → IsStarting self.new) }
     {
         let Some((dir, name)) = place_of(&self.nodes, path) else {
@@ -140,7 +142,8 @@ impl Store {
     ) -> Result<bool, AllocError>
         requires starting { IsStarting self.old }
         requires empty { names_in content ≡ [] }
-        ensures added { IfOk result (λ added. AddsIf added (add_of_mode (state_of self.old) path.now mode uid gid content) (state_of self.new)) }
+        ensures added { IfOk result (λ added.
+            AddsIf added (add_of_mode (state_of self.old) path.now mode uid gid content) (state_of self.new)) }
         ensures starting { IfOk result (λ added. IsTrue added → IsStarting self.new) }
     {
         if mode >= 4096 {
@@ -158,7 +161,8 @@ impl Store {
         bytes: &Bytes,
     ) -> Result<bool, AllocError>
         requires { IsStarting self.old }
-        ensures added { IfOk result (λ added. AddsIf added (add_file (state_of self.old) path.now mode uid gid bytes.now) (state_of self.new)) }
+        ensures added { IfOk result (λ added.
+            AddsIf added (add_file (state_of self.old) path.now mode uid gid bytes.now) (state_of self.new)) }
         ensures starting { IfOk result (λ added. IsTrue added → IsStarting self.new) }
     {
         if bytes.len() > FILE_MAX {
@@ -176,7 +180,8 @@ impl Store {
         target: &Bytes,
     ) -> Result<bool, AllocError>
         requires { IsStarting self.old }
-        ensures added { IfOk result (λ added. AddsIf added (add_symlink (state_of self.old) path.now uid gid target.now) (state_of self.new)) }
+        ensures added { IfOk result (λ added.
+            AddsIf added (add_symlink (state_of self.old) path.now uid gid target.now) (state_of self.new)) }
         ensures starting { IfOk result (λ added. IsTrue added → IsStarting self.new) }
     {
         if target.len() > TARGET_MAX {
@@ -195,7 +200,9 @@ impl Store {
         rdev: u32,
     ) -> Result<bool, AllocError>
         requires { IsStarting self.old }
-        ensures added { IfOk result (λ added. AddsIf added (add_special (state_of self.old) path.now mode uid gid rdev (special_kind (mode / 4096))) (state_of self.new)) }
+        ensures added { IfOk result (λ added.
+            AddsIf added (add_special (state_of self.old) path.now mode uid gid rdev (special_kind (mode / 4096)))
+            (state_of self.new)) }
         ensures starting { IfOk result (λ added. IsTrue added → IsStarting self.new) }
     {
         match special_kind(mode / 4096) {
@@ -213,7 +220,8 @@ impl Store {
 
     pub fn add_hard(&mut self, path: &[u8], old: &[u8]) -> Result<bool, AllocError>
         requires { IsStarting self.old }
-        ensures added { IfOk result (λ added. AddsIf added (add_hard (state_of self.old) path.now old.now) (state_of self.new)) }
+        ensures added { IfOk result (λ added.
+            AddsIf added (add_hard (state_of self.old) path.now old.now) (state_of self.new)) }
         ensures starting { IfOk result (λ added. IsTrue added → IsStarting self.new) }
     {
         let Some((dir, name)) = place_of(&self.nodes, path) else {
@@ -231,7 +239,8 @@ impl Store {
 
     pub fn add_xattr(&mut self, path: &[u8], name: &[u8], value: &Bytes) -> Result<bool, AllocError>
         requires { IsStarting self.old }
-        ensures added { IfOk result (λ added. AddsIf added (add_xattr (state_of self.old) path.now name.now value.now) (state_of self.new)) }
+        ensures added { IfOk result (λ added.
+            AddsIf added (add_xattr (state_of self.old) path.now name.now value.now) (state_of self.new)) }
         ensures starting { IfOk result (λ added. IsTrue added → IsStarting self.new) }
     {
         if name.len() > XATTR_NAME_MAX || value.len() > XATTR_VALUE_MAX {
@@ -256,7 +265,8 @@ impl Store {
         handles: bool,
     ) -> Result<bool, AllocError>
         requires { IsStarting self.old }
-        ensures added { IfOk result (λ added. AddsIf added (add_mount (state_of self.old) id dev path.now handles) (state_of self.new)) }
+        ensures added { IfOk result (λ added.
+            AddsIf added (add_mount (state_of self.old) id dev path.now handles) (state_of self.new)) }
         ensures starting { IfOk result (λ added. IsTrue added → IsStarting self.new) }
     {
         if !is_new_mount(&self.mounts, id, dev, path.as_slice()) {
@@ -290,7 +300,8 @@ impl Store {
         path: &Bytes,
         handles: bool,
     ) -> Result<Store, AllocError>
-        ensures state { IfOk result (λ store. state_of store ≡ mounted (start_with (mount_root id dev 1 handles)) 0 id dev path.now) }
+        ensures state { IfOk result (λ store. state_of store
+            ≡ mounted (start_with (mount_root id dev 1 handles)) 0 id dev path.now) }
         ensures starting { IfOk result (λ store. IsStarting store) }
     {
         let mut mounts = Mounts::new(alloc);

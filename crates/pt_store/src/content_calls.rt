@@ -39,7 +39,8 @@ impl Store {
     ) -> Result<(), AllocError>
         requires kept { IsKeptBy self.old }
         requires fits { start + length bytes.now ≤ file_max }
-        ensures ok { OnOk result (state_of self.new ≡ with_written (state_of self.old) seat.now object start bytes.now) }
+        ensures ok { OnOk result (state_of self.new
+            ≡ with_written (state_of self.old) seat.now object start bytes.now) }
         ensures err { OnErr result (state_of self.new ≡ state_of self.old) }
         ensures kept { IsKeptBy self.new }
     {
@@ -64,7 +65,9 @@ impl Store {
         append: bool,
     ) -> HostReply
         requires { IsKeptBy self.old }
-        ensures answers { AnswersAs (on_row (state_of self.old) fd (write_row (state_of self.old) seat.now offset bytes.now append)) (state_of self.old) result (state_of self.new) }
+        ensures answers { AnswersAs
+            (on_row (state_of self.old) fd (write_row (state_of self.old) seat.now offset bytes.now append))
+            (state_of self.old) result (state_of self.new) }
         ensures kept { IsKeptBy self.new }
     {
         let Some(file) = self.files.get(fd) else {
@@ -85,7 +88,8 @@ impl Store {
 
     pub fn truncate(&mut self, seat: &HostSeat, fd: Fd, size: u64) -> HostReply
         requires { IsKeptBy self.old }
-        ensures answers { AnswersAs (on_row (state_of self.old) fd (truncate_row (state_of self.old) seat.now size)) (state_of self.old) result (state_of self.new) }
+        ensures answers { AnswersAs (on_row (state_of self.old) fd (truncate_row (state_of self.old) seat.now size))
+            (state_of self.old) result (state_of self.new) }
         ensures kept { IsKeptBy self.new }
     {
         let Some(file) = self.files.get(fd) else {
@@ -109,7 +113,9 @@ impl Store {
 
     pub fn allocate(&mut self, fd: Fd, mode: u32, offset: u64, size: u64) -> HostReply
         requires { IsKeptBy self.old }
-        ensures answers { AnswersAs (on_row (state_of self.old) fd (allocate_row (state_of self.old) mode offset size)) (state_of self.old) result (state_of self.new) }
+        ensures answers { AnswersAs
+            (on_row (state_of self.old) fd (allocate_row (state_of self.old) mode offset size))
+            (state_of self.old) result (state_of self.new) }
         ensures kept { IsKeptBy self.new }
     {
         let Some(file) = self.files.get(fd) else {
@@ -170,7 +176,8 @@ impl Store {
         flags: u64,
     ) -> HostReply
         requires { IsKeptBy self.old }
-        ensures answers { AnswersAs (copy_range (state_of self.old) seat.now from.0 from.1 to.0 to.1 size flags) (state_of self.old) result (state_of self.new) }
+        ensures answers { AnswersAs (copy_range (state_of self.old) seat.now from.0 from.1 to.0 to.1 size flags)
+            (state_of self.old) result (state_of self.new) }
         ensures kept { IsKeptBy self.new }
     {
         let now = self.now();

@@ -84,7 +84,9 @@ impl Store {
 
     fn unlink(&mut self, path: &[u8]) -> HostReply
         requires { IsKeptBy self.old }
-        ensures answers { (result, state_of self.new) ≡ at_place (state_of self.old) ebusy (judged self.old.nodes.items path.now) (unlink_at (state_of self.old)) }
+        ensures answers { (result, state_of self.new)
+            ≡ at_place (state_of self.old) ebusy (judged self.old.nodes.items path.now)
+            (unlink_at (state_of self.old)) }
         ensures kept { IsKeptBy self.new }
     {
         match judged(&self.nodes, path) {
@@ -111,7 +113,8 @@ impl Store {
         requires into { is_directory_at self.old.nodes.items to.0 ≡ true }
         requires target { name_at self.old.nodes.items to.0 to.1.now ≡ target }
         requires another { target ≢ Some object }
-        ensures ok { OnOk result (state_of self.new ≡ with_moved (state_of self.old) (seen_place from.entry) (seen_place to.entry) object target) }
+        ensures ok { OnOk result (state_of self.new
+            ≡ with_moved (state_of self.old) (seen_place from.entry) (seen_place to.entry) object target) }
         ensures err { OnErr result (state_of self.new ≡ state_of self.old) }
         ensures kept { IsKeptBy self.new }
     {
@@ -134,7 +137,9 @@ impl Store {
         requires leads { name_at self.old.nodes.items from.0 from.1.now ≡ Some object }
         requires into { is_directory_at self.old.nodes.items to.0 ≡ true }
         requires target { name_at self.old.nodes.items to.0 to.1.now ≡ target }
-        ensures answers { AnswersAs (rename_onto (state_of self.old) (seen_place from.entry) (seen_place to.entry) object target) (state_of self.old) result (state_of self.new) }
+        ensures answers { AnswersAs
+            (rename_onto (state_of self.old) (seen_place from.entry) (seen_place to.entry) object target)
+            (state_of self.old) result (state_of self.new) }
         ensures kept { IsKeptBy self.new }
     {
         if let Some(other) = target {
@@ -161,7 +166,9 @@ impl Store {
         requires kept { IsKeptBy self.old }
         requires leads { name_at self.old.nodes.items from.0 from.1.now ≡ Some object }
         requires into { is_directory_at self.old.nodes.items to.0 ≡ true }
-        ensures answers { AnswersAs (rename_object (state_of self.old) new.now (seen_place from.entry) (seen_place to.entry) object (name_at self.old.nodes.items to.entry.0 to.entry.1.now)) (state_of self.old) result (state_of self.new) }
+        ensures answers { AnswersAs
+            (rename_object (state_of self.old) new.now (seen_place from.entry) (seen_place to.entry) object
+            (name_at self.old.nodes.items to.entry.0 to.entry.1.now)) (state_of self.old) result (state_of self.new) }
         ensures kept { IsKeptBy self.new }
     {
         let target = name_at(&self.nodes, to.0, to.1);
@@ -175,7 +182,9 @@ impl Store {
     fn rename_found(&mut self, new: &[u8], from: (usize, &[u8]), to: (usize, &[u8])) -> HostReply
         requires kept { IsKeptBy self.old }
         requires into { is_directory_at self.old.nodes.items to.0 ≡ true }
-        ensures answers { AnswersAs (rename_judged (state_of self.old) new.now (Ok (seen_place from.entry)) (Ok (seen_place to.entry))) (state_of self.old) result (state_of self.new) }
+        ensures answers { AnswersAs
+            (rename_judged (state_of self.old) new.now (Ok (seen_place from.entry)) (Ok (seen_place to.entry)))
+            (state_of self.old) result (state_of self.new) }
         ensures kept { IsKeptBy self.new }
     {
         if from.1.is_empty() || to.1.is_empty() {
@@ -189,7 +198,9 @@ impl Store {
 
     fn rename(&mut self, old: &[u8], new: &[u8]) -> HostReply
         requires { IsKeptBy self.old }
-        ensures answers { AnswersAs (rename_judged (state_of self.old) new.now (judged self.old.nodes.items old.now) (judged self.old.nodes.items new.now)) (state_of self.old) result (state_of self.new) }
+        ensures answers { AnswersAs
+            (rename_judged (state_of self.old) new.now (judged self.old.nodes.items old.now)
+            (judged self.old.nodes.items new.now)) (state_of self.old) result (state_of self.new) }
         ensures kept { IsKeptBy self.new }
     {
         match judged(&self.nodes, old) {
@@ -217,7 +228,9 @@ impl Store {
         requires free { name_at self.old.nodes.items dir name.now ≡ None }
         requires empty { names_in content ≡ [] }
         requires small { permissions < 4096 }
-        ensures answers { AnswersAs (make_in (state_of self.old) (numbers_of self.old) dir name.now permissions uid gid rdev content (slice_get self.old.nodes.items dir)) (state_of self.old) result (state_of self.new) }
+        ensures answers { AnswersAs
+            (make_in (state_of self.old) (numbers_of self.old) dir name.now permissions uid gid rdev content
+            (slice_get self.old.nodes.items dir)) (state_of self.old) result (state_of self.new) }
         ensures kept { IsKeptBy self.new }
     {
         let now = self.now();
@@ -266,7 +279,9 @@ impl Store {
         requires kept { IsKeptBy self.old }
         requires into { is_directory_at self.old.nodes.items dir ≡ true }
         requires empty { names_in content ≡ [] }
-        ensures answers { AnswersAs (make_at (state_of self.old) (numbers_of self.old) mode uid gid content dir name.now) (state_of self.old) result (state_of self.new) }
+        ensures answers { AnswersAs
+            (make_at (state_of self.old) (numbers_of self.old) mode uid gid content dir name.now)
+            (state_of self.old) result (state_of self.new) }
         ensures kept { IsKeptBy self.new }
     {
         if name_at(&self.nodes, dir, name).is_some() {
@@ -281,7 +296,10 @@ impl Store {
     fn make(&mut self, path: &[u8], mode: u32, uid: u32, gid: u32, content: Content) -> HostReply
         requires kept { IsKeptBy self.old }
         requires empty { names_in content ≡ [] }
-        ensures answers { AnswersAs (at_place (state_of self.old) eexist (judged self.old.nodes.items path.now) (make_at (state_of self.old) (numbers_of self.old) mode uid gid content)) (state_of self.old) result (state_of self.new) }
+        ensures answers { AnswersAs
+            (at_place (state_of self.old) eexist (judged self.old.nodes.items path.now)
+            (make_at (state_of self.old) (numbers_of self.old) mode uid gid content)) (state_of self.old) result
+            (state_of self.new) }
         ensures kept { IsKeptBy self.new }
     {
         match judged(&self.nodes, path) {
@@ -297,7 +315,9 @@ impl Store {
 
     fn write_at(&mut self, dir: usize, name: &[u8], bytes: &[u8]) -> HostReply
         requires { IsKeptBy self.old }
-        ensures answers { AnswersAs (write_found (state_of self.old) bytes.now (name_at self.old.nodes.items dir name.now)) (state_of self.old) result (state_of self.new) }
+        ensures answers { AnswersAs
+            (write_found (state_of self.old) bytes.now (name_at self.old.nodes.items dir name.now))
+            (state_of self.old) result (state_of self.new) }
         ensures kept { IsKeptBy self.new }
     {
         let Some(object) = name_at(&self.nodes, dir, name) else {
@@ -318,7 +338,10 @@ impl Store {
 
     fn write(&mut self, path: &[u8], bytes: &[u8]) -> HostReply
         requires { IsKeptBy self.old }
-        ensures answers { AnswersAs (at_place (state_of self.old) eisdir (judged self.old.nodes.items path.now) (λ dir name. write_found (state_of self.old) bytes.now (name_at self.old.nodes.items dir name))) (state_of self.old) result (state_of self.new) }
+        ensures answers { AnswersAs
+            (at_place (state_of self.old) eisdir (judged self.old.nodes.items path.now) (λ dir name.
+            write_found (state_of self.old) bytes.now (name_at self.old.nodes.items dir name)))
+            (state_of self.old) result (state_of self.new) }
         ensures kept { IsKeptBy self.new }
     {
         match judged(&self.nodes, path) {
@@ -335,7 +358,8 @@ impl Store {
     /// Makes an edit, which is not counted yet.
     pub fn edit(&mut self, edit: &Edit) -> HostReply
         requires { IsKeptBy self.old }
-        ensures answers { AnswersAs (edited (state_of self.old) (numbers_of self.old) edit.now) (state_of self.old) result (state_of self.new) }
+        ensures answers { AnswersAs (edited (state_of self.old) (numbers_of self.old) edit.now)
+            (state_of self.old) result (state_of self.new) }
         ensures kept { IsKeptBy self.new }
     {
         match edit {

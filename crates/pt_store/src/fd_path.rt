@@ -10,7 +10,8 @@ use pt_host::{Bytes, Errno, Fd, HostReply, HostValue};
 impl Store {
     pub fn fd_path(&self, fd: Fd) -> HostReply
         requires { IsKeptBy self.now }
-        ensures { AnswersAs (on_row (state_of self.now) fd (fd_path_row (state_of self.now))) (state_of self.now) result (state_of self.now) }
+        ensures { AnswersAs (on_row (state_of self.now) fd (fd_path_row (state_of self.now)))
+            (state_of self.now) result (state_of self.now) }
     {
         let Some(file) = self.files.get(fd) else {
             return HostReply::Refused(Errno::EBADF);

@@ -9,7 +9,8 @@ use pt_host::{Bytes, Errno, Fd, HostReply, HostValue};
 impl Store {
     pub fn list_at(&mut self, fd: Fd, offset: Option<u64>, size: u32) -> HostReply
         requires { IsKeptBy self.old }
-        ensures answers { AnswersAs (list_at (state_of self.old) fd offset size) (state_of self.old) result (state_of self.new) }
+        ensures answers { AnswersAs (list_at (state_of self.old) fd offset size) (state_of self.old) result
+            (state_of self.new) }
         ensures kept { IsKeptBy self.new }
     {
         let Some(file) = self.files.get(fd) else {

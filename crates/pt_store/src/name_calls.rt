@@ -28,7 +28,8 @@ use std::alloc::AllocError;
 impl Store {
     pub fn make_dir(&mut self, seat: &HostSeat, fd: Fd, name: &[u8], mode: u32) -> HostReply
         requires { IsKeptBy self.old }
-        ensures answers { AnswersAs (make_dir (state_of self.old) (numbers_of self.old) seat.now fd name.now mode) (state_of self.old) result (state_of self.new) }
+        ensures answers { AnswersAs (make_dir (state_of self.old) (numbers_of self.old) seat.now fd name.now mode)
+            (state_of self.old) result (state_of self.new) }
         ensures kept { IsKeptBy self.new }
     {
         let Some(file) = self.files.get(fd) else {
@@ -65,7 +66,9 @@ impl Store {
         rdev: u32,
     ) -> HostReply
         requires { IsKeptBy self.old }
-        ensures answers { AnswersAs (make_node (state_of self.old) (numbers_of self.old) seat.now fd name.now mode rdev) (state_of self.old) result (state_of self.new) }
+        ensures answers { AnswersAs
+            (make_node (state_of self.old) (numbers_of self.old) seat.now fd name.now mode rdev)
+            (state_of self.old) result (state_of self.new) }
         ensures kept { IsKeptBy self.new }
     {
         let Some(file) = self.files.get(fd) else {
@@ -99,7 +102,9 @@ impl Store {
 
     pub fn make_symlink(&mut self, seat: &HostSeat, fd: Fd, name: &[u8], target: &[u8]) -> HostReply
         requires { IsKeptBy self.old }
-        ensures answers { AnswersAs (make_symlink (state_of self.old) (numbers_of self.old) seat.now fd name.now target.now) (state_of self.old) result (state_of self.new) }
+        ensures answers { AnswersAs
+            (make_symlink (state_of self.old) (numbers_of self.old) seat.now fd name.now target.now)
+            (state_of self.old) result (state_of self.new) }
         ensures kept { IsKeptBy self.new }
     {
         let Some(file) = self.files.get(fd) else {
@@ -154,7 +159,8 @@ impl Store {
 
     pub fn make_link(&mut self, seat: &HostSeat, from: Fd, fd: Fd, name: &[u8]) -> HostReply
         requires { IsKeptBy self.old }
-        ensures answers { AnswersAs (make_link (state_of self.old) seat.now from fd name.now) (state_of self.old) result (state_of self.new) }
+        ensures answers { AnswersAs (make_link (state_of self.old) seat.now from fd name.now)
+            (state_of self.old) result (state_of self.new) }
         ensures kept { IsKeptBy self.new }
     {
         let Some(linked) = self.files.get(from) else {

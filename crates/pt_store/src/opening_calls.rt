@@ -39,7 +39,8 @@ use pt_node::path::walk_from;
 impl Store {
     pub fn open_path(&mut self, seat: &HostSeat, fd: Fd, path: &[u8], flags: OpenFlags) -> HostReply
         requires { IsKeptBy self.old }
-        ensures answers { AnswersAs (open_path (state_of self.old) seat.now fd path.now flags) (state_of self.old) result (state_of self.new) }
+        ensures answers { AnswersAs (open_path (state_of self.old) seat.now fd path.now flags)
+            (state_of self.old) result (state_of self.new) }
         ensures kept { IsKeptBy self.new }
     {
         let Some(file) = self.files.get(fd) else {
@@ -65,7 +66,9 @@ impl Store {
         requires into { is_directory_at self.old.nodes.items dir ≡ true }
         requires free { name_at self.old.nodes.items dir name.now ≡ None }
         requires small { permissions < 4096 }
-        ensures answers { AnswersAs (open_new (state_of self.old) (numbers_of self.old) seat.now flags permissions dir name.now (slice_get self.old.nodes.items dir)) (state_of self.old) result (state_of self.new) }
+        ensures answers { AnswersAs
+            (open_new (state_of self.old) (numbers_of self.old) seat.now flags permissions dir name.now
+            (slice_get self.old.nodes.items dir)) (state_of self.old) result (state_of self.new) }
         ensures kept { IsKeptBy self.new }
     {
         let object = self.nodes.len();
@@ -120,7 +123,9 @@ impl Store {
         mode: u32,
     ) -> HostReply
         requires { IsKeptBy self.old }
-        ensures answers { AnswersAs (open_creating (state_of self.old) (numbers_of self.old) seat.now fd name.now flags mode) (state_of self.old) result (state_of self.new) }
+        ensures answers { AnswersAs
+            (open_creating (state_of self.old) (numbers_of self.old) seat.now fd name.now flags mode)
+            (state_of self.old) result (state_of self.new) }
         ensures kept { IsKeptBy self.new }
     {
         let Some(file) = self.files.get(fd) else {
@@ -154,7 +159,9 @@ impl Store {
         mode: u32,
     ) -> HostReply
         requires { IsKeptBy self.old }
-        ensures answers { AnswersAs (open_at_name (state_of self.old) (numbers_of self.old) seat.now fd name.now flags mode) (state_of self.old) result (state_of self.new) }
+        ensures answers { AnswersAs
+            (open_at_name (state_of self.old) (numbers_of self.old) seat.now fd name.now flags mode)
+            (state_of self.old) result (state_of self.new) }
         ensures kept { IsKeptBy self.new }
     {
         if flags.includes(OpenFlags::O_CREAT) {
@@ -167,7 +174,8 @@ impl Store {
     /// Whether the object at this place is on the mount, has the handle and lives.
     fn is_handled(&self, mount: u64, handle: &CFileHandle, place: usize) -> bool
         requires { IsKeptBy self.now }
-        ensures { result ≡ handled_where (state_of self.now) mount handle.now place (slice_get self.now.nodes.items place) }
+        ensures { result ≡ handled_where (state_of self.now) mount handle.now place
+            (slice_get self.now.nodes.items place) }
     {
         match self.nodes.get(place) {
             None => false,
@@ -207,7 +215,8 @@ impl Store {
         flags: OpenFlags,
     ) -> HostReply
         requires { IsKeptBy self.old }
-        ensures answers { AnswersAs (open_by_handle (state_of self.old) seat.now fd handle.now flags) (state_of self.old) result (state_of self.new) }
+        ensures answers { AnswersAs (open_by_handle (state_of self.old) seat.now fd handle.now flags)
+            (state_of self.old) result (state_of self.new) }
         ensures kept { IsKeptBy self.new }
     {
         let Some(file) = self.files.get(fd) else {
@@ -292,7 +301,8 @@ impl Store {
 
     pub fn read_link(&mut self, fd: Fd) -> HostReply
         requires { IsKeptBy self.old }
-        ensures answers { AnswersAs (on_row (state_of self.old) fd (read_link_row (state_of self.old))) (state_of self.old) result (state_of self.new) }
+        ensures answers { AnswersAs (on_row (state_of self.old) fd (read_link_row (state_of self.old)))
+            (state_of self.old) result (state_of self.new) }
         ensures kept { IsKeptBy self.new }
     {
         let Some(file) = self.files.get(fd) else {

@@ -26,8 +26,8 @@ use pt_host::{Errno, Fd, HostReply, HostSeat, HostValue};
 use pt_node::path::name_at;
 
 impl Store {
-    /// The error for which no name is moved between these directories, up to where it is seen whether both names lead to
-    /// one object.
+    /// The error for which no name is moved between these directories, up to where it is seen whether both names lead
+    /// to one object.
     fn rename_refusal(
         &self,
         seat: &HostSeat,
@@ -64,7 +64,8 @@ impl Store {
         requires there { name_at self.old.nodes.items from.0 from.1.now ≡ Some object }
         requires too { name_at self.old.nodes.items to.0 to.1.now ≡ Some other }
         requires apart { other ≢ object }
-        ensures state { state_of self.new ≡ with_exchanged (state_of self.old) (seen_place from.entry) (seen_place to.entry) object other }
+        ensures state { state_of self.new
+            ≡ with_exchanged (state_of self.old) (seen_place from.entry) (seen_place to.entry) object other }
         ensures kept { IsKeptBy self.new }
     {
         let now = self.now();
@@ -83,7 +84,9 @@ impl Store {
         requires leads { name_at self.old.nodes.items from.0 from.1.now ≡ Some object }
         requires into { is_directory_at self.old.nodes.items to.0 ≡ true }
         requires target { name_at self.old.nodes.items to.0 to.1.now ≡ target }
-        ensures answers { AnswersAs (rename_to (state_of self.old) (seen_place from.entry) (seen_place to.entry) object target flags) (state_of self.old) result (state_of self.new) }
+        ensures answers { AnswersAs
+            (rename_to (state_of self.old) (seen_place from.entry) (seen_place to.entry) object target flags)
+            (state_of self.old) result (state_of self.new) }
         ensures kept { IsKeptBy self.new }
     {
         match target {
@@ -104,7 +107,9 @@ impl Store {
     ) -> HostReply
         requires kept { IsKeptBy self.old }
         requires into { is_directory_at self.old.nodes.items to.0 ≡ true }
-        ensures answers { AnswersAs (rename_between (state_of self.old) seat.now (seen_place from.entry) (seen_place to.entry) flags) (state_of self.old) result (state_of self.new) }
+        ensures answers { AnswersAs
+            (rename_between (state_of self.old) seat.now (seen_place from.entry) (seen_place to.entry) flags)
+            (state_of self.old) result (state_of self.new) }
         ensures kept { IsKeptBy self.new }
     {
         if flags > EXCHANGE {
@@ -128,7 +133,9 @@ impl Store {
         flags: u32,
     ) -> HostReply
         requires { IsKeptBy self.old }
-        ensures answers { AnswersAs (rename (state_of self.old) seat.now from.entry.0 from.entry.1.now to.entry.0 to.entry.1.now flags) (state_of self.old) result (state_of self.new) }
+        ensures answers { AnswersAs
+            (rename (state_of self.old) seat.now from.entry.0 from.entry.1.now to.entry.0 to.entry.1.now flags)
+            (state_of self.old) result (state_of self.new) }
         ensures kept { IsKeptBy self.new }
     {
         let Some(other) = self.files.get(to.0) else {

@@ -74,7 +74,8 @@ impl Store {
     pub fn open(&mut self, seat: &HostSeat, flags: OpenFlags, object: usize) -> HostReply
         requires kept { IsKeptBy self.old }
         requires lives { HasHold (state_of self.old) object }
-        ensures answers { AnswersAs (opening (state_of self.old) seat.now flags object) (state_of self.old) result (state_of self.new) }
+        ensures answers { AnswersAs (opening (state_of self.old) seat.now flags object) (state_of self.old) result
+            (state_of self.new) }
         ensures kept { IsKeptBy self.new }
     {
         let Some(node) = self.nodes.get(object) else {
@@ -105,7 +106,8 @@ impl Store {
     ) -> HostReply
         requires kept { IsKeptBy self.old }
         requires lives { (object : ℕ) → found ≡ Ok object → HasHold (state_of self.old) object }
-        ensures answers { AnswersAs (open_walked (state_of self.old) seat.now flags found) (state_of self.old) result (state_of self.new) }
+        ensures answers { AnswersAs (open_walked (state_of self.old) seat.now flags found) (state_of self.old) result
+            (state_of self.new) }
         ensures kept { IsKeptBy self.new }
     {
         match found {
@@ -141,7 +143,8 @@ impl Store {
 
     pub fn read(&mut self, fd: Fd, offset: u64, size: u32) -> HostReply
         requires { IsKeptBy self.old }
-        ensures answers { AnswersAs (on_row (state_of self.old) fd (read_row (state_of self.old) offset size)) (state_of self.old) result (state_of self.new) }
+        ensures answers { AnswersAs (on_row (state_of self.old) fd (read_row (state_of self.old) offset size))
+            (state_of self.old) result (state_of self.new) }
         ensures kept { IsKeptBy self.new }
     {
         let Some(file) = self.files.get(fd) else {
@@ -183,7 +186,9 @@ impl Store {
 
     pub fn open_root(&mut self, seat: &HostSeat, path: &[u8], flags: OpenFlags) -> HostReply
         requires { IsKeptBy self.old }
-        ensures answers { AnswersAs (open_walked (state_of self.old) seat.now flags (walk_root self.old.nodes.items path.now)) (state_of self.old) result (state_of self.new) }
+        ensures answers { AnswersAs
+            (open_walked (state_of self.old) seat.now flags (walk_root self.old.nodes.items path.now))
+            (state_of self.old) result (state_of self.new) }
         ensures kept { IsKeptBy self.new }
     {
         let found = walk_root(&self.nodes, path);
@@ -199,7 +204,8 @@ impl Store {
         flags: OpenFlags,
     ) -> HostReply
         requires { IsKeptBy self.old }
-        ensures answers { AnswersAs (open_named (state_of self.old) seat.now fd name.now flags) (state_of self.old) result (state_of self.new) }
+        ensures answers { AnswersAs (open_named (state_of self.old) seat.now fd name.now flags)
+            (state_of self.old) result (state_of self.new) }
         ensures kept { IsKeptBy self.new }
     {
         let found = self.find(seat, fd, name);
@@ -208,7 +214,8 @@ impl Store {
 
     pub fn reopen(&mut self, seat: &HostSeat, fd: Fd, flags: OpenFlags) -> HostReply
         requires { IsKeptBy self.old }
-        ensures answers { AnswersAs (reopen (state_of self.old) seat.now fd flags) (state_of self.old) result (state_of self.new) }
+        ensures answers { AnswersAs (reopen (state_of self.old) seat.now fd flags) (state_of self.old) result
+            (state_of self.new) }
         ensures kept { IsKeptBy self.new }
     {
         let Some(file) = self.files.get(fd) else {

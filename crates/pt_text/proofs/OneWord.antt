@@ -1,10 +1,12 @@
-use Rattle.std.proofs.Common.{◌≡◌, ◌<◌, ℕ, ◌+◌, ◌*◌, ◌/◌, ◌%◌, Bool, true, false, cond, not, ◌&&◌, List, [], ◌∷◌, ◌++◌, Option, Some, None, refl, ap, sym, ◌∙◌, arith}
+use Rattle.std.proofs.Common.{◌≡◌, ◌<◌, ℕ, ◌+◌, ◌*◌, ◌/◌, ◌%◌, Bool, true, false, cond, not, ◌&&◌, List, [], ◌∷◌}
+use Rattle.std.proofs.Common.{◌++◌, Option, Some, None, refl, ap, sym, ◌∙◌, arith}
 use Rattle.std.specs.Prelude.{nat_le, ◌==◌}
 use Rattle.std.specs.List.{flat_map, AllByRecursion}
 use Rattle.std.specs.Char.{digit_char, digit_value}
 use Rattle.std.proofs.lemmas.Str.{digit_value-digit_char}
 use Rattle.std.proofs.lemmas.Bool.Decides.{nat_tests}
-use Rattle.pt_text.specs.ByteWord.{stands_for_itself, escaped, byte_word, is_hex_digit, escape_of, behind, unescaped, bytes_of}
+use Rattle.pt_text.specs.ByteWord.{stands_for_itself, escaped, byte_word, is_hex_digit, escape_of, behind, unescaped}
+use Rattle.pt_text.specs.ByteWord.{bytes_of}
 use Rattle.pt_text.specs.Laws.{HaveOneWord}
 
 -- the digit of a number below 16 is one in lower case
@@ -27,19 +29,29 @@ not_true true is = cc
 not_true false is = refl
 
 -- an escape is read as its byte
-escape_of-escaped : (b : ℕ) → b < 256 → stands_for_itself b ≡ false → escape_of (digit_char (b / 16)) (digit_char (b % 16)) ≡ Some b
+escape_of-escaped : (b : ℕ) → b < 256 → stands_for_itself b ≡ false →
+    escape_of (digit_char (b / 16)) (digit_char (b % 16)) ≡ Some b
 escape_of-escaped b small other =
     let high : b / 16 < 16 = omega arith in
     let low : b % 16 < 16 = omega arith in
     let same : 16 * (b / 16) + b % 16 ≡ b = omega arith in
-    rw (hex_digit_char (b / 16) high, hex_digit_char (b % 16) low, digit_value-digit_char (b / 16) (omega arith), digit_value-digit_char (b % 16) (omega arith), same, other) refl
+    rw (
+      hex_digit_char (b / 16) high,
+      hex_digit_char (b % 16) low,
+      digit_value-digit_char (b / 16) (omega arith),
+      digit_value-digit_char (b % 16) (omega arith),
+      same,
+      other,
+    ) refl
 
 -- and is the one of its byte
 escaped-escape_of : (d e b : ℕ) → escape_of d e ≡ Some b → escaped b ≡ 37 ∷ d ∷ e ∷ []
-escaped-escape_of d e b is = go (is_hex_digit d && (is_hex_digit e && not (stands_for_itself (16 * digit_value d + digit_value e)))) refl is
+escaped-escape_of d e b is =
+    go (is_hex_digit d && (is_hex_digit e && not (stands_for_itself (16 * digit_value d + digit_value e)))) refl is
   where
-    go : (t : Bool) → (is_hex_digit d && (is_hex_digit e && not (stands_for_itself (16 * digit_value d + digit_value e)))) ≡ t → cond t (Some (16 * digit_value d + digit_value e)) None ≡ Some b →
-        escaped b ≡ 37 ∷ d ∷ e ∷ []
+    go : (t : Bool) → (is_hex_digit d
+        && (is_hex_digit e && not (stands_for_itself (16 * digit_value d + digit_value e)))) ≡ t →
+        cond t (Some (16 * digit_value d + digit_value e)) None ≡ Some b → escaped b ≡ 37 ∷ d ∷ e ∷ []
     go false holds is = cc
     go true holds is =
         let first = and_true (is_hex_digit d) _ holds in
@@ -52,7 +64,8 @@ escaped-escape_of d e b is = go (is_hex_digit d && (is_hex_digit e && not (stand
         rw (other, high, rest, digit_char_value d first.0, digit_char_value e second.0) refl
 
 -- a byte that stands for itself is read as itself
-unescaped-plain : (c : ℕ) (rest : List ℕ) → stands_for_itself c ≡ true → unescaped (c ∷ rest) ≡ behind (Some c) (unescaped rest)
+unescaped-plain : (c : ℕ) (rest : List ℕ) → stands_for_itself c ≡ true →
+    unescaped (c ∷ rest) ≡ behind (Some c) (unescaped rest)
 unescaped-plain c [] plain = rw plain refl
 unescaped-plain c (d ∷ []) plain = rw plain refl
 unescaped-plain c (d ∷ e ∷ rest) plain = rw plain refl
@@ -60,13 +73,17 @@ unescaped-plain c (d ∷ e ∷ rest) plain = rw plain refl
 unescaped-escaped : (b : ℕ) (rest : List ℕ) → b < 256 → unescaped (escaped b ++ rest) ≡ behind (Some b) (unescaped rest)
 unescaped-escaped b rest small = go (stands_for_itself b) refl
   where
-    go : (t : Bool) → stands_for_itself b ≡ t → unescaped (cond t (b ∷ []) (37 ∷ digit_char (b / 16) ∷ digit_char (b % 16) ∷ []) ++ rest) ≡ behind (Some b) (unescaped rest)
+    go : (t : Bool) → stands_for_itself b ≡ t →
+        unescaped (cond t (b ∷ []) (37 ∷ digit_char (b / 16) ∷ digit_char (b % 16) ∷ []) ++ rest)
+        ≡ behind (Some b) (unescaped rest)
     go true plain = unescaped-plain b rest plain
     go false other = ap (λ (o : Option ℕ). behind o (unescaped rest)) (escape_of-escaped b small other)
 
-unescaped-word : (bytes : List ℕ) → AllByRecursion (λ byte. byte < 256) bytes → unescaped (flat_map escaped bytes) ≡ Some bytes
+unescaped-word : (bytes : List ℕ) → AllByRecursion (λ byte. byte < 256) bytes →
+    unescaped (flat_map escaped bytes) ≡ Some bytes
 unescaped-word [] small = refl
-unescaped-word (b ∷ bs) small = unescaped-escaped b (flat_map escaped bs) small.0 ∙ ap (behind (Some b)) (unescaped-word bs small.1)
+unescaped-word (b ∷ bs) small =
+    unescaped-escaped b (flat_map escaped bs) small.0 ∙ ap (behind (Some b)) (unescaped-word bs small.1)
 
 -- a word that begins with a byte's text is not that of no bytes
 bytes_of-escaped : (b : ℕ) (rest : List ℕ) → bytes_of (escaped b ++ rest) ≡ unescaped (escaped b ++ rest)
@@ -78,8 +95,10 @@ bytes_of-escaped b rest = go (stands_for_itself b) refl rest
     plain_at (d ∷ e ∷ rest) other = refl
 
     go : (t : Bool) → stands_for_itself b ≡ t → (rest : List ℕ) →
-        bytes_of (cond t (b ∷ []) (37 ∷ digit_char (b / 16) ∷ digit_char (b % 16) ∷ []) ++ rest) ≡ unescaped (cond t (b ∷ []) (37 ∷ digit_char (b / 16) ∷ digit_char (b % 16) ∷ []) ++ rest)
-    go true plain rest = plain_at rest (not_true (b == 37) (and_true (nat_le b 126) _ (and_true (nat_le 33 b) _ plain).1).1)
+        bytes_of (cond t (b ∷ []) (37 ∷ digit_char (b / 16) ∷ digit_char (b % 16) ∷ []) ++ rest)
+        ≡ unescaped (cond t (b ∷ []) (37 ∷ digit_char (b / 16) ∷ digit_char (b % 16) ∷ []) ++ rest)
+    go true plain rest =
+        plain_at rest (not_true (b == 37) (and_true (nat_le b 126) _ (and_true (nat_le 33 b) _ plain).1).1)
     go false other rest = refl
 
 read_back : (bytes : List ℕ) → AllByRecursion (λ byte. byte < 256) bytes → bytes_of (byte_word bytes) ≡ Some bytes
@@ -87,43 +106,57 @@ read_back [] small = refl
 read_back (b ∷ bs) small = bytes_of-escaped b (flat_map escaped bs) ∙ unescaped-word (b ∷ bs) small
 
 -- what is read behind a byte
-behind-word : (b : ℕ) (o : Option (List ℕ)) (bytes tail : List ℕ) → behind (Some b) o ≡ Some bytes → ((bs : List ℕ) → o ≡ Some bs → tail ≡ flat_map escaped bs) → escaped b ++ tail ≡ flat_map escaped bytes
+behind-word : (b : ℕ) (o : Option (List ℕ)) (bytes tail : List ℕ) → behind (Some b) o ≡ Some bytes →
+    ((bs : List ℕ) → o ≡ Some bs → tail ≡ flat_map escaped bs) → escaped b ++ tail ≡ flat_map escaped bytes
 behind-word b None bytes tail is below = cc
 behind-word b (Some bs) bytes tail is below =
     let same : b ∷ bs ≡ bytes = cc in
     ap (λ (text : List ℕ). escaped b ++ text) (below bs refl) ∙ ap (flat_map escaped) same
 
-plain-word : (c : ℕ) (o : Option (List ℕ)) (bytes tail : List ℕ) → stands_for_itself c ≡ true → behind (Some c) o ≡ Some bytes → ((bs : List ℕ) → o ≡ Some bs → tail ≡ flat_map escaped bs) →
+plain-word : (c : ℕ) (o : Option (List ℕ)) (bytes tail : List ℕ) → stands_for_itself c ≡ true →
+    behind (Some c) o ≡ Some bytes → ((bs : List ℕ) → o ≡ Some bs → tail ≡ flat_map escaped bs) →
     c ∷ tail ≡ flat_map escaped bytes
 plain-word c o bytes tail plain is below =
-    sym (ap (λ (t : Bool). cond t (c ∷ []) (37 ∷ digit_char (c / 16) ∷ digit_char (c % 16) ∷ []) ++ tail) plain) ∙ behind-word c o bytes tail is below
+    sym (ap (λ (t : Bool). cond t (c ∷ []) (37 ∷ digit_char (c / 16) ∷ digit_char (c % 16) ∷ []) ++ tail) plain)
+    ∙ behind-word c o bytes tail is below
 
 word-unescaped : (word bytes : List ℕ) → unescaped word ≡ Some bytes → word ≡ flat_map escaped bytes
 word-unescaped [] bytes is = let same : [] ≡ bytes = cc in ap (flat_map escaped) same
 word-unescaped (c ∷ []) bytes is = go (stands_for_itself c) refl is
   where
-    go : (t : Bool) → stands_for_itself c ≡ t → cond t (Some (c ∷ [])) None ≡ Some bytes → c ∷ [] ≡ flat_map escaped bytes
-    go true plain is = plain-word c (Some []) bytes [] plain is (λ bs e. let same : [] ≡ bs = cc in ap (flat_map escaped) same)
+    go : (t : Bool) → stands_for_itself c ≡ t → cond t (Some (c ∷ [])) None ≡ Some bytes →
+        c ∷ [] ≡ flat_map escaped bytes
+    go true plain is = plain-word c (Some []) bytes [] plain is (λ bs e. let same : [] ≡ bs = cc in
+        ap (flat_map escaped) same)
     go false other is = cc
 word-unescaped (c ∷ d ∷ []) bytes is = go (λ bs. word-unescaped (d ∷ []) bs) (stands_for_itself c) refl is
   where
-    go : ((bs : List ℕ) → unescaped (d ∷ []) ≡ Some bs → d ∷ [] ≡ flat_map escaped bs) → (t : Bool) → stands_for_itself c ≡ t → cond t (behind (Some c) (unescaped (d ∷ []))) None ≡ Some bytes →
+    go : ((bs : List ℕ) → unescaped (d ∷ []) ≡ Some bs → d ∷ [] ≡ flat_map escaped bs) → (t : Bool) →
+        stands_for_itself c ≡ t → cond t (behind (Some c) (unescaped (d ∷ []))) None ≡ Some bytes →
         c ∷ d ∷ [] ≡ flat_map escaped bytes
     go below true plain is = plain-word c (unescaped (d ∷ [])) bytes (d ∷ []) plain is below
     go below false other is = cc
-word-unescaped (c ∷ d ∷ e ∷ rest) bytes is = go (λ bs. word-unescaped (d ∷ e ∷ rest) bs) (λ bs. word-unescaped rest bs) (stands_for_itself c) refl is
+word-unescaped (c ∷ d ∷ e ∷ rest) bytes is =
+    go (λ bs. word-unescaped (d ∷ e ∷ rest) bs) (λ bs. word-unescaped rest bs) (stands_for_itself c) refl is
   where
-    escape : ((bs : List ℕ) → unescaped rest ≡ Some bs → rest ≡ flat_map escaped bs) → (o : Option ℕ) → escape_of d e ≡ o → behind o (unescaped rest) ≡ Some bytes → 37 ∷ d ∷ e ∷ rest ≡ flat_map escaped bytes
+    escape : ((bs : List ℕ) → unescaped rest ≡ Some bs → rest ≡ flat_map escaped bs) → (o : Option ℕ) →
+        escape_of d e ≡ o → behind o (unescaped rest) ≡ Some bytes → 37 ∷ d ∷ e ∷ rest ≡ flat_map escaped bytes
     escape below None none is = cc
-    escape below (Some b) some is = sym (ap (λ (text : List ℕ). text ++ rest) (escaped-escape_of d e b some)) ∙ behind-word b (unescaped rest) bytes rest is below
+    escape below (Some b) some is =
+        sym (ap (λ (text : List ℕ). text ++ rest) (escaped-escape_of d e b some))
+        ∙ behind-word b (unescaped rest) bytes rest is below
 
-    percent : ((bs : List ℕ) → unescaped rest ≡ Some bs → rest ≡ flat_map escaped bs) → (t : Bool) → (c == 37) ≡ t → cond t (behind (escape_of d e) (unescaped rest)) None ≡ Some bytes →
-        c ∷ d ∷ e ∷ rest ≡ flat_map escaped bytes
-    percent below true same is = let first : c ≡ 37 = grind (arith, nat_tests) in ap (λ (x : ℕ). x ∷ d ∷ e ∷ rest) first ∙ escape below (escape_of d e) refl is
+    percent : ((bs : List ℕ) → unescaped rest ≡ Some bs → rest ≡ flat_map escaped bs) → (t : Bool) → (c == 37) ≡ t →
+        cond t (behind (escape_of d e) (unescaped rest)) None ≡ Some bytes → c ∷ d ∷ e ∷ rest ≡ flat_map escaped bytes
+    percent below true same is = let first : c ≡ 37 = grind (arith, nat_tests) in
+        ap (λ (x : ℕ). x ∷ d ∷ e ∷ rest) first ∙ escape below (escape_of d e) refl is
     percent below false other is = cc
 
-    go : ((bs : List ℕ) → unescaped (d ∷ e ∷ rest) ≡ Some bs → d ∷ e ∷ rest ≡ flat_map escaped bs) → ((bs : List ℕ) → unescaped rest ≡ Some bs → rest ≡ flat_map escaped bs) →
-        (t : Bool) → stands_for_itself c ≡ t → cond t (behind (Some c) (unescaped (d ∷ e ∷ rest))) (cond (c == 37) (behind (escape_of d e) (unescaped rest)) None) ≡ Some bytes →
+    go : ((bs : List ℕ) → unescaped (d ∷ e ∷ rest) ≡ Some bs → d ∷ e ∷ rest ≡ flat_map escaped bs) →
+        ((bs : List ℕ) → unescaped rest ≡ Some bs → rest ≡ flat_map escaped bs) →
+        (t : Bool) → stands_for_itself c ≡ t →
+        cond t (behind (Some c) (unescaped (d ∷ e ∷ rest)))
+        (cond (c == 37) (behind (escape_of d e) (unescaped rest)) None) ≡ Some bytes →
         c ∷ d ∷ e ∷ rest ≡ flat_map escaped bytes
     go below behind_it true plain is = plain-word c (unescaped (d ∷ e ∷ rest)) bytes (d ∷ e ∷ rest) plain is below
     go below behind_it false other is = percent behind_it (c == 37) refl is
@@ -137,7 +170,8 @@ one_spelling [] bytes is = cc
 one_spelling (c ∷ []) bytes is = some_word c [] bytes (word-unescaped (c ∷ []) bytes is)
 one_spelling (c ∷ d ∷ []) bytes is = go ((c == 37) && (d == 45)) refl is
   where
-    go : (t : Bool) → ((c == 37) && (d == 45)) ≡ t → cond t (Some []) (unescaped (c ∷ d ∷ [])) ≡ Some bytes → c ∷ d ∷ [] ≡ byte_word bytes
+    go : (t : Bool) → ((c == 37) && (d == 45)) ≡ t → cond t (Some []) (unescaped (c ∷ d ∷ [])) ≡ Some bytes →
+        c ∷ d ∷ [] ≡ byte_word bytes
     go true both is =
         let parts = and_true (c == 37) (d == 45) both in
         let first = parts.0 in

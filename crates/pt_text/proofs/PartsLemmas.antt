@@ -1,4 +1,5 @@
-use Rattle.std.proofs.Common.{◌≡◌, ℕ, suc, ◌+◌, ◌<◌, ◌≤◌, Bool, true, false, cond, not, List, [], ◌∷◌, Option, Some, None, length, take, drop, refl, ap, arith, ◌∙◌}
+use Rattle.std.proofs.Common.{◌≡◌, ℕ, suc, ◌+◌, ◌<◌, ◌≤◌, Bool, true, false, cond, not, List, [], ◌∷◌, Option, Some}
+use Rattle.std.proofs.Common.{None, length, take, drop, refl, ap, arith, ◌∙◌}
 use Rattle.std.specs.Prelude.{IsTrue, is_some, ◌==◌}
 use Rattle.std.specs.Borrow.{Bor}
 use Rattle.pt_text.specs.Words.{parts_left}
@@ -9,22 +10,30 @@ use Rattle.std.proofs.lemmas.List.Splits.{slice_split_first, length-slice_split}
 use Rattle.std.proofs.lemmas.Bool.Decides.{nat_tests}
 
 -- the first part ends at the first separator
-pub slice_split_place : (p : ℕ → Bool) (xs : List ℕ) (i : ℕ) → position p xs ≡ Some i → slice_split p xs ≡ take i xs ∷ slice_split p (drop (i + 1) xs)
+pub slice_split_place : (p : ℕ → Bool) (xs : List ℕ) (i : ℕ) → position p xs ≡ Some i →
+    slice_split p xs ≡ take i xs ∷ slice_split p (drop (i + 1) xs)
 slice_split_place p xs i at =
     let found = position-Some p xs i 0 at in
-    let place : position_or_len p xs ≡ i = position_or_len_is p xs i 0 (omega (arith, found.0)) found.2 (λ _. found.1) in
+    let place : position_or_len p xs ≡ i =
+    position_or_len_is p xs i 0 (omega (arith, found.0)) found.2 (λ _. found.1) in
     let within : position_or_len p xs < length xs = rw place found.0 in
     slice_split_first p xs 0 within ∙ rw place refl
 
 whole_part : (p : ℕ → Bool) (xs : List ℕ) → position_or_len p xs ≡ length xs → slice_split p xs ≡ xs ∷ []
 whole_part p [] is = refl
 whole_part p (x ∷ xs) is =
-    (elim (p x) as (λ b. cond (not b) (1 + position_or_len p xs) 0 ≡ suc (length xs) → cond b ([] ∷ slice_split p xs) (onto_first x (slice_split p xs)) ≡ (x ∷ xs) ∷ [])
+    (elim (p x) as (λ b. cond (not b) (1 + position_or_len p xs) 0 ≡ suc (length xs) →
+    cond b ([] ∷ slice_split p xs) (onto_first x (slice_split p xs)) ≡ (x ∷ xs) ∷ [])
     [ true ↦ λ e. absurd (omega arith) | false ↦ λ e. ap (onto_first x) (whole_part p xs (omega arith)) ]) is
 
 position_or_len-le : (p : ℕ → Bool) (xs : List ℕ) → position_or_len p xs ≤ length xs
 position_or_len-le p [] = omega arith
-position_or_len-le p (x ∷ xs) = elim (p x) as (λ b. cond (not b) (1 + position_or_len p xs) 0 ≤ suc (length xs)) [ true ↦ omega arith | false ↦ omega (arith, position_or_len-le p xs) ]
+position_or_len-le p (x ∷ xs) =
+    elim (p x) as (λ b. cond (not b) (1 + position_or_len p xs) 0 ≤ suc (length xs)) [
+      | true ↦ omega arith
+      | false ↦
+          omega (arith, position_or_len-le p xs)
+    ]
 
 -- where there is no separator the text is the one part
 pub slice_split_whole : (p : ℕ → Bool) (xs : List ℕ) → position p xs ≡ None → slice_split p xs ≡ xs ∷ []
@@ -35,8 +44,10 @@ pub slice_split_some : (p : ℕ → Bool) (xs : List ℕ) → slice_split p xs �
 slice_split_some p xs none = omega (arith, length-slice_split p xs, ap length none)
 
 -- a text whose reading has not ended has a part
-pub parts_left-empty : (separator : ℕ) (rest : Option (Bor (List ℕ))) (r : Bool) → is_some rest ≡ not r → (IsTrue r → parts_left separator rest ≡ []) × (parts_left separator rest ≡ [] → IsTrue r)
+pub parts_left-empty : (separator : ℕ) (rest : Option (Bor (List ℕ))) (r : Bool) → is_some rest ≡ not r →
+    (IsTrue r → parts_left separator rest ≡ []) × (parts_left separator rest ≡ [] → IsTrue r)
 parts_left-empty separator None true is = (λ _. refl, λ _. refl)
 parts_left-empty separator None false is = cc
 parts_left-empty separator (Some text) true is = cc
-parts_left-empty separator (Some text) false is = (λ t. absurd cc, λ e. absurd (slice_split_some (λ b. b == separator) text.now e))
+parts_left-empty separator (Some text) false is =
+    (λ t. absurd cc, λ e. absurd (slice_split_some (λ b. b == separator) text.now e))

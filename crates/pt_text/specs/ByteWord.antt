@@ -1,7 +1,8 @@
 -- Believed. Bytes as a word: a byte from 0x21 to 0x7e but for `%` stands for itself, and any other is `%` and two
 -- lower-case
 -- hexadecimal digits. `%-` is the word of no bytes.
-use Rattle.std.specs.Prelude.{ℕ, ◌+◌, ◌*◌, ◌/◌, ◌%◌, List, [], ◌∷◌, Bool, Option, Some, None, if◌then◌else◌, nat_le, ◌==◌, ◌&&◌, ◌||◌, not}
+use Rattle.std.specs.Prelude.{ℕ, ◌+◌, ◌*◌, ◌/◌, ◌%◌, List, [], ◌∷◌, Bool, Option, Some, None, if◌then◌else◌, nat_le}
+use Rattle.std.specs.Prelude.{◌==◌, ◌&&◌, ◌||◌, not}
 use Rattle.std.specs.List.{flat_map}
 use Rattle.std.specs.Option.{option_map}
 use Rattle.std.specs.Char.{digit_char, digit_value}

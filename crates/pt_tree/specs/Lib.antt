@@ -1,3 +1,4 @@
+-- Inner. The files of definitions, lowest first.
 pub use Rattle.pt_node.specs.Attributes
 pub use Rattle.pt_node.specs.Changes
 pub use Rattle.pt_node.specs.Entries

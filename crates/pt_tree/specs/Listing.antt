@@ -18,11 +18,13 @@ numbers_of node =
 -- `obj PATH`, the numbers and what it holds
 abbrev pub object_line : List ℕ → Node → List ℕ
 object_line path node =
-    codes "obj " ++ (byte_word path ++ (flat_map number_word (numbers_of node) ++ (32 ∷ byte_word (bytes_in node.content) ++ 10 ∷ [])))
+    codes "obj " ++ (byte_word path
+    ++ (flat_map number_word (numbers_of node) ++ (32 ∷ byte_word (bytes_in node.content) ++ 10 ∷ [])))
 
 -- `xattr PATH NAME VALUE`
 abbrev pub xattr_line : List ℕ → List ℕ × List ℕ → List ℕ
-xattr_line path entry = codes "xattr " ++ (byte_word path ++ (32 ∷ byte_word entry.0 ++ (32 ∷ byte_word entry.1 ++ 10 ∷ [])))
+xattr_line path entry =
+    codes "xattr " ++ (byte_word path ++ (32 ∷ byte_word entry.0 ++ (32 ∷ byte_word entry.1 ++ 10 ∷ [])))
 
 -- the object's line and those of its attributes
 abbrev pub line_at : List ℕ → Option Node → List ℕ
@@ -33,7 +35,8 @@ line_at path (Some node) = object_line path node ++ flat_map (xattr_line path) n
 abbrev pub lines_below : ℕ → List Node → List ℕ → ℕ → List ℕ
 lines_below zero nodes path dir = []
 lines_below (suc depth) nodes path dir =
-    flat_map (λ entry. line_at (path ++ 47 ∷ entry.0) (slice_get nodes entry.1) ++ lines_below depth nodes (path ++ 47 ∷ entry.0) entry.1)
+    flat_map (λ entry. line_at (path ++ 47 ∷ entry.0) (slice_get nodes entry.1)
+    ++ lines_below depth nodes (path ++ 47 ∷ entry.0) entry.1)
     (names_at (slice_get nodes dir))
 
 -- nothing lies deeper than there are objects

@@ -1,5 +1,6 @@
 -- Believed. The tree that lines describe, which a host holds at its start.
-use Rattle.std.specs.Prelude.{ℕ, ◌≡◌, ◌+◌, ◌/◌, ◌&&◌, List, [], ◌∷◌, Option, Some, None, ⊤, Result, Ok, Err, if◌then◌else◌}
+use Rattle.std.specs.Prelude.{ℕ, ◌≡◌, ◌+◌, ◌/◌, ◌&&◌, List, [], ◌∷◌, Option, Some, None, ⊤, Result, Ok, Err}
+use Rattle.std.specs.Prelude.{if◌then◌else◌}
 use Rattle.std.specs.Str.{bytes_eq}
 use Rattle.pt_host.specs.Tree.{Tree}
 use Rattle.pt_rules.specs.State.{State}
@@ -9,7 +10,30 @@ use Rattle.pt_tree.specs.declared.spec.TreeLine.{TreeLine}
 use Rattle.pt_tree.specs.declared.spec.TreeLine.TheVariants as tree_line
 use Rattle.pt_tree.specs.declared.spec.SpecError.{SpecError}
 use Rattle.pt_tree.specs.declared.spec.SpecError.TheVariants.{NotATree, Memory}
-pub use Rattle.pt_rules.specs.Building.{add_file, add_symlink, AddsIf, add_hard, add_link, add_mount, add_object, add_of_mode, add_special, add_xattr, is_linkable, is_new_mount, is_printed, mount_in, mount_root, mounted, never, next_number, put_object, start_with, started, with_xattr}
+pub use Rattle.pt_rules.specs.Building.{
+  add_file,
+  add_symlink,
+  AddsIf,
+  add_hard,
+  add_link,
+  add_mount,
+  add_object,
+  add_of_mode,
+  add_special,
+  add_xattr,
+  is_linkable,
+  is_new_mount,
+  is_printed,
+  mount_in,
+  mount_root,
+  mounted,
+  never,
+  next_number,
+  put_object,
+  start_with,
+  started,
+  with_xattr,
+}
 pub use Rattle.pt_node.specs.Paths.{object_below, object_after, object_named}
 
 -- the state with what one more line makes, where the line keeps the rules
@@ -18,14 +42,16 @@ add_line state (tree_line.Mount id dev path handles) = add_mount state id dev pa
 add_line state (tree_line.File path mode uid gid bytes) = add_file state path mode uid gid bytes
 add_line state (tree_line.Dir path mode uid gid) = add_of_mode state path mode uid gid (content.Directory [])
 add_line state (tree_line.Link path uid gid target) = add_symlink state path uid gid target
-add_line state (tree_line.Spec path mode uid gid rdev) = add_special state path mode uid gid rdev (special_kind (mode / 4096))
+add_line state (tree_line.Spec path mode uid gid rdev) =
+    add_special state path mode uid gid rdev (special_kind (mode / 4096))
 add_line state (tree_line.Hard path old) = add_hard state path old
 add_line state (tree_line.Xattr path name bytes) = add_xattr state path name bytes
 
 -- the first line is the mount of the root
 abbrev pub first_line : TreeLine → Option State
 first_line (tree_line.Mount id dev path handles) =
-    if is_new_mount [] id dev path && bytes_eq path (47 ∷ []) then Some (mounted (start_with (mount_root id dev 1 handles)) 0 id dev path) else None
+    if is_new_mount [] id dev path
+    && bytes_eq path (47 ∷ []) then Some (mounted (start_with (mount_root id dev 1 handles)) 0 id dev path) else None
 first_line line = None
 
 -- what follows a line: the rest, or the number of the line that is none of a tree

@@ -40,17 +40,19 @@ impl TreeHost {
     /// The call `Edit`, for which no seat matters.
     pub fn edit(&mut self, edit: &Edit) -> HostReply
         ensures does { (seat : HostSeat) → Does self.old seat (call.Edit edit.now) result self.new seat }
-        ensures fails { (errno : Errno) → (result ≡ Fault errno) ↔ (failure_of self.old (call.Edit edit.now) ≡ Some errno) }
+        ensures fails { (errno : Errno) →
+            (result ≡ Fault errno) ↔ (failure_of self.old (call.Edit edit.now) ≡ Some errno) }
         ensures faults { self.new.faults ≡ faults_with result self.old.faults }
         ensures tree { IsNotOk result → tree_of self.new ≡ tree_of self.old }
-        ensures contents { IsNotOk result → KeepsAll (tree_of self.old) (contents_of self.old) (tree_of self.new) (contents_of self.new) }
+        ensures contents { IsNotOk result →
+            KeepsAll (tree_of self.old) (contents_of self.old) (tree_of self.new) (contents_of self.new) }
         ensures well_formed { IsWellFormed (tree_of self.new) }
     {
         self.store.make_edit(edit)
     }
 
-    /// The call of this number, from 1 since the host was made, is to fail with this error; a later plan for the same call
-    /// replaces this one, and one for a call that was answered is dropped.
+    /// The call of this number, from 1 since the host was made, is to fail with this error; a later plan for the same
+    /// call replaces this one, and one for a call that was answered is dropped.
     pub fn plan_fault(&mut self, call: u64, errno: Errno) -> Result<(), SpecError>
         ensures ok { OnOk result (self.new ≡ planned self.old call errno) }
         ensures err { IfErr result (λ error. (error ≡ Memory) × (self.new ≡ self.old)) }
@@ -76,7 +78,8 @@ impl Host for TreeHost {
         ensures fails { (errno : Errno) → (result ≡ Fault errno) ↔ (failure_of self.old (call_of op.now) ≡ Some errno) }
         ensures faults { self.new.faults ≡ faults_with result self.old.faults }
         ensures tree { IsNotOk result → tree_of self.new ≡ tree_left (tree_of self.old) (call_of op.now) }
-        ensures contents { IsNotOk result → KeepsAll (tree_of self.old) (contents_of self.old) (tree_of self.new) (contents_of self.new) }
+        ensures contents { IsNotOk result →
+            KeepsAll (tree_of self.old) (contents_of self.old) (tree_of self.new) (contents_of self.new) }
         ensures seat { IsNotOk result → seat.new ≡ seat.old }
         ensures well_formed { IsWellFormed (tree_of self.new) }
     {

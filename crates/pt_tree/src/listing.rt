@@ -130,9 +130,9 @@ fn push_below(
 }
 
 impl TreeHost {
-    /// A line for each object: `obj`, its path, inode number, device, mount, mode, number of links, owner, group, device of
-    /// a special file, and what it holds; after it a line for each of its attributes: `xattr`, its path, a name and the
-    /// value.
+    /// A line for each object: `obj`, its path, inode number, device, mount, mode, number of links, owner, group,
+    /// device of a special file, and what it holds; after it a line for each of its attributes: `xattr`, its path, a
+    /// name and the value.
     pub fn listing(&self, alloc: Global) -> Result<Bytes, SpecError>
         ensures ok { IfOk result (λ bytes. bytes ≡ listing_of self.now) }
         ensures err { IfErr result (λ error. error ≡ Memory) }

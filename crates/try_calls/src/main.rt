@@ -1,10 +1,11 @@
 //! Makes the host calls that lines name on trees in memory, and prints what each is answered.
 //!
-//! A line `== NAME` begins a case, with a new tree: the lines of a tree as a script has them, then `fault CALL ERRNO`,
-//! `seat NAME UID GID CAPS` (a new seat, which makes the calls from here on; `root` is there), `as NAME` (an earlier
-//! seat makes them), `who` (prints that seat), `edit` lines as a script has them, `list` (prints the tree) and calls, as
-//! a report prints them. A part `%*N*B` of a line stands for N times the byte that B writes. An empty line and one that
-//! begins with `#` are passed over. What is no line, or may not stand where it does, is printed behind `bad`.
+//! A line `== NAME` begins a case, with a new tree: the lines of a tree as a script has them, then `fault CALL
+//! ERRNO`, `seat NAME UID GID CAPS` (a new seat, which makes the calls from here on; `root` is there), `as NAME` (an
+//! earlier seat makes them), `who` (prints that seat), `edit` lines as a script has them, `list` (prints the tree)
+//! and calls, as a report prints them. A part `%*N*B` of a line stands for N times the byte that B writes. An empty
+//! line and one that begins with `#` are passed over. What is no line, or may not stand where it does, is printed
+//! behind `bad`.
 #![tactic(auto)]
 
 mod case;

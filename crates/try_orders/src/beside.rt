@@ -10,7 +10,8 @@ pub struct Beside<'a> {
     pub jobs: [&'a [u8]; 3],
     /// The forget has two steps among those of the lookups; else it has none.
     pub forgets: bool,
-    /// How many steps of each lookup are put in every order, the sets of that many among both, and how many places there are.
+    /// How many steps of each lookup are put in every order, the sets of that many among both, and how many places
+    /// there are.
     pub steps: u32,
     pub masks: u32,
     pub places: u32,
@@ -18,8 +19,8 @@ pub struct Beside<'a> {
     pub ends: &'a [&'a [u8]],
 }
 
-/// Both names have a number, and `/a` has been looked up twice. So the forget leaves it its number, and the lookups take seven
-/// steps each.
+/// Both names have a number, and `/a` has been looked up twice. So the forget leaves it its number, and the lookups
+/// take seven steps each.
 pub const NUMBERED: Beside<'_> = Beside {
     name: "numbers that are there",
     head: "set guest_fd_limit 10\nmount 1 1 / 1\nfile /a 0o644 0 0 hi\nfile /b 0o644 0 0 hi\njob 0 0 init 0\n\
@@ -36,7 +37,8 @@ pub const NUMBERED: Beside<'_> = Beside {
     ],
 };
 
-/// The file was looked up once. So a forget that comes before both claims ends its number, and the lookups give it one new number.
+/// The file was looked up once. So a forget that comes before both claims ends its number, and the lookups give it
+/// one new number.
 pub const FORGOTTEN: Beside<'_> = Beside {
     name: "a number that is forgotten",
     head: "set guest_fd_limit 10\nmount 1 1 / 1\nfile /a 0o644 0 0 hi\nfile /b 0o644 0 0 hi\njob 0 0 init 0\n\

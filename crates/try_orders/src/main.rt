@@ -1,4 +1,5 @@
-//! Runs two lookups and a forget beside each other in every order of their steps, and writes how many orders end as a plain count says.
+//! Runs two lookups and a forget beside each other in every order of their steps, and writes how many orders end as a
+//! plain count says.
 #![tactic(auto)]
 
 mod beside;
@@ -40,7 +41,8 @@ fn count_order(
     Ok(())
 }
 
-// Every order of the steps: those of the lookups in every way, and the two of the forget, where there is one, at every two places.
+// Every order of the steps: those of the lookups in every way, and the two of the forget, where there is one, at
+// every two places.
 fn count_orders(alloc: Global, beside: &Beside<'_>) -> Result<Count, AllocError> {
     let mut count = Count {
         orders: 0,

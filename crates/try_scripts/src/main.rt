@@ -1,8 +1,9 @@
 //! Runs the scripts that standard input holds, and writes what comes of each.
 //!
-//! A line `== NAME` begins a case, and the lines up to the next one are its script. Words behind the name change the case: with
-//! `cut` the last line feed is no part of the script, with `ends` the report is shown from its first answer on. Out comes
-//! `== NAME` and then the report, or a line with the process' status and what the program says where a run ends otherwise.
+//! A line `== NAME` begins a case, and the lines up to the next one are its script. Words behind the name change the
+//! case: with `cut` the last line feed is no part of the script, with `ends` the report is shown from its first
+//! answer on. Out comes `== NAME` and then the report, or a line with the process' status and what the program says
+//! where a run ends otherwise.
 #![tactic(auto)]
 
 mod case;

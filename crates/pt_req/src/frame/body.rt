@@ -56,7 +56,8 @@ pub trait Body: Drop {
         ensures next { IsNext (asked (left self.old plan.now) reply) reply result (left self.new plan.now) }
         ensures fewer { adds (deed_in (left self.old plan.now)) + counts_after result (acts self.new) < acts self.old }
         ensures room { adds (deed_in (left self.old plan.now)) + counts_after result (room self.new) ≤ room self.old }
-        ensures inserts { inserted_by (deed_in (left self.old plan.now)) reply + counts_after result (inserts self.new) ≤ inserts self.old };
+        ensures inserts { inserted_by (deed_in (left self.old plan.now)) reply
+            + counts_after result (inserts self.new) ≤ inserts self.old };
 
     /// It always asks for an act.
     ghost asks: { (body : Self) (plan : Plan) → IsAsks (left body plan) };

@@ -43,8 +43,10 @@ fn moved<B: Body>(
     ensures left { IsChosen (after reply (mode_left mode (B.left body.old plan.now) holds.old))
         (closings result.1 (mode_holds result.0 holds.new) (mode_left result.0 (B.left body.new plan.now) holds.new)) }
     ensures told { result.1 ≡ told_closings (mode_left mode (B.left body.old plan.now) holds.old) reply }
-    ensures fewer { length holds.new + mode_counts result.0 (B.acts body.new) < length holds.old + mode_counts mode (B.acts body.old) }
-    ensures inserts { body_counts result.0 (B.inserts body.new) + told_inserted (mode_left mode (B.left body.old plan.now) holds.old) reply
+    ensures fewer { length holds.new + mode_counts result.0 (B.acts body.new) < length holds.old
+        + mode_counts mode (B.acts body.old) }
+    ensures inserts { body_counts result.0 (B.inserts body.new)
+        + told_inserted (mode_left mode (B.left body.old plan.now) holds.old) reply
         ≤ body_counts mode (B.inserts body.old) }
     ensures room { length holds.new + mode_counts result.0 (B.room body.new) ≤ 16 }
     ensures enough { mode_shuts result.0 ≤ length holds.new }
@@ -76,8 +78,11 @@ impl<B: Body> Framed<B> {
 
     pub fn start(body: B) -> Self
         requires room { B.room body ≤ 16 }
-        ensures left { (plan : Plan) → left_of result.taken result.closings result.mode (B.left result.body plan) result.holds ≡ framed (B.left body plan) [] }
-        ensures bound { bound_left result.taken result.closings (length result.holds + mode_counts result.mode (B.acts result.body)) ≡ B.acts body }
+        ensures left { (plan : Plan) →
+            left_of result.taken result.closings result.mode (B.left result.body plan) result.holds
+            ≡ framed (B.left body plan) [] }
+        ensures bound { bound_left result.taken result.closings (length result.holds
+            + mode_counts result.mode (B.acts result.body)) ≡ B.acts body }
         ensures inserts { body_counts result.mode (B.inserts result.body) ≡ B.inserts body }
     {
         Framed {
@@ -90,7 +95,8 @@ impl<B: Body> Framed<B> {
     }
 
     pub fn want<'a>(&'a self, plan: &'a Plan, seat: &HostSeat) -> Want<'a>
-        ensures { Wants (left_of self.now.taken self.now.closings self.now.mode (B.left self.now.body plan.now) self.now.holds) result }
+        ensures { Wants (left_of self.now.taken self.now.closings self.now.mode
+            (B.left self.now.body plan.now) self.now.holds) result }
     {
         match self.taken {
             Taken::Fd { fd, .. } => return Want::Step(Act::Host(HostOp::Close { fd })),
@@ -113,14 +119,18 @@ impl<B: Body> Framed<B> {
     pub fn take(&mut self, plan: &Plan, reply: ActReply, seat: &HostSeat)
         requires { is_all_over self.old.taken self.old.closings self.old.mode self.old.holds ≡ false }
         ensures belongs { (steps : List Step) (end : Finish) →
-            Belongs (left_of self.new.taken self.new.closings self.new.mode (B.left self.new.body plan.now) self.new.holds) steps end →
+            Belongs (left_of self.new.taken self.new.closings self.new.mode
+            (B.left self.new.body plan.now) self.new.holds) steps end →
             Belongs (after reply (left_of self.old.taken self.old.closings self.old.mode (B.left self.old.body plan.now) self.old.holds)) steps end }
         ensures belongs_cut { (steps : List Step) (end : Finish) →
-            BelongsCut (left_of self.new.taken self.new.closings self.new.mode (B.left self.new.body plan.now) self.new.holds) steps end →
+            BelongsCut (left_of self.new.taken self.new.closings self.new.mode
+            (B.left self.new.body plan.now) self.new.holds) steps end →
             BelongsCut (after reply (left_of self.old.taken self.old.closings self.old.mode (B.left self.old.body plan.now) self.old.holds)) steps end }
-        ensures fewer { measure_left self.new.taken self.new.closings (length self.new.holds + mode_counts self.new.mode (B.acts self.new.body))
+        ensures fewer { measure_left self.new.taken self.new.closings (length self.new.holds
+            + mode_counts self.new.mode (B.acts self.new.body))
             < measure_left self.old.taken self.old.closings (length self.old.holds + mode_counts self.old.mode (B.acts self.old.body)) }
-        ensures within { bound_left self.new.taken self.new.closings (length self.new.holds + mode_counts self.new.mode (B.acts self.new.body)) + 1
+        ensures within { bound_left self.new.taken self.new.closings (length self.new.holds
+            + mode_counts self.new.mode (B.acts self.new.body)) + 1
             ≤ bound_left self.old.taken self.old.closings (length self.old.holds + mode_counts self.old.mode (B.acts self.old.body))
             + 3 * told_closings (left_of self.old.taken self.old.closings self.old.mode (B.left self.old.body plan.now) self.old.holds) reply }
         ensures inserts { body_counts self.new.mode (B.inserts self.new.body)
@@ -151,7 +161,9 @@ impl<B: Body> Framed<B> {
 
     pub fn is_finished(&self) -> bool
         ensures result { result ≡ is_all_over self.now.taken self.now.closings self.now.mode self.now.holds }
-        ensures end { (plan : Plan) → is_end (left_of self.now.taken self.now.closings self.now.mode (B.left self.now.body plan) self.now.holds) ≡ result }
+        ensures end { (plan : Plan) →
+            is_end (left_of self.now.taken self.now.closings self.now.mode (B.left self.now.body plan) self.now.holds)
+            ≡ result }
     {
         match self.taken {
             Taken::Nothing => {}
@@ -169,9 +181,12 @@ impl<B: Body> Framed<B> {
     /// Leaves out all but what is owed.
     pub fn cut(&mut self)
         requires { is_all_over self.old.taken self.old.closings self.old.mode self.old.holds ≡ false }
-        ensures left { (plan : Plan) → left_of self.new.taken self.new.closings self.new.mode (B.left self.new.body plan) self.new.holds
-            ≡ cut (owed_by (left_of self.old.taken self.old.closings self.old.mode (B.left self.old.body plan) self.old.holds)) }
-        ensures bound { bound_left self.new.taken self.new.closings (length self.new.holds + mode_counts self.new.mode (B.acts self.new.body))
+        ensures left { (plan : Plan) →
+            left_of self.new.taken self.new.closings self.new.mode (B.left self.new.body plan) self.new.holds
+            ≡ cut (owed_by (left_of self.old.taken self.old.closings self.old.mode
+            (B.left self.old.body plan) self.old.holds)) }
+        ensures bound { bound_left self.new.taken self.new.closings (length self.new.holds
+            + mode_counts self.new.mode (B.acts self.new.body))
             ≤ bound_left self.old.taken self.old.closings (length self.old.holds + mode_counts self.old.mode (B.acts self.old.body)) }
         ensures inserts { body_counts self.new.mode (B.inserts self.new.body) ≡ 0 }
     {
@@ -183,7 +198,8 @@ impl<B: Body> Framed<B> {
     pub fn lost(&self) -> Option<Errno>
         ensures lost { result ≡ lost_in self.now.mode }
         ensures ends { IfSome result (λ errno. (plan : Plan) (steps : List Step) (end : Finish) →
-            Belongs (left_of self.now.taken self.now.closings self.now.mode (B.left self.now.body plan) self.now.holds) steps end → end ≡ Lost errno) }
+            Belongs (left_of self.now.taken self.now.closings self.now.mode
+            (B.left self.now.body plan) self.now.holds) steps end → end ≡ Lost errno) }
     {
         match &self.mode {
             Mode::Leave(last) => loss_in(last),
@@ -213,7 +229,8 @@ impl<B: Body> Framed<B> {
 
     pub fn finish(self) -> Finish
         requires { is_all_over self.taken self.closings self.mode self.holds ≡ true }
-        ensures { (plan : Plan) → left_of self.taken self.closings self.mode (B.left self.body plan) self.holds ≡ End result }
+        ensures { (plan : Plan) →
+            left_of self.taken self.closings self.mode (B.left self.body plan) self.holds ≡ End result }
     {
         let mode = self.mode;
         match mode {

@@ -9,7 +9,8 @@ ghost use Rattle.pt_session.specs.declared.form.Negotiated.{Negotiated};
 ghost use Rattle.pt_session.specs.declared.event.KeptEvent.TheVariants as change;
 ghost use Rattle.pt_session.specs.declared.reply.EventReply.TheVariants as event;
 ghost use Rattle.pt_req.specs.Deed.{deed_of};
-ghost use Rattle.pt_req.specs.Held.{giving, closings_in, event_refusal, refusal, is_scope, lost_by, restored, passes_with, taken_in};
+ghost use Rattle.pt_req.specs.Held.{giving, closings_in, event_refusal, refusal, is_scope, lost_by, restored};
+ghost use Rattle.pt_req.specs.Held.{passes_with, taken_in};
 ghost use Rattle.pt_req.specs.Left.{loss_in};
 ghost use Rattle.pt_req.specs.declared.finish.Finish.TheVariants as finish;
 

@@ -53,7 +53,8 @@ fn lay(hold: Hold, holds: &mut Holds)
 /// What `Stat` told is kept with the last descriptor.
 fn tell(stat: &Stat, holds: &mut Holds)
     requires { length holds.old ≤ 16 }
-    ensures held { (fd : Fd) → holds.new ≡ held (Calls (call.Stat fd)) (told.Host (host.Ok (value.Stat stat.now))) holds.old }
+    ensures held { (fd : Fd) →
+        holds.new ≡ held (Calls (call.Stat fd)) (told.Host (host.Ok (value.Stat stat.now))) holds.old }
     ensures length { length holds.new ≡ length holds.old }
 {
     match holds.pop() {
@@ -85,7 +86,8 @@ fn slot(holds: &mut Holds)
 fn count_for(era: u64, given: u64, holds: &mut Holds)
     requires { length holds.old ≤ 16 }
     ensures held { (number : ℕ) (form : RowForm) (ids : ObjIds) (mode : ℕ) →
-        holds.new ≡ held (Changes (change.Insert era number form ids mode)) (told.Event (event.Inserted given)) holds.old }
+        holds.new ≡ held (Changes (change.Insert era number form ids mode))
+        (told.Event (event.Inserted given)) holds.old }
     ensures length { length holds.new ≤ length holds.old }
 {
     match holds.pop() {
@@ -106,9 +108,11 @@ fn count_for(era: u64, given: u64, holds: &mut Holds)
 fn fd_taken(holds: &mut Holds)
     requires { length holds.old ≤ 16 }
     ensures root { (era given mode : ℕ) (form : RowForm) (ids : ObjIds) (agreed : Option Negotiated) →
-        holds.new ≡ held (Changes (change.InsertRoot era form ids mode agreed)) (told.Event (event.Inserted given)) holds.old }
+        holds.new ≡ held (Changes (change.InsertRoot era form ids mode agreed))
+        (told.Event (event.Inserted given)) holds.old }
     ensures handle { (era given number handle : ℕ) (fd : Fd) →
-        holds.new ≡ held (Changes (change.InsertHandle era handle number fd)) (told.Event (event.Inserted given)) holds.old }
+        holds.new ≡ held (Changes (change.InsertHandle era handle number fd))
+        (told.Event (event.Inserted given)) holds.old }
     ensures length { length holds.new ≤ length holds.old }
 {
     match holds.pop() {

@@ -1,9 +1,11 @@
-ghost use Rattle.std.specs.Prelude.{◌≡◌, ◌⊎◌, ◌+◌, ◌<◌, ◌≤◌, ◌≢◌, ℕ, List, [], ◌∷◌, length, suc, true, false, Some, None};
+ghost use Rattle.std.specs.Prelude.{◌≡◌, ◌⊎◌, ◌+◌, ◌<◌, ◌≤◌, ◌≢◌, ℕ, List, [], ◌∷◌, length, suc, true, false, Some};
+ghost use Rattle.std.specs.Prelude.{None};
 ghost use Rattle.pt_req.specs.Held.{closings_in, lost_by, restored, front, behind, under};
 ghost use Rattle.pt_req.specs.Grammar.{after, End, told_closings, told_inserted};
 ghost use Rattle.pt_req.specs.Frame.{closings, leave, shut, or_lost};
 ghost use Rattle.pt_req.specs.Tree.{Tree, Gives, framed};
-ghost use Rattle.pt_req.specs.Left.{tail_left, then_left, next_left, mode_left, mode_holds, mode_shuts, mode_counts, tail_counts, body_counts, passing_in};
+ghost use Rattle.pt_req.specs.Left.{tail_left, then_left, next_left, mode_left, mode_holds, mode_shuts, mode_counts};
+ghost use Rattle.pt_req.specs.Left.{tail_counts, body_counts, passing_in};
 ghost use Rattle.pt_req.specs.Next.{then_counts, counts_after};
 ghost use Rattle.pt_req.specs.Room.{held_passing};
 ghost use Rattle.pt_req.specs.declared.finish.Finish.TheVariants as finish;
@@ -87,7 +89,8 @@ fn followed(tail: Tail, holds: &mut Holds) -> Mode
     ensures left { (tree : Tree) → mode_left result tree holds.new ≡ tail_left tail tree holds.old }
     ensures holds { mode_holds result holds.new ≡ holds.old }
     ensures shuts { mode_shuts result ≡ 0 }
-    ensures counts { (count : ℕ) → length holds.new + mode_counts result count ≤ length holds.old + tail_counts tail count }
+    ensures counts { (count : ℕ) →
+        length holds.new + mode_counts result count ≤ length holds.old + tail_counts tail count }
     ensures inserts { (count : ℕ) → body_counts result count ≤ tail_counts tail count }
 {
     match tail {
@@ -107,10 +110,13 @@ fn shut_given(
 ) -> Mode
     requires room { length holds.old + held_passing passing ≤ 16 }
     requires enough { count ≤ length holds.old }
-    ensures left { (tree : Tree) → mode_left result tree holds.new ≡ or_lost fault (under passing holds.old) (shut passing count holds.old (tail_left tail tree)) }
+    ensures left { (tree : Tree) →
+        mode_left result tree holds.new
+        ≡ or_lost fault (under passing holds.old) (shut passing count holds.old (tail_left tail tree)) }
     ensures holds { mode_holds result holds.new ≡ under passing holds.old }
     ensures shuts { mode_shuts result ≤ length holds.new }
-    ensures counts { (room : ℕ) → length holds.new + mode_counts result room ≤ length holds.old + held_passing passing + tail_counts tail room }
+    ensures counts { (room : ℕ) →
+        length holds.new + mode_counts result room ≤ length holds.old + held_passing passing + tail_counts tail room }
     ensures inserts { (room : ℕ) → body_counts result room ≤ tail_counts tail room }
 {
     match fault {
@@ -138,7 +144,9 @@ fn shut_given(
 fn out_given(passing: Hold, answer: Answer, fault: Option<Errno>, holds: &mut Holds) -> Mode
     requires room { length holds.old < 16 }
     ensures left { (tree : Tree) →
-        mode_left result tree holds.new ≡ or_lost fault (passing ∷ holds.old) (shut (Some passing) (length holds.old) holds.old (λ left. End (finish.Answer answer))) }
+        mode_left result tree holds.new
+        ≡ or_lost fault (passing
+        ∷ holds.old) (shut (Some passing) (length holds.old) holds.old (λ left. End (finish.Answer answer))) }
     ensures holds { mode_holds result holds.new ≡ passing ∷ holds.old }
     ensures shuts { mode_shuts result ≡ 0 }
     ensures counts { (room : ℕ) → length holds.new + mode_counts result room ≡ length holds.old + 1 }
@@ -159,9 +167,12 @@ pub fn hold_given(mode: Mode, holds: &mut Holds, reply: &ActReply) -> (Mode, u64
     requires some { 0 < length holds.old }
     requires room { length holds.old + held_passing (passing_in mode) ≤ 16 }
     requires enough { mode_shuts mode ≤ length holds.old }
-    ensures left { (tree : Tree) → after reply.now (mode_left mode tree holds.old) ≡ closings result.1 (mode_holds result.0 holds.new) (mode_left result.0 tree holds.new) }
+    ensures left { (tree : Tree) →
+        after reply.now (mode_left mode tree holds.old)
+        ≡ closings result.1 (mode_holds result.0 holds.new) (mode_left result.0 tree holds.new) }
     ensures shuts { mode_shuts result.0 ≤ length holds.new }
-    ensures counts { (room : ℕ) → length holds.new + mode_counts result.0 room < length holds.old + mode_counts mode room }
+    ensures counts { (room : ℕ) →
+        length holds.new + mode_counts result.0 room < length holds.old + mode_counts mode room }
     ensures told { (tree : Tree) → result.1 ≡ told_closings (mode_left mode tree holds.old) reply.now }
     ensures inserted { (tree : Tree) → told_inserted (mode_left mode tree holds.old) reply.now ≡ 0 }
     ensures inserts { (count : ℕ) → body_counts result.0 count ≤ body_counts mode count }
@@ -206,10 +217,13 @@ fn least(count: usize, there: usize) -> usize
 /// A bracket's end begins.
 fn shut_begun(passes: bool, count: usize, tail: Tail, holds: &mut Holds) -> Mode
     requires room { length holds.old ≤ 16 }
-    ensures left { (tree : Tree) → mode_left result tree holds.new ≡ shut (front passes holds.old) count (behind passes holds.old) (tail_left tail tree) }
+    ensures left { (tree : Tree) →
+        mode_left result tree holds.new
+        ≡ shut (front passes holds.old) count (behind passes holds.old) (tail_left tail tree) }
     ensures shuts { mode_shuts result ≤ length holds.new }
     ensures holds { mode_holds result holds.new ≡ holds.old }
-    ensures counts { (room : ℕ) → length holds.new + mode_counts result room ≤ length holds.old + tail_counts tail room }
+    ensures counts { (room : ℕ) →
+        length holds.new + mode_counts result room ≤ length holds.old + tail_counts tail room }
     ensures inserts { (room : ℕ) → body_counts result room ≤ tail_counts tail room }
 {
     let passing = take_front(passes, holds);
@@ -234,7 +248,8 @@ pub fn entered(next: Next, refused: Answer, holds: &mut Holds) -> Mode
     ensures left { (tree : Tree) → mode_left result tree holds.new ≡ next_left next refused tree holds.old }
     ensures shuts { mode_shuts result ≤ length holds.new }
     ensures holds { mode_holds result holds.new ≡ holds.old }
-    ensures counts { (room : ℕ) → length holds.new + mode_counts result room ≤ length holds.old + counts_after next room }
+    ensures counts { (room : ℕ) →
+        length holds.new + mode_counts result room ≤ length holds.old + counts_after next room }
     ensures inserts { (room : ℕ) → body_counts result room ≤ counts_after next room }
 {
     match next {

@@ -4,7 +4,8 @@ ghost use Rattle.pt_req.specs.Deed.{deed_of};
 ghost use Rattle.pt_req.specs.Held.{inserted_by};
 ghost use Rattle.pt_req.specs.Next.{asked, deed_in, AsksFor};
 ghost use Rattle.pt_req.specs.Room.{adds};
-ghost use Rattle.pt_req.specs.Parts.{look_up_left, look_up_acts, look_up_room, look_up_inserts, looked_up_tree, looked_up_counts};
+ghost use Rattle.pt_req.specs.Parts.{look_up_left, look_up_acts, look_up_room, look_up_inserts, looked_up_tree};
+ghost use Rattle.pt_req.specs.Parts.{looked_up_counts};
 ghost use Rattle.pt_req.specs.Requests.{entry_of};
 ghost use Rattle.pt_req.specs.Tree.{Tree};
 ghost use Rattle.pt_req.specs.declared.plan.Plan.{Plan};
@@ -112,7 +113,8 @@ impl LookUp {
     /// Goes on from the reply of the act that was wanted.
     pub fn take(&mut self, plan: &Plan, reply: ActReply) -> LookedUp
         ensures left { (name : List ℕ) (next : Entry → Tree) →
-            asked (look_up_left self.old name plan.now next) reply ≡ looked_up_tree result reply (look_up_left self.new name plan.now next) next }
+            asked (look_up_left self.old name plan.now next) reply
+            ≡ looked_up_tree result reply (look_up_left self.new name plan.now next) next }
         ensures fewer { (name : List ℕ) (next : Entry → Tree) →
             adds (deed_in (look_up_left self.old name plan.now next)) + looked_up_counts result (look_up_acts self.new) < look_up_acts self.old }
         ensures room { (name : List ℕ) (next : Entry → Tree) →

@@ -2,7 +2,8 @@ ghost use Rattle.std.specs.Prelude.{◌≡◌, ◌+◌, ◌<◌, ◌≤◌, ℕ}
 ghost use Rattle.pt_req.specs.Deed.{deed_of};
 ghost use Rattle.pt_req.specs.Held.{inserted_by};
 ghost use Rattle.pt_req.specs.Next.{asked, deed_in, AsksFor};
-ghost use Rattle.pt_req.specs.Opening.{handle_open_left, handle_open_acts, handle_open_room, handle_open_inserts, handle_opened_tree, handle_opened_counts};
+ghost use Rattle.pt_req.specs.Opening.{handle_open_left, handle_open_acts, handle_open_room, handle_open_inserts};
+ghost use Rattle.pt_req.specs.Opening.{handle_opened_tree, handle_opened_counts};
 ghost use Rattle.pt_req.specs.Requests.{can_open};
 ghost use Rattle.pt_req.specs.Room.{adds};
 ghost use Rattle.pt_req.specs.Tree.{Tree};
@@ -83,7 +84,8 @@ impl HandleOpen {
     /// Goes on from the reply of the act that was wanted.
     pub fn take(&mut self, reply: ActReply) -> HandleOpened
         ensures left { (plan : Plan) (next : ℕ → Tree) →
-            asked (handle_open_left self.old plan next) reply ≡ handle_opened_tree result reply (handle_open_left self.new plan next) next }
+            asked (handle_open_left self.old plan next) reply
+            ≡ handle_opened_tree result reply (handle_open_left self.new plan next) next }
         ensures fewer { (plan : Plan) (next : ℕ → Tree) →
             adds (deed_in (handle_open_left self.old plan next)) + handle_opened_counts result (handle_open_acts self.new) < handle_open_acts self.old }
         ensures room { (plan : Plan) (next : ℕ → Tree) →

@@ -3,7 +3,8 @@ ghost use Rattle.pt_req.specs.Deed.{deed_of};
 ghost use Rattle.pt_req.specs.Held.{inserted_by};
 ghost use Rattle.pt_req.specs.Next.{asked, deed_in, AsksFor};
 ghost use Rattle.pt_req.specs.Room.{adds};
-ghost use Rattle.pt_req.specs.Parts.{root_open_left, root_open_acts, root_open_room, root_open_inserts, root_opened_tree, root_opened_counts};
+ghost use Rattle.pt_req.specs.Parts.{root_open_left, root_open_acts, root_open_room, root_open_inserts};
+ghost use Rattle.pt_req.specs.Parts.{root_opened_tree, root_opened_counts};
 ghost use Rattle.pt_req.specs.Tree.{Tree};
 
 use crate::act::{Act, ActReply};
@@ -77,9 +78,14 @@ impl RootOpen {
     /// Goes on from the reply of the act that was wanted.
     pub fn take(&mut self, plan: &Plan, reply: ActReply) -> RootOpened
         ensures left { (next : Tree) →
-            asked (root_open_left self.old plan.now next) reply ≡ root_opened_tree result reply (root_open_left self.new plan.now next) next }
-        ensures fewer { (next : Tree) → adds (deed_in (root_open_left self.old plan.now next)) + root_opened_counts result (root_open_acts self.new) < root_open_acts self.old }
-        ensures room { (next : Tree) → adds (deed_in (root_open_left self.old plan.now next)) + root_opened_counts result (root_open_room self.new) ≤ root_open_room self.old }
+            asked (root_open_left self.old plan.now next) reply
+            ≡ root_opened_tree result reply (root_open_left self.new plan.now next) next }
+        ensures fewer { (next : Tree) →
+            adds (deed_in (root_open_left self.old plan.now next))
+            + root_opened_counts result (root_open_acts self.new) < root_open_acts self.old }
+        ensures room { (next : Tree) →
+            adds (deed_in (root_open_left self.old plan.now next))
+            + root_opened_counts result (root_open_room self.new) ≤ root_open_room self.old }
         ensures inserts { (next : Tree) →
             inserted_by (deed_in (root_open_left self.old plan.now next)) reply + root_opened_counts result (root_open_inserts self.new) ≤ root_open_inserts self.old }
     {

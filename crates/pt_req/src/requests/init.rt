@@ -26,7 +26,8 @@ pub enum Init {
 /// What a request does that tells the guest its options once the root is opened.
 fn with_session(opened: RootOpened, plan: &Plan) -> Next
     ensures next { (tree left : Tree) (told : ActReply) →
-        tree ≡ root_opened_tree opened told left (Gives (Inited (init_options plan.now.config))) → IsNext tree told result left }
+        tree ≡ root_opened_tree opened told left (Gives (Inited (init_options plan.now.config))) →
+        IsNext tree told result left }
     ensures counts { (count : ℕ) → counts_after result count ≡ root_opened_counts opened count }
 {
     match opened {

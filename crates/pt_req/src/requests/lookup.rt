@@ -31,7 +31,8 @@ pub struct Lookup {
 
 /// What a request does that answers the entry of a lookup.
 fn with_entry(looked_up: LookedUp) -> Next
-    ensures next { (tree left : Tree) (told : ActReply) → tree ≡ looked_up_tree looked_up told left answers_entry → IsNext tree told result left }
+    ensures next { (tree left : Tree) (told : ActReply) → tree ≡ looked_up_tree looked_up told left answers_entry →
+        IsNext tree told result left }
     ensures counts { (count : ℕ) → counts_after result count ≡ looked_up_counts looked_up count }
 {
     match looked_up {

@@ -1,6 +1,7 @@
 ghost use Rattle.std.specs.Prelude.{◌≡◌, ℕ, IfSome, IfNone};
 ghost use Rattle.pt_req.specs.Next.{IsNext, asked, counts_after};
-ghost use Rattle.pt_req.specs.Opening.{handle_open_left, handle_open_acts, handle_open_room, handle_opened_tree, handle_opened_counts};
+ghost use Rattle.pt_req.specs.Opening.{handle_open_left, handle_open_acts, handle_open_room, handle_opened_tree};
+ghost use Rattle.pt_req.specs.Opening.{handle_opened_counts};
 ghost use Rattle.pt_req.specs.Requests.{answers_opened, open_file};
 ghost use Rattle.pt_req.specs.Tree.{Tree, Refuses};
 ghost use Rattle.pt_req.specs.declared.act.ActReply.{ActReply};
@@ -31,7 +32,8 @@ pub struct Open {
 
 /// The opening, once the request has begun.
 fn begun(inode: u64, flags: u32, reply: ActReply) -> Option<HandleOpen>
-    ensures some { IfSome result (λ part. (plan : Plan) → asked (open_file plan inode flags) reply ≡ handle_open_left part plan (answers_opened plan flags)) }
+    ensures some { IfSome result (λ part. (plan : Plan) →
+        asked (open_file plan inode flags) reply ≡ handle_open_left part plan (answers_opened plan flags)) }
     ensures acts { IfSome result (λ part. handle_open_acts part ≡ 8) }
     ensures room { IfSome result (λ part. handle_open_room part ≡ 3) }
     ensures none { IfNone result ((plan : Plan) → asked (open_file plan inode flags) reply ≡ Refuses reply) }

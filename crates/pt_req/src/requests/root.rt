@@ -24,7 +24,8 @@ pub enum Root {
 
 /// What a request does that is answered `Done` once the root is opened.
 fn with_root(opened: RootOpened) -> Next
-    ensures next { (tree left : Tree) (told : ActReply) → tree ≡ root_opened_tree opened told left (Gives Done) → IsNext tree told result left }
+    ensures next { (tree left : Tree) (told : ActReply) → tree ≡ root_opened_tree opened told left (Gives Done) →
+        IsNext tree told result left }
     ensures counts { (count : ℕ) → counts_after result count ≡ root_opened_counts opened count }
 {
     match opened {

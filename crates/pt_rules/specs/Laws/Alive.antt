@@ -1,5 +1,6 @@
 -- Proof. What has a hold lives.
-use Rattle.std.proofs.Common.{◌≡◌, ◌<◌, ◌+◌, inl, inr, ℕ, List, Option, Some, option_map, slice_get, refl, ap, sym, arith}
+use Rattle.std.proofs.Common.{◌≡◌, ◌<◌, ◌+◌, inl, inr, ℕ, List, Option, Some, option_map, slice_get, refl, ap, sym}
+use Rattle.std.proofs.Common.{arith}
 use Rattle.std.specs.Option.{unwrap_or}
 use Rattle.std.specs.Str.{bytes_eq}
 use Rattle.std.proofs.lemmas.List.Sums.{get_or-le-sum_by}
@@ -22,10 +23,12 @@ use Rattle.pt_rules.specs.Laws.Parts.{and_then_some}
 abbrev pub counts_where : ℕ → Option ℕ → ℕ
 counts_where object there = unwrap_or (option_map (is object) there) 0
 
-pub lost_names : (object : ℕ) (name : List ℕ) (names : List (List ℕ × ℕ)) → names_to object (unnamed name names) + counts_where object (found name names) ≡ names_to object names
+pub lost_names : (object : ℕ) (name : List ℕ) (names : List (List ℕ × ℕ)) →
+    names_to object (unnamed name names) + counts_where object (found name names) ≡ names_to object names
 lost_names object name names = sum_by-remove_entry (is object) (bytes_eq name) names
 
-pub entry_counts : (object : ℕ) (name : List ℕ) (names : List (List ℕ × ℕ)) → found name names ≡ Some object → 0 < names_to object names
+pub entry_counts : (object : ℕ) (name : List ℕ) (names : List (List ℕ × ℕ)) → found name names ≡ Some object →
+    0 < names_to object names
 entry_counts object name names there =
     let sums = lost_names object name names in
     let one : is object object ≡ 1 = is_one object object refl in
@@ -36,8 +39,10 @@ pub name_counts : (nodes : List Node) (object : ℕ) → HasName nodes object �
 name_counts nodes object (dir, name, there) =
     let at = and_then_some (λ (n : Node). found name (names_in n.content)) (slice_get nodes dir) object there in
     let some = entry_counts object name (names_in at.0.content) at.2 in
-    let less = get_or-le-sum_by (λ (n : Node). names_to object (names_in n.content)) nodes dir at.0 (slice_get_within nodes dir at.0 at.1) in
-    let here = ap (λ (n : Node). names_to object (names_in n.content)) (get_or_from_slice_get nodes dir at.0 at.0 at.1) in
+    let less = get_or-le-sum_by (λ (n : Node).
+    names_to object (names_in n.content)) nodes dir at.0 (slice_get_within nodes dir at.0 at.1) in
+    let here = ap (λ (n : Node).
+    names_to object (names_in n.content)) (get_or_from_slice_get nodes dir at.0 at.0 at.1) in
     omega (arith, some, less, here)
 
 pub descriptor_counts : (slots : List Slot) (object : ℕ) → IsOpened slots object → 0 < opens_of slots object

@@ -22,26 +22,35 @@ one_least state dev m n one other = elim (leb_tells m n) [
   | inr more ↦ absurd (other.free (one.least n other.from_one more.1))
 ]
 
-same_numbers : (state : State) (numbers other : ℕ → ℕ) → AreLeastFree state numbers → AreLeastFree state other → numbers ≡ other
-same_numbers state numbers other least too = λ k dev. one_least state dev (numbers dev) (other dev) (least dev) (too dev) k
+same_numbers : (state : State) (numbers other : ℕ → ℕ) → AreLeastFree state numbers → AreLeastFree state other →
+    numbers ≡ other
+same_numbers state numbers other least too =
+    λ k dev. one_least state dev (numbers dev) (other dev) (least dev) (too dev) k
 
 -- what comes of a call, want of memory aside
-same_outcome : (failing : Option Errno) (before : State) (numbers other : ℕ → ℕ) (seat : HostSeat) (asked : Call) (told told' : HostReply) (after after' : State)
-    (left left' : HostSeat) → told ≢ NoMemory → told' ≢ NoMemory → numbers ≡ other → AnswersCall failing before numbers seat asked told after left →
+same_outcome : (failing : Option Errno) (before : State) (numbers other : ℕ →
+    ℕ) (seat : HostSeat) (asked : Call) (told told' : HostReply) (after after' : State)
+    (left left' : HostSeat) → told ≢ NoMemory → told' ≢ NoMemory → numbers ≡ other →
+    AnswersCall failing before numbers seat asked told after left →
     AnswersCall failing before other seat asked told' after' left' → (told ≡ told') × (after ≡ after') × (left ≡ left')
 same_outcome (Some errno) before numbers other seat asked told told' after after' left left' w w' same h k =
     let e = h ∙ sym k in (ap (λ (o : Outcome). o.0) e, ap (λ (o : Outcome). o.1) e, ap (λ (o : Outcome). o.2) e)
-same_outcome None before numbers other seat asked told told' after after' left left' w w' same (inr none) k = absurd (w (ap (λ (o : Outcome). o.0) none.1))
-same_outcome None before numbers other seat asked told told' after after' left left' w w' same (inl h) (inr none) = absurd (w' (ap (λ (o : Outcome). o.0) none.1))
+same_outcome None before numbers other seat asked told told' after after' left left' w w' same (inr none) k =
+    absurd (w (ap (λ (o : Outcome). o.0) none.1))
+same_outcome None before numbers other seat asked told told' after after' left left' w w' same (inl h) (inr none) =
+    absurd (w' (ap (λ (o : Outcome). o.0) none.1))
 same_outcome None before numbers other seat asked told told' after after' left left' w w' same (inl h) (inl k) =
     let e = h ∙ ap (λ (n : ℕ → ℕ). outcome before n seat asked) same ∙ sym k in
     (ap (λ (o : Outcome). o.0) e, ap (λ (o : Outcome). o.1) e, ap (λ (o : Outcome). o.2) e)
 
 -- two steps from the same state and seat are alike
-pub determined : (before after after' : State) (seat left left' : HostSeat) (asked : Call) (told told' : HostReply) → told ≢ NoMemory → told' ≢ NoMemory →
-    Does before seat asked told after left → Does before seat asked told' after' left' → (told ≡ told') × (after ≡ after') × (left ≡ left')
+pub determined : (before after after' : State) (seat left left' : HostSeat) (asked : Call) (told told' : HostReply) →
+    told ≢ NoMemory → told' ≢ NoMemory →
+    Does before seat asked told after left → Does before seat asked told' after' left' →
+    (told ≡ told') × (after ≡ after') × (left ≡ left')
 determined before after after' seat left left' asked told told' w w' h k =
     let same = same_numbers before h.answers.numbers k.answers.numbers h.answers.least k.answers.least in
-    let alike = same_outcome (failure_of before asked) before h.answers.numbers k.answers.numbers seat asked told told' h.answers.state k.answers.state left left'
+    let alike = same_outcome
+    (failure_of before asked) before h.answers.numbers k.answers.numbers seat asked told told' h.answers.state k.answers.state left left'
     w w' same h.answers.answered k.answers.answered in
     (alike.0, h.answers.counts ∙ ap (λ (s : State). counted (past_plan s)) alike.1 ∙ sym k.answers.counts, alike.2)

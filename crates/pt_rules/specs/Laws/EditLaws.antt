@@ -15,11 +15,13 @@ use Rattle.pt_node.specs.Node.{name_at, object_of}
 use Rattle.pt_rules.specs.Sound.{IsSound}
 use Rattle.pt_rules.specs.State.{State, time_of, tree_of}
 use Rattle.pt_rules.specs.Laws.Changed.{led, same_tree}
-use Rattle.pt_rules.specs.Laws.EditShapes.{names_grown, names_moved, names_rewritten, names_unlinked, objects_grown, objects_moved, objects_rewritten, objects_unlinked}
+use Rattle.pt_rules.specs.Laws.EditShapes.{names_grown, names_moved, names_rewritten, names_unlinked, objects_grown}
+use Rattle.pt_rules.specs.Laws.EditShapes.{objects_moved, objects_rewritten, objects_unlinked}
 use Rattle.pt_rules.specs.Laws.EditSound.{all_ordered}
 use Rattle.pt_rules.specs.Laws.Outcomes.{Effect, Makes, MovesTo, Outcome, Renames, Rewrites, Unlinks, edit_outcome}
 
-abbrev pub takes_name : (state after : State) → IsSound state → Unlinks state after → TakesName (tree_of state) (tree_of after)
+abbrev pub takes_name : (state after : State) → IsSound state → Unlinks state after →
+    TakesName (tree_of state) (tree_of after)
 takes_name state after sound does = record {
   dir = does.dir;
   name = does.name;
@@ -30,7 +32,8 @@ takes_name state after sound does = record {
       (names_unlinked (time_of state) does.dir does.name does.object state.nodes (all_ordered state sound)) refl;
 }
 
-pub moves : (state after : State) (does : Renames state after) → IsSound state → MovesTo state does.from does.to does.object does.target after →
+pub moves : (state after : State) (does : Renames state after) → IsSound state →
+    MovesTo state does.from does.to does.object does.target after →
     Moves (tree_of state) does.from.0 does.from.1 does.to.0 does.to.1 does.object (tree_of after)
 moves state after does sound (inl same) = inl (does.at_target ∙ same.0, ap tree_of same.1)
 moves state after does sound (inr other) =
@@ -38,10 +41,12 @@ moves state after does sound (inr other) =
       (λ is. other.0 (sym does.at_target ∙ is)),
       ap tree_of other.1
           ∙ same_tree _ _ _ _ _ _ (objects_moved (time_of state) does.from does.to does.object does.target state.nodes)
-          (names_moved (time_of state) does.from does.to does.object does.target state.nodes (all_ordered state sound) does.into) refl,
+          (names_moved (time_of state) does.from does.to does.object does.target state.nodes
+          (all_ordered state sound) does.into) refl,
     )
 
-abbrev pub moves_name : (state after : State) → IsSound state → Renames state after → MovesName (tree_of state) (tree_of after)
+abbrev pub moves_name : (state after : State) → IsSound state → Renames state after →
+    MovesName (tree_of state) (tree_of after)
 moves_name state after sound does = record {
   dir = does.from.0;
   name = does.from.1;
@@ -52,19 +57,22 @@ moves_name state after sound does = record {
   moves = moves state after does sound does.moves;
 }
 
-abbrev pub makes_object : (state : State) (numbers : ℕ → ℕ) (after : State) → Makes state numbers after → MakesObject (tree_of state) (tree_of after)
+abbrev pub makes_object : (state : State) (numbers : ℕ → ℕ) (after : State) → Makes state numbers after →
+    MakesObject (tree_of state) (tree_of after)
 makes_object state numbers after does =
     let node = does.node in
     record {
       dir = does.dir;
       name = does.name;
       what = object_of node;
-      listed = subst (λ n. does.dir < n) (sym (length-map state.nodes object_of)) (slice_get_within state.nodes does.dir does.parent does.at_dir);
+      listed = subst (λ n. does.dir
+          < n) (sym (length-map state.nodes object_of)) (slice_get_within state.nodes does.dir does.parent does.at_dir);
       free = does.free;
       makes = ap tree_of does.leaves
           ∙ same_tree _ _ _ _ _ _ (objects_grown (time_of state) does.dir does.name node state.nodes)
           (names_grown (time_of state) does.dir does.name node state.nodes does.into does.empty
-          ∙ ap (λ n. led does.dir does.name (Some n) (name_at state.nodes)) (sym (length-map state.nodes object_of))) refl;
+          ∙ ap (λ n. led does.dir does.name (Some n) (name_at state.nodes))
+          (sym (length-map state.nodes object_of))) refl;
     }
 
 rewrites : (state after : State) → Rewrites state after → tree_of after ≡ tree_of state
@@ -73,23 +81,28 @@ rewrites state after does =
     ∙ same_tree _ _ _ _ _ _ (objects_rewritten (time_of state) does.bytes does.object state.nodes)
     (names_rewritten (time_of state) does.bytes does.object state.nodes) refl
 
-effect_edits : (state : State) (numbers : ℕ → ℕ) (asked : Edit) (after : State) → IsSound state → Effect state numbers asked after → Edits (tree_of state) asked (tree_of after)
+effect_edits : (state : State) (numbers : ℕ → ℕ) (asked : Edit) (after : State) → IsSound state →
+    Effect state numbers asked after → Edits (tree_of state) asked (tree_of after)
 effect_edits state numbers (edit.Unlink path) after sound does = takes_name state after sound does
 effect_edits state numbers (edit.Rename old new) after sound does = moves_name state after sound does
 effect_edits state numbers (edit.File path mode uid gid bytes) after sound does = makes_object state numbers after does
 effect_edits state numbers (edit.Dir path mode uid gid) after sound does = makes_object state numbers after does
 effect_edits state numbers (edit.Write path bytes) after sound does = rewrites state after does
 
-pub outcome_changes : (state : State) (numbers : ℕ → ℕ) (asked : Edit) (told : Answered) → IsSound state → Outcome state told (Effect state numbers asked) →
+pub outcome_changes : (state : State) (numbers : ℕ → ℕ) (asked : Edit) (told : Answered) → IsSound state →
+    Outcome state told (Effect state numbers asked) →
     Changes (tree_of state) (call.Edit asked) told.0 (tree_of told.1)
 outcome_changes state numbers asked told sound (inl refused) =
-    subst (λ (both : Answered). Changes (tree_of state) (call.Edit asked) both.0 (tree_of both.1)) (sym refused.1) (tt, refl)
+    subst (λ (both : Answered).
+    Changes (tree_of state) (call.Edit asked) both.0 (tree_of both.1)) (sym refused.1) (tt, refl)
 outcome_changes state numbers asked told sound (inr does) =
     subst (λ (both : Answered). Changes (tree_of state) (call.Edit asked) both.0 (tree_of both.1)) (sym does.1)
     (effect_edits state numbers asked does.0 sound does.2)
 
-pub edit_changes : (state : State) (numbers : ℕ → ℕ) (asked : Edit) (given : HostReply) (after : State) → IsSound state →
-    AnswersAs (edited state numbers asked) state given after → Changes (tree_of state) (call.Edit asked) given (tree_of after)
+pub edit_changes : (state : State) (numbers : ℕ → ℕ) (asked : Edit) (given : HostReply) (after : State) →
+    IsSound state →
+    AnswersAs (edited state numbers asked) state given after →
+    Changes (tree_of state) (call.Edit asked) given (tree_of after)
 edit_changes state numbers asked given after sound (inl same) =
     subst (λ (both : Answered). Changes (tree_of state) (call.Edit asked) both.0 (tree_of both.1)) (sym same)
     (outcome_changes state numbers asked (edited state numbers asked) sound (edit_outcome state numbers asked))

@@ -1,5 +1,6 @@
 -- Proof. An edit leaves a sound state.
-use Rattle.std.proofs.Common.{◌≡◌, ◌<◌, ◌+◌, ◌^◌, ◌⊎◌, inl, inr, ℕ, true, List, [], length, Option, Some, None, slice_get, ap, sym, ◌∙◌, subst, arith}
+use Rattle.std.proofs.Common.{◌≡◌, ◌<◌, ◌+◌, ◌^◌, ◌⊎◌, inl, inr, ℕ, true, List, [], length, Option, Some, None}
+use Rattle.std.proofs.Common.{slice_get, ap, sym, ◌∙◌, subst, arith}
 use Rattle.std.proofs.lemmas.List.{length_push}
 use Rattle.std.proofs.lemmas.Option.{same_Some, slice_get_within}
 use Rattle.pt_host.specs.declared.edit.Edit.{Edit}
@@ -13,7 +14,9 @@ use Rattle.pt_rules.specs.Sound.{AreApart, AreOrdered, IsMade, IsSound}
 use Rattle.pt_rules.specs.State.{State, time_of}
 use Rattle.pt_node.specs.declared.node.Node.{Node}
 use Rattle.pt_rules.specs.Laws.Changed.{led, led_cases}
-use Rattle.pt_rules.specs.Laws.EditShapes.{alike_entered, alike_moved, alike_rewritten, alike_unlinked, entered, names_grown, names_moved, names_rewritten, names_unlinked, no_names, AllOrdered}
+use Rattle.pt_rules.specs.Laws.EditShapes.{alike_entered, alike_moved, alike_rewritten, alike_unlinked, entered}
+use Rattle.pt_rules.specs.Laws.EditShapes.{names_grown, names_moved, names_rewritten, names_unlinked, no_names}
+use Rattle.pt_rules.specs.Laws.EditShapes.{AllOrdered}
 use Rattle.pt_rules.specs.Laws.Outcomes.{Effect, Makes, MovesTo, edit_outcome}
 use Rattle.pt_rules.specs.Laws.Sounding.{NamedBefore, made_stays, named_still, opened_still, sound_after}
 use Rattle.pt_node.specs.Laws.Updates.{get-push_cases}
@@ -24,7 +27,8 @@ use Rattle.pt_rules.specs.Living.{Lives}
 pub all_ordered : (state : State) → IsSound state → AllOrdered state.nodes
 all_ordered state sound place node is = (sound.made place node is).ordered
 
-pub named_unlinked : (state : State) (dir : ℕ) (name : List ℕ) (object : ℕ) → IsSound state → NamedBefore state (with_unlinked state dir name object).nodes
+pub named_unlinked : (state : State) (dir : ℕ) (name : List ℕ) (object : ℕ) → IsSound state →
+    NamedBefore state (with_unlinked state dir name object).nodes
 named_unlinked state dir name object sound o (d, q, is) =
     let names = names_unlinked (time_of state) dir name object state.nodes (all_ordered state sound) in
     elim (led_cases dir name None (name_at state.nodes) d q o (sym (ap (λ at. at d q) names) ∙ is)) [
@@ -32,16 +36,20 @@ named_unlinked state dir name object sound o (d, q, is) =
       | inr was ↦ named_still state sound o (d, q, was)
     ]
 
-pub sound_unlinked : (state : State) (dir : ℕ) (name : List ℕ) (object : ℕ) → IsSound state → IsSound (with_unlinked state dir name object)
+pub sound_unlinked : (state : State) (dir : ℕ) (name : List ℕ) (object : ℕ) → IsSound state →
+    IsSound (with_unlinked state dir name object)
 sound_unlinked state dir name object sound =
-    sound_after state (unlinked (time_of state) dir name object state.nodes) state.slots sound (alike_unlinked (time_of state) dir name object state.nodes)
+    sound_after state (unlinked (time_of state) dir name object state.nodes) state.slots sound
+    (alike_unlinked (time_of state) dir name object state.nodes)
     (named_unlinked state dir name object sound) (opened_still state sound)
 
-pub named_moved : (state : State) (from to : ℕ × List ℕ) (object : ℕ) (target : Option ℕ) → IsSound state → name_at state.nodes from.0 from.1 ≡ Some object →
+pub named_moved : (state : State) (from to : ℕ × List ℕ) (object : ℕ) (target : Option ℕ) → IsSound state →
+    name_at state.nodes from.0 from.1 ≡ Some object →
     is_directory_at state.nodes to.0 ≡ true → NamedBefore state (with_moved state from to object target).nodes
 named_moved state from to object target sound there into o (d, q, is) =
     let names = names_moved (time_of state) from to object target state.nodes (all_ordered state sound) into in
-    elim (led_cases from.0 from.1 None (led to.0 to.1 (Some object) (name_at state.nodes)) d q o (sym (ap (λ at. at d q) names) ∙ is)) [
+    elim (led_cases from.0 from.1 None (led to.0 to.1 (Some object) (name_at state.nodes)) d q o
+    (sym (ap (λ at. at d q) names) ∙ is)) [
       | inl none ↦ cc
       | inr gained ↦ elim (led_cases to.0 to.1 (Some object) (name_at state.nodes) d q o gained) [
         | inl same ↦ named_still state sound o (from.0, from.1, there ∙ same)
@@ -49,22 +57,29 @@ named_moved state from to object target sound there into o (d, q, is) =
       ]
     ]
 
-pub sound_moved : (state : State) (from to : ℕ × List ℕ) (object : ℕ) (target : Option ℕ) → IsSound state → name_at state.nodes from.0 from.1 ≡ Some object →
+pub sound_moved : (state : State) (from to : ℕ × List ℕ) (object : ℕ) (target : Option ℕ) → IsSound state →
+    name_at state.nodes from.0 from.1 ≡ Some object →
     is_directory_at state.nodes to.0 ≡ true → IsSound (with_moved state from to object target)
 sound_moved state from to object target sound there into =
-    sound_after state (moved (time_of state) from to object target state.nodes) state.slots sound (alike_moved (time_of state) from to object target state.nodes)
+    sound_after state (moved (time_of state) from to object target state.nodes) state.slots sound
+    (alike_moved (time_of state) from to object target state.nodes)
     (named_moved state from to object target sound there into) (opened_still state sound)
 
-pub sound_rewritten : (state : State) (object : ℕ) (bytes : List ℕ) → IsSound state → IsSound (with_rewritten state object bytes)
+pub sound_rewritten : (state : State) (object : ℕ) (bytes : List ℕ) → IsSound state →
+    IsSound (with_rewritten state object bytes)
 sound_rewritten state object bytes sound =
     let names = names_rewritten (time_of state) bytes object state.nodes in
-    sound_after state (with_rewritten state object bytes).nodes state.slots sound (alike_rewritten (time_of state) bytes object state.nodes)
-    (λ o has. named_still state sound o (has.0, has.1, sym (ap (λ at. at has.0 has.1) names) ∙ has.2)) (opened_still state sound)
+    sound_after state (with_rewritten state object bytes).nodes state.slots sound
+    (alike_rewritten (time_of state) bytes object state.nodes)
+    (λ o has. named_still state sound o (has.0, has.1, sym (ap (λ at. at has.0 has.1) names) ∙ has.2))
+    (opened_still state sound)
 
 -- ---- a new object
 
-module _ (state : State) (dir : ℕ) (name : List ℕ) (node : Node) (sound : IsSound state) (into : is_directory_at state.nodes dir ≡ true)
-    (empty : names_in node.content ≡ []) (serial : node.serial ≡ length state.nodes + 1) (small : node.permissions < 4096)
+module _ (state : State) (dir : ℕ) (name : List ℕ) (node : Node) (sound : IsSound state)
+    (into : is_directory_at state.nodes dir ≡ true)
+    (empty : names_in node.content ≡ []) (serial : node.serial
+    ≡ length state.nodes + 1) (small : node.permissions < 4096)
     (least : IsLeastFree state node.ids.dev node.ids.ino) where
   pub length_made : length (with_made state dir name node).nodes ≡ length state.nodes + 1
   length_made =
@@ -74,14 +89,17 @@ module _ (state : State) (dir : ℕ) (name : List ℕ) (node : Node) (sound : Is
 
   -- it stands at the end, and before it what was there
   pub at_place : (place : ℕ) (that : Node) → slice_get (with_made state dir name node).nodes place ≡ Some that →
-      ((place ≡ length state.nodes) × (that ≡ node)) ⊎ ((was : Node) × (slice_get state.nodes place ≡ Some was) × (that.ids ≡ was.ids) × IsMade place that)
-  at_place place that is = elim (get-push_cases (entered (time_of state) dir name node state.nodes) node place that is) [
-    | inl new ↦ inl (new.0 ∙ (alike_entered (time_of state) dir name node state.nodes).long, new.1)
-    | inr old ↦ (let was = (alike_entered (time_of state) dir name node state.nodes).each place that old in
-        inr (was.0, was.1, was.2.ids, made_stays place was.0 that was.2 (sound.made place was.0 was.1)))
-  ]
+      ((place ≡ length state.nodes) × (that ≡ node))
+      ⊎ ((was : Node) × (slice_get state.nodes place ≡ Some was) × (that.ids ≡ was.ids) × IsMade place that)
+  at_place place that is =
+      elim (get-push_cases (entered (time_of state) dir name node state.nodes) node place that is) [
+        | inl new ↦ inl (new.0 ∙ (alike_entered (time_of state) dir name node state.nodes).long, new.1)
+        | inr old ↦ (let was = (alike_entered (time_of state) dir name node state.nodes).each place that old in
+            inr (was.0, was.1, was.2.ids, made_stays place was.0 that was.2 (sound.made place was.0 was.1)))
+      ]
 
-  made_made : (place : ℕ) (that : Node) → slice_get (with_made state dir name node).nodes place ≡ Some that → IsMade place that
+  made_made : (place : ℕ) (that : Node) → slice_get (with_made state dir name node).nodes place ≡ Some that →
+      IsMade place that
   made_made place that is = elim (at_place place that is) [
     | inl new ↦ (let good : IsMade place node = record {
       serial = (let end = new.0 in omega arith);
@@ -92,23 +110,30 @@ module _ (state : State) (dir : ℕ) (name : List ℕ) (node : Node) (sound : Is
     | inr old ↦ old.3
   ]
 
-  named_made : (d : ℕ) (q : List ℕ) (o : ℕ) → name_at (with_made state dir name node).nodes d q ≡ Some o → (o ≡ length state.nodes) ⊎ (name_at state.nodes d q ≡ Some o)
+  named_made : (d : ℕ) (q : List ℕ) (o : ℕ) → name_at (with_made state dir name node).nodes d q ≡ Some o →
+      (o ≡ length state.nodes) ⊎ (name_at state.nodes d q ≡ Some o)
   named_made d q o is =
       let names = names_grown (time_of state) dir name node state.nodes into empty in
-      elim (led_cases dir name (Some (length state.nodes)) (name_at state.nodes) d q o (sym (ap (λ at. at d q) names) ∙ is)) [
+      elim (led_cases dir name (Some (length state.nodes)) (name_at state.nodes) d q o (sym (ap (λ at. at d q) names)
+      ∙ is)) [
         | inl new ↦ inl (sym (same_Some (length state.nodes) o new))
         | inr was ↦ inr was
       ]
 
   -- an object of before lived before
-  lived_made : (object : ℕ) → object < length state.nodes → HasHold (with_made state dir name node) object → HasHold state object
+  lived_made : (object : ℕ) → object < length state.nodes → HasHold (with_made state dir name node) object →
+      HasHold state object
   lived_made object within (inl root) = inl root
   lived_made object within (inr (inr held)) = inr (inr held)
-  lived_made object within (inr (inl (d, q, is))) = elim (named_made d q object is) [ inl new ↦ absurd (omega (arith, new)) | inr was ↦ inr (inl (d, q, was)) ]
+  lived_made object within (inr (inl (d, q, is))) =
+      elim (named_made d q object is) [ inl new ↦ absurd (omega (arith, new)) | inr was ↦ inr (inl (d, q, was)) ]
 
-  lived_again : (object : ℕ) → object < length state.nodes → Lives (with_made state dir name node) object → Lives state object
+  lived_again : (object : ℕ) → object < length state.nodes → Lives (with_made state dir name node) object →
+      Lives state object
   lived_again object within lives =
-      lives_held state object (lived_made object within (held_has (with_made state dir name node) object (λ place that is. (made_made place that is).ordered) lives))
+      lives_held state object
+      (lived_made object within
+      (held_has (with_made state dir name node) object (λ place that is. (made_made place that is).ordered) lives))
 
   apart_made : AreApart (with_made state dir name node)
   apart_made object another that other is too lives lives_too dev ino = elim (at_place object that is) [
@@ -147,34 +172,42 @@ module _ (state : State) (dir : ℕ) (name : List ℕ) (node : Node) (sound : Is
     made = made_made;
     named = λ d q o is.
         let long = length_made in
-        elim (named_made d q o is) [ inl new ↦ omega (arith, new) | inr was ↦ (let within = sound.named d q o was in omega (arith, within)) ];
+        elim (named_made d q o is) [
+          | inl new ↦ omega (arith, new)
+          | inr was ↦
+              (let within = sound.named d q o was in omega (arith, within))
+        ];
     opened = λ fd file is. let long = length_made in let within = sound.opened fd file is in omega (arith, within);
     apart = apart_made;
   }
 
 -- ---- whatever the edit
 
-sound_moves : (state after : State) (from to : ℕ × List ℕ) (object : ℕ) (target : Option ℕ) → IsSound state → name_at state.nodes from.0 from.1 ≡ Some object →
+sound_moves : (state after : State) (from to : ℕ × List ℕ) (object : ℕ) (target : Option ℕ) → IsSound state →
+    name_at state.nodes from.0 from.1 ≡ Some object →
     is_directory_at state.nodes to.0 ≡ true → MovesTo state from to object target after → IsSound after
 sound_moves state after from to object target sound there into (inl same) = subst IsSound (sym same.1) sound
-sound_moves state after from to object target sound there into (inr other) = subst IsSound (sym other.1) (sound_moved state from to object target sound there into)
+sound_moves state after from to object target sound there into (inr other) =
+    subst IsSound (sym other.1) (sound_moved state from to object target sound there into)
 
-pub sound_makes : (state : State) (numbers : ℕ → ℕ) (after : State) → IsSound state → AreLeastFree state numbers → length after.nodes < 2 ^ 63 →
-    Makes state numbers after → IsSound after
+pub sound_makes : (state : State) (numbers : ℕ → ℕ) (after : State) → IsSound state → AreLeastFree state numbers →
+    length after.nodes < 2 ^ 63 → Makes state numbers after → IsSound after
 sound_makes state numbers after sound least few does =
     subst IsSound (sym does.leaves)
     (sound_made state does.dir does.name does.node sound does.into does.empty does.serial does.small
     (subst (IsLeastFree state does.node.ids.dev) (sym does.number) (least does.node.ids.dev))
     (subst (λ (s : State). length s.nodes < 2 ^ 63) does.leaves few))
 
-pub sound_effect : (state : State) (numbers : ℕ → ℕ) (asked : Edit) (after : State) → IsSound state → AreLeastFree state numbers → length after.nodes < 2 ^ 63 →
-    Effect state numbers asked after → IsSound after
+pub sound_effect : (state : State) (numbers : ℕ → ℕ) (asked : Edit) (after : State) → IsSound state →
+    AreLeastFree state numbers → length after.nodes < 2 ^ 63 → Effect state numbers asked after → IsSound after
 sound_effect state numbers (edit.Unlink path) after sound least few does =
     subst IsSound (sym does.leaves) (sound_unlinked state does.dir does.name does.object sound)
 sound_effect state numbers (edit.Rename old new) after sound least few does =
     sound_moves state after does.from does.to does.object does.target sound does.there does.into does.moves
-sound_effect state numbers (edit.File path mode uid gid bytes) after sound least few does = sound_makes state numbers after sound least few does
-sound_effect state numbers (edit.Dir path mode uid gid) after sound least few does = sound_makes state numbers after sound least few does
+sound_effect state numbers (edit.File path mode uid gid bytes) after sound least few does =
+    sound_makes state numbers after sound least few does
+sound_effect state numbers (edit.Dir path mode uid gid) after sound least few does =
+    sound_makes state numbers after sound least few does
 sound_effect state numbers (edit.Write path bytes) after sound least few does =
     subst IsSound (sym does.leaves) (sound_rewritten state does.object does.bytes sound)
 
@@ -183,5 +216,6 @@ pub sound_edited : (state : State) (numbers : ℕ → ℕ) (asked : Edit) → Is
 sound_edited state numbers asked sound least few = elim (edit_outcome state numbers asked) [
   | inl refused ↦ subst IsSound (sym (ap (λ both. both.1) refused.1)) sound
   | inr does ↦ subst IsSound (sym (ap (λ both. both.1) does.1))
-      (sound_effect state numbers asked does.0 sound least (subst (λ (s : State). length s.nodes < 2 ^ 63) (ap (λ both. both.1) does.1) few) does.2)
+      (sound_effect state numbers asked does.0 sound least
+      (subst (λ (s : State). length s.nodes < 2 ^ 63) (ap (λ both. both.1) does.1) few) does.2)
 ]

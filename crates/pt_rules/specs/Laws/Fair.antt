@@ -1,5 +1,6 @@
 -- Proof. What is to be shown of each call's answer, and that it holds where the call leaves the tree as it is.
-use Rattle.std.proofs.Common.{◌≡◌, ◌<◌, ◌^◌, ◌⊎◌, inl, inr, ℕ, List, length, Option, Some, None, option_map, slice_get, slice_set, refl, ap, sym, ◌∙◌, subst}
+use Rattle.std.proofs.Common.{◌≡◌, ◌<◌, ◌^◌, ◌⊎◌, inl, inr, ℕ, List, length, Option, Some, None, option_map}
+use Rattle.std.proofs.Common.{slice_get, slice_set, refl, ap, sym, ◌∙◌, subst}
 use Rattle.std.proofs.lemmas.Bool.Decides.{eqb_tells}
 use Rattle.std.proofs.lemmas.Option.{slice_get_within}
 use Rattle.pt_host.specs.Call.{Call}
@@ -44,8 +45,8 @@ pub record IsPlain (asked : Call) : Type 0 where
 pub stays_same : (before after : ObjectContents) → after ≡ before → StaysButAccess before after
 stays_same before after same = subst (λ (c : ObjectContents). StaysButAccess before c) (sym same) refl
 
-pub fair_refused : (state : State) (asked : Call) (errno : Errno) → IsSound state → Changes (tree_of state) asked (reply.Refused errno) (tree_of state) →
-    IsFair state asked (refused state errno)
+pub fair_refused : (state : State) (asked : Call) (errno : Errno) → IsSound state →
+    Changes (tree_of state) asked (reply.Refused errno) (tree_of state) → IsFair state asked (refused state errno)
 fair_refused state asked errno sound changes = record {
   sound = λ few. sound;
   changes = changes;
@@ -60,7 +61,8 @@ no_flags asked flags none some = (let e : None ≡ Some flags = sym none ∙ som
 
 -- the tree and what is beside it stay
 pub fair_same : (state : State) (asked : Call) (told : HostValue) → IsSound state → opening_flags asked ≡ None →
-    Changes (tree_of state) asked (reply.Ok told) (tree_of state) → FitsCall asked told → IsFair state asked (tells state told)
+    Changes (tree_of state) asked (reply.Ok told) (tree_of state) → FitsCall asked told →
+    IsFair state asked (tells state told)
 fair_same state asked told sound opens changes fits = record {
   sound = λ few. sound;
   changes = changes;
@@ -77,37 +79,48 @@ fair_same state asked told sound opens changes fits = record {
 }
 
 -- nothing is changed
-pub fair_told : (state : State) (asked : Call) (told : HostValue) → IsSound state → IsPlain asked → FitsCall asked told → IsFair state asked (tells state told)
+pub fair_told : (state : State) (asked : Call) (told : HostValue) → IsSound state → IsPlain asked →
+    FitsCall asked told → IsFair state asked (tells state told)
 fair_told state asked told sound plain fits =
     fair_same state asked told sound plain.opens (plain.passes (tree_of state) told fits) fits
 
 -- one object is changed, which the call may change or of which the access time alone changes
 module _ (state : State) (asked : Call) (told : HostValue) (object : ℕ) (node after : Node) (sound : IsSound state)
     (there : slice_get state.nodes object ≡ Some node) (keeps : Keeps node after) where
-  objects_but : (MayChange (tree_of state) asked told (tree_of state) object) ⊎ StaysButAccess (contents_where (Some node)) (contents_where (Some after)) →
+  objects_but : (MayChange (tree_of state) asked told (tree_of state) object)
+      ⊎ StaysButAccess (contents_where (Some node)) (contents_where (Some after)) →
       (o : ℕ) → (MayChange (tree_of state) asked told (tree_of state) o → ⊥) →
-      StaysButAccess (contents_where (slice_get state.nodes o)) (contents_where (slice_get (slice_set state.nodes object after) o))
+      StaysButAccess (contents_where (slice_get state.nodes o))
+      (contents_where (slice_get (slice_set state.nodes object after) o))
   objects_but (inl may) o none = elim (eqb_tells o object) [
     | inl e ↦ absurd (none (subst (MayChange (tree_of state) asked told (tree_of state)) (sym e.1) may))
     | inr apart ↦ stays_same _ _ (ap contents_where (get-set_apart state.nodes object after o apart.1))
   ]
   objects_but (inr stays) o none = elim (eqb_tells o object) [
-    | inl e ↦ subst (λ (at : Option Node). StaysButAccess (contents_where (slice_get state.nodes o)) (contents_where at))
-        (sym (ap (slice_get (slice_set state.nodes object after)) e.1 ∙ get-set_here state.nodes object after (slice_get_within state.nodes object node there)))
-        (subst (λ (at : Option Node). StaysButAccess (contents_where at) (contents_where (Some after))) (sym (ap (slice_get state.nodes) e.1 ∙ there)) stays)
+    | inl e ↦ subst (λ (at : Option Node).
+        StaysButAccess (contents_where (slice_get state.nodes o)) (contents_where at))
+        (sym (ap (slice_get (slice_set state.nodes object after)) e.1
+        ∙ get-set_here state.nodes object after (slice_get_within state.nodes object node there)))
+        (subst (λ (at : Option Node).
+        StaysButAccess (contents_where at) (contents_where (Some after))) (sym (ap (slice_get state.nodes) e.1
+        ∙ there)) stays)
     | inr apart ↦ stays_same _ _ (ap contents_where (get-set_apart state.nodes object after o apart.1))
   ]
 
   pub fair_node : IsPlain asked → FitsCall asked told →
-      (MayChange (tree_of state) asked told (tree_of state) object) ⊎ StaysButAccess (contents_where (Some node)) (contents_where (Some after)) →
+      (MayChange (tree_of state) asked told (tree_of state) object)
+      ⊎ StaysButAccess (contents_where (Some node)) (contents_where (Some after)) →
       IsFair state asked (tells (with_node state object after) told)
   fair_node plain fits may =
       let same = tree-with_node state object node after there keeps in
       record {
         sound = λ few. sound-with_node state object node after sound there keeps;
-        changes = subst (Changes (tree_of state) asked (reply.Ok told)) (sym same) (plain.passes (tree_of state) told fits);
+        changes = subst (Changes (tree_of state) asked (reply.Ok told)) (sym same)
+            (plain.passes (tree_of state) told fits);
         contents = record {
-          objects = λ o within none. objects_but may o (λ m. none (subst (λ (t : Tree). MayChange (tree_of state) asked told t o) (sym same) m));
+          objects = λ o within none.
+              objects_but may o (λ m.
+              none (subst (λ (t : Tree). MayChange (tree_of state) asked told t o) (sym same) m));
           openings = λ flags o asks within none. absurd (no_flags asked flags plain.opens asks);
           positions = λ fd open_still none. refl;
           accesses = λ fd open_still. refl;
@@ -127,11 +140,15 @@ placed_slot (Some file) fd position slots k is =
     let within = slice_get_within slots fd (Open file) (open_slot (slice_get slots fd) file is) in
     elim (eqb_tells k fd) [
       | inl e ↦ ap (λ j. option_map opened_as (open_at (placed_where (Some file) fd position slots) j)) e.1
-          ∙ ap (λ slot. option_map opened_as (file_of slot)) (get-set_here slots fd (Open (record file { position = position })) within)
+          ∙ ap (λ slot. option_map opened_as (file_of slot))
+          (get-set_here slots fd (Open (record file { position = position })) within)
           ∙ sym (ap (λ j. option_map opened_as (open_at slots j)) e.1 ∙ ap (option_map opened_as) is)
-      | inr apart ↦ ap (λ slot. option_map opened_as (file_of slot)) (get-set_apart slots fd (Open (record file { position = position })) k apart.1)
+      | inr apart ↦ ap (λ slot.
+          option_map opened_as (file_of slot))
+          (get-set_apart slots fd (Open (record file { position = position })) k apart.1)
     ]
 
 pub tree-with_position : (state : State) (fd position : ℕ) → tree_of (with_position state fd position) ≡ tree_of state
 tree-with_position state fd position =
-    same_tree _ _ _ _ _ _ refl refl (same_function _ _ (λ k. placed_slot (open_at state.slots fd) fd position state.slots k refl))
+    same_tree _ _ _ _ _ _ refl refl
+    (same_function _ _ (λ k. placed_slot (open_at state.slots fd) fd position state.slots k refl))

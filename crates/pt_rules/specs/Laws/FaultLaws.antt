@@ -1,5 +1,6 @@
 -- Proof. What a call that fails as planned leaves, and that it may fail so.
-use Rattle.std.proofs.Common.{◌≡◌, ◌≢◌, ◌≤◌, ◌+◌, ◌-◌, ◌^◌, ◌||◌, nat_lt, ℕ, Bool, true, false, min, cond, Some, refl, ap, sym, ◌∙◌, subst, arith}
+use Rattle.std.proofs.Common.{◌≡◌, ◌≢◌, ◌≤◌, ◌+◌, ◌-◌, ◌^◌, ◌||◌, nat_lt, ℕ, Bool, true, false, min, cond, Some, refl}
+use Rattle.std.proofs.Common.{ap, sym, ◌∙◌, subst, arith}
 use Rattle.std.proofs.lemmas.Bool.{ltb-false}
 use Rattle.std.specs.Cmp.{signed_Decides}
 use Rattle.std.proofs.lemmas.Option.{same_Some}
@@ -16,7 +17,8 @@ pub failing_faults : (state : State) (asked : Call) → (after_failing state ask
 failing_faults state (call.Close fd) = refl
 failing_faults state asked = refl
 
-risen_where : (below : Bool) (faults : ℕ) → (below ≡ false → 2 ^ 64 - 1 ≤ faults) → min (faults + 1) (2 ^ 64 - 1) ≤ cond below (faults + 1) faults
+risen_where : (below : Bool) (faults : ℕ) → (below ≡ false → 2 ^ 64 - 1 ≤ faults) →
+    min (faults + 1) (2 ^ 64 - 1) ≤ cond below (faults + 1) faults
 risen_where true faults past = omega arith
 risen_where false faults past = let end = past refl in omega arith
 
@@ -44,7 +46,8 @@ neither false b is = (refl, is)
 eio_apart : (eio ≢ eopnotsupp) × (eio ≢ eoverflow)
 eio_apart = (errnos_apart 5 95 refl, errnos_apart 5 75 refl)
 
-failed_where : (told : Bool) (planned errno : Errno) → (told ≡ false → (planned ≢ eopnotsupp) × (planned ≢ eoverflow)) → eio_where told planned ≡ errno →
+failed_where : (told : Bool) (planned errno : Errno) →
+    (told ≡ false → (planned ≢ eopnotsupp) × (planned ≢ eoverflow)) → eio_where told planned ≡ errno →
     (errno ≢ eopnotsupp) × (errno ≢ eoverflow)
 failed_where true planned errno other is = subst (λ (e : Errno). (e ≢ eopnotsupp) × (e ≢ eoverflow)) is eio_apart
 failed_where false planned errno other is = subst (λ (e : Errno). (e ≢ eopnotsupp) × (e ≢ eoverflow)) is (other refl)

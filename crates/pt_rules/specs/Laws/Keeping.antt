@@ -29,12 +29,15 @@ le-permissions_where b m n less = elim b as (λ v. cond v m n ≤ m) [ true ↦ 
 
 pub permissions-le : (seat : HostSeat) (permissions : ℕ) → permissions_after seat permissions ≤ permissions
 permissions-le seat permissions =
-    let user : without_set_user permissions ≤ permissions = le-less_where (includes permissions 2048) permissions 2048 in
+    let user : without_set_user permissions ≤ permissions =
+    le-less_where (includes permissions 2048) permissions 2048 in
     let group : without_set_group (without_set_user permissions) ≤ without_set_user permissions =
     le-less_where (includes (without_set_user permissions) 1032) (without_set_user permissions) 1024 in
-    le-permissions_where (includes seat.eff_caps.0 fsetid) permissions (without_set_group (without_set_user permissions)) (omega arith)
+    le-permissions_where (includes seat.eff_caps.0 fsetid) permissions
+    (without_set_group (without_set_user permissions)) (omega arith)
 
-pub keeps_emptied : (seat : HostSeat) (now : Time) (node : Node) (content : Content) → node.content ≡ content → Keeps node (emptied seat now node content)
+pub keeps_emptied : (seat : HostSeat) (now : Time) (node : Node) (content : Content) → node.content ≡ content →
+    Keeps node (emptied seat now node content)
 keeps_emptied seat now node (Directory names) held = keeps_itself node
 keeps_emptied seat now node (Link target) held = keeps_itself node
 keeps_emptied seat now node (Special kind) held = keeps_itself node
@@ -47,11 +50,15 @@ keeps_emptied seat now node (Regular bytes) held = record {
 }
 
 keeps_where : (b : Bool) (before after : Node) → Keeps before after → Keeps before (cond b after before)
-keeps_where b before after keeps = elim b as (λ v. Keeps before (cond v after before)) [ true ↦ keeps | false ↦ keeps_itself before ]
+keeps_where b before after keeps =
+    elim b as (λ v. Keeps before (cond v after before)) [ true ↦ keeps | false ↦ keeps_itself before ]
 
-pub keeps_opening : (seat : HostSeat) (now : Time) (flags : ℕ) (node : Node) → Keeps node (after_opening seat now flags node)
+pub keeps_opening : (seat : HostSeat) (now : Time) (flags : ℕ) (node : Node) →
+    Keeps node (after_opening seat now flags node)
 keeps_opening seat now flags node =
-    keeps_where (includes flags o_trunc && not (includes flags o_path)) node (emptied seat now node node.content) (keeps_emptied seat now node node.content refl)
+    keeps_where (includes flags o_trunc
+    && not (includes flags o_path)) node (emptied seat now node node.content)
+    (keeps_emptied seat now node node.content refl)
 
 pub keeps_reading : (now : Time) (node : Node) → Keeps node (after_reading now node)
 keeps_reading now node = record { ids = refl; serial = refl; object = refl; names = refl; permissions = λ small. small }

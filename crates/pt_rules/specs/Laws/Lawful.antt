@@ -1,5 +1,6 @@
 -- Proof. Every step is lawful.
-use Rattle.std.proofs.Common.{◌≡◌, ◌<◌, ◌^◌, inl, inr, ℕ, Bool, true, false, length, Option, Some, None, refl, sym, subst, arith, ◌+◌}
+use Rattle.std.proofs.Common.{◌≡◌, ◌<◌, ◌^◌, inl, inr, ℕ, Bool, true, false, length, Option, Some, None, refl, sym}
+use Rattle.std.proofs.Common.{subst, arith, ◌+◌}
 use Rattle.std.proofs.lemmas.Option.{same_Some}
 use Rattle.pt_host.specs.Call.{Call}
 use Rattle.pt_host.specs.LawfulContents.{KeepsAll, LawfulContents, opening_flags}
@@ -13,7 +14,8 @@ use Rattle.pt_host.specs.declared.reply.HostReply.{HostReply}
 use Rattle.pt_host.specs.declared.reply.HostReply.TheVariants as reply
 use Rattle.pt_host.specs.declared.reply.HostValue.TheVariants as value
 use Rattle.pt_host.specs.Errno.{enosys, eperm}
-use Rattle.pt_host.specs.Seat.{groups_errno, may_raise, may_set_egid, may_set_euid, may_set_groups, with_dropped, with_egid, with_euid, with_groups, with_raised, with_umask}
+use Rattle.pt_host.specs.Seat.{groups_errno, may_raise, may_set_egid, may_set_euid, may_set_groups, with_dropped}
+use Rattle.pt_host.specs.Seat.{with_egid, with_euid, with_groups, with_raised, with_umask}
 use Rattle.pt_node.specs.Slots.{open_at}
 use Rattle.pt_rules.specs.Laws.Opens.{closed_tree}
 use Rattle.pt_rules.specs.Laws.Soundness.{sound-closed}
@@ -36,99 +38,218 @@ use Rattle.pt_rules.specs.Laws.PathOnly.{path_only_bad}
 use Rattle.pt_rules.specs.Laws.SeatLaws.{other_seat, own_seat, some_seated}
 use Rattle.pt_rules.specs.Laws.WellFormed.{well_formed}
 use Rattle.pt_rules.specs.Laws.NameFair.{fair_make_dir, fair_make_node, fair_remove_dir, fair_symlink, fair_unlink}
-use Rattle.pt_rules.specs.Laws.OpenFair.{closed_description, fair_close, fair_open_path, fair_reopen, fair_root, fair_stat}
-use Rattle.pt_rules.specs.Laws.PlainCalls.{fair_mount_info, row_fair, keeps_refilled, written_effect, lengthened_effect, keeps_rewritten, sized_fits}
+use Rattle.pt_rules.specs.Laws.OpenFair.{closed_description, fair_close, fair_open_path, fair_reopen, fair_root}
+use Rattle.pt_rules.specs.Laws.OpenFair.{fair_stat}
+use Rattle.pt_rules.specs.Laws.PlainCalls.{fair_mount_info, row_fair, keeps_refilled, written_effect}
+use Rattle.pt_rules.specs.Laws.PlainCalls.{lengthened_effect, keeps_rewritten, sized_fits}
 use Rattle.pt_rules.specs.OpeningCalls.{stat_fs_row, fd_path_row, read_link_row}
 use Rattle.pt_rules.specs.Laws.Keeping.{keeps_reading}
 use Rattle.pt_rules.specs.ContentCalls.{flush_row, truncate_row, write_row, allocate_row, read_row, sync_row, lengthens}
-use Rattle.pt_rules.specs.AttributeCalls.{chmod_row, chown_row, times_row, set_xattr_row, get_xattr_row, list_xattr_row, remove_xattr_row}
+use Rattle.pt_rules.specs.AttributeCalls.{chmod_row, chown_row, times_row, set_xattr_row, get_xattr_row}
+use Rattle.pt_rules.specs.AttributeCalls.{list_xattr_row, remove_xattr_row}
 use Rattle.pt_node.specs.Node.{size_of}
 
 abbrev made_outcome : HostReply → State → HostSeat → Outcome
 made_outcome given after seat = (given, after, seat)
 
 -- what is to be shown of each call on the tree
-pub fair_answer : (state : State) (numbers : ℕ → ℕ) (seat : HostSeat) (asked : Call) → IsSound state → AreLeastFree state numbers →
-    IsFair state asked (answer state numbers seat asked)
+pub fair_answer : (state : State) (numbers : ℕ → ℕ) (seat : HostSeat) (asked : Call) → IsSound state →
+    AreLeastFree state numbers → IsFair state asked (answer state numbers seat asked)
 fair_answer state numbers seat (call.OpenRoot path flags) sound least = fair_root state seat path flags sound
-fair_answer state numbers seat (call.StatFs fd) sound least = row_fair state _ sound (λ tree errno. (tt, refl)) (λ tree told fits. (fits, refl)) refl fd (stat_fs_row state)
+fair_answer state numbers seat (call.StatFs fd) sound least =
+    row_fair state _ sound (λ tree errno. (tt, refl)) (λ tree told fits. (fits, refl)) refl fd (stat_fs_row state)
     (λ file node on. record { fits = tt; effect = tt })
-fair_answer state numbers seat (call.FdPath fd) sound least = row_fair state _ sound (λ tree errno. (tt, refl)) (λ tree told fits. (fits, refl)) refl fd (fd_path_row state)
+fair_answer state numbers seat (call.FdPath fd) sound least =
+    row_fair state _ sound (λ tree errno. (tt, refl)) (λ tree told fits. (fits, refl)) refl fd (fd_path_row state)
     (λ file node on. record { fits = tt; effect = tt })
 fair_answer state numbers seat call.MountInfo sound least = fair_mount_info state sound
-fair_answer state numbers seat (call.ReadLink fd) sound least = row_fair state _ sound (λ tree errno. (tt, refl)) (λ tree told fits. (fits, refl)) refl fd (read_link_row state)
+fair_answer state numbers seat (call.ReadLink fd) sound least =
+    row_fair state _ sound (λ tree errno. (tt, refl)) (λ tree told fits. (fits, refl)) refl fd (read_link_row state)
     (λ file node on. record { fits = tt; effect = (keeps_reading (time_of state) node, inr refl) })
-fair_answer state numbers seat (call.Flush fd) sound least = row_fair state _ sound (λ tree errno. (tt, refl)) (λ tree told fits. (fits, refl)) refl fd flush_row
+fair_answer state numbers seat (call.Flush fd) sound least =
+    row_fair state _ sound (λ tree errno. (tt, refl)) (λ tree told fits. (fits, refl)) refl fd flush_row
     (λ file node on. record { fits = tt; effect = tt })
-fair_answer state numbers seat (call.Truncate fd size) sound least = row_fair state _ sound (λ tree errno. (tt, refl)) (λ tree told fits. (fits, refl)) refl fd (truncate_row state seat size)
+fair_answer state numbers seat (call.Truncate fd size) sound least =
+    row_fair state _ sound (λ tree errno. (tt, refl)) (λ tree told fits.
+    (fits, refl)) refl fd (truncate_row state seat size)
     (λ file node on. record { fits = tt; effect = (keeps_refilled seat (time_of state) _ node, inl on) })
-fair_answer state numbers seat (call.WriteAt fd offset bytes append) sound least = row_fair state _ sound (λ tree errno. (tt, refl)) (λ tree told fits. (fits, refl)) refl fd (write_row state seat offset bytes append)
-    (λ file node on. record { fits = tt; effect = written_effect state seat fd offset _ bytes bytes append (value.Count (length bytes)) file node on })
-fair_answer state numbers seat (call.ChMod fd through mode) sound least = row_fair state _ sound (λ tree errno. (tt, refl)) (λ tree told fits. (fits, refl)) refl fd (chmod_row state seat through mode)
-    (λ file node on. record { fits = tt; effect = (record { ids = refl; serial = refl; object = refl; names = refl; permissions = λ small. omega arith }, inl on) })
-fair_answer state numbers seat (call.ChOwn fd uid gid) sound least = row_fair state _ sound (λ tree errno. (tt, refl)) (λ tree told fits. (fits, refl)) refl fd (chown_row state seat uid gid)
-    (λ file node on. record { fits = tt; effect = (record { ids = refl; serial = refl; object = refl; names = refl; permissions = λ small. small }, inl on) })
-fair_answer state numbers seat (call.SetTimes fd through atime mtime) sound least = row_fair state _ sound (λ tree errno. (tt, refl)) (λ tree told fits. (fits, refl)) refl fd (times_row state seat through atime mtime)
-    (λ file node on. record { fits = tt; effect = (record { ids = refl; serial = refl; object = refl; names = refl; permissions = λ small. small }, inl on) })
-fair_answer state numbers seat (call.SetXattr fd through name value flags) sound least = row_fair state _ sound (λ tree errno. (tt, refl)) (λ tree told fits. (fits, refl)) refl fd (set_xattr_row state through name value flags)
-    (λ file node on. record { fits = tt; effect = (record { ids = refl; serial = refl; object = refl; names = refl; permissions = λ small. small }, inl on) })
-fair_answer state numbers seat (call.RemoveXattr fd through name) sound least = row_fair state _ sound (λ tree errno. (tt, refl)) (λ tree told fits. (fits, refl)) refl fd (remove_xattr_row state through name)
-    (λ file node on. record { fits = tt; effect = (record { ids = refl; serial = refl; object = refl; names = refl; permissions = λ small. small }, inl on) })
-fair_answer state numbers seat (call.Sync fd datasync) sound least = row_fair state _ sound (λ tree errno. (tt, refl)) (λ tree told fits. (fits, refl)) refl fd sync_row
-    (λ file node on. record { fits = tt; effect = tt })
-fair_answer state numbers seat (call.SyncFs fd) sound least = row_fair state _ sound (λ tree errno. (tt, refl)) (λ tree told fits. (fits, refl)) refl fd sync_row
-    (λ file node on. record { fits = tt; effect = tt })
-fair_answer state numbers seat (call.Allocate fd mode offset size) sound least = row_fair state _ sound (λ tree errno. (tt, refl)) (λ tree told fits. (fits, refl)) refl fd (allocate_row state mode offset size)
+fair_answer state numbers seat (call.WriteAt fd offset bytes append) sound least =
+    row_fair state _ sound (λ tree errno. (tt, refl)) (λ tree told fits.
+    (fits, refl)) refl fd (write_row state seat offset bytes append)
     (λ file node on. record {
       fits = tt;
-      effect = lengthened_effect (lengthens mode (size_of node.content) (offset + size)) state fd mode offset size value.Unit file node _ on
+      effect = written_effect state seat fd offset _ bytes bytes append (value.Count (length bytes)) file node on;
+    })
+fair_answer state numbers seat (call.ChMod fd through mode) sound least =
+    row_fair state _ sound (λ tree errno. (tt, refl)) (λ tree told fits.
+    (fits, refl)) refl fd (chmod_row state seat through mode)
+    (λ file node on. record {
+      fits = tt;
+      effect = (
+        record {
+          ids = refl;
+          serial = refl;
+          object = refl;
+          names = refl;
+          permissions = λ small. omega arith;
+        },
+        inl on,
+      );
+    })
+fair_answer state numbers seat (call.ChOwn fd uid gid) sound least =
+    row_fair state _ sound (λ tree errno. (tt, refl)) (λ tree told fits.
+    (fits, refl)) refl fd (chown_row state seat uid gid)
+    (λ file node on. record {
+      fits = tt;
+      effect = (
+        record {
+          ids = refl;
+          serial = refl;
+          object = refl;
+          names = refl;
+          permissions = λ small. small;
+        },
+        inl on,
+      );
+    })
+fair_answer state numbers seat (call.SetTimes fd through atime mtime) sound least =
+    row_fair state _ sound (λ tree errno. (tt, refl)) (λ tree told fits.
+    (fits, refl)) refl fd (times_row state seat through atime mtime)
+    (λ file node on. record {
+      fits = tt;
+      effect = (
+        record {
+          ids = refl;
+          serial = refl;
+          object = refl;
+          names = refl;
+          permissions = λ small. small;
+        },
+        inl on,
+      );
+    })
+fair_answer state numbers seat (call.SetXattr fd through name value flags) sound least =
+    row_fair state _ sound (λ tree errno. (tt, refl)) (λ tree told fits.
+    (fits, refl)) refl fd (set_xattr_row state through name value flags)
+    (λ file node on. record {
+      fits = tt;
+      effect = (
+        record {
+          ids = refl;
+          serial = refl;
+          object = refl;
+          names = refl;
+          permissions = λ small. small;
+        },
+        inl on,
+      );
+    })
+fair_answer state numbers seat (call.RemoveXattr fd through name) sound least =
+    row_fair state _ sound (λ tree errno. (tt, refl)) (λ tree told fits.
+    (fits, refl)) refl fd (remove_xattr_row state through name)
+    (λ file node on. record {
+      fits = tt;
+      effect = (
+        record {
+          ids = refl;
+          serial = refl;
+          object = refl;
+          names = refl;
+          permissions = λ small. small;
+        },
+        inl on,
+      );
+    })
+fair_answer state numbers seat (call.Sync fd datasync) sound least =
+    row_fair state _ sound (λ tree errno. (tt, refl)) (λ tree told fits. (fits, refl)) refl fd sync_row
+    (λ file node on. record { fits = tt; effect = tt })
+fair_answer state numbers seat (call.SyncFs fd) sound least =
+    row_fair state _ sound (λ tree errno. (tt, refl)) (λ tree told fits. (fits, refl)) refl fd sync_row
+    (λ file node on. record { fits = tt; effect = tt })
+fair_answer state numbers seat (call.Allocate fd mode offset size) sound least =
+    row_fair state _ sound (λ tree errno. (tt, refl)) (λ tree told fits.
+    (fits, refl)) refl fd (allocate_row state mode offset size)
+    (λ file node on. record {
+      fits = tt;
+      effect = lengthened_effect
+          (lengthens mode (size_of node.content) (offset + size)) state fd mode offset size value.Unit file node _ on
           (keeps_rewritten (time_of state) _ node);
     })
-fair_answer state numbers seat (call.MakeDir fd name mode) sound least = fair_make_dir state numbers seat fd name mode sound least
+fair_answer state numbers seat (call.MakeDir fd name mode) sound least =
+    fair_make_dir state numbers seat fd name mode sound least
 fair_answer state numbers seat (call.Reopen fd flags) sound least = fair_reopen state seat fd flags sound
 fair_answer state numbers seat (call.Close fd) sound least = fair_close state fd sound
 fair_answer state numbers seat (call.Stat fd) sound least = fair_stat state fd sound
-fair_answer state numbers seat (call.ReadAt fd offset size) sound least = row_fair state _ sound (λ tree errno. (tt, refl)) (λ tree told fits. (fits, refl)) refl fd (read_row state offset size)
+fair_answer state numbers seat (call.ReadAt fd offset size) sound least =
+    row_fair state _ sound (λ tree errno. (tt, refl)) (λ tree told fits.
+    (fits, refl)) refl fd (read_row state offset size)
     (λ file node on. record { fits = tt; effect = (keeps_reading (time_of state) node, inr refl) })
-fair_answer state numbers seat (call.MakeNode fd name mode rdev) sound least = fair_make_node state numbers seat fd name mode rdev sound least
-fair_answer state numbers seat (call.SymLink fd name target) sound least = fair_symlink state numbers seat fd name target sound least
+fair_answer state numbers seat (call.MakeNode fd name mode rdev) sound least =
+    fair_make_node state numbers seat fd name mode rdev sound least
+fair_answer state numbers seat (call.SymLink fd name target) sound least =
+    fair_symlink state numbers seat fd name target sound least
 fair_answer state numbers seat (call.Unlink fd name) sound least = fair_unlink state seat fd name sound
 fair_answer state numbers seat (call.RemoveDir fd name) sound least = fair_remove_dir state seat fd name sound
 fair_answer state numbers seat (call.OpenPath fd path flags) sound least = fair_open_path state seat fd path flags sound
 fair_answer state numbers seat (call.Edit edit) sound least = fair_edit state numbers edit sound least
-fair_answer state numbers seat (call.SetGroups list) sound least = fair_refused state (call.SetGroups list) enosys sound (tt, refl)
-fair_answer state numbers seat (call.SetEgid gid) sound least = fair_refused state (call.SetEgid gid) enosys sound (tt, refl)
-fair_answer state numbers seat (call.SetEuid uid) sound least = fair_refused state (call.SetEuid uid) enosys sound (tt, refl)
-fair_answer state numbers seat (call.RaiseCap caps) sound least = fair_refused state (call.RaiseCap caps) enosys sound (tt, refl)
-fair_answer state numbers seat (call.DropCap caps) sound least = fair_refused state (call.DropCap caps) enosys sound (tt, refl)
-fair_answer state numbers seat (call.SetUmask mask) sound least = fair_refused state (call.SetUmask mask) enosys sound (tt, refl)
-fair_answer state numbers seat (call.GetXattr fd through name size) sound least = row_fair state _ sound (λ tree errno. (tt, refl)) (λ tree told fits. (fits, refl)) refl fd (get_xattr_row through name size)
-    (λ file node on. record { fits = sized_fits (call.GetXattr fd through name size) size _ (λ none. none) (λ some. some); effect = tt })
-fair_answer state numbers seat (call.ListXattr fd through size) sound least = row_fair state _ sound (λ tree errno. (tt, refl)) (λ tree told fits. (fits, refl)) refl fd (list_xattr_row through size)
-    (λ file node on. record { fits = sized_fits (call.ListXattr fd through size) size _ (λ none. none) (λ some. some); effect = tt })
+fair_answer state numbers seat (call.SetGroups list) sound least =
+    fair_refused state (call.SetGroups list) enosys sound (tt, refl)
+fair_answer state numbers seat (call.SetEgid gid) sound least =
+    fair_refused state (call.SetEgid gid) enosys sound (tt, refl)
+fair_answer state numbers seat (call.SetEuid uid) sound least =
+    fair_refused state (call.SetEuid uid) enosys sound (tt, refl)
+fair_answer state numbers seat (call.RaiseCap caps) sound least =
+    fair_refused state (call.RaiseCap caps) enosys sound (tt, refl)
+fair_answer state numbers seat (call.DropCap caps) sound least =
+    fair_refused state (call.DropCap caps) enosys sound (tt, refl)
+fair_answer state numbers seat (call.SetUmask mask) sound least =
+    fair_refused state (call.SetUmask mask) enosys sound (tt, refl)
+fair_answer state numbers seat (call.GetXattr fd through name size) sound least =
+    row_fair state _ sound (λ tree errno. (tt, refl)) (λ tree told fits.
+    (fits, refl)) refl fd (get_xattr_row through name size)
+    (λ file node on. record {
+      fits = sized_fits (call.GetXattr fd through name size) size _ (λ none. none) (λ some. some);
+      effect = tt;
+    })
+fair_answer state numbers seat (call.ListXattr fd through size) sound least =
+    row_fair state _ sound (λ tree errno. (tt, refl)) (λ tree told fits.
+    (fits, refl)) refl fd (list_xattr_row through size)
+    (λ file node on. record {
+      fits = sized_fits (call.ListXattr fd through size) size _ (λ none. none) (λ some. some);
+      effect = tt;
+    })
 fair_answer state numbers seat (call.HandleOf fd) sound least = fair_handle_of state fd sound
 fair_answer state numbers seat (call.Seek fd offset whence) sound least = fair_seek state fd offset whence sound
 fair_answer state numbers seat (call.ListAt fd offset size) sound least = fair_list state fd offset size sound
 fair_answer state numbers seat (call.CopyRange fd offset fd2 offset2 size flags) sound least =
     fair_copy state seat fd offset fd2 offset2 size flags sound
 fair_answer state numbers seat (call.MakeLink from fd name) sound least = fair_make_link state seat from fd name sound
-fair_answer state numbers seat (call.OpenByHandle fd handle flags) sound least = fair_by_handle state seat fd handle flags sound
-fair_answer state numbers seat (call.OpenAt fd name flags mode) sound least = fair_open_at state numbers seat fd name flags mode sound least
-fair_answer state numbers seat (call.Rename fd name fd2 name2 flags) sound least = fair_rename state seat fd name fd2 name2 flags sound
+fair_answer state numbers seat (call.OpenByHandle fd handle flags) sound least =
+    fair_by_handle state seat fd handle flags sound
+fair_answer state numbers seat (call.OpenAt fd name flags mode) sound least =
+    fair_open_at state numbers seat fd name flags mode sound least
+fair_answer state numbers seat (call.Rename fd name fd2 name2 flags) sound least =
+    fair_rename state seat fd name fd2 name2 flags sound
 
 -- the seat's own calls leave the tree and what is beside it
-own_where : (tree : Tree) (asked : Call) (seat : HostSeat) (may : Bool) (errno : Errno) (after : HostSeat) → Changes tree asked (reply.Ok value.Unit) tree →
+own_where : (tree : Tree) (asked : Call) (seat : HostSeat) (may : Bool) (errno : Errno) (after : HostSeat) →
+    Changes tree asked (reply.Ok value.Unit) tree →
     Changes tree asked (reply.Refused errno) tree → Changes tree asked (if_allowed seat may errno after).0 tree
 own_where tree asked seat true errno after passes refuses = passes
 own_where tree asked seat false errno after passes refuses = refuses
 
-own_told : (tree : Tree) (asked : Call) (said told : Seated) → some_seated said ≡ some_seated told → Changes tree asked said.0 tree → Changes tree asked told.0 tree
-own_told tree asked said told is changes = subst (λ (s : Seated). Changes tree asked s.0 tree) (same_Some said told is) changes
+own_told : (tree : Tree) (asked : Call) (said told : Seated) → some_seated said ≡ some_seated told →
+    Changes tree asked said.0 tree → Changes tree asked told.0 tree
+own_told tree asked said told is changes =
+    subst (λ (s : Seated). Changes tree asked s.0 tree) (same_Some said told is) changes
 
-own_changes : (tree : Tree) (seat : HostSeat) (asked : Call) (told : Seated) → seat_answer seat asked ≡ Some told → Changes tree asked told.0 tree
+own_changes : (tree : Tree) (seat : HostSeat) (asked : Call) (told : Seated) → seat_answer seat asked ≡ Some told →
+    Changes tree asked told.0 tree
 own_changes tree seat (call.SetGroups list) told is =
-    own_told tree (call.SetGroups list) (if_allowed seat (may_set_groups seat list) (groups_errno seat) (with_groups seat list)) told is
-    (own_where tree (call.SetGroups list) seat (may_set_groups seat list) (groups_errno seat) (with_groups seat list) (tt, refl) (tt, refl))
+    own_told tree (call.SetGroups list)
+    (if_allowed seat (may_set_groups seat list) (groups_errno seat) (with_groups seat list)) told is
+    (own_where tree (call.SetGroups list) seat (may_set_groups seat list) (groups_errno seat) (with_groups seat list)
+    (tt, refl) (tt, refl))
 own_changes tree seat (call.SetEgid gid) told is =
     own_told tree (call.SetEgid gid) (if_allowed seat (may_set_egid seat gid) eperm (with_egid seat gid)) told is
     (own_where tree (call.SetEgid gid) seat (may_set_egid seat gid) eperm (with_egid seat gid) (tt, refl) (tt, refl))
@@ -144,7 +265,8 @@ own_changes tree seat (call.SetUmask mask) told is =
     own_told tree (call.SetUmask mask) (reply.Ok (value.Count seat.umask), with_umask seat mask) told is (tt, refl)
 own_changes tree seat asked told is = cc
 
-own_opens : (seat : HostSeat) (asked : Call) (told : Seated) → seat_answer seat asked ≡ Some told → opening_flags asked ≡ None
+own_opens : (seat : HostSeat) (asked : Call) (told : Seated) → seat_answer seat asked ≡ Some told →
+    opening_flags asked ≡ None
 own_opens seat (call.SetGroups list) told is = refl
 own_opens seat (call.SetEgid gid) told is = refl
 own_opens seat (call.SetEuid uid) told is = refl
@@ -162,11 +284,15 @@ contents_same state asked (reply.Ok told) opens = record {
   accesses = λ fd open_still. refl;
   begins = λ flags fd asks is. absurd (no_flags asked flags opens asks);
 }
-contents_same state asked (reply.Refused errno) opens = record { objects = λ object within. refl; descriptions = λ fd open_still. refl }
-contents_same state asked (reply.Fault errno) opens = record { objects = λ object within. refl; descriptions = λ fd open_still. refl }
-contents_same state asked reply.NoMemory opens = record { objects = λ object within. refl; descriptions = λ fd open_still. refl }
+contents_same state asked (reply.Refused errno) opens =
+    record { objects = λ object within. refl; descriptions = λ fd open_still. refl }
+contents_same state asked (reply.Fault errno) opens =
+    record { objects = λ object within. refl; descriptions = λ fd open_still. refl }
+contents_same state asked reply.NoMemory opens =
+    record { objects = λ object within. refl; descriptions = λ fd open_still. refl }
 
-own_path_only : (state : State) (seat : HostSeat) (asked : Call) (told : Seated) → seat_answer seat asked ≡ Some told → AsksPathOnly (tree_of state) asked → IsBadFd told.0
+own_path_only : (state : State) (seat : HostSeat) (asked : Call) (told : Seated) →
+    seat_answer seat asked ≡ Some told → AsksPathOnly (tree_of state) asked → IsBadFd told.0
 own_path_only state seat (call.SetGroups list) told is asks = absurd asks
 own_path_only state seat (call.SetEgid gid) told is asks = absurd asks
 own_path_only state seat (call.SetEuid uid) told is asks = absurd asks
@@ -177,13 +303,16 @@ own_path_only state seat asked told is asks = cc
 
 -- ---- a call that fails as planned
 
-failing_changes : (state : State) (asked : Call) (errno : Errno) → Changes (tree_of state) asked (reply.Fault errno) (tree_of (faulted (after_failing state asked)))
+failing_changes : (state : State) (asked : Call) (errno : Errno) →
+    Changes (tree_of state) asked (reply.Fault errno) (tree_of (faulted (after_failing state asked)))
 failing_changes state (call.Close fd) errno = closed_tree state fd (open_at state.slots fd.0) refl
 failing_changes state asked errno = refl
 
 failing_contents : (state : State) (asked : Call) →
-    KeepsAll (tree_of state) (contents_of state) (tree_of (faulted (after_failing state asked))) (contents_of (faulted (after_failing state asked)))
-failing_contents state (call.Close fd) = record { objects = λ object within. refl; descriptions = λ k open_still. closed_description state fd k open_still }
+    KeepsAll (tree_of state) (contents_of state) (tree_of (faulted (after_failing state asked)))
+    (contents_of (faulted (after_failing state asked)))
+failing_contents state (call.Close fd) =
+    record { objects = λ object within. refl; descriptions = λ k open_still. closed_description state fd k open_still }
 failing_contents state asked = record { objects = λ object within. refl; descriptions = λ k open_still. refl }
 
 faulted_sound : (state : State) → IsSound state → IsSound (faulted state)
@@ -214,8 +343,10 @@ pub record IsLawful (state : State) (seat : HostSeat) (asked : Call) (told : Out
   pub contents : LawfulContents (tree_of state) (contents_of state) asked told.0 (tree_of told.1) (contents_of told.1)
   pub sound : length told.1.nodes < 2 ^ 63 → IsSound told.1
 
-module _ (state : State) (seat : HostSeat) (asked : Call) (numbers : ℕ → ℕ) (sound : IsSound state) (least : AreLeastFree state numbers) where
-  lawful_outcome : (own : Option Seated) → seat_answer seat asked ≡ own → IsLawful state seat asked (outcome_where state numbers seat asked own)
+module _ (state : State) (seat : HostSeat) (asked : Call) (numbers : ℕ → ℕ) (sound : IsSound state)
+    (least : AreLeastFree state numbers) where
+  lawful_outcome : (own : Option Seated) → seat_answer seat asked ≡ own →
+      IsLawful state seat asked (outcome_where state numbers seat asked own)
   lawful_outcome (Some told) is = record {
     changes = own_changes (tree_of state) seat asked told is;
     seats = own_seat asked seat told is;
@@ -252,29 +383,41 @@ module _ (state : State) (seat : HostSeat) (asked : Call) (numbers : ℕ → ℕ
   }
 
   lawful_by : (failing : Option Errno) (given : HostReply) (after : State) (seat_after : HostSeat) →
-      AnswersCall failing state numbers seat asked given after seat_after → IsLawful state seat asked (made_outcome given after seat_after)
-  lawful_by (Some errno) given after seat_after told = subst (IsLawful state seat asked) (sym told) (lawful_failing errno)
-  lawful_by None given after seat_after (inl told) = subst (IsLawful state seat asked) (sym told) (lawful_outcome (seat_answer seat asked) refl)
-  lawful_by None given after seat_after (inr (takes, told)) = subst (IsLawful state seat asked) (sym told) (lawful_without_memory takes)
+      AnswersCall failing state numbers seat asked given after seat_after →
+      IsLawful state seat asked (made_outcome given after seat_after)
+  lawful_by (Some errno) given after seat_after told =
+      subst (IsLawful state seat asked) (sym told) (lawful_failing errno)
+  lawful_by None given after seat_after (inl told) =
+      subst (IsLawful state seat asked) (sym told) (lawful_outcome (seat_answer seat asked) refl)
+  lawful_by None given after seat_after (inr (takes, told)) =
+      subst (IsLawful state seat asked) (sym told) (lawful_without_memory takes)
 
 -- the law of a host that tells its tree
-pub does_lawful : (host : State) (seat : HostSeat) (asked : Call) (given : HostReply) (after : State) (seat_after : HostSeat) →
+pub does_lawful : (host : State) (seat : HostSeat) (asked : Call) (given : HostReply) (after : State)
+    (seat_after : HostSeat) →
     Does host seat asked given after seat_after → (before : Tree) → Some (tree_of host) ≡ Some before →
     (later : Tree) × (Some (tree_of after) ≡ Some later) × LawfulStep before seat asked given later seat_after
     × LawfulContents before (contents_of host) asked given later (contents_of after)
 does_lawful host seat asked given after seat_after does before told =
     let answers = does.answers in
-    let lawful = lawful_by host seat asked answers.numbers does.sound answers.least (failure_of host asked) given answers.state seat_after answers.answered in
+    let lawful = lawful_by host seat asked answers.numbers does.sound answers.least
+    (failure_of host asked) given answers.state seat_after answers.answered in
     let e : tree_of host ≡ before = same_Some (tree_of host) before told in
-    let few : length answers.state.nodes < 2 ^ 63 = subst (λ (s : State). length s.nodes < 2 ^ 63) answers.counts does.few in (
+    let few : length answers.state.nodes < 2 ^ 63 =
+    subst (λ (s : State). length s.nodes < 2 ^ 63) answers.counts does.few in (
       tree_of after,
       refl,
       subst (λ (tree : Tree). LawfulStep tree seat asked given (tree_of after) seat_after) e (record {
-        changes = subst (λ (s : State). Changes (tree_of host) asked given (tree_of s)) (sym answers.counts) lawful.changes;
+        changes = subst (λ (s : State).
+            Changes (tree_of host) asked given (tree_of s)) (sym answers.counts) lawful.changes;
         seats = lawful.seats;
         path_only = lawful.path_only;
-        well_formed = λ was. subst (λ (s : State). IsWellFormed (tree_of s)) (sym answers.counts) (well_formed answers.state (lawful.sound few));
+        well_formed = λ was.
+            subst (λ (s : State).
+            IsWellFormed (tree_of s)) (sym answers.counts) (well_formed answers.state (lawful.sound few));
       }),
       subst (λ (tree : Tree). LawfulContents tree (contents_of host) asked given (tree_of after) (contents_of after)) e
-          (subst (λ (s : State). LawfulContents (tree_of host) (contents_of host) asked given (tree_of s) (contents_of s)) (sym answers.counts) lawful.contents),
+          (subst (λ (s : State).
+          LawfulContents (tree_of host) (contents_of host) asked given (tree_of s) (contents_of s))
+          (sym answers.counts) lawful.contents),
     )

@@ -1,5 +1,6 @@
 -- Proof. `MakeLink`: what it leaves of the tree and beside it.
-use Rattle.std.proofs.Common.{◌≡◌, ◌<◌, ◌==◌, inl, inr, ℕ, false, not, List, map, Some, None, is_some, slice_get, refl, sym, ◌∙◌, subst}
+use Rattle.std.proofs.Common.{◌≡◌, ◌<◌, ◌==◌, inl, inr, ℕ, false, not, List, map, Some, None, is_some, slice_get}
+use Rattle.std.proofs.Common.{refl, sym, ◌∙◌, subst}
 use Rattle.std.proofs.lemmas.List.{length-map}
 use Rattle.std.proofs.lemmas.Option.{slice_get_within}
 use Rattle.pt_host.specs.Tree.{IsOpenOn}
@@ -31,13 +32,15 @@ module _ (now : Time) (dir : ℕ) (name : List ℕ) (object : ℕ) (nodes : List
   objects_linked : map object_of (linked now dir name object nodes) ≡ map object_of nodes
   objects_linked =
       objects-changed object (after_gaining now) (with_link now dir name object nodes) (λ node is. refl)
-      ∙ objects-changed dir (λ at. touched now (with_entry name object false false at)) nodes (λ node is. object_gained now name object false false node)
+      ∙ objects-changed dir (λ at. touched now (with_entry name object false false at)) nodes (λ node is.
+      object_gained now name object false false node)
 
 module _ (state : State) (seat : HostSeat) (from fd : Fd) (name : List ℕ) (sound : IsSound state) where
   link_refuses : (errno : Errno) → IsFair state (call.MakeLink from fd name) (refused state errno)
   link_refuses errno = fair_refused state (call.MakeLink from fd name) errno sound (tt, refl)
 
-  linked_fair : (file at : OpenFile) (dir : Node) → open_at state.slots from.0 ≡ Some file → open_at state.slots fd.0 ≡ Some at →
+  linked_fair : (file at : OpenFile) (dir : Node) → open_at state.slots from.0 ≡ Some file →
+      open_at state.slots fd.0 ≡ Some at →
       slice_get state.nodes at.object ≡ Some dir → name_refusal seat dir name ≡ None → there_in dir name ≡ None →
       IsFair state (call.MakeLink from fd name) (done (with_linked state at.object name file.object))
   linked_fair file at dir source is there asks free =
@@ -46,24 +49,29 @@ module _ (state : State) (seat : HostSeat) (from fd : Fd) (name : List ℕ) (sou
       let linked_on = open_there state from file source in
       let within = sound.opened from.0 file source in
       record {
-        sound = λ few. sound_linked state at.object name file.object sound into (inr (inr (from.0, file, source, refl))) within;
+        sound = λ few. sound_linked state at.object name file.object sound into
+            (inr (inr (from.0, file, source, refl))) within;
         changes = record {
           dir = at.object;
           object = file.object;
           opened = on;
           linked = linked_on;
           listed = (
-            subst (λ n. at.object < n) (sym (length-map state.nodes object_of)) (slice_get_within state.nodes at.object dir there),
+            subst (λ n. at.object
+                < n) (sym (length-map state.nodes object_of)) (slice_get_within state.nodes at.object dir there),
             subst (λ n. file.object < n) (sym (length-map state.nodes object_of)) within,
           );
           free = there_at state at.object dir name there ∙ free;
           links = same_tree _ _ _ _ _ _ (objects_linked (time_of state) at.object name file.object state.nodes)
               (names_linked (time_of state) at.object name file.object state.nodes into) refl;
         };
-        contents = keeps_others state (with_linked state at.object name file.object) (call.MakeLink from fd name) value.Unit refl refl
+        contents = keeps_others state (with_linked state at.object name file.object)
+            (call.MakeLink from fd name) value.Unit refl refl
             (λ o within none.
-            changed_other file.object _ (changed_at at.object _ state.nodes) o (λ e. none (inl (subst (IsOpenOn (tree_of state) from) (sym e) linked_on)))
-            ∙ changed_other at.object _ state.nodes o (λ e. none (inr (subst (IsOpenOn (tree_of state) fd) (sym e) on))));
+            changed_other file.object _ (changed_at at.object _ state.nodes) o (λ e.
+            none (inl (subst (IsOpenOn (tree_of state) from) (sym e) linked_on)))
+            ∙ changed_other at.object _ state.nodes o (λ e.
+            none (inr (subst (IsOpenOn (tree_of state) fd) (sym e) on))));
         allowed = λ faults. tt;
         faults = refl;
         fails = tt;
@@ -72,8 +80,10 @@ module _ (state : State) (seat : HostSeat) (from fd : Fd) (name : List ℕ) (sou
   pub fair_make_link : IsFair state (call.MakeLink from fd name) (make_link state seat from fd name)
   fair_make_link =
       by_fd state (IsFair state (call.MakeLink from fd name)) link_refuses from _
-      (λ file node source node_there. by_name state (IsFair state (call.MakeLink from fd name)) link_refuses seat fd name _
-      (λ at dir is there asks. by_checks state (IsFair state (call.MakeLink from fd name)) link_refuses (link_checks seat node dir name) _
+      (λ file node source node_there.
+      by_name state (IsFair state (call.MakeLink from fd name)) link_refuses seat fd name _
+      (λ at dir is there asks.
+      by_checks state (IsFair state (call.MakeLink from fd name)) link_refuses (link_checks seat node dir name) _
       (λ none. linked_fair file at dir source is there asks
       (none_there (there_in dir name) (passes_first (is_some (there_in dir name)) _ _
       (passes_first (node.nlink == 0) _ _ (passes_first (not (node.ids.mnt_id == dir.ids.mnt_id)) _ _

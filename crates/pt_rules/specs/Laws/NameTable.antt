@@ -21,20 +21,24 @@ twice : {A : Type 0} (b : Bool) (x y z : A) → cond b x z ≡ cond b x (cond b 
 twice true x y z = refl
 twice false x y z = refl
 
-swapped : {A : Type 0} (b c : Bool) (x y z : A) → (b ≡ true → c ≡ true → ⊥) → cond b x (cond c y z) ≡ cond c y (cond b x z)
+swapped : {A : Type 0} (b c : Bool) (x y z : A) → (b ≡ true → c ≡ true → ⊥) →
+    cond b x (cond c y z) ≡ cond c y (cond b x z)
 swapped true true x y z apart = absurd (apart refl refl)
 swapped true false x y z apart = refl
 swapped false true x y z apart = refl
 swapped false false x y z apart = refl
 
-found_at : (o : Ordering) (q name : List ℕ) (v : ℕ) (entry : List ℕ × ℕ) (more : List (List ℕ × ℕ)) → slice_cmp nat_cmp name entry.0 ≡ o →
+found_at : (o : Ordering) (q name : List ℕ) (v : ℕ) (entry : List ℕ × ℕ) (more : List (List ℕ × ℕ)) →
+    slice_cmp nat_cmp name entry.0 ≡ o →
     found q (named name v more) ≡ cond (bytes_eq name q) (Some v) (found q more) →
     found q (match_ordering o ((name, v) ∷ entry ∷ more) ((entry.0, v) ∷ more) (entry ∷ named name v more))
     ≡ cond (bytes_eq name q) (Some v) (found q (entry ∷ more))
-found_at Less q name v entry more is later = ap (λ b. cond b (Some v) (found q (entry ∷ more))) (nat_list_eq_equiv.symm q name)
+found_at Less q name v entry more is later =
+    ap (λ b. cond b (Some v) (found q (entry ∷ more))) (nat_list_eq_equiv.symm q name)
 found_at Equal q name v entry more is later =
     let same : bytes_eq name entry.0 ≡ true = sym (is_eq-slice_cmp name entry.0) ∙ ap is_eq is in
-    let test : bytes_eq q entry.0 ≡ bytes_eq name q = nat_list_eq_equiv.symm q entry.0 ∙ sym (nat_list_eq_equiv.congr name entry.0 q same) in
+    let test : bytes_eq q entry.0 ≡ bytes_eq name q =
+    nat_list_eq_equiv.symm q entry.0 ∙ sym (nat_list_eq_equiv.congr name entry.0 q same) in
     ap (λ b. cond b (Some v) (found q more)) test
     ∙ twice (bytes_eq name q) (Some v) (Some entry.1) (found q more)
     ∙ ap (λ b. cond (bytes_eq name q) (Some v) (cond b (Some entry.1) (found q more))) (sym test)
@@ -45,9 +49,11 @@ found_at Greater q name v entry more is later =
     (let e : bytes_eq name entry.0 ≡ true = nat_list_eq_equiv.congr name q entry.0 other ∙ one in
     let f : true ≡ false = sym e ∙ apart in cc))
 
-pub found-named : (q name : List ℕ) (v : ℕ) (names : List (List ℕ × ℕ)) → found q (named name v names) ≡ update bytes_eq (λ k. found k names) name (Some v) q
+pub found-named : (q name : List ℕ) (v : ℕ) (names : List (List ℕ × ℕ)) →
+    found q (named name v names) ≡ update bytes_eq (λ k. found k names) name (Some v) q
 found-named q name v [] = ap (λ b. cond b (Some v) None) (nat_list_eq_equiv.symm q name)
-found-named q name v (entry ∷ more) = found_at (slice_cmp nat_cmp name entry.0) q name v entry more refl (found-named q name v more)
+found-named q name v (entry ∷ more) =
+    found_at (slice_cmp nat_cmp name entry.0) q name v entry more refl (found-named q name v more)
 
 -- ---- taken away
 
@@ -56,34 +62,41 @@ distinct names ordered =
     subst (λ (eq : List ℕ → List ℕ → Bool). IsDistinct eq (keys_of names)) (λ k a b. is_eq-slice_cmp a b k)
     (IsDistinct-from_sorted (slice_cmp nat_cmp) (keys_of names) ordered)
 
-pub found-unnamed : (q name : List ℕ) (names : List (List ℕ × ℕ)) → AreOrdered names → found q (unnamed name names) ≡ update bytes_eq (λ k. found k names) name None q
+pub found-unnamed : (q name : List ℕ) (names : List (List ℕ × ℕ)) → AreOrdered names →
+    found q (unnamed name names) ≡ update bytes_eq (λ k. found k names) name None q
 found-unnamed q name names ordered =
-    lookup-remove_entry nat_list_eq_equiv (bytes_eq name) (λ x y same. nat_list_eq_equiv.congr name x y same) q names (distinct names ordered)
+    lookup-remove_entry nat_list_eq_equiv (bytes_eq name) (λ x y same.
+    nat_list_eq_equiv.congr name x y same) q names (distinct names ordered)
 
 -- ---- the order stays
 
-each_at : (P : List ℕ → Type 0) (o : Ordering) (name : List ℕ) (v : ℕ) (entry : List ℕ × ℕ) (more : List (List ℕ × ℕ)) → P name →
+each_at : (P : List ℕ → Type 0) (o : Ordering) (name : List ℕ) (v : ℕ) (entry : List ℕ
+    × ℕ) (more : List (List ℕ × ℕ)) → P name →
     AllByRecursion P (keys_of (entry ∷ more)) → AllByRecursion P (keys_of (named name v more)) →
-    AllByRecursion P (keys_of (match_ordering o ((name, v) ∷ entry ∷ more) ((entry.0, v) ∷ more) (entry ∷ named name v more)))
+    AllByRecursion P (keys_of
+    (match_ordering o ((name, v) ∷ entry ∷ more) ((entry.0, v) ∷ more) (entry ∷ named name v more)))
 each_at P Less name v entry more here each later = (here, each)
 each_at P Equal name v entry more here each later = each
 each_at P Greater name v entry more here each later = (each.0, later)
 
-each-named : (P : List ℕ → Type 0) (name : List ℕ) (v : ℕ) (names : List (List ℕ × ℕ)) → P name → AllByRecursion P (keys_of names) → AllByRecursion P (keys_of (named name v names))
+each-named : (P : List ℕ → Type 0) (name : List ℕ) (v : ℕ) (names : List (List ℕ × ℕ)) → P name →
+    AllByRecursion P (keys_of names) → AllByRecursion P (keys_of (named name v names))
 each-named P name v [] here each = (here, tt)
 each-named P name v (entry ∷ more) here each =
     each_at P (slice_cmp nat_cmp name entry.0) name v entry more here each (each-named P name v more here each.1)
 
-above : (low high : List ℕ) (keys : List (List ℕ)) → slice_cmp nat_cmp low high ≡ Less → AllByRecursion (λ k. slice_cmp nat_cmp high k ≡ Less) keys →
+above : (low high : List ℕ) (keys : List (List ℕ)) → slice_cmp nat_cmp low high ≡ Less →
+    AllByRecursion (λ k. slice_cmp nat_cmp high k ≡ Less) keys →
     AllByRecursion (λ k. slice_cmp nat_cmp low k ≡ Less) keys
 above low high [] less each = tt
-above low high (key ∷ keys) less each = (nat_list_cmp_total.trans low high key less each.0, above low high keys less each.1)
+above low high (key ∷ keys) less each =
+    (nat_list_cmp_total.trans low high key less each.0, above low high keys less each.1)
 
 turned : (a b : List ℕ) → slice_cmp nat_cmp a b ≡ Greater → slice_cmp nat_cmp b a ≡ Less
 turned a b greater = nat_list_cmp_total.antisymm b a ∙ ap ordering_reverse greater
 
-ordered_at : (o : Ordering) (name : List ℕ) (v : ℕ) (entry : List ℕ × ℕ) (more : List (List ℕ × ℕ)) → slice_cmp nat_cmp name entry.0 ≡ o →
-    AreOrdered (entry ∷ more) → AreOrdered (named name v more) →
+ordered_at : (o : Ordering) (name : List ℕ) (v : ℕ) (entry : List ℕ × ℕ) (more : List (List ℕ × ℕ)) →
+    slice_cmp nat_cmp name entry.0 ≡ o → AreOrdered (entry ∷ more) → AreOrdered (named name v more) →
     AreOrdered (match_ordering o ((name, v) ∷ entry ∷ more) ((entry.0, v) ∷ more) (entry ∷ named name v more))
 unfolding IsStrictlySortedBy
 ordered_at Less name v entry more is ordered later = ((is, above name entry.0 (keys_of more) is ordered.0), ordered)
@@ -91,22 +104,27 @@ ordered_at Equal name v entry more is ordered later = ordered
 ordered_at Greater name v entry more is ordered later =
     (each-named (λ k. slice_cmp nat_cmp entry.0 k ≡ Less) name v more (turned name entry.0 is) ordered.0, later)
 
-pub ordered-named : (name : List ℕ) (v : ℕ) (names : List (List ℕ × ℕ)) → AreOrdered names → AreOrdered (named name v names)
+pub ordered-named : (name : List ℕ) (v : ℕ) (names : List (List ℕ × ℕ)) → AreOrdered names →
+    AreOrdered (named name v names)
 unfolding IsStrictlySortedBy
 ordered-named name v [] ordered = (tt, tt)
 ordered-named name v (entry ∷ more) ordered =
     ordered_at (slice_cmp nat_cmp name entry.0) name v entry more refl ordered (ordered-named name v more ordered.1)
 
-kept_each : (P : List ℕ → Type 0) (b : Bool) (entry : List ℕ × ℕ) (more less : List (List ℕ × ℕ)) → AllByRecursion P (keys_of (entry ∷ more)) →
+kept_each : (P : List ℕ → Type 0) (b : Bool) (entry : List ℕ × ℕ) (more less : List (List ℕ × ℕ)) →
+    AllByRecursion P (keys_of (entry ∷ more)) →
     AllByRecursion P (keys_of less) → AllByRecursion P (keys_of (cond b more (entry ∷ less)))
 kept_each P true entry more less each later = each.1
 kept_each P false entry more less each later = (each.0, later)
 
-each-unnamed : (P : List ℕ → Type 0) (name : List ℕ) (names : List (List ℕ × ℕ)) → AllByRecursion P (keys_of names) → AllByRecursion P (keys_of (unnamed name names))
+each-unnamed : (P : List ℕ → Type 0) (name : List ℕ) (names : List (List ℕ × ℕ)) → AllByRecursion P (keys_of names) →
+    AllByRecursion P (keys_of (unnamed name names))
 each-unnamed P name [] each = tt
-each-unnamed P name (entry ∷ more) each = kept_each P (bytes_eq name entry.0) entry more (unnamed name more) each (each-unnamed P name more each.1)
+each-unnamed P name (entry ∷ more) each =
+    kept_each P (bytes_eq name entry.0) entry more (unnamed name more) each (each-unnamed P name more each.1)
 
-ordered_less : (b : Bool) (entry : List ℕ × ℕ) (more less : List (List ℕ × ℕ)) → AreOrdered (entry ∷ more) → AreOrdered less →
+ordered_less : (b : Bool) (entry : List ℕ × ℕ) (more less : List (List ℕ × ℕ)) → AreOrdered (entry ∷ more) →
+    AreOrdered less →
     AllByRecursion (λ k. slice_cmp nat_cmp entry.0 k ≡ Less) (keys_of less) → AreOrdered (cond b more (entry ∷ less))
 unfolding IsStrictlySortedBy
 ordered_less true entry more less ordered later each = ordered.1
@@ -115,5 +133,6 @@ ordered_less false entry more less ordered later each = (each, later)
 pub ordered-unnamed : (name : List ℕ) (names : List (List ℕ × ℕ)) → AreOrdered names → AreOrdered (unnamed name names)
 unfolding IsStrictlySortedBy
 ordered-unnamed name [] ordered = tt
-ordered-unnamed name (entry ∷ more) ordered = ordered_less (bytes_eq name entry.0) entry more (unnamed name more) ordered (ordered-unnamed name more ordered.1)
+ordered-unnamed name (entry ∷ more) ordered =
+    ordered_less (bytes_eq name entry.0) entry more (unnamed name more) ordered (ordered-unnamed name more ordered.1)
     (each-unnamed (λ k. slice_cmp nat_cmp entry.0 k ≡ Less) name more ordered.0)

@@ -1,5 +1,7 @@
 -- Proof. `OpenAt`: what a name leads to is opened, or a new object that is put under it.
-use Rattle.std.proofs.Common.{◌≡◌, ◌≢◌, ◌<◌, ◌==◌, ◌&&◌, ◌||◌, inl, inr, ℕ, Bool, true, false, not, cond, List, [], ◌∷◌, length, Option, Some, None, is_some, Result, Err, option_map, slice_get, refl, ap, sym, ◌∙◌, subst, arith}
+use Rattle.std.proofs.Common.{◌≡◌, ◌≢◌, ◌<◌, ◌==◌, ◌&&◌, ◌||◌, inl, inr, ℕ, Bool, true, false, not, cond, List, []}
+use Rattle.std.proofs.Common.{◌∷◌, length, Option, Some, None, is_some, Result, Err, option_map, slice_get, refl, ap}
+use Rattle.std.proofs.Common.{sym, ◌∙◌, subst, arith}
 use Rattle.std.specs.Int.RustNames.{bit_and}
 use Rattle.std.proofs.lemmas.Bool.{eqb-true}
 use Rattle.std.proofs.lemmas.List.{length-map}
@@ -40,7 +42,8 @@ use Rattle.pt_rules.specs.Laws.Fair.{IsFair, fair_refused, stays_same}
 use Rattle.pt_rules.specs.Laws.Finding.{found_name, name_lives, named_is}
 use Rattle.pt_rules.specs.Laws.NameFair.{asked_there, changed_other, small_masked, there_at}
 use Rattle.pt_rules.specs.Laws.OpenFair.{fair_open_walked, fair_opening, free_fd, new_description, same_description}
-use Rattle.pt_rules.specs.Laws.Opens.{errnos_apart, least_free-closed, missing_name, open_there, same_open, tree-with_descriptor}
+use Rattle.pt_rules.specs.Laws.Opens.{errnos_apart, least_free-closed, missing_name, open_there, same_open}
+use Rattle.pt_rules.specs.Laws.Opens.{tree-with_descriptor}
 use Rattle.pt_rules.specs.Laws.Outcomes.{Makes}
 use Rattle.pt_rules.specs.Laws.Soundness.{sound-with_descriptor}
 use Rattle.pt_node.specs.Laws.Updates.{get-push_apart, get-push_here}
@@ -65,9 +68,11 @@ neither false b is = (refl, is)
 
 -- ---- without `O_CREAT`
 
-module _ (state : State) (seat : HostSeat) (fd : Fd) (name : List ℕ) (flags : OpenFlags) (mode : ℕ) (sound : IsSound state)
+module _ (state : State) (seat : HostSeat) (fd : Fd) (name : List ℕ) (flags : OpenFlags) (mode : ℕ)
+    (sound : IsSound state)
     (plain : includes flags.0 o_creat ≡ false) where
-  missing_refused : (errno : Errno) → find_name state.nodes seat name (open_at state.slots fd.0) ≡ Err errno → RefusesName (tree_of state) fd name flags errno
+  missing_refused : (errno : Errno) → find_name state.nodes seat name (open_at state.slots fd.0) ≡ Err errno →
+      RefusesName (tree_of state) fd name flags errno
   missing_refused errno led = record {
     missing = λ _ same dir on.
         let held = same_open state fd dir on in
@@ -77,9 +82,11 @@ module _ (state : State) (seat : HostSeat) (fd : Fd) (name : List ℕ) (flags : 
     exists = λ new. absurd (not_both (includes flags.0 o_creat) (includes flags.0 o_excl) plain new);
   }
 
-  fair_found : IsFair state (call.OpenAt fd name flags mode) (open_walked state seat flags (find_name state.nodes seat name (open_at state.slots fd.0)))
+  fair_found : IsFair state (call.OpenAt fd name flags mode)
+      (open_walked state seat flags (find_name state.nodes seat name (open_at state.slots fd.0)))
   fair_found =
-      fair_open_walked state seat (call.OpenAt fd name flags mode) flags (find_name state.nodes seat name (open_at state.slots fd.0)) sound
+      fair_open_walked state seat (call.OpenAt fd name flags mode) flags
+      (find_name state.nodes seat name (open_at state.slots fd.0)) sound
       (λ errno led. (missing_refused errno led, refl))
       (λ object led. (
         name_lives state seat name object (open_at state.slots fd.0) led,
@@ -94,14 +101,20 @@ module _ (state : State) (seat : HostSeat) (fd : Fd) (name : List ℕ) (flags : 
           );
           passes = λ new after opens.
               let there = found_name state.nodes seat name object (open_at state.slots fd.0) led in
-              inl (object, ap (λ b. b && includes flags.0 o_excl) plain, (there.0.object, open_there state fd there.0 there.1, there.2), opens);
+              inl (
+                object,
+                ap (λ b. b && includes flags.0 o_excl) plain,
+                (there.0.object, open_there state fd there.0 there.1, there.2),
+                opens,
+              );
           fits = λ new. tt;
           empties = λ new after o e. inl e;
         },
       ))
 
   fair_named : IsFair state (call.OpenAt fd name flags mode) (open_named state seat fd name flags)
-  fair_named = subst (IsFair state (call.OpenAt fd name flags mode)) (sym (named_is state seat fd name flags)) fair_found
+  fair_named = subst (IsFair state (call.OpenAt fd name flags mode))
+      (sym (named_is state seat fd name flags)) fair_found
 
 -- ---- by `O_CREAT`, where the name is not there
 
@@ -109,17 +122,22 @@ module _ (state : State) (seat : HostSeat) (fd : Fd) (name : List ℕ) (flags : 
 holds_directory : (flags : ℕ) → includes flags o_tmpfile ≡ true → includes flags o_directory ≡ true
 holds_directory flags is =
     let whole : bit_and flags o_tmpfile ≡ o_tmpfile = eqb-true (bit_and flags o_tmpfile) o_tmpfile is in
-    let part : bit_and flags o_directory ≡ o_directory = sym (and_assoc o_directory flags o_tmpfile) ∙ ap (λ n. bit_and n o_directory) whole in
+    let part : bit_and flags o_directory ≡ o_directory =
+    sym (and_assoc o_directory flags o_tmpfile) ∙ ap (λ n. bit_and n o_directory) whole in
     ap (λ n. n == o_directory) part
 
-no_tmpfile_where : (tmpfile directory path : Bool) → (tmpfile ≡ true → directory ≡ true) → directory ≡ false → (tmpfile && not path) ≡ false
+no_tmpfile_where : (tmpfile directory path : Bool) → (tmpfile ≡ true → directory ≡ true) → directory ≡ false →
+    (tmpfile && not path) ≡ false
 no_tmpfile_where true directory path holds none = absurd (not_false directory (holds refl) none)
 no_tmpfile_where false directory path holds none = refl
 
-module _ (state : State) (numbers : ℕ → ℕ) (seat : HostSeat) (fd : Fd) (name : List ℕ) (flags : OpenFlags) (mode : ℕ) (sound : IsSound state)
+module _ (state : State) (numbers : ℕ → ℕ) (seat : HostSeat) (fd : Fd) (name : List ℕ) (flags : OpenFlags) (mode : ℕ)
+    (sound : IsSound state)
     (least : AreLeastFree state numbers) (creates : includes flags.0 o_creat ≡ true) (file : OpenFile) (parent : Node)
-    (is : open_at state.slots fd.0 ≡ Some file) (there : slice_get state.nodes file.object ≡ Some parent) (asks : name_refusal seat parent name ≡ None)
-    (free : there_in parent name ≡ None) (whole : (includes flags.0 o_tmpfile && not (includes flags.0 o_path)) ≡ false) where
+    (is : open_at state.slots fd.0 ≡ Some file) (there : slice_get state.nodes file.object
+    ≡ Some parent) (asks : name_refusal seat parent name ≡ None)
+    (free : there_in parent name ≡ None) (whole : (includes flags.0 o_tmpfile && not (includes flags.0 o_path))
+    ≡ false) where
   abbrev new_node : Node
   new_node = made state numbers (masked seat mode) seat.eff_uid seat.eff_gid 0 (Regular []) parent
 
@@ -134,10 +152,12 @@ module _ (state : State) (numbers : ℕ → ℕ) (seat : HostSeat) (fd : Fd) (na
   after_making = with_descriptor between flags new_place
 
   abbrev entered : List Node
-  entered = changed_at file.object (λ dir. touched (time_of state) (with_entry name new_place (is_directory new_node) false dir)) state.nodes
+  entered = changed_at file.object (λ dir.
+      touched (time_of state) (with_entry name new_place (is_directory new_node) false dir)) state.nodes
 
   length_entered : length entered ≡ new_place
-  length_entered = length-changed file.object (λ dir. touched (time_of state) (with_entry name new_place (is_directory new_node) false dir)) state.nodes
+  length_entered = length-changed file.object (λ dir.
+      touched (time_of state) (with_entry name new_place (is_directory new_node) false dir)) state.nodes
 
   into : is_directory_at state.nodes file.object ≡ true
   into = asked_there state seat file.object parent name there asks
@@ -166,11 +186,13 @@ module _ (state : State) (numbers : ℕ → ℕ) (seat : HostSeat) (fd : Fd) (na
       inr (inl (
         file.object,
         name,
-        ap (λ names. names file.object name) (names_grown (time_of state) file.object name new_node state.nodes into refl)
+        ap (λ names. names file.object name)
+            (names_grown (time_of state) file.object name new_node state.nodes into refl)
             ∙ led_here file.object name (Some new_place) (name_at state.nodes),
       ))
 
-  others_stay : (o : ℕ) → o < new_place → (o ≡ file.object → ⊥) → slice_get after_making.nodes o ≡ slice_get state.nodes o
+  others_stay : (o : ℕ) → o < new_place → (o ≡ file.object → ⊥) →
+      slice_get after_making.nodes o ≡ slice_get state.nodes o
   others_stay o within apart =
       get-push_apart entered new_node o (λ e. let long = length_entered in absurd (omega (arith, e, within, long)))
       ∙ changed_other file.object _ state.nodes o apart
@@ -178,7 +200,8 @@ module _ (state : State) (numbers : ℕ → ℕ) (seat : HostSeat) (fd : Fd) (na
   on_directory : IsOpenOn (tree_of state) fd file.object
   on_directory = open_there state fd file is
 
-  kept_elsewhere : (o : ℕ) → o < length (tree_of state).objects → ((includes flags.0 o_creat ≡ true) × IsOpenOn (tree_of state) fd o → ⊥) →
+  kept_elsewhere : (o : ℕ) → o < length (tree_of state).objects →
+      ((includes flags.0 o_creat ≡ true) × IsOpenOn (tree_of state) fd o → ⊥) →
       contents_where (slice_get after_making.nodes o) ≡ contents_where (slice_get state.nodes o)
   kept_elsewhere o within none =
       ap contents_where (others_stay o (subst (λ n. o < n) (length-map state.nodes object_of) within)
@@ -186,7 +209,8 @@ module _ (state : State) (numbers : ℕ → ℕ) (seat : HostSeat) (fd : Fd) (na
 
   opens_new : Opens (tree_of between) new_place flags (free_fd state) (tree_of after_making)
   opens_new = record {
-    listed = subst (λ n. new_place < n) (sym (length-map between.nodes object_of)) (slice_get_within between.nodes new_place new_node at_new);
+    listed = subst (λ n. new_place
+        < n) (sym (length-map between.nodes object_of)) (slice_get_within between.nodes new_place new_node at_new);
     fresh = ap (option_map opened_as) (least_free-closed state.slots);
     allowed = whole;
     adds = tree-with_descriptor between flags new_place;
@@ -197,18 +221,22 @@ module _ (state : State) (numbers : ℕ → ℕ) (seat : HostSeat) (fd : Fd) (na
     tree_of between,
     creates,
     (makes_object state numbers between does, (on_directory, refl)),
-    subst (λ n. Opens (tree_of between) n flags (free_fd state) (tree_of after_making)) (sym (length-map state.nodes object_of)) opens_new,
+    subst (λ n. Opens (tree_of between) n flags (free_fd state) (tree_of after_making))
+        (sym (length-map state.nodes object_of)) opens_new,
   )
 
   fair_made : IsFair state (call.OpenAt fd name flags mode) (tells after_making (value.Fd (free_fd state)))
   fair_made = record {
-    sound = λ few. sound-with_descriptor between seat flags new_place new_node (sound_makes state numbers between sound least few does) at_new new_lives;
+    sound = λ few. sound-with_descriptor between seat flags new_place new_node
+        (sound_makes state numbers between sound least few does) at_new new_lives;
     changes = inr opens_made;
     contents = record {
       objects = λ o within none. stays_same _ _ (kept_elsewhere o within (λ on. none (inr on)));
       openings = λ asked_flags o asked within none. kept_elsewhere o within (λ on. none (inr on));
-      positions = λ k open_still none. ap (λ d. d.position) (same_description between seat flags new_place new_node k open_still);
-      accesses = λ k open_still. ap (λ d. d.access) (same_description between seat flags new_place new_node k open_still);
+      positions = λ k open_still none.
+          ap (λ d. d.position) (same_description between seat flags new_place new_node k open_still);
+      accesses = λ k open_still.
+          ap (λ d. d.access) (same_description between seat flags new_place new_node k open_still);
       begins = λ asked_flags new asked told.
           new_description between seat flags new_place new_node new told ∙ ap begun (same_Some flags asked_flags asked);
     };
@@ -219,7 +247,8 @@ module _ (state : State) (numbers : ℕ → ℕ) (seat : HostSeat) (fd : Fd) (na
 
 -- ---- by `O_CREAT`
 
-module _ (state : State) (numbers : ℕ → ℕ) (seat : HostSeat) (fd : Fd) (name : List ℕ) (flags : OpenFlags) (mode : ℕ) (sound : IsSound state)
+module _ (state : State) (numbers : ℕ → ℕ) (seat : HostSeat) (fd : Fd) (name : List ℕ) (flags : OpenFlags) (mode : ℕ)
+    (sound : IsSound state)
     (least : AreLeastFree state numbers) (creates : includes flags.0 o_creat ≡ true) where
   other_refused : (errno : Errno) → errno ≢ eexist → IsFair state (call.OpenAt fd name flags mode) (refused state errno)
   other_refused errno apart =
@@ -232,7 +261,8 @@ module _ (state : State) (numbers : ℕ → ℕ) (seat : HostSeat) (fd : Fd) (na
       )
 
   -- the name is there
-  exists_refused : (file : OpenFile) (dir : Node) (object : ℕ) → open_at state.slots fd.0 ≡ Some file → slice_get state.nodes file.object ≡ Some dir →
+  exists_refused : (file : OpenFile) (dir : Node) (object : ℕ) → open_at state.slots fd.0 ≡ Some file →
+      slice_get state.nodes file.object ≡ Some dir →
       there_in dir name ≡ Some object → IsFair state (call.OpenAt fd name flags mode) (refused state eexist)
   exists_refused file dir object is there held =
       fair_refused state (call.OpenAt fd name flags mode) eexist sound (
@@ -241,19 +271,25 @@ module _ (state : State) (numbers : ℕ → ℕ) (seat : HostSeat) (fd : Fd) (na
           exists = λ new same at on.
               let opened = same_open state fd at on in
               let same_file : file ≡ opened.0 = same_Some file opened.0 (sym is ∙ opened.1) in
-              let place : file.object ≡ at = ap (λ (f : OpenFile). f.object) same_file ∙ opened.2 in
-              (object, ap (λ d. name_at state.nodes d name) (sym place) ∙ there_at state file.object dir name there ∙ held);
+              let place : file.object ≡ at = ap (λ (f : OpenFile). f.object) same_file ∙ opened.2 in (
+                object,
+                ap (λ d. name_at state.nodes d name) (sym place) ∙ there_at state file.object dir name there
+                    ∙ held,
+              );
         },
         refl,
       )
 
   -- what is there is opened
-  fair_existing : (file : OpenFile) (dir : Node) (object : ℕ) → open_at state.slots fd.0 ≡ Some file → slice_get state.nodes file.object ≡ Some dir →
+  fair_existing : (file : OpenFile) (dir : Node) (object : ℕ) → open_at state.slots fd.0 ≡ Some file →
+      slice_get state.nodes file.object ≡ Some dir →
       there_in dir name ≡ Some object → includes flags.0 o_excl ≡ false →
-      IsFair state (call.OpenAt fd name flags mode) (create_or_open state numbers seat flags mode file.object dir name (Some object))
+      IsFair state (call.OpenAt fd name flags mode)
+      (create_or_open state numbers seat flags mode file.object dir name (Some object))
   fair_existing file dir object is there held shared =
       let leads = there_at state file.object dir name there ∙ held in
-      fair_opening state seat (call.OpenAt fd name flags mode) flags object sound (inr (inl (file.object, name, leads))) (record {
+      fair_opening state seat (call.OpenAt fd name flags mode) flags object sound
+      (inr (inl (file.object, name, leads))) (record {
         asks = refl;
         refuses = λ errno apart. (
           record {
@@ -263,30 +299,46 @@ module _ (state : State) (numbers : ℕ → ℕ) (seat : HostSeat) (fd : Fd) (na
           refl,
         );
         passes = λ new after opens.
-            inl (object, ap (λ b. b && includes flags.0 o_excl) creates ∙ shared, (file.object, open_there state fd file is, leads), opens);
+            inl (
+              object,
+              ap (λ b. b && includes flags.0 o_excl) creates
+                  ∙ shared,
+              (file.object, open_there state fd file is, leads),
+              opens,
+            );
         fits = λ new. tt;
         empties = λ new after o e. inl e;
       })
 
-  fair_new_file : (file : OpenFile) (dir : Node) → open_at state.slots fd.0 ≡ Some file → slice_get state.nodes file.object ≡ Some dir →
+  fair_new_file : (file : OpenFile) (dir : Node) → open_at state.slots fd.0 ≡ Some file →
+      slice_get state.nodes file.object ≡ Some dir →
       name_refusal seat dir name ≡ None → there_in dir name ≡ None → includes flags.0 o_directory ≡ false →
-      IsFair state (call.OpenAt fd name flags mode) (create_or_open state numbers seat flags mode file.object dir name None)
+      IsFair state (call.OpenAt fd name flags mode)
+      (create_or_open state numbers seat flags mode file.object dir name None)
   fair_new_file file dir is there asks free none =
-      by_other_checks state (IsFair state (call.OpenAt fd name flags mode)) eexist other_refused (created_checks seat dir flags.0) _
+      by_other_checks state (IsFair state (call.OpenAt fd name flags mode)) eexist other_refused
+      (created_checks seat dir flags.0) _
       (errnos_apart 13 17 refl, (errnos_apart 22 17 refl, tt))
       (λ _. fair_made state numbers seat fd name flags mode sound least creates file dir is there asks free
-      (no_tmpfile_where (includes flags.0 o_tmpfile) (includes flags.0 o_directory) (includes flags.0 o_path) (holds_directory flags.0) none))
+      (no_tmpfile_where (includes flags.0 o_tmpfile) (includes flags.0 o_directory) (includes flags.0 o_path)
+      (holds_directory flags.0) none))
 
-  creates_or_opens : (file : OpenFile) (dir : Node) → open_at state.slots fd.0 ≡ Some file → slice_get state.nodes file.object ≡ Some dir →
+  creates_or_opens : (file : OpenFile) (dir : Node) → open_at state.slots fd.0 ≡ Some file →
+      slice_get state.nodes file.object ≡ Some dir →
       name_refusal seat dir name ≡ None → (held : Option ℕ) → there_in dir name ≡ held → (misfits excludes : Bool) →
       (includes flags.0 o_path || includes flags.0 o_directory) ≡ misfits → includes flags.0 o_excl ≡ excludes →
       IsFair state (call.OpenAt fd name flags mode)
-      (checked state ((misfits, einval) ∷ (is_some held && excludes, eexist) ∷ []) (create_or_open state numbers seat flags mode file.object dir name held))
-  creates_or_opens file dir is there asks held at true excludes misfits shares = other_refused einval (errnos_apart 22 17 refl)
-  creates_or_opens file dir is there asks (Some object) at false true misfits shares = exists_refused file dir object is there at
-  creates_or_opens file dir is there asks (Some object) at false false misfits shares = fair_existing file dir object is there at shares
+      (checked state ((misfits, einval) ∷ (is_some held && excludes, eexist)
+      ∷ []) (create_or_open state numbers seat flags mode file.object dir name held))
+  creates_or_opens file dir is there asks held at true excludes misfits shares =
+      other_refused einval (errnos_apart 22 17 refl)
+  creates_or_opens file dir is there asks (Some object) at false true misfits shares =
+      exists_refused file dir object is there at
+  creates_or_opens file dir is there asks (Some object) at false false misfits shares =
+      fair_existing file dir object is there at shares
   creates_or_opens file dir is there asks None at false excludes misfits shares =
-      fair_new_file file dir is there asks at (neither (includes flags.0 o_path) (includes flags.0 o_directory) misfits).1
+      fair_new_file file dir is there asks at
+      (neither (includes flags.0 o_path) (includes flags.0 o_directory) misfits).1
 
   fair_creating : IsFair state (call.OpenAt fd name flags mode) (open_creating state numbers seat fd name flags mode)
   fair_creating =
@@ -296,7 +348,8 @@ module _ (state : State) (numbers : ℕ → ℕ) (seat : HostSeat) (fd : Fd) (na
       (λ file dir is there asks. creates_or_opens file dir is there asks (there_in dir name) refl
       (includes flags.0 o_path || includes flags.0 o_directory) (includes flags.0 o_excl) refl refl)
 
-module _ (state : State) (numbers : ℕ → ℕ) (seat : HostSeat) (fd : Fd) (name : List ℕ) (flags : OpenFlags) (mode : ℕ) (sound : IsSound state)
+module _ (state : State) (numbers : ℕ → ℕ) (seat : HostSeat) (fd : Fd) (name : List ℕ) (flags : OpenFlags) (mode : ℕ)
+    (sound : IsSound state)
     (least : AreLeastFree state numbers) where
   fair_where : (creates : Bool) → includes flags.0 o_creat ≡ creates →
       IsFair state (call.OpenAt fd name flags mode)

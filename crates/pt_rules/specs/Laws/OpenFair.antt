@@ -1,5 +1,7 @@
 -- Proof. Openings and closings: what they leave of the tree and beside it.
-use Rattle.std.proofs.Common.{◌≡◌, ◌≢◌, ◌<◌, ◌/◌, ◌+◌, ◌*◌, ◌⊎◌, inl, inr, ℕ, Bool, true, false, not, ◌&&◌, cond, eqb, ◌==◌, List, [], ◌∷◌, Option, Some, None, Result, Ok, Err, option_map, slice_get, refl, ap, sym, ◌∙◌, subst, arith}
+use Rattle.std.proofs.Common.{◌≡◌, ◌≢◌, ◌<◌, ◌/◌, ◌+◌, ◌*◌, ◌⊎◌, inl, inr, ℕ, Bool, true, false, not, ◌&&◌, cond, eqb}
+use Rattle.std.proofs.Common.{◌==◌, List, [], ◌∷◌, Option, Some, None, Result, Ok, Err, option_map, slice_get, refl}
+use Rattle.std.proofs.Common.{ap, sym, ◌∙◌, subst, arith}
 use Rattle.std.proofs.lemmas.Bool.Decides.{eqb_tells}
 use Rattle.std.proofs.lemmas.List.{length-map}
 use Rattle.std.proofs.lemmas.Option.{same_Some, slice_get_within, slice_get-map}
@@ -19,7 +21,8 @@ use Rattle.pt_host.specs.declared.op.KeptHostOp.TheVariants as call
 use Rattle.pt_host.specs.declared.reply.HostReply.TheVariants as reply
 use Rattle.pt_host.specs.declared.reply.HostValue.TheVariants as value
 use Rattle.pt_node.specs.Paths.{parts, walk, walk_root, walk_from}
-use Rattle.pt_rules.specs.Calls.{begun_on, checked, close_file, done, on_slot, opening, opening_of, open_walked, refused, reopen, tell_status, tells, unless, with_opened}
+use Rattle.pt_rules.specs.Calls.{begun_on, checked, close_file, done, on_slot, opening, opening_of, open_walked}
+use Rattle.pt_rules.specs.Calls.{refused, reopen, tell_status, tells, unless, with_opened}
 use Rattle.pt_rules.specs.Holds.{HasName, HasHold}
 use Rattle.pt_rules.specs.OpeningCalls.{open_path}
 use Rattle.pt_node.specs.Node.{kind_number, object_of, status_of}
@@ -34,7 +37,8 @@ use Rattle.pt_node.specs.declared.slots.Slot.TheVariants.{Free, Open}
 use Rattle.pt_rules.specs.Laws.Cases.{by_checks, by_fd}
 use Rattle.pt_rules.specs.Laws.Fair.{IsFair, fair_refused, fair_same, stays_same}
 use Rattle.pt_rules.specs.Laws.Finding.{root_lives, walk_lives}
-use Rattle.pt_rules.specs.Laws.Opens.{closed_tree, errnos_apart, least_free-closed, open_there, opening_allowed, opening_refused, opened-closed, tree-with_opened}
+use Rattle.pt_rules.specs.Laws.Opens.{closed_tree, errnos_apart, least_free-closed, open_there, opening_allowed}
+use Rattle.pt_rules.specs.Laws.Opens.{opening_refused, opened-closed, tree-with_opened}
 use Rattle.pt_rules.specs.Laws.SlotTable.{least_free-le-length}
 use Rattle.pt_rules.specs.Laws.Soundness.{sound-closed, sound-with_opened}
 use Rattle.pt_node.specs.Laws.Updates.{get-put_apart, get-put_here, get-set_apart, get-set_here}
@@ -43,9 +47,11 @@ use Rattle.pt_node.specs.Laws.Updates.{get-put_apart, get-put_here, get-set_apar
 pub record OpensBy (state : State) (asked : Call) (flags : OpenFlags) (object : ℕ) : Type 0 where
   pub asks : opening_flags asked ≡ Some flags
   pub refuses : (errno : Errno) → errno ≢ enoent → Changes (tree_of state) asked (reply.Refused errno) (tree_of state)
-  pub passes : (fd : Fd) (after : Tree) → Opens (tree_of state) object flags fd after → Changes (tree_of state) asked (reply.Ok (value.Fd fd)) after
+  pub passes : (fd : Fd) (after : Tree) → Opens (tree_of state) object flags fd after →
+      Changes (tree_of state) asked (reply.Ok (value.Fd fd)) after
   pub fits : (fd : Fd) → FitsCall asked (value.Fd fd)
-  pub empties : (fd : Fd) (after : Tree) (o : ℕ) → Empties flags fd after o → MayChange (tree_of state) asked (value.Fd fd) after o
+  pub empties : (fd : Fd) (after : Tree) (o : ℕ) → Empties flags fd after o →
+      MayChange (tree_of state) asked (value.Fd fd) after o
 
 -- the object stays as it is where it is not emptied
 opened_kept : (seat : HostSeat) (state : State) (flags : OpenFlags) (node : Node) (empties : Bool) →
@@ -64,27 +70,36 @@ module _ (state : State) (seat : HostSeat) (flags : OpenFlags) (object : ℕ) (n
   opened_after = with_opened state seat flags object node
 
   pub new_open : open_at opened_after.slots (least_free state.slots) ≡ Some (begun_on flags object)
-  new_open = ap file_of (get-put_here (least_free state.slots) (Open (begun_on flags object)) state.slots (least_free-le-length state.slots))
+  new_open = ap file_of
+      (get-put_here (least_free state.slots) (Open (begun_on flags object)) state.slots
+      (least_free-le-length state.slots))
 
   -- what was open is another descriptor
   other_open : (k : ℕ) → StaysOpen (tree_of state) (tree_of opened_after) k → k ≢ least_free state.slots
   other_open k (opened_before, is, is_still) same =
-      (let e : Some opened_before ≡ None = sym is ∙ ap (λ j. option_map opened_as (open_at state.slots j)) same ∙ ap (option_map opened_as) (least_free-closed state.slots) in cc)
+      (let e : Some opened_before ≡ None =
+      sym is ∙ ap (λ j. option_map opened_as (open_at state.slots j)) same
+      ∙ ap (option_map opened_as) (least_free-closed state.slots) in cc)
 
   pub same_description : (k : ℕ) → StaysOpen (tree_of state) (tree_of opened_after) k →
       description_where (open_at opened_after.slots k) ≡ description_where (open_at state.slots k)
   same_description k open_still =
-      ap (λ slot. description_where (file_of slot)) (get-put_apart (least_free state.slots) (Open (begun_on flags object)) state.slots k (other_open k open_still))
+      ap (λ slot. description_where (file_of slot))
+      (get-put_apart (least_free state.slots) (Open (begun_on flags object)) state.slots k
+      (other_open k open_still))
 
   -- the new one begins as it is asked
   pub new_description : (fd : Fd) → value.Fd (free_fd state) ≡ value.Fd fd →
       description_where (open_at opened_after.slots fd.0) ≡ begun flags
   new_description fd is =
       let place : free_fd state ≡ fd = cc in
-      subst (λ (f : Fd). description_where (open_at opened_after.slots f.0) ≡ begun flags) place (ap description_where new_open)
+      subst (λ (f : Fd). description_where (open_at opened_after.slots f.0)
+      ≡ begun flags) place (ap description_where new_open)
 
-module _ (state : State) (seat : HostSeat) (asked : Call) (flags : OpenFlags) (object : ℕ) (node : Node) (sound : IsSound state)
-    (there : slice_get state.nodes object ≡ Some node) (lives : HasHold state object) (by : OpensBy state asked flags object) where
+module _ (state : State) (seat : HostSeat) (asked : Call) (flags : OpenFlags) (object : ℕ) (node : Node)
+    (sound : IsSound state)
+    (there : slice_get state.nodes object
+    ≡ Some node) (lives : HasHold state object) (by : OpensBy state asked flags object) where
   abbrev after : State
   after = with_opened state seat flags object node
 
@@ -92,18 +107,29 @@ module _ (state : State) (seat : HostSeat) (asked : Call) (flags : OpenFlags) (o
       contents_where (slice_get after.nodes o) ≡ contents_where (slice_get state.nodes o)
   opened_object o none = elim (eqb_tells o object) [
     | inl e ↦ ap contents_where (ap (slice_get after.nodes) e.1
-        ∙ get-set_here state.nodes object (after_opening seat (time_of state) flags.0 node) (slice_get_within state.nodes object node there)
-        ∙ ap (λ n. Some n) (opened_kept seat state flags node (includes flags.0 o_trunc && not (includes flags.0 o_path)) refl
-        (λ is. none (by.empties (free_fd state) (tree_of after) o (is, (opened_as (begun_on flags object), ap (option_map opened_as) (new_open state seat flags object node), sym e.1)))))
+        ∙ get-set_here state.nodes object (after_opening seat (time_of state) flags.0 node)
+        (slice_get_within state.nodes object node there)
+        ∙ ap (λ n. Some n) (opened_kept seat state flags node (includes flags.0 o_trunc
+        && not (includes flags.0 o_path)) refl
+        (λ is. none (by.empties (free_fd state) (tree_of after) o (
+          is,
+          (
+            opened_as (begun_on flags object),
+            ap (option_map opened_as) (new_open state seat flags object node),
+            sym e.1,
+          ),
+        ))))
         ∙ sym (ap (slice_get state.nodes) e.1 ∙ there))
-    | inr apart ↦ ap contents_where (get-set_apart state.nodes object (after_opening seat (time_of state) flags.0 node) o apart.1)
+    | inr apart ↦ ap contents_where
+        (get-set_apart state.nodes object (after_opening seat (time_of state) flags.0 node) o apart.1)
   ]
 
   opened_fair : opening_refusal seat node flags.0 ≡ None → IsFair state asked (tells after (value.Fd (free_fd state)))
   opened_fair none = record {
     sound = λ few. sound-with_opened state seat flags object node sound there lives;
     changes = by.passes (free_fd state) (tree_of after) (record {
-      listed = subst (λ n. object < n) (sym (length-map state.nodes object_of)) (slice_get_within state.nodes object node there);
+      listed = subst (λ n. object
+          < n) (sym (length-map state.nodes object_of)) (slice_get_within state.nodes object node there);
       fresh = ap (option_map opened_as) (least_free-closed state.slots);
       allowed = opening_allowed seat node flags.0 none;
       adds = tree-with_opened state seat flags object node there;
@@ -114,34 +140,43 @@ module _ (state : State) (seat : HostSeat) (asked : Call) (flags : OpenFlags) (o
       positions = λ k open_still may. ap (λ d. d.position) (same_description state seat flags object node k open_still);
       accesses = λ k open_still. ap (λ d. d.access) (same_description state seat flags object node k open_still);
       begins = λ asked_flags new asks is.
-          new_description state seat flags object node new is ∙ ap begun (same_Some flags asked_flags (sym by.asks ∙ asks));
+          new_description state seat flags object node new is
+          ∙ ap begun (same_Some flags asked_flags (sym by.asks ∙ asks));
     };
     allowed = λ faults. by.fits (free_fd state);
     faults = refl;
     fails = tt;
   }
 
-  fair_unless : (refusal : Option Errno) → opening_refusal seat node flags.0 ≡ refusal → IsFair state asked (unless state refusal (tells after (value.Fd (free_fd state))))
+  fair_unless : (refusal : Option Errno) → opening_refusal seat node flags.0 ≡ refusal →
+      IsFair state asked (unless state refusal (tells after (value.Fd (free_fd state))))
   fair_unless None is = opened_fair is
-  fair_unless (Some errno) is = fair_refused state asked errno sound (by.refuses errno (opening_refused seat node flags.0 errno is))
+  fair_unless (Some errno) is =
+      fair_refused state asked errno sound (by.refuses errno (opening_refused seat node flags.0 errno is))
 
-fair_opening_of : (state : State) (seat : HostSeat) (asked : Call) (flags : OpenFlags) (object : ℕ) (node : Option Node) → IsSound state →
-    slice_get state.nodes object ≡ node → HasHold state object → OpensBy state asked flags object → IsFair state asked (opening_of state seat flags object node)
-fair_opening_of state seat asked flags object None sound is lives by = fair_refused state asked eio sound (by.refuses eio (errnos_apart 5 2 refl))
+fair_opening_of : (state : State) (seat : HostSeat) (asked : Call) (flags : OpenFlags) (object : ℕ)
+    (node : Option Node) → IsSound state →
+    slice_get state.nodes object ≡ node → HasHold state object → OpensBy state asked flags object →
+    IsFair state asked (opening_of state seat flags object node)
+fair_opening_of state seat asked flags object None sound is lives by =
+    fair_refused state asked eio sound (by.refuses eio (errnos_apart 5 2 refl))
 fair_opening_of state seat asked flags object (Some node) sound is lives by =
     fair_unless state seat asked flags object node sound is lives by (opening_refusal seat node flags.0) refl
 
 -- the opening of an object that lives
-pub fair_opening : (state : State) (seat : HostSeat) (asked : Call) (flags : OpenFlags) (object : ℕ) → IsSound state → HasHold state object →
-    OpensBy state asked flags object → IsFair state asked (opening state seat flags object)
+pub fair_opening : (state : State) (seat : HostSeat) (asked : Call) (flags : OpenFlags) (object : ℕ) → IsSound state →
+    HasHold state object → OpensBy state asked flags object → IsFair state asked (opening state seat flags object)
 fair_opening state seat asked flags object sound lives by =
     fair_opening_of state seat asked flags object (slice_get state.nodes object) sound refl lives by
 
 -- the opening of what was found
-pub fair_open_walked : (state : State) (seat : HostSeat) (asked : Call) (flags : OpenFlags) (led : Result ℕ Errno) → IsSound state →
+pub fair_open_walked : (state : State) (seat : HostSeat) (asked : Call) (flags : OpenFlags) (led : Result ℕ Errno) →
+    IsSound state →
     ((errno : Errno) → led ≡ Err errno → Changes (tree_of state) asked (reply.Refused errno) (tree_of state)) →
-    ((object : ℕ) → led ≡ Ok object → HasHold state object × OpensBy state asked flags object) → IsFair state asked (open_walked state seat flags led)
-fair_open_walked state seat asked flags (Err errno) sound refuses leads = fair_refused state asked errno sound (refuses errno refl)
+    ((object : ℕ) → led ≡ Ok object → HasHold state object × OpensBy state asked flags object) →
+    IsFair state asked (open_walked state seat flags led)
+fair_open_walked state seat asked flags (Err errno) sound refuses leads =
+    fair_refused state asked errno sound (refuses errno refl)
 fair_open_walked state seat asked flags (Ok object) sound refuses leads =
     fair_opening state seat asked flags object sound (leads object refl).0 (leads object refl).1
 
@@ -150,7 +185,8 @@ fair_open_walked state seat asked flags (Ok object) sound refuses leads =
 pub fair_root : (state : State) (seat : HostSeat) (path : List ℕ) (flags : OpenFlags) → IsSound state →
     IsFair state (call.OpenRoot path flags) (open_walked state seat flags (walk_root state.nodes path))
 fair_root state seat path flags sound =
-    fair_open_walked state seat (call.OpenRoot path flags) flags (walk_root state.nodes path) sound (λ errno is. (tt, refl))
+    fair_open_walked state seat (call.OpenRoot path flags) flags (walk_root state.nodes path) sound (λ errno is.
+    (tt, refl))
     (λ object is. (
       root_lives state path object is,
       record {
@@ -170,10 +206,16 @@ module _ (state : State) (seat : HostSeat) (fd : Fd) (flags : OpenFlags) (sound 
 
   fair_reopened : (file : Option OpenFile) → open_at state.slots fd.0 ≡ file →
       IsFair state (call.Reopen fd flags)
-      (on_slot state file (λ held. checked state ((includes flags.0 o_creat && includes flags.0 o_excl, eexist) ∷ []) (opening state seat flags held.object)))
+      (on_slot state file (λ held.
+      checked state ((includes flags.0 o_creat && includes flags.0 o_excl, eexist)
+      ∷ []) (opening state seat flags held.object)))
   fair_reopened None is = reopen_refuses ebadf
   fair_reopened (Some file) is =
-      by_checks state (IsFair state (call.Reopen fd flags)) reopen_refuses ((includes flags.0 o_creat && includes flags.0 o_excl, eexist) ∷ []) _
+      by_checks state (IsFair state (call.Reopen fd flags)) reopen_refuses ((
+        includes flags.0 o_creat
+            && includes flags.0 o_excl,
+        eexist,
+      ) ∷ []) _
       (λ none. fair_opening state seat (call.Reopen fd flags) flags file.object sound (inr (inr (fd.0, file, is, refl)))
       (record {
         asks = refl;
@@ -192,16 +234,19 @@ set_none : (k : ℕ) (f : ℕ → Option Opened) (i : ℕ) → eqb i k ≡ true 
 unfolding set_at
 set_none k f i same = ap (λ b. cond b None (f i)) same
 
-closed_other : (file : Option OpenFile) (fd : ℕ) (slots : List Slot) (k : ℕ) → k ≢ fd → open_at (closed_where file fd slots) k ≡ open_at slots k
+closed_other : (file : Option OpenFile) (fd : ℕ) (slots : List Slot) (k : ℕ) → k ≢ fd →
+    open_at (closed_where file fd slots) k ≡ open_at slots k
 closed_other None fd slots k apart = refl
 closed_other (Some file) fd slots k apart = ap file_of (get-set_apart slots fd Free k apart)
 
 -- a descriptor that was open and is so after a closing is another one
-pub closed_description : (state : State) (fd : Fd) (k : ℕ) → StaysOpen (tree_of state) (tree_of (record state { slots = closed fd.0 state.slots })) k →
+pub closed_description : (state : State) (fd : Fd) (k : ℕ) →
+    StaysOpen (tree_of state) (tree_of (record state { slots = closed fd.0 state.slots })) k →
     description_where (open_at (closed fd.0 state.slots) k) ≡ description_where (open_at state.slots k)
 closed_description state fd k (opened_before, was, is_still) = elim (eqb_tells k fd.0) [
   | inl e ↦ absurd (let none = opened-closed (open_at state.slots fd.0) fd.0 state.slots k refl in
-      let shut : set_at fd.0 None (λ j. option_map opened_as (open_at state.slots j)) k ≡ None = set_none fd.0 _ k e.0 in
+      let shut : set_at fd.0 None (λ j. option_map opened_as (open_at state.slots j)) k ≡ None =
+      set_none fd.0 _ k e.0 in
       let f : Some opened_before ≡ None = sym is_still ∙ none ∙ shut in cc)
   | inr apart ↦ ap description_where (closed_other (open_at state.slots fd.0) fd.0 state.slots k apart.1)
 ]
@@ -211,7 +256,9 @@ closed_fair : (state : State) (fd : Fd) (file : OpenFile) → IsSound state → 
 closed_fair state fd file sound is =
     record {
       sound = λ few. sound-closed state fd.0 sound;
-      changes = ap (λ (held : Option OpenFile). tree_of (record state { slots = closed_where held fd.0 state.slots })) is ∙ closed_tree state fd (Some file) is;
+      changes = ap (λ (held : Option OpenFile).
+          tree_of (record state { slots = closed_where held fd.0 state.slots })) is
+          ∙ closed_tree state fd (Some file) is;
       contents = record {
         objects = λ o within may. stays_same _ _ refl;
         openings = λ flags o asks within may. refl;
@@ -245,13 +292,17 @@ fair_stat state fd sound =
       object_of node,
       open_there state fd file on,
       slice_get-map object_of state.nodes file.object ∙ ap (option_map object_of) is,
-      record { ids = refl; kind = kind_from (kind_number node.content) node.permissions (sound.made file.object node is).permissions },
+      record {
+        ids = refl;
+        kind = kind_from (kind_number node.content) node.permissions (sound.made file.object node is).permissions;
+      },
       refl,
     ) tt)
 
 -- ---- OpenPath
 
-has_from_here : (state : State) (here object : ℕ) → HasHold state here → (object ≡ here) ⊎ HasName state.nodes object → HasHold state object
+has_from_here : (state : State) (here object : ℕ) → HasHold state here →
+    (object ≡ here) ⊎ HasName state.nodes object → HasHold state object
 has_from_here state here object lives (inl same) = subst (HasHold state) (sym same) lives
 has_from_here state here object lives (inr has) = inr (inl has)
 
@@ -260,18 +311,25 @@ led_there object = Ok object
 
 by_slash : (state : State) (slash : Bool) (here object : ℕ) (rest whole : List (List ℕ)) → HasHold state here →
     cond slash (walk state.nodes 0 rest) (walk state.nodes here whole) ≡ led_there object → HasHold state object
-by_slash state true here object rest whole lives is = has_from_here state 0 object (inl refl) (walk_lives state.nodes 0 rest object is)
-by_slash state false here object rest whole lives is = has_from_here state here object lives (walk_lives state.nodes here whole object is)
+by_slash state true here object rest whole lives is =
+    has_from_here state 0 object (inl refl) (walk_lives state.nodes 0 rest object is)
+by_slash state false here object rest whole lives is =
+    has_from_here state here object lives (walk_lives state.nodes here whole object is)
 
-pub path_lives : (state : State) (here : ℕ) (path : List ℕ) (object : ℕ) → HasHold state here → walk_from state.nodes here path ≡ led_there object → HasHold state object
+pub path_lives : (state : State) (here : ℕ) (path : List ℕ) (object : ℕ) → HasHold state here →
+    walk_from state.nodes here path ≡ led_there object → HasHold state object
 path_lives state here [] object lives is = cc
-path_lives state here (first ∷ path) object lives is = by_slash state (first == 47) here object (parts path) (parts (first ∷ path)) lives is
+path_lives state here (first ∷ path) object lives is =
+    by_slash state (first == 47) here object (parts path) (parts (first ∷ path)) lives is
 
 pub fair_open_path : (state : State) (seat : HostSeat) (fd : Fd) (path : List ℕ) (flags : OpenFlags) → IsSound state →
     IsFair state (call.OpenPath fd path flags) (open_path state seat fd path flags)
 fair_open_path state seat fd path flags sound =
-    by_fd state (IsFair state (call.OpenPath fd path flags)) (λ errno. fair_refused state (call.OpenPath fd path flags) errno sound (tt, refl)) fd _
-    (λ file node is there. fair_open_walked state seat (call.OpenPath fd path flags) flags (walk_from state.nodes file.object path) sound (λ errno led. (tt, refl))
+    by_fd state (IsFair state (call.OpenPath fd path flags)) (λ errno.
+    fair_refused state (call.OpenPath fd path flags) errno sound (tt, refl)) fd _
+    (λ file node is there.
+    fair_open_walked state seat (call.OpenPath fd path flags) flags (walk_from state.nodes file.object path) sound
+    (λ errno led. (tt, refl))
     (λ object led. (
       path_lives state file.object path object (inr (inr (fd.0, file, is, refl))) led,
       record {

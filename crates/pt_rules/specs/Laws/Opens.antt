@@ -1,5 +1,7 @@
 -- Proof. What openings and closings leave of the tree, and what they are refused for.
-use Rattle.std.proofs.Common.{◌≡◌, ◌≢◌, ◌<◌, ◌+◌, ◌⊎◌, inl, inr, ℕ, suc, Bool, true, false, not, ◌&&◌, cond, eqb, List, [], ◌∷◌, Option, Some, None, Result, Ok, Err, ok_or, slice_get, slice_set, option_map, option_and_then, subst, refl, ap, sym, ◌∙◌, arith, pos}
+use Rattle.std.proofs.Common.{◌≡◌, ◌≢◌, ◌<◌, ◌+◌, ◌⊎◌, inl, inr, ℕ, suc, Bool, true, false, not, ◌&&◌, cond, eqb}
+use Rattle.std.proofs.Common.{List, [], ◌∷◌, Option, Some, None, Result, Ok, Err, ok_or, slice_get, slice_set}
+use Rattle.std.proofs.Common.{option_map, option_and_then, subst, refl, ap, sym, ◌∙◌, arith, pos}
 use Rattle.std.proofs.lemmas.List.{length-map}
 use Rattle.std.proofs.lemmas.Option.{same_Some, slice_get_within}
 use Rattle.std.proofs.lemmas.Bool.Decides.{eqb_tells}
@@ -20,7 +22,8 @@ use Rattle.pt_node.specs.Node.{name_at, names_in, object_of}
 use Rattle.pt_node.specs.Slots.{open_at, file_of, least_free, put_at, closed_where}
 use Rattle.pt_rules.specs.State.{State, tree_of, opened_as, time_of}
 use Rattle.pt_node.specs.Opening.{first_refusal, path_checks, open_checks, opening_refusal, after_opening}
-use Rattle.pt_rules.specs.Calls.{begun_on, tells, unless, with_descriptor, with_opened, opening_of, open_walked, name_refusal, name_checks}
+use Rattle.pt_rules.specs.Calls.{begun_on, tells, unless, with_descriptor, with_opened, opening_of, open_walked}
+use Rattle.pt_rules.specs.Calls.{name_refusal, name_checks}
 use Rattle.pt_rules.specs.Finding.{find_in, find_name}
 use Rattle.pt_node.specs.Paths.{ok_unless}
 use Rattle.pt_node.specs.declared.node.Node.{Node}
@@ -29,7 +32,8 @@ use Rattle.pt_node.specs.declared.slots.Slot.{Slot}
 use Rattle.pt_node.specs.declared.slots.Slot.TheVariants.{Reserved, Free, Open}
 use Rattle.pt_rules.specs.Laws.Cases.{NoneTells, refused_otherwise}
 use Rattle.pt_rules.specs.Laws.SlotTable.{least_free-le-length}
-use Rattle.pt_node.specs.Laws.Updates.{map-set_same, get-put_here, get-put_apart, get-set_here, get-set_apart, same_function, open_slot}
+use Rattle.pt_node.specs.Laws.Updates.{map-set_same, get-put_here, get-put_apart, get-set_here, get-set_apart}
+use Rattle.pt_node.specs.Laws.Updates.{same_function, open_slot}
 use Rattle.pt_rules.specs.Laws.Keeping.{Keeps, keeps_opening}
 use Rattle.pt_rules.specs.Laws.Changed.{same_tree}
 use Rattle.pt_rules.specs.Laws.Soundness.{same_names}
@@ -41,9 +45,11 @@ one_more n = omega arith
 -- the least free number is not open
 pub least_free-closed : (slots : List Slot) → open_at slots (least_free slots) ≡ None
 least_free-closed [] = refl
-least_free-closed (Reserved ∷ slots) = ap (λ k. open_at (Reserved ∷ slots) k) (one_more (least_free slots)) ∙ least_free-closed slots
+least_free-closed (Reserved ∷ slots) =
+    ap (λ k. open_at (Reserved ∷ slots) k) (one_more (least_free slots)) ∙ least_free-closed slots
 least_free-closed (Free ∷ slots) = refl
-least_free-closed (Open file ∷ slots) = ap (λ k. open_at (Open file ∷ slots) k) (one_more (least_free slots)) ∙ least_free-closed slots
+least_free-closed (Open file ∷ slots) =
+    ap (λ k. open_at (Open file ∷ slots) k) (one_more (least_free slots)) ∙ least_free-closed slots
 
 pub opened-put : (file : OpenFile) (slots : List Slot) (fd : ℕ) →
     option_map opened_as (open_at (put_at (least_free slots) (Open file) slots) fd)
@@ -51,26 +57,32 @@ pub opened-put : (file : OpenFile) (slots : List Slot) (fd : ℕ) →
 unfolding set_at
 opened-put file slots fd = elim (eqb_tells fd (least_free slots)) [
   | inl same ↦ ap (λ k. option_map opened_as (open_at (put_at (least_free slots) (Open file) slots) k)) same.1
-      ∙ ap (λ slot. option_map opened_as (file_of slot)) (get-put_here (least_free slots) (Open file) slots (least_free-le-length slots))
+      ∙ ap (λ slot. option_map opened_as (file_of slot))
+      (get-put_here (least_free slots) (Open file) slots (least_free-le-length slots))
       ∙ sym (ap (λ b. cond b (Some (opened_as file)) (option_map opened_as (open_at slots fd))) same.0)
-  | inr apart ↦ ap (λ slot. option_map opened_as (file_of slot)) (get-put_apart (least_free slots) (Open file) slots fd apart.1)
+  | inr apart ↦ ap (λ slot.
+      option_map opened_as (file_of slot)) (get-put_apart (least_free slots) (Open file) slots fd apart.1)
       ∙ sym (ap (λ b. cond b (Some (opened_as file)) (option_map opened_as (open_at slots fd))) apart.0)
 ]
 
-leads_kept : (nodes : List Node) (object : ℕ) (node after : Node) → slice_get nodes object ≡ Some node → Keeps node after →
-    name_at (slice_set nodes object after) ≡ name_at nodes
+leads_kept : (nodes : List Node) (object : ℕ) (node after : Node) → slice_get nodes object ≡ Some node →
+    Keeps node after → name_at (slice_set nodes object after) ≡ name_at nodes
 leads_kept nodes object node after is keeps =
     same_function (name_at (slice_set nodes object after)) (name_at nodes)
-    (λ dir. same_function (name_at (slice_set nodes object after) dir) (name_at nodes dir) (λ name. same_names nodes object node after is keeps dir name))
+    (λ dir. same_function (name_at (slice_set nodes object after) dir) (name_at nodes dir) (λ name.
+    same_names nodes object node after is keeps dir name))
 
 -- the tree does not tell the object from what it has become
-pub tree-with_node : (state : State) (object : ℕ) (node after : Node) → slice_get state.nodes object ≡ Some node → Keeps node after →
-    tree_of (record state { nodes = slice_set state.nodes object after }) ≡ tree_of state
+pub tree-with_node : (state : State) (object : ℕ) (node after : Node) → slice_get state.nodes object ≡ Some node →
+    Keeps node after → tree_of (record state { nodes = slice_set state.nodes object after }) ≡ tree_of state
 tree-with_node state object node after is keeps =
-    same_tree _ _ _ _ _ _ (map-set_same object_of state.nodes object node after is keeps.object) (leads_kept state.nodes object node after is keeps) refl
+    same_tree _ _ _ _ _ _ (map-set_same object_of state.nodes object node after is keeps.object)
+    (leads_kept state.nodes object node after is keeps) refl
 
-pub tree-with_opened : (state : State) (seat : HostSeat) (flags : OpenFlags) (object : ℕ) (node : Node) → slice_get state.nodes object ≡ Some node →
-    tree_of (with_opened state seat flags object node) ≡ opened_on (tree_of state) object flags (record { 0 = least_free state.slots })
+pub tree-with_opened : (state : State) (seat : HostSeat) (flags : OpenFlags) (object : ℕ) (node : Node) →
+    slice_get state.nodes object ≡ Some node →
+    tree_of (with_opened state seat flags object node)
+    ≡ opened_on (tree_of state) object flags (record { 0 = least_free state.slots })
 tree-with_opened state seat flags object node is =
     let after = after_opening seat (time_of state) flags.0 node in
     let keeps = keeps_opening seat (time_of state) flags.0 node in
@@ -80,7 +92,8 @@ tree-with_opened state seat flags object node is =
     (same_function _ _ (λ fd. opened-put (begun_on flags object) state.slots fd))
 
 pub tree-with_descriptor : (state : State) (flags : OpenFlags) (object : ℕ) →
-    tree_of (with_descriptor state flags object) ≡ opened_on (tree_of state) object flags (record { 0 = least_free state.slots })
+    tree_of (with_descriptor state flags object)
+    ≡ opened_on (tree_of state) object flags (record { 0 = least_free state.slots })
 tree-with_descriptor state flags object =
     same_tree _ _ _ _ _ _ refl refl (same_function _ _ (λ fd. opened-put (begun_on flags object) state.slots fd))
 
@@ -93,14 +106,20 @@ errnos_apart m n apart same =
     apart_from m n apart equal
   where
     apart_from : (m n : ℕ) → eqb m n ≡ false → m ≡ n → ⊥
-    apart_from m n apart equal = elim (eqb_tells m n) [ inl same ↦ (let e : true ≡ false = sym same.0 ∙ apart in cc) | inr differ ↦ differ.1 equal ]
+    apart_from m n apart equal =
+        elim (eqb_tells m n) [
+          | inl same ↦ (let e : true ≡ false = sym same.0 ∙ apart in cc)
+          | inr differ ↦
+              differ.1 equal
+        ]
 
-either : (b : Bool) (one other : Option Errno) (errno : Errno) → (one ≡ Some errno → errno ≢ enoent) → (other ≡ Some errno → errno ≢ enoent) →
-    cond b one other ≡ Some errno → errno ≢ enoent
+either : (b : Bool) (one other : Option Errno) (errno : Errno) → (one ≡ Some errno → errno ≢ enoent) →
+    (other ≡ Some errno → errno ≢ enoent) → cond b one other ≡ Some errno → errno ≢ enoent
 either true one other errno first second is = first is
 either false one other errno first second is = second is
 
-pub opening_refused : (seat : HostSeat) (node : Node) (flags : ℕ) (errno : Errno) → opening_refusal seat node flags ≡ Some errno → errno ≢ enoent
+pub opening_refused : (seat : HostSeat) (node : Node) (flags : ℕ) (errno : Errno) →
+    opening_refusal seat node flags ≡ Some errno → errno ≢ enoent
 opening_refused seat node flags errno is =
     let for_path : NoneTells enoent (path_checks node flags) = (errnos_apart 20 2 refl, tt) in
     let for_other : NoneTells enoent (open_checks seat node flags) = (
@@ -116,19 +135,21 @@ opening_refused seat node flags errno is =
         ),
       ),
     ) in
-    either (includes flags o_path) (first_refusal (path_checks node flags)) (first_refusal (open_checks seat node flags)) errno
+    either (includes flags o_path) (first_refusal (path_checks node flags))
+    (first_refusal (open_checks seat node flags)) errno
     (refused_otherwise enoent (path_checks node flags) errno for_path)
     (refused_otherwise enoent (open_checks seat node flags) errno for_other)
     is
 
-allowed_where : (path tmpfile : Bool) (one rest : Option Errno) (errno : Errno) → cond path one (cond tmpfile (Some errno) rest) ≡ None →
-    (tmpfile && not path) ≡ false
+allowed_where : (path tmpfile : Bool) (one rest : Option Errno) (errno : Errno) →
+    cond path one (cond tmpfile (Some errno) rest) ≡ None → (tmpfile && not path) ≡ false
 allowed_where true true one rest errno is = refl
 allowed_where true false one rest errno is = refl
 allowed_where false true one rest errno is = cc
 allowed_where false false one rest errno is = refl
 
-pub opening_allowed : (seat : HostSeat) (node : Node) (flags : ℕ) → opening_refusal seat node flags ≡ None → (includes flags o_tmpfile && not (includes flags o_path)) ≡ false
+pub opening_allowed : (seat : HostSeat) (node : Node) (flags : ℕ) → opening_refusal seat node flags ≡ None →
+    (includes flags o_tmpfile && not (includes flags o_path)) ≡ false
 opening_allowed seat node flags is = allowed_where (includes flags o_path) (includes flags o_tmpfile) _ _ eopnotsupp is
 
 -- refused, with another error than that the name is not there
@@ -136,11 +157,14 @@ abbrev pub Refuses : State → HostReply → State → Type 0
 Refuses before given after = (errno : Errno) × (given ≡ reply.Refused errno) × (errno ≢ enoent) × (after ≡ before)
 
 abbrev pub HasOpened : State → OpenFlags → ℕ → HostReply → State → Type 0
-HasOpened before flags object given after = (fd : Fd) × (given ≡ reply.Ok (value.Fd fd)) × Opens (tree_of before) object flags fd (tree_of after)
+HasOpened before flags object given after =
+    (fd : Fd) × (given ≡ reply.Ok (value.Fd fd)) × Opens (tree_of before) object flags fd (tree_of after)
 
-opened_unless : (before : State) (seat : HostSeat) (flags : OpenFlags) (object : ℕ) (node : Node) (errno : Option Errno) (given : HostReply) (after : State) →
+opened_unless : (before : State) (seat : HostSeat) (flags : OpenFlags) (object : ℕ) (node : Node)
+    (errno : Option Errno) (given : HostReply) (after : State) →
     opening_refusal seat node flags.0 ≡ errno → slice_get before.nodes object ≡ Some node →
-    (given, after) ≡ unless before errno (tells (with_opened before seat flags object node) (value.Fd (record { 0 = least_free before.slots }))) →
+    (given, after) ≡ unless before errno
+    (tells (with_opened before seat flags object node) (value.Fd (record { 0 = least_free before.slots }))) →
     Refuses before given after ⊎ HasOpened before flags object given after
 opened_unless before seat flags object node (Some errno) given after refusal is told =
     inl (errno, ap (λ both. both.0) told, opening_refused seat node flags.0 errno refusal, ap (λ both. both.1) told)
@@ -149,14 +173,16 @@ opened_unless before seat flags object node None given after refusal is told =
       record { 0 = least_free before.slots },
       ap (λ both. both.0) told,
       record {
-        listed = subst (λ n. object < n) (sym (length-map before.nodes object_of)) (slice_get_within before.nodes object node is);
+        listed = subst (λ n. object
+            < n) (sym (length-map before.nodes object_of)) (slice_get_within before.nodes object node is);
         fresh = ap (option_map opened_as) (least_free-closed before.slots);
         allowed = opening_allowed seat node flags.0 refusal;
         adds = ap tree_of (ap (λ both. both.1) told) ∙ tree-with_opened before seat flags object node is;
       },
     )
 
-opened_cases : (before : State) (seat : HostSeat) (flags : OpenFlags) (object : ℕ) (node : Option Node) (given : HostReply) (after : State) →
+opened_cases : (before : State) (seat : HostSeat) (flags : OpenFlags) (object : ℕ) (node : Option Node)
+    (given : HostReply) (after : State) →
     slice_get before.nodes object ≡ node → (given, after) ≡ opening_of before seat flags object node →
     Refuses before given after ⊎ HasOpened before flags object given after
 opened_cases before seat flags object None given after is told =
@@ -166,14 +192,19 @@ opened_cases before seat flags object (Some node) given after is told =
 
 -- where a walk led nowhere it is refused so
 abbrev pub LedNowhere : State → Result ℕ Errno → HostReply → State → Type 0
-LedNowhere before led given after = (errno : Errno) × (led ≡ Err errno) × (given ≡ reply.Refused errno) × (after ≡ before)
+LedNowhere before led given after =
+    (errno : Errno) × (led ≡ Err errno) × (given ≡ reply.Refused errno) × (after ≡ before)
 
 abbrev pub LedTo : State → OpenFlags → Result ℕ Errno → HostReply → State → Type 0
-LedTo before flags led given after = (object : ℕ) × (led ≡ Ok object) × (Refuses before given after ⊎ HasOpened before flags object given after)
+LedTo before flags led given after =
+    (object : ℕ) × (led ≡ Ok object) × (Refuses before given after ⊎ HasOpened before flags object given after)
 
-pub walked_cases : (before : State) (seat : HostSeat) (flags : OpenFlags) (led : Result ℕ Errno) (given : HostReply) (after : State) →
-    (given, after) ≡ open_walked before seat flags led → LedNowhere before led given after ⊎ LedTo before flags led given after
-walked_cases before seat flags (Err errno) given after told = inl (errno, refl, ap (λ both. both.0) told, ap (λ both. both.1) told)
+pub walked_cases : (before : State) (seat : HostSeat) (flags : OpenFlags) (led : Result ℕ Errno) (given : HostReply)
+    (after : State) →
+    (given, after) ≡ open_walked before seat flags led →
+    LedNowhere before led given after ⊎ LedTo before flags led given after
+walked_cases before seat flags (Err errno) given after told =
+    inl (errno, refl, ap (λ both. both.0) told, ap (λ both. both.1) told)
 walked_cases before seat flags (Ok object) given after told =
     inr (object, refl, opened_cases before seat flags object (slice_get before.nodes object) given after refl told)
 
@@ -183,9 +214,10 @@ failed errno = Err errno
 same_error : (errno other : Errno) → failed errno ≡ failed other → errno ≡ other
 same_error errno other is = cc
 
-missing_where : (checks : List (Bool × Errno)) (refusal : Option Errno) (held : Option ℕ) → NoneTells enoent checks → first_refusal checks ≡ refusal →
-    ok_unless refusal (ok_or held enoent) ≡ Err enoent → held ≡ None
-missing_where checks (Some errno) held none first is = absurd (refused_otherwise enoent checks errno none first (same_error errno enoent is))
+missing_where : (checks : List (Bool × Errno)) (refusal : Option Errno) (held : Option ℕ) → NoneTells enoent checks →
+    first_refusal checks ≡ refusal → ok_unless refusal (ok_or held enoent) ≡ Err enoent → held ≡ None
+missing_where checks (Some errno) held none first is =
+    absurd (refused_otherwise enoent checks errno none first (same_error errno enoent is))
 missing_where checks None None none first is = refl
 missing_where checks None (Some other) none first is = cc
 
@@ -193,21 +225,27 @@ missing_in : (seat : HostSeat) (name : List ℕ) (dir : Option Node) → find_in
     option_and_then (λ node. found name (names_in node.content)) dir ≡ None
 missing_in seat name None is = refl
 missing_in seat name (Some dir) is =
-    let none : NoneTells enoent (name_checks seat dir name) = (errnos_apart 20 2 refl, (errnos_apart 36 2 refl, (errnos_apart 13 2 refl, tt))) in
-    missing_where (name_checks seat dir name) (name_refusal seat dir name) (found name (names_in dir.content)) none refl is
+    let none : NoneTells enoent (name_checks seat dir name) =
+    (errnos_apart 20 2 refl, (errnos_apart 36 2 refl, (errnos_apart 13 2 refl, tt))) in
+    missing_where (name_checks seat dir name) (name_refusal seat dir name)
+    (found name (names_in dir.content)) none refl is
 
-pub missing_name : (nodes : List Node) (seat : HostSeat) (name : List ℕ) (file : Option OpenFile) → find_name nodes seat name file ≡ Err enoent →
+pub missing_name : (nodes : List Node) (seat : HostSeat) (name : List ℕ) (file : Option OpenFile) →
+    find_name nodes seat name file ≡ Err enoent →
     (dir : OpenFile) → file ≡ Some dir → name_at nodes dir.object name ≡ None
 missing_name nodes seat name None is dir held = cc
 missing_name nodes seat name (Some other) is dir held =
     let same : other ≡ dir = same_Some other dir held in
-    subst (λ (file : OpenFile). name_at nodes file.object name ≡ None) same (missing_in seat name (slice_get nodes other.object) is)
+    subst (λ (file : OpenFile). name_at nodes file.object name
+    ≡ None) same (missing_in seat name (slice_get nodes other.object) is)
 
 -- the descriptor's own object
-pub open_there : (state : State) (fd : Fd) (file : OpenFile) → open_at state.slots fd.0 ≡ Some file → IsOpenOn (tree_of state) fd file.object
+pub open_there : (state : State) (fd : Fd) (file : OpenFile) → open_at state.slots fd.0 ≡ Some file →
+    IsOpenOn (tree_of state) fd file.object
 open_there state fd file is = (opened_as file, ap (option_map opened_as) is, refl)
 
-pub same_open : (state : State) (fd : Fd) (dir : ℕ) → IsOpenOn (tree_of state) fd dir → (file : OpenFile) × (open_at state.slots fd.0 ≡ Some file) × (file.object ≡ dir)
+pub same_open : (state : State) (fd : Fd) (dir : ℕ) → IsOpenOn (tree_of state) fd dir →
+    (file : OpenFile) × (open_at state.slots fd.0 ≡ Some file) × (file.object ≡ dir)
 same_open state fd dir (open_as, is, object) =
     let held = file_of_open state fd.0 open_as is in
     (held.0, held.1, ap (λ (o : Opened). o.object) held.2 ∙ object)
@@ -216,7 +254,8 @@ none_opened : (o : Option OpenFile) → o ≡ None → option_map opened_as o �
 none_opened o is = ap (option_map opened_as) is
 
 pub opened-closed : (file : Option OpenFile) (fd : ℕ) (slots : List Slot) (k : ℕ) → open_at slots fd ≡ file →
-    option_map opened_as (open_at (closed_where file fd slots) k) ≡ set_at fd None (λ j. option_map opened_as (open_at slots j)) k
+    option_map opened_as (open_at (closed_where file fd slots) k)
+    ≡ set_at fd None (λ j. option_map opened_as (open_at slots j)) k
 unfolding set_at
 opened-closed None fd slots k is = elim (eqb_tells k fd) [
   | inl same ↦ ap (λ j. option_map opened_as (open_at slots j)) same.1 ∙ none_opened (open_at slots fd) is

@@ -1,5 +1,7 @@
 -- Proof. `Rename`: a name is moved, or two names are exchanged, and what that leaves beside the names.
-use Rattle.std.proofs.Common.{◌≡◌, ◌≢◌, ◌<◌, ◌≤◌, ◌^◌, ◌==◌, ◌&&◌, ◌||◌, ◌⊎◌, inl, inr, ℕ, Bool, true, false, not, cond, List, length, map, Option, Some, None, is_none, is_some, slice_get, refl, ap, sym, ◌∙◌, subst, arith, nat_lt}
+use Rattle.std.proofs.Common.{◌≡◌, ◌≢◌, ◌<◌, ◌≤◌, ◌^◌, ◌==◌, ◌&&◌, ◌||◌, ◌⊎◌, inl, inr, ℕ, Bool, true, false, not}
+use Rattle.std.proofs.Common.{cond, List, length, map, Option, Some, None, is_none, is_some, slice_get, refl, ap, sym}
+use Rattle.std.proofs.Common.{◌∙◌, subst, arith, nat_lt}
 use Rattle.std.proofs.lemmas.Bool.{eqb-true, ltb-false}
 use Rattle.std.proofs.lemmas.Bool.Decides.{eqb_tells}
 use Rattle.std.proofs.lemmas.Option.{same_Some}
@@ -17,7 +19,8 @@ use Rattle.pt_host.specs.declared.reply.HostValue.TheVariants as value
 use Rattle.pt_rules.specs.Calls.{done, refused, unless}
 use Rattle.pt_rules.specs.Edits.{moved, node_at, replace_refusal, replaced, with_moved, rename_onto}
 use Rattle.pt_node.specs.Entries.{after_losing, is_directory_at, restamped}
-use Rattle.pt_rules.specs.NameCalls.{cannot_write, exchange, exchanged, moves_into_itself, noreplace, rename, rename_found, rename_refusal, rename_refusal_of, rename_to, with_exchanged}
+use Rattle.pt_rules.specs.NameCalls.{cannot_write, exchange, exchanged, moves_into_itself, noreplace, rename}
+use Rattle.pt_rules.specs.NameCalls.{rename_found, rename_refusal, rename_refusal_of, rename_to, with_exchanged}
 use Rattle.pt_node.specs.Node.{name_at, object_of}
 use Rattle.pt_node.specs.Slots.{open_at}
 use Rattle.pt_rules.specs.Sound.{IsSound}
@@ -31,7 +34,8 @@ use Rattle.pt_rules.specs.Laws.EditShapes.{first, object_gained, second, third}
 use Rattle.pt_rules.specs.Laws.EditSound.{sound_moved}
 use Rattle.pt_rules.specs.Laws.Fair.{IsFair, fair_refused}
 use Rattle.pt_rules.specs.Laws.NameFair.{asked_there, changed_other, keeps_others}
-use Rattle.pt_rules.specs.Laws.NamesLed.{names_exchanged, put_back, put_there, sound_exchanged, with_both, with_one, with_stamp}
+use Rattle.pt_rules.specs.Laws.NamesLed.{names_exchanged, put_back, put_there, sound_exchanged, with_both, with_one}
+use Rattle.pt_rules.specs.Laws.NamesLed.{with_stamp}
 use Rattle.pt_rules.specs.Laws.Opens.{open_there}
 use Rattle.pt_rules.specs.Laws.Outcomes.{MovesTo, Renames as Moved, none_there, passes_first}
 
@@ -57,7 +61,8 @@ module _ (now : Time) (from to : ℕ × List ℕ) (object other : ℕ) (nodes : 
       (λ node is. object_gained now to.1 object (is_directory_at nodes object) (is_directory_at nodes other) node)
 
   -- none else is changed
-  exchanged_other : (o : ℕ) → o ≢ from.0 → o ≢ to.0 → o ≢ object → o ≢ other → slice_get (exchanged now from to object other nodes) o ≡ slice_get nodes o
+  exchanged_other : (o : ℕ) → o ≢ from.0 → o ≢ to.0 → o ≢ object → o ≢ other →
+      slice_get (exchanged now from to object other nodes) o ≡ slice_get nodes o
   exchanged_other o a b c d =
       changed_other other (restamped now) stamped o d ∙ changed_other object (restamped now) crossed o c
       ∙ changed_other from.0 (put_back now from to object other nodes) given o a
@@ -65,11 +70,14 @@ module _ (now : Time) (from to : ℕ × List ℕ) (object other : ℕ) (nodes : 
 
 -- ---- one name moved
 
-replaced_other : (now : Time) (target : Option ℕ) (nodes : List Node) (o : ℕ) → target ≢ Some o → slice_get (replaced now target nodes) o ≡ slice_get nodes o
+replaced_other : (now : Time) (target : Option ℕ) (nodes : List Node) (o : ℕ) → target ≢ Some o →
+    slice_get (replaced now target nodes) o ≡ slice_get nodes o
 replaced_other now None nodes o apart = refl
-replaced_other now (Some target) nodes o apart = changed_other target (after_losing now) nodes o (λ e. apart (ap (λ k. Some k) (sym e)))
+replaced_other now (Some target) nodes o apart =
+    changed_other target (after_losing now) nodes o (λ e. apart (ap (λ k. Some k) (sym e)))
 
-moved_other : (now : Time) (from to : ℕ × List ℕ) (object : ℕ) (target : Option ℕ) (nodes : List Node) (o : ℕ) → o ≢ from.0 → o ≢ to.0 → o ≢ object →
+moved_other : (now : Time) (from to : ℕ × List ℕ) (object : ℕ) (target : Option ℕ) (nodes : List Node) (o : ℕ) →
+    o ≢ from.0 → o ≢ to.0 → o ≢ object →
     target ≢ Some o → slice_get (moved now from to object target nodes) o ≡ slice_get nodes o
 moved_other now from to object target nodes o a b c d =
     changed_other object (restamped now) (third now from to object target nodes) o c
@@ -98,7 +106,8 @@ other_than m n is same = (let e : true ≡ false = sym (ap (λ k. k == n) same �
     equal : (n : ℕ) → (n == n) ≡ true
     equal n = elim (eqb_tells n n) [ inl e ↦ e.0 | inr apart ↦ absurd (apart.1 refl) ]
 
-fits_flags : (into_itself : Bool) (seat : HostSeat) (from to node : Option Node) (target : Option ℕ) (that : Option Node) (flags : ℕ) →
+fits_flags : (into_itself : Bool) (seat : HostSeat) (from to node : Option Node) (target : Option ℕ)
+    (that : Option Node) (flags : ℕ) →
     rename_refusal_of into_itself seat from to node target that flags ≡ None → FitsFlags target flags
 fits_flags into_itself seat (Some from) (Some to) (Some node) target that flags none =
     let writes = passes_first (cannot_write seat from || cannot_write seat to) _ _ none in
@@ -106,16 +115,19 @@ fits_flags into_itself seat (Some from) (Some to) (Some node) target that flags 
     let there = passes_first ((flags == noreplace) && is_some target) _ _ mount.1 in
     let absent = passes_first ((flags == exchange) && is_none target) _ _ there.1 in
     record {
-      keeps = λ one. none_there target (second_false (flags == noreplace) (is_some target) (ap (λ n. n == noreplace) one) there.0);
+      keeps = λ one. none_there target
+          (second_false (flags == noreplace) (is_some target) (ap (λ n. n == noreplace) one) there.0);
       trades = λ two. second_false (flags == exchange) (is_none target) (ap (λ n. n == exchange) two) absent.0;
     }
 fits_flags into_itself seat _ _ _ target that flags none = cc
 
 -- ---- the call, from one name to another
 
-module _ (state : State) (seat : HostSeat) (fd : Fd) (name : List ℕ) (fd2 : Fd) (name2 : List ℕ) (flags : ℕ) (sound : IsSound state)
+module _ (state : State) (seat : HostSeat) (fd : Fd) (name : List ℕ) (fd2 : Fd) (name2 : List ℕ) (flags : ℕ)
+    (sound : IsSound state)
     (file file2 : OpenFile) (is : open_at state.slots fd.0 ≡ Some file) (too : open_at state.slots fd2.0 ≡ Some file2)
-    (out : is_directory_at state.nodes file.object ≡ true) (into : is_directory_at state.nodes file2.object ≡ true) where
+    (out : is_directory_at state.nodes file.object ≡ true) (into : is_directory_at state.nodes file2.object
+    ≡ true) where
   abbrev from : ℕ × List ℕ
   from = (file.object, name)
 
@@ -142,17 +154,21 @@ module _ (state : State) (seat : HostSeat) (fd : Fd) (name : List ℕ) (fd2 : Fd
   apart_object object o there none same =
       none (inl (inr (subst (LeadsTo (tree_of state) fd name) (sym same) (file.object, on, there))))
 
-  apart_target : (target : Option ℕ) (o : ℕ) → name_at state.nodes file2.object name2 ≡ target → Unnamed o → target ≢ Some o
+  apart_target : (target : Option ℕ) (o : ℕ) → name_at state.nodes file2.object name2 ≡ target → Unnamed o →
+      target ≢ Some o
   apart_target target o at none same = none (inr (inr (file2.object, on_other, at ∙ same)))
 
   -- what is to be shown of the state that the call leaves
-  fair_renamed : (after : State) → (length after.nodes < 2 ^ 63 → IsSound after) → Renames (tree_of state) fd name fd2 name2 flags (tree_of after) →
+  fair_renamed : (after : State) → (length after.nodes < 2 ^ 63 → IsSound after) →
+      Renames (tree_of state) fd name fd2 name2 flags (tree_of after) →
       after.slots ≡ state.slots → after.faults ≡ state.faults →
-      ((o : ℕ) → Unnamed o → slice_get after.nodes o ≡ slice_get state.nodes o) → IsFair state (call.Rename fd name fd2 name2 flags) (done after)
+      ((o : ℕ) → Unnamed o → slice_get after.nodes o ≡ slice_get state.nodes o) →
+      IsFair state (call.Rename fd name fd2 name2 flags) (done after)
   fair_renamed after still renames slots faults others = record {
     sound = still;
     changes = renames;
-    contents = keeps_others state after (call.Rename fd name fd2 name2 flags) value.Unit refl slots (λ o within none. others o none);
+    contents = keeps_others state after (call.Rename fd name fd2 name2 flags) value.Unit refl slots (λ o within none.
+        others o none);
     allowed = λ n. tt;
     faults = faults;
     fails = tt;
@@ -160,35 +176,50 @@ module _ (state : State) (seat : HostSeat) (fd : Fd) (name : List ℕ) (fd2 : Fd
 
   module _ (object : ℕ) (there : name_at state.nodes file.object name ≡ Some object) where
     -- a name that is moved, as the flags let it be
-    moves_at : (target : Option ℕ) (after : State) → name_at state.nodes file2.object name2 ≡ target → MovesTo state from to object target after →
-        MovesNameAt (tree_of state) fd name fd2 name2 (tree_of after)
+    moves_at : (target : Option ℕ) (after : State) → name_at state.nodes file2.object name2 ≡ target →
+        MovesTo state from to object target after → MovesNameAt (tree_of state) fd name fd2 name2 (tree_of after)
     moves_at target after at moves =
-        let does : Moved state after = record { from = from; to = to; object = object; target = target; there = there; into = into; at_target = at; moves = moves } in
+        let does : Moved state after =
+        record {
+          from = from;
+          to = to;
+          object = object;
+          target = target;
+          there = there;
+          into = into;
+          at_target = at;
+          moves = moves;
+        } in
         (moves_name state after sound does, (on, refl), (on_other, refl))
 
-    by_flags : (target : Option ℕ) (after : State) → flags ≤ 2 → FitsFlags target flags → name_at state.nodes file2.object name2 ≡ target →
-        (flags ≡ 2 → ExchangesNames (tree_of state) fd name fd2 name2 (tree_of after)) → MovesTo state from to object target after →
-        Renames (tree_of state) fd name fd2 name2 flags (tree_of after)
+    by_flags : (target : Option ℕ) (after : State) → flags ≤ 2 → FitsFlags target flags →
+        name_at state.nodes file2.object name2 ≡ target →
+        (flags ≡ 2 → ExchangesNames (tree_of state) fd name fd2 name2 (tree_of after)) →
+        MovesTo state from to object target after → Renames (tree_of state) fd name fd2 name2 flags (tree_of after)
     by_flags target after few fits at exchanges moves = elim (eqb_tells flags 0) [
       | inl zero ↦ inl (zero.1, moves_at target after at moves)
       | inr some ↦ elim (eqb_tells flags 1) [
         | inl one ↦ inr (inl (one.1, (file2.object, on_other, at ∙ fits.keeps one.1), moves_at target after at moves))
-        | inr more ↦ (let two : flags ≡ 2 = (let a = some.1 in let b = more.1 in omega arith) in inr (inr (two, exchanges two)))
+        | inr more ↦ (let two : flags ≡ 2 = (let a = some.1 in let b = more.1 in omega arith) in
+            inr (inr (two, exchanges two)))
       ]
     ]
 
-    fair_moved : (target : Option ℕ) → flags ≤ 2 → flags ≢ 2 → FitsFlags target flags → name_at state.nodes file2.object name2 ≡ target → target ≢ Some object →
+    fair_moved : (target : Option ℕ) → flags ≤ 2 → flags ≢ 2 → FitsFlags target flags →
+        name_at state.nodes file2.object name2 ≡ target → target ≢ Some object →
         IsFair state (call.Rename fd name fd2 name2 flags) (done (with_moved state from to object target))
     fair_moved target few other fits at apart =
         fair_renamed (with_moved state from to object target)
         (λ n. sound_moved state from to object target sound there into)
-        (by_flags target (with_moved state from to object target) few fits at (λ two. absurd (other two)) (inr (apart, refl)))
+        (by_flags target (with_moved state from to object target) few fits at (λ two.
+        absurd (other two)) (inr (apart, refl)))
         refl refl
         (λ o none. moved_other (time_of state) from to object target state.nodes o (apart_from o none) (apart_to o none)
         (apart_object object o there none) (apart_target target o at none))
 
     -- both names lead to one object
-    fair_same_object : flags ≤ 2 → FitsFlags (Some object) flags → name_at state.nodes file2.object name2 ≡ Some object →
+    fair_same_object : flags ≤ 2 → FitsFlags (Some object) flags →
+        name_at state.nodes file2.object name2 ≡ Some object →
         IsFair state (call.Rename fd name fd2 name2 flags) (done state)
     fair_same_object few fits at =
         fair_renamed state (λ n. sound)
@@ -203,7 +234,8 @@ module _ (state : State) (seat : HostSeat) (fd : Fd) (name : List ℕ) (fd2 : Fd
           there = there;
           also = at;
           exchanges = ap (λ (names : ℕ → List ℕ → Option ℕ). record (tree_of state) { names = names })
-              (sym (ap (led file.object name (Some object)) (led_same file2.object name2 (Some object) (name_at state.nodes) at)
+              (sym (ap (led file.object name (Some object))
+              (led_same file2.object name2 (Some object) (name_at state.nodes) at)
               ∙ led_same file.object name (Some object) (name_at state.nodes) there));
         })
         (inl (refl, refl))) refl refl (λ o none. refl)
@@ -229,27 +261,33 @@ module _ (state : State) (seat : HostSeat) (fd : Fd) (name : List ℕ) (fd2 : Fd
           },
         )))
         refl refl
-        (λ o none. exchanged_other (time_of state) from to object other state.nodes o (apart_from o none) (apart_to o none)
+        (λ o none. exchanged_other (time_of state) from to object other state.nodes o (apart_from o none)
+        (apart_to o none)
         (apart_object object o there none) (λ same. apart_target (Some other) o at none (ap (λ k. Some k) (sym same))))
 
     rename_refuses : (errno : Errno) → IsFair state (call.Rename fd name fd2 name2 flags) (refused state errno)
     rename_refuses errno = fair_refused state (call.Rename fd name fd2 name2 flags) errno sound (tt, refl)
 
     -- another object has to make way, unless both names lead to one
-    fair_onto : (other : ℕ) → flags ≤ 2 → FitsFlags (Some other) flags → name_at state.nodes file2.object name2 ≡ Some other → (same : Bool) →
+    fair_onto : (other : ℕ) → flags ≤ 2 → FitsFlags (Some other) flags →
+        name_at state.nodes file2.object name2 ≡ Some other → (same : Bool) →
         (other == object) ≡ same → (not same && (flags == exchange)) ≡ false →
         IsFair state (call.Rename fd name fd2 name2 flags)
-        (cond same (done state) (unless state (replace_refusal (slice_get state.nodes object) (slice_get state.nodes other)) (done (with_moved state from to object (Some other)))))
+        (cond same (done state)
+        (unless state (replace_refusal (slice_get state.nodes object) (slice_get state.nodes other))
+        (done (with_moved state from to object (Some other)))))
     fair_onto other few fits at true is trades =
         let same : other ≡ object = eqb-true other object is in
         fair_same_object few (subst (λ o. FitsFlags (Some o) flags) same fits) (at ∙ ap (λ o. Some o) same)
     fair_onto other few fits at false is trades =
         by_refusal state (IsFair state (call.Rename fd name fd2 name2 flags)) rename_refuses
-        (replace_refusal (slice_get state.nodes object) (slice_get state.nodes other)) (done (with_moved state from to object (Some other)))
+        (replace_refusal (slice_get state.nodes object) (slice_get state.nodes other))
+        (done (with_moved state from to object (Some other)))
         (λ none. fair_moved (Some other) few (other_than flags exchange trades) fits at
         (λ same. other_than other object is (same_Some other object same)))
 
-    fair_traded : (other : ℕ) → flags ≤ 2 → FitsFlags (Some other) flags → name_at state.nodes file2.object name2 ≡ Some other → (trades : Bool) →
+    fair_traded : (other : ℕ) → flags ≤ 2 → FitsFlags (Some other) flags →
+        name_at state.nodes file2.object name2 ≡ Some other → (trades : Bool) →
         (not (other == object) && (flags == exchange)) ≡ trades →
         IsFair state (call.Rename fd name fd2 name2 flags)
         (cond trades (done (with_exchanged state from to object other)) (rename_onto state from to object (Some other)))
@@ -257,7 +295,8 @@ module _ (state : State) (seat : HostSeat) (fd : Fd) (name : List ℕ) (fd2 : Fd
         fair_exchanged other (eqb-true flags exchange (second_holds (not (other == object)) (flags == exchange) is)) at
     fair_traded other few fits at false is = fair_onto other few fits at (other == object) refl is
 
-    fair_to : (target : Option ℕ) → flags ≤ 2 → FitsFlags target flags → name_at state.nodes file2.object name2 ≡ target →
+    fair_to : (target : Option ℕ) → flags ≤ 2 → FitsFlags target flags →
+        name_at state.nodes file2.object name2 ≡ target →
         IsFair state (call.Rename fd name fd2 name2 flags) (rename_to state from to object target flags)
     fair_to None few fits at =
         fair_moved None few (λ two. (let e : true ≡ false = fits.trades two in cc)) fits at (λ same. cc)
@@ -269,27 +308,37 @@ module _ (state : State) (seat : HostSeat) (fd : Fd) (name : List ℕ) (fd2 : Fd
   fair_rename_found None few there = fair_refused state (call.Rename fd name fd2 name2 flags) enoent sound (tt, refl)
   fair_rename_found (Some object) few there =
       let target = name_at state.nodes file2.object name2 in
-      by_refusal state (IsFair state (call.Rename fd name fd2 name2 flags)) (λ errno. fair_refused state (call.Rename fd name fd2 name2 flags) errno sound (tt, refl))
-      (rename_refusal state seat file.object file2.object object target flags) (rename_to state from to object target flags)
+      by_refusal state (IsFair state (call.Rename fd name fd2 name2 flags)) (λ errno.
+      fair_refused state (call.Rename fd name fd2 name2 flags) errno sound (tt, refl))
+      (rename_refusal state seat file.object file2.object object target flags)
+      (rename_to state from to object target flags)
       (λ none. fair_to object there target few
-      (fits_flags (moves_into_itself state.nodes file.object file2.object object target flags) seat (slice_get state.nodes file.object)
-      (slice_get state.nodes file2.object) (slice_get state.nodes object) target (node_at state.nodes target) flags none) refl)
+      (fits_flags (moves_into_itself state.nodes file.object file2.object object target flags) seat
+      (slice_get state.nodes file.object)
+      (slice_get state.nodes file2.object) (slice_get state.nodes object) target
+      (node_at state.nodes target) flags none) refl)
 
   fair_between : (unknown : Bool) → nat_lt exchange flags ≡ unknown →
       IsFair state (call.Rename fd name fd2 name2 flags)
-      (cond unknown (refused state einval) (rename_found state seat from to flags (name_at state.nodes file.object name) (name_at state.nodes file2.object name2)))
+      (cond unknown (refused state einval)
+      (rename_found state seat from to flags (name_at state.nodes file.object name)
+      (name_at state.nodes file2.object name2)))
   fair_between true is = fair_refused state (call.Rename fd name fd2 name2 flags) einval sound (tt, refl)
   fair_between false is = fair_rename_found (name_at state.nodes file.object name) (ltb-false exchange flags is) refl
 
-module _ (state : State) (seat : HostSeat) (fd : Fd) (name : List ℕ) (fd2 : Fd) (name2 : List ℕ) (flags : ℕ) (sound : IsSound state) where
+module _ (state : State) (seat : HostSeat) (fd : Fd) (name : List ℕ) (fd2 : Fd) (name2 : List ℕ) (flags : ℕ)
+    (sound : IsSound state) where
   refuses : (errno : Errno) → IsFair state (call.Rename fd name fd2 name2 flags) (refused state errno)
   refuses errno = fair_refused state (call.Rename fd name fd2 name2 flags) errno sound (tt, refl)
 
   pub fair_rename : IsFair state (call.Rename fd name fd2 name2 flags) (rename state seat fd name fd2 name2 flags)
   fair_rename =
       by_fd state (IsFair state (call.Rename fd name fd2 name2 flags)) refuses fd2 _
-      (λ other another open_first there_first. by_name state (IsFair state (call.Rename fd name fd2 name2 flags)) refuses seat fd name _
-      (λ file dir is there asks. by_name state (IsFair state (call.Rename fd name fd2 name2 flags)) refuses seat fd2 name2 _
+      (λ other another open_first there_first.
+      by_name state (IsFair state (call.Rename fd name fd2 name2 flags)) refuses seat fd name _
+      (λ file dir is there asks.
+      by_name state (IsFair state (call.Rename fd name fd2 name2 flags)) refuses seat fd2 name2 _
       (λ file2 dir2 too there2 asks2. fair_between state seat fd name fd2 name2 flags sound file file2 is too
-      (asked_there state seat file.object dir name there asks) (asked_there state seat file2.object dir2 name2 there2 asks2)
+      (asked_there state seat file.object dir name there asks)
+      (asked_there state seat file2.object dir2 name2 there2 asks2)
       (nat_lt exchange flags) refl)))

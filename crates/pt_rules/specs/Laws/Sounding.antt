@@ -34,24 +34,32 @@ NamedBefore before nodes = (object : ℕ) → HasName nodes object → HasHold b
 
 -- what a descriptor is open on lived, and is there
 abbrev pub OpenedBefore : State → List Slot → Type 0
-OpenedBefore before slots = (fd : ℕ) (file : OpenFile) → open_at slots fd ≡ Some file → HasHold before file.object × (file.object < length before.nodes)
+OpenedBefore before slots =
+    (fd : ℕ) (file : OpenFile) → open_at slots fd ≡ Some file →
+    HasHold before file.object × (file.object < length before.nodes)
 
 abbrev pub state_with : State → List Node → List Slot → State
 state_with before nodes slots = record before { nodes = nodes; slots = slots }
 
-pub lived : (before : State) (nodes : List Node) (slots : List Slot) (object : ℕ) → NamedBefore before nodes → OpenedBefore before slots →
-    HasHold (state_with before nodes slots) object → HasHold before object
+pub lived : (before : State) (nodes : List Node) (slots : List Slot) (object : ℕ) → NamedBefore before nodes →
+    OpenedBefore before slots → HasHold (state_with before nodes slots) object → HasHold before object
 lived before nodes slots object named opened (inl root) = inl root
 lived before nodes slots object named opened (inr (inl has)) = (named object has).0
-lived before nodes slots object named opened (inr (inr (fd, file, is, same))) = subst (HasHold before) same (opened fd file is).0
+lived before nodes slots object named opened (inr (inr (fd, file, is, same))) =
+    subst (HasHold before) same (opened fd file is).0
 
-lived_alike : (before : State) (nodes : List Node) (slots : List Slot) (object : ℕ) → IsSound before → AreAlike before.nodes nodes →
-    NamedBefore before nodes → OpenedBefore before slots → Lives (state_with before nodes slots) object → Lives before object
+lived_alike : (before : State) (nodes : List Node) (slots : List Slot) (object : ℕ) → IsSound before →
+    AreAlike before.nodes nodes →
+    NamedBefore before nodes → OpenedBefore before slots → Lives (state_with before nodes slots) object →
+    Lives before object
 lived_alike before nodes slots object sound alike named opened lives =
-    lives_held before object (lived before nodes slots object named opened (held_has (state_with before nodes slots) object
-    (λ place node is. let was = alike.each place node is in was.2.ordered (sound.made place was.0 was.1).ordered) lives))
+    lives_held before object
+    (lived before nodes slots object named opened (held_has (state_with before nodes slots) object
+    (λ place node is. let was = alike.each place node is in
+    was.2.ordered (sound.made place was.0 was.1).ordered) lives))
 
-pub sound_after : (before : State) (nodes : List Node) (slots : List Slot) → IsSound before → AreAlike before.nodes nodes → NamedBefore before nodes →
+pub sound_after : (before : State) (nodes : List Node) (slots : List Slot) → IsSound before →
+    AreAlike before.nodes nodes → NamedBefore before nodes →
     OpenedBefore before slots → IsSound (state_with before nodes slots)
 sound_after before nodes slots sound alike named opened = record {
   timely = sound.timely;
@@ -65,7 +73,8 @@ sound_after before nodes slots sound alike named opened = record {
       let was = alike.each object node is in
       let before_that = alike.each another that other in
       sound.apart object another was.0 before_that.0 was.1 before_that.1
-      (lived_alike before nodes slots object sound alike named opened lives) (lived_alike before nodes slots another sound alike named opened lives_too)
+      (lived_alike before nodes slots object sound alike named opened lives)
+      (lived_alike before nodes slots another sound alike named opened lives_too)
       (sym (ap (λ ids. ids.dev) was.2.ids) ∙ dev ∙ ap (λ ids. ids.dev) before_that.2.ids)
       (sym (ap (λ ids. ids.ino) was.2.ids) ∙ ino ∙ ap (λ ids. ids.ino) before_that.2.ids);
 }

@@ -7,4 +7,5 @@ pub loop-name-init : goal.loop-name-init
 loop-name-init c =
     let entries : seen c.into_iter-name-iterator.result ≡ c.args.xattrs.now =
     ap seen (c.into_iter-name-iterator.ensures.into_iter_gives ∙ c.iter-name-items.ensures.rest) ∙ c.xattrs.view_is in
-    ap (λ names. names ++ names_listed (seen c.into_iter-name-iterator.result)) c.new-names.ensures.items ∙ ap names_listed entries
+    ap (λ names. names ++ names_listed (seen c.into_iter-name-iterator.result)) c.new-names.ensures.items
+    ∙ ap names_listed entries

@@ -13,6 +13,7 @@ invariant-loop-name l = record {
   path : l.path.items ≡ l.fn.path.items;
   from : l.length ≡ length l.fn.path.items;
   deep : 0 < l.depth;
-  best : fold lesser (kept_path l.best) (flat_map (entry_paths (l.depth - 1) l.nodes l.fn.path.items l.object) (seen l.name-iterator))
+  best : fold lesser (kept_path l.best)
+      (flat_map (entry_paths (l.depth - 1) l.nodes l.fn.path.items l.object) (seen l.name-iterator))
       ≡ fold lesser (kept_path l.fn.best) (paths_below l.depth l.nodes l.fn.path.items l.dir l.object);
 }

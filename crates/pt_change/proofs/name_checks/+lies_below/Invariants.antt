@@ -10,5 +10,6 @@ decreases-lies_below l = l.depth
 abbrev pub invariant-loop-child : goal.invariant-loop-child
 invariant-loop-child l = record {
   deep : 0 < l.depth;
-  rest : list_any (λ (entry : List ℕ × ℕ). lies_below (l.depth - 1) l.nodes entry.1 l.dir) (seen l.child-iterator) ≡ lies_below l.depth l.nodes l.object l.dir;
+  rest : list_any (λ (entry : List ℕ × ℕ). lies_below (l.depth - 1) l.nodes entry.1 l.dir) (seen l.child-iterator)
+      ≡ lies_below l.depth l.nodes l.object l.dir;
 }

@@ -13,7 +13,12 @@ lead_entry-requires-2 c =
     let from = seen_place c.args.from in
     let to = seen_place c.args.to in
     let one = c.lead_entry.ensures
-    ∙ ap (λ (b : Bool). changed_at to.0 (λ at. touched c.args.now (with_entry to.1 c.args.object b c.is_directory_at-another.result at)) nodes) c.is_directory_at-directory.ensures
-    ∙ ap (λ (b : Bool). changed_at to.0 (λ at. touched c.args.now (with_entry to.1 c.args.object (is_directory_at nodes c.args.object) b at)) nodes) c.is_directory_at-another.ensures in
+    ∙ ap (λ (b : Bool).
+    changed_at to.0 (λ at.
+    touched c.args.now (with_entry to.1 c.args.object b c.is_directory_at-another.result at)) nodes) c.is_directory_at-directory.ensures
+    ∙ ap (λ (b : Bool).
+    changed_at to.0 (λ at.
+    touched c.args.now (with_entry to.1 c.args.object
+    (is_directory_at nodes c.args.object) b at)) nodes) c.is_directory_at-another.ensures in
     ap (λ (ns : List Node). is_some (name_at ns from.0 from.1)) one
     ∙ ap is_some (leads_still c.args.now from to c.args.object c.args.other nodes c.requires.there c.requires.too)

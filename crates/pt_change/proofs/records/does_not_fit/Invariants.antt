@@ -7,5 +7,6 @@ abbrev pub invariant-loop-name : goal.invariant-loop-name
 invariant-loop-name l = record {
   before : l.place ≤ l.start;
   few : l.place + length l.name-iterator < 2 ^ 63;
-  rest : does_not_fit l.size (drop (l.start - l.place) (seen l.name-iterator)) ≡ does_not_fit l.size (names_from l.start l.dir);
+  rest : does_not_fit l.size (drop (l.start - l.place) (seen l.name-iterator))
+      ≡ does_not_fit l.size (names_from l.start l.dir);
 }

@@ -9,8 +9,10 @@ use Rattle.pt_fs.proofs.ends.finish_jobs.Given as goal
 
 abbrev pub invariant-loop-run : goal.invariant-loop-run
 invariant-loop-run l = record {
-  answers : (later : List Answer) → EachAnswered (into_iter_items l.run-iterator) later → EachAnswered l.fn.running.items (l.answers.items ++ later);
-  seats : l.seats.items ++ seated (map run_seat (into_iter_items l.run-iterator)) ≡ seated (map run_seat l.fn.running.items);
+  answers : (later : List Answer) → EachAnswered (into_iter_items l.run-iterator) later →
+      EachAnswered l.fn.running.items (l.answers.items ++ later);
+  seats : l.seats.items
+      ++ seated (map run_seat (into_iter_items l.run-iterator)) ≡ seated (map run_seat l.fn.running.items);
   room_answers : length l.answers.items + length (into_iter_items l.run-iterator) ≤ vec_capacity l.answers;
   room_seats : length l.seats.items + length (into_iter_items l.run-iterator) ≤ vec_capacity l.seats;
   finished : (j : ℕ) → IsFinishedAt (into_iter_items l.run-iterator) j;

@@ -6,6 +6,8 @@ use Rattle.pt_fs.proofs.ends.start_all.Given as goal
 
 abbrev pub invariant-loop-job : goal.invariant-loop-job
 invariant-loop-job g l = record {
-  started : (later : List Running) → EachStarted (g.F.SteppedFs.plan_of l.fn.fs) (into_iter_items l.job-iterator) later → EachStarted (g.F.SteppedFs.plan_of l.fn.fs) l.fn.jobs.items (l.running.items ++ later);
+  started : (later : List Running) →
+      EachStarted (g.F.SteppedFs.plan_of l.fn.fs) (into_iter_items l.job-iterator) later →
+      EachStarted (g.F.SteppedFs.plan_of l.fn.fs) l.fn.jobs.items (l.running.items ++ later);
   count : into_iter_len l.job-iterator ≡ length (into_iter_items l.job-iterator);
 }

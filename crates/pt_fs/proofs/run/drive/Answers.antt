@@ -30,13 +30,25 @@ pub returns : goal.returns
 returns g c =
     let jobs = c.args.jobs.items in
     let trace = c.run_all.new.trace.items in
-    let whole : Whole g.H.Host.does (g.F.SteppedFs.plan_of c.args.fs) c.args.schedule.now c.args.host.now jobs c.in-Ok.started.0.items (g.F.SteppedFs.tables c.args.fs)
-    c.run_all.new.host c.run_all.new.running.items (g.F.SteppedFs.tables c.run_all.new.fs) trace c.finish_jobs.new.answers.items =
-    record { none = c.in-Ok.started.1.trace.items; empty = c.in-Ok.ensures.trace; started = c.in-Ok.ensures.started; goes = c.run_all.ensures.goes; finished = c.run_all.ensures.finished; answered = c.finish_jobs.ensures.answers } in
+    let whole : Whole g.H.Host.does
+    (g.F.SteppedFs.plan_of c.args.fs) c.args.schedule.now c.args.host.now jobs c.in-Ok.started.0.items
+    (g.F.SteppedFs.tables c.args.fs)
+    c.run_all.new.host c.run_all.new.running.items
+    (g.F.SteppedFs.tables c.run_all.new.fs) trace c.finish_jobs.new.answers.items =
+    record {
+      none = c.in-Ok.started.1.trace.items;
+      empty = c.in-Ok.ensures.trace;
+      started = c.in-Ok.ensures.started;
+      goes = c.run_all.ensures.goes;
+      finished = c.run_all.ensures.finished;
+      answered = c.finish_jobs.ensures.answers;
+    } in
     let seats = c.finish_jobs.ensures.seats in
     let ran = ran_whole whole c.requires.new in
     let kept = keeps g.H.Host.does g.H.Host.faults g.met.H.Host.promised _ _ _ _ _ trace _ _ _ ran in
-    let lawful : Tells g.H.Host.does g.H.Host.tree = λ from seat asked reply to seat_after made before at. let l = g.met.H.Host.lawful from seat asked reply to seat_after made before at in (l.0, l.1, l.2) in
+    let lawful : Tells g.H.Host.does g.H.Host.tree =
+    λ from seat asked reply to seat_after made before at. let l =
+    g.met.H.Host.lawful from seat asked reply to seat_after made before at in (l.0, l.1, l.2) in
     let told = keeps_told g.H.Host.does g.H.Host.tree g.H.Host.faults g.met.H.Host.promised lawful _ _ _ _ _ trace _ _ _ ran in
     record {
       steps = jobs_whole _ whole seats;

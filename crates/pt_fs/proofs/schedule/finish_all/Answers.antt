@@ -6,7 +6,13 @@ use Rattle.pt_fs.proofs.Going.{goes_none, goes_on}
 use Rattle.pt_fs.proofs.schedule.finish_all.Goals as goal
 
 pub loop-place-init : goal.loop-place-init
-loop-place-init g c = let e : length c.args.running.now - 0 ≡ length c.args.running.now = omega arith in record { room = c.requires.room; plan = refl; goes = rw e (goes_none _ _ _ _ _ _ _); finished = λ j below. absurd (omega arith) }
+loop-place-init g c = let e : length c.args.running.now - 0 ≡ length c.args.running.now = omega arith in
+    record {
+      room = c.requires.room;
+      plan = refl;
+      goes = rw e (goes_none _ _ _ _ _ _ _);
+      finished = λ j below. absurd (omega arith);
+    }
 
 pub loop-place-preserved : goal.loop-place-preserved
 loop-place-preserved g c =
@@ -16,7 +22,9 @@ loop-place-preserved g c =
     record {
       room = c.finish_one.ensures.room;
       plan = c.finish_one.ensures.plan ∙ c.loop-place.invariant.plan;
-      goes = goes_on _ _ _ (rest_of n 0) (rest_of (suc (n - (k + 1))) k) (rest_of (n - (k + 1)) (k + 1)) _ _ _ _ _ _ _ _ _ _ _ _ c.loop-place.invariant.plan (rw more at c.loop-place.invariant.goes) (c.finish_one.ensures.goes (n - (k + 1)));
+      goes = goes_on _ _ _ (rest_of n 0) (rest_of (suc (n - (k + 1))) k)
+          (rest_of (n - (k + 1)) (k + 1)) _ _ _ _ _ _ _ _ _ _ _ _ c.loop-place.invariant.plan
+          (rw more at c.loop-place.invariant.goes) (c.finish_one.ensures.goes (n - (k + 1)));
       finished = λ j below. elim (cases_eq j k) [
         | inl same ↦ rw same c.finish_one.ensures.finished
         | inr other ↦ c.finish_one.ensures.others j (c.loop-place.invariant.finished j (omega arith))
@@ -24,4 +32,6 @@ loop-place-preserved g c =
     }
 
 pub returns-clause-finished : goal.returns-clause-finished
-returns-clause-finished g c = λ j run at. c.loop-place.invariant.finished j (let inside = slice_get_within c.loop-place.running j run at in omega arith) run at
+returns-clause-finished g c =
+    λ j run at. c.loop-place.invariant.finished j (let inside = slice_get_within c.loop-place.running j run at in
+    omega arith) run at

@@ -9,6 +9,8 @@ abbrev pub invariant-loop-place : goal.invariant-loop-place
 invariant-loop-place g l = record {
   room : length l.trace.items + work l.running (g.F.SteppedFs.tables l.fs) ≤ vec_capacity l.trace;
   plan : g.F.SteppedFs.plan_of l.fs ≡ g.F.SteppedFs.plan_of l.fn.fs;
-  goes : Goes g.H.Host.does (g.F.SteppedFs.plan_of l.fn.fs) (rest_of (length l.fn.running) 0) l.fn.host l.fn.running (g.F.SteppedFs.tables l.fn.fs) l.fn.trace.items (rest_of (length l.fn.running - l.place) l.place) l.host l.running (g.F.SteppedFs.tables l.fs) l.trace.items;
+  goes : Goes g.H.Host.does (g.F.SteppedFs.plan_of l.fn.fs) (rest_of (length l.fn.running) 0) l.fn.host l.fn.running
+      (g.F.SteppedFs.tables l.fn.fs) l.fn.trace.items
+      (rest_of (length l.fn.running - l.place) l.place) l.host l.running (g.F.SteppedFs.tables l.fs) l.trace.items;
   finished : (j : ℕ) → j < l.place → IsFinishedAt l.running j;
 }

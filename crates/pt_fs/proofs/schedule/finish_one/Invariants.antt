@@ -9,7 +9,10 @@ abbrev pub invariant-loop-alloc : goal.invariant-loop-alloc
 invariant-loop-alloc g l = record {
   room : length l.trace.items + work l.running (g.F.SteppedFs.tables l.fs) ≤ vec_capacity l.trace;
   plan : g.F.SteppedFs.plan_of l.fs ≡ g.F.SteppedFs.plan_of l.fn.fs;
-  goes : (jobs : ℕ) → Goes g.H.Host.does (g.F.SteppedFs.plan_of l.fn.fs) (rest_of (suc jobs) l.fn.place) l.fn.host l.fn.running (g.F.SteppedFs.tables l.fn.fs) l.fn.trace.items (rest_of (suc jobs) l.fn.place) l.host l.running (g.F.SteppedFs.tables l.fs) l.trace.items;
+  goes : (jobs : ℕ) →
+      Goes g.H.Host.does (g.F.SteppedFs.plan_of l.fn.fs) (rest_of (suc jobs) l.fn.place) l.fn.host l.fn.running
+      (g.F.SteppedFs.tables l.fn.fs) l.fn.trace.items (rest_of (suc jobs) l.fn.place) l.host l.running
+      (g.F.SteppedFs.tables l.fs) l.trace.items;
   others : (j : ℕ) → IsFinishedAt l.fn.running j → IsFinishedAt l.running j;
   inside : l.place < length l.running;
 }

@@ -7,4 +7,6 @@ pub returns-clause-goes : goal.returns-clause-goes
 returns-clause-goes g c =
     let n = length c.args.running.now in
     let same : length c.run_schedule.new.running ≡ n = omega arith in
-    goes_on _ _ _ (order c.args.schedule.now n) (rest_of n 0) (rest_of 0 n) _ _ _ _ _ _ _ _ _ _ _ _ c.run_schedule.ensures.plan c.run_schedule.ensures.goes (rw same at c.finish_all.ensures.goes)
+    goes_on _ _ _ (order c.args.schedule.now n) (rest_of n 0)
+    (rest_of 0 n) _ _ _ _ _ _ _ _ _ _ _ _ c.run_schedule.ensures.plan c.run_schedule.ensures.goes
+    (rw same at c.finish_all.ensures.goes)

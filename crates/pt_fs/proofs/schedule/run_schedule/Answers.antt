@@ -14,8 +14,10 @@ loop-place-preserved g c =
     let n = length c.args.running.now in
     let so_far = rw (drop_more places i 0 c.loop-place-test.true) at c.loop-place.invariant.goes in
     record {
-      goes = goes_on _ _ _ (order places n) (order (get_or places i 0 ∷ drop (i + 1) places) n) (order (drop (i + 1) places) n) _ _ _ _ _ _ _ _ _ _ _ _ c.loop-place.invariant.plan so_far
-          (goes_place _ _ (get_or places i 0) (drop (i + 1) places) n _ _ _ _ _ _ _ _ c.take_if_unfinished.ensures.goes);
+      goes = goes_on _ _ _ (order places n) (order (get_or places i 0 ∷ drop (i + 1) places) n)
+          (order (drop (i + 1) places) n) _ _ _ _ _ _ _ _ _ _ _ _ c.loop-place.invariant.plan so_far
+          (goes_place _ _ (get_or places i 0)
+          (drop (i + 1) places) n _ _ _ _ _ _ _ _ c.take_if_unfinished.ensures.goes);
       plan = c.take_if_unfinished.ensures.plan ∙ c.loop-place.invariant.plan;
       room = c.take_if_unfinished.ensures.room;
     }

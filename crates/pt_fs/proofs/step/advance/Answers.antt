@@ -13,8 +13,12 @@ returns-clause-advances g c =
     let told = c.told_twice-shown in
     let was = c.args.running.now.state in
     let job = c.take.new.self in
-    let goes = subst (λ (plan : Plan). (steps : List Step) (end : Finish) → Belongs (owes plan job) steps end → Belongs (after told.result.1 (owes plan was)) steps end)
+    let goes = subst (λ (plan : Plan). (steps : List Step) (end : Finish) → Belongs (owes plan job) steps end →
+    Belongs (after told.result.1 (owes plan was)) steps end)
     (c.plan.ensures ∙ made.ensures.plan) c.take.ensures.belongs in
-    advanced g.H.Host.does g.H.Host.faults g.met.H.Host.promised (owes (g.F.SteppedFs.plan_of c.args.fs.now) was) (owes (g.F.SteppedFs.plan_of c.args.fs.now) job) (kept_deed_of c.wanted-act.result) made.result
-    told.result.0 told.result.1 c.args.host.now c.args.running.now.seat (g.F.SteppedFs.tables c.args.fs.now) made.new.host made.new.seat (g.F.SteppedFs.tables made.new.fs) c.wanted-act.ensures made.ensures.made
+    advanced g.H.Host.does g.H.Host.faults g.met.H.Host.promised (owes (g.F.SteppedFs.plan_of c.args.fs.now) was)
+    (owes (g.F.SteppedFs.plan_of c.args.fs.now) job) (kept_deed_of c.wanted-act.result) made.result
+    told.result.0 told.result.1 c.args.host.now c.args.running.now.seat
+    (g.F.SteppedFs.tables c.args.fs.now) made.new.host made.new.seat
+    (g.F.SteppedFs.tables made.new.fs) c.wanted-act.ensures made.ensures.made
     told.ensures.told told.ensures.same goes

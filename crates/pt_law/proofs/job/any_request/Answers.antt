@@ -10,7 +10,8 @@ pub returns-clause-whole : goal.returns-clause-whole
 returns-clause-whole c = fit_ends
 
 pub returns-clause-cut : goal.returns-clause-cut
-returns-clause-cut c = λ asked tree steps end f t b. (fit_ends_cut asked tree steps end f t b, is_cut (framed tree []) steps end b)
+returns-clause-cut c =
+    λ asked tree steps end f t b. (fit_ends_cut asked tree steps end f t b, is_cut (framed tree []) steps end b)
 
 pub returns-clause-branch : goal.returns-clause-branch
 returns-clause-branch c = λ tree steps end b. branch tree [] steps end b

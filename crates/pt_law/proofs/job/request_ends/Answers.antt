@@ -7,13 +7,19 @@ use Rattle.pt_law.proofs.Opened.{opened}
 use Rattle.pt_law.proofs.Requests.{fit_request}
 
 pub returns-clause-ends : goal.returns-clause-ends
-returns-clause-ends c = λ plan asked steps end t b. (fit_ends asked (tree_of plan asked) steps end (fit_request plan asked) t b).0
+returns-clause-ends c =
+    λ plan asked steps end t b. (fit_ends asked (tree_of plan asked) steps end (fit_request plan asked) t b).0
 
 pub returns-clause-causes : goal.returns-clause-causes
-returns-clause-causes c = λ plan asked steps errno t b. (fit_ends asked (tree_of plan asked) steps _ (fit_request plan asked) t b).1
+returns-clause-causes c =
+    λ plan asked steps errno t b. (fit_ends asked (tree_of plan asked) steps _ (fit_request plan asked) t b).1
 
 pub returns-clause-cut : goal.returns-clause-cut
-returns-clause-cut c = λ plan asked steps end t b. (fit_ends_cut asked (tree_of plan asked) steps end (fit_request plan asked) t b, is_cut (grammar_of plan asked) steps end b)
+returns-clause-cut c =
+    λ plan asked steps end t b. (
+      fit_ends_cut asked (tree_of plan asked) steps end (fit_request plan asked) t b,
+      is_cut (grammar_of plan asked) steps end b,
+    )
 
 pub returns-clause-opened : goal.returns-clause-opened
 returns-clause-opened c = opened

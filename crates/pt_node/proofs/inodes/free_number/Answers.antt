@@ -18,4 +18,5 @@ returns-in-Some c = λ other.
     ∙ freed_at c.args.dev c.args.number tables place table found there other
 
 pub returns-in_default : goal.returns-in_default
-returns-in_default c = λ other. freed_none c.args.dev c.args.number c.args.tables.now (sym c.place_of.ensures ∙ c.in_default.is) other
+returns-in_default c =
+    λ other. freed_none c.args.dev c.args.number c.args.tables.now (sym c.place_of.ensures ∙ c.in_default.is) other

@@ -19,7 +19,8 @@ returns-clause-number c =
     let table = c.index_mut.result.now in
     let found = c.in_ok-place.ensures.place in
     let within = (position-Some (is_of c.args.dev) tables place table found).0 in
-    let there = slice_get-get_or tables place table within ∙ ap (λ (t : NumberTable). Some t) (sym c.index_mut.ensures.value) in
+    let there = slice_get-get_or tables place table within
+    ∙ ap (λ (t : NumberTable). Some t) (sym c.index_mut.ensures.value) in
     c.from.ensures ∙ c.in_ok-number.ensures.fd
     ∙ ap least_free (sym (numbers_at c.args.dev tables place table found there) ∙ c.in_ok-place.ensures.same c.args.dev)
 
@@ -31,7 +32,8 @@ returns-clause-tables c = λ other.
     let table = c.index_mut.result.now in
     let found = c.in_ok-place.ensures.place in
     let within = (position-Some (is_of dev) tables place table found).0 in
-    let there = slice_get-get_or tables place table within ∙ ap (λ (t : NumberTable). Some t) (sym c.index_mut.ensures.value) in
+    let there = slice_get-get_or tables place table within
+    ∙ ap (λ (t : NumberTable). Some t) (sym c.index_mut.ensures.value) in
     let numbers = sym (numbers_at dev tables place table found there) ∙ c.in_ok-place.ensures.same dev in
     let put = c.in_ok-number.ensures.ok
     ∙ ap (λ (file : OpenFile). put_at c.in_ok-number.number.0 (Open file) table.numbers) c.having.ensures
@@ -39,5 +41,6 @@ returns-clause-tables c = λ other.
     ∙ ap (put_at c.from.result (Open (having c.args.object))) numbers in
     given_at dev tables place table c.open.new.self found there other
     ∙ ap (λ (ns : List Slot). set_at dev ns (table_in tables) other) put
-    ∙ ap (λ (ts : ℕ → List Slot). set_at dev (put_at c.from.result (Open (having c.args.object)) (table_in c.args.tables.now.items dev)) ts other)
+    ∙ ap (λ (ts : ℕ → List Slot).
+    set_at dev (put_at c.from.result (Open (having c.args.object)) (table_in c.args.tables.now.items dev)) ts other)
     (same_function _ _ c.in_ok-place.ensures.same)

@@ -7,7 +7,8 @@ use Rattle.pt_node.proofs.inodes.table_for.Goals as goal
 pub returns-clause-place : goal.returns-clause-place
 returns-clause-place c =
     let tables = c.args.tables.now.items in
-    let none = ap (position (is_of c.args.dev)) (sym c.deref.ensures.value) ∙ sym c.place_of.ensures ∙ c.in_default.is in
+    let none = ap (position (is_of c.args.dev)) (sym c.deref.ensures.value) ∙ sym c.place_of.ensures
+    ∙ c.in_default.is in
     let long : length tables ≡ c.len-place.result = omega (arith, c.len-place.ensures, c.args.tables.now.ok.0) in
     ap (position (is_of c.args.dev)) c.in_ok-push.ensures.items
     ∙ pushed_place c.args.dev tables (record { dev = c.args.dev; numbers = c.in_ok-numbers.numbers }) refl none

@@ -10,6 +10,8 @@ returns-in-None-clause-parts c = parts-none c.args.path.now (sym c.in-None.ensur
 pub returns-in-Some-clause-parts : goal.returns-in-Some-clause-parts
 returns-in-Some-clause-parts c =
     let rest = drop (c.in-Some.at + 1) c.args.path.now in
-    let whole : length rest ≤ length c.args.path.now - (c.in-Some.at + 1) = omega (arith, length-drop (c.in-Some.at + 1) c.args.path.now) in
+    let whole : length rest ≤ length c.args.path.now - (c.in-Some.at + 1) =
+    omega (arith, length-drop (c.in-Some.at + 1) c.args.path.now) in
     parts-some c.args.path.now c.in-Some.at (sym c.in-Some.ensures)
-    ∙ ap (λ more. take c.in-Some.at c.args.path.now ∷ parts more) (sym (take_all (length c.args.path.now - (c.in-Some.at + 1)) rest whole))
+    ∙ ap (λ more. take c.in-Some.at c.args.path.now
+    ∷ parts more) (sym (take_all (length c.args.path.now - (c.in-Some.at + 1)) rest whole))

@@ -10,7 +10,8 @@ places-init c = rw c.new-places.ensures (behind-nothing (places_in c.args.words.
 
 pub places-preserved : goal.places-preserved
 places-preserved c =
-    behind-more c.places.places c.push_place.new.places c.in-Ok.field-0 c.places.words c.push_place.new.words (places_in c.args.words.now)
+    behind-more c.places.places c.push_place.new.places c.in-Ok.field-0 c.places.words c.push_place.new.words
+    (places_in c.args.words.now)
     c.in-Ok.ensures.ok c.in-Ok.ensures.pushed c.places.invariant
 
 pub places-smaller : goal.places-smaller
@@ -23,4 +24,5 @@ returns-in-Err-clause-bad c = λ is.
     (c.in-Err.ensures.bad (ap (λ (e : LineError). Err e) bad)) c.places.invariant
 
 pub returns-clause-ok : goal.returns-clause-ok
-returns-clause-ok c = behind-all c.places.places c.places.words (places_in c.args.words.now) (search rules) c.places.invariant
+returns-clause-ok c =
+    behind-all c.places.places c.places.words (places_in c.args.words.now) (search rules) c.places.invariant

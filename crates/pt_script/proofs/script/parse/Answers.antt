@@ -5,7 +5,9 @@ use Rattle.pt_script.proofs.script.parse.Goals as goal
 
 pub returns-in-Err-clause-bad : goal.returns-in-Err-clause-bad
 returns-in-Err-clause-bad c =
-    IsBadLine-tree c.args.bytes.now c.in-Ok.scan.lines c.in-Ok.scan.bad _ _ _ c.in-Ok.ensures.scanned (c.lines.ensures.lines ∙ ap set_lines c.settings-settings.ensures) c.into_parts-tree.ensures.tree c.in-Err.ensures.bad
+    IsBadLine-tree c.args.bytes.now c.in-Ok.scan.lines c.in-Ok.scan.bad _ _ _ c.in-Ok.ensures.scanned
+    (c.lines.ensures.lines
+    ∙ ap set_lines c.settings-settings.ensures) c.into_parts-tree.ensures.tree c.in-Err.ensures.bad
 
 pub returns-in-Some-clause-bad : goal.returns-in-Some-clause-bad
 returns-in-Some-clause-bad c =

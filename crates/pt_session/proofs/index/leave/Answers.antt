@@ -5,5 +5,9 @@ use Rattle.pt_session.proofs.index.leave.Goals as goal
 
 pub returns-then-row-clause-objects : goal.returns-then-row-clause-objects
 returns-then-row-clause-objects c =
-    let left = subst (λ (key : ObjectKey). Puts key None (by_object c.args.objects.now) (by_object c.remove-then-row.new.self)) c.object_key.ensures (puts_object c.object_key.result _ _ _ c.remove-then-row.ensures.updates.0) in
-    subst (λ (live : Bool). Leaves live (key_of c.args.row.now.ids) (by_object c.args.objects.now) (by_object c.remove-then-row.new.self)) (sym c.if-row.true) left
+    let left = subst (λ (key : ObjectKey).
+    Puts key None (by_object c.args.objects.now) (by_object c.remove-then-row.new.self)) c.object_key.ensures
+    (puts_object c.object_key.result _ _ _ c.remove-then-row.ensures.updates.0) in
+    subst (λ (live : Bool).
+    Leaves live (key_of c.args.row.now.ids) (by_object c.args.objects.now) (by_object c.remove-then-row.new.self))
+    (sym c.if-row.true) left

@@ -9,7 +9,8 @@ pub loop-name-init : goal.loop-name-init
 loop-name-init t c =
     let deep : 0 < c.args.depth = omega arith in
     let entries : seen c.into_iter-name-iterator.result ≡ names_at (slice_get c.args.nodes.now c.args.dir) =
-    ap seen (c.into_iter-name-iterator.ensures.into_iter_gives ∙ c.iter-name-items.ensures.rest) ∙ c.names.view_is ∙ c.in-Some.ensures in
+    ap seen (c.into_iter-name-iterator.ensures.into_iter_gives ∙ c.iter-name-items.ensures.rest) ∙ c.names.view_is
+    ∙ c.in-Some.ensures in
     record {
       path = refl;
       from = omega (arith, c.args.path.now.ok);

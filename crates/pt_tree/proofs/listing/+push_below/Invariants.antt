@@ -13,5 +13,7 @@ invariant-loop-name l = record {
   path : l.path.items ≡ l.fn.path.items;
   from : l.length ≡ length l.fn.path.items;
   deep : 0 < l.depth;
-  lines : l.out.items ++ flat_map (entry_lines (l.depth - 1) l.nodes l.fn.path.items) (seen l.name-iterator) ≡ l.fn.out.items ++ lines_below l.depth l.nodes l.fn.path.items l.dir;
+  lines : l.out.items
+      ++ flat_map (entry_lines (l.depth - 1) l.nodes l.fn.path.items) (seen l.name-iterator) ≡ l.fn.out.items
+      ++ lines_below l.depth l.nodes l.fn.path.items l.dir;
 }

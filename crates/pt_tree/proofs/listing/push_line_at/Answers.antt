@@ -10,7 +10,8 @@ returns-in_ok-push_xattrs-in-Some c =
     let path = c.args.path.now in
     let node = c.in-Some.node.now in
     let lookup = c.in-Some.ensures.lookup in
-    let there = slice_get-get_or c.args.nodes.now c.args.object node lookup.3.0 ∙ ap (λ (n : Node). Some n) (sym lookup.1) in
+    let there = slice_get-get_or c.args.nodes.now c.args.object node lookup.3.0
+    ∙ ap (λ (n : Node). Some n) (sym lookup.1) in
     c.in_ok-push_xattrs-in-Some.ensures
     ∙ ap (λ (front : List ℕ). front ++ flat_map (xattr_line path) node.xattrs) c.in_ok-push_object-in-Some.ensures
     ∙ append_assoc c.args.out.now.items (object_line path node) (flat_map (xattr_line path) node.xattrs)

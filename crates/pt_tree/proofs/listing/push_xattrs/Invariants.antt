@@ -5,4 +5,6 @@ use Rattle.pt_node.specs.Laws.NameOrder.{seen}
 use Rattle.pt_tree.proofs.listing.push_xattrs.Given as goal
 
 abbrev pub invariant-loop-name : goal.invariant-loop-name
-invariant-loop-name l = l.out.items ++ flat_map (xattr_line l.path) (seen l.name-iterator) ≡ l.fn.out.items ++ flat_map (xattr_line l.path) l.xattrs
+invariant-loop-name l =
+    l.out.items ++ flat_map (xattr_line l.path) (seen l.name-iterator) ≡ l.fn.out.items
+    ++ flat_map (xattr_line l.path) l.xattrs

@@ -6,4 +6,5 @@ use Rattle.pt_node.proofs.attributes.Attributes.insert.Goals as goal
 pub returns-clause-ok : goal.returns-clause-ok
 returns-clause-ok c =
     let e = c.in_ok-insert.ensures.entries in
-    ap seen e ∙ named-seen c.args.name c.args.value c.self.inside.kept.entries ∙ ap (with_value c.args.name.items c.args.value) c.self.view_is
+    ap seen e ∙ named-seen c.args.name c.args.value c.self.inside.kept.entries
+    ∙ ap (with_value c.args.name.items c.args.value) c.self.view_is

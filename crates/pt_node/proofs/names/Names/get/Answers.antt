@@ -6,4 +6,5 @@ use Rattle.pt_node.proofs.names.Names.get.Goals as goal
 pub returns : goal.returns
 returns c =
     let e = c.get.ensures.value in
-    c.copied.ensures ∙ e ∙ found-seen c.args.name.now c.self.inside.kept.entries ∙ ap (found c.args.name.now) c.self.view_is
+    c.copied.ensures ∙ e ∙ found-seen c.args.name.now c.self.inside.kept.entries
+    ∙ ap (found c.args.name.now) c.self.view_is

@@ -6,10 +6,13 @@ use Rattle.pt_node.proofs.names.Names.lead.Goals as goal
 
 pub lead_in-requires : goal.lead_in-requires
 lead_in-requires c =
-    ap is_some (found-seen c.args.name.now c.self.inside.kept.entries ∙ ap (found c.args.name.now) c.self.view_is) ∙ c.requires
+    ap is_some (found-seen c.args.name.now c.self.inside.kept.entries ∙ ap (found c.args.name.now) c.self.view_is)
+    ∙ c.requires
 
 pub returns : goal.returns
 returns c =
-    let there = ap is_some (found-seen c.args.name.now c.self.inside.kept.entries ∙ ap (found c.args.name.now) c.self.view_is) ∙ c.requires in
-    ap seen c.lead_in.ensures.entries ∙ led-seen c.args.name.now c.args.object c.self.inside.kept.entries c.lead_in.ensures.ordered there
+    let there = ap is_some (found-seen c.args.name.now c.self.inside.kept.entries
+    ∙ ap (found c.args.name.now) c.self.view_is) ∙ c.requires in
+    ap seen c.lead_in.ensures.entries
+    ∙ led-seen c.args.name.now c.args.object c.self.inside.kept.entries c.lead_in.ensures.ordered there
     ∙ ap (named c.args.name.now c.args.object) c.self.view_is

@@ -4,4 +4,5 @@ use Rattle.pt_node.specs.Laws.NameOrder.{seen, unnamed-seen}
 use Rattle.pt_node.proofs.names.Names.remove.Goals as goal
 
 pub returns : goal.returns
-returns c = ap seen c.remove.ensures.entries ∙ unnamed-seen c.args.name.now c.self.inside.kept.entries ∙ ap (unnamed c.args.name.now) c.self.view_is
+returns c = ap seen c.remove.ensures.entries ∙ unnamed-seen c.args.name.now c.self.inside.kept.entries
+    ∙ ap (unnamed c.args.name.now) c.self.view_is

@@ -10,6 +10,8 @@ pub invariant_of-self : goal.invariant_of-self
 invariant_of-self c =
     let slots = c.self.inside.slots.items in
     let file = c.in-Some.file in
-    let held = ap (λ (ss : List Slot). open_at ss c.args.fd.0) (sym c.deref.ensures.value) ∙ sym c.file_at.ensures ∙ c.in-Some.is in
-    reopened_table slots (heap_items c.self.inside.free) (heap_capacity c.self.inside.free) c.args.fd.0 file (record file { position = c.args.position })
+    let held = ap (λ (ss : List Slot). open_at ss c.args.fd.0) (sym c.deref.ensures.value) ∙ sym c.file_at.ensures
+    ∙ c.in-Some.is in
+    reopened_table slots (heap_items c.self.inside.free) (heap_capacity c.self.inside.free) c.args.fd.0 file
+    (record file { position = c.args.position })
     c.self.invariant (open_slot (slice_get slots c.args.fd.0) file held)

@@ -13,4 +13,5 @@ returns-in-InsertRoot-Inserted-clause-held c =
 pub returns-in-InsertHandle-Inserted-clause-held : goal.returns-in-InsertHandle-Inserted-clause-held
 returns-in-InsertHandle-Inserted-clause-held c =
     let arm = c.in-InsertHandle-Inserted in
-    rw (arm.is-0, arm.is-1) (c.fd_taken-in-InsertHandle-Inserted.ensures.handle arm.era-0 0 arm.number-0 arm.handle-0 arm.fd-0)
+    rw (arm.is-0, arm.is-1)
+    (c.fd_taken-in-InsertHandle-Inserted.ensures.handle arm.era-0 0 arm.number-0 arm.handle-0 arm.fd-0)

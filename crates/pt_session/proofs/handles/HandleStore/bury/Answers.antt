@@ -10,7 +10,10 @@ pub put_handle-requires : goal.put_handle-requires
 put_handle-requires c = ap is_some (handle_is_there _ _ c.self.invariant _ c.self.view_is _ c.requires.among)
 
 pub invariant_of-self : goal.invariant_of-self
-invariant_of-self c = handles_buried _ _ c.self.invariant _ c.self.view_is _ _ _ _ c.requires.among c.requires.live c.dead.ensures c.put_handle.ensures.entries c.put_handle.ensures.puts c.leave_handle.ensures
+invariant_of-self c =
+    handles_buried _ _ c.self.invariant _ c.self.view_is _ _ _ _ c.requires.among c.requires.live c.dead.ensures c.put_handle.ensures.entries c.put_handle.ensures.puts c.leave_handle.ensures
 
 pub returns : goal.returns
-returns c = subst (λ (now : HandleRow). Replaces c.args.row.now now c.args.self.now (reverse (values_of c.put_handle.new.rows.entries))) c.dead.ensures (handle_seen_replaced _ _ c.self.invariant _ c.self.view_is _ _ _ c.requires.among c.put_handle.ensures.entries)
+returns c = subst (λ (now : HandleRow).
+    Replaces c.args.row.now now c.args.self.now (reverse (values_of c.put_handle.new.rows.entries))) c.dead.ensures
+    (handle_seen_replaced _ _ c.self.invariant _ c.self.view_is _ _ _ c.requires.among c.put_handle.ensures.entries)

@@ -5,4 +5,5 @@ pub returns-in-None : goal.returns-in-None
 returns-in-None c = handle_least_missed _ _ c.self.invariant _ c.self.view_is _ c.in-None.is c.next_number.ensures
 
 pub returns-in-Some : goal.returns-in-Some
-returns-in-Some c = handle_least_finds _ _ c.self.invariant _ c.self.view_is _ _ _ _ c.in-Some.is c.handle_row_at.ensures c.next_number.ensures
+returns-in-Some c =
+    handle_least_finds _ _ c.self.invariant _ c.self.view_is _ _ _ _ c.in-Some.is c.handle_row_at.ensures c.next_number.ensures

@@ -6,7 +6,10 @@ use Rattle.pt_session.proofs.store.RowStore.slots.Goals as goal
 
 pub returns : goal.returns
 returns c =
-    let rows : row_slots c.args.self.now.rows ≡ length c.self.inside.rows.entries = rows_hold c.args.self.now.rows ∙ length_seen _ _ (ap (λ (stored : Stored). stored.rows) c.self.view_is) in
-    let handles : length c.self.inside.handles ≡ length c.args.self.now.handles = ap (λ (stored : Stored). length stored.handles) c.self.view_is in
-    let closing : closing_slots c.self.inside.closing.items ≡ closing_slots c.args.self.now.closing = ap (λ (stored : Stored). closing_slots stored.closing) c.self.view_is in
+    let rows : row_slots c.args.self.now.rows ≡ length c.self.inside.rows.entries =
+    rows_hold c.args.self.now.rows ∙ length_seen _ _ (ap (λ (stored : Stored). stored.rows) c.self.view_is) in
+    let handles : length c.self.inside.handles ≡ length c.args.self.now.handles =
+    ap (λ (stored : Stored). length stored.handles) c.self.view_is in
+    let closing : closing_slots c.self.inside.closing.items ≡ closing_slots c.args.self.now.closing =
+    ap (λ (stored : Stored). closing_slots stored.closing) c.self.view_is in
     omega (arith, rows, handles, closing, c.len.ensures.len, c.len-2.ensures, c.slots_of.ensures.same)

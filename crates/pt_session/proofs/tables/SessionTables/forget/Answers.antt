@@ -4,7 +4,10 @@ use Rattle.pt_session.proofs.tables.SessionTables.forget.Goals as goal
 
 pub loop-pair-preserved : goal.loop-pair-preserved
 loop-pair-preserved c = record {
-  whole = forgets_on _ _ _ _ c.loop-pair.pair-index (0, 0) _ _ c.loop-pair-test.true c.loop-pair.invariant.whole c.forget_one-closings.ensures.tables;
+  whole = forgets_on _ _ _ _ c.loop-pair.pair-index (
+    0,
+    0,
+  ) _ _ c.loop-pair-test.true c.loop-pair.invariant.whole c.forget_one-closings.ensures.tables;
   bound = omega arith;
 }
 

@@ -6,6 +6,7 @@ use Rattle.pt_session.proofs.tables.SessionTables.forget.Given as goal
 
 abbrev pub invariant-loop-pair : goal.invariant-loop-pair
 invariant-loop-pair l = record {
-  whole : (more : ℕ) (after : Tables) → ForgetsAll (tables_of l.self) (drop l.pair-index l.list) more after → ForgetsAll (tables_of l.fn.self) l.list (l.closings + more) after;
+  whole : (more : ℕ) (after : Tables) → ForgetsAll (tables_of l.self) (drop l.pair-index l.list) more after →
+      ForgetsAll (tables_of l.fn.self) l.list (l.closings + more) after;
   bound : l.closings ≤ l.pair-index;
 }

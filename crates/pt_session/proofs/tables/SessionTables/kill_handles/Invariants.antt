@@ -8,7 +8,8 @@ use Rattle.pt_session.proofs.tables.SessionTables.kill_handles.Given as goal
 
 abbrev pub invariant-loop-row : goal.invariant-loop-row
 invariant-loop-row l = record {
-  whole : (more : ℕ) (after : Tables) → HandlesDie (tables_of l.self) more after → HandlesDie (tables_of l.fn.self) (l.closings + more) after;
+  whole : (more : ℕ) (after : Tables) → HandlesDie (tables_of l.self) more after →
+      HandlesDie (tables_of l.fn.self) (l.closings + more) after;
   bound : length l.fn.self.store.closing + l.closings ≡ length l.self.store.closing;
 }
 

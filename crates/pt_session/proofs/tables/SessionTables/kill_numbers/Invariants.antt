@@ -8,7 +8,8 @@ use Rattle.pt_session.proofs.tables.SessionTables.kill_numbers.Given as goal
 
 abbrev pub invariant-loop-row : goal.invariant-loop-row
 invariant-loop-row l = record {
-  whole : (more : ℕ) (after : Tables) → NumbersDie (tables_of l.self) more after → NumbersDie (tables_of l.fn.self) (l.closings + more) after;
+  whole : (more : ℕ) (after : Tables) → NumbersDie (tables_of l.self) more after →
+      NumbersDie (tables_of l.fn.self) (l.closings + more) after;
   bound : l.closings ≤ length l.self.store.closing;
 }
 

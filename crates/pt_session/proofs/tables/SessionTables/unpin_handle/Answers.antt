@@ -3,13 +3,21 @@ use Rattle.pt_session.specs.Tables.{HandleRow}
 use Rattle.pt_session.specs.Happens.{ChangesHandle}
 use Rattle.pt_session.specs.Kept.{tables_of}
 use Rattle.pt_session.proofs.tables.SessionTables.unpin_handle.Goals as goal
-use Rattle.pt_session.proofs.tables.SessionTables.unpin_handle.Goals.{else-pins-eq0-via-then-pins-eq0+else-not-row, else-pins-eq0-via-else-pins-eq0}
+use Rattle.pt_session.proofs.tables.SessionTables.unpin_handle.Goals.{else-pins-eq0-via-then-pins-eq0+else-not-row}
+use Rattle.pt_session.proofs.tables.SessionTables.unpin_handle.Goals.{else-pins-eq0-via-else-pins-eq0}
 
 pub returns-else-pins-eq0 : goal.returns-else-pins-eq0
 returns-else-pins-eq0 c =
     let row = c.in-Some.row in
-    let stays : (row.live ≡ true) ⊎ (row.pins - 1 ≢ 0) = elim c.else-pins-eq0.branch [ else-pins-eq0-via-then-pins-eq0+else-not-row w ↦ inl (search rules) | else-pins-eq0-via-else-pins-eq0 w ↦ inr (search rules) ] in
+    let stays : (row.live ≡ true) ⊎ (row.pins - 1 ≢ 0) =
+    elim c.else-pins-eq0.branch [
+      | else-pins-eq0-via-then-pins-eq0+else-not-row w ↦
+          inl (search rules)
+      | else-pins-eq0-via-else-pins-eq0 w ↦ inr (search rules)
+    ] in
     let found = c.in-Some.ensures in
     let e : row.pins ≡ suc (row.pins - 1) = omega (arith, found.0.1) in
-    let changes = subst (λ (now : HandleRow). ChangesHandle (tables_of c.args.self.now) row now (tables_of c.change_handle.new.self)) c.with_pins.ensures c.change_handle.ensures in
+    let changes = subst (λ (now : HandleRow).
+    ChangesHandle (tables_of c.args.self.now) row now
+    (tables_of c.change_handle.new.self)) c.with_pins.ensures c.change_handle.ensures in
     (row, row.pins - 1, found.0.0, e, inr (stays, refl, changes))

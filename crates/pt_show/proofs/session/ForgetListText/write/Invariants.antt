@@ -5,4 +5,5 @@ use Rattle.pt_show.proofs.session.ForgetListText.write.Given as goal
 
 abbrev pub invariant-loop-pair : goal.invariant-loop-pair
 invariant-loop-pair l =
-    l.out.items ++ items_text pair_text (drop l.pair-index l.pairs) ≡ l.initial.out.items ++ items_text pair_text l.pairs
+    l.out.items ++ items_text pair_text (drop l.pair-index l.pairs) ≡ l.initial.out.items
+    ++ items_text pair_text l.pairs

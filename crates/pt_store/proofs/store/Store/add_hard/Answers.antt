@@ -18,19 +18,22 @@ use Rattle.pt_store.proofs.store.Store.add_hard.Goals as goal
 pub link_name-requires-clause-into : goal.link_name-requires-clause-into
 link_name-requires-clause-into c =
     let nodes = c.args.self.now.nodes.items in
-    let place = ap (λ (ns : List Node). place_of ns c.args.path.now) (sym c.deref.ensures.value) ∙ sym c.in-Some.ensures in
+    let place = ap (λ (ns : List Node). place_of ns c.args.path.now) (sym c.deref.ensures.value)
+    ∙ sym c.in-Some.ensures in
     (place_free nodes c.args.path.now (c.in-Some.dir, c.in-Some.name.now) place).0
 
 pub link_name-requires-clause-free : goal.link_name-requires-clause-free
 link_name-requires-clause-free c =
     let nodes = c.args.self.now.nodes.items in
-    let place = ap (λ (ns : List Node). place_of ns c.args.path.now) (sym c.deref.ensures.value) ∙ sym c.in-Some.ensures in
+    let place = ap (λ (ns : List Node). place_of ns c.args.path.now) (sym c.deref.ensures.value)
+    ∙ sym c.in-Some.ensures in
     (place_free nodes c.args.path.now (c.in-Some.dir, c.in-Some.name.now) place).1
 
 pub link_name-requires-clause-lives : goal.link_name-requires-clause-lives
 link_name-requires-clause-lives c =
     named_lives (state_of c.args.self.now) c.args.old.now c.in-Some-object_named.object
-    (ap (λ (ns : List Node). object_named ns c.args.old.now) (sym c.deref-2.ensures.value) ∙ sym c.in-Some-object_named.ensures)
+    (ap (λ (ns : List Node). object_named ns c.args.old.now) (sym c.deref-2.ensures.value)
+    ∙ sym c.in-Some-object_named.ensures)
 
 pub returns-clause-starting : goal.returns-clause-starting
 returns-clause-starting c = λ added.
@@ -41,7 +44,8 @@ returns-clause-starting c = λ added.
     let linked : after ≡ with_linked state c.in-Some.dir c.in-Some.name.now c.in-Some-object_named.object = told.ok in
     let same : c.link_name.new.self.inodes.tables.items ≡ c.args.self.now.inodes.tables.items = told.tables in
     subst (λ (ts : List NumberTable). IsStarted after held (table_in ts)) (sym same)
-    (started_alike state c.args.self.now.inodes.holds.items (table_in c.args.self.now.inodes.tables.items) c.requires after held
+    (started_alike state c.args.self.now.inodes.holds.items
+    (table_in c.args.self.now.inodes.tables.items) c.requires after held
     (subst (λ (ts : List NumberTable). IsKept after held (table_in ts)) same told.kept)
     (ap (λ (s : State). s.calls) linked ∙ c.requires.begun) (ap (λ (s : State). s.mounts) linked)
     (subst (λ (s : State). AreAlike state.nodes s.nodes) (sym linked)

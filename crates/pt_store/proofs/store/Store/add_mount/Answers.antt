@@ -1,4 +1,5 @@
-use Rattle.std.proofs.Common.{◌≡◌, ◌<◌, ◌+◌, ◌^◌, ℕ, List, [], ◌∷◌, ◌++◌, length, Some, true, pos, refl, slice_get, ap, sym, ◌∙◌, arith, rules}
+use Rattle.std.proofs.Common.{◌≡◌, ◌<◌, ◌+◌, ◌^◌, ℕ, List, [], ◌∷◌, ◌++◌, length, Some, true, pos, refl, slice_get}
+use Rattle.std.proofs.Common.{ap, sym, ◌∙◌, arith, rules}
 use Rattle.std.proofs.lemmas.Option.{slice_get-get_or}
 use Rattle.pt_host.specs.Words.{set_at}
 use Rattle.pt_rules.specs.Edits.{grown, with_made}
@@ -37,7 +38,8 @@ returns-clause-starting c = λ added.
     let place = ap (λ (ns : List Node). place_of ns path) (sym c.deref.ensures.value)
     ∙ ap (place_of c.deref.result.now) (sym c.as_slice-2.ensures) ∙ sym c.in-Some.ensures in
     let free = place_free state.nodes path (dir, name) place in
-    let is_new : is_new_mount state.mounts id dev path ≡ true = ap (is_new_mount state.mounts id dev) (sym c.as_slice.ensures) ∙ sym c.if-not-is_new_mount.ensures in
+    let is_new : is_new_mount state.mounts id dev path ≡ true =
+    ap (is_new_mount state.mounts id dev) (sym c.as_slice.ensures) ∙ sym c.if-not-is_new_mount.ensures in
     let own = new_mount state.mounts id dev path is_new in
     let lookup = c.in-Some-get.ensures.lookup in
     let at_dir = ap (λ (ns : List Node). slice_get ns dir) (sym c.deref-2.ensures.value)
@@ -58,13 +60,17 @@ returns-clause-starting c = λ added.
     let few : length (with_made with_mount_in dir name node).nodes < 2 ^ 63 =
     omega (arith, long, c.add_node.new.nodes.ok.0, c.add_node.new.nodes.ok.1, c.add_node.new.nodes.small) in
     let mounts = c.in_ok-insert.ensures.ok
-    ∙ ap (λ (p : List ℕ). with_mount id (record { parent = mnt; dev = dev; path = p }) state.mounts) c.in_ok-copy.ensures in
-    started_as (with_made with_mount_in dir name node) _ (holds ++ 1 ∷ []) _ (given dev (having (length state.nodes)) tables) _
+    ∙ ap (λ (p : List ℕ).
+    with_mount id (record { parent = mnt; dev = dev; path = p }) state.mounts) c.in_ok-copy.ensures in
+    started_as (with_made with_mount_in dir name node) _ (holds
+    ++ 1 ∷ []) _ (given dev (having (length state.nodes)) tables) _
     (ap (λ (ns : List Node). with_both state ns c.insert.new.self) nodes
     ∙ ap (λ (ms : List (ℕ × Mount)). with_both state (with_made with_mount_in dir name node).nodes ms) mounts)
     c.in_ok-add.ensures.holds
     (same_function _ _ c.in_ok-add.ensures.tables
-    ∙ ap (λ (n : ℕ). set_at dev (put_at n (Open (having c.len-object.result)) (tables dev)) tables) c.in_ok-add.ensures.number
+    ∙ ap (λ (n : ℕ). set_at dev
+    (put_at n (Open (having c.len-object.result)) (tables dev)) tables) c.in_ok-add.ensures.number
     ∙ ap (λ (o : ℕ). given dev (having o) tables) object)
-    (started_made with_mount_in holds tables starting dir name node parent free.0 free.1 refl refl (omega arith) at_dir (sym number) few
+    (started_made with_mount_in holds tables starting dir name node parent free.0 free.1 refl refl
+    (omega arith) at_dir (sym number) few
     (own_device state holds tables mnt id dev path own.0))

@@ -1,4 +1,5 @@
-use Rattle.std.proofs.Common.{◌≡◌, ◌<◌, ◌+◌, ◌^◌, ℕ, List, [], ◌∷◌, ◌++◌, length, Some, pos, refl, slice_get, ap, sym, ◌∙◌, arith, rules}
+use Rattle.std.proofs.Common.{◌≡◌, ◌<◌, ◌+◌, ◌^◌, ℕ, List, [], ◌∷◌, ◌++◌, length, Some, pos, refl, slice_get, ap, sym}
+use Rattle.std.proofs.Common.{◌∙◌, arith, rules}
 use Rattle.std.proofs.lemmas.Option.{slice_get-get_or}
 use Rattle.pt_host.specs.Words.{set_at}
 use Rattle.pt_rules.specs.Edits.{grown, with_made}
@@ -27,7 +28,8 @@ returns-clause-starting c = λ added.
     let name = c.in-Some.name.now in
     let parent = c.in-Some-get.parent.now in
     let dev = parent.ids.dev in
-    let place = ap (λ (ns : List Node). place_of ns c.args.path.now) (sym c.deref.ensures.value) ∙ sym c.in-Some.ensures in
+    let place = ap (λ (ns : List Node). place_of ns c.args.path.now) (sym c.deref.ensures.value)
+    ∙ sym c.in-Some.ensures in
     let free = place_free state.nodes c.args.path.now (dir, name) place in
     let lookup = c.in-Some-get.ensures.lookup in
     let at_dir = ap (λ (ns : List Node). slice_get ns dir) (sym c.deref-2.ensures.value)
@@ -38,8 +40,11 @@ returns-clause-starting c = λ added.
     let object = c.len-object.ensures ∙ c.args.self.now.nodes.ok.0 in
     let full = (starting.dense dev).full in
     let new = c.new_object-node.ensures
-    ∙ ap (λ (n : ℕ). new_object never n (c.len-object.result + 1) parent c.args.permissions c.args.uid c.args.gid c.args.rdev c.args.content) (c.in_ok-number.ensures.number ∙ full)
-    ∙ ap (λ (n : ℕ). new_object never (next_number state.nodes dev) (n + 1) parent c.args.permissions c.args.uid c.args.gid c.args.rdev c.args.content) object in
+    ∙ ap (λ (n : ℕ). new_object never n (c.len-object.result
+    + 1) parent c.args.permissions c.args.uid c.args.gid c.args.rdev c.args.content)
+    (c.in_ok-number.ensures.number ∙ full)
+    ∙ ap (λ (n : ℕ). new_object never (next_number state.nodes dev) (n
+    + 1) parent c.args.permissions c.args.uid c.args.gid c.args.rdev c.args.content) object in
     let nodes = c.in_ok-add_node.ensures.ok
     ∙ ap (λ (n : Node). grown never dir c.in_ok-name.name.items n state.nodes) new
     ∙ ap (λ (q : List ℕ). grown never dir q node state.nodes) same
@@ -50,6 +55,7 @@ returns-clause-starting c = λ added.
     started_as (with_made state dir name node) _ (holds ++ 1 ∷ []) _ (given dev (having (length state.nodes)) tables) _
     (ap (nodes_in state) nodes) c.in_ok-number.ensures.holds
     (same_function _ _ c.in_ok-number.ensures.tables
-    ∙ ap (λ (n : ℕ). set_at dev (put_at n (Open (having c.len-object.result)) (tables dev)) tables) c.in_ok-number.ensures.number
+    ∙ ap (λ (n : ℕ). set_at dev
+    (put_at n (Open (having c.len-object.result)) (tables dev)) tables) c.in_ok-number.ensures.number
     ∙ ap (λ (o : ℕ). given dev (having o) tables) object)
     (started_made state holds tables starting dir name node parent free.0 free.1 c.requires.empty refl c.requires.small at_dir (sym full) few (starting.mounted dir parent at_dir))

@@ -21,10 +21,14 @@ returns-in_ok-insert-clause-starting c = λ added.
     let object = c.in-Some.object in
     let name = c.in_ok-name.name.items in
     let bytes = c.in_ok-value.value in
-    let within : object < length state.nodes = omega (arith, c.if-object-len.true, c.len-2.ensures, c.args.self.now.nodes.ok.0) in
+    let within : object < length state.nodes =
+    omega (arith, c.if-object-len.true, c.len-2.ensures, c.args.self.now.nodes.ok.0) in
     let at = get_there state.nodes object within in
     let was = c.index_mut.ensures.value ∙ get_or_from_slice_get state.nodes object at.0 _ at.1 in
-    let nodes = ap (λ (xattrs : List (List ℕ × List ℕ)). slice_set state.nodes object (record c.index_mut.result.now { xattrs = xattrs })) c.in_ok-insert.ensures.ok
+    let nodes = ap (λ (xattrs : List (List ℕ × List ℕ)).
+    slice_set state.nodes object (record c.index_mut.result.now { xattrs = xattrs })) c.in_ok-insert.ensures.ok
     ∙ ap (λ (n : Node). slice_set state.nodes object (valued name bytes n)) was
     ∙ sym (changed_is object (valued name bytes) state.nodes at.0 at.1) in
-    subst (λ (ns : List Node). IsStarted (nodes_in state ns) holds tables) (sym nodes) (started_xattr state holds tables c.requires name bytes object)
+    subst (λ (ns : List Node).
+    IsStarted (nodes_in state ns) holds tables) (sym nodes)
+    (started_xattr state holds tables c.requires name bytes object)

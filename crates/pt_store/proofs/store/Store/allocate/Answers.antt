@@ -27,6 +27,7 @@ returns-in-Ok-clause-kept c =
     let after = c.rewrite.ensures
     ∙ ap (λ (n : Node). rewritten c.now-now.result c.in-Ok.bytes n) was
     ∙ ap (λ (now : Time). rewritten now c.in-Ok.bytes node) c.now-now.ensures in
-    kept_as (with_node state object (rewritten (time_of state) c.in-Ok.bytes node)) _ holds _ tables _ (ap (nodes_in state) (ap (slice_set state.nodes object) after)) refl refl
+    kept_as (with_node state object (rewritten (time_of state) c.in-Ok.bytes node)) _ holds _ tables _
+    (ap (nodes_in state) (ap (slice_set state.nodes object) after)) refl refl
     (kept_node state holds tables c.requires object node (rewritten (time_of state) c.in-Ok.bytes node) there
     (keeps_rewritten (time_of state) c.in-Ok.bytes node))

@@ -6,7 +6,8 @@ use Rattle.pt_store.proofs.store.Store.call.Goals as goal
 pub returns-clause-answers : goal.returns-clause-answers
 returns-clause-answers c = record {
   numbers = numbers_of c.args.self.now;
-  least = next_least (state_of c.args.self.now) c.args.self.now.inodes.holds.items (table_in c.args.self.now.inodes.tables.items) c.requires;
+  least = next_least (state_of c.args.self.now) c.args.self.now.inodes.holds.items
+      (table_in c.args.self.now.inodes.tables.items) c.requires;
   state = state_of c.answer_or_fail-reply.new.self;
   answered = c.answer_or_fail-reply.ensures.answers;
   counts = c.count.ensures.counts;

@@ -27,6 +27,7 @@ returns-clause-kept c =
     let after = c.change_mode.ensures
     ∙ ap (λ (n : Node). restamped c.now-now.result (moded c.args.mode n)) was
     ∙ ap (λ (now : Time). restamped now (moded c.args.mode node)) c.now-now.ensures in
-    kept_as (with_node state object (restamped (time_of state) (moded c.args.mode node))) _ holds _ tables _ (ap (nodes_in state) (ap (slice_set state.nodes object) after)) refl refl
+    kept_as (with_node state object (restamped (time_of state) (moded c.args.mode node))) _ holds _ tables _
+    (ap (nodes_in state) (ap (slice_set state.nodes object) after)) refl refl
     (kept_node state holds tables c.requires object node (restamped (time_of state) (moded c.args.mode node)) there
     (record { ids = refl; serial = refl; object = refl; names = refl; permissions = λ small. omega arith }))

@@ -19,7 +19,8 @@ returns-clause-kept c =
     let holds = c.args.self.now.inodes.holds.items in
     let tables = table_in c.args.self.now.inodes.tables.items in
     let object = c.in-Some.file.object in
-    let within : object < length state.nodes = omega (arith, c.if-file-len.false, c.len.ensures, c.args.self.now.nodes.ok.0) in
+    let within : object < length state.nodes =
+    omega (arith, c.if-file-len.false, c.len.ensures, c.args.self.now.nodes.ok.0) in
     let at = get_there state.nodes object within in
     let was = c.index_mut.ensures.value ∙ get_or_from_slice_get state.nodes object at.0 _ at.1 in
     let after = c.change_owner.ensures
@@ -27,5 +28,6 @@ returns-clause-kept c =
     ∙ ap (λ (now : Time). restamped now (owned c.args.uid c.args.gid at.0)) c.now-now.ensures in
     kept_as (with_node state object (restamped (time_of state) (owned c.args.uid c.args.gid at.0))) _ holds _ tables _
     (ap (nodes_in state) (ap (slice_set state.nodes object) after)) refl refl
-    (kept_node state holds tables c.requires object at.0 (restamped (time_of state) (owned c.args.uid c.args.gid at.0)) at.1
+    (kept_node state holds tables c.requires object at.0
+    (restamped (time_of state) (owned c.args.uid c.args.gid at.0)) at.1
     (record { ids = refl; serial = refl; object = refl; names = refl; permissions = λ small. small }))

@@ -28,7 +28,8 @@ returns-in-Ok-clause-answers c =
     let at2 = ap (λ (ns : List Node). slice_get ns file2.object) (sym c.deref-2.ensures.value)
     ∙ slice_get-get_or c.deref-2.result.now file2.object target lookup2.3.0
     ∙ ap (λ (n : Node). Some n) (sym lookup2.1) in
-    let takes = c.part_of-part.ensures ∙ ap (λ (bytes : List ℕ). part_of c.args.from.1 c.args.size bytes) c.bytes.ensures in
+    let takes = c.part_of-part.ensures
+    ∙ ap (λ (bytes : List ℕ). part_of c.args.from.1 c.args.size bytes) c.bytes.ensures in
     let none = sym (c.in_default-copy_refusal.ensures) in
     let some : 0 < length part = grind (arith, common_steps) in
     let was = c.index_mut-in-Ok.ensures.value ∙ get_or_from_slice_get state.nodes file.object node _ at in
@@ -36,9 +37,11 @@ returns-in-Ok-clause-answers c =
     ∙ ap (λ (now : Time). slice_set state.nodes file.object (after_reading now node)) c.now-now.ensures in
     let bytes = c.in-Ok.ensures ∙ ap (written c.args.to.1 part) c.bytes-2.ensures in
     let becomes = c.refill.ensures
-    ∙ ap (λ (now : Time). refilled c.args.seat.now now c.in-Ok.bytes c.index_mut-in-Ok-2.result.now) c.now-now.ensures in
+    ∙ ap (λ (now : Time).
+    refilled c.args.seat.now now c.in-Ok.bytes c.index_mut-in-Ok-2.result.now) c.now-now.ensures in
     inl (copy_some state c.args.seat.now c.args.from.0 c.args.to.0 c.args.from.1 c.args.to.1 c.args.size c.args.flags file file2 node target
-    (sym c.in-Some.ensures) at (sym c.in-Some-get-2.ensures) at2 part takes none some _ c.index_mut-in-Ok-2.result.now c.refill.new.self c.in-Ok.bytes _
+    (sym c.in-Some.ensures) at
+    (sym c.in-Some-get-2.ensures) at2 part takes none some _ c.index_mut-in-Ok-2.result.now c.refill.new.self c.in-Ok.bytes _
     same c.index_mut-in-Ok-2.ensures.value bytes becomes)
 
 pub returns-in-Ok-clause-kept : goal.returns-in-Ok-clause-kept
@@ -66,7 +69,8 @@ returns-then-is_empty-clause-answers c =
     let at2 = ap (λ (ns : List Node). slice_get ns file2.object) (sym c.deref-2.ensures.value)
     ∙ slice_get-get_or c.deref-2.result.now file2.object target lookup2.3.0
     ∙ ap (λ (n : Node). Some n) (sym lookup2.1) in
-    let takes = c.part_of-part.ensures ∙ ap (λ (bytes : List ℕ). part_of c.args.from.1 c.args.size bytes) c.bytes.ensures in
+    let takes = c.part_of-part.ensures
+    ∙ ap (λ (bytes : List ℕ). part_of c.args.from.1 c.args.size bytes) c.bytes.ensures in
     let none = sym (c.in_default-copy_refusal.ensures) in
     let nothing : part ≡ [] = grind (arith, common_steps) in
     let was = c.index_mut.ensures.value ∙ get_or_from_slice_get state.nodes file.object node _ at in

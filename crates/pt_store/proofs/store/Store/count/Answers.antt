@@ -14,4 +14,6 @@ pub returns-clause-kept : goal.returns-clause-kept
 returns-clause-kept c =
     let holds = c.args.self.now.inodes.holds.items in
     let tables = table_in c.args.self.now.inodes.tables.items in
-    subst (λ (s : State). IsKept s holds tables) (sym (returns-clause-counts c)) (kept_counted (state_of c.args.self.now) holds tables c.requires)
+    subst (λ (s : State).
+    IsKept s holds tables) (sym (returns-clause-counts c))
+    (kept_counted (state_of c.args.self.now) holds tables c.requires)

@@ -17,9 +17,11 @@ returns-clause-kept c =
     let tables = table_in c.args.self.now.inodes.tables.items in
     let from = seen_place c.args.from in
     let to = seen_place c.args.to in
-    let nodes = with_items_is c.args.self.now.nodes c.exchange.new.nodes (c.exchange.auto.nodes ∙ c.deref_mut.ensures.len)
+    let nodes = with_items_is c.args.self.now.nodes c.exchange.new.nodes (c.exchange.auto.nodes
+    ∙ c.deref_mut.ensures.len)
     ∙ c.exchange.ensures
     ∙ ap (λ (now : Time). exchanged now from to c.args.object c.args.other c.deref_mut.result.now) c.now-now.ensures
     ∙ ap (exchanged (time_of state) from to c.args.object c.args.other) c.deref_mut.ensures.value in
-    kept_as (with_exchanged state from to c.args.object c.args.other) _ holds _ tables _ (ap (nodes_in state) nodes) refl refl
+    kept_as (with_exchanged state from to c.args.object c.args.other) _ holds _ tables _
+    (ap (nodes_in state) nodes) refl refl
     (kept_exchanged state holds tables from to c.args.object c.args.other c.requires.kept c.requires.there c.requires.too)

@@ -6,4 +6,5 @@ use Rattle.pt_store.proofs.store.Store.fail.Goals as goal
 pub returns-clause-kept : goal.returns-clause-kept
 returns-clause-kept c =
     let closed = c.close_failing.new.self in
-    kept_beside (state_of closed) closed.inodes.holds.items (table_in closed.inodes.tables.items) c.close_failing.ensures.kept closed.plans _
+    kept_beside (state_of closed) closed.inodes.holds.items
+    (table_in closed.inodes.tables.items) c.close_failing.ensures.kept closed.plans _

@@ -22,6 +22,7 @@ returns-clause-kept c =
     ∙ ap (λ (now : Time). linked now c.args.dir c.in_ok-name.name.items object c.deref_mut.result.now) c.now-now.ensures
     ∙ ap (linked (time_of state) c.args.dir c.in_ok-name.name.items object) c.deref_mut.ensures.value
     ∙ ap (λ (q : List ℕ). linked (time_of state) c.args.dir q object state.nodes) name in
-    kept_as (with_linked state c.args.dir c.args.name.now object) _ (slice_set holds object (slice_index holds object + 1)) _ tables _
+    kept_as (with_linked state c.args.dir c.args.name.now object) _
+    (slice_set holds object (slice_index holds object + 1)) _ tables _
     (ap (nodes_in state) nodes) (ap (slice_set holds object) c.in-Some.ensures.1) refl
     (kept_linked state holds tables c.args.dir c.args.name.now object c.requires.kept c.requires.into c.requires.free c.requires.lives)

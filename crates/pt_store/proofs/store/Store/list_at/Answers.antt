@@ -30,7 +30,9 @@ returns-in-Ok-clause-kept c =
     ∙ ap (λ (now : Time). slice_set state.nodes object (after_reading now node)) c.now-now.ensures in
     let read = with_node state object (after_reading (time_of state) node) in
     kept_as (with_position read c.args.fd.0 c.in-Ok.listed.place) _ holds _ tables _
-    (ap (λ (ns : List Node). parts_in state ns c.go_to.new.self) nodes ∙ ap (λ (slots : List Slot). parts_in state read.nodes slots) c.go_to.ensures) refl refl
+    (ap (λ (ns : List Node). parts_in state ns c.go_to.new.self) nodes
+    ∙ ap (λ (slots : List Slot). parts_in state read.nodes slots) c.go_to.ensures) refl refl
     (kept_placed read holds tables
-    (kept_node state holds tables c.requires object node (after_reading (time_of state) node) there (keeps_reading (time_of state) node))
+    (kept_node state holds tables c.requires object node (after_reading (time_of state) node) there
+    (keeps_reading (time_of state) node))
     c.args.fd.0 c.in-Ok.listed.place)

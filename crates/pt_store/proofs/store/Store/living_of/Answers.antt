@@ -20,7 +20,8 @@ loop-place-preserved c =
     let nodes = c.args.self.now.nodes.items in
     let state = state_of c.args.self.now in
     let place = c.loop-place.place in
-    let within : place < length nodes = omega (arith, c.loop-place-test.true, c.len-place-end.ensures, c.args.self.now.nodes.ok.0) in
+    let within : place < length nodes =
+    omega (arith, c.loop-place-test.true, c.len-place-end.ensures, c.args.self.now.nodes.ok.0) in
     let at = get_there nodes place within in
     let step = count_from (lives_on state c.args.dev) place nodes at.0 at.1 in
     let told = c.lives_on.ensures ∙ ap (lives_where state c.args.dev place) at.1 in
@@ -34,7 +35,9 @@ pub returns : goal.returns
 returns c =
     let nodes = c.args.self.now.nodes.items in
     let state = state_of c.args.self.now in
-    let past : length nodes ≤ c.loop-place.place = omega (arith, c.loop-place-test.false, c.len-place-end.ensures, c.args.self.now.nodes.ok.0) in
-    let none = count_end (lives_on state c.args.dev) c.loop-place.place c.loop-place.place nodes (past_end nodes c.loop-place.place past) in
+    let past : length nodes ≤ c.loop-place.place =
+    omega (arith, c.loop-place-test.false, c.len-place-end.ensures, c.args.self.now.nodes.ok.0) in
+    let none = count_end (lives_on state c.args.dev) c.loop-place.place c.loop-place.place nodes
+    (past_end nodes c.loop-place.place past) in
     let rest = c.loop-place.invariant.rest in
     omega (arith, rest, none)

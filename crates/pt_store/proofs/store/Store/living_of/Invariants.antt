@@ -8,5 +8,6 @@ use Rattle.pt_store.proofs.store.Store.living_of.Given as goal
 abbrev pub invariant-loop-place : goal.invariant-loop-place
 invariant-loop-place l = record {
   few : l.living ≤ l.place;
-  rest : l.living + count_by (lives_on (state_of l.self) l.dev) (enumerate_from l.place (drop l.place l.self.nodes.items)) ≡ living_of (state_of l.self) l.dev;
+  rest : l.living + count_by (lives_on (state_of l.self) l.dev)
+      (enumerate_from l.place (drop l.place l.self.nodes.items)) ≡ living_of (state_of l.self) l.dev;
 }

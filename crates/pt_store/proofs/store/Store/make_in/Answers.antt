@@ -1,4 +1,5 @@
-use Rattle.std.proofs.Common.{◌≡◌, ◌<◌, ◌+◌, ◌^◌, ◌-◌, ℕ, List, [], ◌∷◌, ◌++◌, length, take, Some, refl, slice_get, ap, sym, ◌∙◌, arith, rules}
+use Rattle.std.proofs.Common.{◌≡◌, ◌<◌, ◌+◌, ◌^◌, ◌-◌, ℕ, List, [], ◌∷◌, ◌++◌, length, take, Some, refl, slice_get}
+use Rattle.std.proofs.Common.{ap, sym, ◌∙◌, arith, rules}
 use Rattle.std.proofs.lemmas.Option.{slice_get-get_or}
 use Rattle.pt_host.specs.Words.{set_at}
 use Rattle.pt_host.specs.declared.ids.Time.{Time}
@@ -22,7 +23,8 @@ returns-in-Ok-add_node-clause-kept c =
     let tables = table_in c.args.self.now.inodes.tables.items in
     let parent = c.in-Some.parent.now in
     let dev = parent.ids.dev in
-    let node = made state (numbers_of c.args.self.now) c.args.permissions c.args.uid c.args.gid c.args.rdev c.args.content parent in
+    let node = made state
+    (numbers_of c.args.self.now) c.args.permissions c.args.uid c.args.gid c.args.rdev c.args.content parent in
     let lookup = c.in-Some.ensures.lookup in
     let at_dir = ap (λ (ns : List Node). slice_get ns c.args.dir) (sym c.deref.ensures.value)
     ∙ slice_get-get_or c.deref.result.now c.args.dir parent lookup.3.0
@@ -30,9 +32,13 @@ returns-in-Ok-add_node-clause-kept c =
     let name : c.in-Ok.name.items ≡ c.args.name.now = search rules in
     let object = c.len-object.ensures ∙ c.args.self.now.nodes.ok.0 in
     let new = c.new_object-node.ensures
-    ∙ ap (λ (now : Time). new_object now c.in-Ok-add.number (c.len-object.result + 1) parent c.args.permissions c.args.uid c.args.gid c.args.rdev c.args.content) c.now-now.ensures
-    ∙ ap (λ (n : ℕ). new_object (time_of state) n (c.len-object.result + 1) parent c.args.permissions c.args.uid c.args.gid c.args.rdev c.args.content) c.in-Ok-add.ensures.number
-    ∙ ap (λ (n : ℕ). new_object (time_of state) (least_free (tables dev)) (n + 1) parent c.args.permissions c.args.uid c.args.gid c.args.rdev c.args.content) object in
+    ∙ ap (λ (now : Time).
+    new_object now c.in-Ok-add.number (c.len-object.result
+    + 1) parent c.args.permissions c.args.uid c.args.gid c.args.rdev c.args.content) c.now-now.ensures
+    ∙ ap (λ (n : ℕ). new_object (time_of state) n (c.len-object.result
+    + 1) parent c.args.permissions c.args.uid c.args.gid c.args.rdev c.args.content) c.in-Ok-add.ensures.number
+    ∙ ap (λ (n : ℕ). new_object (time_of state) (least_free (tables dev)) (n
+    + 1) parent c.args.permissions c.args.uid c.args.gid c.args.rdev c.args.content) object in
     let nodes = c.in-Ok-add_node.ensures.ok
     ∙ ap (λ (n : Node). grown c.now-now.result c.args.dir c.in-Ok.name.items n state.nodes) new
     ∙ ap (λ (now : Time). grown now c.args.dir c.in-Ok.name.items node state.nodes) c.now-now.ensures
@@ -40,10 +46,12 @@ returns-in-Ok-add_node-clause-kept c =
     let long = ap length nodes in
     let few : length (with_made state c.args.dir c.args.name.now node).nodes < 2 ^ 63 =
     omega (arith, long, c.add_node.new.nodes.ok.0, c.add_node.new.nodes.ok.1, c.add_node.new.nodes.small) in
-    kept_as (with_made state c.args.dir c.args.name.now node) _ (holds ++ 1 ∷ []) _ (given dev (having (length state.nodes)) tables) _
+    kept_as (with_made state c.args.dir c.args.name.now node) _ (holds
+    ++ 1 ∷ []) _ (given dev (having (length state.nodes)) tables) _
     (ap (nodes_in state) nodes) c.in-Ok-add.ensures.holds
     (same_function _ _ c.in-Ok-add.ensures.tables
-    ∙ ap (λ (n : ℕ). set_at dev (put_at n (Open (having c.len-object.result)) (tables dev)) tables) c.in-Ok-add.ensures.number
+    ∙ ap (λ (n : ℕ). set_at dev
+    (put_at n (Open (having c.len-object.result)) (tables dev)) tables) c.in-Ok-add.ensures.number
     ∙ ap (λ (o : ℕ). given dev (having o) tables) object)
     (kept_made state holds tables c.requires.kept c.args.dir c.args.name.now node parent c.requires.into c.requires.free c.requires.empty refl c.requires.small at_dir
     refl few)
@@ -55,11 +63,13 @@ returns-in-Err-clause-kept c =
     let tables = table_in c.args.self.now.inodes.tables.items in
     let dev = c.in-Some.parent.now.ids.dev in
     let file = having c.len-object.result in
-    kept_as state _ (take (length (holds ++ 1 ∷ []) - 1) (holds ++ 1 ∷ [])) _ (freed dev (least_free (tables dev)) (given dev file tables)) _
+    kept_as state _ (take (length (holds ++ 1 ∷ []) - 1) (holds ++ 1 ∷ [])) _
+    (freed dev (least_free (tables dev)) (given dev file tables)) _
     (ap (nodes_in state) c.in-Err.ensures.err)
     (c.take_back.ensures.holds ∙ ap (λ (xs : List ℕ). take (length xs - 1) xs) c.in-Ok-add.ensures.holds)
     (same_function _ _ c.take_back.ensures.tables
     ∙ ap (freed dev c.in-Ok-add.number)
-    (same_function _ _ c.in-Ok-add.ensures.tables ∙ ap (λ (n : ℕ). set_at dev (put_at n (Open file) (tables dev)) tables) c.in-Ok-add.ensures.number)
+    (same_function _ _ c.in-Ok-add.ensures.tables
+    ∙ ap (λ (n : ℕ). set_at dev (put_at n (Open file) (tables dev)) tables) c.in-Ok-add.ensures.number)
     ∙ ap (λ (n : ℕ). freed dev n (given dev file tables)) c.in-Ok-add.ensures.number)
     (kept_back state holds tables dev file c.requires.kept)

@@ -23,10 +23,13 @@ returns-clause-kept c =
     ∙ c.in_ok-rename.ensures.ok
     ∙ ap (λ (now : Time). moved now from to c.args.object c.args.target c.deref_mut.result.now) c.now-now.ensures
     ∙ ap (moved (time_of state) from to c.args.object c.args.target) c.deref_mut.ensures.value in
-    let dev = c.device_where-dev.ensures ∙ ap (λ (ns : List Node). device_where ns c.args.target) c.deref.ensures.value in
-    let number = c.number_where-number.ensures ∙ ap (λ (ns : List Node). number_where ns c.args.target) c.deref-2.ensures.value in
+    let dev = c.device_where-dev.ensures
+    ∙ ap (λ (ns : List Node). device_where ns c.args.target) c.deref.ensures.value in
+    let number = c.number_where-number.ensures
+    ∙ ap (λ (ns : List Node). number_where ns c.args.target) c.deref-2.ensures.value in
     kept_as (with_moved state from to c.args.object c.args.target) _ (released_where c.args.target holds) _
-    (given_up_where (device_where state.nodes c.args.target) (number_where state.nodes c.args.target) c.args.target holds tables) _
+    (given_up_where (device_where state.nodes c.args.target)
+    (number_where state.nodes c.args.target) c.args.target holds tables) _
     (ap (nodes_in state) nodes) c.release_where.ensures.holds
     (same_function _ _ c.release_where.ensures.tables
     ∙ ap (λ n. given_up_where n c.number_where-number.result c.args.target holds tables) dev

@@ -31,11 +31,15 @@ returns-in-Ok-clause-kept c =
     let opened = c.apply_opening.ensures
     ∙ ap (λ (n : Node). after_opening c.args.seat.now c.now-now.result c.args.flags.0 n) was
     ∙ ap (λ (now : Time). after_opening c.args.seat.now now c.args.flags.0 node) c.now-now.ensures in
-    let slots = c.in-Ok.ensures.ok ∙ ap (λ (file : OpenFile). put_at c.in-Ok.fd.0 (Open file) state.slots) c.begun_on.ensures
+    let slots = c.in-Ok.ensures.ok
+    ∙ ap (λ (file : OpenFile). put_at c.in-Ok.fd.0 (Open file) state.slots) c.begun_on.ensures
     ∙ ap (λ n. put_at n (Open (begun_on c.args.flags object)) state.slots) c.in-Ok.ensures.fd in
     let nodes = ap (slice_set state.nodes object) opened in
-    kept_as (with_opened state c.args.seat.now c.args.flags object node) _ (slice_set holds object (slice_index holds object + 1)) _ tables _
+    kept_as (with_opened state c.args.seat.now c.args.flags object node) _
+    (slice_set holds object (slice_index holds object + 1)) _ tables _
     (ap (λ (ns : List Node). parts_in state ns c.open.new.self) nodes
-    ∙ ap (λ (ss : List Slot). parts_in state (slice_set state.nodes object (after_opening c.args.seat.now (time_of state) c.args.flags.0 node)) ss) slots)
+    ∙ ap (λ (ss : List Slot).
+    parts_in state (slice_set state.nodes object
+    (after_opening c.args.seat.now (time_of state) c.args.flags.0 node)) ss) slots)
     (ap (slice_set holds object) c.in-Some-one_more.ensures.1) refl
     (kept_opened state holds tables c.args.seat.now c.args.flags object node c.requires.kept there c.requires.lives)

@@ -32,11 +32,14 @@ returns-in-Some-there-clause-answers c =
     let at = ap (λ (ns : List Node). slice_get ns place) (sym c.deref.ensures.value)
     ∙ slice_get-get_or c.deref.result.now place dir lookup.3.0
     ∙ ap (λ (n : Node). Some n) (sym lookup.1) in
-    let passes = ap (λ (has : Option ℕ). first_refusal (creating_checks c.args.flags.0 has)) (sym c.lookup-there.ensures)
+    let passes = ap (λ (has : Option ℕ).
+    first_refusal (creating_checks c.args.flags.0 has)) (sym c.lookup-there.ensures)
     ∙ sym (c.in_default-creating_refusal.ensures) in
     subst (λ (told : Answered). AnswersAs told state c.open.result (state_of c.open.new.self))
-    (sym (opens_there state (numbers_of c.args.self.now) c.args.seat.now c.args.fd name c.args.flags c.args.mode c.in-Some.file dir
-    (sym c.in-Some.ensures) at (sym c.in_default-name_refusal.ensures) passes c.in-Some-there.object (sym c.in-Some-there.ensures)))
+    (sym (opens_there state
+    (numbers_of c.args.self.now) c.args.seat.now c.args.fd name c.args.flags c.args.mode c.in-Some.file dir
+    (sym c.in-Some.ensures) at (sym c.in_default-name_refusal.ensures) passes c.in-Some-there.object
+    (sym c.in-Some-there.ensures)))
     c.open.ensures.answers
 
 pub returns-in-Some-created_refusal-clause-answers : goal.returns-in-Some-created_refusal-clause-answers
@@ -49,10 +52,13 @@ returns-in-Some-created_refusal-clause-answers c =
     let at = ap (λ (ns : List Node). slice_get ns place) (sym c.deref.ensures.value)
     ∙ slice_get-get_or c.deref.result.now place dir lookup.3.0
     ∙ ap (λ (n : Node). Some n) (sym lookup.1) in
-    let passes = ap (λ (has : Option ℕ). first_refusal (creating_checks c.args.flags.0 has)) (sym c.lookup-there.ensures)
+    let passes = ap (λ (has : Option ℕ).
+    first_refusal (creating_checks c.args.flags.0 has)) (sym c.lookup-there.ensures)
     ∙ sym (c.in_default-creating_refusal.ensures) in
-    inl (sym (refuses_new state (numbers_of c.args.self.now) c.args.seat.now c.args.fd name c.args.flags c.args.mode c.in-Some.file dir
-    (sym c.in-Some.ensures) at (sym c.in_default-name_refusal.ensures) passes c.in-Some-created_refusal.errno (sym c.in_default-there.ensures)
+    inl (sym (refuses_new state
+    (numbers_of c.args.self.now) c.args.seat.now c.args.fd name c.args.flags c.args.mode c.in-Some.file dir
+    (sym c.in-Some.ensures) at (sym c.in_default-name_refusal.ensures) passes c.in-Some-created_refusal.errno
+    (sym c.in_default-there.ensures)
     (sym c.in-Some-created_refusal.ensures)))
 
 pub returns-clause-answers : goal.returns-clause-answers
@@ -65,11 +71,14 @@ returns-clause-answers c =
     let at = ap (λ (ns : List Node). slice_get ns place) (sym c.deref.ensures.value)
     ∙ slice_get-get_or c.deref.result.now place dir lookup.3.0
     ∙ ap (λ (n : Node). Some n) (sym lookup.1) in
-    let passes = ap (λ (has : Option ℕ). first_refusal (creating_checks c.args.flags.0 has)) (sym c.lookup-there.ensures)
+    let passes = ap (λ (has : Option ℕ).
+    first_refusal (creating_checks c.args.flags.0 has)) (sym c.lookup-there.ensures)
     ∙ sym (c.in_default-creating_refusal.ensures) in
     subst (λ (told : Answered). AnswersAs told state c.open_made.result (state_of c.open_made.new.self))
-    (sym (makes_new state (numbers_of c.args.self.now) c.args.seat.now c.args.fd name c.args.flags c.args.mode c.in-Some.file dir
-    (sym c.in-Some.ensures) at (sym c.in_default-name_refusal.ensures) passes c.masked.result (sym c.in_default-there.ensures)
+    (sym (makes_new state
+    (numbers_of c.args.self.now) c.args.seat.now c.args.fd name c.args.flags c.args.mode c.in-Some.file dir
+    (sym c.in-Some.ensures) at (sym c.in_default-name_refusal.ensures) passes c.masked.result
+    (sym c.in_default-there.ensures)
     (sym c.in_default-created_refusal.ensures) c.masked.ensures.masked))
     c.open_made.ensures.answers
 

@@ -1,4 +1,5 @@
-use Rattle.std.proofs.Common.{◌≡◌, ◌<◌, ◌+◌, ◌^◌, ◌-◌, ℕ, inl, inr, List, [], ◌∷◌, ◌++◌, length, take, Some, refl, slice_get, slice_set, ap, sym, ◌∙◌, arith, rules}
+use Rattle.std.proofs.Common.{◌≡◌, ◌<◌, ◌+◌, ◌^◌, ◌-◌, ℕ, inl, inr, List, [], ◌∷◌, ◌++◌, length, take, Some, refl}
+use Rattle.std.proofs.Common.{slice_get, slice_set, ap, sym, ◌∙◌, arith, rules}
 use Rattle.std.specs.Option.{is_some}
 use Rattle.std.proofs.lemmas.Option.{slice_get-get_or}
 use Rattle.pt_host.specs.Words.{set_at}
@@ -37,7 +38,8 @@ returns-in-Ok-add_node-clause-kept c =
     let flags = c.args.flags in
     let parent = c.in-Some.parent.now in
     let dev = parent.ids.dev in
-    let node = made state (numbers_of c.args.self.now) c.args.permissions seat.eff_uid seat.eff_gid 0 (Regular []) parent in
+    let node = made state (numbers_of c.args.self.now) c.args.permissions seat.eff_uid seat.eff_gid 0
+    (Regular []) parent in
     let lookup = c.in-Some.ensures.lookup in
     let at_dir = ap (λ (ns : List Node). slice_get ns c.args.dir) (sym c.deref.ensures.value)
     ∙ slice_get-get_or c.deref.result.now c.args.dir parent lookup.3.0
@@ -45,10 +47,16 @@ returns-in-Ok-add_node-clause-kept c =
     let name : c.in-Ok.name.items ≡ c.args.name.now = search rules in
     let object = c.len-object.ensures ∙ c.args.self.now.nodes.ok.0 in
     let new = c.new_object-node.ensures
-    ∙ ap (λ (bytes : List ℕ). new_object c.now-now.result c.in-Ok-add.number (c.len-object.result + 1) parent c.args.permissions seat.eff_uid seat.eff_gid 0 (Regular bytes)) c.new.ensures
-    ∙ ap (λ (now : Time). new_object now c.in-Ok-add.number (c.len-object.result + 1) parent c.args.permissions seat.eff_uid seat.eff_gid 0 (Regular [])) c.now-now.ensures
-    ∙ ap (λ (n : ℕ). new_object (time_of state) n (c.len-object.result + 1) parent c.args.permissions seat.eff_uid seat.eff_gid 0 (Regular [])) c.in-Ok-add.ensures.number
-    ∙ ap (λ (n : ℕ). new_object (time_of state) (least_free (tables dev)) (n + 1) parent c.args.permissions seat.eff_uid seat.eff_gid 0 (Regular [])) object in
+    ∙ ap (λ (bytes : List ℕ).
+    new_object c.now-now.result c.in-Ok-add.number (c.len-object.result
+    + 1) parent c.args.permissions seat.eff_uid seat.eff_gid 0 (Regular bytes)) c.new.ensures
+    ∙ ap (λ (now : Time).
+    new_object now c.in-Ok-add.number (c.len-object.result
+    + 1) parent c.args.permissions seat.eff_uid seat.eff_gid 0 (Regular [])) c.now-now.ensures
+    ∙ ap (λ (n : ℕ). new_object (time_of state) n (c.len-object.result
+    + 1) parent c.args.permissions seat.eff_uid seat.eff_gid 0 (Regular [])) c.in-Ok-add.ensures.number
+    ∙ ap (λ (n : ℕ). new_object (time_of state) (least_free (tables dev)) (n
+    + 1) parent c.args.permissions seat.eff_uid seat.eff_gid 0 (Regular [])) object in
     let nodes = c.in-Ok-add_node.ensures.ok
     ∙ ap (λ (n : Node). grown c.now-now.result c.args.dir c.in-Ok.name.items n state.nodes) new
     ∙ ap (λ (now : Time). grown now c.args.dir c.in-Ok.name.items node state.nodes) c.now-now.ensures
@@ -57,15 +65,19 @@ returns-in-Ok-add_node-clause-kept c =
     let few : length (with_made state c.args.dir c.args.name.now node).nodes < 2 ^ 63 =
     omega (arith, long, c.add_node.new.nodes.ok.0, c.add_node.new.nodes.ok.1, c.add_node.new.nodes.small) in
     let grows = with_made state c.args.dir c.args.name.now node in
-    let slots = c.in-Ok-open.ensures.ok ∙ ap (λ (file : OpenFile). put_at c.in-Ok-open.fd.0 (Open file) state.slots) c.begun_on.ensures
+    let slots = c.in-Ok-open.ensures.ok
+    ∙ ap (λ (file : OpenFile). put_at c.in-Ok-open.fd.0 (Open file) state.slots) c.begun_on.ensures
     ∙ ap (λ (n : ℕ). put_at n (Open (begun_on flags c.len-object.result)) state.slots) c.in-Ok-open.ensures.fd
     ∙ ap (λ (o : ℕ). put_at (least_free state.slots) (Open (begun_on flags o)) state.slots) object in
-    kept_as (with_descriptor grows flags (length state.nodes)) _ (slice_set (holds ++ 1 ∷ []) (length state.nodes) 2) _ (given dev (having (length state.nodes)) tables) _
+    kept_as (with_descriptor grows flags (length state.nodes)) _ (slice_set (holds
+    ++ 1 ∷ []) (length state.nodes) 2) _ (given dev (having (length state.nodes)) tables) _
     (ap (λ (ns : List Node). parts_in state ns c.open.new.self) nodes
     ∙ ap (λ (ss : List Slot). parts_in state grows.nodes ss) slots)
-    (ap (λ (hs : List ℕ). slice_set hs c.len-object.result 2) c.in-Ok-add.ensures.holds ∙ ap (λ (o : ℕ). slice_set (holds ++ 1 ∷ []) o 2) object)
+    (ap (λ (hs : List ℕ). slice_set hs c.len-object.result 2) c.in-Ok-add.ensures.holds
+    ∙ ap (λ (o : ℕ). slice_set (holds ++ 1 ∷ []) o 2) object)
     (same_function _ _ c.in-Ok-add.ensures.tables
-    ∙ ap (λ (n : ℕ). set_at dev (put_at n (Open (having c.len-object.result)) (tables dev)) tables) c.in-Ok-add.ensures.number
+    ∙ ap (λ (n : ℕ). set_at dev
+    (put_at n (Open (having c.len-object.result)) (tables dev)) tables) c.in-Ok-add.ensures.number
     ∙ ap (λ (o : ℕ). given dev (having o) tables) object)
     (kept_open_made state holds tables c.requires.kept c.args.dir c.args.name.now node parent c.requires.into c.requires.free refl refl c.requires.small at_dir
     refl few seat flags)
@@ -79,7 +91,8 @@ returns-in-Ok-add_node-clause-answers c =
     let flags = c.args.flags in
     let parent = c.in-Some.parent.now in
     let dev = parent.ids.dev in
-    let node = made state (numbers_of c.args.self.now) c.args.permissions seat.eff_uid seat.eff_gid 0 (Regular []) parent in
+    let node = made state (numbers_of c.args.self.now) c.args.permissions seat.eff_uid seat.eff_gid 0
+    (Regular []) parent in
     let lookup = c.in-Some.ensures.lookup in
     let at_dir = ap (λ (ns : List Node). slice_get ns c.args.dir) (sym c.deref.ensures.value)
     ∙ slice_get-get_or c.deref.result.now c.args.dir parent lookup.3.0
@@ -87,10 +100,16 @@ returns-in-Ok-add_node-clause-answers c =
     let name : c.in-Ok.name.items ≡ c.args.name.now = search rules in
     let object = c.len-object.ensures ∙ c.args.self.now.nodes.ok.0 in
     let new = c.new_object-node.ensures
-    ∙ ap (λ (bytes : List ℕ). new_object c.now-now.result c.in-Ok-add.number (c.len-object.result + 1) parent c.args.permissions seat.eff_uid seat.eff_gid 0 (Regular bytes)) c.new.ensures
-    ∙ ap (λ (now : Time). new_object now c.in-Ok-add.number (c.len-object.result + 1) parent c.args.permissions seat.eff_uid seat.eff_gid 0 (Regular [])) c.now-now.ensures
-    ∙ ap (λ (n : ℕ). new_object (time_of state) n (c.len-object.result + 1) parent c.args.permissions seat.eff_uid seat.eff_gid 0 (Regular [])) c.in-Ok-add.ensures.number
-    ∙ ap (λ (n : ℕ). new_object (time_of state) (least_free (tables dev)) (n + 1) parent c.args.permissions seat.eff_uid seat.eff_gid 0 (Regular [])) object in
+    ∙ ap (λ (bytes : List ℕ).
+    new_object c.now-now.result c.in-Ok-add.number (c.len-object.result
+    + 1) parent c.args.permissions seat.eff_uid seat.eff_gid 0 (Regular bytes)) c.new.ensures
+    ∙ ap (λ (now : Time).
+    new_object now c.in-Ok-add.number (c.len-object.result
+    + 1) parent c.args.permissions seat.eff_uid seat.eff_gid 0 (Regular [])) c.now-now.ensures
+    ∙ ap (λ (n : ℕ). new_object (time_of state) n (c.len-object.result
+    + 1) parent c.args.permissions seat.eff_uid seat.eff_gid 0 (Regular [])) c.in-Ok-add.ensures.number
+    ∙ ap (λ (n : ℕ). new_object (time_of state) (least_free (tables dev)) (n
+    + 1) parent c.args.permissions seat.eff_uid seat.eff_gid 0 (Regular [])) object in
     let nodes = c.in-Ok-add_node.ensures.ok
     ∙ ap (λ (n : Node). grown c.now-now.result c.args.dir c.in-Ok.name.items n state.nodes) new
     ∙ ap (λ (now : Time). grown now c.args.dir c.in-Ok.name.items node state.nodes) c.now-now.ensures
@@ -99,7 +118,8 @@ returns-in-Ok-add_node-clause-answers c =
     let few : length (with_made state c.args.dir c.args.name.now node).nodes < 2 ^ 63 =
     omega (arith, long, c.add_node.new.nodes.ok.0, c.add_node.new.nodes.ok.1, c.add_node.new.nodes.small) in
     let grows = with_made state c.args.dir c.args.name.now node in
-    let slots = c.in-Ok-open.ensures.ok ∙ ap (λ (file : OpenFile). put_at c.in-Ok-open.fd.0 (Open file) state.slots) c.begun_on.ensures
+    let slots = c.in-Ok-open.ensures.ok
+    ∙ ap (λ (file : OpenFile). put_at c.in-Ok-open.fd.0 (Open file) state.slots) c.begun_on.ensures
     ∙ ap (λ (n : ℕ). put_at n (Open (begun_on flags c.len-object.result)) state.slots) c.in-Ok-open.ensures.fd
     ∙ ap (λ (o : ℕ). put_at (least_free state.slots) (Open (begun_on flags o)) state.slots) object in
     let fd = ap at_fd c.in-Ok-open.ensures.fd in
@@ -107,7 +127,8 @@ returns-in-Ok-add_node-clause-answers c =
     inl (ap (λ (ns : List Node). (reply.Ok (value.Fd c.in-Ok-open.fd), parts_in state ns c.open.new.self)) nodes
     ∙ ap (λ (ss : List Slot). (reply.Ok (value.Fd c.in-Ok-open.fd), parts_in state grows.nodes ss)) slots
     ∙ ap (λ (f : Fd). tells after (value.Fd f)) fd
-    ∙ ap (open_new state (numbers_of c.args.self.now) seat flags c.args.permissions c.args.dir c.args.name.now) (sym at_dir))
+    ∙ ap (open_new state (numbers_of c.args.self.now) seat flags c.args.permissions c.args.dir c.args.name.now)
+    (sym at_dir))
 
 pub returns-in-Err-clause-kept : goal.returns-in-Err-clause-kept
 returns-in-Err-clause-kept c =
@@ -119,14 +140,18 @@ returns-in-Err-clause-kept c =
     let slots = c.take_back-in-Err-2.ensures
     ∙ ap (λ (n : ℕ). taken_back c.in-Ok-open.fd.0 n c.open.new.self) c.len-length.ensures
     ∙ ap (λ (ss : List Slot). taken_back c.in-Ok-open.fd.0 (length state.slots) ss) c.in-Ok-open.ensures.ok
-    ∙ ap (λ (n : ℕ). taken_back n (length state.slots) (put_at n (Open c.begun_on.result) state.slots)) c.in-Ok-open.ensures.fd
+    ∙ ap (λ (n : ℕ). taken_back n (length state.slots)
+    (put_at n (Open c.begun_on.result) state.slots)) c.in-Ok-open.ensures.fd
     ∙ taken_back-put state.slots c.begun_on.result in
-    kept_as state _ (take (length (holds ++ 1 ∷ []) - 1) (holds ++ 1 ∷ [])) _ (freed dev (least_free (tables dev)) (given dev file tables)) _
-    (ap (λ (ns : List Node). parts_in state ns c.take_back-in-Err-2.new.self) c.in-Err.ensures.err ∙ ap (parts_in state state.nodes) slots)
+    kept_as state _ (take (length (holds ++ 1 ∷ []) - 1) (holds ++ 1 ∷ [])) _
+    (freed dev (least_free (tables dev)) (given dev file tables)) _
+    (ap (λ (ns : List Node). parts_in state ns c.take_back-in-Err-2.new.self) c.in-Err.ensures.err
+    ∙ ap (parts_in state state.nodes) slots)
     (c.take_back-in-Err.ensures.holds ∙ ap (λ (xs : List ℕ). take (length xs - 1) xs) c.in-Ok-add.ensures.holds)
     (same_function _ _ c.take_back-in-Err.ensures.tables
     ∙ ap (freed dev c.in-Ok-add.number)
-    (same_function _ _ c.in-Ok-add.ensures.tables ∙ ap (λ (n : ℕ). set_at dev (put_at n (Open file) (tables dev)) tables) c.in-Ok-add.ensures.number)
+    (same_function _ _ c.in-Ok-add.ensures.tables
+    ∙ ap (λ (n : ℕ). set_at dev (put_at n (Open file) (tables dev)) tables) c.in-Ok-add.ensures.number)
     ∙ ap (λ (n : ℕ). freed dev n (given dev file tables)) c.in-Ok-add.ensures.number)
     (kept_back state holds tables dev file c.requires.kept)
 
@@ -136,16 +161,23 @@ returns-in-Err-clause-answers c =
     let slots = c.take_back-in-Err-2.ensures
     ∙ ap (λ (n : ℕ). taken_back c.in-Ok-open.fd.0 n c.open.new.self) c.len-length.ensures
     ∙ ap (λ (ss : List Slot). taken_back c.in-Ok-open.fd.0 (length state.slots) ss) c.in-Ok-open.ensures.ok
-    ∙ ap (λ (n : ℕ). taken_back n (length state.slots) (put_at n (Open c.begun_on.result) state.slots)) c.in-Ok-open.ensures.fd
+    ∙ ap (λ (n : ℕ). taken_back n (length state.slots)
+    (put_at n (Open c.begun_on.result) state.slots)) c.in-Ok-open.ensures.fd
     ∙ taken_back-put state.slots c.begun_on.result in
-    inr (refl, ap (λ (ns : List Node). parts_in state ns c.take_back-in-Err-2.new.self) c.in-Err.ensures.err ∙ ap (parts_in state state.nodes) slots)
+    inr (
+      refl,
+      ap (λ (ns : List Node). parts_in state ns c.take_back-in-Err-2.new.self) c.in-Err.ensures.err
+          ∙ ap (parts_in state state.nodes) slots,
+    )
 
 pub take_back-requires-in-Err-2 : goal.take_back-requires-in-Err-2
 take_back-requires-in-Err-2 c =
     let state = state_of c.args.self.now in
-    let is = c.in-Ok-open.ensures.ok ∙ ap (λ (n : ℕ). put_at n (Open c.begun_on.result) state.slots) c.in-Ok-open.ensures.fd in
+    let is = c.in-Ok-open.ensures.ok
+    ∙ ap (λ (n : ℕ). put_at n (Open c.begun_on.result) state.slots) c.in-Ok-open.ensures.fd in
     λ more. ap (λ (ss : List Slot). is_some (open_at ss (length ss - 1))) is
-    ∙ last_opened state.slots c.begun_on.result (let one = c.len-length.ensures in let two = ap length is in omega (arith, one, two, more))
+    ∙ last_opened state.slots c.begun_on.result (let one = c.len-length.ensures in let two = ap length is in
+    omega (arith, one, two, more))
 
 pub returns-in_default-add-clause-kept : goal.returns-in_default-add-clause-kept
 returns-in_default-add-clause-kept c =
@@ -155,7 +187,8 @@ returns-in_default-add-clause-kept c =
     let slots = c.take_back.ensures
     ∙ ap (λ (n : ℕ). taken_back c.in-Ok-open.fd.0 n c.open.new.self) c.len-length.ensures
     ∙ ap (λ (ss : List Slot). taken_back c.in-Ok-open.fd.0 (length state.slots) ss) c.in-Ok-open.ensures.ok
-    ∙ ap (λ (n : ℕ). taken_back n (length state.slots) (put_at n (Open c.begun_on.result) state.slots)) c.in-Ok-open.ensures.fd
+    ∙ ap (λ (n : ℕ). taken_back n (length state.slots)
+    (put_at n (Open c.begun_on.result) state.slots)) c.in-Ok-open.ensures.fd
     ∙ taken_back-put state.slots c.begun_on.result in
     kept_as state _ holds _ tables _ (ap (parts_in state state.nodes) slots) c.in_default-add.ensures.same_holds
     (same_function _ _ c.in_default-add.ensures.same_tables) c.requires.kept
@@ -166,6 +199,7 @@ returns-in_default-add-clause-answers c =
     let slots = c.take_back.ensures
     ∙ ap (λ (n : ℕ). taken_back c.in-Ok-open.fd.0 n c.open.new.self) c.len-length.ensures
     ∙ ap (λ (ss : List Slot). taken_back c.in-Ok-open.fd.0 (length state.slots) ss) c.in-Ok-open.ensures.ok
-    ∙ ap (λ (n : ℕ). taken_back n (length state.slots) (put_at n (Open c.begun_on.result) state.slots)) c.in-Ok-open.ensures.fd
+    ∙ ap (λ (n : ℕ). taken_back n (length state.slots)
+    (put_at n (Open c.begun_on.result) state.slots)) c.in-Ok-open.ensures.fd
     ∙ taken_back-put state.slots c.begun_on.result in
     inr (refl, ap (parts_in state state.nodes) slots)

@@ -9,4 +9,5 @@ pub open_found-requires-clause-lives : goal.open_found-requires-clause-lives
 open_found-requires-clause-lives c = λ object found.
     path_lives (state_of c.args.self.now) c.in-Some.file.object c.args.path.now object
     (inr (inr (c.args.fd.0, c.in-Some.file, sym c.in-Some.ensures, refl)))
-    (ap (λ (ns : List Node). walk_from ns c.in-Some.file.object c.args.path.now) (sym c.deref.ensures.value) ∙ sym c.walk_from-found.ensures ∙ found)
+    (ap (λ (ns : List Node). walk_from ns c.in-Some.file.object c.args.path.now) (sym c.deref.ensures.value)
+    ∙ sym c.walk_from-found.ensures ∙ found)

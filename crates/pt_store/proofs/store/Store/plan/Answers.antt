@@ -5,5 +5,6 @@ use Rattle.pt_store.proofs.store.Store.plan.Goals as goal
 
 pub returns-in_ok-insert-clause-kept : goal.returns-in_ok-insert-clause-kept
 returns-in_ok-insert-clause-kept c =
-    kept_beside (state_of c.args.self.now) c.args.self.now.inodes.holds.items (table_in c.args.self.now.inodes.tables.items) c.requires
+    kept_beside (state_of c.args.self.now) c.args.self.now.inodes.holds.items
+    (table_in c.args.self.now.inodes.tables.items) c.requires
     c.insert.new.self c.args.self.now.faults

@@ -25,4 +25,5 @@ returns-in-Ok-clause-kept c =
     let was = c.index_mut.ensures.value ∙ get_or_from_slice_get state.nodes object node _ there in
     let nodes = ap (λ (n : Node). slice_set state.nodes object (after_reading c.now-now.result n)) was
     ∙ ap (λ (now : Time). slice_set state.nodes object (after_reading now node)) c.now-now.ensures in
-    kept_as (with_node state object (after_reading (time_of state) node)) _ holds _ tables _ (ap (nodes_in state) nodes) refl refl (kept_read state holds tables object node c.requires there)
+    kept_as (with_node state object (after_reading (time_of state) node)) _ holds _ tables _
+    (ap (nodes_in state) nodes) refl refl (kept_read state holds tables object node c.requires there)

@@ -27,6 +27,8 @@ returns-clause-kept c =
     let after = c.remove_xattr.ensures
     ∙ ap (λ (n : Node). restamped c.now-now.result (unvalued c.args.name.now n)) was
     ∙ ap (λ (now : Time). restamped now (unvalued c.args.name.now node)) c.now-now.ensures in
-    kept_as (with_node state object (restamped (time_of state) (unvalued c.args.name.now node))) _ holds _ tables _ (ap (nodes_in state) (ap (slice_set state.nodes object) after)) refl refl
-    (kept_node state holds tables c.requires object node (restamped (time_of state) (unvalued c.args.name.now node)) there
+    kept_as (with_node state object (restamped (time_of state) (unvalued c.args.name.now node))) _ holds _ tables _
+    (ap (nodes_in state) (ap (slice_set state.nodes object) after)) refl refl
+    (kept_node state holds tables c.requires object node
+    (restamped (time_of state) (unvalued c.args.name.now node)) there
     (record { ids = refl; serial = refl; object = refl; names = refl; permissions = λ small. small }))

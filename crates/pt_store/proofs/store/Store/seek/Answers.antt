@@ -38,7 +38,8 @@ returns-in-Ok-clause-answers c =
     let place = sym (sym c.in-Ok.is ∙ c.sought.ensures
     ∙ ap (λ (z : ℤ). sought file.position c.size.result z c.args.whence) (to_z-of_z w64 c.args.offset c.ranges.offset)
     ∙ ap (λ (s : ℕ). sought file.position s c.args.offset c.args.whence) c.size.ensures) in
-    ap (λ (slots : List Slot). (reply.Ok (value.Count c.in-Ok.position), parts_in state state.nodes slots)) c.go_to.ensures
+    ap (λ (slots : List Slot).
+    (reply.Ok (value.Count c.in-Ok.position), parts_in state state.nodes slots)) c.go_to.ensures
     ∙ sym (seek_is state c.args.fd c.args.offset c.args.whence file node _ (sym c.in-Some.ensures) at none place)
 
 pub returns-in-Err-clause-answers : goal.returns-in-Err-clause-answers

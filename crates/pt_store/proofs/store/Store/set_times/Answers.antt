@@ -27,6 +27,9 @@ returns-clause-kept c =
     let after = c.change_times.ensures
     ∙ ap (λ (n : Node). restamped c.now-now.result (timed c.now-now.result c.args.atime c.args.mtime n)) was
     ∙ ap (λ (now : Time). restamped now (timed now c.args.atime c.args.mtime node)) c.now-now.ensures in
-    kept_as (with_node state object (restamped (time_of state) (timed (time_of state) c.args.atime c.args.mtime node))) _ holds _ tables _ (ap (nodes_in state) (ap (slice_set state.nodes object) after)) refl refl
-    (kept_node state holds tables c.requires object node (restamped (time_of state) (timed (time_of state) c.args.atime c.args.mtime node)) there
+    kept_as (with_node state object
+    (restamped (time_of state) (timed (time_of state) c.args.atime c.args.mtime node))) _ holds _ tables _
+    (ap (nodes_in state) (ap (slice_set state.nodes object) after)) refl refl
+    (kept_node state holds tables c.requires object node
+    (restamped (time_of state) (timed (time_of state) c.args.atime c.args.mtime node)) there
     (record { ids = refl; serial = refl; object = refl; names = refl; permissions = λ small. small }))

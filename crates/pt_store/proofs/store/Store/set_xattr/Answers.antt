@@ -28,6 +28,7 @@ returns-in-Ok-set_xattr-clause-kept c =
     ∙ ap (λ (n : Node). restamped c.now-now.result (valued c.in-Ok.name.items c.in-Ok-from_slice.value n)) was
     ∙ ap (λ (now : Time). restamped now (valued c.in-Ok.name.items c.in-Ok-from_slice.value node)) c.now-now.ensures in
     let last = restamped (time_of state) (valued c.in-Ok.name.items c.in-Ok-from_slice.value node) in
-    kept_as (with_node state object last) _ holds _ tables _ (ap (nodes_in state) (ap (slice_set state.nodes object) after)) refl refl
+    kept_as (with_node state object last) _ holds _ tables _
+    (ap (nodes_in state) (ap (slice_set state.nodes object) after)) refl refl
     (kept_node state holds tables c.requires object node last there
     (record { ids = refl; serial = refl; object = refl; names = refl; permissions = λ small. small }))

@@ -30,5 +30,6 @@ returns-in-Some-get c =
     ∙ slice_get-get_or c.deref.result.now object node lookup.3.0
     ∙ ap (λ (n : Node). Some n) (sym lookup.1) in
     ap (λ (stat : Stat). tells state (value.Stat stat)) c.status.ensures
-    ∙ sym (ap (λ (file : Option OpenFile). on_file state file (λ held found. tells state (value.Stat (status_of found)))) (sym c.in-Some.ensures)
+    ∙ sym (ap (λ (file : Option OpenFile).
+    on_file state file (λ held found. tells state (value.Stat (status_of found)))) (sym c.in-Some.ensures)
     ∙ ap (λ (found : Option Node). on_node state found (λ held. tells state (value.Stat (status_of held)))) there)

@@ -17,13 +17,16 @@ returns-clause-kept c =
     let holds = c.args.self.now.inodes.holds.items in
     let tables = table_in c.args.self.now.inodes.tables.items in
     let nodes = c.unlink.ensures
-    ∙ ap (λ (now : Time). unlinked now c.args.dir c.args.name.now c.args.object c.deref_mut.result.now) c.now-now.ensures
+    ∙ ap (λ (now : Time).
+    unlinked now c.args.dir c.args.name.now c.args.object c.deref_mut.result.now) c.now-now.ensures
     ∙ ap (unlinked (time_of state) c.args.dir c.args.name.now c.args.object) c.deref_mut.ensures.value in
     let dev = c.device_at-dev.ensures ∙ ap (λ (ns : List Node). device_at ns c.args.object) c.deref.ensures.value in
-    let number = c.number_at-number.ensures ∙ ap (λ (ns : List Node). number_at ns c.args.object) c.deref-2.ensures.value in
+    let number = c.number_at-number.ensures
+    ∙ ap (λ (ns : List Node). number_at ns c.args.object) c.deref-2.ensures.value in
     kept_as (with_unlinked state c.args.dir c.args.name.now c.args.object) _ (released c.args.object holds) _
     (given_up (device_at state.nodes c.args.object) (number_at state.nodes c.args.object) c.args.object holds tables) _
-    (ap (nodes_in state) (with_items_is c.args.self.now.nodes c.unlink.new.nodes (c.unlink.auto.nodes ∙ c.deref_mut.ensures.len) ∙ nodes)) c.release.ensures.holds
+    (ap (nodes_in state) (with_items_is c.args.self.now.nodes c.unlink.new.nodes (c.unlink.auto.nodes
+    ∙ c.deref_mut.ensures.len) ∙ nodes)) c.release.ensures.holds
     (same_function _ _ c.release.ensures.tables
     ∙ ap (λ n. given_up n c.number_at-number.result c.args.object holds tables) dev
     ∙ ap (λ n. given_up (device_at state.nodes c.args.object) n c.args.object holds tables) number)

@@ -27,6 +27,8 @@ returns-in-Ok-clause-kept c =
     let after = c.refill.ensures
     ∙ ap (λ (n : Node). refilled c.args.seat.now c.now-now.result c.in-Ok.bytes n) was
     ∙ ap (λ (now : Time). refilled c.args.seat.now now c.in-Ok.bytes node) c.now-now.ensures in
-    kept_as (with_node state object (refilled c.args.seat.now (time_of state) c.in-Ok.bytes node)) _ holds _ tables _ (ap (nodes_in state) (ap (slice_set state.nodes object) after)) refl refl
-    (kept_node state holds tables c.requires object node (refilled c.args.seat.now (time_of state) c.in-Ok.bytes node) there
+    kept_as (with_node state object (refilled c.args.seat.now (time_of state) c.in-Ok.bytes node)) _ holds _ tables _
+    (ap (nodes_in state) (ap (slice_set state.nodes object) after)) refl refl
+    (kept_node state holds tables c.requires object node
+    (refilled c.args.seat.now (time_of state) c.in-Ok.bytes node) there
     (keeps_refilled c.args.seat.now (time_of state) c.in-Ok.bytes node))

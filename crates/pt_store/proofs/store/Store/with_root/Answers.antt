@@ -17,7 +17,8 @@ use Rattle.pt_store.proofs.StartRoot.{root_tables, started_root}
 use Rattle.pt_store.proofs.store.Store.with_root.Goals as goal
 
 abbrev in_all : List Node → List Slot → List (ℕ × Mount) → List (ℕ × Errno) → State
-in_all nodes slots mounts plans = record { nodes = nodes; slots = slots; mounts = mounts; calls = 0; plans = plans; faults = 0 }
+in_all nodes slots mounts plans =
+    record { nodes = nodes; slots = slots; mounts = mounts; calls = 0; plans = plans; faults = 0 }
 
 pub returns-clause-starting : goal.returns-clause-starting
 returns-clause-starting c =
@@ -25,10 +26,12 @@ returns-clause-starting c =
     let dev = c.args.dev in
     let path = c.args.path.now in
     let root = mount_root id dev 1 c.args.handles in
-    let nodes = c.in_ok-push.ensures.items ∙ ap (λ (ns : List Node). ns ++ c.mount_root.result ∷ []) c.new-nodes.ensures.items
+    let nodes = c.in_ok-push.ensures.items
+    ∙ ap (λ (ns : List Node). ns ++ c.mount_root.result ∷ []) c.new-nodes.ensures.items
     ∙ ap (λ (n : Node). n ∷ []) c.mount_root.ensures in
     let mounts = c.in_ok-insert.ensures.ok
-    ∙ ap (λ (p : List ℕ). with_mount id (record { parent = 0; dev = dev; path = p }) c.new-mounts.result) c.in_ok-copy.ensures
+    ∙ ap (λ (p : List ℕ).
+    with_mount id (record { parent = 0; dev = dev; path = p }) c.new-mounts.result) c.in_ok-copy.ensures
     ∙ ap (with_mount id (record { parent = 0; dev = dev; path = path })) c.new-mounts.ensures in
     let state = mounted (start_with root) 0 id dev path in
     started_as state _ (1 ∷ []) _ (root_tables id dev path c.args.handles) _
@@ -38,6 +41,9 @@ returns-clause-starting c =
     ∙ ap (λ (ps : List (ℕ × Errno)). in_all (root ∷ []) no_files state.mounts ps) c.new-2.ensures)
     (c.in_ok-add.ensures.holds ∙ ap (λ (hs : List ℕ). hs ++ 1 ∷ []) c.new-inodes.ensures.holds)
     (same_function _ _ c.in_ok-add.ensures.tables
-    ∙ ap (λ (n : ℕ). set_at dev (put_at n (Open (having 0)) (table_in c.new-inodes.result.tables.items dev)) (table_in c.new-inodes.result.tables.items)) c.in_ok-add.ensures.number
-    ∙ ap (λ (ts : List NumberTable). set_at dev (put_at (least_free (table_in ts dev)) (Open (having 0)) (table_in ts dev)) (table_in ts)) c.new-inodes.ensures.tables)
+    ∙ ap (λ (n : ℕ). set_at dev (put_at n (Open (having 0)) (table_in c.new-inodes.result.tables.items dev))
+    (table_in c.new-inodes.result.tables.items)) c.in_ok-add.ensures.number
+    ∙ ap (λ (ts : List NumberTable).
+    set_at dev (put_at (least_free (table_in ts dev)) (Open (having 0)) (table_in ts dev))
+    (table_in ts)) c.new-inodes.ensures.tables)
     (started_root id dev path c.args.handles)

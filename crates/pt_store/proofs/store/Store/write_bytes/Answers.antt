@@ -17,10 +17,14 @@ returns-in-Ok-clause-answers c =
     ∙ slice_get-get_or c.deref.result.now object node lookup.3.0
     ∙ ap (λ (n : Node). Some n) (sym lookup.1) in
     elim c.if-append.branch [
-      | then-append w ↦ (let left = c.in-Ok.ensures.ok ∙ ap (λ (s : Store). with_written (state_of s) c.args.seat.now object c.if-append.start c.args.bytes.now) w.self-is
+      | then-append w ↦ (let left =
+          c.in-Ok.ensures.ok ∙ ap (λ (s : Store).
+          with_written (state_of s) c.args.seat.now object c.if-append.start c.args.bytes.now) w.self-is
           ∙ written_left (state_of c.args.self.now) c.args.seat.now object c.if-append.start c.args.bytes.now node there in
           search (rules, there, left))
-      | else-append w ↦ (let left = c.in-Ok.ensures.ok ∙ ap (λ (s : Store). with_written (state_of s) c.args.seat.now object c.if-append.start c.args.bytes.now) w.self-is
+      | else-append w ↦ (let left =
+          c.in-Ok.ensures.ok ∙ ap (λ (s : Store).
+          with_written (state_of s) c.args.seat.now object c.if-append.start c.args.bytes.now) w.self-is
           ∙ written_left (state_of c.args.self.now) c.args.seat.now object c.if-append.start c.args.bytes.now node there in
           search (rules, there, left))
     ]

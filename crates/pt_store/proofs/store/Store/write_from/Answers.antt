@@ -49,7 +49,9 @@ returns-clause-kept c =
     let after = c.refill.ensures
     ∙ ap (λ (n : Node). refilled c.args.seat.now c.now-now.result c.in_ok-after.after n) was
     ∙ ap (λ (now : Time). refilled c.args.seat.now now c.in_ok-after.after node) c.now-now.ensures in
-    kept_as (with_node state object (refilled c.args.seat.now (time_of state) c.in_ok-after.after node)) _ holds _ tables _
+    kept_as (with_node state object
+    (refilled c.args.seat.now (time_of state) c.in_ok-after.after node)) _ holds _ tables _
     (ap (nodes_in state) (ap (slice_set state.nodes object) after)) refl refl
-    (kept_node state holds tables c.requires.kept object node (refilled c.args.seat.now (time_of state) c.in_ok-after.after node) there
+    (kept_node state holds tables c.requires.kept object node
+    (refilled c.args.seat.now (time_of state) c.in_ok-after.after node) there
     (keeps_refilled c.args.seat.now (time_of state) c.in_ok-after.after node))

@@ -3,4 +3,5 @@ use Rattle.pt_host.proofs.SeatAnswers.{answered}
 use Rattle.pt_tests.proofs.one_directory.OneDirectoryHost.call.Goals as goal
 
 pub returns-in-Some : goal.returns-in-Some
-returns-in-Some c = answered 0 c.args.seat.now (call_of c.args.op.now) c.in-Some.told c.answer.new.self c.in-Some.ensures
+returns-in-Some c =
+    answered 0 c.args.seat.now (call_of c.args.op.now) c.in-Some.told c.answer.new.self c.in-Some.ensures

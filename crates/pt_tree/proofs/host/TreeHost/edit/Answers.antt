@@ -5,7 +5,8 @@ use Rattle.pt_host.specs.declared.seat.HostSeat.{HostSeat}
 use Rattle.pt_rules.specs.Does.{Does}
 use Rattle.pt_rules.specs.State.{State}
 use Rattle.pt_store.specs.StoreState.{state_of}
-use Rattle.pt_rules.specs.Laws.Unchanged.{does_count, does_fail, does_leave_contents, does_leave_tree, does_stay_well_formed}
+use Rattle.pt_rules.specs.Laws.Unchanged.{does_count, does_fail, does_leave_contents, does_leave_tree}
+use Rattle.pt_rules.specs.Laws.Unchanged.{does_stay_well_formed}
 use Rattle.pt_tree.proofs.host.TreeHost.edit.Goals as goal
 
 any_seat : HostSeat
@@ -24,8 +25,14 @@ any_seat = record {
 
 pub returns-clause-does : goal.returns-clause-does
 returns-clause-does c seat =
-    subst (λ (before : State). Does before seat (call.Edit c.args.edit.now) c.make_edit.result (state_of c.make_edit.new.self) seat) c.self.view_is
-    (record { sound = c.self.invariant.sound; answers = c.make_edit.ensures.answers seat; few = c.make_edit.ensures.kept.sound.few })
+    subst (λ (before : State).
+    Does before seat (call.Edit c.args.edit.now) c.make_edit.result
+    (state_of c.make_edit.new.self) seat) c.self.view_is
+    (record {
+      sound = c.self.invariant.sound;
+      answers = c.make_edit.ensures.answers seat;
+      few = c.make_edit.ensures.kept.sound.few;
+    })
 
 pub returns-clause-fails : goal.returns-clause-fails
 returns-clause-fails c = does_fail _ _ _ _ _ _ (returns-clause-does c any_seat)

@@ -7,7 +7,8 @@ pub returns-clause-well_formed : goal.returns-clause-well_formed
 returns-clause-well_formed c = well_formed (state_of c.in_ok-store.store) c.in_ok-store.ensures.kept.sound
 
 pub returns-clause-none_open : goal.returns-clause-none_open
-returns-clause-none_open c = λ fd. none_open c.as_slice.result.now (state_of c.in_ok-store.store) fd c.in_ok-store.ensures.ok
+returns-clause-none_open c =
+    λ fd. none_open c.as_slice.result.now (state_of c.in_ok-store.store) fd c.in_ok-store.ensures.ok
 
 pub returns-clause-none_failed : goal.returns-clause-none_failed
 returns-clause-none_failed c = none_failed c.as_slice.result.now (state_of c.in_ok-store.store) c.in_ok-store.ensures.ok

@@ -4,12 +4,15 @@ use Rattle.pt_host.specs.Call.{call_of}
 use Rattle.pt_rules.specs.Does.{Does}
 use Rattle.pt_rules.specs.State.{State}
 use Rattle.pt_store.specs.StoreState.{state_of}
-use Rattle.pt_rules.specs.Laws.Unchanged.{does_count, does_fail, does_leave_contents, does_leave_seat, does_leave_tree, does_stay_well_formed}
+use Rattle.pt_rules.specs.Laws.Unchanged.{does_count, does_fail, does_leave_contents, does_leave_seat}
+use Rattle.pt_rules.specs.Laws.Unchanged.{does_leave_tree, does_stay_well_formed}
 use Rattle.pt_tree.proofs.host.TreeHostHost.call.Goals as goal
 
 pub returns-clause-does : goal.returns-clause-does
 returns-clause-does c =
-    subst (λ (before : State). Does before c.args.seat.now (call_of c.args.op.now) c.call.result (state_of c.call.new.self) c.call.new.seat) c.self.view_is
+    subst (λ (before : State).
+    Does before c.args.seat.now (call_of c.args.op.now) c.call.result
+    (state_of c.call.new.self) c.call.new.seat) c.self.view_is
     (record { sound = c.self.invariant.sound; answers = c.call.ensures.answers; few = c.call.ensures.kept.sound.few })
 
 pub returns-clause-fails : goal.returns-clause-fails

@@ -7,4 +7,5 @@ pub returns-in-Out-clause-end : goal.returns-in-Out-clause-end
 returns-in-Out-clause-end g c = λ plan.
     let job = c.args.self.now in
     let is : nat_eq c.len.result 0 ≡ is_all_over job.taken job.closings job.mode job.holds = search rules in
-    end_over job.taken job.closings job.mode (g.B.Body.left job.body plan) job.holds (g.met.B.Body.asks job.body plan) job.enough ∙ sym is
+    end_over job.taken job.closings job.mode (g.B.Body.left job.body plan) job.holds
+    (g.met.B.Body.asks job.body plan) job.enough ∙ sym is
