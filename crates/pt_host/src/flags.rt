@@ -88,7 +88,8 @@ impl Flags for Caps {
     ghost exact = { ⊤ };
 
     ghost table = { (codes "CHOWN", 1) ∷ (codes "DAC_OVERRIDE", 2) ∷ (codes "DAC_READ_SEARCH", 4) ∷ (codes "FOWNER", 8)
-        ∷ (codes "FSETID", 16) ∷ (codes "SETGID", 32) ∷ (codes "SETUID", 64) ∷ (codes "MKNOD", 128) ∷ (codes "SETFCAP", 256) ∷ [] };
+        ∷ (codes "FSETID", 16) ∷ (codes "SETGID", 32) ∷ (codes "SETUID", 64) ∷ (codes "MKNOD", 128)
+        ∷ (codes "SETFCAP", 256) ∷ [] };
 
     ghost set_of = { λ caps. caps.0 };
 

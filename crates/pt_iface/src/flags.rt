@@ -30,7 +30,8 @@ impl Flags for FsOptions {
     ghost exact = { ⊤ };
 
     ghost table = { (codes "DO_READDIRPLUS", 1) ∷ (codes "READDIRPLUS_AUTO", 2) ∷ (codes "WRITEBACK_CACHE", 4)
-        ∷ (codes "HANDLE_KILLPRIV_V2", 8) ∷ (codes "POSIX_ACL", 16) ∷ (codes "DONT_MASK", 32) ∷ (codes "SETXATTR_EXT", 64)
+        ∷ (codes "HANDLE_KILLPRIV_V2", 8) ∷ (codes "POSIX_ACL", 16) ∷ (codes "DONT_MASK", 32)
+        ∷ (codes "SETXATTR_EXT", 64)
         ∷ (codes "SECURITY_CTX", 128) ∷ (codes "SUBMOUNTS", 256) ∷ (codes "CREATE_SUPP_GROUP", 512)
         ∷ (codes "DIRECT_IO_ALLOW_MMAP", 1024) ∷ [] };
 
@@ -125,7 +126,8 @@ impl Flags for SetattrValid {
     ghost exact = { ⊤ };
 
     ghost table = { (codes "MODE", 1) ∷ (codes "UID", 2) ∷ (codes "GID", 4) ∷ (codes "SIZE", 8) ∷ (codes "ATIME", 16)
-        ∷ (codes "MTIME", 32) ∷ (codes "ATIME_NOW", 128) ∷ (codes "MTIME_NOW", 256) ∷ (codes "KILL_SUIDGID", 2048) ∷ [] };
+        ∷ (codes "MTIME", 32) ∷ (codes "ATIME_NOW", 128) ∷ (codes "MTIME_NOW", 256)
+        ∷ (codes "KILL_SUIDGID", 2048) ∷ [] };
 
     ghost set_of = { λ valid. valid.0 };
 

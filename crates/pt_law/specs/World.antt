@@ -110,7 +110,8 @@ IsLawful tree seat asked told after seat' =
 pub record Goes (world : World) (turn : Turn) (after : World) : Type 0 where
   pub seat : HostSeat
   pub seat_after : HostSeat
-  pub made : Made IsLawful turn.step.deed turn.step.reply world.tree seat world.tables after.tree seat_after after.tables
+  pub made : Made IsLawful turn.step.deed turn.step.reply world.tree seat world.tables after.tree
+      seat_after after.tables
   pub past : after.past ≡ settled_if world.past turn.job turn.step.deed turn.step.reply world.tables.next_row after.tree
 
 abbrev pub Runs : World → List Turn → World → Type 0

@@ -113,7 +113,8 @@ fn report_on(
 ) -> Result<Vec<u8>, AllocError>
     ensures { IfOk result (λ report. (lives : List (ℕ × ℕ)) × (handles : List (ℕ × ℕ))
         × AreLive driven.now.fs.tables lives handles
-        × (report.items ≡ report_of driven.now.trace.items driven.now.answers.items lives handles driven.now.fs.tables host.now)) }
+        × (report.items ≡ report_of driven.now.trace.items driven.now.answers.items lives handles
+        driven.now.fs.tables host.now)) }
 {
     let mut out = Vec::new(alloc);
     push_steps(&mut out, driven.trace.as_slice())?;

@@ -79,7 +79,8 @@ pub fn push_five<A: Text, B: Text, C: Text, D: Text, E: Text>(
 ) -> Result<(), AllocError>
     ensures { OnOk result (out.new.items
         ≡ out.old.items
-        ++ (word name.now ++ A.text first.now ++ B.text second.now ++ C.text third.now ++ D.text fourth.now ++ E.text fifth.now)) }
+        ++ (word name.now ++ A.text first.now ++ B.text second.now ++ C.text third.now ++ D.text fourth.now
+        ++ E.text fifth.now)) }
 {
     push_four(out, name, first, second, third, fourth)?;
     fifth.write(out)

@@ -121,20 +121,29 @@ impl<B: Body> Framed<B> {
         ensures belongs { (steps : List Step) (end : Finish) →
             Belongs (left_of self.new.taken self.new.closings self.new.mode
             (B.left self.new.body plan.now) self.new.holds) steps end →
-            Belongs (after reply (left_of self.old.taken self.old.closings self.old.mode (B.left self.old.body plan.now) self.old.holds)) steps end }
+            Belongs (after reply
+            (left_of self.old.taken self.old.closings self.old.mode
+            (B.left self.old.body plan.now) self.old.holds)) steps end }
         ensures belongs_cut { (steps : List Step) (end : Finish) →
             BelongsCut (left_of self.new.taken self.new.closings self.new.mode
             (B.left self.new.body plan.now) self.new.holds) steps end →
-            BelongsCut (after reply (left_of self.old.taken self.old.closings self.old.mode (B.left self.old.body plan.now) self.old.holds)) steps end }
+            BelongsCut (after reply
+            (left_of self.old.taken self.old.closings self.old.mode
+            (B.left self.old.body plan.now) self.old.holds)) steps end }
         ensures fewer { measure_left self.new.taken self.new.closings (length self.new.holds
             + mode_counts self.new.mode (B.acts self.new.body))
-            < measure_left self.old.taken self.old.closings (length self.old.holds + mode_counts self.old.mode (B.acts self.old.body)) }
+            < measure_left self.old.taken self.old.closings (length self.old.holds
+            + mode_counts self.old.mode (B.acts self.old.body)) }
         ensures within { bound_left self.new.taken self.new.closings (length self.new.holds
             + mode_counts self.new.mode (B.acts self.new.body)) + 1
-            ≤ bound_left self.old.taken self.old.closings (length self.old.holds + mode_counts self.old.mode (B.acts self.old.body))
-            + 3 * told_closings (left_of self.old.taken self.old.closings self.old.mode (B.left self.old.body plan.now) self.old.holds) reply }
+            ≤ bound_left self.old.taken self.old.closings (length self.old.holds
+            + mode_counts self.old.mode (B.acts self.old.body))
+            + 3 * told_closings
+            (left_of self.old.taken self.old.closings self.old.mode
+            (B.left self.old.body plan.now) self.old.holds) reply }
         ensures inserts { body_counts self.new.mode (B.inserts self.new.body)
-            + told_inserted (left_of self.old.taken self.old.closings self.old.mode (B.left self.old.body plan.now) self.old.holds) reply
+            + told_inserted (left_of self.old.taken self.old.closings self.old.mode
+            (B.left self.old.body plan.now) self.old.holds) reply
             ≤ body_counts self.old.mode (B.inserts self.old.body) }
     {
         match self.taken {
@@ -187,7 +196,8 @@ impl<B: Body> Framed<B> {
             (B.left self.old.body plan) self.old.holds)) }
         ensures bound { bound_left self.new.taken self.new.closings (length self.new.holds
             + mode_counts self.new.mode (B.acts self.new.body))
-            ≤ bound_left self.old.taken self.old.closings (length self.old.holds + mode_counts self.old.mode (B.acts self.old.body)) }
+            ≤ bound_left self.old.taken self.old.closings (length self.old.holds
+            + mode_counts self.old.mode (B.acts self.old.body)) }
         ensures inserts { body_counts self.new.mode (B.inserts self.new.body) ≡ 0 }
     {
         all_back(&self.mode, &mut self.holds);

@@ -116,11 +116,14 @@ impl LookUp {
             asked (look_up_left self.old name plan.now next) reply
             ≡ looked_up_tree result reply (look_up_left self.new name plan.now next) next }
         ensures fewer { (name : List ℕ) (next : Entry → Tree) →
-            adds (deed_in (look_up_left self.old name plan.now next)) + looked_up_counts result (look_up_acts self.new) < look_up_acts self.old }
+            adds (deed_in (look_up_left self.old name plan.now next))
+            + looked_up_counts result (look_up_acts self.new) < look_up_acts self.old }
         ensures room { (name : List ℕ) (next : Entry → Tree) →
-            adds (deed_in (look_up_left self.old name plan.now next)) + looked_up_counts result (look_up_room self.new) ≤ look_up_room self.old }
+            adds (deed_in (look_up_left self.old name plan.now next))
+            + looked_up_counts result (look_up_room self.new) ≤ look_up_room self.old }
         ensures inserts { (name : List ℕ) (next : Entry → Tree) →
-            inserted_by (deed_in (look_up_left self.old name plan.now next)) reply + looked_up_counts result (look_up_inserts self.new) ≤ look_up_inserts self.old }
+            inserted_by (deed_in (look_up_left self.old name plan.now next)) reply
+            + looked_up_counts result (look_up_inserts self.new) ≤ look_up_inserts self.old }
     {
         let nowhere = LookUp::Resolve {
             session: Session {

@@ -87,11 +87,14 @@ impl HandleOpen {
             asked (handle_open_left self.old plan next) reply
             ≡ handle_opened_tree result reply (handle_open_left self.new plan next) next }
         ensures fewer { (plan : Plan) (next : ℕ → Tree) →
-            adds (deed_in (handle_open_left self.old plan next)) + handle_opened_counts result (handle_open_acts self.new) < handle_open_acts self.old }
+            adds (deed_in (handle_open_left self.old plan next))
+            + handle_opened_counts result (handle_open_acts self.new) < handle_open_acts self.old }
         ensures room { (plan : Plan) (next : ℕ → Tree) →
-            adds (deed_in (handle_open_left self.old plan next)) + handle_opened_counts result (handle_open_room self.new) ≤ handle_open_room self.old }
+            adds (deed_in (handle_open_left self.old plan next))
+            + handle_opened_counts result (handle_open_room self.new) ≤ handle_open_room self.old }
         ensures inserts { (plan : Plan) (next : ℕ → Tree) →
-            inserted_by (deed_in (handle_open_left self.old plan next)) reply + handle_opened_counts result (handle_open_inserts self.new) ≤ handle_open_inserts self.old }
+            inserted_by (deed_in (handle_open_left self.old plan next)) reply
+            + handle_opened_counts result (handle_open_inserts self.new) ≤ handle_open_inserts self.old }
     {
         match (self.at, reply) {
             (HandleOpenAt::Resolve, ActReply::Event(EventReply::Resolved { form, mode, .. })) => {

@@ -87,7 +87,8 @@ impl RootOpen {
             adds (deed_in (root_open_left self.old plan.now next))
             + root_opened_counts result (root_open_room self.new) ≤ root_open_room self.old }
         ensures inserts { (next : Tree) →
-            inserted_by (deed_in (root_open_left self.old plan.now next)) reply + root_opened_counts result (root_open_inserts self.new) ≤ root_open_inserts self.old }
+            inserted_by (deed_in (root_open_left self.old plan.now next)) reply
+            + root_opened_counts result (root_open_inserts self.new) ≤ root_open_inserts self.old }
     {
         let nowhere = RootOpen::Open {
             session: Session {
