@@ -1,4 +1,4 @@
--- Jobs that run in the order of one schedule leave nothing open but want of memory.
+-- Jobs that run in the order of one schedule have one outcome unless memory runs out.
 use Rattle.std.proofs.Common.{◌≡◌, ◌≢◌, inl, inr, ℕ, zero, suc, ◌≤◌, List, [], ◌∷◌, ◌∙◌, Option, Some, None, refl, ap}
 use Rattle.std.proofs.Common.{sym, length, map, slice_get, arith}
 use Rattle.std.proofs.lemmas.Bool.{ne_eqb}

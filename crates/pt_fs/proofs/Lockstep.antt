@@ -136,7 +136,7 @@ one_step {H} does one deed x y from to to' j w w' agree s s' m n =
       agree = led.agree;
     }
 
--- What a job does next, want of memory aside: of a choice that side is left whose end is no want of memory.
+-- What a job does next, unless memory runs out: of a choice that side is left whose end is not out of memory.
 abbrev next_deed : Grammar → Option Deed
 next_deed (End last) = None
 next_deed (Do deed owed next) = Some deed

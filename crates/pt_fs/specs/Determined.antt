@@ -1,4 +1,4 @@
--- Believed. Jobs that run in the order of one schedule leave nothing open but want of memory.
+-- Believed. Jobs that run in the order of one schedule have one outcome unless memory runs out.
 use Rattle.std.specs.Prelude.{◌≡◌, ◌≢◌, ℕ, List, length}
 use Rattle.pt_host.specs.Words.{Each}
 use Rattle.pt_host.specs.declared.seat.HostSeat.{HostSeat}
@@ -13,7 +13,7 @@ use Rattle.pt_fs.specs.Trace.{RunsJobs, AnswersEach}
 use Rattle.pt_fs.specs.declared.job.Job.{Job}
 use Rattle.pt_fs.specs.declared.trace.TraceStep.{TraceStep}
 
--- no reply and no answer tells of want of memory
+-- no reply and no answer tells that memory ran out
 pub record FoundMemory (trace : List TraceStep) (answers : List Answer) : Type 0 where
   pub replies : Each (λ step. LacksMemory step.reply → ⊥) trace
   pub answered : Each (λ answer. answer ≢ NoMemory) answers

@@ -24,7 +24,7 @@ pub trait SteppedFs {
     /// The descriptor of the host's root.
     ghost root: { Self → Fd };
 
-    /// Begins a request. For want of memory the request is handed back.
+    /// Begins a request. Where memory ran out the request is handed back.
     fn start(&self, alloc: Global, who: Context, request: Request) -> Result<JobState, Request>
         ensures left { IfOk result (λ job. owes (plan_of self.now) job ≡ grammar_of (plan_of self.now) request) }
         ensures bound { IfOk result (λ job. steps_bound job ≤ bound_of request) }

@@ -70,7 +70,7 @@ bare tree holds steps end q b = elim (branch tree holds steps end b) [
   | inr r ↦ inr ([], steps, r.1, refl, r.3, subst (λ path. Along tree path r.1) (bare_path tree r.0 r.1 q r.4) r.4)
 ]
 
--- want of memory
+-- out of memory
 gave_up : (path : List Step) (last : Answer) (end : Finish) → Along (Refuses NoCopy) path last →
     end ≡ finish.Answer last → IsGivenUp end
 gave_up [] last end a e = subst IsGivenUp (sym (e ∙ ap finish.Answer a)) tt

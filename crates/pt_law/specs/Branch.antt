@@ -34,7 +34,7 @@ pub data AreOwn : List Step → List Step → Type 0 where
   keep : {step : Step} {own all : List Step} → AreOwn own all → AreOwn (step ∷ own) (step ∷ all)
   skip : {step : Step} {own all : List Step} → GivesBack step.deed → AreOwn own all → AreOwn own (step ∷ all)
 
--- given up for want of memory, or a lost seat
+-- given up as memory ran out, or a lost seat
 abbrev pub IsGivenUp : Finish → Type 0
 IsGivenUp (finish.Answer answer.NoMemory) = Unit {0}
 IsGivenUp (finish.Lost errno) = Unit {0}

@@ -1,4 +1,4 @@
--- A job leaves nothing open but want of memory.
+-- A job has one outcome unless memory runs out.
 use Rattle.std.proofs.Common.{◌≡◌, ◌≢◌, ◌∙◌, ℕ, zero, suc, Bool, true, false, List, [], ◌∷◌, Option, Some, None, refl}
 use Rattle.std.proofs.Common.{sym, subst, ap, length}
 use Rattle.pt_host.specs.Call.{Call}
@@ -79,7 +79,7 @@ det_answered true (one ∷ holds) last = det_shut (Some one) (length holds) hold
 det_answered true [] last = det_leave [] last
 det_answered false holds last = det_leave holds last
 
--- what is given back after want of memory changes no answer to a better one
+-- what is given back after memory ran out changes no answer to a better one
 want_stays : (fault : Option Errno) (last : Finish) → (IsAnsweredInFull last → ⊥) →
     IsAnsweredInFull (restored last fault) → ⊥
 want_stays None last so full = so full

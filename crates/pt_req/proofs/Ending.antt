@@ -159,7 +159,7 @@ calm_answered true (one ∷ holds) last =
 calm_answered true [] last = calm_leave [] last
 calm_answered false holds last = calm_leave holds last
 
--- a reply is followed by its closings, and then by what follows or by want of memory
+-- a reply is followed by its closings, and then by what follows or by running out of memory
 calm_reply : (count : ℕ) (holds : List Hold) (next : Grammar) → EndsSo IsAnswered next →
     EndsSo IsAnswered (May (closings count holds (leave holds (finish.Answer answer.NoMemory)))
     (closings count holds next))

@@ -1,4 +1,4 @@
--- Believed. What is left open: want of memory alone.
+-- Believed. One outcome, unless memory runs out.
 use Rattle.std.specs.Prelude.{◌≡◌, ◌≢◌}
 use Rattle.pt_host.specs.Call.{Call}
 use Rattle.pt_host.specs.declared.seat.HostSeat.{HostSeat}
@@ -17,20 +17,20 @@ use Rattle.pt_req.specs.declared.finish.Finish.{Finish}
 use Rattle.pt_req.specs.declared.finish.Finish.TheVariants as finish
 use Rattle.pt_req.specs.declared.plan.Plan.{Plan}
 
--- the reply tells of want of memory, or there was none to copy it
+-- the reply tells that memory ran out, or there was none to copy it
 abbrev pub LacksMemory : ActReply → Type 0
 LacksMemory (Event (event.Refused refused.Memory)) = Unit {0}
 LacksMemory (Host host.NoMemory) = Unit {0}
 LacksMemory NoCopy = Unit {0}
 LacksMemory _ = ⊥
 
--- a job ends with an answer, and that is not want of memory
+-- a job ends with an answer, and not that memory ran out
 abbrev pub IsAnsweredInFull : Finish → Type 0
 IsAnsweredInFull (finish.Answer answer.NoMemory) = ⊥
 IsAnsweredInFull (finish.Answer told) = Unit {0}
 IsAnsweredInFull (finish.Lost errno) = ⊥
 
--- the first side of a choice is one of want of memory
+-- the first side of a choice is one where memory ran out
 abbrev pub IsDetermined : Grammar → Type 0
 IsDetermined (End last) = Unit {0}
 IsDetermined (Do deed owed next) = (told : ActReply) → IsDetermined (next told)

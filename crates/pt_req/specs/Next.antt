@@ -32,7 +32,7 @@ then_tree then.Goes told left = left
 then_tree (then.Gives last) told left = Gives last
 then_tree then.Refuses told left = Refuses told
 
--- what is left is what the tree says, or the body gives up for want of memory
+-- what is left is what the tree says, or the body gives up as memory ran out
 abbrev pub IsNext : Tree → ActReply → Next → Tree → Type 0
 IsNext tree told (next.At what) left = tree ≡ then_tree what told left
 IsNext tree told (next.Shuts passes count what) left = tree ≡ Shuts passes count (then_tree what told left)

@@ -18,7 +18,7 @@ use Rattle.pt_req.specs.declared.plan.Plan.{Plan}
 abbrev pub grammar_of : Plan → Request → Grammar
 grammar_of plan asked = framed (tree_of plan asked) []
 
--- No request of today heeds its seat or who asks.
+-- No request of today takes its seat, or who asks, into account.
 abbrev pub Pattern : Plan → HostSeat → Context → Request → List Step → Answer → Type 0
 Pattern plan seat who asked steps answer = Belongs (grammar_of plan asked) steps (finish.Answer answer)
 

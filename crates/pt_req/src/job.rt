@@ -54,7 +54,7 @@ fn body_of(request: Request) -> RequestBody
             let list = Forgotten::Many(list);
             RequestBody::Forget(Forget { list, at })
         }
-        // Whether set-id bits are cleared is heeded by a switch that is not there yet.
+        // Whether set-id bits are cleared is decided by a switch that is not there yet.
         Request::Open { inode, flags, .. } => {
             let at = OpenAt::Begin { inode };
             RequestBody::Open(Open { flags, at })
@@ -98,8 +98,8 @@ impl JobState {
     ghost use Rattle.pt_req.specs.declared.finish.Finish.{Finish};
     ghost use Rattle.pt_req.specs.declared.finish.Finish.TheVariants.{Lost};
 
-    /// A job that has made no step. An `Err`, which gives the request back, is want of memory; these requests take
-    /// none.
+    /// A job that has made no step. An `Err`, which gives the request back, says that memory ran out; these requests
+    /// take none.
     pub fn start(
         _alloc: Global,
         plan: &Plan,

@@ -23,7 +23,7 @@ pub fn cut_says_no_more()
     ensures { (grammar : Grammar) (steps : List Step) (end : Finish) → BelongsCut grammar steps end → end ≡ Answer Cut }
 {}
 
-/// A request leaves nothing open but want of memory, and an edit nothing at all.
+/// A request has one outcome unless memory runs out, and an edit has one always.
 pub fn jobs_are_determined()
     ensures { JobsAreDetermined }
 {}

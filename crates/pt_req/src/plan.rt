@@ -18,7 +18,8 @@ pub enum CachePolicy {
     Always,
 }
 
-/// What the file system is set up with, by virtiofsd's names. A switch comes with the requests that heed it.
+/// What the file system is set up with, by virtiofsd's names. A switch comes with the requests that take it into
+/// account.
 #[derive(Debug, Drop)]
 pub struct Config {
     /// How long the guest may keep a name that it looked up.
@@ -42,7 +43,7 @@ pub struct Config {
 impl Config {
     /// The defaults: timeouts of five seconds, the host's root, no limit of descriptors, cached as the guest decides,
     /// with attributes of whole directories, and neither direct I/O nor `O_NOATIME` on the host. Its one refusal is
-    /// want of memory.
+    /// that memory ran out.
     pub fn new(alloc: Global) -> Result<Config, Refusal>
         ensures ok { IfOk result IsDefault }
         ensures err { OnErr result (result ≡ Err Refusal.Memory) }

@@ -58,7 +58,7 @@ AnswersCall (Some errno) before numbers seat asked given after seat_after =
 AnswersCall None before numbers seat asked given after seat_after =
     ComesTo before seat asked (outcome before numbers seat asked) given after seat_after
 
--- a call is answered by the table and then counted; want of memory is all that is left open
+-- a call is answered by the table and then counted; running out of memory is all that is left open
 pub record Answers (before : State) (seat : HostSeat) (asked : Call) (given : HostReply) (after : State)
     (seat_after : HostSeat) : Type 0 where
   pub numbers : ℕ → ℕ
@@ -71,5 +71,5 @@ pub record Does (before : State) (seat : HostSeat) (asked : Call) (given : HostR
     (seat_after : HostSeat) : Type 0 where
   pub sound : IsSound before
   pub answers : Answers before seat asked given after seat_after
-  -- what a machine could not number is want of memory
+  -- what a machine could not number is out of memory
   pub few : length after.nodes < 2 ^ 63

@@ -1,4 +1,4 @@
--- A script alone determines its report, want of memory aside.
+-- A script alone determines its report unless memory runs out.
 use Rattle.std.proofs.Common.{◌≡◌, ◌≢◌, ℕ, ◌≤◌, List, [], ◌∷◌, ◌∙◌, Option, Some, None, Ok, refl, ap, sym, subst, arith}
 use Rattle.pt_host.specs.declared.reply.HostReply.{HostReply}
 use Rattle.pt_host.specs.declared.reply.HostReply.TheVariants as reply

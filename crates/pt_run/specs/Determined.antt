@@ -1,9 +1,9 @@
--- Believed. A script alone determines its report, want of memory aside.
+-- Believed. A script alone determines its report unless memory runs out.
 use Rattle.std.specs.Prelude.{◌≡◌, ℕ, List, Option}
 use Rattle.pt_fs.specs.Determined.{FoundMemory}
 use Rattle.pt_run.specs.Run.{IsReportOf, IsReportFrom}
 
--- no reply and no answer of the reported run tells of want of memory
+-- no reply and no answer of the reported run tells that memory ran out
 abbrev pub IsFull : {bytes report : List ℕ} → IsReportOf bytes report → Type 0
 IsFull ran = FoundMemory ran.trace ran.answers
 

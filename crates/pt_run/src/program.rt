@@ -57,7 +57,7 @@ pub fn run<I: Source, O: Sink>(
     // The input was read to its end, and the report of one run of the script that it is stands in the output.
     ensures done { result ≡ Status.Done → (report : List ℕ) × IsReportFrom (I.left input.old) report
         × IsWritten (O.written output.old) report (O.written output.new) }
-    // Where no reply and no answer of a run tells of want of memory, what was read alone determines the report.
+    // Where no reply and no answer of a run tells that memory ran out, what was read alone determines the report.
     ensures determined { DeterminesReport (I.left input.old) }
     ensures read_whole { result ≡ Status.Done → IsAtEnd (I.left input.new) }
 
@@ -75,7 +75,7 @@ pub fn run<I: Source, O: Sink>(
         × IsFrontWritten (O.written output.old) report (O.written output.new) }
     ensures write_fault_rose { result ≡ Status.WriteFault → HasRisen (O.faults output.old) (O.faults output.new) }
 
-    // A fault is told as what it is, and never as want of memory.
+    // A fault is told as what it is, and never as out of memory.
     ensures read_fault_told { result ≢ Status.ReadFault → I.faults input.new ≡ I.faults input.old }
     ensures write_fault_told { result ≢ Status.WriteFault → O.faults output.new ≡ O.faults output.old }
 

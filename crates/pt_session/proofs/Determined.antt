@@ -1,4 +1,4 @@
--- Each event has one outcome at most from tables that agree, want of memory aside.
+-- Each event has one outcome at most from tables that agree unless memory runs out.
 use Rattle.std.proofs.Common.{◌≡◌, ◌≢◌, ◌⊎◌, inl, inr, ℕ, ◌+◌, ◌-◌, ◌<◌, ◌≤◌, List, [], ◌∷◌, Option, refl, sym, ap}
 use Rattle.std.proofs.Common.{subst, ◌∙◌, arith}
 use Rattle.pt_host.specs.declared.ids.Fd.{Fd}

@@ -191,7 +191,7 @@ module _ (entries : List (ℕ × HandleRow)) (handles : ℕ → Option ℕ) (sou
             (handle_free row handle) puts enters sound.handles;
       }
 
-  -- want of memory left the index as it was
+  -- running out of memory left the index as it was
   pub handles_refused : (handles' : ℕ → Option ℕ) → SameAt handles handles' → IsSoundHandles entries handles'
   handles_refused handles' same = record {
     keyed = sound.keyed;

@@ -235,7 +235,7 @@ module _ (entries : List (ℕ × Row)) (numbers : ℕ → Option ℕ) (objects :
             (object_free row object) puts arrives sound.objects;
       }
 
-  -- want of memory left the indexes as they were
+  -- running out of memory left the indexes as they were
   pub sound_refused : (numbers' : ℕ → Option ℕ) (objects' : ObjectKey → Option ℕ) (more : ℕ) →
       SameAt numbers numbers' → SameAt objects objects' → capacity ≤ more →
       IsSoundStore entries numbers' objects' others more

@@ -1,4 +1,4 @@
--- Believed. The tables and the event alone determine what it is answered and what it leaves, want of memory aside.
+-- Believed. The tables and the event alone determine what it is answered and what it leaves unless memory runs out.
 use Rattle.std.specs.Prelude.{◌≡◌, ◌≢◌}
 use Rattle.pt_session.specs.Change.{Change}
 use Rattle.pt_session.specs.Tables.{Tables, Agree}

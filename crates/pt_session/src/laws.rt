@@ -31,7 +31,7 @@ pub fn clearings_clear()
     ensures { ClearingsClear }
 {}
 
-/// The tables and an event determine its reply and the tables after it, want of memory aside.
+/// The tables and an event determine its reply and the tables after it unless memory runs out.
 pub fn events_are_determined()
     ensures { EventsAreDetermined }
 {}

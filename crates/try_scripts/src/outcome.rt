@@ -22,7 +22,7 @@ impl Outcomes {
         self.text.as_slice()
     }
 
-    /// The exit status: 9, as the program's, where memory was wanting in a case, else 0.
+    /// The exit status: 9, as the program's, where memory ran out in a case, else 0.
     pub fn exit_code(&self) -> u8 {
         if self.ran_out {
             Status::NoMemory.exit_code()
@@ -86,7 +86,7 @@ fn behind_steps(report: &[u8]) -> &[u8] {
     }
 }
 
-// A reply or an answer of the report tells that memory was wanting.
+// A reply or an answer of the report tells that memory ran out.
 fn tells_of_memory(report: &[u8]) -> bool {
     let told = |word: &[u8]| report.windows(word.len()).any(|part| part == word);
     told(b" NoMemory") || told(b" NoCopy") || told(b" Refused Memory")

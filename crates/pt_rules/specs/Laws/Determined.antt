@@ -1,4 +1,4 @@
--- Proof. A tree host leaves nothing open but want of memory.
+-- Proof. A tree host has one outcome unless memory runs out.
 use Rattle.std.proofs.Common.{◌≡◌, ◌≢◌, ℕ, inl, inr, Option, Some, None, ap, sym, ◌∙◌, arith}
 use Rattle.std.proofs.lemmas.Bool.Decides.{leb_tells}
 use Rattle.pt_host.specs.Call.{Call}
@@ -27,7 +27,7 @@ same_numbers : (state : State) (numbers other : ℕ → ℕ) → AreLeastFree st
 same_numbers state numbers other least too =
     λ k dev. one_least state dev (numbers dev) (other dev) (least dev) (too dev) k
 
--- what comes of a call, want of memory aside
+-- what comes of a call unless memory runs out
 same_outcome : (failing : Option Errno) (before : State) (numbers other : ℕ →
     ℕ) (seat : HostSeat) (asked : Call) (told told' : HostReply) (after after' : State)
     (left left' : HostSeat) → told ≢ NoMemory → told' ≢ NoMemory → numbers ≡ other →
