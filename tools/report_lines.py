@@ -1,4 +1,4 @@
-"""Reads the report of a run: its steps, answers and what stands at its end, and follows the session's tables step by step."""
+"""Reads the report of a run: its steps, answers and what stands at its end, and follows the session's tables by it."""
 from collections.abc import Iterable
 from dataclasses import dataclass, field
 
@@ -63,7 +63,7 @@ Change = tuple[int, int | None, int | None]
 
 @dataclass
 class Tables:
-    """What the guest holds: numbers with their counts, handles with their numbers, and slots taken since the run began."""
+    """What the guest holds: numbers with counts, handles with numbers, and slots taken since the run began."""
 
     live: dict[int, int] = field(default_factory=dict)
     handles: dict[int, int] = field(default_factory=dict)
@@ -86,7 +86,11 @@ class Tables:
             case ["Release", handle, _, "=", "Done", _]:
                 return [], [change(self.handles, int(handle), None)], 0
             case ["Clear", "=", "Cleared", *_]:
-                return [change(self.live, key, None) for key in [*self.live]], [change(self.handles, key, None) for key in [*self.handles]], 0
+                return (
+                    [change(self.live, key, None) for key in [*self.live]],
+                    [change(self.handles, key, None) for key in [*self.handles]],
+                    0,
+                )
             case ["TakeFd", "=", "Taken"]:
                 self.taken += 1
                 return [], [], 1

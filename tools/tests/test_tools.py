@@ -1,4 +1,4 @@
-"""Tests of tools/explain, tools/timeline and tools/definitions: `python3 -m unittest discover -s tools/tests -t tools`."""
+"""Tests of tools/explain, timeline and definitions: `python3 -m unittest discover -s tools/tests -t tools`."""
 import json
 import re
 import subprocess
@@ -54,14 +54,17 @@ def told(words: str) -> report_lines.Step:
 class Scripts(unittest.TestCase):
     def test_bad_lines_are_those_of_the_program(self) -> None:
         scripts, told = cases(ROOT / "crates/try_scripts/stdin"), cases(ROOT / "crates/try_scripts/stdout")
-        cut = {line.split()[1] for line in (ROOT / "crates/try_scripts/stdin").read_text("latin-1").splitlines() if line.endswith(" cut")}
+        cut = {
+            line.split()[1]
+            for line in (ROOT / "crates/try_scripts/stdin").read_text("latin-1").splitlines()
+            if line.endswith(" cut")
+        }
         for name, text in scripts.items():
             found = re.match(r"4: bad script at line (\d+)", told[name])
             bytes_of = text.encode("latin-1")
             bad = script_lines.complaint(bytes_of.removesuffix(b"\n") if name in cut else bytes_of)
             with self.subTest(name=name):
                 self.assertEqual(bad and bad[0], int(found[1]) if found else None)
-
 
     def test_bad_lines_are_told_with_their_reason(self) -> None:
         for text, line, word in BAD:
@@ -136,7 +139,9 @@ class Examples(unittest.TestCase):
                 tables.after(step)
             with self.subTest(name=name):
                 self.assertEqual([f"{number} {count}" for number, count in sorted(tables.live.items())], report.live)
-                self.assertEqual([f"{handle} {number}" for handle, number in sorted(tables.handles.items())], report.handles)
+                self.assertEqual(
+                    [f"{handle} {number}" for handle, number in sorted(tables.handles.items())], report.handles
+                )
 
 
 class Definitions(unittest.TestCase):
