@@ -1,6 +1,6 @@
 -- Believed. The calls sorted: which descriptors each names, and whether it opens a descriptor, ends one, is the seat's
 -- own or is plain. After the manual pages of open(2), openat(2), open_by_handle_at(2), close(2) and credentials(7).
-use Rattle.std.specs.Prelude.{◌≡◌, List, [], ◌∷◌, Option, Some, None}
+use Rattle.std.specs.Prelude.{List, [], ◌∷◌, Option, Some, None}
 use Rattle.pt_host.specs.Call.{Call}
 use Rattle.pt_host.specs.declared.ids.Fd.{Fd}
 use Rattle.pt_host.specs.declared.flags.OpenFlags.{OpenFlags}
@@ -113,23 +113,3 @@ flags_of Plain = None
 
 abbrev pub opening_flags : Call → Option OpenFlags
 opening_flags asked = flags_of (sort_of asked)
-
-abbrev pub IsSortOpening : Sort → Type 0
-IsSortOpening (OpensWith flags) = Unit {0}
-IsSortOpening sort = ⊥
-
--- where the call is Ok it opens a descriptor
-abbrev pub IsOpening : Call → Type 0
-IsOpening asked = IsSortOpening (sort_of asked)
-
--- the call ends this descriptor, whatever it is answered
-abbrev pub IsClosingOf : Fd → Call → Type 0
-IsClosingOf fd asked = sort_of asked ≡ EndsFd fd
-
--- the call is the seat's own
-abbrev pub IsOfSeat : Call → Type 0
-IsOfSeat asked = sort_of asked ≡ OfSeat
-
--- the call opens and ends no descriptor, and leaves its seat
-abbrev pub IsPlain : Call → Type 0
-IsPlain asked = sort_of asked ≡ Plain
