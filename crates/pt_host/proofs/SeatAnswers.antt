@@ -1,84 +1,158 @@
 -- What a seat answers to its own calls keeps what every host keeps, and so does what any other call is answered,
 -- where the seat stays.
-use Rattle.std.proofs.Common.{◌≡◌, ℕ, Bool, true, false, ◌||◌, Some, None, refl, subst, arith}
+use Rattle.std.proofs.Common.{◌≡◌, ℕ, Bool, true, false, ◌||◌, Option, Some, None, option_map, refl, sym}
+use Rattle.std.proofs.Common.{ap, subst, arith}
 use Rattle.std.specs.Prelude.{◌==◌}
-use Rattle.std.proofs.lemmas.Bool.{eq-eqb}
+use Rattle.std.proofs.lemmas.Option.{same_Some}
 use Rattle.pt_host.specs.Flags.{includes, cap_setgid, cap_setuid}
-use Rattle.pt_host.specs.Errno.{eperm}
 use Rattle.pt_host.specs.Call.{Call}
-use Rattle.pt_host.specs.Seat.{kept_id, may_set_euid, with_euid, may_set_egid, with_egid, may_set_groups}
-use Rattle.pt_host.specs.Seat.{groups_errno, with_groups, may_raise, with_raised}
-use Rattle.pt_host.specs.SeatStep.{SeatStep, SeatGoes, MayRefuseSeat}
-use Rattle.pt_host.specs.SeatAnswer.{if_allowed, seat_answer}
+use Rattle.pt_host.specs.Seat.{kept_id}
+use Rattle.pt_host.specs.SeatCalls.{SeatRow, seat_row}
+use Rattle.pt_host.specs.SeatStep.{SeatStep, RowAnswers, left_by, seat_left}
+use Rattle.pt_host.specs.SeatAnswer.{answered_by, seat_answer}
 use Rattle.pt_host.specs.Promises.{FitsCall, IsPromised}
 use Rattle.pt_host.specs.declared.ids.Errno.{Errno}
 use Rattle.pt_host.specs.declared.seat.HostSeat.{HostSeat}
 use Rattle.pt_host.specs.declared.op.KeptHostOp.TheVariants as call
 use Rattle.pt_host.specs.declared.reply.HostReply.{HostReply}
 use Rattle.pt_host.specs.declared.reply.HostReply.TheVariants as reply
-use Rattle.pt_host.specs.declared.reply.HostValue.TheVariants as value
+use Rattle.pt_host.specs.declared.reply.HostValue.{HostValue}
 
-some_same : {A : Type 0} (x y : A) → Some x ≡ Some y → x ≡ y
-some_same x y e = cc
+-- the rules refuse nothing that is owed, and what is told is of the call's kind
+pub record IsFairRow (asked : Call) (row : SeatRow) : Type 0 where
+  pub owed : row.allowed ≡ false → row.owed ≡ false
+  pub fits : FitsCall asked row.tells
 
-promised_if : (faults : ℕ) (seat : HostSeat) (asked : Call) (allowed : Bool) (errno : Errno) (next : HostSeat) →
-    (allowed ≡ true → SeatGoes seat asked value.Unit next) → FitsCall asked value.Unit →
-    (allowed ≡ false → MayRefuseSeat seat asked) →
-    (told : HostReply) (after : HostSeat) → if_allowed seat allowed errno next ≡ (told, after) →
-    IsPromised faults seat asked told faults after
-promised_if faults seat asked true errno next goes fits may told after e =
-    let P : HostReply × HostSeat → Type 0 = λ both. IsPromised faults seat asked both.0 faults both.1 in
-    subst P e (record { never_falls = omega arith; allowed = fits; fails = tt; seats = goes refl })
-promised_if faults seat asked false errno next goes fits may told after e =
-    let P : HostReply × HostSeat → Type 0 = λ both. IsPromised faults seat asked both.0 faults both.1 in
-    subst P e (record { never_falls = omega arith; allowed = tt; fails = tt; seats = (may refl, refl) })
+-- an id that may not be taken is not the third one
+third : (by kept real eff saved : Bool) → ((((by || kept) || real) || eff) || saved) ≡ false → real ≡ false
+third true kept real eff saved denied = absurd (cc)
+third false true real eff saved denied = absurd (cc)
+third false false true eff saved denied = absurd (cc)
+third false false false eff saved denied = refl
 
--- an id that is the third one may be taken
-third : (by kept real eff saved : Bool) → real ≡ true → ((((by || kept) || real) || eff) || saved) ≡ false → ⊥
-third true kept real eff saved is denied = absurd (cc)
-third false true real eff saved is denied = absurd (cc)
-third false false true eff saved is denied = absurd (cc)
-third false false false eff saved is denied = absurd (cc)
+some_row : (P : SeatRow → Type 0) (x y : SeatRow) → Some x ≡ Some y → P x → P y
+some_row P x y e p = subst P (same_Some x y e) p
+
+pub row_fair : (seat : HostSeat) (asked : Call) (row : SeatRow) → seat_row seat asked ≡ Some row →
+    IsFairRow asked row
+row_fair seat (call.SetGroups list) row is =
+    some_row (IsFairRow (call.SetGroups list)) _ row is (record { owed = λ denied. denied; fits = tt })
+row_fair seat (call.SetEgid gid) row is =
+    some_row (IsFairRow (call.SetEgid gid)) _ row is (record {
+      owed = third (includes seat.eff_caps.0 cap_setgid) (gid == kept_id) (gid == seat.real_gid)
+          (gid == seat.eff_gid) (gid == seat.saved_gid);
+      fits = tt;
+    })
+row_fair seat (call.SetEuid uid) row is =
+    some_row (IsFairRow (call.SetEuid uid)) _ row is (record {
+      owed = third (includes seat.eff_caps.0 cap_setuid) (uid == kept_id) (uid == seat.real_uid)
+          (uid == seat.eff_uid) (uid == seat.saved_uid);
+      fits = tt;
+    })
+row_fair seat (call.RaiseCap caps) row is =
+    some_row (IsFairRow (call.RaiseCap caps)) _ row is (record { owed = λ denied. denied; fits = tt })
+row_fair seat (call.DropCap caps) row is =
+    some_row (IsFairRow (call.DropCap caps)) _ row is (record { owed = λ denied. refl; fits = tt })
+row_fair seat (call.SetUmask mask) row is =
+    some_row (IsFairRow (call.SetUmask mask)) _ row is (record {
+      owed = λ denied. (let e : true ≡ false = denied in cc);
+      fits = tt;
+    })
+row_fair seat asked row is = absurd (cc)
+
+-- what a row answers is promised
+module _ (faults : ℕ) (seat : HostSeat) (asked : Call) where
+  abbrev IsKept : HostReply × HostSeat → Type 0
+  IsKept both = IsPromised faults seat asked both.0 faults both.1
+
+  row_kept : (row : SeatRow) (allowed : Bool) → row.allowed ≡ allowed → seat_row seat asked ≡ Some row →
+      IsKept (answered_by seat (record row { allowed = allowed }))
+  row_kept row true may is =
+      let fair = row_fair seat asked row is in
+      record {
+        never_falls = omega arith;
+        allowed = fair.fits;
+        fails = tt;
+        seats = record {
+          answers = subst (λ (r : Option SeatRow). RowAnswers r (reply.Ok row.tells)) (sym is) (may, refl);
+          leaves = sym (ap (left_by seat) is);
+        };
+      }
+  row_kept row false may is =
+      let fair = row_fair seat asked row is in
+      record {
+        never_falls = omega arith;
+        allowed = tt;
+        fails = tt;
+        seats = record {
+          answers = subst (λ (r : Option SeatRow). RowAnswers r (reply.Refused row.errno)) (sym is) (fair.owed may);
+          leaves = refl;
+        };
+      }
+
+  kept_by : (found : Option SeatRow) → seat_row seat asked ≡ found → (told : HostReply) (after : HostSeat) →
+      option_map (answered_by seat) found ≡ Some (told, after) → IsPromised faults seat asked told faults after
+  kept_by None is told after e = absurd (cc)
+  kept_by (Some row) is told after e =
+      subst IsKept (same_Some (answered_by seat row) (told, after) e) (row_kept row row.allowed refl is)
 
 pub answered : (faults : ℕ) (seat : HostSeat) (asked : Call) (told : HostReply) (after : HostSeat) →
     seat_answer seat asked ≡ Some (told, after) → IsPromised faults seat asked told faults after
-answered faults seat (call.SetGroups list) told after e =
-    promised_if faults seat (call.SetGroups list) (may_set_groups seat list) (groups_errno seat)
-    (with_groups seat list) (λ may. (may, refl)) tt (λ denied. denied) told after
-    (some_same _ _ e)
-answered faults seat (call.SetEgid gid) told after e =
-    promised_if faults seat (call.SetEgid gid) (may_set_egid seat gid) eperm (with_egid seat gid) (λ may.
-    (may, refl)) tt
-    (λ denied same. third (includes seat.eff_caps.0 cap_setgid) (gid == kept_id) (gid == seat.real_gid)
-    (gid == seat.eff_gid) (gid == seat.saved_gid)
-    (eq-eqb gid seat.real_gid same) denied) told after (some_same _ _ e)
-answered faults seat (call.SetEuid uid) told after e =
-    promised_if faults seat (call.SetEuid uid) (may_set_euid seat uid) eperm (with_euid seat uid) (λ may.
-    (may, refl)) tt
-    (λ denied same. third (includes seat.eff_caps.0 cap_setuid) (uid == kept_id) (uid == seat.real_uid)
-    (uid == seat.eff_uid) (uid == seat.saved_uid)
-    (eq-eqb uid seat.real_uid same) denied) told after (some_same _ _ e)
-answered faults seat (call.RaiseCap caps) told after e =
-    promised_if faults seat (call.RaiseCap caps) (may_raise seat caps) eperm (with_raised seat caps) (λ may.
-    (may, refl)) tt (λ denied. denied) told after
-    (some_same _ _ e)
-answered faults seat (call.DropCap caps) told after e =
-    let P : HostReply × HostSeat → Type 0 = λ both. IsPromised faults seat (call.DropCap caps) both.0 faults both.1 in
-    subst P (some_same _ _ e) (record { never_falls = omega arith; allowed = tt; fails = tt; seats = refl })
-answered faults seat (call.SetUmask mask) told after e =
-    let P : HostReply × HostSeat → Type 0 = λ both. IsPromised faults seat (call.SetUmask mask) both.0 faults both.1 in
-    subst P (some_same _ _ e) (record { never_falls = omega arith; allowed = tt; fails = tt; seats = (refl, refl) })
-answered faults seat asked told after e = absurd (cc)
+answered faults seat asked told after e = kept_by faults seat asked (seat_row seat asked) refl told after e
+
+-- it is answered Ok, as fits it, or refused
+module _ (seat : HostSeat) (asked : Call) (P : HostReply → Type 0)
+    (passes : (told : HostValue) → FitsCall asked told → P (reply.Ok told))
+    (refuses : (errno : Errno) → P (reply.Refused errno)) where
+  answered_where : (row : SeatRow) (allowed : Bool) → FitsCall asked row.tells →
+      P (answered_by seat (record row { allowed = allowed })).0
+  answered_where row true fits = passes row.tells fits
+  answered_where row false fits = refuses row.errno
+
+  answered_row : (found : Option SeatRow) → seat_row seat asked ≡ found → (told : HostReply × HostSeat) →
+      option_map (answered_by seat) found ≡ Some told → P told.0
+  answered_row None is told e = absurd (cc)
+  answered_row (Some row) is told e =
+      subst (λ (both : HostReply × HostSeat). P both.0) (same_Some (answered_by seat row) told e)
+      (answered_where row row.allowed (row_fair seat asked row is).fits)
+
+  pub answered_as : (told : HostReply × HostSeat) → seat_answer seat asked ≡ Some told → P told.0
+  answered_as told e = answered_row (seat_row seat asked) refl told e
+
+-- ---- any other call
+
+no_row : (seat : HostSeat) (found : Option SeatRow) → option_map (answered_by seat) found ≡ None → found ≡ None
+no_row seat None e = refl
+no_row seat (Some row) e = absurd (cc)
+
+left_other : (seat : HostSeat) (asked : Call) (told : HostReply) → seat_row seat asked ≡ None →
+    seat ≡ seat_left seat asked told
+left_other seat asked (reply.Ok told) none = sym (ap (left_by seat) none)
+left_other seat asked (reply.Refused errno) none = refl
+left_other seat asked (reply.Fault errno) none = refl
+left_other seat asked reply.NoMemory none = refl
 
 pub unanswered : (seat : HostSeat) (asked : Call) (told : HostReply) → seat_answer seat asked ≡ None →
     SeatStep seat asked told seat
-unanswered seat (call.SetGroups list) told e = absurd (cc)
-unanswered seat (call.SetEgid gid) told e = absurd (cc)
-unanswered seat (call.SetEuid uid) told e = absurd (cc)
-unanswered seat (call.RaiseCap caps) told e = absurd (cc)
-unanswered seat (call.DropCap caps) told e = absurd (cc)
-unanswered seat (call.SetUmask mask) told e = absurd (cc)
-unanswered seat asked (reply.Ok told) e = refl
-unanswered seat asked (reply.Refused errno) e = (tt, refl)
-unanswered seat asked (reply.Fault errno) e = refl
-unanswered seat asked reply.NoMemory e = refl
+unanswered seat asked told e =
+    let none = no_row seat (seat_row seat asked) e in
+    record {
+      answers = subst (λ (r : Option SeatRow). RowAnswers r told) (sym none) tt;
+      leaves = left_other seat asked told none;
+    }
+
+-- ---- a call that is not Ok
+
+fault_answers : (found : Option SeatRow) (errno : Errno) → RowAnswers found (reply.Fault errno)
+fault_answers None errno = tt
+fault_answers (Some row) errno = tt
+
+pub faulted_seat : (seat : HostSeat) (asked : Call) (errno : Errno) → SeatStep seat asked (reply.Fault errno) seat
+faulted_seat seat asked errno = record { answers = fault_answers (seat_row seat asked) errno; leaves = refl }
+
+lack_answers : (found : Option SeatRow) → RowAnswers found reply.NoMemory
+lack_answers None = tt
+lack_answers (Some row) = tt
+
+pub lacking_seat : (seat : HostSeat) (asked : Call) → SeatStep seat asked reply.NoMemory seat
+lacking_seat seat asked = record { answers = lack_answers (seat_row seat asked); leaves = refl }

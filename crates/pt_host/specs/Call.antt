@@ -1,4 +1,5 @@
 -- Believed. A call as plain data: what it asks, and not where its bytes lie.
+use Rattle.std.specs.Prelude.{◌<◌, length}
 use Rattle.pt_host.specs.declared.op.HostOp.{HostOp}
 use Rattle.pt_host.specs.declared.op.HostOp.TheVariants as borrowed
 use Rattle.pt_host.specs.declared.op.KeptHostOp.{KeptHostOp}
@@ -53,7 +54,7 @@ call_of (borrowed.DropCap caps) = call.DropCap caps
 call_of (borrowed.SetUmask mask) = call.SetUmask mask
 call_of (borrowed.Edit edit) = call.Edit edit.now
 
--- it has bytes, or a list, to copy
+-- it has bytes to copy, or more groups than find room in place
 abbrev pub HoldsBytes : Call → Type 0
 HoldsBytes (call.OpenRoot path flags) = Unit {0}
 HoldsBytes (call.OpenPath fd path flags) = Unit {0}
@@ -69,6 +70,6 @@ HoldsBytes (call.WriteAt fd offset bytes append) = Unit {0}
 HoldsBytes (call.SetXattr fd through name value flags) = Unit {0}
 HoldsBytes (call.GetXattr fd through name size) = Unit {0}
 HoldsBytes (call.RemoveXattr fd through name) = Unit {0}
-HoldsBytes (call.SetGroups list) = Unit {0}
+HoldsBytes (call.SetGroups list) = 32 < length list
 HoldsBytes (call.Edit edit) = Unit {0}
 HoldsBytes _ = ⊥

@@ -1,36 +1,31 @@
 -- Believed. What a call may do to its seat: the seat's own calls alone change it, and only where they are Ok.
-use Rattle.std.specs.Prelude.{◌≡◌, ◌≢◌, true, false}
+use Rattle.std.specs.Prelude.{◌≡◌, true, false, Option, Some, None}
 use Rattle.pt_host.specs.Call.{Call}
-use Rattle.pt_host.specs.Seat.{may_set_euid, with_euid, may_set_egid, with_egid, may_set_groups, with_groups}
-use Rattle.pt_host.specs.Seat.{may_raise, with_raised, with_dropped, with_umask}
+use Rattle.pt_host.specs.SeatCalls.{SeatRow, seat_row}
 use Rattle.pt_host.specs.declared.seat.HostSeat.{HostSeat}
-use Rattle.pt_host.specs.declared.op.KeptHostOp.TheVariants as call
 use Rattle.pt_host.specs.declared.reply.HostReply.{HostReply}
 use Rattle.pt_host.specs.declared.reply.HostReply.TheVariants as reply
-use Rattle.pt_host.specs.declared.reply.HostValue.{HostValue}
-use Rattle.pt_host.specs.declared.reply.HostValue.TheVariants as value
 
--- where a call that is Ok leaves the seat, and that it was allowed; `SetUmask` tells the old mask
-abbrev pub SeatGoes : HostSeat → Call → HostValue → HostSeat → Type 0
-SeatGoes seat (call.SetGroups list) told after = (may_set_groups seat list ≡ true) × (after ≡ with_groups seat list)
-SeatGoes seat (call.SetEgid gid) told after = (may_set_egid seat gid ≡ true) × (after ≡ with_egid seat gid)
-SeatGoes seat (call.SetEuid uid) told after = (may_set_euid seat uid ≡ true) × (after ≡ with_euid seat uid)
-SeatGoes seat (call.RaiseCap caps) told after = (may_raise seat caps ≡ true) × (after ≡ with_raised seat caps)
-SeatGoes seat (call.DropCap caps) told after = after ≡ with_dropped seat caps
-SeatGoes seat (call.SetUmask mask) told after = (told ≡ value.Count seat.umask) × (after ≡ with_umask seat mask)
-SeatGoes seat asked told after = after ≡ seat
+-- where a call that is Ok leaves the seat
+abbrev pub left_by : HostSeat → Option SeatRow → HostSeat
+left_by seat None = seat
+left_by seat (Some row) = row.leaves
 
--- The real id may always be taken again, 32 groups be set while `SETGID` is effective, what is permitted be raised,
--- and any mask be set.
-abbrev pub MayRefuseSeat : HostSeat → Call → Type 0
-MayRefuseSeat seat (call.SetGroups list) = may_set_groups seat list ≡ false
-MayRefuseSeat seat (call.SetEgid gid) = gid ≢ seat.real_gid
-MayRefuseSeat seat (call.SetEuid uid) = uid ≢ seat.real_uid
-MayRefuseSeat seat (call.RaiseCap caps) = may_raise seat caps ≡ false
-MayRefuseSeat seat (call.SetUmask mask) = ⊥
-MayRefuseSeat seat asked = Unit {0}
+-- the seat after a call
+abbrev pub seat_left : HostSeat → Call → HostReply → HostSeat
+seat_left seat asked (reply.Ok told) = left_by seat (seat_row seat asked)
+seat_left seat asked (reply.Refused errno) = seat
+seat_left seat asked (reply.Fault errno) = seat
+seat_left seat asked reply.NoMemory = seat
 
-abbrev pub SeatStep : HostSeat → Call → HostReply → HostSeat → Type 0
-SeatStep seat asked (reply.Ok told) after = SeatGoes seat asked told after
-SeatStep seat asked (reply.Refused errno) after = MayRefuseSeat seat asked × (after ≡ seat)
-SeatStep seat asked told after = after ≡ seat
+-- Ok only what is allowed, and refused only what is not owed
+abbrev pub RowAnswers : Option SeatRow → HostReply → Type 0
+RowAnswers None told = Unit {0}
+RowAnswers (Some row) (reply.Ok told) = (row.allowed ≡ true) × (told ≡ row.tells)
+RowAnswers (Some row) (reply.Refused errno) = row.owed ≡ false
+RowAnswers (Some row) (reply.Fault errno) = Unit {0}
+RowAnswers (Some row) reply.NoMemory = Unit {0}
+
+pub record SeatStep (seat : HostSeat) (asked : Call) (told : HostReply) (after : HostSeat) : Type 0 where
+  pub answers : RowAnswers (seat_row seat asked) told
+  pub leaves : after ≡ seat_left seat asked told

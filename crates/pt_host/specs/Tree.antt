@@ -28,6 +28,10 @@ pub record Tree : Type 0 where
 abbrev pub kind_of : ℕ → ℕ
 kind_of mode = mode / 4096
 
+-- the kind of a directory
+abbrev pub directory_kind : ℕ
+directory_kind = 4
+
 -- the object stands in the list, and is this
 abbrev pub IsObject : Tree → ℕ → Object → Type 0
 IsObject tree object what = slice_get tree.objects object ≡ Some what
@@ -36,6 +40,10 @@ IsObject tree object what = slice_get tree.objects object ≡ Some what
 abbrev pub IsOpenOn : Tree → Fd → ℕ → Type 0
 IsOpenOn tree fd object = (opened : Opened) × (tree.opened fd.0 ≡ Some opened) × (opened.object ≡ object)
 
+-- it holds of what the descriptor is open on
+abbrev pub OfFd : Tree → Fd → (ℕ → Type 0) → Type 0
+OfFd tree fd P = (object : ℕ) × IsOpenOn tree fd object × P object
+
 -- the descriptor was opened by `O_PATH`
 abbrev pub IsPathOnly : Tree → Fd → Type 0
 IsPathOnly tree fd = (opened : Opened) × (tree.opened fd.0 ≡ Some opened) × (opened.path_only ≡ true)
@@ -43,6 +51,9 @@ IsPathOnly tree fd = (opened : Opened) × (tree.opened fd.0 ≡ Some opened) × 
 pub record IsWellFormed (tree : Tree) : Type 0 where
   pub named : (dir : ℕ) (name : List ℕ) (object : ℕ) → tree.names dir name ≡ Some object →
       (dir < length tree.objects) × (object < length tree.objects)
+  -- what a name leads from is a directory
+  pub directories : (dir : ℕ) (name : List ℕ) (object : ℕ) (what : Object) → tree.names dir name ≡ Some object →
+      IsObject tree dir what → what.kind ≡ directory_kind
   pub opened : (fd : ℕ) (open_as : Opened) → tree.opened fd ≡ Some open_as → open_as.object < length tree.objects
   -- two descriptors that tell the same ids are open on one object
   pub apart : (fd other : Fd) (object another : ℕ) (what that : Object) → IsOpenOn tree fd object →

@@ -1,4 +1,4 @@
-ghost use Rattle.std.specs.Prelude.{◌≡◌, ◌<◌, ◌≤◌, ◌++◌, ◌∷◌, ◌↔◌, [], length, IfOk, IfSome, IsSome};
+ghost use Rattle.std.specs.Prelude.{◌≡◌, ◌<◌, ◌≤◌, ◌++◌, ◌∷◌, ◌↔◌, [], length, IfOk, OnErr, IfSome, IsSome};
 
 use arrayvec::ArrayVec;
 use std::alloc::{AllocError, Global};
@@ -63,32 +63,51 @@ impl Groups {
     }
 }
 
-/// The groups that a call asks for, of any number, in memory of their own.
+/// Where a list of groups lies: in place, or in memory of its own.
+#[derive(Debug, Drop)]
+enum Place {
+    Few(Groups),
+    Many(Vec<u32>),
+}
+
+/// The groups that a call asks for, of any number. Only more than 32 take memory.
 #[derive(Debug, Drop)]
 pub struct GroupList {
-    items: Vec<u32>,
+    place: Place,
 }
 
 impl Model for GroupList {
     ghost use Rattle.std.specs.Prelude.{List, ℕ};
+    ghost use Rattle.pt_host.specs.GroupPlace.{groups_at};
 
     ghost Value = { List ℕ };
 
-    ghost view = { λ list. list.items.items };
+    ghost view = { λ list. groups_at list.place };
 }
 
 impl GroupList {
     /// A copy of these groups.
     pub fn from_slice(alloc: Global, groups: &[u32]) -> Result<Self, AllocError>
-        ensures { IfOk result (λ list. list ≡ groups.now) }
+        ensures ok { IfOk result (λ list. list ≡ groups.now) }
+        ensures err { OnErr result (32 < length groups.now) }
     {
-        let items = groups.to_vec(alloc)?;
-        Ok(GroupList { items })
+        if let Some(few) = Groups::from_slice(groups) {
+            return Ok(GroupList {
+                place: Place::Few(few),
+            });
+        }
+        let many = groups.to_vec(alloc)?;
+        Ok(GroupList {
+            place: Place::Many(many),
+        })
     }
 
     pub fn as_slice(&self) -> &[u32]
         ensures { result.now ≡ self.now }
     {
-        self.items.as_slice()
+        match &self.place {
+            Place::Few(groups) => groups.as_slice(),
+            Place::Many(groups) => groups.as_slice(),
+        }
     }
 }

@@ -5,7 +5,7 @@ use Rattle.pt_host.specs.Words.{total, Each, Takes, set_at}
 use Rattle.pt_host.specs.Call.{Call}
 use Rattle.pt_host.specs.Flags.{includes, o_path}
 use Rattle.pt_host.specs.Tree.{Tree, Opened, IsOpenOn}
-use Rattle.pt_host.specs.LawfulStep.{Changes as TreeChanges, opened_on, closed_at}
+use Rattle.pt_host.specs.LawfulTree.{TreeChanges, opened_on, closed_at}
 use Rattle.pt_host.specs.declared.ids.Fd.{Fd}
 use Rattle.pt_host.specs.declared.ids.ObjIds.{ObjIds}
 use Rattle.pt_host.specs.declared.flags.OpenFlags.{OpenFlags}

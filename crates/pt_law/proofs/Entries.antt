@@ -238,7 +238,7 @@ open_at : (bound : ℕ) (base had : ℕ → ℕ) (w : World) (js : ℕ →
     (object : ℕ) × (w.tree.names directory name ≡ Some object) × (next.past.latest j ≡ Some object)
 open_at bound base had w js j row mode dir name flags new next directory free lt v t e g =
     let p = pinned_open bound base had w js j row dir lt v t in
-    let l = found_only w.tree dir name flags new next.tree free g.made.0.0.changes in
+    let l = found_only w.tree dir name flags new next.tree free g.made.0.0.trees.changes in
     let leads = l.2 in
     let here : leads.0 ≡ directory = one_object w.tree dir leads.0 p.0 leads.1 p.1 ∙ (let x = p.2 in cc) in
     let now : object_of (next.tree.opened new.0) ≡ Some l.0 =

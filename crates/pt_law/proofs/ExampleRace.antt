@@ -4,12 +4,13 @@ use Rattle.std.proofs.Common.{◌≡◌, ◌≢◌, ⊎_elim, inl, inr, ℕ, zer
 use Rattle.std.proofs.Common.{subst, ◌∙◌, arith, Option, Some, None, slice_get}
 use Rattle.std.proofs.lemmas.Bool.{cases_eq}
 use Rattle.pt_host.specs.Words.{Each, Replaces.{at, past}, set_at}
+use Rattle.pt_host.proofs.SeatAnswers.{unanswered}
 use Rattle.pt_host.specs.Call.{Call}
 use Rattle.pt_host.specs.Flags.{includes, o_path}
-use Rattle.pt_host.specs.Tree.{Tree, Object, Opened, IsWellFormed, kind_of}
-use Rattle.pt_host.specs.LawfulStep.{Changes as TreeChanges, AsksPathOnly}
+use Rattle.pt_host.specs.Tree.{Tree, Object, Opened, IsWellFormed, directory_kind, kind_of}
+use Rattle.pt_host.specs.LawfulTree.{TreeChanges, AsksPathOnly}
 use Rattle.pt_host.specs.Promises.{FitsCall}
-use Rattle.pt_host.specs.SeatStep.{SeatGoes}
+use Rattle.pt_host.specs.SeatAnswer.{seat_answer}
 use Rattle.pt_host.specs.declared.ids.Fd.{Fd}
 use Rattle.pt_host.specs.declared.seat.HostSeat.{HostSeat}
 use Rattle.pt_host.specs.declared.stat.Stat.{Stat}
@@ -115,10 +116,19 @@ leads : (dir : ℕ) (child : List ℕ) (o : ℕ) → names dir child ≡ Some o 
 leads zero child o e = let k : 1 ≡ o = cc in (omega arith, omega (arith, k))
 leads (suc dir) child o e = absurd (cc)
 
-well : (root file : Stat) → root.ids ≢ file.ids → (opened : ℕ → Option Opened) → IsSmall opened →
-    IsWellFormed (tree root file opened)
-well root file apart opened small = record {
+-- names lead from the shared directory alone
+directory : (root file : Stat) → kind_of root.mode ≡ directory_kind → (dir : ℕ) (child : List ℕ) (o : ℕ)
+    (what : Object) → names dir child ≡ Some o → slice_get (object root ∷ object file ∷ []) dir ≡ Some what →
+    what.kind ≡ directory_kind
+directory root file kind zero child o what e is =
+    let x : object root ≡ what = cc in ap (λ (at : Object). at.kind) (sym x) ∙ kind
+directory root file kind (suc dir) child o what e is = absurd (cc)
+
+well : (root file : Stat) → root.ids ≢ file.ids → kind_of root.mode ≡ directory_kind →
+    (opened : ℕ → Option Opened) → IsSmall opened → IsWellFormed (tree root file opened)
+well root file apart kind opened small = record {
   named = leads;
+  directories = directory root file kind;
   opened = small;
   apart = λ f g n m what that x y a b e. same_object root file apart n m what that a b e;
   handles = λ n m what that handle a b mount e g. let k = no_handle root file n what a in absurd (cc);
@@ -163,13 +173,13 @@ event_then seat world job asked told tables turns h rest = record {
   );
 }
 
--- a call that leaves the seat and names no path-only descriptor, and is Ok
+-- a call that is not the seat's own and names no path-only descriptor, and is Ok
 call_then : (seat : HostSeat) (world : World) (job : ℕ) (asked : Call) (what : HostValue) (tree : Tree)
     (turns : List Turn) → TreeChanges world.tree asked (host.Ok what) tree → FitsCall asked what →
-    SeatGoes seat asked what seat → (AsksPathOnly world.tree asked → ⊥) →
-    IsWellFormed tree → Leads (after_call world job asked (host.Ok what) tree) turns →
+    seat_answer seat asked ≡ None → (AsksPathOnly world.tree asked → ⊥) →
+    IsWellFormed world.tree → IsWellFormed tree → Leads (after_call world job asked (host.Ok what) tree) turns →
     Leads world (turn_of job (made (Calls asked) (Host (host.Ok what))) ∷ turns)
-call_then seat world job asked what tree turns h fits stays unasked well rest = record {
+call_then seat world job asked what tree turns h fits other unasked before well rest = record {
   last = rest.last;
   run = (
     after_call world job asked (host.Ok what) tree,
@@ -178,10 +188,23 @@ call_then seat world job asked what tree turns h fits stays unasked well rest = 
       seat_after = seat;
       made = (
         (
-          record { changes = h; seats = stays; path_only = λ asks. absurd (unasked asks); well_formed = λ _. well },
+          record {
+            trees = record {
+              formed_before = before;
+              formed_after = well;
+              changes = h;
+              path_only = λ asks. absurd (unasked asks);
+            };
+            seats = unanswered seat asked (host.Ok what) other;
+          },
           0,
           0,
-          record { never_falls = omega arith; allowed = fits; fails = tt; seats = stays },
+          record {
+            never_falls = omega arith;
+            allowed = fits;
+            fails = tt;
+            seats = unanswered seat asked (host.Ok what) other;
+          },
         ),
         refl,
       );
@@ -287,8 +310,10 @@ closed = set_at 5 None five
 abbrev start : Stat → Stat → World
 start root file = record { tree = tree root file none; tables = empty_tables 5; past = no_past }
 
-pub starts : (root file : Stat) → root.ids ≢ file.ids → Starts 5 (start root file)
-starts root file apart = record { tables = refl; well_formed = well root file apart none small_none; past = refl }
+pub starts : (root file : Stat) → root.ids ≢ file.ids → kind_of root.mode ≡ directory_kind →
+    Starts 5 (start root file)
+starts root file apart kind =
+    record { tables = refl; well_formed = well root file apart kind none small_none; past = refl }
 
 small_three : IsSmall three
 small_three = small_open none 3 (record { object = 0; path_only = includes path.0 o_path }) (omega arith) small_none
@@ -300,19 +325,20 @@ small_five : IsSmall five
 small_five = small_open four 5 (record { object = 1; path_only = includes path.0 o_path }) (omega arith) small_four
 
 pub runs : (plan : Plan) (root file : Stat) (seat : HostSeat) → root.ids ≢ file.ids →
-    Leads (start root file) (turns plan root file)
+    kind_of root.mode ≡ directory_kind → Leads (start root file) (turns plan root file)
 unfolding set_at
-runs plan root file seat apart =
-    let at_three = well root file apart three small_three in
-    let at_four = well root file apart four small_four in
-    let at_five = well root file apart five small_five in
-    let at_end = well root file apart closed (small_close five 5 small_five) in
+runs plan root file seat apart kind =
+    let at_none = well root file apart kind none small_none in
+    let at_three = well root file apart kind three small_three in
+    let at_four = well root file apart kind four small_four in
+    let at_five = well root file apart kind five small_five in
+    let at_end = well root file apart kind closed (small_close five 5 small_five) in
     let slot : 2 < 5 = omega arith in
     event_then seat _ 0 change.Begin (event.Began 0 nothing_agreed) (empty_tables 5) _ (refl, refl, refl) (
     call_then seat _ 0 (call.OpenRoot plan.config.root_dir path) (value.Fd (fd 3)) (tree root file three) _ (
       0,
       record { listed = omega arith; fresh = refl; allowed = refl; adds = refl },
-    ) tt refl (λ asks. asks) at_three (
+    ) tt refl (λ asks. asks) at_none at_three (
     call_then seat _ 0 (call.Stat (fd 3)) (value.Stat root) (tree root file three) _ (
       0,
       object root,
@@ -320,7 +346,7 @@ runs plan root file seat apart =
       refl,
       record { ids = refl; kind = refl },
       refl,
-    ) tt refl (λ asks. asks) at_three (
+    ) tt refl (λ asks. asks) at_three at_three (
     event_then seat _ 0 change.TakeFd event.Taken (tables 2 0 4 []) _ (4, refl, refl) (
     event_then seat _ 0 (change.InsertRoot 0 (File (fd 3)) root.ids root.mode None) (event.Inserted 1)
     (tables 2 1 4 (row root 0 ∷ [])) _ (refl, (tt, tt), omega arith, refl, refl) (
@@ -368,7 +394,7 @@ runs plan root file seat apart =
         adds =
             refl;
       },
-    )) tt refl (λ asks. asks) at_four (
+    )) tt refl (λ asks. asks) at_three at_four (
     call_then seat _ 2 (call.OpenAt (fd 3) name path 0) (value.Fd (fd 5)) (tree root file five) _
     (inl (
       1,
@@ -381,7 +407,7 @@ runs plan root file seat apart =
         adds =
             refl;
       },
-    )) tt refl (λ asks. asks) at_five (
+    )) tt refl (λ asks. asks) at_four at_five (
     call_then seat _ 1 (call.Stat (fd 4)) (value.Stat file) (tree root file five) _ (
       1,
       object file,
@@ -389,7 +415,7 @@ runs plan root file seat apart =
       refl,
       record { ids = refl; kind = refl },
       refl,
-    ) tt refl (λ asks. asks) at_five (
+    ) tt refl (λ asks. asks) at_five at_five (
     call_then seat _ 2 (call.Stat (fd 5)) (value.Stat file) (tree root file five) _ (
       1,
       object file,
@@ -397,7 +423,7 @@ runs plan root file seat apart =
       refl,
       record { ids = refl; kind = refl },
       refl,
-    ) tt refl (λ asks. asks) at_five (
+    ) tt refl (λ asks. asks) at_five at_five (
     event_then seat _ 1 (change.Claim 0 None file.ids) event.Absent (tables 2 1 4 (row root 2 ∷ [])) _ (
       refl,
       ((λ h. apart h.1), tt),
@@ -425,7 +451,7 @@ runs plan root file seat apart =
       refl,
       inr (inl refl, refl, (added file 2 ∷ row root 1 ∷ [], past at, refl)),
     ) (
-    call_then seat _ 2 (call.Close (fd 5)) value.Unit (tree root file closed) _ refl tt refl (λ asks. asks) at_end (
+    call_then seat _ 2 (call.Close (fd 5)) value.Unit (tree root file closed) _ refl tt refl (λ asks. asks) at_five at_end (
     event_then seat _ 2 change.GiveFd event.Given (tables 4 2 3 (added file 2 ∷ row root 1 ∷ [])) _ (slot, refl) (
     event_then seat _ 2 (change.Unpin 0) (event.Done 0) (tables 4 2 3 (added file 2 ∷ row root 0 ∷ [])) _ (
       row root 1,
@@ -502,19 +528,21 @@ answered plan root file = record { owners = owners; jobs = jobs }
     )
     jobs (suc (suc (suc job))) l = absurd (omega arith)
 
-pub ended : (plan : Plan) (root file : Stat) (seat : HostSeat) → root.ids ≢ file.ids → AreEnded 3 (turns plan root file)
-ended plan root file seat apart =
-    let r = runs plan root file seat apart in
+pub ended : (plan : Plan) (root file : Stat) (seat : HostSeat) → root.ids ≢ file.ids →
+    kind_of root.mode ≡ directory_kind → AreEnded 3 (turns plan root file)
+ended plan root file seat apart kind =
+    let r = runs plan root file seat apart kind in
     run_ended plan 3 asked (ends plan root file) (turns plan root file) (start root file) r.last r.run
     (answered plan root file)
 
 -- so the laws say of it what they say: the second lookup's number names object 1, which the name led to
-pub entered : (plan : Plan) (root file : Stat) (seat : HostSeat) (apart : root.ids ≢ file.ids) →
-    IsEntered plan (start root file) (turns plan root file) (runs plan root file seat apart).last 2 1 name
+pub entered : (plan : Plan) (root file : Stat) (seat : HostSeat) (apart : root.ids ≢ file.ids)
+    (kind : kind_of root.mode ≡ directory_kind) →
+    IsEntered plan (start root file) (turns plan root file) (runs plan root file seat apart kind).last 2 1 name
     (entry_of plan nothing_agreed root.ids file 2)
-entered plan root file seat apart =
-    let r = runs plan root file seat apart in
+entered plan root file seat apart kind =
+    let r = runs plan root file seat apart kind in
     entered_law 5 3 plan (turns plan root file) (start root file) r.last 2 1 name
-    (entry_of plan nothing_agreed root.ids file 2) (starts root file apart)
-    (ended_jobs 3 (turns plan root file) (ended plan root file seat apart)) r.run
+    (entry_of plan nothing_agreed root.ids file 2) (starts root file apart kind)
+    (ended_jobs 3 (turns plan root file) (ended plan root file seat apart kind)) r.run
     (omega arith) ((answered plan root file).jobs 2 (omega arith))

@@ -2,7 +2,7 @@
 use Rattle.std.proofs.Common.{◌≡◌, ◌⊎◌, inl, inr, ℕ, List, false}
 use Rattle.pt_host.specs.Flags.{includes, o_creat}
 use Rattle.pt_host.specs.Tree.{Tree}
-use Rattle.pt_host.specs.LawfulStep.{OpensFound, OpensMade}
+use Rattle.pt_host.specs.LawfulTree.{OpensFound, OpensMade}
 use Rattle.pt_host.specs.declared.ids.Fd.{Fd}
 use Rattle.pt_host.specs.declared.flags.OpenFlags.{OpenFlags}
 

@@ -3,7 +3,8 @@ use Rattle.std.proofs.Common.{◌≡◌, inl, inr, ℕ, zero, suc, List, [], ◌
 use Rattle.std.proofs.Common.{Some, slice_get}
 use Rattle.pt_host.specs.Words.{Each}
 use Rattle.pt_host.specs.Tree.{Tree, Object, IsObject, IsOpenOn}
-use Rattle.pt_host.specs.Edits.{TakesName, MakesObject, Moves, Edits}
+use Rattle.pt_host.specs.Names.{TakesName, MakesObject, Moves}
+use Rattle.pt_host.specs.Edits.{Edits}
 use Rattle.pt_host.specs.declared.edit.Edit.{Edit}
 use Rattle.pt_host.specs.declared.edit.Edit.TheVariants as edit
 use Rattle.pt_host.specs.declared.ids.Fd.{Fd}
@@ -33,12 +34,13 @@ grows_same : (tree after : Tree) → after ≡ tree → Grows tree after
 grows_same tree after e =
     subst (λ (t : Tree). Grows tree t) (sym e) (record { same_open = refl; stays = λ object what is. is })
 
-takes_name : (tree after : Tree) → TakesName tree after → Grows tree after
-takes_name tree after h =
+takes_name : (tree : Tree) (dir : ℕ) (name : List ℕ) (after : Tree) → TakesName tree dir name after → Grows tree after
+takes_name tree dir name after h =
     subst (λ (t : Tree). Grows tree t) (sym h.takes) (record { same_open = refl; stays = λ object what is. is })
 
-makes_object : (tree after : Tree) → MakesObject tree after → Grows tree after
-makes_object tree after h =
+makes_object : (tree : Tree) (dir : ℕ) (name : List ℕ) (after : Tree) → MakesObject tree dir name after →
+    Grows tree after
+makes_object tree dir name after h =
     subst (λ (t : Tree).
     Grows tree t) (sym h.makes) (record {
       same_open = refl;
@@ -53,10 +55,11 @@ moves_name tree dir name to new object after (inr m) =
     subst (λ (t : Tree). Grows tree t) (sym m.1) (record { same_open = refl; stays = λ object what is. is })
 
 pub edit_grows : (tree : Tree) (asked : Edit) (after : Tree) → Edits tree asked after → Grows tree after
-edit_grows tree (edit.Unlink path) after h = takes_name tree after h
-edit_grows tree (edit.Rename old new) after h = moves_name tree h.dir h.name h.to h.new h.object after h.moves
-edit_grows tree (edit.File path mode uid gid bytes) after h = makes_object tree after h
-edit_grows tree (edit.Dir path mode uid gid) after h = makes_object tree after h
+edit_grows tree (edit.Unlink path) after h = takes_name tree h.0 h.1 after h.2
+edit_grows tree (edit.Rename old new) after h =
+    moves_name tree h.0 h.1 h.2.0 h.2.1 h.2.2.object after h.2.2.moves
+edit_grows tree (edit.File path mode uid gid bytes) after h = makes_object tree h.0 h.1 after h.2
+edit_grows tree (edit.Dir path mode uid gid) after h = makes_object tree h.0 h.1 after h.2
 edit_grows tree (edit.Write path bytes) after h = grows_same tree after h
 
 open_on : {tree after : Tree} → Grows tree after → (fd : Fd) (object : ℕ) → IsOpenOn tree fd object →

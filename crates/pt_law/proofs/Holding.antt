@@ -6,7 +6,7 @@ use Rattle.pt_host.specs.Words.{is, total, Takes, set_at}
 use Rattle.pt_host.specs.Call.{Call}
 use Rattle.pt_host.specs.Flags.{includes, o_path}
 use Rattle.pt_host.specs.Tree.{Tree, Opened}
-use Rattle.pt_host.specs.LawfulStep.{Changes as TreeChanges, Opens, closed_at}
+use Rattle.pt_host.specs.LawfulTree.{TreeChanges, Opens, closed_at}
 use Rattle.pt_host.specs.declared.ids.Fd.{Fd}
 use Rattle.pt_host.specs.declared.flags.OpenFlags.{OpenFlags}
 use Rattle.pt_host.specs.declared.op.KeptHostOp.TheVariants as call

@@ -8,7 +8,8 @@ use Rattle.pt_host.specs.Reply.{ReplyHoldsBytes}
 use Rattle.pt_host.specs.Promises.{IsAllowed}
 use Rattle.pt_host.specs.Tree.{Tree, IsOpenOn, IsWellFormed}
 use Rattle.pt_host.specs.declared.flags.OpenFlags.{OpenFlags}
-use Rattle.pt_host.specs.LawfulStep.{LawfulStep, Changes as TreeChanges}
+use Rattle.pt_host.specs.LawfulStep.{LawfulStep}
+use Rattle.pt_host.specs.LawfulTree.{TreeChanges}
 use Rattle.pt_host.specs.declared.ids.Fd.{Fd}
 use Rattle.pt_host.specs.declared.seat.HostSeat.{HostSeat}
 use Rattle.pt_host.specs.declared.op.KeptHostOp.TheVariants as call
@@ -208,7 +209,7 @@ keeps_host : (bound : ℕ) (base had : ℕ → ℕ) (w : World) (js : ℕ →
           settled_by w.past j (Calls a) (Host r) w.tables.next_row tree';
     }) (set_at j after js)
 keeps_host bound base had w js j a r seat seat' tree' after lt v l m =
-    let opened = in_tree (js j) after w.tree a r tree' m l.changes (λ f q. let x =
+    let opened = in_tree (js j) after w.tree a r tree' m l.trees.changes (λ f q. let x =
     closed_held (js j) a (Host r) after m f q in let y = v.fds f in let z = part (fd_held f) js bound j lt in
     let u = at_most_one f w.tree in omega (arith, x, y, z, u)) in
     let fds : (fd : ℕ) →
@@ -220,12 +221,12 @@ keeps_host bound base had w js j a r seat seat' tree' after lt v l m =
     omega (arith, x, y, z, s)) in
     record {
       tabled = keeps_tabled bound had w.tables js j (Some (Calls a)) (Host r) w.tables after lt v.tabled refl m;
-      well = l.well_formed v.well;
+      well = l.trees.formed_after;
       fds = fds;
-      right = keeps_call bound w.tree w.tables.next_row w.past w.tables.rows w.tables.handles js j after a r tree' lt v.right l.changes m
+      right = keeps_call bound w.tree w.tables.next_row w.past w.tables.rows w.tables.handles js j after a r tree' lt v.right l.trees.changes m
           (λ f flags object e on. judged f flags object on (subst (λ c. MovesBy (js j) (Calls c) (Host r) after) e m))
           (λ f e.
-          let n : open_count f.0 tree' ≡ 0 = closed_none w.tree tree' a f r e l.changes in
+          let n : open_count f.0 tree' ≡ 0 = closed_none w.tree tree' a f r e l.trees.changes in
           let x = fds f.0 in (
             omega (arith, n, x),
             omega (arith, n, x),

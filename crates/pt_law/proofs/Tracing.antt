@@ -109,7 +109,7 @@ traced_by bound base had start turns w js j (Some (Calls (call.OpenAt dir name f
     (Host (host.Ok (value.Fd fd))) next after lt v r g m t =
     let turn = turn_by j (Some (Calls (call.OpenAt dir name flags mode))) (Host (host.Ok (value.Fd fd))) in
     let x = object_of (next.tree.opened fd.0) in
-    let l = found_only w.tree dir name flags fd next.tree m.1.1 g.made.0.0.changes in
+    let l = found_only w.tree dir name flags fd next.tree m.1.1 g.made.0.0.trees.changes in
     let fit = m.1.0 in
     let p = pinned_open bound base had w js j fit.0.row dir lt v fit.3 in
     let here : l.2.0 ≡ p.0 = one_object w.tree dir l.2.0 p.0 l.2.1 p.1 in

@@ -1,4 +1,5 @@
 -- Proof. The two laws of a host, for the steps of a tree host.
+pub mod BesideLaws
 pub mod Cases
 pub mod Changed
 pub mod CopyFair
@@ -7,6 +8,7 @@ pub mod EditFair
 pub mod EditLaws
 pub mod EditShapes
 pub mod EditSound
+pub mod Emptied
 pub mod Fair
 pub mod FaultLaws
 pub mod Finding

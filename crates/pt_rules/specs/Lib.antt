@@ -14,6 +14,7 @@ pub mod Holds
 pub mod NameCalls
 pub mod OpeningCalls
 pub mod Sound
+pub mod Beside
 pub mod Building
 pub mod State
 pub mod Table

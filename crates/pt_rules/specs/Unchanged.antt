@@ -1,7 +1,7 @@
 -- Believed. What a call that is not Ok leaves of the tree. After the manual page of close(2): the descriptor is
 -- released whatever is answered.
 use Rattle.pt_host.specs.Call.{Call}
-use Rattle.pt_host.specs.LawfulStep.{closed_at}
+use Rattle.pt_host.specs.LawfulTree.{closed_at}
 use Rattle.pt_host.specs.Tree.{Tree}
 use Rattle.pt_host.specs.declared.op.KeptHostOp.TheVariants as call
 use Rattle.pt_host.specs.declared.reply.HostReply.{HostReply}

@@ -16,7 +16,6 @@ use Rattle.pt_rules.specs.State.{State, tree_of}
 use Rattle.pt_rules.specs.Table.{Outcome, answer}
 use Rattle.pt_node.specs.declared.node.Node.{Node}
 use Rattle.pt_rules.specs.Laws.Lawful.{does_lawful}
-use Rattle.pt_rules.specs.Laws.WellFormed.{well_formed}
 use Rattle.pt_iface.specs.declared.answer.Refusal.{Refusal}
 use Rattle.pt_iface.specs.declared.answer.Refusal.TheVariants as refusal
 use Rattle.pt_fs.specs.FileSystem.{FileSystem, IsMadeBy, opens_root, path}
@@ -38,8 +37,7 @@ opened_well settings before fs after opened =
     let call = opened.call in
     let seat = start_seat settings in
     let lawful = does_lawful before seat opens_root call.0 after seat call.1 (tree_of before) refl in
-    subst IsWellFormed (sym (some_same (tree_of after) lawful.0 lawful.1))
-    (lawful.2.well_formed (well_formed before call.1.sound))
+    subst IsWellFormed (sym (some_same (tree_of after) lawful.0 lawful.1)) lawful.2.trees.formed_after
 
 -- the host's root is found and opened, where there is one
 root_opens : (start : State) (numbers : ℕ → ℕ) (seat : HostSeat) (node : Node) → slice_get start.nodes 0 ≡ Some node →

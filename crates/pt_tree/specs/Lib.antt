@@ -13,6 +13,7 @@ pub use Rattle.pt_node.specs.Permission
 pub use Rattle.pt_node.specs.Reading
 pub use Rattle.pt_node.specs.Slots
 pub use Rattle.pt_rules.specs.AttributeCalls
+pub use Rattle.pt_rules.specs.Beside
 pub use Rattle.pt_rules.specs.Building
 pub use Rattle.pt_rules.specs.Calls
 pub use Rattle.pt_rules.specs.ContentCalls

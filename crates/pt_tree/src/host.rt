@@ -1,11 +1,11 @@
 ghost use Rattle.std.specs.Prelude.{◌≡◌, ◌↔◌, Some, OnOk, IfErr};
 ghost use Rattle.pt_host.specs.Call.{call_of};
-ghost use Rattle.pt_host.specs.LawfulContents.{KeepsAll};
 ghost use Rattle.pt_host.specs.Tree.{IsWellFormed};
 ghost use Rattle.pt_host.specs.declared.ids.Errno.{Errno};
 ghost use Rattle.pt_host.specs.declared.op.KeptHostOp.TheVariants as call;
 ghost use Rattle.pt_host.specs.declared.seat.HostSeat.{HostSeat};
 ghost use Rattle.pt_host.specs.declared.reply.HostReply.TheVariants.{Fault};
+ghost use Rattle.pt_rules.specs.Beside.{KeepsAll, LeavesBeside};
 ghost use Rattle.pt_rules.specs.State.{contents_of, tree_of};
 ghost use Rattle.pt_rules.specs.Does.{Does};
 ghost use Rattle.pt_rules.specs.Faults.{failure_of, faults_with, planned};
@@ -80,6 +80,8 @@ impl Host for TreeHost {
         ensures tree { IsNotOk result → tree_of self.new ≡ tree_left (tree_of self.old) (call_of op.now) }
         ensures contents { IsNotOk result →
             KeepsAll (tree_of self.old) (contents_of self.old) (tree_of self.new) (contents_of self.new) }
+        ensures beside { LeavesBeside (tree_of self.old) (contents_of self.old) (call_of op.now) result
+            (tree_of self.new) (contents_of self.new) }
         ensures seat { IsNotOk result → seat.new ≡ seat.old }
         ensures well_formed { IsWellFormed (tree_of self.new) }
     {

@@ -4,7 +4,7 @@ use Rattle.std.proofs.Common.{ap, sym, ◌∙◌, subst}
 use Rattle.std.proofs.lemmas.Bool.Decides.{eqb_tells}
 use Rattle.std.proofs.lemmas.Option.{slice_get_within}
 use Rattle.pt_host.specs.Contents.{ObjectContents}
-use Rattle.pt_host.specs.LawfulStep.{Changes}
+use Rattle.pt_host.specs.LawfulTree.{TreeChanges}
 use Rattle.pt_host.specs.Tree.{IsOpenOn, Tree}
 use Rattle.pt_host.specs.declared.ids.Errno.{Errno}
 use Rattle.pt_host.specs.declared.ids.Fd.{Fd}
@@ -82,7 +82,7 @@ module _ (state : State) (seat : HostSeat) (fd : Fd) (offset : ℕ) (fd2 : Fd) (
       (record {
         sound = λ few. second.sound few;
         changes = subst (λ (t : Tree).
-            Changes t (call.CopyRange fd offset fd2 offset2 size flags) (reply.Ok (value.Count count))
+            TreeChanges t (call.CopyRange fd offset fd2 offset2 size flags) (reply.Ok (value.Count count))
             (tree_of last)) same second.changes;
         contents = record {
           objects = λ o within may.
@@ -92,6 +92,7 @@ module _ (state : State) (seat : HostSeat) (fd : Fd) (offset : ℕ) (fd2 : Fd) (
               record c { atime = ((contents_of last).objects o).atime }) (first.contents.objects o within may);
           openings = λ flags2 o asks within may.
               absurd (no_flags (call.CopyRange fd offset fd2 offset2 size flags) flags2 refl asks);
+          emptied = λ flags2 o asks makes. absurd (makes tt);
           positions = λ k open_still none. refl;
           accesses = λ k open_still. refl;
           begins = λ flags2 opened asks is.

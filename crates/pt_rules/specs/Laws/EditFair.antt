@@ -55,6 +55,7 @@ fair_edit state numbers asked sound least = elim (edit_outcome state numbers ask
         contents = record {
           objects = λ o within may. absurd (may tt);
           openings = λ flags o asks within may. absurd (may tt);
+          emptied = λ flags o asks makes. absurd (makes tt);
           positions = λ k open_still may.
               ap (λ (table : List Slot).
               ((contents_of (record does.0 { slots = table })).descriptions k).position) beside.slots;

@@ -2,8 +2,9 @@
 use Rattle.std.proofs.Common.{◌≡◌, ◌<◌, inl, inr, ℕ, Some, refl, ap, sym, ◌∙◌, subst}
 use Rattle.std.proofs.lemmas.List.{length-map}
 use Rattle.std.proofs.lemmas.Option.{slice_get_within}
-use Rattle.pt_host.specs.Edits.{Edits, MakesObject, Moves, MovesName, TakesName}
-use Rattle.pt_host.specs.LawfulStep.{Changes}
+use Rattle.pt_host.specs.Edits.{Edits}
+use Rattle.pt_host.specs.Names.{MakesObject, Moves, MovesName, TakesName}
+use Rattle.pt_host.specs.LawfulTree.{TreeChanges}
 use Rattle.pt_host.specs.declared.edit.Edit.{Edit}
 use Rattle.pt_host.specs.declared.edit.Edit.TheVariants as edit
 use Rattle.pt_host.specs.declared.op.KeptHostOp.TheVariants as call
@@ -20,11 +21,9 @@ use Rattle.pt_rules.specs.Laws.EditShapes.{objects_moved, objects_rewritten, obj
 use Rattle.pt_rules.specs.Laws.EditSound.{all_ordered}
 use Rattle.pt_rules.specs.Laws.Outcomes.{Effect, Makes, MovesTo, Outcome, Renames, Rewrites, Unlinks, edit_outcome}
 
-abbrev pub takes_name : (state after : State) → IsSound state → Unlinks state after →
-    TakesName (tree_of state) (tree_of after)
+abbrev pub takes_name : (state after : State) → IsSound state → (does : Unlinks state after) →
+    TakesName (tree_of state) does.dir does.name (tree_of after)
 takes_name state after sound does = record {
-  dir = does.dir;
-  name = does.name;
   object = does.object;
   there = does.there;
   takes = ap tree_of does.leaves
@@ -45,25 +44,19 @@ moves state after does sound (inr other) =
           (all_ordered state sound) does.into) refl,
     )
 
-abbrev pub moves_name : (state after : State) → IsSound state → Renames state after →
-    MovesName (tree_of state) (tree_of after)
+abbrev pub moves_name : (state after : State) → IsSound state → (does : Renames state after) →
+    MovesName (tree_of state) does.from.0 does.from.1 does.to.0 does.to.1 (tree_of after)
 moves_name state after sound does = record {
-  dir = does.from.0;
-  name = does.from.1;
-  to = does.to.0;
-  new = does.to.1;
   object = does.object;
   there = does.there;
   moves = moves state after does sound does.moves;
 }
 
-abbrev pub makes_object : (state : State) (numbers : ℕ → ℕ) (after : State) → Makes state numbers after →
-    MakesObject (tree_of state) (tree_of after)
+abbrev pub makes_object : (state : State) (numbers : ℕ → ℕ) (after : State) (does : Makes state numbers after) →
+    MakesObject (tree_of state) does.dir does.name (tree_of after)
 makes_object state numbers after does =
     let node = does.node in
     record {
-      dir = does.dir;
-      name = does.name;
       what = object_of node;
       listed = subst (λ n. does.dir
           < n) (sym (length-map state.nodes object_of)) (slice_get_within state.nodes does.dir does.parent does.at_dir);
@@ -83,28 +76,32 @@ rewrites state after does =
 
 effect_edits : (state : State) (numbers : ℕ → ℕ) (asked : Edit) (after : State) → IsSound state →
     Effect state numbers asked after → Edits (tree_of state) asked (tree_of after)
-effect_edits state numbers (edit.Unlink path) after sound does = takes_name state after sound does
-effect_edits state numbers (edit.Rename old new) after sound does = moves_name state after sound does
-effect_edits state numbers (edit.File path mode uid gid bytes) after sound does = makes_object state numbers after does
-effect_edits state numbers (edit.Dir path mode uid gid) after sound does = makes_object state numbers after does
+effect_edits state numbers (edit.Unlink path) after sound does =
+    (does.dir, does.name, takes_name state after sound does)
+effect_edits state numbers (edit.Rename old new) after sound does =
+    (does.from.0, does.from.1, (does.to.0, does.to.1, moves_name state after sound does))
+effect_edits state numbers (edit.File path mode uid gid bytes) after sound does =
+    (does.dir, does.name, makes_object state numbers after does)
+effect_edits state numbers (edit.Dir path mode uid gid) after sound does =
+    (does.dir, does.name, makes_object state numbers after does)
 effect_edits state numbers (edit.Write path bytes) after sound does = rewrites state after does
 
 pub outcome_changes : (state : State) (numbers : ℕ → ℕ) (asked : Edit) (told : Answered) → IsSound state →
     Outcome state told (Effect state numbers asked) →
-    Changes (tree_of state) (call.Edit asked) told.0 (tree_of told.1)
+    TreeChanges (tree_of state) (call.Edit asked) told.0 (tree_of told.1)
 outcome_changes state numbers asked told sound (inl refused) =
     subst (λ (both : Answered).
-    Changes (tree_of state) (call.Edit asked) both.0 (tree_of both.1)) (sym refused.1) (tt, refl)
+    TreeChanges (tree_of state) (call.Edit asked) both.0 (tree_of both.1)) (sym refused.1) (tt, refl)
 outcome_changes state numbers asked told sound (inr does) =
-    subst (λ (both : Answered). Changes (tree_of state) (call.Edit asked) both.0 (tree_of both.1)) (sym does.1)
+    subst (λ (both : Answered). TreeChanges (tree_of state) (call.Edit asked) both.0 (tree_of both.1)) (sym does.1)
     (effect_edits state numbers asked does.0 sound does.2)
 
 pub edit_changes : (state : State) (numbers : ℕ → ℕ) (asked : Edit) (given : HostReply) (after : State) →
     IsSound state →
     AnswersAs (edited state numbers asked) state given after →
-    Changes (tree_of state) (call.Edit asked) given (tree_of after)
+    TreeChanges (tree_of state) (call.Edit asked) given (tree_of after)
 edit_changes state numbers asked given after sound (inl same) =
-    subst (λ (both : Answered). Changes (tree_of state) (call.Edit asked) both.0 (tree_of both.1)) (sym same)
+    subst (λ (both : Answered). TreeChanges (tree_of state) (call.Edit asked) both.0 (tree_of both.1)) (sym same)
     (outcome_changes state numbers asked (edited state numbers asked) sound (edit_outcome state numbers asked))
 edit_changes state numbers asked given after sound (inr none) =
-    subst (λ reply. Changes (tree_of state) (call.Edit asked) reply (tree_of after)) (sym none.0) (ap tree_of none.1)
+    subst (λ reply. TreeChanges (tree_of state) (call.Edit asked) reply (tree_of after)) (sym none.0) (ap tree_of none.1)

@@ -11,7 +11,7 @@ use Rattle.std.proofs.lemmas.Bool.{eqb-true, ltb-true}
 use Rattle.std.proofs.lemmas.Option.{same_Some, slice_get-map}
 use Rattle.std.proofs.lemmas.Slice.Eq.{bytes_eq-Decides}
 use Rattle.pt_host.specs.Errno.{ebadf, eio, eopnotsupp, eoverflow, estale}
-use Rattle.pt_host.specs.LawfulStep.{HasHandle, RefusesHandle}
+use Rattle.pt_host.specs.LawfulTree.{HasHandle, RefusesHandle}
 use Rattle.pt_host.specs.Tree.{IsObject, IsOpenOn, Object}
 use Rattle.pt_host.specs.declared.flags.OpenFlags.{OpenFlags}
 use Rattle.pt_host.specs.declared.handle.CFileHandle.{CFileHandle}

@@ -3,8 +3,11 @@ use Rattle.std.proofs.Common.{◌≡◌, ◌<◌, ◌^◌, inl, inr, ℕ, Bool, 
 use Rattle.std.proofs.Common.{subst, arith, ◌+◌}
 use Rattle.std.proofs.lemmas.Option.{same_Some}
 use Rattle.pt_host.specs.Call.{Call}
-use Rattle.pt_host.specs.LawfulContents.{KeepsAll, LawfulContents, opening_flags}
-use Rattle.pt_host.specs.LawfulStep.{AsksPathOnly, Changes, IsBadFd, LawfulStep}
+use Rattle.pt_host.proofs.SeatAnswers.{answered_as, faulted_seat, lacking_seat}
+use Rattle.pt_host.specs.LawfulContents.{LawfulContents}
+use Rattle.pt_host.specs.Sorts.{opening_flags}
+use Rattle.pt_host.specs.LawfulStep.{LawfulStep}
+use Rattle.pt_host.specs.LawfulTree.{AsksPathOnly, TreeChanges, IsBadFd, LawfulTree}
 use Rattle.pt_host.specs.SeatStep.{SeatStep}
 use Rattle.pt_host.specs.Tree.{IsWellFormed, Tree}
 use Rattle.pt_host.specs.declared.ids.Errno.{Errno}
@@ -13,20 +16,20 @@ use Rattle.pt_host.specs.declared.op.KeptHostOp.TheVariants as call
 use Rattle.pt_host.specs.declared.reply.HostReply.{HostReply}
 use Rattle.pt_host.specs.declared.reply.HostReply.TheVariants as reply
 use Rattle.pt_host.specs.declared.reply.HostValue.TheVariants as value
-use Rattle.pt_host.specs.Errno.{enosys, eperm}
-use Rattle.pt_host.specs.Seat.{groups_errno, may_raise, may_set_egid, may_set_euid, may_set_groups, with_dropped}
-use Rattle.pt_host.specs.Seat.{with_egid, with_euid, with_groups, with_raised, with_umask}
+use Rattle.pt_host.specs.Errno.{enosys}
 use Rattle.pt_node.specs.Slots.{open_at}
 use Rattle.pt_rules.specs.Laws.Opens.{closed_tree}
 use Rattle.pt_rules.specs.Laws.Soundness.{sound-closed}
 use Rattle.pt_rules.specs.Living.{AreLeastFree}
+use Rattle.pt_rules.specs.Beside.{KeepsAll, LeavesBeside}
 use Rattle.pt_rules.specs.State.{State, contents_of, tree_of, time_of}
 use Rattle.pt_rules.specs.Does.{AnswersCall, Does, TakesMemory, without_memory}
 use Rattle.pt_rules.specs.Faults.{after_failing, failure_of, faulted}
-use Rattle.pt_host.specs.SeatAnswer.{if_allowed, seat_answer}
+use Rattle.pt_host.specs.SeatAnswer.{seat_answer}
 use Rattle.pt_rules.specs.Sound.{IsSound}
 use Rattle.pt_rules.specs.Table.{Seated, Outcome, answer, failing_outcome, outcome_where}
-use Rattle.pt_rules.specs.Laws.Fair.{IsFair, fair_refused, no_flags, stays_same}
+use Rattle.pt_rules.specs.Laws.BesideLaws.{lawful_beside}
+use Rattle.pt_rules.specs.Laws.Fair.{IsFair, IsPlain, fair_refused, no_flags, stays_same}
 use Rattle.pt_rules.specs.Laws.EditFair.{fair_edit}
 use Rattle.pt_rules.specs.Laws.CopyFair.{fair_copy}
 use Rattle.pt_rules.specs.Laws.HandleFair.{fair_by_handle, fair_handle_of}
@@ -35,7 +38,7 @@ use Rattle.pt_rules.specs.Laws.OpenAtFair.{fair_open_at}
 use Rattle.pt_rules.specs.Laws.RenameFair.{fair_rename}
 use Rattle.pt_rules.specs.Laws.MoveFair.{fair_list, fair_seek}
 use Rattle.pt_rules.specs.Laws.PathOnly.{path_only_bad}
-use Rattle.pt_rules.specs.Laws.SeatLaws.{other_seat, own_seat, some_seated}
+use Rattle.pt_rules.specs.Laws.SeatLaws.{other_seat, own_seat}
 use Rattle.pt_rules.specs.Laws.WellFormed.{well_formed}
 use Rattle.pt_rules.specs.Laws.NameFair.{fair_make_dir, fair_make_node, fair_remove_dir, fair_symlink, fair_unlink}
 use Rattle.pt_rules.specs.Laws.OpenFair.{closed_description, fair_close, fair_open_path, fair_reopen, fair_root}
@@ -231,55 +234,36 @@ fair_answer state numbers seat (call.OpenAt fd name flags mode) sound least =
 fair_answer state numbers seat (call.Rename fd name fd2 name2 flags) sound least =
     fair_rename state seat fd name fd2 name2 flags sound
 
--- the seat's own calls leave the tree and what is beside it
-own_where : (tree : Tree) (asked : Call) (seat : HostSeat) (may : Bool) (errno : Errno) (after : HostSeat) →
-    Changes tree asked (reply.Ok value.Unit) tree →
-    Changes tree asked (reply.Refused errno) tree → Changes tree asked (if_allowed seat may errno after).0 tree
-own_where tree asked seat true errno after passes refuses = passes
-own_where tree asked seat false errno after passes refuses = refuses
+-- ---- the seat's own calls leave the tree and what is beside it
 
-own_told : (tree : Tree) (asked : Call) (said told : Seated) → some_seated said ≡ some_seated told →
-    Changes tree asked said.0 tree → Changes tree asked told.0 tree
-own_told tree asked said told is changes =
-    subst (λ (s : Seated). Changes tree asked s.0 tree) (same_Some said told is) changes
+own_plain : (seat : HostSeat) (asked : Call) (told : Seated) → seat_answer seat asked ≡ Some told → IsPlain asked
+own_plain seat (call.SetGroups list) told is =
+    record { refuses = λ tree errno. (tt, refl); passes = λ tree value fits. (fits, refl); opens = refl }
+own_plain seat (call.SetEgid gid) told is =
+    record { refuses = λ tree errno. (tt, refl); passes = λ tree value fits. (fits, refl); opens = refl }
+own_plain seat (call.SetEuid uid) told is =
+    record { refuses = λ tree errno. (tt, refl); passes = λ tree value fits. (fits, refl); opens = refl }
+own_plain seat (call.RaiseCap caps) told is =
+    record { refuses = λ tree errno. (tt, refl); passes = λ tree value fits. (fits, refl); opens = refl }
+own_plain seat (call.DropCap caps) told is =
+    record { refuses = λ tree errno. (tt, refl); passes = λ tree value fits. (fits, refl); opens = refl }
+own_plain seat (call.SetUmask mask) told is =
+    record { refuses = λ tree errno. (tt, refl); passes = λ tree value fits. (fits, refl); opens = refl }
+own_plain seat asked told is = absurd (cc)
 
 own_changes : (tree : Tree) (seat : HostSeat) (asked : Call) (told : Seated) → seat_answer seat asked ≡ Some told →
-    Changes tree asked told.0 tree
-own_changes tree seat (call.SetGroups list) told is =
-    own_told tree (call.SetGroups list)
-    (if_allowed seat (may_set_groups seat list) (groups_errno seat) (with_groups seat list)) told is
-    (own_where tree (call.SetGroups list) seat (may_set_groups seat list) (groups_errno seat) (with_groups seat list)
-    (tt, refl) (tt, refl))
-own_changes tree seat (call.SetEgid gid) told is =
-    own_told tree (call.SetEgid gid) (if_allowed seat (may_set_egid seat gid) eperm (with_egid seat gid)) told is
-    (own_where tree (call.SetEgid gid) seat (may_set_egid seat gid) eperm (with_egid seat gid) (tt, refl) (tt, refl))
-own_changes tree seat (call.SetEuid uid) told is =
-    own_told tree (call.SetEuid uid) (if_allowed seat (may_set_euid seat uid) eperm (with_euid seat uid)) told is
-    (own_where tree (call.SetEuid uid) seat (may_set_euid seat uid) eperm (with_euid seat uid) (tt, refl) (tt, refl))
-own_changes tree seat (call.RaiseCap caps) told is =
-    own_told tree (call.RaiseCap caps) (if_allowed seat (may_raise seat caps) eperm (with_raised seat caps)) told is
-    (own_where tree (call.RaiseCap caps) seat (may_raise seat caps) eperm (with_raised seat caps) (tt, refl) (tt, refl))
-own_changes tree seat (call.DropCap caps) told is =
-    own_told tree (call.DropCap caps) (reply.Ok value.Unit, with_dropped seat caps) told is (tt, refl)
-own_changes tree seat (call.SetUmask mask) told is =
-    own_told tree (call.SetUmask mask) (reply.Ok (value.Count seat.umask), with_umask seat mask) told is (tt, refl)
-own_changes tree seat asked told is = cc
-
-own_opens : (seat : HostSeat) (asked : Call) (told : Seated) → seat_answer seat asked ≡ Some told →
-    opening_flags asked ≡ None
-own_opens seat (call.SetGroups list) told is = refl
-own_opens seat (call.SetEgid gid) told is = refl
-own_opens seat (call.SetEuid uid) told is = refl
-own_opens seat (call.RaiseCap caps) told is = refl
-own_opens seat (call.DropCap caps) told is = refl
-own_opens seat (call.SetUmask mask) told is = refl
-own_opens seat asked told is = cc
+    TreeChanges tree asked told.0 tree
+own_changes tree seat asked told is =
+    let plain = own_plain seat asked told is in
+    answered_as seat asked (λ (given : HostReply). TreeChanges tree asked given tree)
+    (λ value fits. plain.passes tree value fits) (λ errno. plain.refuses tree errno) told is
 
 contents_same : (state : State) (asked : Call) (given : HostReply) → opening_flags asked ≡ None →
-    LawfulContents (tree_of state) (contents_of state) asked given (tree_of state) (contents_of state)
+    LeavesBeside (tree_of state) (contents_of state) asked given (tree_of state) (contents_of state)
 contents_same state asked (reply.Ok told) opens = record {
   objects = λ object within may. stays_same _ _ refl;
   openings = λ flags object asks within may. refl;
+  emptied = λ flags object asks makes. inl refl;
   positions = λ fd open_still may. refl;
   accesses = λ fd open_still. refl;
   begins = λ flags fd asks is. absurd (no_flags asked flags opens asks);
@@ -304,7 +288,7 @@ own_path_only state seat asked told is asks = cc
 -- ---- a call that fails as planned
 
 failing_changes : (state : State) (asked : Call) (errno : Errno) →
-    Changes (tree_of state) asked (reply.Fault errno) (tree_of (faulted (after_failing state asked)))
+    TreeChanges (tree_of state) asked (reply.Fault errno) (tree_of (faulted (after_failing state asked)))
 failing_changes state (call.Close fd) errno = closed_tree state fd (open_at state.slots fd.0) refl
 failing_changes state asked errno = refl
 
@@ -331,16 +315,16 @@ failing_sound state asked sound = sound
 
 -- ---- a call without memory
 
-memory_changes : (tree : Tree) (asked : Call) → TakesMemory asked → Changes tree asked reply.NoMemory tree
+memory_changes : (tree : Tree) (asked : Call) → TakesMemory asked → TreeChanges tree asked reply.NoMemory tree
 memory_changes tree (call.Close fd) takes = absurd takes
 memory_changes tree asked takes = refl
 
 -- what is to be shown of a step, before it is counted
 pub record IsLawful (state : State) (seat : HostSeat) (asked : Call) (told : Outcome) : Type 0 where
-  pub changes : Changes (tree_of state) asked told.0 (tree_of told.1)
+  pub changes : TreeChanges (tree_of state) asked told.0 (tree_of told.1)
   pub seats : SeatStep seat asked told.0 told.2
   pub path_only : AsksPathOnly (tree_of state) asked → IsBadFd told.0
-  pub contents : LawfulContents (tree_of state) (contents_of state) asked told.0 (tree_of told.1) (contents_of told.1)
+  pub contents : LeavesBeside (tree_of state) (contents_of state) asked told.0 (tree_of told.1) (contents_of told.1)
   pub sound : length told.1.nodes < 2 ^ 63 → IsSound told.1
 
 module _ (state : State) (seat : HostSeat) (asked : Call) (numbers : ℕ → ℕ) (sound : IsSound state)
@@ -351,7 +335,7 @@ module _ (state : State) (seat : HostSeat) (asked : Call) (numbers : ℕ → ℕ
     changes = own_changes (tree_of state) seat asked told is;
     seats = own_seat asked seat told is;
     path_only = own_path_only state seat asked told is;
-    contents = contents_same state asked told.0 (own_opens seat asked told is);
+    contents = contents_same state asked told.0 (own_plain seat asked told is).opens;
     sound = λ few. sound;
   }
   lawful_outcome None is =
@@ -367,7 +351,7 @@ module _ (state : State) (seat : HostSeat) (asked : Call) (numbers : ℕ → ℕ
   lawful_failing : (errno : Errno) → IsLawful state seat asked (failing_outcome state seat asked errno)
   lawful_failing errno = record {
     changes = failing_changes state asked errno;
-    seats = refl;
+    seats = faulted_seat seat asked errno;
     path_only = λ asks. tt;
     contents = failing_contents state asked;
     sound = λ few. faulted_sound (after_failing state asked) (failing_sound state asked sound);
@@ -376,7 +360,7 @@ module _ (state : State) (seat : HostSeat) (asked : Call) (numbers : ℕ → ℕ
   lawful_without_memory : TakesMemory asked → IsLawful state seat asked (without_memory state seat)
   lawful_without_memory takes = record {
     changes = memory_changes (tree_of state) asked takes;
-    seats = refl;
+    seats = lacking_seat seat asked;
     path_only = λ asks. tt;
     contents = record { objects = λ object within. refl; descriptions = λ fd open_still. refl };
     sound = λ few. sound;
@@ -392,6 +376,38 @@ module _ (state : State) (seat : HostSeat) (asked : Call) (numbers : ℕ → ℕ
   lawful_by None given after seat_after (inr (takes, told)) =
       subst (IsLawful state seat asked) (sym told) (lawful_without_memory takes)
 
+module _ (host : State) (seat : HostSeat) (asked : Call) (given : HostReply) (after : State) (seat_after : HostSeat)
+    (does : Does host seat asked given after seat_after) where
+  -- of the answer before it is counted
+  lawful_answer : IsLawful host seat asked (made_outcome given does.answers.state seat_after)
+  lawful_answer =
+      let answers = does.answers in
+      lawful_by host seat asked answers.numbers does.sound answers.least
+      (failure_of host asked) given answers.state seat_after answers.answered
+
+  few_answered : length does.answers.state.nodes < 2 ^ 63
+  few_answered = subst (λ (s : State). length s.nodes < 2 ^ 63) does.answers.counts does.few
+
+  pub does_lawful_tree : LawfulTree (tree_of host) asked given (tree_of after)
+  does_lawful_tree = record {
+    formed_before = well_formed host does.sound;
+    formed_after = subst (λ (s : State). IsWellFormed (tree_of s)) (sym does.answers.counts)
+        (well_formed does.answers.state (lawful_answer.sound few_answered));
+    changes = subst (λ (s : State). TreeChanges (tree_of host) asked given (tree_of s)) (sym does.answers.counts)
+        lawful_answer.changes;
+    path_only = lawful_answer.path_only;
+  }
+
+  pub does_lawful_seat : SeatStep seat asked given seat_after
+  does_lawful_seat = lawful_answer.seats
+
+  -- what it leaves beside the tree
+  pub does_leave_beside : LeavesBeside (tree_of host) (contents_of host) asked given (tree_of after) (contents_of after)
+  does_leave_beside =
+      subst (λ (s : State).
+      LeavesBeside (tree_of host) (contents_of host) asked given (tree_of s) (contents_of s)) (sym does.answers.counts)
+      lawful_answer.contents
+
 -- the law of a host that tells its tree
 pub does_lawful : (host : State) (seat : HostSeat) (asked : Call) (given : HostReply) (after : State)
     (seat_after : HostSeat) →
@@ -399,25 +415,14 @@ pub does_lawful : (host : State) (seat : HostSeat) (asked : Call) (given : HostR
     (later : Tree) × (Some (tree_of after) ≡ Some later) × LawfulStep before seat asked given later seat_after
     × LawfulContents before (contents_of host) asked given later (contents_of after)
 does_lawful host seat asked given after seat_after does before told =
-    let answers = does.answers in
-    let lawful = lawful_by host seat asked answers.numbers does.sound answers.least
-    (failure_of host asked) given answers.state seat_after answers.answered in
-    let e : tree_of host ≡ before = same_Some (tree_of host) before told in
-    let few : length answers.state.nodes < 2 ^ 63 =
-    subst (λ (s : State). length s.nodes < 2 ^ 63) answers.counts does.few in (
+    let e : tree_of host ≡ before = same_Some (tree_of host) before told in (
       tree_of after,
       refl,
       subst (λ (tree : Tree). LawfulStep tree seat asked given (tree_of after) seat_after) e (record {
-        changes = subst (λ (s : State).
-            Changes (tree_of host) asked given (tree_of s)) (sym answers.counts) lawful.changes;
-        seats = lawful.seats;
-        path_only = lawful.path_only;
-        well_formed = λ was.
-            subst (λ (s : State).
-            IsWellFormed (tree_of s)) (sym answers.counts) (well_formed answers.state (lawful.sound few));
+        trees = does_lawful_tree host seat asked given after seat_after does;
+        seats = does_lawful_seat host seat asked given after seat_after does;
       }),
       subst (λ (tree : Tree). LawfulContents tree (contents_of host) asked given (tree_of after) (contents_of after)) e
-          (subst (λ (s : State).
-          LawfulContents (tree_of host) (contents_of host) asked given (tree_of s) (contents_of s))
-          (sym answers.counts) lawful.contents),
+          (lawful_beside (tree_of host) (tree_of after) (contents_of host) (contents_of after) asked given
+          (does_leave_beside host seat asked given after seat_after does)),
     )

@@ -1,8 +1,6 @@
 -- Proof. `MakeLink`: what it leaves of the tree and beside it.
-use Rattle.std.proofs.Common.{◌≡◌, ◌<◌, ◌==◌, inl, inr, ℕ, false, not, List, map, Some, None, is_some, slice_get}
+use Rattle.std.proofs.Common.{◌≡◌, ◌==◌, inl, inr, ℕ, false, not, List, map, Some, None, is_some, slice_get}
 use Rattle.std.proofs.Common.{refl, sym, ◌∙◌, subst}
-use Rattle.std.proofs.lemmas.List.{length-map}
-use Rattle.std.proofs.lemmas.Option.{slice_get_within}
 use Rattle.pt_host.specs.Tree.{IsOpenOn}
 use Rattle.pt_host.specs.declared.ids.Errno.{Errno}
 use Rattle.pt_host.specs.declared.ids.Fd.{Fd}
@@ -51,20 +49,19 @@ module _ (state : State) (seat : HostSeat) (from fd : Fd) (name : List ℕ) (sou
       record {
         sound = λ few. sound_linked state at.object name file.object sound into
             (inr (inr (from.0, file, source, refl))) within;
-        changes = record {
-          dir = at.object;
-          object = file.object;
-          opened = on;
-          linked = linked_on;
-          listed = (
-            subst (λ n. at.object
-                < n) (sym (length-map state.nodes object_of)) (slice_get_within state.nodes at.object dir there),
-            subst (λ n. file.object < n) (sym (length-map state.nodes object_of)) within,
-          );
-          free = there_at state at.object dir name there ∙ free;
-          links = same_tree _ _ _ _ _ _ (objects_linked (time_of state) at.object name file.object state.nodes)
-              (names_linked (time_of state) at.object name file.object state.nodes into) refl;
-        };
+        changes = (
+          file.object,
+          linked_on,
+          (
+            at.object,
+            on,
+            record {
+              free = there_at state at.object dir name there ∙ free;
+              links = same_tree _ _ _ _ _ _ (objects_linked (time_of state) at.object name file.object state.nodes)
+                  (names_linked (time_of state) at.object name file.object state.nodes into) refl;
+            },
+          ),
+        );
         contents = keeps_others state (with_linked state at.object name file.object)
             (call.MakeLink from fd name) value.Unit refl refl
             (λ o within none.

@@ -4,7 +4,7 @@ use Rattle.std.proofs.Common.{◌≡◌, ◌≢◌, ◌<◌, inl, inr, ℕ, ℤ,
 use Rattle.std.proofs.Common.{slice_get, unwrap_or, refl, ap, sym, ◌∙◌, subst}
 use Rattle.std.proofs.lemmas.Bool.Decides.{eqb_tells}
 use Rattle.std.proofs.lemmas.Option.{slice_get_within}
-use Rattle.pt_host.specs.LawfulStep.{Changes}
+use Rattle.pt_host.specs.LawfulTree.{TreeChanges}
 use Rattle.pt_host.specs.Tree.{IsOpenOn, Tree}
 use Rattle.pt_host.specs.declared.ids.Errno.{Errno}
 use Rattle.pt_host.specs.declared.ids.Fd.{Fd}
@@ -80,11 +80,12 @@ sought_fair state fd offset whence sound (Err errno) =
     fair_refused state (call.Seek fd offset whence) errno sound (tt, refl)
 sought_fair state fd offset whence sound (Ok position) = record {
   sound = λ few. sound-with_position state fd.0 position sound;
-  changes = subst (Changes (tree_of state) (call.Seek fd offset whence) (reply.Ok (value.Count position)))
+  changes = subst (TreeChanges (tree_of state) (call.Seek fd offset whence) (reply.Ok (value.Count position)))
       (sym (tree-with_position state fd.0 position)) (tt, refl);
   contents = record {
     objects = λ object within may. stays_same _ _ refl;
     openings = λ flags object asks within may. refl;
+    emptied = λ flags object asks makes. inl refl;
     positions = λ k open_still none.
         ap (λ (o : Option OpenFile).
         (description_where o).position)
@@ -122,11 +123,12 @@ listed_fair state fd offset size sound file node there told =
     let between = with_node state file.object (after_reading (time_of state) node) in
     record {
       sound = λ few. sound-with_position between fd.0 told.1 (read.sound few);
-      changes = subst (Changes (tree_of state) (call.ListAt fd offset size) (reply.Ok (value.Bytes told.0)))
+      changes = subst (TreeChanges (tree_of state) (call.ListAt fd offset size) (reply.Ok (value.Bytes told.0)))
           (sym (tree-with_position between fd.0 told.1)) read.changes;
       contents = record {
         objects = λ object within may. read.contents.objects object within may;
         openings = λ flags object asks within may. absurd (no_flags (call.ListAt fd offset size) flags refl asks);
+        emptied = λ flags object asks makes. absurd (no_flags (call.ListAt fd offset size) flags refl asks);
         positions = λ k open_still none.
             ap (λ (o : Option OpenFile).
             (description_where o).position)

@@ -8,11 +8,11 @@ use Rattle.std.proofs.lemmas.Nat.{and_le_l}
 use Rattle.std.proofs.lemmas.Option.{same_Some}
 use Rattle.pt_host.specs.Call.{Call}
 use Rattle.pt_host.specs.Errno.{einval}
-use Rattle.pt_host.specs.LawfulContents.{IsAt, LawfulContents, MayChange, opening_flags}
-use Rattle.pt_host.specs.LawfulStep.{Changes, LeadsTo}
-use Rattle.pt_host.specs.Names.{MakesObjectAt, TakesNameAt}
+use Rattle.pt_host.specs.LawfulTree.{TreeChanges, LeadsTo}
+use Rattle.pt_host.specs.Names.{MakesObject, TakesName}
 use Rattle.pt_host.specs.Promises.{FitsCall}
-use Rattle.pt_host.specs.Tree.{IsOpenOn, Tree}
+use Rattle.pt_host.specs.Sorts.{opening_flags}
+use Rattle.pt_host.specs.Tree.{IsOpenOn, OfFd, Tree}
 use Rattle.pt_host.specs.declared.ids.Errno.{Errno}
 use Rattle.pt_host.specs.declared.ids.Fd.{Fd}
 use Rattle.pt_host.specs.declared.seat.HostSeat.{HostSeat}
@@ -20,6 +20,7 @@ use Rattle.pt_host.specs.declared.op.KeptHostOp.TheVariants as call
 use Rattle.pt_host.specs.declared.reply.HostReply.TheVariants as reply
 use Rattle.pt_host.specs.declared.reply.HostValue.{HostValue}
 use Rattle.pt_host.specs.declared.reply.HostValue.TheVariants as value
+use Rattle.pt_rules.specs.Beside.{IsAt, LeavesBeside, MayTouch}
 use Rattle.pt_rules.specs.Calls.{done, name_refusal, refused}
 use Rattle.pt_rules.specs.Edits.{made, with_made, with_unlinked}
 use Rattle.pt_node.specs.Entries.{changed_at, is_directory_at, is_directory_where, touched, with_entry}
@@ -57,13 +58,14 @@ changed_other place f nodes k apart = get-changed place f nodes k ∙ elim (eqb_
 -- the objects that the call may not change stay, and so do the descriptors
 pub keeps_others : (state after : State) (asked : Call) (told : HostValue) → opening_flags asked ≡ None →
     after.slots ≡ state.slots →
-    ((o : ℕ) → o < length state.nodes → (MayChange (tree_of state) asked told (tree_of after) o → ⊥) →
+    ((o : ℕ) → o < length state.nodes → (MayTouch (tree_of state) asked told (tree_of after) o → ⊥) →
     slice_get after.nodes o ≡ slice_get state.nodes o) →
-    LawfulContents (tree_of state) (contents_of state) asked (reply.Ok told) (tree_of after) (contents_of after)
+    LeavesBeside (tree_of state) (contents_of state) asked (reply.Ok told) (tree_of after) (contents_of after)
 keeps_others state after asked told opens slots same = record {
   objects = λ o within may.
       stays_same _ _ (ap contents_where (same o (subst (λ n. o < n) (length-map state.nodes object_of) within) may));
   openings = λ flags o asks within may. absurd (no_flags asked flags opens asks);
+  emptied = λ flags o asks makes. absurd (no_flags asked flags opens asks);
   positions = λ k open_still may.
       ap (λ (table : List Slot). ((contents_of (record after { slots = table })).descriptions k).position) slots;
   accesses = λ k open_still.
@@ -96,18 +98,18 @@ pub fair_makes : (state : State) (numbers : ℕ →
     ℕ) (asked : Call) (fd : Fd) (file : OpenFile) (after : State) (does : Makes state numbers after) → IsSound state →
     AreLeastFree state numbers → open_at state.slots fd.0 ≡ Some file → file.object ≡ does.dir →
     opening_flags asked ≡ None → FitsCall asked value.Unit →
-    ((later : Tree) → MakesObjectAt (tree_of state) fd does.name later →
-    Changes (tree_of state) asked (reply.Ok value.Unit) later) →
-    ((later : Tree) (o : ℕ) → IsOpenOn (tree_of state) fd o → MayChange (tree_of state) asked value.Unit later o) →
+    ((later : Tree) → OfFd (tree_of state) fd (λ dir. MakesObject (tree_of state) dir does.name later) →
+    TreeChanges (tree_of state) asked (reply.Ok value.Unit) later) →
+    ((later : Tree) (o : ℕ) → IsOpenOn (tree_of state) fd o → MayTouch (tree_of state) asked value.Unit later o) →
     IsFair state asked (done after)
 fair_makes state numbers asked fd file after does sound least is at opens fits passes may =
     let on : IsOpenOn (tree_of state) fd does.dir =
     subst (IsOpenOn (tree_of state) fd) at (open_there state fd file is) in
     record {
       sound = λ few. sound_makes state numbers after sound least few does;
-      changes = passes (tree_of after) (makes_object state numbers after does, (on, refl));
+      changes = passes (tree_of after) (does.dir, on, makes_object state numbers after does);
       contents = subst (λ (s : State).
-          LawfulContents (tree_of state) (contents_of state) asked (reply.Ok value.Unit) (tree_of s) (contents_of s))
+          LeavesBeside (tree_of state) (contents_of state) asked (reply.Ok value.Unit) (tree_of s) (contents_of s))
           (sym does.leaves)
           (keeps_others state (with_made state does.dir does.name does.node) asked value.Unit opens refl
           (λ o within none. same_others o within (λ e.
@@ -136,9 +138,9 @@ pub fair_new : (state : State) (numbers : ℕ →
     (file : OpenFile) (dir : Node) → IsSound state → AreLeastFree state numbers → permissions < 4096 →
     names_in content ≡ [] → opening_flags asked ≡ None →
     FitsCall asked value.Unit →
-    ((later : Tree) → MakesObjectAt (tree_of state) fd name later →
-    Changes (tree_of state) asked (reply.Ok value.Unit) later) →
-    ((later : Tree) (o : ℕ) → IsOpenOn (tree_of state) fd o → MayChange (tree_of state) asked value.Unit later o) →
+    ((later : Tree) → OfFd (tree_of state) fd (λ dir. MakesObject (tree_of state) dir name later) →
+    TreeChanges (tree_of state) asked (reply.Ok value.Unit) later) →
+    ((later : Tree) (o : ℕ) → IsOpenOn (tree_of state) fd o → MayTouch (tree_of state) asked value.Unit later o) →
     open_at state.slots fd.0 ≡ Some file → slice_get state.nodes file.object ≡ Some dir →
     name_refusal seat dir name ≡ None → there_in dir name ≡ None →
     IsFair state asked (make_in_dir state numbers seat file.object name permissions rdev content dir)
@@ -235,18 +237,18 @@ pub fair_takes : (state : State) (asked : Call) (fd : Fd) (file : OpenFile) (aft
     (does : Unlinks state after) → IsSound state →
     open_at state.slots fd.0 ≡ Some file → file.object ≡ does.dir → opening_flags asked ≡ None →
     FitsCall asked value.Unit →
-    ((later : Tree) → TakesNameAt (tree_of state) fd does.name later →
-    Changes (tree_of state) asked (reply.Ok value.Unit) later) →
+    ((later : Tree) → OfFd (tree_of state) fd (λ dir. TakesName (tree_of state) dir does.name later) →
+    TreeChanges (tree_of state) asked (reply.Ok value.Unit) later) →
     ((later : Tree) (o : ℕ) → IsAt (tree_of state) fd does.name o →
-    MayChange (tree_of state) asked value.Unit later o) → IsFair state asked (done after)
+    MayTouch (tree_of state) asked value.Unit later o) → IsFair state asked (done after)
 fair_takes state asked fd file after does sound is at opens fits passes may =
     let on : IsOpenOn (tree_of state) fd does.dir =
     subst (IsOpenOn (tree_of state) fd) at (open_there state fd file is) in
     record {
       sound = λ few. subst IsSound (sym does.leaves) (sound_unlinked state does.dir does.name does.object sound);
-      changes = passes (tree_of after) (takes_name state after sound does, (on, refl));
+      changes = passes (tree_of after) (does.dir, on, takes_name state after sound does);
       contents = subst (λ (s : State).
-          LawfulContents (tree_of state) (contents_of state) asked (reply.Ok value.Unit) (tree_of s) (contents_of s))
+          LeavesBeside (tree_of state) (contents_of state) asked (reply.Ok value.Unit) (tree_of s) (contents_of s))
           (sym does.leaves)
           (keeps_others state (with_unlinked state does.dir does.name does.object) asked value.Unit opens refl
           (λ o within none.

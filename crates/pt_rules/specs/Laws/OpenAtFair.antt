@@ -10,7 +10,7 @@ use Rattle.std.proofs.lemmas.Option.{same_Some, slice_get_within}
 use Rattle.pt_host.specs.Errno.{eexist, einval, enoent}
 use Rattle.pt_host.specs.Flags.{includes, o_creat, o_directory, o_excl, o_path, o_tmpfile}
 use Rattle.pt_host.specs.LawfulContents.{begun}
-use Rattle.pt_host.specs.LawfulStep.{Opens, OpensMade, RefusesName}
+use Rattle.pt_host.specs.LawfulTree.{Opens, OpensMade, RefusesName}
 use Rattle.pt_host.specs.Tree.{IsOpenOn}
 use Rattle.pt_host.specs.declared.flags.OpenFlags.{OpenFlags}
 use Rattle.pt_host.specs.declared.ids.Errno.{Errno}
@@ -220,7 +220,7 @@ module _ (state : State) (numbers : ℕ → ℕ) (seat : HostSeat) (fd : Fd) (na
   opens_made = (
     tree_of between,
     creates,
-    (makes_object state numbers between does, (on_directory, refl)),
+    (file.object, on_directory, makes_object state numbers between does),
     subst (λ n. Opens (tree_of between) n flags (free_fd state) (tree_of after_making))
         (sym (length-map state.nodes object_of)) opens_new,
   )
@@ -233,6 +233,7 @@ module _ (state : State) (numbers : ℕ → ℕ) (seat : HostSeat) (fd : Fd) (na
     contents = record {
       objects = λ o within none. stays_same _ _ (kept_elsewhere o within (λ on. none (inr on)));
       openings = λ asked_flags o asked within none. kept_elsewhere o within (λ on. none (inr on));
+      emptied = λ asked_flags o asked makes. absurd (makes creates);
       positions = λ k open_still none.
           ap (λ d. d.position) (same_description between seat flags new_place new_node k open_still);
       accesses = λ k open_still.

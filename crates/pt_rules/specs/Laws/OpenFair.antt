@@ -8,9 +8,10 @@ use Rattle.std.proofs.lemmas.Option.{same_Some, slice_get_within, slice_get-map}
 use Rattle.pt_host.specs.Call.{Call}
 use Rattle.pt_host.specs.Errno.{ebadf, eexist, eio, enoent}
 use Rattle.pt_host.specs.Flags.{includes, o_creat, o_excl, o_path, o_trunc}
-use Rattle.pt_host.specs.LawfulContents.{begun, Empties, MayChange, StaysOpen, opening_flags}
-use Rattle.pt_host.specs.LawfulStep.{Changes, Opens}
+use Rattle.pt_host.specs.LawfulContents.{LeftByOpening, StaysOpen, begun, empties}
+use Rattle.pt_host.specs.LawfulTree.{TreeChanges, Opens}
 use Rattle.pt_host.specs.Promises.{FitsCall}
+use Rattle.pt_host.specs.Sorts.{opening_flags}
 use Rattle.pt_host.specs.Words.{set_at}
 use Rattle.pt_host.specs.Tree.{Opened, Tree}
 use Rattle.pt_host.specs.declared.flags.OpenFlags.{OpenFlags}
@@ -21,6 +22,7 @@ use Rattle.pt_host.specs.declared.op.KeptHostOp.TheVariants as call
 use Rattle.pt_host.specs.declared.reply.HostReply.TheVariants as reply
 use Rattle.pt_host.specs.declared.reply.HostValue.TheVariants as value
 use Rattle.pt_node.specs.Paths.{parts, walk, walk_root, walk_from}
+use Rattle.pt_rules.specs.Beside.{Empties, MayTouch}
 use Rattle.pt_rules.specs.Calls.{begun_on, checked, close_file, done, on_slot, opening, opening_of, open_walked}
 use Rattle.pt_rules.specs.Calls.{refused, reopen, tell_status, tells, unless, with_opened}
 use Rattle.pt_rules.specs.Holds.{HasName, HasHold}
@@ -35,6 +37,7 @@ use Rattle.pt_node.specs.declared.slots.OpenFile.{OpenFile}
 use Rattle.pt_node.specs.declared.slots.Slot.{Slot}
 use Rattle.pt_node.specs.declared.slots.Slot.TheVariants.{Free, Open}
 use Rattle.pt_rules.specs.Laws.Cases.{by_checks, by_fd}
+use Rattle.pt_rules.specs.Laws.Emptied.{left_by_opening}
 use Rattle.pt_rules.specs.Laws.Fair.{IsFair, fair_refused, fair_same, stays_same}
 use Rattle.pt_rules.specs.Laws.Finding.{root_lives, walk_lives}
 use Rattle.pt_rules.specs.Laws.Opens.{closed_tree, errnos_apart, least_free-closed, open_there, opening_allowed}
@@ -46,12 +49,12 @@ use Rattle.pt_node.specs.Laws.Updates.{get-put_apart, get-put_here, get-set_apar
 -- what an opening of this object by the call has to come to
 pub record OpensBy (state : State) (asked : Call) (flags : OpenFlags) (object : ℕ) : Type 0 where
   pub asks : opening_flags asked ≡ Some flags
-  pub refuses : (errno : Errno) → errno ≢ enoent → Changes (tree_of state) asked (reply.Refused errno) (tree_of state)
+  pub refuses : (errno : Errno) → errno ≢ enoent → TreeChanges (tree_of state) asked (reply.Refused errno) (tree_of state)
   pub passes : (fd : Fd) (after : Tree) → Opens (tree_of state) object flags fd after →
-      Changes (tree_of state) asked (reply.Ok (value.Fd fd)) after
+      TreeChanges (tree_of state) asked (reply.Ok (value.Fd fd)) after
   pub fits : (fd : Fd) → FitsCall asked (value.Fd fd)
   pub empties : (fd : Fd) (after : Tree) (o : ℕ) → Empties flags fd after o →
-      MayChange (tree_of state) asked (value.Fd fd) after o
+      MayTouch (tree_of state) asked (value.Fd fd) after o
 
 -- the object stays as it is where it is not emptied
 opened_kept : (seat : HostSeat) (state : State) (flags : OpenFlags) (node : Node) (empties : Bool) →
@@ -103,7 +106,7 @@ module _ (state : State) (seat : HostSeat) (asked : Call) (flags : OpenFlags) (o
   abbrev after : State
   after = with_opened state seat flags object node
 
-  opened_object : (o : ℕ) → (MayChange (tree_of state) asked (value.Fd (free_fd state)) (tree_of after) o → ⊥) →
+  opened_object : (o : ℕ) → (MayTouch (tree_of state) asked (value.Fd (free_fd state)) (tree_of after) o → ⊥) →
       contents_where (slice_get after.nodes o) ≡ contents_where (slice_get state.nodes o)
   opened_object o none = elim (eqb_tells o object) [
     | inl e ↦ ap contents_where (ap (slice_get after.nodes) e.1
@@ -124,6 +127,25 @@ module _ (state : State) (seat : HostSeat) (asked : Call) (flags : OpenFlags) (o
         (get-set_apart state.nodes object (after_opening seat (time_of state) flags.0 node) o apart.1)
   ]
 
+  abbrev node_after : Node
+  node_after = after_opening seat (time_of state) flags.0 node
+
+  -- what is opened is emptied at most
+  emptied_object : (o : ℕ) →
+      LeftByOpening flags (contents_where (slice_get state.nodes o)) (contents_where (slice_get after.nodes o))
+  emptied_object o = elim (eqb_tells o object) [
+    | inl e ↦ (let was : slice_get state.nodes o ≡ Some node = ap (slice_get state.nodes) e.1 ∙ there in
+        let is : slice_get after.nodes o ≡ Some node_after =
+        ap (slice_get after.nodes) e.1
+        ∙ get-set_here state.nodes object node_after (slice_get_within state.nodes object node there) in
+        subst (λ (at : Option Node).
+        LeftByOpening flags (contents_where at) (contents_where (slice_get after.nodes o))) (sym was)
+        (subst (λ (at : Option Node).
+        LeftByOpening flags (contents_where (Some node)) (contents_where at)) (sym is)
+        (left_by_opening seat (time_of state) flags node (empties flags) refl)))
+    | inr apart ↦ inl (ap contents_where (get-set_apart state.nodes object node_after o apart.1))
+  ]
+
   opened_fair : opening_refusal seat node flags.0 ≡ None → IsFair state asked (tells after (value.Fd (free_fd state)))
   opened_fair none = record {
     sound = λ few. sound-with_opened state seat flags object node sound there lives;
@@ -137,6 +159,10 @@ module _ (state : State) (seat : HostSeat) (asked : Call) (flags : OpenFlags) (o
     contents = record {
       objects = λ o within may. stays_same _ _ (opened_object o may);
       openings = λ asked_flags o asks within may. opened_object o may;
+      emptied = λ asked_flags o asks makes.
+          subst (λ (f : OpenFlags).
+          LeftByOpening f (contents_where (slice_get state.nodes o)) (contents_where (slice_get after.nodes o)))
+          (same_Some flags asked_flags (sym by.asks ∙ asks)) (emptied_object o);
       positions = λ k open_still may. ap (λ d. d.position) (same_description state seat flags object node k open_still);
       accesses = λ k open_still. ap (λ d. d.access) (same_description state seat flags object node k open_still);
       begins = λ asked_flags new asks is.
@@ -172,7 +198,7 @@ fair_opening state seat asked flags object sound lives by =
 -- the opening of what was found
 pub fair_open_walked : (state : State) (seat : HostSeat) (asked : Call) (flags : OpenFlags) (led : Result ℕ Errno) →
     IsSound state →
-    ((errno : Errno) → led ≡ Err errno → Changes (tree_of state) asked (reply.Refused errno) (tree_of state)) →
+    ((errno : Errno) → led ≡ Err errno → TreeChanges (tree_of state) asked (reply.Refused errno) (tree_of state)) →
     ((object : ℕ) → led ≡ Ok object → HasHold state object × OpensBy state asked flags object) →
     IsFair state asked (open_walked state seat flags led)
 fair_open_walked state seat asked flags (Err errno) sound refuses leads =
@@ -262,6 +288,7 @@ closed_fair state fd file sound is =
       contents = record {
         objects = λ o within may. stays_same _ _ refl;
         openings = λ flags o asks within may. refl;
+        emptied = λ flags o asks makes. inl refl;
         positions = λ k open_still may. ap (λ d. d.position) (closed_description state fd k open_still);
         accesses = λ k open_still. ap (λ d. d.access) (closed_description state fd k open_still);
         begins = λ flags new asks told. (let e : None ≡ Some flags = asks in cc);

@@ -9,7 +9,7 @@ use Rattle.pt_host.specs.Words.{set_at}
 use Rattle.pt_host.specs.Flags.{includes, o_path, o_tmpfile}
 use Rattle.pt_host.specs.Errno.{errno_of, enoent, eopnotsupp, eio}
 use Rattle.pt_host.specs.Tree.{Opened, IsOpenOn}
-use Rattle.pt_host.specs.LawfulStep.{Opens, opened_on, closed_at}
+use Rattle.pt_host.specs.LawfulTree.{Opens, opened_on, closed_at}
 use Rattle.pt_host.specs.declared.ids.Errno.{Errno}
 use Rattle.pt_host.specs.declared.ids.Fd.{Fd}
 use Rattle.pt_host.specs.declared.flags.OpenFlags.{OpenFlags}

@@ -5,7 +5,7 @@ use Rattle.std.proofs.lemmas.Option.{same_Some}
 use Rattle.pt_host.specs.Call.{Call}
 use Rattle.pt_host.specs.Errno.{ebadf}
 use Rattle.pt_host.specs.Flags.{includes, o_path}
-use Rattle.pt_host.specs.LawfulStep.{AsksPathOnly, IsBadFd}
+use Rattle.pt_host.specs.LawfulTree.{AsksPathOnly, IsBadFd}
 use Rattle.pt_host.specs.Tree.{IsPathOnly, Opened}
 use Rattle.pt_host.specs.declared.ids.Errno.{Errno}
 use Rattle.pt_host.specs.declared.ids.Fd.{Fd}

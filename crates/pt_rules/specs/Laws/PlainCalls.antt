@@ -3,7 +3,8 @@ use Rattle.std.proofs.Common.{◌≡◌, ◌≢◌, ◌⊎◌, inl, inr, ℕ, Bo
 use Rattle.std.proofs.Common.{slice_get, refl, ap, sym, subst, arith}
 use Rattle.std.proofs.lemmas.Bool.Decides.{eqb_tells}
 use Rattle.pt_host.specs.Call.{Call}
-use Rattle.pt_host.specs.LawfulContents.{MayChange, StaysButAccess, opening_flags}
+use Rattle.pt_host.specs.LawfulContents.{StaysButAccess}
+use Rattle.pt_host.specs.Sorts.{opening_flags}
 use Rattle.pt_host.specs.Promises.{FitsCall}
 use Rattle.pt_host.specs.Tree.{IsOpenOn, Tree}
 use Rattle.pt_host.specs.declared.ids.Errno.{Errno}
@@ -29,11 +30,12 @@ use Rattle.pt_rules.specs.Laws.Opens.{open_there}
 use Rattle.pt_host.specs.declared.ids.Time.{Time}
 use Rattle.pt_rules.specs.AttributeCalls.{sized}
 use Rattle.pt_rules.specs.OpeningCalls.{tell_mounts}
-use Rattle.pt_host.specs.LawfulStep.{Changes}
+use Rattle.pt_host.specs.LawfulTree.{TreeChanges}
 use Rattle.pt_node.specs.Changes.{refilled}
 use Rattle.pt_node.specs.Mounts.{mounts_text}
 use Rattle.pt_rules.specs.Laws.EditShapes.{kind_rewritten_in, names_rewritten_in}
 use Rattle.pt_host.specs.declared.reply.HostReply.TheVariants.{Refused}
+use Rattle.pt_rules.specs.Beside.{MayTouch}
 use Rattle.pt_rules.specs.Calls.{refused, tells}
 
 pub keeps_rewritten : (now : Time) (bytes : List ℕ) (node : Node) → Keeps node (rewritten now bytes node)
@@ -59,7 +61,7 @@ keeps_refilled seat now bytes node = record {
 abbrev pub IsFairEffect : State → Call → HostValue → OpenFile → Node → Effect → Type 0
 IsFairEffect state asked told file node Stays = Unit {0}
 IsFairEffect state asked told file node (Becomes after) =
-    Keeps node after × (MayChange (tree_of state) asked told (tree_of state) file.object
+    Keeps node after × (MayTouch (tree_of state) asked told (tree_of state) file.object
     ⊎ StaysButAccess (contents_where (Some node)) (contents_where (Some after)))
 
 pub record IsFairRow (state : State) (asked : Call) (file : OpenFile) (node : Node) (made : Row) : Type 0 where
@@ -67,9 +69,9 @@ pub record IsFairRow (state : State) (asked : Call) (file : OpenFile) (node : No
   pub effect : IsFairEffect state asked made.told file node made.leaves
 
 module _ (state : State) (asked : Call) (sound : IsSound state)
-    (refuses : (tree : Tree) (errno : Errno) → Changes tree asked (reply.Refused errno) tree)
+    (refuses : (tree : Tree) (errno : Errno) → TreeChanges tree asked (reply.Refused errno) tree)
     (passes : (tree : Tree) (told : HostValue) → FitsCall asked told →
-    Changes tree asked (reply.Ok told) tree) (opens : opening_flags asked ≡ None) where
+    TreeChanges tree asked (reply.Ok told) tree) (opens : opening_flags asked ≡ None) where
   plain : IsPlain asked
   plain = record { refuses = refuses; passes = passes; opens = opens }
 

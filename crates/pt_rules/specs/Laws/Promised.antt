@@ -1,5 +1,6 @@
 -- Proof. What every host keeps.
 use Rattle.std.proofs.Common.{◌≡◌, ◌≤◌, inl, inr, ℕ, Option, Some, None, refl, ap, sym, subst, arith}
+use Rattle.pt_host.proofs.SeatAnswers.{faulted_seat, lacking_seat}
 use Rattle.pt_host.specs.Call.{Call}
 use Rattle.pt_host.specs.Promises.{HasRisen, IsPromised, MayLackMemory}
 use Rattle.pt_host.specs.declared.ids.Errno.{Errno}
@@ -62,7 +63,7 @@ module _ (host : State) (seat : HostSeat) (asked : Call) (numbers : ℕ → ℕ)
         allowed = subst (λ (n : ℕ).
             HasRisen n (faulted (after_failing host asked)).faults) same (faults_rise (after_failing host asked));
         fails = may_fail asked planned.0 errno planned.2;
-        seats = refl;
+        seats = faulted_seat seat asked errno;
       }
 
   promised_by : (failing : Option Errno) → failure_of host asked ≡ failing →
@@ -81,7 +82,7 @@ module _ (host : State) (seat : HostSeat) (asked : Call) (numbers : ℕ → ℕ)
         never_falls = omega arith;
         allowed = takes_lacks asked takes;
         fails = tt;
-        seats = refl;
+        seats = lacking_seat seat asked;
       })
 
 pub does_promised : (host : State) (seat : HostSeat) (asked : Call) (given : HostReply) (after : State)

@@ -5,9 +5,8 @@ use Rattle.std.proofs.Common.{◌∙◌, subst, arith, nat_lt}
 use Rattle.std.proofs.lemmas.Bool.{eqb-true, ltb-false}
 use Rattle.std.proofs.lemmas.Bool.Decides.{eqb_tells}
 use Rattle.std.proofs.lemmas.Option.{same_Some}
-use Rattle.pt_host.specs.LawfulContents.{IsAt}
-use Rattle.pt_host.specs.LawfulStep.{LeadsTo}
-use Rattle.pt_host.specs.Names.{ExchangesNames, MovesNameAt, Renames}
+use Rattle.pt_host.specs.LawfulTree.{LeadsTo}
+use Rattle.pt_host.specs.Names.{ExchangesNames, MovesName, Renames}
 use Rattle.pt_host.specs.Tree.{IsOpenOn}
 use Rattle.pt_host.specs.Errno.{einval, enoent}
 use Rattle.pt_host.specs.declared.ids.Errno.{Errno}
@@ -16,6 +15,7 @@ use Rattle.pt_host.specs.declared.ids.Time.{Time}
 use Rattle.pt_host.specs.declared.seat.HostSeat.{HostSeat}
 use Rattle.pt_host.specs.declared.op.KeptHostOp.TheVariants as call
 use Rattle.pt_host.specs.declared.reply.HostValue.TheVariants as value
+use Rattle.pt_rules.specs.Beside.{IsAt}
 use Rattle.pt_rules.specs.Calls.{done, refused, unless}
 use Rattle.pt_rules.specs.Edits.{moved, node_at, replace_refusal, replaced, with_moved, rename_onto}
 use Rattle.pt_node.specs.Entries.{after_losing, is_directory_at, restamped}
@@ -160,13 +160,13 @@ module _ (state : State) (seat : HostSeat) (fd : Fd) (name : List ℕ) (fd2 : Fd
 
   -- what is to be shown of the state that the call leaves
   fair_renamed : (after : State) → (length after.nodes < 2 ^ 63 → IsSound after) →
-      Renames (tree_of state) fd name fd2 name2 flags (tree_of after) →
+      Renames (tree_of state) file.object name file2.object name2 flags (tree_of after) →
       after.slots ≡ state.slots → after.faults ≡ state.faults →
       ((o : ℕ) → Unnamed o → slice_get after.nodes o ≡ slice_get state.nodes o) →
       IsFair state (call.Rename fd name fd2 name2 flags) (done after)
   fair_renamed after still renames slots faults others = record {
     sound = still;
-    changes = renames;
+    changes = (file.object, on, (file2.object, on_other, renames));
     contents = keeps_others state after (call.Rename fd name fd2 name2 flags) value.Unit refl slots (λ o within none.
         others o none);
     allowed = λ n. tt;
@@ -177,7 +177,8 @@ module _ (state : State) (seat : HostSeat) (fd : Fd) (name : List ℕ) (fd2 : Fd
   module _ (object : ℕ) (there : name_at state.nodes file.object name ≡ Some object) where
     -- a name that is moved, as the flags let it be
     moves_at : (target : Option ℕ) (after : State) → name_at state.nodes file2.object name2 ≡ target →
-        MovesTo state from to object target after → MovesNameAt (tree_of state) fd name fd2 name2 (tree_of after)
+        MovesTo state from to object target after →
+        MovesName (tree_of state) file.object name file2.object name2 (tree_of after)
     moves_at target after at moves =
         let does : Moved state after =
         record {
@@ -190,16 +191,17 @@ module _ (state : State) (seat : HostSeat) (fd : Fd) (name : List ℕ) (fd2 : Fd
           at_target = at;
           moves = moves;
         } in
-        (moves_name state after sound does, (on, refl), (on_other, refl))
+        moves_name state after sound does
 
     by_flags : (target : Option ℕ) (after : State) → flags ≤ 2 → FitsFlags target flags →
         name_at state.nodes file2.object name2 ≡ target →
-        (flags ≡ 2 → ExchangesNames (tree_of state) fd name fd2 name2 (tree_of after)) →
-        MovesTo state from to object target after → Renames (tree_of state) fd name fd2 name2 flags (tree_of after)
+        (flags ≡ 2 → ExchangesNames (tree_of state) file.object name file2.object name2 (tree_of after)) →
+        MovesTo state from to object target after →
+        Renames (tree_of state) file.object name file2.object name2 flags (tree_of after)
     by_flags target after few fits at exchanges moves = elim (eqb_tells flags 0) [
       | inl zero ↦ inl (zero.1, moves_at target after at moves)
       | inr some ↦ elim (eqb_tells flags 1) [
-        | inl one ↦ inr (inl (one.1, (file2.object, on_other, at ∙ fits.keeps one.1), moves_at target after at moves))
+        | inl one ↦ inr (inl (one.1, at ∙ fits.keeps one.1, moves_at target after at moves))
         | inr more ↦ (let two : flags ≡ 2 = (let a = some.1 in let b = more.1 in omega arith) in
             inr (inr (two, exchanges two)))
       ]
@@ -225,12 +227,8 @@ module _ (state : State) (seat : HostSeat) (fd : Fd) (name : List ℕ) (fd2 : Fd
         fair_renamed state (λ n. sound)
         (by_flags (Some object) state few fits at
         (λ two. record {
-          dir = file.object;
-          other = file2.object;
           object = object;
           another = object;
-          opened = on;
-          too = on_other;
           there = there;
           also = at;
           exchanges = ap (λ (names : ℕ → List ℕ → Option ℕ). record (tree_of state) { names = names })
@@ -248,12 +246,8 @@ module _ (state : State) (seat : HostSeat) (fd : Fd) (name : List ℕ) (fd2 : Fd
         (inr (inr (
           two,
           record {
-            dir = file.object;
-            other = file2.object;
             object = object;
             another = other;
-            opened = on;
-            too = on_other;
             there = there;
             also = at;
             exchanges = same_tree _ _ _ _ _ _ (objects_exchanged (time_of state) from to object other state.nodes)

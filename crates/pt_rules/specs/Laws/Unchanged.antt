@@ -3,8 +3,7 @@ use Rattle.std.proofs.Common.{◌≡◌, ◌↔◌, inl, inr, ℕ, Option, Some,
 use Rattle.std.proofs.lemmas.Option.{same_Some}
 use Rattle.pt_host.specs.Call.{Call}
 use Rattle.pt_host.specs.Contents.{Contents}
-use Rattle.pt_host.specs.LawfulContents.{KeepsAll, LawfulContents}
-use Rattle.pt_host.specs.LawfulStep.{Changes, LawfulStep}
+use Rattle.pt_host.specs.LawfulTree.{TreeChanges, LawfulTree}
 use Rattle.pt_host.specs.Promises.{IsAllowed}
 use Rattle.pt_host.specs.SeatStep.{SeatStep}
 use Rattle.pt_host.specs.Tree.{IsWellFormed, Tree}
@@ -13,6 +12,7 @@ use Rattle.pt_host.specs.declared.seat.HostSeat.{HostSeat}
 use Rattle.pt_host.specs.declared.op.KeptHostOp.TheVariants as call
 use Rattle.pt_host.specs.declared.reply.HostReply.{HostReply}
 use Rattle.pt_host.specs.declared.reply.HostReply.TheVariants as reply
+use Rattle.pt_rules.specs.Beside.{KeepsAll, LeavesBeside}
 use Rattle.pt_rules.specs.Does.{AnswersCall, Does, without_memory}
 use Rattle.pt_rules.specs.Faults.{failure_of, faults_with, one_more}
 use Rattle.pt_rules.specs.Living.{AreLeastFree}
@@ -22,9 +22,8 @@ use Rattle.pt_rules.specs.State.{State, contents_of, tree_of}
 use Rattle.pt_rules.specs.Table.{Seated, Outcome, answer, failing_outcome, outcome, outcome_where}
 use Rattle.pt_rules.specs.Unchanged.{IsNotOk, tree_left}
 use Rattle.pt_rules.specs.Laws.FaultLaws.{failing_faults}
-use Rattle.pt_rules.specs.Laws.Lawful.{does_lawful, fair_answer}
+use Rattle.pt_rules.specs.Laws.Lawful.{does_lawful_seat, does_lawful_tree, does_leave_beside, fair_answer}
 use Rattle.pt_rules.specs.Laws.SeatLaws.{own_allowed}
-use Rattle.pt_rules.specs.Laws.WellFormed.{well_formed}
 
 -- ---- by the table no call fails
 
@@ -116,7 +115,7 @@ does_fail host seat asked given after seat_after does =
 
 -- ---- what a call that is not Ok leaves
 
-left_tree : (tree after : Tree) (asked : Call) (given : HostReply) → IsNotOk given → Changes tree asked given after →
+left_tree : (tree after : Tree) (asked : Call) (given : HostReply) → IsNotOk given → TreeChanges tree asked given after →
     after ≡ tree_left tree asked
 left_tree tree after (call.Close fd) given not_ok changes = changes
 left_tree tree after asked (reply.Ok told) not_ok changes = absurd not_ok
@@ -127,12 +126,12 @@ left_tree tree after asked reply.NoMemory not_ok changes = changes
 left_seat : (seat after : HostSeat) (asked : Call) (given : HostReply) → IsNotOk given →
     SeatStep seat asked given after → after ≡ seat
 left_seat seat after asked (reply.Ok told) not_ok step = absurd not_ok
-left_seat seat after asked (reply.Refused errno) not_ok step = step.1
-left_seat seat after asked (reply.Fault errno) not_ok step = step
-left_seat seat after asked reply.NoMemory not_ok step = step
+left_seat seat after asked (reply.Refused errno) not_ok step = step.leaves
+left_seat seat after asked (reply.Fault errno) not_ok step = step.leaves
+left_seat seat after asked reply.NoMemory not_ok step = step.leaves
 
 left_contents : (tree later : Tree) (before after : Contents) (asked : Call) (given : HostReply) → IsNotOk given →
-    LawfulContents tree before asked given later after → KeepsAll tree before later after
+    LeavesBeside tree before asked given later after → KeepsAll tree before later after
 left_contents tree later before after asked (reply.Ok told) not_ok lawful = absurd not_ok
 left_contents tree later before after asked (reply.Refused errno) not_ok lawful = lawful
 left_contents tree later before after asked (reply.Fault errno) not_ok lawful = lawful
@@ -140,30 +139,21 @@ left_contents tree later before after asked reply.NoMemory not_ok lawful = lawfu
 
 module _ (host : State) (seat : HostSeat) (asked : Call) (given : HostReply) (after : State) (seat_after : HostSeat)
     (does : Does host seat asked given after seat_after) where
-  lawful_step : LawfulStep (tree_of host) seat asked given (tree_of after) seat_after
-  lawful_step =
-      let lawful = does_lawful host seat asked given after seat_after does (tree_of host) refl in
-      subst (λ (t : Tree).
-      LawfulStep (tree_of host) seat asked given t seat_after)
-      (sym (same_Some (tree_of after) lawful.0 lawful.1)) lawful.2
-
-  lawful_contents : LawfulContents (tree_of host) (contents_of host) asked given (tree_of after) (contents_of after)
-  lawful_contents =
-      let lawful = does_lawful host seat asked given after seat_after does (tree_of host) refl in
-      subst (λ (t : Tree). LawfulContents (tree_of host) (contents_of host) asked given t (contents_of after))
-      (sym (same_Some (tree_of after) lawful.0 lawful.1)) lawful.3
+  abbrev trees : LawfulTree (tree_of host) asked given (tree_of after)
+  trees = does_lawful_tree host seat asked given after seat_after does
 
   pub does_leave_tree : IsNotOk given → tree_of after ≡ tree_left (tree_of host) asked
-  does_leave_tree not_ok = left_tree (tree_of host) (tree_of after) asked given not_ok lawful_step.changes
+  does_leave_tree not_ok = left_tree (tree_of host) (tree_of after) asked given not_ok trees.changes
 
   pub does_leave_contents : IsNotOk given →
       KeepsAll (tree_of host) (contents_of host) (tree_of after) (contents_of after)
   does_leave_contents not_ok =
       left_contents (tree_of host) (tree_of after) (contents_of host)
-      (contents_of after) asked given not_ok lawful_contents
+      (contents_of after) asked given not_ok (does_leave_beside host seat asked given after seat_after does)
 
   pub does_leave_seat : IsNotOk given → seat_after ≡ seat
-  does_leave_seat not_ok = left_seat seat seat_after asked given not_ok lawful_step.seats
+  does_leave_seat not_ok = left_seat seat seat_after asked given not_ok
+      (does_lawful_seat host seat asked given after seat_after does)
 
   pub does_stay_well_formed : IsWellFormed (tree_of after)
-  does_stay_well_formed = lawful_step.well_formed (well_formed host does.sound)
+  does_stay_well_formed = trees.formed_after

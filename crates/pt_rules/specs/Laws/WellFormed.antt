@@ -1,19 +1,21 @@
 -- Proof. A sound state tells a well-formed tree.
-use Rattle.std.proofs.Common.{◌≡◌, ◌<◌, ◌^◌, ℕ, Bool, true, false, cond, length, Some, None, slice_get, subst, ap}
+use Rattle.std.proofs.Common.{◌≡◌, ◌<◌, ◌^◌, ℕ, Bool, true, false, cond, refl, List, length, Some, None, slice_get, subst, ap}
 use Rattle.std.proofs.Common.{sym, ◌∙◌, arith, drop, inr}
 use Rattle.std.proofs.lemmas.List.{length-map}
 use Rattle.std.proofs.lemmas.Option.{same_Some, slice_get_within, slice_get-map}
 use Rattle.std.proofs.lemmas.Nat.{from_le_bytes-to_le_bytes_8}
 use Rattle.std.specs.Int.{to_le_bytes, from_le_bytes, w64}
-use Rattle.pt_host.specs.Tree.{Object, Opened, IsObject, IsOpenOn, IsWellFormed}
+use Rattle.pt_host.specs.Tree.{Object, Opened, IsObject, IsOpenOn, IsWellFormed, directory_kind}
 use Rattle.pt_host.specs.declared.handle.CFileHandle.{CFileHandle}
 use Rattle.pt_host.specs.declared.ids.Fd.{Fd}
 use Rattle.pt_rules.specs.Holds.{HasHold}
 use Rattle.pt_node.specs.Names.{found}
-use Rattle.pt_node.specs.Node.{names_in, object_of, handle_of}
+use Rattle.pt_node.specs.Node.{names_in, kind_number, object_of, handle_of}
 use Rattle.pt_node.specs.Slots.{open_at}
 use Rattle.pt_rules.specs.State.{State, tree_of, opened_as}
 use Rattle.pt_rules.specs.Sound.{IsSound}
+use Rattle.pt_node.specs.declared.node.Content.{Content}
+use Rattle.pt_node.specs.declared.node.Content.TheVariants.{Directory}
 use Rattle.pt_node.specs.declared.node.Node.{Node}
 use Rattle.pt_node.specs.declared.slots.OpenFile.{OpenFile}
 use Rattle.pt_rules.specs.Laws.Alive.{lives_held}
@@ -73,6 +75,12 @@ open_on_lives state fd object (open_as, is, same) =
     let file = file_of_open state fd.0 open_as is in
     inr (inr (fd.0, file.0, file.1, ap (λ (o : Opened). o.object) file.2 ∙ same))
 
+-- what a name leads from is a directory
+kind_named : (name : List ℕ) (object : ℕ) (content : Content) → found name (names_in content) ≡ Some object →
+    kind_number content ≡ directory_kind
+kind_named name object (Directory names) there = refl
+kind_named name object content there = cc
+
 pub well_formed : (state : State) → IsSound state → IsWellFormed (tree_of state)
 well_formed state sound = record {
   named = λ dir name object is.
@@ -82,6 +90,12 @@ well_formed state sound = record {
         subst (λ n. dir < n) (sym (length-map state.nodes object_of)) within,
         subst (λ n. object < n) (sym (length-map state.nodes object_of)) named,
       );
+  directories = λ dir name object what is at_dir.
+      let named = and_then_some (λ node. found name (names_in node.content)) (slice_get state.nodes dir) object is in
+      let told = node_of state dir what at_dir in
+      let same : told.0 ≡ named.0 = same_Some told.0 named.0 (sym told.1 ∙ named.1) in
+      sym (ap (λ (o : Object). o.kind) told.2) ∙ ap (λ (n : Node). kind_number n.content) same
+      ∙ kind_named name object named.0.content named.2;
   opened = λ fd open_as is.
       let file = file_of_open state fd open_as is in
       subst (λ n. open_as.object < n) (sym (length-map state.nodes object_of))

@@ -4,6 +4,7 @@ use Rattle.pt_host.specs.Call.{call_of}
 use Rattle.pt_rules.specs.Does.{Does}
 use Rattle.pt_rules.specs.State.{State}
 use Rattle.pt_store.specs.StoreState.{state_of}
+use Rattle.pt_rules.specs.Laws.Lawful.{does_leave_beside}
 use Rattle.pt_rules.specs.Laws.Unchanged.{does_count, does_fail, does_leave_contents, does_leave_seat}
 use Rattle.pt_rules.specs.Laws.Unchanged.{does_leave_tree, does_stay_well_formed}
 use Rattle.pt_tree.proofs.host.TreeHostHost.call.Goals as goal
@@ -26,6 +27,9 @@ returns-clause-tree c = does_leave_tree _ _ _ _ _ _ (returns-clause-does c)
 
 pub returns-clause-contents : goal.returns-clause-contents
 returns-clause-contents c = does_leave_contents _ _ _ _ _ _ (returns-clause-does c)
+
+pub returns-clause-beside : goal.returns-clause-beside
+returns-clause-beside c = does_leave_beside _ _ _ _ _ _ (returns-clause-does c)
 
 pub returns-clause-seat : goal.returns-clause-seat
 returns-clause-seat c = does_leave_seat _ _ _ _ _ _ (returns-clause-does c)
