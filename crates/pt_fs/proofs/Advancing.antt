@@ -9,7 +9,7 @@ use Rattle.pt_req.specs.declared.act.ActReply.{ActReply}
 use Rattle.pt_req.specs.declared.act.ActReply.TheVariants.{Event, Host, NoCopy}
 use Rattle.pt_req.specs.declared.finish.Finish.{Finish}
 use Rattle.pt_law.proofs.Told.{Promises, bytes_told}
-use Rattle.pt_fs.specs.Advances.{IsWanted, IsTold, Advances}
+use Rattle.pt_fs.specs.Advances.{IsWanted, IsShown, Advances}
 use Rattle.pt_fs.specs.Trace.{no_seat, MadeFrom}
 
 module _ {H : Type 0} (does : Does H) (faults : H → ℕ) (promises : Promises does faults) where
@@ -43,7 +43,7 @@ module _ {H : Type 0} (does : Does H) (faults : H → ℕ) (promises : Promises 
       Grammar) (kept : Option Deed) (reply shown : ActReply) (host : H) (seat : HostSeat) (tables : Tables)
       (host' : H) (seat' : HostSeat) (tables' : Tables) →
       IsWanted (Do deed owed next) kept → Made does kept reply host seat tables host' seat' tables' →
-      IsTold reply shown → IsStepOf deed kept shown
+      IsShown reply shown → IsStepOf deed kept shown
   is_step deed owed next (Some same) reply shown host seat tables host' seat' tables' wanted made (inl e) =
       subst (λ (r : ActReply).
       IsStepOf deed (Some same) r) (sym e)
@@ -64,7 +64,7 @@ module _ {H : Type 0} (does : Does H) (faults : H → ℕ) (promises : Promises 
       Grammar) (kept : Option Deed) (reply shown : ActReply) (host : H) (seat : Option HostSeat) (tables : Tables)
       (host' : H) (seat' : Option HostSeat) (tables' : Tables) →
       IsWanted (Do deed owed next) kept → MadeFrom does kept reply host seat tables host' seat' tables' →
-      IsTold reply shown → IsStepOf deed kept shown
+      IsShown reply shown → IsStepOf deed kept shown
   is_step_from deed owed next kept reply shown host (Some seat) tables host' (Some seat') tables' wanted made t =
       is_step deed owed next kept reply shown host seat tables host' seat' tables' wanted made t
   is_step_from deed owed next kept reply shown host None tables host' None tables' wanted made t =
@@ -74,7 +74,7 @@ module _ {H : Type 0} (does : Does H) (faults : H → ℕ) (promises : Promises 
 
   pub advanced : (old new : Grammar) (kept : Option Deed) (reply shown told : ActReply) (host : H)
       (seat : Option HostSeat) (tables : Tables) (host' : H) (seat' : Option HostSeat) (tables' : Tables) →
-      IsWanted old kept → MadeFrom does kept reply host seat tables host' seat' tables' → IsTold reply shown →
+      IsWanted old kept → MadeFrom does kept reply host seat tables host' seat' tables' → IsShown reply shown →
       told ≡ shown →
       ((steps : List Step) (end : Finish) → Belongs new steps end → Belongs (after told old) steps end) →
       Advances old kept shown new

@@ -19,7 +19,7 @@ use Rattle.pt_req.specs.declared.plan.Plan.{Plan}
 use Rattle.pt_req.proofs.Determined.{jobs_determined}
 use Rattle.pt_fs.specs.Determined.{RanInOrder, TurnsAreDetermined}
 use Rattle.pt_fs.specs.Jobs.{job_seat, asked_of}
-use Rattle.pt_fs.specs.Trace.{Runs, AnswersEach, seated, steps_by}
+use Rattle.pt_fs.specs.Trace.{TraceRuns, AnswersEach, seated, steps_by}
 use Rattle.pt_fs.specs.declared.job.Job.{Job}
 use Rattle.pt_fs.specs.declared.trace.TraceStep.{TraceStep}
 use Rattle.pt_fs.proofs.Ended.{belongs_by}
@@ -56,7 +56,7 @@ full_at (told ∷ answers) w (suc j) = full_at answers w.1 j
 -- a place past the seats makes no step
 none_beyond : {H : Type 0} (does : Does H) (trace : List TraceStep) (host host' : H)
     (seats seats' : List (Option HostSeat)) (tables tables' : Tables) →
-    Runs does trace host seats tables host' seats' tables' → (j : ℕ) → length seats ≤ j → steps_by j trace ≡ []
+    TraceRuns does trace host seats tables host' seats' tables' → (j : ℕ) → length seats ≤ j → steps_by j trace ≡ []
 none_beyond does [] host host' seats seats' tables tables' r j past = refl
 none_beyond does (step ∷ trace) host host' seats seats' tables tables' r j past =
     let made = r.3 in

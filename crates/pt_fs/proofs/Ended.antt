@@ -14,7 +14,7 @@ use Rattle.pt_req.specs.declared.plan.Plan.{Plan}
 use Rattle.pt_req.proofs.Ending.{calm}
 use Rattle.pt_fs.specs.Each.{IsStarted, EachStarted, EachAnswered, EndsAs, answer_of}
 use Rattle.pt_fs.specs.Jobs.{job_seat, asked_of, IsAnsweredBy}
-use Rattle.pt_fs.specs.Order.{rest_of, owner, count_of, total, Fits, Owns}
+use Rattle.pt_fs.specs.Order.{rest_of, owner, count_of, with_left, MayBeLeft, Owns}
 use Rattle.pt_fs.specs.Owing.{Owing, run_seat}
 use Rattle.pt_fs.specs.Took.{IsFinishedAt}
 use Rattle.pt_fs.specs.Trace.{AnswersEach, IsBounded, steps_by}
@@ -187,11 +187,11 @@ pub order_kept : (o : (ℕ → ℕ) → List ℕ) (running running' : List Runni
     ((j : ℕ) → IsFinishedAt running' j) → Owns o running steps (rest_of 0 jobs) running' →
     map owner steps ≡ o (count_of steps)
 order_kept o running running' steps jobs finished owns =
-    let none : Fits (λ _. 0) running' = record {
+    let none : MayBeLeft (λ _. 0) running' = record {
       ended = λ j run at end. refl;
       going = λ j run at end. let no : true ≡ false = sym (finished j run at) ∙ end in absurd (cc);
       beyond = λ j past. refl;
     } in
-    let e : total steps (λ _. 0) ≡ count_of steps =
-    same_function (total steps (λ _. 0)) (count_of steps) (λ j. omega arith) in
+    let e : with_left steps (λ _. 0) ≡ count_of steps =
+    same_function (with_left steps (λ _. 0)) (count_of steps) (λ j. omega arith) in
     sym (append-nil (map owner steps)) ∙ sym (owns (λ _. 0) none).1 ∙ ap o e

@@ -13,11 +13,12 @@ use Rattle.pt_req.specs.Made.{Does}
 use Rattle.pt_req.specs.Pattern.{grammar_for, bound_for}
 use Rattle.pt_req.specs.declared.plan.Plan.{Plan}
 use Rattle.pt_fs.specs.Jobs.{asked_of}
-use Rattle.pt_fs.specs.Goes.{Goes}
+use Rattle.pt_fs.specs.GoesOn.{GoesOn}
 use Rattle.pt_fs.specs.Order.{order, rest_of, Owns}
 use Rattle.pt_fs.specs.Owing.{Owing, run_seat}
 use Rattle.pt_fs.specs.Took.{Took, TookOrStays, IsFinishedAt, IsUnfinished, steps_left_at}
 use Rattle.pt_fs.specs.Trace.{step_of, steps_by, closings_told, told_by}
+use Rattle.pt_fs.specs.Work.{work}
 use Rattle.pt_fs.specs.declared.job.Job.{Job}
 use Rattle.pt_fs.specs.declared.running.Running.{Running}
 use Rattle.pt_fs.specs.declared.trace.TraceStep.{TraceStep}
@@ -87,9 +88,12 @@ owing_took does plan place host host' running running' tables tables' trace trac
           ];
     }
 
+same_work : (left : ℕ) → 0 + left ≤ left
+same_work left = omega arith
+
 pub goes_none : {H : Type 0} (does : Does H) (plan : Plan) (order : (ℕ → ℕ) →
     List ℕ) (host : H) (running : List Running) (tables : Tables) (trace : List TraceStep) →
-    Goes does plan order host running tables trace order host running tables trace
+    GoesOn does plan order host running tables trace order host running tables trace
 goes_none does plan order host running tables trace =
     record {
       steps = [];
@@ -97,12 +101,13 @@ goes_none does plan order host running tables trace =
       runs = (refl, refl, refl);
       owing = λ jobs owing. owing;
       owns = owns_none order running;
+      spent = omega arith;
     }
 
 pub goes_on : {H : Type 0} (does : Does H) (plan plan1 : Plan) (o0 o1 o2 : (ℕ → ℕ) →
     List ℕ) (h0 h1 h2 : H) (s0 s1 s2 : List Running) (r0 r1 r2 : Tables) (t0 t1 t2 : List TraceStep) → plan1 ≡ plan →
-    Goes does plan o0 h0 s0 r0 t0 o1 h1 s1 r1 t1 → Goes does plan1 o1 h1 s1 r1 t1 o2 h2 s2 r2 t2 →
-    Goes does plan o0 h0 s0 r0 t0 o2 h2 s2 r2 t2
+    GoesOn does plan o0 h0 s0 r0 t0 o1 h1 s1 r1 t1 → GoesOn does plan1 o1 h1 s1 r1 t1 o2 h2 s2 r2 t2 →
+    GoesOn does plan o0 h0 s0 r0 t0 o2 h2 s2 r2 t2
 goes_on does plan plan1 o0 o1 o2 h0 h1 h2 s0 s1 s2 r0 r1 r2 t0 t1 t2 same first second = record {
   steps = first.steps ++ second.steps;
   longer = second.longer ∙ ap (λ t. t ++ second.steps) first.longer ∙ append_assoc t0 first.steps second.steps;
@@ -113,6 +118,11 @@ goes_on does plan plan1 o0 o1 o2 h0 h1 h2 s0 s1 s2 r0 r1 r2 t0 t1 t2 same first 
       Owing p jobs s2 t2) same
       (second.owing jobs (subst (λ (p : Plan). Owing p jobs s1 t1) (sym same) (first.owing jobs owing)));
   owns = owns_on o0 o1 o2 s0 s1 s2 first.steps second.steps first.owns second.owns;
+  spent =
+      let both = length-append first.steps second.steps in
+      let one = first.spent in
+      let two = second.spent in
+      omega (arith, both, one, two);
 }
 
 -- a step that was taken, where the orders before and after it agree with it
@@ -120,7 +130,7 @@ pub goes_took : {H : Type 0} (does : Does H) (plan : Plan) (place : ℕ) (o o' :
     List ℕ) (host host' : H) (running running' : List Running) (tables tables' : Tables) (trace trace' : List TraceStep)
     (took : Took does plan place host running tables trace host' running' tables' trace') →
     Owns o running (took.step ∷ []) o' (slice_set running place took.run') →
-    Goes does plan o host running tables trace o' host' running' tables' trace'
+    GoesOn does plan o host running tables trace o' host' running' tables' trace'
 goes_took does plan place o o' host host' running running' tables tables' trace trace' took owns = record {
   steps = took.step ∷ [];
   longer = took.longer;
@@ -141,13 +151,14 @@ goes_took does plan place o o' host host' running running' tables tables' trace 
   );
   owing = owing_took does plan place host host' running running' tables tables' trace trace' took;
   owns = rw took.is owns;
+  spent = let less = took.spent in omega (arith, less);
 }
 
 -- a place of the schedule, whether it names an unfinished job or not
 pub goes_place : {H : Type 0} (does : Does H) (plan : Plan) (place : ℕ) (places : List ℕ) (jobs : ℕ) (host host' : H)
     (running running' : List Running) (tables tables' : Tables) (trace trace' : List TraceStep)
     → TookOrStays does plan place host running tables trace host' running' tables' trace' →
-    Goes does plan (order (place ∷ places) jobs) host running tables trace
+    GoesOn does plan (order (place ∷ places) jobs) host running tables trace
     (order places jobs) host' running' tables' trace'
 goes_place does plan place places jobs host host' running running' tables tables' trace trace' (inl took) =
     goes_took does plan place (order (place ∷ places) jobs)
@@ -159,13 +170,14 @@ goes_place does plan place places jobs host host' running running' tables tables
   runs = (stays.1, ap (map run_seat) stays.2, stays.3);
   owing = λ jobs owing. rw (stays.2, stays.4) owing;
   owns = rw stays.2 (owns_idle place places jobs running stays.0);
+  spent = rw (stays.2, stays.3) (same_work (work running tables));
 }
 
 -- a step of the first of the jobs that take all their steps
 pub goes_first : {H : Type 0} (does : Does H) (plan : Plan) (place jobs : ℕ) (host host' : H)
     (running running' : List Running) (tables tables' : Tables) (trace trace' : List TraceStep)
     → Took does plan place host running tables trace host' running' tables' trace' →
-    Goes does plan (rest_of (suc jobs) place) host running tables trace
+    GoesOn does plan (rest_of (suc jobs) place) host running tables trace
     (rest_of (suc jobs) place) host' running' tables' trace'
 goes_first does plan place jobs host host' running running' tables tables' trace trace' took =
     goes_took does plan place (rest_of (suc jobs) place)
@@ -176,7 +188,7 @@ goes_first does plan place jobs host host' running running' tables tables' trace
 pub goes_next : {H : Type 0} (does : Does H) (plan : Plan) (place jobs : ℕ) (host : H) (running : List Running)
     (tables : Tables) (trace : List TraceStep)
     → IsFinishedAt running place →
-    Goes does plan (rest_of (suc jobs) place) host running tables trace
+    GoesOn does plan (rest_of (suc jobs) place) host running tables trace
     (rest_of jobs (place + 1)) host running tables trace
 goes_next does plan place jobs host running tables trace finished = record {
   steps = [];
@@ -184,6 +196,7 @@ goes_next does plan place jobs host running tables trace finished = record {
   runs = (refl, refl, refl);
   owing = λ jobs owing. owing;
   owns = owns_next jobs place running finished;
+  spent = same_work (work running tables);
 }
 
 -- who has finished stays so

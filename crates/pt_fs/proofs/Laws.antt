@@ -9,7 +9,7 @@ use Rattle.std.specs.Prelude.{slice_get}
 use Rattle.pt_host.specs.Words.{Each}
 use Rattle.pt_host.specs.declared.seat.HostSeat.{HostSeat}
 use Rattle.pt_host.specs.Tree.{Tree, IsWellFormed}
-use Rattle.pt_session.specs.Tables.{Tables, empty_tables}
+use Rattle.pt_session.specs.Tables.{Tables, Agree, empty_tables}
 use Rattle.pt_iface.specs.declared.answer.Answer.{Answer}
 use Rattle.pt_iface.specs.declared.answer.Answer.TheVariants as answer
 use Rattle.pt_iface.specs.declared.request.Request.TheVariants as request
@@ -21,25 +21,33 @@ use Rattle.pt_req.specs.declared.finish.Finish.{Finish}
 use Rattle.pt_req.specs.declared.finish.Finish.TheVariants as finish
 use Rattle.pt_req.specs.declared.plan.Plan.{Plan}
 use Rattle.pt_law.specs.Told.{AllMayBeTold}
-use Rattle.pt_law.specs.Laws.{AreKept, AreAnswered, AreEnded, AreDisciplined, Starts, SlotsAddUp, IsAtRest}
-use Rattle.pt_law.specs.World.{Turn, TablesRun, HostRuns, steps_of}
+use Rattle.pt_law.specs.Laws.{AreKept, AreAnswered, AreEnded, AreDisciplined, Starts, SlotsAddUp, IsAtRest, BeginsFirst}
+use Rattle.pt_law.specs.Ledger.{slots_taken, slots_given}
+use Rattle.pt_law.specs.Entered.{name_asked}
+use Rattle.pt_law.specs.World.{Turn, TablesRun, HostRuns, Runs as WorldRuns, steps_of}
 use Rattle.pt_law.proofs.Told.{Promises}
 use Rattle.pt_law.proofs.Hosts.{Tells, hosts_tables, hosts_told, hosts_ended, hosts_world}
-use Rattle.pt_law.proofs.Laws.{counts_law, once_law, slots_law, rest_law, ended_jobs, distinct_law, object_law}
+use Rattle.pt_law.proofs.Laws.{agree_law, counts_law, once_law, slots_law, rest_law, ended_jobs, distinct_law, object_law}
 use Rattle.pt_law.proofs.Laws.{handles_law, kept_law, leaves_law}
 use Rattle.pt_law.proofs.Standing.{standing_law}
 use Rattle.pt_law.proofs.HandlesOnce.{handles_once_law}
-use Rattle.pt_law.proofs.Overtaking.{overtaken_law}
+use Rattle.pt_law.proofs.Overtaking.{overtaken_law, shut_out_law}
 use Rattle.pt_law.proofs.Interleaving.{tables_split}
 use Rattle.pt_law.proofs.Next.{named_law}
-use Rattle.pt_law.proofs.Entries.{entered_law}
+use Rattle.pt_law.proofs.Entries.{entered_law, two_lookups_law}
+use Rattle.pt_law.proofs.Tracing.{origins_law}
+use Rattle.pt_law.proofs.Cuts.{runs_split}
+use Rattle.pt_law.proofs.Beginning.{job_first}
+use Rattle.pt_law.proofs.OnlyLookups.{entry_asked}
+use Rattle.pt_law.proofs.Next.{owner_of}
 use Rattle.pt_law.proofs.Asked.{job_ends, job_caused}
-use Rattle.pt_law.proofs.Settled.{settled}
+use Rattle.pt_law.proofs.Returned.{all_settled}
 use Rattle.pt_fs.specs.Jobs.{asked_of, job_seat}
-use Rattle.pt_fs.specs.Trace.{Runs, AnswersEach, steps_by, step_of}
+use Rattle.pt_fs.specs.Trace.{TraceRuns, AnswersEach, steps_by, step_of}
 use Rattle.pt_fs.specs.Keeps.{turn_of, turns_of, AfterEach, AfterEachTold, LeadsOn, begins_in, KeepsObjects}
-use Rattle.pt_fs.specs.Keeps.{KeepsCounts, KeepsHandles, ServesEach, InsertsOnce, OvertakenAsTold, OfEachJob}
-use Rattle.pt_fs.specs.Keeps.{GivesBack, IsCausedIn, IsNamedIn, NamesOpenOnes, LeavesOpen}
+use Rattle.pt_fs.specs.Keeps.{KeepsCounts, KeepsHandles, ServesEach, InsertsOnce, OvertakenAsTold, ShutsOut, OfEachJob}
+use Rattle.pt_fs.specs.Keeps.{GivesAllBack, IsCausedIn, IsNamedIn, NamesOpenOnes, LeavesOpen, ReachesEach}
+use Rattle.pt_fs.specs.Keeps.{AgreeOnNumbers, ComeFromNames}
 use Rattle.pt_fs.specs.declared.job.Job.{Job}
 use Rattle.pt_fs.specs.declared.trace.TraceStep.{TraceStep}
 use Rattle.pt_fs.proofs.Ended.{one_for_each, at_below, belongs_by}
@@ -51,7 +59,7 @@ use Rattle.pt_fs.specs.declared.running.Running.{Running}
 -- the seats aside, a trace is a run of its host
 pub host_runs : {H : Type 0} (does : Does H) (trace : List TraceStep) (host : H) (seats : List (Option HostSeat))
     (tables : Tables) (host' : H) (seats' : List (Option HostSeat)) (tables' : Tables) →
-    Runs does trace host seats tables host' seats' tables' → HostRuns does (turns_of trace) host tables host' tables'
+    TraceRuns does trace host seats tables host' seats' tables' → HostRuns does (turns_of trace) host tables host' tables'
 host_runs does [] host seats tables host' seats' tables' r = (r.0, r.2)
 host_runs does (step ∷ trace) host seats tables host' seats' tables' r =
     let at = r.3 in
@@ -62,7 +70,7 @@ host_runs does (step ∷ trace) host seats tables host' seats' tables' r =
 pub owners_below : {H : Type 0} (does : Does H) (bound : ℕ) (trace : List TraceStep) (host : H)
     (seats : List (Option HostSeat)) (tables : Tables) (host' : H) (seats' : List (Option HostSeat))
     (tables' : Tables) →
-    length seats ≡ bound → Runs does trace host seats tables host' seats' tables' →
+    length seats ≡ bound → TraceRuns does trace host seats tables host' seats' tables' →
     Each (λ turn. turn.job < bound) (turns_of trace)
 owners_below does bound [] host seats tables host' seats' tables' e r = tt
 owners_below does bound (step ∷ trace) host seats tables host' seats' tables' e r =
@@ -89,7 +97,7 @@ pub record Ran {H : Type 0} (does : Does H) (plan : Plan) (limit : ℕ) (jobs : 
     (trace : List TraceStep) (answers : List Answer) (host' : H) (tables' : Tables) : Type 0 where
   pub seats : List (Option HostSeat)
   pub seats' : List (Option HostSeat)
-  pub runs : Runs does trace host seats tables host' seats' tables'
+  pub runs : TraceRuns does trace host seats tables host' seats' tables'
   pub one_each : length seats ≡ length jobs
   pub answered : AnswersEach plan jobs trace answers
   pub begins : tables ≡ empty_tables limit
@@ -142,10 +150,20 @@ pub record Keeps (limit : ℕ) (jobs : List Job) (tables : Tables) (trace : List
   pub handles : AfterEach tables trace KeepsHandles
   pub once : InsertsOnce trace
   pub overtaken : OvertakenAsTold trace
+  pub shut_out : ShutsOut trace
+  pub reached : ReachesEach tables trace tables'
+  pub agree : AfterEach tables trace (λ so_far now. Agree now)
   pub slots : AfterEach tables trace (SlotsAddUp limit (length jobs))
   pub rest : IsAtRest limit (length jobs) (turns_of trace) tables'
-  pub gives_back : OfEachJob jobs answers (GivesBack trace)
+  pub gives_back : OfEachJob jobs answers (GivesAllBack trace)
   pub causes : OfEachJob jobs answers (IsCausedIn trace)
+
+first_of : (plan : Plan) (jobs : List Job) (trace : List TraceStep) (answers : List Answer) →
+    AnswersEach plan jobs trace answers → Each (λ turn. turn.job < length jobs) (turns_of trace) → (j : ℕ) →
+    j < length jobs → BeginsFirst (steps_of j (turns_of trace))
+first_of plan jobs trace answers each owners j below =
+    let a = answered_in plan jobs trace answers each owners in
+    job_first plan (asked_at jobs j) (steps_of j (turns_of trace)) (end_at answers j) (a.jobs j below)
 
 pub keeps : {H : Type 0} (does : Does H) (faults : H → ℕ) → Promises does faults →
     (plan : Plan) (limit : ℕ) (jobs : List Job) (host : H) (tables : Tables) (trace : List TraceStep)
@@ -160,6 +178,9 @@ keeps does faults p plan limit jobs host tables trace answers host' tables' ran 
     TablesRun t turns now) begins r in
     let whole = from_empty (turns_of trace) tables'
     (hosts_tables does (turns_of trace) host tables host' tables' runs) in
+    let owners = owners_below does
+    (length jobs) trace host ran.seats tables host' ran.seats' tables' ran.one_each ran.runs in
+    let rest = rest_law limit (length jobs) (turns_of trace) tables' ended whole in
     let told = λ (j : ℕ).
     subst AllMayBeTold (steps_same j trace)
     (hosts_told does faults p j (turns_of trace) host tables host' tables' runs) in
@@ -184,11 +205,34 @@ keeps does faults p plan limit jobs host tables trace answers host' tables' ran 
       slots = λ so_far rest now e r.
           slots_law limit (length jobs) (turns_of so_far) (turns_of rest) now
           (cut_at (length jobs) trace so_far rest e disciplined) (from_empty (turns_of so_far) now r);
-      rest = rest_law limit (length jobs) (turns_of trace) tables' ended whole;
+      rest = rest;
+      shut_out = λ so_far rest step e taken given.
+          let run = subst (λ (turns : List Turn). TablesRun (empty_tables limit) turns tables') (ap turns_of e
+          ∙ turns-append so_far (step ∷ rest)) whole in
+          let cut = tables_split (turns_of so_far) (turn_of step ∷ turns_of rest) (empty_tables limit) tables' run in
+          let d = cut_at (length jobs) trace so_far (step ∷ rest) e disciplined in
+          let first = first_of plan jobs trace answers ran.answered owners step.job
+          (owner_of (length jobs) (turns_of so_far) (turn_of step) (turns_of rest) d.owners) in
+          shut_out_law limit (length jobs) (turns_of so_far) (turn_of step) (turns_of rest) cut.0 cut.2.0
+          (subst (λ (turns : List Turn). BeginsFirst (steps_of step.job turns)) (ap turns_of e
+          ∙ turns-append so_far (step ∷ rest)) first) d cut.1 cut.2.1 taken given;
+      reached = λ so_far rest e.
+          tables_split (turns_of so_far) (turns_of rest) tables tables'
+          (subst (λ (turns : List Turn). TablesRun tables turns tables') (ap turns_of e ∙ turns-append so_far rest)
+          (hosts_tables does (turns_of trace) host tables host' tables' runs));
+      agree = λ so_far rest now e r. agree_law limit (turns_of so_far) now (from_empty (turns_of so_far) now r);
       gives_back = λ j job answer at told_at.
           let b = belongs_by plan job (steps_by j trace) answer (ran.answered.in_pattern j job answer at told_at) in
           let ends = job_ends plan (asked_of job) (steps_by j trace) (finish.Answer answer) (told j) b in
-          record { settled = λ number. settled number (steps_by j trace) (finish.Answer answer) ends; ends = ends };
+          let below = slice_get_within jobs j job at in
+          record {
+            settled = all_settled (steps_by j trace) (finish.Answer answer) ends;
+            slots = subst (λ (steps : List Step). slots_taken steps ≡ slots_given steps) (steps_same j trace)
+                (let none = rest.carried j below in
+                let most = (slots_law limit (length jobs) (turns_of trace) [] tables'
+                (rw append-nil disciplined) whole).taken j below in
+                omega (arith, none, most));
+          };
       causes = λ j job answer at told_at.
           job_caused plan (asked_of job) (steps_by j trace) answer (told j)
           (belongs_by plan job (steps_by j trace) answer (ran.answered.in_pattern j job answer at told_at));
@@ -204,19 +248,26 @@ pub record KeepsTold (plan : Plan) (jobs : List Job) (told : Option Tree) (table
   pub named : NamesOpenOnes told tables trace
   pub leaves : LeavesOpen told tables trace
   pub entries : OfEachJob jobs answers (IsNamedIn plan told tables trace)
+  pub two_lookups : AgreeOnNumbers plan told tables trace
+  pub origins : AfterEachTold told tables trace ComeFromNames
 
 entered_by : (limit : ℕ) (plan : Plan) (jobs : List Job) (told : Option Tree) (tables : Tables)
     (trace : List TraceStep) → tables ≡ empty_tables limit → AreDisciplined (length jobs) (turns_of trace) →
-    (j : ℕ) (job : Job) (given : Answer) → j < length jobs →
+    (j : ℕ) (job : Job) (given : Answer) →
     Belongs (grammar_for plan (asked_of job)) (steps_of j (turns_of trace)) (finish.Answer given) →
     IsNamedIn plan told tables trace j job given
-entered_by limit plan jobs told tables trace begins disciplined j job (answer.Entry entry) below b =
-    λ parent name asked tree is well end runs.
-    entered_law limit (length jobs) plan (turns_of trace) (begins_in tree tables) end j parent name entry
-    (record { tables = begins; well_formed = well; past = refl }) disciplined runs below
-    (subst (λ (r : Asked).
-    Belongs (grammar_for plan r) (steps_of j (turns_of trace)) (finish.Answer (answer.Entry entry))) asked b)
-entered_by limit plan jobs told tables trace begins disciplined j job given below b = tt
+entered_by limit plan jobs told tables trace begins disciplined j job (answer.Entry entry) b =
+    let named = entry_asked plan (asked_of job) (steps_of j (turns_of trace)) entry b in (
+      named.0,
+      named.1,
+      ap name_asked named.2,
+      (λ tree is well.
+          entered_law limit (length jobs) plan (turns_of trace) (begins_in tree tables) j named.0 named.1 entry
+          (record { tables = begins; well_formed = well; past = refl }) disciplined
+          (subst (λ (r : Asked).
+          Belongs (grammar_for plan r) (steps_of j (turns_of trace)) (finish.Answer (answer.Entry entry))) named.2 b)),
+    )
+entered_by limit plan jobs told tables trace begins disciplined j job given b = tt
 
 pub keeps_told : {H : Type 0} (does : Does H) (tree : H → Option Tree) (faults : H → ℕ) → Promises does faults →
     Tells does tree → (plan : Plan) (limit : ℕ) (jobs : List Job) (host : H) (tables : Tables)
@@ -231,7 +282,23 @@ keeps_told does tree faults p tells plan limit jobs host tables trace answers ho
     record { tables = ran.begins; well_formed = well; past = refl } in s in
     record {
       leads_on = λ t is well.
-          hosts_world does tree faults p tells (turns_of trace) (begins_in t tables) host host' tables' is runs;
+          let w = hosts_world does tree faults p tells (turns_of trace) (begins_in t tables) host host' tables' is runs in (
+            w.0,
+            w.1,
+            w.2,
+            w.3,
+            (λ so_far rest e.
+                runs_split (turns_of so_far) (turns_of rest) (begins_in t tables) w.0
+                (subst (λ (turns : List Turn). WorldRuns (begins_in t tables) turns w.0)
+                (ap turns_of e ∙ turns-append so_far rest) w.3)),
+          );
+      two_lookups = λ t is well job other parent folder name child entry another one two between first second object.
+          two_lookups_law limit (length jobs) (turns_of trace) [] (begins_in t tables) first second job other parent
+          folder name child entry.inode another.inode one.looked_up.stat.ids two.looked_up.stat.ids between object
+          one.given two.given (starts t well) (rw append-nil disciplined);
+      origins = λ t is well so_far rest now e r number object.
+          origins_law limit (length jobs) (turns_of so_far) (turns_of rest) (begins_in t tables) now number object
+          (starts t well) (cut_at (length jobs) trace so_far rest e disciplined) r;
       distinct = λ t is well so_far rest now e r.
           let d = cut_at (length jobs) trace so_far rest e disciplined in
           record {
@@ -254,7 +321,6 @@ keeps_told does tree faults p tells plan limit jobs host tables trace answers ho
           leaves_law limit (length jobs) (turns_of trace) (begins_in t tables) end (starts t well) ended r;
       entries = λ j job given at told_at.
           entered_by limit plan jobs (tree host) tables trace ran.begins disciplined j job given
-          (slice_get_within jobs j job at)
           (rw (steps_same j trace)
           (belongs_by plan job (steps_by j trace) given (ran.answered.in_pattern j job given at told_at)));
     }

@@ -19,10 +19,10 @@ use Rattle.pt_req.specs.declared.act.KeptAct.{KeptAct}
 use Rattle.pt_req.specs.declared.act.KeptAct.TheVariants as kept
 use Rattle.pt_req.specs.declared.finish.Finish.{Finish}
 use Rattle.pt_req.proofs.Determined.{whole_step, leads}
-use Rattle.pt_fs.specs.Order.{lowered, rest_of, order, owner, count_of, total}
-use Rattle.pt_fs.specs.Trace.{no_seat, MadeFrom, Runs, MadeAt, step_of, steps_by}
+use Rattle.pt_fs.specs.Order.{lowered, rest_of, order, owner, count_of, with_left}
+use Rattle.pt_fs.specs.Trace.{no_seat, MadeFrom, TraceRuns, MadeAt, step_of, steps_by}
 use Rattle.pt_fs.specs.declared.trace.TraceStep.{TraceStep}
-use Rattle.pt_fs.proofs.Orders.{same_function, count_of-append, total_same, lowered-total, rest_other}
+use Rattle.pt_fs.proofs.Orders.{same_function, count_of-append, with_left_same, lowered-with_left, rest_other}
 use Rattle.pt_fs.proofs.Traces.{length-steps_by}
 
 -- no step lacked memory
@@ -193,7 +193,7 @@ pub record IsRest {H : Type 0} (does : Does H) (left : ℕ → Grammar) (ends : 
   pub belongs : (j : ℕ) → Belongs (left j) (steps_by j trace) (ends j)
   pub full : (j : ℕ) → IsAnsweredInFull (ends j)
   pub found : Each Found trace
-  pub runs : Runs does trace from.host from.seats from.tables to.host to.seats to.tables
+  pub runs : TraceRuns does trace from.host from.seats from.tables to.host to.seats to.tables
 
 -- what is left of each job after a step
 abbrev left_after : TraceStep → (ℕ → Grammar) → ℕ → Grammar
@@ -383,9 +383,9 @@ only_place {H} does one owners served passed place serves passes trace go skip l
       ∙ passes (count_of trace') quiet')
 ]
 
-count_first : (step : TraceStep) (trace : List TraceStep) → count_of (step ∷ trace) ≡ total (step ∷ []) (count_of trace)
+count_first : (step : TraceStep) (trace : List TraceStep) → count_of (step ∷ trace) ≡ with_left (step ∷ []) (count_of trace)
 count_first step trace =
-    same_function (count_of (step ∷ trace)) (total (step ∷ []) (count_of trace)) (λ j.
+    same_function (count_of (step ∷ trace)) (with_left (step ∷ []) (count_of trace)) (λ j.
     count_of-append (step ∷ []) trace j)
 
 order_own : (place : ℕ) (places : List ℕ) (jobs : ℕ) (left : ℕ → ℕ) → 0 < left place →
@@ -406,7 +406,7 @@ serves_place place places jobs (step ∷ trace) some is =
     let others : map owner trace ≡ order places jobs (lowered (count_of (step ∷ trace)) place) = cc in
     let fewer : lowered (count_of (step ∷ trace)) place ≡ count_of trace =
     ap (λ (left : ℕ → ℕ). lowered left place) (count_first step trace)
-    ∙ ap (lowered (total (step ∷ []) (count_of trace))) (sym own) ∙ lowered-total step (count_of trace) in
+    ∙ ap (lowered (with_left (step ∷ []) (count_of trace))) (sym own) ∙ lowered-with_left step (count_of trace) in
     record { step = step; rest = trace; whole = refl; own = own; owned = others ∙ ap (order places jobs) fewer }
 
 rest_idle : (jobs first : ℕ) (left : ℕ → ℕ) → left first ≡ 0 →
@@ -419,9 +419,9 @@ head_own zero job owners place places some is = absurd (omega arith)
 head_own (suc count) job owners place places some is = cc
 
 rest_own : (jobs first : ℕ) (step : TraceStep) (left : ℕ → ℕ) → step.job ≡ first →
-    rest_of (suc jobs) first (total (step ∷ []) left) ≡ first ∷ rest_of (suc jobs) first left
+    rest_of (suc jobs) first (with_left (step ∷ []) left) ≡ first ∷ rest_of (suc jobs) first left
 rest_own jobs first step left own =
-    let one = total_same step first left own in
+    let one = with_left_same step first left own in
     let others = rest_other jobs (first + 1) step left (omega arith) in
     rw (one, others) refl
 

@@ -6,7 +6,7 @@ use Rattle.std.proofs.lemmas.Option.{same_Some, slice_get_within, slice_get_case
 use Rattle.pt_req.specs.Job.{is_finished}
 use Rattle.pt_fs.specs.declared.trace.TraceStep.{TraceStep}
 use Rattle.pt_fs.specs.declared.running.Running.{Running}
-use Rattle.pt_fs.specs.Order.{lowered, rest_of, order, owner, count_of, total, Fits, Owns}
+use Rattle.pt_fs.specs.Order.{lowered, rest_of, order, owner, count_of, with_left, MayBeLeft, Owns}
 use Rattle.pt_fs.specs.Took.{IsFinishedAt}
 use Rattle.pt_fs.proofs.Places.{get-set_other}
 
@@ -20,39 +20,39 @@ count_of-append (x ∷ xs) ys job = let e = count_of-append xs ys job in
     elim (x.job == job) as (λ b. cond b (suc (count_of (xs ++ ys) job)) (count_of (xs ++ ys) job)
     ≡ cond b (suc (count_of xs job)) (count_of xs job) + count_of ys job) [ true ↦ omega arith | false ↦ e ]
 
-pub total-append : (xs ys : List TraceStep) (left : ℕ → ℕ) → total (xs ++ ys) left ≡ total xs (total ys left)
-total-append xs ys left =
-    same_function (total (xs ++ ys) left) (total xs (total ys left)) (λ j. let e = count_of-append xs ys j in
+pub with_left-append : (xs ys : List TraceStep) (left : ℕ → ℕ) → with_left (xs ++ ys) left ≡ with_left xs (with_left ys left)
+with_left-append xs ys left =
+    same_function (with_left (xs ++ ys) left) (with_left xs (with_left ys left)) (λ j. let e = count_of-append xs ys j in
     omega arith)
 
-pub total-none : (left : ℕ → ℕ) → total [] left ≡ left
-total-none left = same_function (total [] left) left (λ j. omega arith)
+pub with_left-none : (left : ℕ → ℕ) → with_left [] left ≡ left
+with_left-none left = same_function (with_left [] left) left (λ j. omega arith)
 
 -- one step more
-pub total_same : (step : TraceStep) (job : ℕ) (left : ℕ → ℕ) → step.job ≡ job →
-    total (step ∷ []) left job ≡ suc (left job)
-total_same step job left e = let one : count_of (step ∷ []) job ≡ 1 = rw (eq-eqb step.job job e) refl in omega arith
+pub with_left_same : (step : TraceStep) (job : ℕ) (left : ℕ → ℕ) → step.job ≡ job →
+    with_left (step ∷ []) left job ≡ suc (left job)
+with_left_same step job left e = let one : count_of (step ∷ []) job ≡ 1 = rw (eq-eqb step.job job e) refl in omega arith
 
-pub total_other : (step : TraceStep) (job : ℕ) (left : ℕ → ℕ) → step.job ≢ job → total (step ∷ []) left job ≡ left job
-total_other step job left ne = let none : count_of (step ∷ []) job ≡ 0 = rw (ne_eqb step.job job ne) refl in omega arith
+pub with_left_other : (step : TraceStep) (job : ℕ) (left : ℕ → ℕ) → step.job ≢ job → with_left (step ∷ []) left job ≡ left job
+with_left_other step job left ne = let none : count_of (step ∷ []) job ≡ 0 = rw (ne_eqb step.job job ne) refl in omega arith
 
-pub lowered-total : (step : TraceStep) (left : ℕ → ℕ) → lowered (total (step ∷ []) left) step.job ≡ left
-lowered-total step left =
-    same_function (lowered (total (step ∷ []) left) step.job) left (λ j. elim (cases_eq j step.job) [
-      | inl same ↦ let one = total_same step j left (sym same) in rw (eq-eqb j step.job same) (omega arith)
-      | inr other ↦ let one = total_other step j left (λ e. other (sym e)) in rw (ne_eqb j step.job other) one
+pub lowered-with_left : (step : TraceStep) (left : ℕ → ℕ) → lowered (with_left (step ∷ []) left) step.job ≡ left
+lowered-with_left step left =
+    same_function (lowered (with_left (step ∷ []) left) step.job) left (λ j. elim (cases_eq j step.job) [
+      | inl same ↦ let one = with_left_same step j left (sym same) in rw (eq-eqb j step.job same) (omega arith)
+      | inr other ↦ let one = with_left_other step j left (λ e. other (sym e)) in rw (ne_eqb j step.job other) one
     ])
 
 -- nothing was done
 pub owns_none : (before : (ℕ → ℕ) → List ℕ) (running : List Running) → Owns before running [] before running
-owns_none before running left fits = let e = total-none left in (rw e fits, rw e refl)
+owns_none before running left fits = let e = with_left-none left in (rw e fits, rw e refl)
 
 pub owns_on : (a b c : (ℕ → ℕ) → List ℕ) (r0 r1 r2 : List Running) (xs ys : List TraceStep) → Owns a r0 xs b r1 →
     Owns b r1 ys c r2 → Owns a r0 (xs ++ ys) c r2
 owns_on a b c r0 r1 r2 xs ys first second left fits =
     let later = second left fits in
-    let earlier = first (total ys left) later.0 in
-    let e = total-append xs ys left in (
+    let earlier = first (with_left ys left) later.0 in
+    let e = with_left-append xs ys left in (
       rw e earlier.0,
       ap a e ∙ earlier.1 ∙ ap (λ l. map owner xs ++ l) later.1
           ∙ sym (append_assoc (map owner xs) (map owner ys) (c left))
@@ -62,23 +62,23 @@ owns_on a b c r0 r1 r2 xs ys first second left fits =
 -- the job of a step that was made had that step left
 pub fits_took : (running : List Running) (place : ℕ) (run run' : Running) (step : TraceStep) (left : ℕ → ℕ) →
     slice_get running place ≡ Some run → step.job ≡ place → is_finished run.state ≡ false →
-    Fits left (slice_set running place run') → Fits (total (step ∷ []) left) running
+    MayBeLeft left (slice_set running place run') → MayBeLeft (with_left (step ∷ []) left) running
 fits_took running place run run' step left was own unfinished fits = record {
   ended = λ j r at end. elim (cases_eq j place) [
     | inl same ↦ let is_run : r ≡ run = same_Some r run (sym at ∙ ap (λ k. slice_get running k) same ∙ was) in
         let no : true ≡ false = sym end ∙ ap (λ q. is_finished q.state) is_run ∙ unfinished in cc
-    | inr other ↦ total_other step j left (λ e. other (sym e ∙ own))
+    | inr other ↦ with_left_other step j left (λ e. other (sym e ∙ own))
         ∙ fits.ended j r (get-set_other running place j run' other ∙ at) end
   ];
   going = λ j r at end. elim (cases_eq j place) [
-    | inl same ↦ let one = total_same step j left (own ∙ sym same) in omega arith
-    | inr other ↦ let one = total_other step j left (λ e. other (sym e ∙ own)) in
+    | inl same ↦ let one = with_left_same step j left (own ∙ sym same) in omega arith
+    | inr other ↦ let one = with_left_other step j left (λ e. other (sym e ∙ own)) in
         let more = fits.going j r (get-set_other running place j run' other ∙ at) end in omega arith
   ];
   beyond = λ j past. elim (cases_eq j place) [
     | inl same ↦ let inside = slice_get_within running place run was in absurd (omega arith)
     | inr other ↦ let long = length-set running place run' in
-        total_other step j left (λ e. other (sym e ∙ own)) ∙ fits.beyond j (omega arith)
+        with_left_other step j left (λ e. other (sym e ∙ own)) ∙ fits.beyond j (omega arith)
   ];
 }
 
@@ -87,16 +87,16 @@ pub owns_place : (place : ℕ) (places : List ℕ) (jobs : ℕ) (running : List 
     (step : TraceStep) → slice_get running place ≡ Some run → step.job ≡ place → is_finished run.state ≡ false →
     Owns (order (place ∷ places) jobs) running (step ∷ []) (order places jobs) (slice_set running place run')
 owns_place place places jobs running run run' step was own unfinished left fits =
-    let some : 0 < total (step ∷ []) left place = let one = total_same step place left own in omega arith in
-    let fewer : lowered (total (step ∷ []) left) place ≡ left =
-    ap (lowered (total (step ∷ []) left)) (sym own) ∙ lowered-total step left in (
+    let some : 0 < with_left (step ∷ []) left place = let one = with_left_same step place left own in omega arith in
+    let fewer : lowered (with_left (step ∷ []) left) place ≡ left =
+    ap (lowered (with_left (step ∷ []) left)) (sym own) ∙ lowered-with_left step left in (
       fits_took running place run run' step left was own unfinished fits,
-      rw (lt-ltb 0 (total (step ∷ []) left place) some) (rw (fewer, own) refl),
+      rw (lt-ltb 0 (with_left (step ∷ []) left place) some) (rw (fewer, own) refl),
     )
 
 -- a job that has finished has no step left
 pub none_left : (running : List Running) (place : ℕ) → IsFinishedAt running place → (left : ℕ → ℕ) →
-    Fits left running → left place ≡ 0
+    MayBeLeft left running → left place ≡ 0
 none_left running place finished left fits =
     elim (slice_get_cases running place).1 [
       | inl there ↦ fits.ended place there.0 there.2 (finished there.0 there.2)
@@ -108,15 +108,15 @@ pub owns_idle : (place : ℕ) (places : List ℕ) (jobs : ℕ) (running : List R
     Owns (order (place ∷ places) jobs) running [] (order places jobs) running
 owns_idle place places jobs running finished left fits =
     let none : left place ≡ 0 = none_left running place finished left fits in
-    let e = total-none left in
+    let e = with_left-none left in
     (rw e fits, rw (e, none) refl)
 
 -- a step of a job below the first
 pub rest_other : (jobs first : ℕ) (step : TraceStep) (left : ℕ → ℕ) → step.job < first →
-    rest_of jobs first (total (step ∷ []) left) ≡ rest_of jobs first left
+    rest_of jobs first (with_left (step ∷ []) left) ≡ rest_of jobs first left
 rest_other zero first step left below = refl
 rest_other (suc jobs) first step left below =
-    let here = total_other step first left (λ e. omega arith) in
+    let here = with_left_other step first left (λ e. omega arith) in
     let there = rest_other jobs (first + 1) step left (omega arith) in
     rw (here, there) refl
 
@@ -125,7 +125,7 @@ pub owns_first : (jobs place : ℕ) (running : List Running) (run run' : Running
     slice_get running place ≡ Some run → step.job ≡ place → is_finished run.state ≡ false →
     Owns (rest_of (suc jobs) place) running (step ∷ []) (rest_of (suc jobs) place) (slice_set running place run')
 owns_first jobs place running run run' step was own unfinished left fits =
-    let one = total_same step place left own in (
+    let one = with_left_same step place left own in (
       fits_took running place run run' step left was own unfinished fits,
       rw (one, rest_other jobs (place + 1) step left (omega arith), own) refl,
     )
@@ -135,5 +135,5 @@ pub owns_next : (jobs place : ℕ) (running : List Running) → IsFinishedAt run
     Owns (rest_of (suc jobs) place) running [] (rest_of jobs (place + 1)) running
 owns_next jobs place running finished left fits =
     let none = none_left running place finished left fits in
-    let e = total-none left in
+    let e = with_left-none left in
     (rw e fits, rw (e, none) refl)

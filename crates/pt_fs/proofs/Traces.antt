@@ -9,13 +9,13 @@ use Rattle.pt_req.specs.Deed.{Deed, Step}
 use Rattle.pt_req.specs.Made.{Does, Made}
 use Rattle.pt_req.specs.declared.act.ActReply.{ActReply}
 use Rattle.pt_fs.specs.Order.{count_of}
-use Rattle.pt_fs.specs.Trace.{no_seat, MadeFrom, Runs, seated, steps_by, step_of, closings_told}
+use Rattle.pt_fs.specs.Trace.{no_seat, MadeFrom, TraceRuns, seated, steps_by, step_of, closings_told}
 use Rattle.pt_fs.specs.declared.trace.TraceStep.{TraceStep}
 
 -- two traces that meet are one
 pub runs_on : {H : Type 0} (does : Does H) (xs ys : List TraceStep) (h0 h1 h2 : H) (s0 s1 s2 : List (Option HostSeat))
-    (r0 r1 r2 : Tables) → Runs does xs h0 s0 r0 h1 s1 r1 → Runs does ys h1 s1 r1 h2 s2 r2 →
-    Runs does (xs ++ ys) h0 s0 r0 h2 s2 r2
+    (r0 r1 r2 : Tables) → TraceRuns does xs h0 s0 r0 h1 s1 r1 → TraceRuns does ys h1 s1 r1 h2 s2 r2 →
+    TraceRuns does (xs ++ ys) h0 s0 r0 h2 s2 r2
 runs_on does [] ys h0 h1 h2 s0 s1 s2 r0 r1 r2 first second = rw (← first.0, ← first.1, ← first.2) second
 runs_on does (x ∷ xs) ys h0 h1 h2 s0 s1 s2 r0 r1 r2 first second =
     (first.0, first.1, first.2, first.3, runs_on does xs ys first.0 h1 h2 first.1 s1 s2 first.2 r1 r2 first.4 second)
@@ -71,7 +71,7 @@ seated-set (first ∷ seats) (suc place) seat seat' at same =
 
 -- as many seats are left as there were
 pub seats_left : {H : Type 0} (does : Does H) (xs : List TraceStep) (h0 h1 : H) (s0 s1 : List (Option HostSeat))
-    (r0 r1 : Tables) → Runs does xs h0 s0 r0 h1 s1 r1 → length (seated s1) ≡ length (seated s0)
+    (r0 r1 : Tables) → TraceRuns does xs h0 s0 r0 h1 s1 r1 → length (seated s1) ≡ length (seated s0)
 seats_left does [] h0 h1 s0 s1 r0 r1 runs = ap (λ s. length (seated s)) runs.1
 seats_left does (x ∷ xs) h0 h1 s0 s1 r0 r1 runs =
     let at = runs.3 in

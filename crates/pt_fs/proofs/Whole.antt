@@ -1,17 +1,18 @@
 -- From the first step to the last.
-use Rattle.std.proofs.Common.{◌≡◌, ℕ, List, [], ◌++◌, ◌∙◌, ap, map, length, sym, subst}
+use Rattle.std.proofs.Common.{◌≡◌, ◌≤◌, ℕ, List, [], ◌++◌, ◌∙◌, ap, map, length, sym, subst, arith}
 use Rattle.pt_host.specs.declared.seat.HostSeat.{HostSeat}
 use Rattle.pt_session.specs.Tables.{Tables}
 use Rattle.pt_iface.specs.declared.answer.Answer.{Answer}
 use Rattle.pt_req.specs.Made.{Does}
 use Rattle.pt_req.specs.declared.plan.Plan.{Plan}
 use Rattle.pt_fs.specs.Each.{EachStarted, EachAnswered}
-use Rattle.pt_fs.specs.Goes.{Goes}
+use Rattle.pt_fs.specs.GoesOn.{GoesOn}
 use Rattle.pt_fs.specs.Jobs.{job_seat}
 use Rattle.pt_fs.specs.Order.{order, rest_of, IsInOrder}
 use Rattle.pt_fs.specs.Owing.{Owing, run_seat}
 use Rattle.pt_fs.specs.Took.{IsFinishedAt}
-use Rattle.pt_fs.specs.Trace.{Runs, RunsJobs, seated, AnswersEach, IsBounded}
+use Rattle.pt_fs.specs.Trace.{TraceRuns, RunsJobs, seated, AnswersEach, IsBounded}
+use Rattle.pt_fs.specs.Work.{work}
 use Rattle.pt_fs.specs.declared.job.Job.{Job}
 use Rattle.pt_fs.specs.declared.running.Running.{Running}
 use Rattle.pt_fs.specs.declared.trace.TraceStep.{TraceStep}
@@ -26,7 +27,7 @@ pub record Whole {H : Type 0} (does : Does H) (plan : Plan) (schedule : List ℕ
   pub none : List TraceStep
   pub empty : none ≡ []
   pub started : EachStarted plan jobs running
-  pub goes : Goes does plan (order schedule (length running)) h running tables none
+  pub goes : GoesOn does plan (order schedule (length running)) h running tables none
       (rest_of 0 (length running)) h' running' tables' trace
   pub finished : (j : ℕ) → IsFinishedAt running' j
   pub answered : EachAnswered running' answers
@@ -36,7 +37,7 @@ whole_steps whole = whole.goes.longer ∙ ap (λ t. t ++ whole.goes.steps) whole
 
 pub runs_whole : {H : Type 0} {does : Does H} {plan : Plan} {schedule : List ℕ} {h h' : H} {jobs : List Job} {running running' : List Running} {tables tables' : Tables} {trace : List TraceStep} {answers : List Answer}
     → Whole does plan schedule h jobs running tables h' running' tables' trace answers →
-    Runs does trace h (map job_seat jobs) tables h' (map run_seat running') tables'
+    TraceRuns does trace h (map job_seat jobs) tables h' (map run_seat running') tables'
 runs_whole {plan = plan} {jobs = jobs} {running = running} whole =
     rw (whole_steps whole, ← started_seats plan jobs running whole.started) whole.goes.runs
 
@@ -85,3 +86,12 @@ order_whole {plan =
           (length running) whole.finished whole.goes.owns);
       each_has_a_step = steps_each plan jobs trace answers (answers_whole whole);
     }
+
+-- the trace has no more steps than there was work
+pub spent_whole : {H : Type 0} {does : Does H} {plan : Plan} {schedule : List ℕ} {h h' : H} {jobs : List Job} {running running' : List Running} {tables tables' : Tables} {trace : List TraceStep} {answers : List Answer}
+    → Whole does plan schedule h jobs running tables h' running' tables' trace answers →
+    length trace ≤ work running tables
+spent_whole whole =
+    let same = ap length (whole_steps whole) in
+    let spent = whole.goes.spent in
+    omega (arith, same, spent)

@@ -13,8 +13,8 @@ use Rattle.pt_req.specs.declared.act.ActReply.TheVariants.{Event, Host, NoCopy}
 use Rattle.pt_req.specs.declared.plan.Plan.{Plan}
 use Rattle.pt_fs.specs.Advances.{inserted_in}
 use Rattle.pt_fs.specs.Each.{EachStarted}
-use Rattle.pt_fs.specs.Trace.{MadeFrom, told_by}
-use Rattle.pt_fs.specs.Work.{work, bounds_in, room_of}
+use Rattle.pt_fs.specs.Trace.{MadeFrom, told_by, room_of}
+use Rattle.pt_fs.specs.Work.{work, bounds_in}
 use Rattle.pt_fs.specs.declared.job.Job.{Job}
 use Rattle.pt_fs.specs.declared.running.Running.{Running}
 use Rattle.pt_fs.proofs.Pending.{event_puts}

@@ -14,8 +14,8 @@ IsWanted (Do deed owed next) None = MayFailToCopy deed
 IsWanted _ _ = ⊥
 
 -- the reply is told, or word that its bytes could not be copied
-abbrev pub IsTold : ActReply → ActReply → Type 0
-IsTold reply shown = (shown ≡ reply) ⊎ ((shown ≡ told.NoCopy) × HoldsReplyBytes reply)
+abbrev pub IsShown : ActReply → ActReply → Type 0
+IsShown reply shown = (shown ≡ reply) ⊎ ((shown ≡ told.NoCopy) × HoldsReplyBytes reply)
 
 -- how many rows a step inserted
 abbrev pub inserted_in : Option Deed → ActReply → ℕ

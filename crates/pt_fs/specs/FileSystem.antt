@@ -22,12 +22,12 @@ pub record FileSystem : Type 0 where
   pub root : Fd
 
 -- the flags of a descriptor that only stands for its object
-abbrev pub path : OpenFlags
-path = record { 0 = path_flags }
+abbrev pub only_path : OpenFlags
+only_path = record { 0 = path_flags }
 
 -- a slash
 abbrev pub opens_root : Call
-opens_root = call.OpenRoot (47 ∷ []) path
+opens_root = call.OpenRoot (47 ∷ []) only_path
 
 -- what the opening of the host's root was answered makes the file system, or is its refusal
 abbrev pub IsMadeBy : HostReply → Result FileSystem Refusal → Type 0
@@ -41,7 +41,7 @@ IsMadeBy told made = ⊥
 abbrev pub OpensOne : Option Tree → Fd → Option Tree → Type 0
 OpensOne before fd after =
     (tree : Tree) → before ≡ Some tree → (later : Tree) × (after ≡ Some later) × (object : ℕ)
-    × Opens tree object path fd later
+    × Opens tree object only_path fd later
 
 -- where the tree was told it is told, and is the same
 abbrev pub StaysTold : Option Tree → Option Tree → Type 0

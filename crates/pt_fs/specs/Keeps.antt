@@ -1,5 +1,5 @@
 -- Believed. What a run keeps after every step and at its end, in whatever order its jobs took their steps.
-use Rattle.std.specs.Prelude.{◌≡◌, ◌≢◌, ◌≤◌, ◌+◌, ℕ, true, List, ◌∷◌, ◌++◌, Option, Some, map, slice_get}
+use Rattle.std.specs.Prelude.{◌≡◌, ◌≢◌, ◌≤◌, ◌⊎◌, ℕ, true, List, ◌∷◌, ◌++◌, Option, Some, map, slice_get}
 use Rattle.pt_host.specs.Tree.{Tree, IsWellFormed}
 use Rattle.pt_session.specs.Tables.{Tables}
 use Rattle.pt_session.specs.Happens.{IsRow, IsHandleRow}
@@ -7,18 +7,18 @@ use Rattle.pt_session.specs.declared.row.Row.{Row}
 use Rattle.pt_session.specs.declared.row.HandleRow.{HandleRow}
 use Rattle.pt_iface.specs.declared.answer.Answer.{Answer}
 use Rattle.pt_iface.specs.declared.answer.Answer.TheVariants as answer
-use Rattle.pt_iface.specs.declared.request.Request.TheVariants as request
+use Rattle.pt_iface.specs.declared.entry.Entry.{Entry}
 use Rattle.pt_req.specs.Deed.{kept_deed_of}
-use Rattle.pt_req.specs.Pattern.{Requests}
 use Rattle.pt_req.specs.declared.finish.Finish.TheVariants as finish
 use Rattle.pt_req.specs.declared.plan.Plan.{Plan}
 use Rattle.pt_law.specs.Cause.{IsCausedBy}
-use Rattle.pt_law.specs.Discipline.{idle, Ends}
-use Rattle.pt_law.specs.Entered.{IsEntered}
-use Rattle.pt_law.specs.Laws.{AreDistinct, HasObject, IsCounted, IsStanding, Serves, TellsOvertaken, IsOvertaken}
-use Rattle.pt_law.specs.Laws.{NamesOpen, LeavesRows}
-use Rattle.pt_law.specs.Ledger.{given, inserted, handle_inserted, standing}
-use Rattle.pt_law.specs.Settled.{all_given, all_returned, entry_count}
+use Rattle.pt_law.specs.Entered.{EntryPlaces, IsEntered, up_to, name_asked}
+use Rattle.pt_law.specs.Laws.{ObjectOf, AreDistinct, HasObject, IsCounted, IsStanding, Serves, TellsOvertaken}
+use Rattle.pt_law.specs.Laws.{IsOvertaken, TellsGiven, NamesOpen, LeavesRows}
+use Rattle.pt_law.specs.Ledger.{given, inserted, handle_inserted, standing, slots_taken, slots_given}
+use Rattle.pt_law.specs.Origins.{WasRoot, WasNamed}
+use Rattle.pt_law.specs.Settled.{IsSettled}
+use Rattle.pt_law.specs.Uses.{StaysLive}
 use Rattle.pt_law.specs.World.{Turn, World, TablesRun, no_past, Runs as WorldRuns}
 use Rattle.pt_fs.specs.Jobs.{asked_of}
 use Rattle.pt_fs.specs.Trace.{step_of, steps_by}
@@ -51,10 +51,23 @@ AfterEachTold told tables trace P = WhereTold told tables (λ start.
     (so_far rest : List TraceStep) (now : World) → trace ≡ so_far ++ rest → WorldRuns start (turns_of so_far) now →
     P start (turns_of so_far) now)
 
+-- each front of the trace leads to some tables, and what is left of it leads on from there to the end
+abbrev pub ReachesEach : Tables → List TraceStep → Tables → Type 0
+ReachesEach tables trace tables' =
+    (so_far rest : List TraceStep) → trace ≡ so_far ++ rest →
+    (now : Tables) × TablesRun tables (turns_of so_far) now × TablesRun now (turns_of rest) tables'
+
+-- each front of the trace leads to some world, and what is left of it leads on from there to the end
+abbrev pub ReachesWorlds : World → List TraceStep → World → Type 0
+ReachesWorlds start trace end =
+    (so_far rest : List TraceStep) → trace ≡ so_far ++ rest →
+    (now : World) × WorldRuns start (turns_of so_far) now × WorldRuns now (turns_of rest) end
+
 -- the steps lead the tree that the host told to the one that it tells afterwards, and to these tables
 abbrev pub LeadsOn : Option Tree → Tables → List TraceStep → Option Tree → Tables → Type 0
 LeadsOn told tables trace told' tables' = WhereTold told tables (λ start.
-    (end : World) × (told' ≡ Some end.tree) × (end.tables ≡ tables') × WorldRuns start (turns_of trace) end)
+    (end : World) × (told' ≡ Some end.tree) × (end.tables ≡ tables') × WorldRuns start (turns_of trace) end
+    × ReachesWorlds start trace end)
 
 -- two live numbers that differ have objects that differ, and a live row has an open descriptor of its number's object
 pub record KeepsObjects (now : World) : Type 0 where
@@ -83,30 +96,49 @@ abbrev pub OvertakenAsTold : List TraceStep → Type 0
 OvertakenAsTold trace = (so_far rest : List TraceStep) (step : TraceStep) → trace ≡ so_far ++ step ∷ rest →
     TellsOvertaken (kept_deed_of step.act) step.reply → IsOvertaken step.job (turns_of so_far)
 
+-- who began before another's clearing is given nothing after it
+abbrev pub ShutsOut : List TraceStep → Type 0
+ShutsOut trace = (so_far rest : List TraceStep) (step : TraceStep) → trace ≡ so_far ++ step ∷ rest →
+    IsOvertaken step.job (turns_of so_far) → TellsGiven (kept_deed_of step.act) step.reply → ⊥
+
 -- of each job and its answer
 abbrev pub OfEachJob : List Job → List Answer → (ℕ → Job → Answer → Type 0) → Type 0
 OfEachJob jobs answers P =
     (j : ℕ) (job : Job) (told : Answer) → slice_get jobs j ≡ Some job → slice_get answers j ≡ Some told → P j job told
 
--- What a job was given it gave back, once each, but for the number that its answer has; and it gave back all else
--- that it held.
-pub record GivesBack (trace : List TraceStep) (j : ℕ) (job : Job) (told : Answer) : Type 0 where
-  pub settled : (number : ℕ) →
-      all_given number (steps_by j trace)
-      ≡ all_returned number (steps_by j trace) + entry_count number (finish.Answer told)
-  pub ends : Ends idle (steps_by j trace) (finish.Answer told)
+-- What a job was given it gave back: numbers, but for the one that its answer has, pins, descriptors, slots; and it
+-- took the closings that it was told of.
+pub record GivesAllBack (trace : List TraceStep) (j : ℕ) (job : Job) (told : Answer) : Type 0 where
+  pub settled : IsSettled (steps_by j trace) (finish.Answer told)
+  pub slots : slots_taken (steps_by j trace) ≡ slots_given (steps_by j trace)
 
 -- a refusal has its cause, in what was asked or at a step of the job; and an edit is refused exactly where its step was
 abbrev pub IsCausedIn : List TraceStep → ℕ → Job → Answer → Type 0
 IsCausedIn trace j job told = IsCausedBy (asked_of job) (steps_by j trace) told
 
--- an entry names the object that its name had in the directory that its parent stood for
+-- An entry is the answer of a lookup, and names the object that the name which was asked had in the directory that its
+-- parent stood for.
 abbrev pub IsNamedIn : Plan → Option Tree → Tables → List TraceStep → ℕ → Job → Answer → Type 0
 IsNamedIn plan told tables trace j job (answer.Entry entry) =
-    (parent : ℕ) (name : List ℕ) → asked_of job ≡ Requests (request.Lookup parent name) →
-    WhereTold told tables (λ start. (end : World) → WorldRuns start (turns_of trace) end →
-    IsEntered plan start (turns_of trace) end j parent name entry)
+    (parent : ℕ) × (name : List ℕ) × (name_asked (asked_of job) ≡ Some (parent, name))
+    × WhereTold told tables (λ start. IsEntered plan start (turns_of trace) j parent name entry)
 IsNamedIn plan told tables trace j job other = Unit {0}
+
+-- Two entries of one object have one number, where the number that was given first lives until the other is given.
+abbrev pub AgreeOnNumbers : Plan → Option Tree → Tables → List TraceStep → Type 0
+AgreeOnNumbers plan told tables trace = WhereTold told tables (λ start.
+    (job other parent folder : ℕ) (name child : List ℕ) (entry another : Entry)
+    (one : EntryPlaces plan (turns_of trace) job parent name entry)
+    (two : EntryPlaces plan (turns_of trace) other folder child another) (between : List Turn) (first second : World)
+    (object : ℕ) → up_to two.given ≡ up_to one.given ++ between → WorldRuns start (up_to one.given) first →
+    WorldRuns first between second → StaysLive first between entry.inode → ObjectOf first entry.inode object →
+    ObjectOf second another.inode object → another.inode ≡ entry.inode)
+
+-- every numbered object was opened as a root, or by a name that led there from a directory that was found numbered
+abbrev pub ComeFromNames : World → List Turn → World → Type 0
+ComeFromNames start so_far now =
+    (number object : ℕ) → ObjectOf now number object →
+    WasRoot start so_far now object ⊎ WasNamed start so_far now object
 
 -- each call names only descriptors that are open at its step
 abbrev pub NamesOpenOnes : Option Tree → Tables → List TraceStep → Type 0

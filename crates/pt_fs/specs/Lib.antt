@@ -5,9 +5,10 @@ pub mod Trace
 pub mod Order
 pub mod Advances
 pub mod Owing
-pub mod Took
-pub mod Goes
-pub mod Each
 pub mod Work
+pub mod Took
+pub mod GoesOn
+pub mod Each
 pub mod Keeps
+pub mod Run
 pub mod Determined

@@ -36,11 +36,11 @@ pub record IsInOrder (schedule : List ℕ) (jobs : ℕ) (trace : List TraceStep)
   pub each_has_a_step : (j : ℕ) → j < jobs → 0 < count_of trace j
 
 -- the steps of a list, and more
-abbrev pub total : List TraceStep → (ℕ → ℕ) → ℕ → ℕ
-total steps left job = count_of steps job + left job
+abbrev pub with_left : List TraceStep → (ℕ → ℕ) → ℕ → ℕ
+with_left steps left job = count_of steps job + left job
 
 -- so many steps may be left of the jobs: none of one that has finished, some of one that has not
-pub record Fits (left : ℕ → ℕ) (running : List Running) : Type 0 where
+pub record MayBeLeft (left : ℕ → ℕ) (running : List Running) : Type 0 where
   pub ended : (j : ℕ) (run : Running) → slice_get running j ≡ Some run → is_finished run.state ≡ true → left j ≡ 0
   pub going : (j : ℕ) (run : Running) → slice_get running j ≡ Some run → is_finished run.state ≡ false → 0 < left j
   pub beyond : (j : ℕ) → length running ≤ j → left j ≡ 0
@@ -48,5 +48,5 @@ pub record Fits (left : ℕ → ℕ) (running : List Running) : Type 0 where
 -- what was to be owned before the steps is their owners, and then what is to be owned after them
 abbrev pub Owns : ((ℕ → ℕ) → List ℕ) → List Running → List TraceStep → ((ℕ → ℕ) → List ℕ) → List Running → Type 0
 Owns before running steps after running' =
-    (left : ℕ → ℕ) → Fits left running' → Fits (total steps left) running
-    × (before (total steps left) ≡ map owner steps ++ after left)
+    (left : ℕ → ℕ) → MayBeLeft left running' → MayBeLeft (with_left steps left) running
+    × (before (with_left steps left) ≡ map owner steps ++ after left)

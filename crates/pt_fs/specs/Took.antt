@@ -9,6 +9,7 @@ use Rattle.pt_req.specs.Made.{Does}
 use Rattle.pt_req.specs.declared.plan.Plan.{Plan}
 use Rattle.pt_fs.specs.Advances.{Advances}
 use Rattle.pt_fs.specs.Trace.{MadeFrom, told_by}
+use Rattle.pt_fs.specs.Work.{work}
 use Rattle.pt_fs.specs.declared.trace.TraceStep.{TraceStep}
 use Rattle.pt_fs.specs.declared.running.Running.{Running}
 
@@ -34,6 +35,7 @@ pub record Took {H : Type 0} (does : Does H) (plan : Plan) (place : ℕ) (host :
   pub advances : Advances (owes plan run.state) (kept_deed_of step.act) step.reply (owes plan run'.state)
   pub fewer : steps_left run'.state < steps_left run.state
   pub within : steps_bound run'.state + 1 ≤ steps_bound run.state + 3 * told_by (kept_deed_of step.act) step.reply
+  pub spent : work running' tables' + 1 ≤ work running tables
 
 -- the job of this number, if there is one, has finished
 abbrev pub IsFinishedAt : List Running → ℕ → Type 0

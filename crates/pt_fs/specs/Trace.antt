@@ -7,7 +7,7 @@ use Rattle.pt_iface.specs.declared.answer.Answer.{Answer}
 use Rattle.pt_req.specs.Deed.{Deed, Step, kept_deed_of}
 use Rattle.pt_req.specs.Held.{closings_in}
 use Rattle.pt_req.specs.Made.{Does, Made}
-use Rattle.pt_req.specs.Pattern.{bound_for}
+use Rattle.pt_req.specs.Pattern.{bound_for, most_inserted}
 use Rattle.pt_req.specs.declared.act.ActReply.{ActReply}
 use Rattle.pt_req.specs.declared.plan.Plan.{Plan}
 use Rattle.pt_fs.specs.Jobs.{job_seat, asked_of, IsAnsweredBy}
@@ -51,13 +51,13 @@ MadeAt does step host seats tables host' seats' tables' =
     × MadeFrom does (kept_deed_of step.act) step.reply host seat tables host' seat' tables'
 
 -- the trace leads from host, seats and tables to these, each step from where the one before it led
-abbrev pub Runs : {H : Type 0} → Does H → List TraceStep → H → List (Option HostSeat) → Tables → H →
+abbrev pub TraceRuns : {H : Type 0} → Does H → List TraceStep → H → List (Option HostSeat) → Tables → H →
     List (Option HostSeat) → Tables → Type 0
-Runs does [] host seats tables host' seats' tables' = (host' ≡ host) × (seats' ≡ seats) × (tables' ≡ tables)
-Runs {H} does (step ∷ steps) host seats tables host' seats' tables' =
+TraceRuns does [] host seats tables host' seats' tables' = (host' ≡ host) × (seats' ≡ seats) × (tables' ≡ tables)
+TraceRuns {H} does (step ∷ steps) host seats tables host' seats' tables' =
     (host1 : H) × (seats1 : List (Option HostSeat)) × (tables1 : Tables)
     × MadeAt does step host seats tables host1 seats1 tables1
-    × Runs does steps host1 seats1 tables1 host' seats' tables'
+    × TraceRuns does steps host1 seats1 tables1 host' seats' tables'
 
 -- those that there are, in their order
 abbrev pub seated : List (Option HostSeat) → List HostSeat
@@ -70,7 +70,7 @@ seated (Some seat ∷ seats) = seat ∷ seated seats
 pub record RunsJobs {H : Type 0} (does : Does H) (jobs : List Job) (trace : List TraceStep) (host : H)
     (tables : Tables) (host' : H) (left : List HostSeat) (tables' : Tables) : Type 0 where
   pub seats : List (Option HostSeat)
-  pub runs : Runs does trace host (map job_seat jobs) tables host' seats tables'
+  pub runs : TraceRuns does trace host (map job_seat jobs) tables host' seats tables'
   pub are_left : left ≡ seated seats
   pub one_each : length left ≡ length (seated (map job_seat jobs))
 
@@ -99,3 +99,8 @@ abbrev pub IsBounded : List Job → List TraceStep → Type 0
 IsBounded jobs trace =
     (j : ℕ) (job : Job) → slice_get jobs j ≡ Some job →
     length (steps_by j trace) ≤ bound_for (asked_of job) + 3 * closings_told (steps_by j trace)
+
+-- the room for a job list's trace: each job's bound, and three for each row that it may insert
+abbrev pub room_of : List Job → ℕ
+room_of [] = 0
+room_of (job ∷ jobs) = bound_for (asked_of job) + 3 * most_inserted + room_of jobs

@@ -3,9 +3,6 @@ use Rattle.std.specs.Prelude.{ℕ, ◌+◌, ◌*◌, List, [], ◌∷◌}
 use Rattle.pt_session.specs.Pending.{pending_in}
 use Rattle.pt_session.specs.Tables.{Tables}
 use Rattle.pt_req.specs.Job.{steps_bound, inserts_left}
-use Rattle.pt_req.specs.Pattern.{bound_for, most_inserted}
-use Rattle.pt_fs.specs.Jobs.{asked_of}
-use Rattle.pt_fs.specs.declared.job.Job.{Job}
 use Rattle.pt_fs.specs.declared.running.Running.{Running}
 
 -- the steps of each job, and three for the closing of each row that it may still insert
@@ -16,8 +13,3 @@ bounds_in (run ∷ running) = steps_bound run.state + 3 * inserts_left run.state
 -- and three for the closing of each row that is there
 abbrev pub work : List Running → Tables → ℕ
 work running tables = bounds_in running + 3 * pending_in tables
-
--- the room for a job list's trace: each job's bound, and three for each row that it may insert
-abbrev pub room_of : List Job → ℕ
-room_of [] = 0
-room_of (job ∷ jobs) = bound_for (asked_of job) + 3 * most_inserted + room_of jobs

@@ -1,5 +1,5 @@
 ghost use Rattle.std.specs.Prelude.{vec_capacity, ◌≡◌, ◌+◌, ◌<◌, ◌≤◌, ◌^◌, ℕ, suc, length};
-ghost use Rattle.pt_fs.specs.Goes.{Goes};
+ghost use Rattle.pt_fs.specs.GoesOn.{GoesOn};
 ghost use Rattle.pt_fs.specs.Order.{order, rest_of};
 ghost use Rattle.pt_fs.specs.Took.{IsFinishedAt, TookOrStays};
 ghost use Rattle.pt_fs.specs.Work.{work};
@@ -24,6 +24,8 @@ fn take_if_unfinished<H: Host, F: SteppedFs>(
     ensures goes { TookOrStays H.does (F.plan_of fs.old) place host.old running.old
         (F.tables fs.old) trace.old.items host.new running.new (F.tables fs.new) trace.new.items }
     ensures plan { F.plan_of fs.new ≡ F.plan_of fs.old }
+    ensures root { F.root fs.new ≡ F.root fs.old }
+    ensures capacity { vec_capacity trace.old ≤ vec_capacity trace.new }
     ensures room { length trace.new.items + work running.new (F.tables fs.new) ≤ vec_capacity trace.new }
 {
     if place as usize >= running.len() {
@@ -45,10 +47,12 @@ pub fn run_schedule<H: Host, F: SteppedFs>(
     schedule: &[u32],
 )
     requires room { length trace.old.items + work running.old (F.tables fs.old) ≤ vec_capacity trace.old }
-    ensures goes { Goes H.does (F.plan_of fs.old) (order schedule.now (length running.old)) host.old running.old
+    ensures goes { GoesOn H.does (F.plan_of fs.old) (order schedule.now (length running.old)) host.old running.old
         (F.tables fs.old) trace.old.items (rest_of (length running.old) 0) host.new running.new
         (F.tables fs.new) trace.new.items }
     ensures plan { F.plan_of fs.new ≡ F.plan_of fs.old }
+    ensures root { F.root fs.new ≡ F.root fs.old }
+    ensures capacity { vec_capacity trace.old ≤ vec_capacity trace.new }
     ensures room { length trace.new.items + work running.new (F.tables fs.new) ≤ vec_capacity trace.new }
 {
     for &place in schedule {
@@ -68,10 +72,12 @@ fn finish_one<H: Host, F: SteppedFs>(
     requires named { place < length running.old }
     requires room { length trace.old.items + work running.old (F.tables fs.old) ≤ vec_capacity trace.old }
     ensures goes { (jobs : ℕ) →
-        Goes H.does (F.plan_of fs.old) (rest_of (suc jobs) place) host.old running.old
+        GoesOn H.does (F.plan_of fs.old) (rest_of (suc jobs) place) host.old running.old
         (F.tables fs.old) trace.old.items (rest_of jobs (place + 1)) host.new running.new
         (F.tables fs.new) trace.new.items }
     ensures plan { F.plan_of fs.new ≡ F.plan_of fs.old }
+    ensures root { F.root fs.new ≡ F.root fs.old }
+    ensures capacity { vec_capacity trace.old ≤ vec_capacity trace.new }
     ensures finished { IsFinishedAt running.new place }
     ensures others { (j : ℕ) → IsFinishedAt running.old j → IsFinishedAt running.new j }
     ensures room { length trace.new.items + work running.new (F.tables fs.new) ≤ vec_capacity trace.new }
@@ -91,10 +97,12 @@ pub fn finish_all<H: Host, F: SteppedFs>(
 )
     requires named { length running.old < 2 ^ 32 }
     requires room { length trace.old.items + work running.old (F.tables fs.old) ≤ vec_capacity trace.old }
-    ensures goes { Goes H.does (F.plan_of fs.old) (rest_of (length running.old) 0) host.old running.old
+    ensures goes { GoesOn H.does (F.plan_of fs.old) (rest_of (length running.old) 0) host.old running.old
         (F.tables fs.old) trace.old.items (rest_of 0 (length running.old)) host.new running.new
         (F.tables fs.new) trace.new.items }
     ensures plan { F.plan_of fs.new ≡ F.plan_of fs.old }
+    ensures root { F.root fs.new ≡ F.root fs.old }
+    ensures capacity { vec_capacity trace.old ≤ vec_capacity trace.new }
     ensures finished { (j : ℕ) → IsFinishedAt running.new j }
     ensures room { length trace.new.items + work running.new (F.tables fs.new) ≤ vec_capacity trace.new }
 {
@@ -114,10 +122,12 @@ fn run_jobs<H: Host, F: SteppedFs>(
 )
     requires named { length running.old < 2 ^ 32 }
     requires room { length trace.old.items + work running.old (F.tables fs.old) ≤ vec_capacity trace.old }
-    ensures goes { Goes H.does (F.plan_of fs.old) (order schedule.now (length running.old)) host.old running.old
+    ensures goes { GoesOn H.does (F.plan_of fs.old) (order schedule.now (length running.old)) host.old running.old
         (F.tables fs.old) trace.old.items (rest_of 0 (length running.old)) host.new running.new
         (F.tables fs.new) trace.new.items }
     ensures plan { F.plan_of fs.new ≡ F.plan_of fs.old }
+    ensures root { F.root fs.new ≡ F.root fs.old }
+    ensures capacity { vec_capacity trace.old ≤ vec_capacity trace.new }
     ensures finished { (j : ℕ) → IsFinishedAt running.new j }
 {
     run_schedule(alloc, host, fs, running, trace, schedule);
@@ -135,10 +145,12 @@ pub fn run_all<H: Host, F: SteppedFs>(
 )
     requires named { length running.old.items < 2 ^ 32 }
     requires room { length trace.old.items + work running.old.items (F.tables fs.old) ≤ vec_capacity trace.old }
-    ensures goes { Goes H.does (F.plan_of fs.old)
+    ensures goes { GoesOn H.does (F.plan_of fs.old)
         (order schedule.now (length running.old.items)) host.old running.old.items (F.tables fs.old) trace.old.items
         (rest_of 0 (length running.old.items)) host.new running.new.items (F.tables fs.new) trace.new.items }
     ensures plan { F.plan_of fs.new ≡ F.plan_of fs.old }
+    ensures root { F.root fs.new ≡ F.root fs.old }
+    ensures capacity { vec_capacity trace.old ≤ vec_capacity trace.new }
     ensures finished { (j : ℕ) → IsFinishedAt running.new.items j }
     ensures same { length running.new.items ≡ length running.old.items }
 {

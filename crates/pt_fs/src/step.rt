@@ -3,7 +3,7 @@ ghost use Rattle.pt_req.specs.Deed.{kept_deed_of};
 ghost use Rattle.pt_req.specs.Grammar.{is_end};
 ghost use Rattle.pt_req.specs.Job.{owes, steps_left, steps_bound, inserts_left};
 ghost use Rattle.pt_req.specs.Made.{Made};
-ghost use Rattle.pt_fs.specs.Advances.{Advances, IsWanted, IsTold, inserted_in};
+ghost use Rattle.pt_fs.specs.Advances.{Advances, IsWanted, IsShown, inserted_in};
 ghost use Rattle.pt_fs.specs.Took.{Took, IsUnfinished};
 ghost use Rattle.pt_fs.specs.Trace.{no_seat, MadeFrom, told_by};
 ghost use Rattle.pt_fs.specs.Work.{work};
@@ -68,6 +68,7 @@ fn make<H: Host, F: SteppedFs>(
     ensures made { Made H.does (kept_deed_of act.now) result host.old seat.old (F.tables fs.old) host.new seat.new
         (F.tables fs.new) }
     ensures plan { F.plan_of fs.new ≡ F.plan_of fs.old }
+    ensures root { F.root fs.new ≡ F.root fs.old }
 {
     match act {
         KeptAct::Event(event) => ActReply::Event(fs.event(&event.lend())),
@@ -86,6 +87,7 @@ fn make_from<H: Host, F: SteppedFs>(
     ensures made { MadeFrom H.does (kept_deed_of act.now) result host.old seat.old (F.tables fs.old) host.new seat.new
         (F.tables fs.new) }
     ensures plan { F.plan_of fs.new ≡ F.plan_of fs.old }
+    ensures root { F.root fs.new ≡ F.root fs.old }
 {
     match seat {
         Some(seat) => make(host, fs, seat, act),
@@ -98,7 +100,7 @@ fn make_from<H: Host, F: SteppedFs>(
 
 /// The reply for the trace and for the job; where its bytes cannot be copied, both are told so.
 fn told_twice(alloc: Global, reply: ActReply) -> (ActReply, ActReply)
-    ensures told { IsTold reply result.0 }
+    ensures told { IsShown reply result.0 }
     ensures same { result.1 ≡ result.0 }
 {
     match reply.copy(alloc) {
@@ -118,6 +120,7 @@ fn advance<H: Host, F: SteppedFs>(
     ensures made { MadeFrom H.does (kept_deed_of result.0) result.1 host.old running.old.seat
         (F.tables fs.old) host.new running.new.seat (F.tables fs.new) }
     ensures plan { F.plan_of fs.new ≡ F.plan_of fs.old }
+    ensures root { F.root fs.new ≡ F.root fs.old }
     ensures advances { Advances (owes (F.plan_of fs.old) running.old.state) (kept_deed_of result.0) result.1
         (owes (F.plan_of fs.old) running.new.state) }
     ensures fewer { steps_left running.new.state < steps_left running.old.state }
@@ -151,6 +154,8 @@ pub fn take_step<H: Host, F: SteppedFs>(
     ensures took { Took H.does (F.plan_of fs.old) place host.old running.old
         (F.tables fs.old) trace.old.items host.new running.new (F.tables fs.new) trace.new.items }
     ensures plan { F.plan_of fs.new ≡ F.plan_of fs.old }
+    ensures root { F.root fs.new ≡ F.root fs.old }
+    ensures capacity { vec_capacity trace.old ≤ vec_capacity trace.new }
     ensures room { length trace.new.items + work running.new (F.tables fs.new) ≤ vec_capacity trace.new }
 {
     let (act, reply) = advance(alloc, host, fs, &mut running[place as usize]);

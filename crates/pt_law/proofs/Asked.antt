@@ -9,14 +9,14 @@ use Rattle.pt_req.specs.declared.finish.Finish.{Finish}
 use Rattle.pt_req.specs.declared.finish.Finish.TheVariants as finish
 use Rattle.pt_req.specs.declared.plan.Plan.{Plan}
 use Rattle.pt_law.specs.Cause.{IsCausedBy}
-use Rattle.pt_law.specs.Discipline.{idle, Ends}
+use Rattle.pt_law.specs.Discipline.{idle, ComesToEnd}
 use Rattle.pt_law.specs.Told.{AllMayBeTold}
 use Rattle.pt_law.proofs.Edits.{edit_ended, edit_caused}
 use Rattle.pt_law.proofs.Ending.{fit_ends}
 use Rattle.pt_law.proofs.Requests.{fit_request}
 
 pub job_ends : (plan : Plan) (asked : Asked) (steps : List Step) (end : Finish) → AllMayBeTold steps →
-    Belongs (grammar_for plan asked) steps end → Ends idle steps end
+    Belongs (grammar_for plan asked) steps end → ComesToEnd idle steps end
 job_ends plan (Requests asked) steps end t b =
     (fit_ends asked (tree_of plan asked) steps end (fit_request plan asked) t b).0
 job_ends plan (Edits edit) steps end t b = edit_ended edit steps end b

@@ -23,8 +23,10 @@ use Rattle.pt_req.specs.Held.{closings_in}
 use Rattle.pt_req.specs.declared.act.ActReply.{ActReply}
 use Rattle.pt_req.specs.declared.act.ActReply.TheVariants.{Event}
 use Rattle.pt_law.specs.Ledger.{row_slot, closing_slot, form_slot, kept_slots, row_fd, handle_fd, closing_fd, kept_fds}
-use Rattle.pt_law.proofs.Flows.{fd_in, fd_out, slot_in, slot_out, pin_made, pin_ended, handle_pin_made}
-use Rattle.pt_law.proofs.Flows.{handle_pin_ended, closing_ended, row_pins, handle_pins, IsHonest}
+use Rattle.pt_law.specs.Ledger.{fd_in, fd_out, pin_made, pin_ended, handle_pin_made}
+use Rattle.pt_law.specs.Ledger.{handle_pin_ended, closing_ended}
+use Rattle.pt_law.proofs.Flows.{slot_in, slot_out}
+use Rattle.pt_law.proofs.Flows.{row_pins, handle_pins, IsHonest}
 use Rattle.pt_law.proofs.Lists.{total_takes, total_replaces, total_push, length_takes, length_replaces}
 
 pub closing_slot_of : (row : Row) → closing_slot (closing_of row) ≡ row_slot row

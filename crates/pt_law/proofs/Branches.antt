@@ -21,20 +21,20 @@ use Rattle.pt_req.specs.declared.finish.Finish.TheVariants as finish
 use Rattle.pt_req.specs.declared.hold.Hold.{Hold}
 use Rattle.pt_req.specs.declared.hold.Taken.{Taken}
 use Rattle.pt_req.specs.declared.hold.Taken.TheVariants as taken
-use Rattle.pt_law.specs.Branch.{Along, GivesBack, AreOwn, AreOwn.{none, keep, skip}, IsGivenUp, IsOfBranch}
+use Rattle.pt_law.specs.Branch.{Along, ReturnsHold, AreOwn, AreOwn.{none, keep, skip}, IsGivenUp, IsOfBranch}
 
-same_gives : (deed same : Deed) → same ≡ deed → GivesBack (Some deed) → GivesBack (Some same)
-same_gives deed same e g = subst (λ (d : Deed). GivesBack (Some d)) (sym e) g
+same_gives : (deed same : Deed) → same ≡ deed → ReturnsHold (Some deed) → ReturnsHold (Some same)
+same_gives deed same e g = subst (λ (d : Deed). ReturnsHold (Some d)) (sym e) g
 
 -- a step of a deed that gives back
 back_step : (deed : Deed) (made : Option Deed) (told : ActReply) → IsStepOf deed made told →
-    (MayFailToCopy deed → ⊥) → GivesBack (Some deed) → GivesBack made
+    (MayFailToCopy deed → ⊥) → ReturnsHold (Some deed) → ReturnsHold made
 back_step deed (Some same) NoCopy i n g = same_gives deed same i.0 g
 back_step deed (Some same) told i n g = same_gives deed same i g
 back_step deed None NoCopy i n g = absurd (n i)
 back_step deed None told i n g = absurd i
 
-giving_gives : (one : Hold) → GivesBack (Some (giving one))
+giving_gives : (one : Hold) → ReturnsHold (Some (giving one))
 giving_gives (hold.Pin row fd) = tt
 giving_gives (hold.HandlePin row fd) = tt
 giving_gives (hold.Fd fd was) = tt

@@ -19,7 +19,7 @@ use Rattle.pt_req.specs.Deed.{Calls}
 use Rattle.pt_req.specs.declared.act.ActReply.TheVariants.{Host}
 use Rattle.pt_req.specs.declared.hold.Hold.{Hold}
 use Rattle.pt_req.specs.declared.hold.Hold.TheVariants as hold
-use Rattle.pt_law.specs.Discipline.{Job, Notes, with_root, without, unless, MovesBy, Resolution}
+use Rattle.pt_law.specs.Discipline.{Job, Notes, with_root, unnoted, unless, MovesBy, Resolution}
 use Rattle.pt_law.specs.World.{Past, settled_by, object_of, first_of}
 use Rattle.pt_law.specs.Ledger.{fd_held, row_fd, handle_fd}
 use Rattle.pt_law.proofs.Lists.{total_takes, total_replaces, is_same, is_apart, set_at_same, set_at_other, at_each}
@@ -295,7 +295,7 @@ opens_anew bound tree next past rows handles js j after object flags new lt h fr
 closes : (bound : ℕ) (tree : Tree) (next : ℕ) (past : Past) (rows : List Row) (handles : List HandleRow) (js : ℕ →
     Job) (j : ℕ) (after : Job) (f : Fd) (told : Option ObjIds) → j < bound →
     Right bound tree next past rows handles js →
-    Takes (hold.Fd f told) (js j).holds after.holds → after.notes ≡ without f (js j).notes →
+    Takes (hold.Fd f told) (js j).holds after.holds → after.notes ≡ unnoted f (js j).notes →
     total (row_fd f.0) rows ≡ 0 → total (handle_fd f.0) handles ≡ 0 →
     ((i : ℕ) → i < bound → total (fd_held f.0) (set_at j after js i).holds ≡ 0) →
     Right bound (closed_at tree f) next past rows handles (set_at j after js)

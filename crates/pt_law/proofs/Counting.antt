@@ -19,7 +19,8 @@ use Rattle.pt_req.specs.declared.hold.Hold.{Hold}
 use Rattle.pt_law.specs.Discipline.{Job, MovesBy}
 use Rattle.pt_law.specs.World.{TablesGo}
 use Rattle.pt_law.specs.Ledger.{held_by, kept_slots}
-use Rattle.pt_law.proofs.Flows.{slot_held, pin_held, handle_pin_held, row_pins, handle_pins, closing_ended, IsHonest}
+use Rattle.pt_law.specs.Ledger.{closing_ended}
+use Rattle.pt_law.proofs.Flows.{slot_held, pin_held, handle_pin_held, row_pins, handle_pins, IsHonest}
 use Rattle.pt_law.proofs.Flows.{called}
 use Rattle.pt_law.proofs.Lists.{total_takes, le_sum_to, sum_to_set, is_same, is_apart}
 use Rattle.pt_law.proofs.Effects.{stays}
@@ -97,7 +98,7 @@ honest bound t js j change.TakeClosing (event.Refused _) t' after lt b h m = abs
 honest bound t js j _ _ t' after lt b h m = tt
 
 -- closings that come to be owed, and those that are taken
-owed_flow : (job : Job) (deed : Deed) (told : ActReply) (after : Job) → MovesBy job deed told after →
+pub owed_flow : (job : Job) (deed : Deed) (told : ActReply) (after : Job) → MovesBy job deed told after →
     after.owed + closing_ended deed told ≡ job.owed + closings_in deed told
 owed_flow job (Changes change.TakeClosing) told after m = omega (arith, m.1, m.2)
 owed_flow job deed told after m = let e = m.2 in omega (arith, e)

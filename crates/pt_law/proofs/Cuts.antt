@@ -2,13 +2,12 @@
 use Rattle.std.proofs.Common.{◌≡◌, ◌≢◌, ⊎_elim, ℕ, List, [], ◌∷◌, ◌++◌, refl, sym, ap, ap₂, subst, ◌∙◌, arith}
 use Rattle.std.proofs.lemmas.Bool.{cases_eq}
 use Rattle.pt_req.specs.Deed.{Step}
-use Rattle.pt_law.specs.World.{World, Turn, Goes, Runs, steps_of}
-use Rattle.pt_law.specs.Entered.{turn_of}
+use Rattle.pt_law.specs.World.{World, Turn, turn_by, Goes, Runs, steps_of}
 
 -- where a step of a job stands in a run
 abbrev pub Located : ℕ → List Turn → List Step → Step → List Step → Type 0
 Located j turns one step two =
-    (front : List Turn) × (back : List Turn) × (turns ≡ front ++ turn_of j step ∷ back) × (steps_of j front ≡ one)
+    (front : List Turn) × (back : List Turn) × (turns ≡ front ++ turn_by j step ∷ back) × (steps_of j front ≡ one)
     × (steps_of j back ≡ two)
 
 pub steps_at : (j : ℕ) (s : Turn) (ss : List Turn) → s.job ≡ j → steps_of j (s ∷ ss) ≡ s.step ∷ steps_of j ss
@@ -17,7 +16,7 @@ steps_at j s ss e = grind arith
 pub steps_past : (j : ℕ) (s : Turn) (ss : List Turn) → s.job ≢ j → steps_of j (s ∷ ss) ≡ steps_of j ss
 steps_past j s ss e = grind arith
 
-same_turn : (s : Turn) (j : ℕ) (step : Step) → s.job ≡ j → s.step ≡ step → s ≡ turn_of j step
+same_turn : (s : Turn) (j : ℕ) (step : Step) → s.job ≡ j → s.step ≡ step → s ≡ turn_by j step
 same_turn s j step e f = λ i. record { job = e i; step = f i }
 
 heads : (a b : Step) (one two : List Step) → a ∷ one ≡ b ∷ two → (a ≡ b) × (one ≡ two)
@@ -71,7 +70,7 @@ pub record Cut (start end : World) (turns : List Turn) (j : ℕ) (first : List S
   pub between : List Turn
   pub later : List Turn
   pub behind : List Turn
-  pub in_turn : turns ≡ before ++ (turn_of j a ∷ (between ++ (turn_of j b ∷ (later ++ (turn_of j c ∷ behind)))))
+  pub in_turn : turns ≡ before ++ (turn_by j a ∷ (between ++ (turn_by j b ∷ (later ++ (turn_by j c ∷ behind)))))
   pub w0 : World
   pub w1 : World
   pub w2 : World
@@ -79,11 +78,11 @@ pub record Cut (start end : World) (turns : List Turn) (j : ℕ) (first : List S
   pub w4 : World
   pub w5 : World
   pub r0 : Runs start before w0
-  pub g0 : Goes w0 (turn_of j a) w1
+  pub g0 : Goes w0 (turn_by j a) w1
   pub r1 : Runs w1 between w2
-  pub g1 : Goes w2 (turn_of j b) w3
+  pub g1 : Goes w2 (turn_by j b) w3
   pub r2 : Runs w3 later w4
-  pub g2 : Goes w4 (turn_of j c) w5
+  pub g2 : Goes w4 (turn_by j c) w5
   pub r3 : Runs w5 behind end
   pub own0 : steps_of j before ≡ first
   pub own1 : steps_of j between ≡ []
@@ -96,15 +95,15 @@ cut start end turns j first a b c middle rest r e =
     let x = located j turns first a (b ∷ (middle ++ c ∷ rest)) e in
     let y = located j x.1 [] b (middle ++ c ∷ rest) x.4 in
     let z = located j y.1 middle c rest y.4 in
-    let p = runs_split x.0 (turn_of j a ∷ x.1) start end (subst (λ t. Runs start t end) x.2 r) in
-    let q = runs_split y.0 (turn_of j b ∷ y.1) p.2.0 end (subst (λ t. Runs p.2.0 t end) y.2 p.2.2) in
-    let s = runs_split z.0 (turn_of j c ∷ z.1) q.2.0 end (subst (λ t. Runs q.2.0 t end) z.2 q.2.2) in
+    let p = runs_split x.0 (turn_by j a ∷ x.1) start end (subst (λ t. Runs start t end) x.2 r) in
+    let q = runs_split y.0 (turn_by j b ∷ y.1) p.2.0 end (subst (λ t. Runs p.2.0 t end) y.2 p.2.2) in
+    let s = runs_split z.0 (turn_by j c ∷ z.1) q.2.0 end (subst (λ t. Runs q.2.0 t end) z.2 q.2.2) in
     record {
       before = x.0;
       between = y.0;
       later = z.0;
       behind = z.1;
-      in_turn = x.2 ∙ ap (λ t. x.0 ++ turn_of j a ∷ t) (y.2 ∙ ap (λ t. y.0 ++ turn_of j b ∷ t) z.2);
+      in_turn = x.2 ∙ ap (λ t. x.0 ++ turn_by j a ∷ t) (y.2 ∙ ap (λ t. y.0 ++ turn_by j b ∷ t) z.2);
       w0 = p.0;
       w1 = p.2.0;
       w2 = q.0;

@@ -16,7 +16,7 @@ use Rattle.pt_req.specs.declared.act.ActReply.TheVariants.{Event, Host, NoCopy}
 use Rattle.pt_req.specs.declared.finish.Finish.{Finish}
 use Rattle.pt_req.specs.declared.finish.Finish.TheVariants as finish
 use Rattle.pt_law.specs.Cause.{EditCauses}
-use Rattle.pt_law.specs.Discipline.{idle, blank, entry_holds, at_job, MovesBy, MovesIf, Ends}
+use Rattle.pt_law.specs.Discipline.{idle, blank, entry_holds, at_job, MovesBy, MovesIf, ComesToEnd}
 
 pub edit_one : (edit : Edit) (steps : List Step) (end : Finish) → Belongs (edit_grammar edit) steps end →
     length steps ≡ 1
@@ -42,7 +42,7 @@ moves_none edit None NoCopy i = refl
 moves_none edit None told i = absurd i
 
 pub edit_ended : (edit : Edit) (steps : List Step) (end : Finish) → Belongs (edit_grammar edit) steps end →
-    Ends idle steps end
+    ComesToEnd idle steps end
 edit_ended edit [] end b = absurd b
 edit_ended edit (step ∷ []) end b =
     let holds = ap (entry_holds 0) b.1 ∙ holds_none step.reply in

@@ -7,7 +7,7 @@ use Rattle.pt_req.specs.Grammar.{Grammar, End, Do, May, Belongs}
 use Rattle.pt_req.specs.Frame.{BelongsCut, cut}
 use Rattle.pt_req.specs.Tree.{Tree, framed}
 use Rattle.pt_req.specs.declared.finish.Finish.{Finish}
-use Rattle.pt_law.specs.Discipline.{Job, idle, blank, Ends}
+use Rattle.pt_law.specs.Discipline.{Job, idle, blank, ComesToEnd}
 use Rattle.pt_law.specs.Told.{AllMayBeTold}
 use Rattle.pt_law.specs.Cause.{SomeCauses, IsCausedEnd}
 use Rattle.pt_law.specs.Fit.{Fit}
@@ -37,9 +37,9 @@ in_turn asked steps errno s = elim (turned asked steps [] errno s) [
 
 ends : (asked : Request) (grammar : Grammar) (job : Job) (past steps : List Step) (last : Finish) →
     Sound asked grammar job past → AllMayBeTold steps → Belongs grammar steps last →
-    Ends job steps last × IsCausedEnd asked (back steps past) last
+    ComesToEnd job steps last × IsCausedEnd asked (back steps past) last
 ends asked (End given) job past [] last s t b =
-    subst (λ (end : Finish). Ends job [] end × IsCausedEnd asked past end) (sym b)
+    subst (λ (end : Finish). ComesToEnd job [] end × IsCausedEnd asked past end) (sym b)
     ((s.0.0, job.notes, (λ i. record { holds = sym s.0.1 i; owed = sym s.1 i; notes = job.notes })), s.2)
 ends asked (End given) job past (step ∷ steps) last s t b = absurd b
 ends asked (Do wanted owed next) job past [] last s t b = absurd b
@@ -51,7 +51,7 @@ ends asked (May one other) job past steps last s t (inl b) = ends asked one job 
 ends asked (May one other) job past steps last s t (inr b) = ends asked other job past steps last s.1 t b
 
 ends_cut : (asked : Request) (grammar : Grammar) (job : Job) (past steps : List Step) (last : Finish) →
-    Sound asked grammar job past → AllMayBeTold steps → BelongsCut grammar steps last → Ends job steps last
+    Sound asked grammar job past → AllMayBeTold steps → BelongsCut grammar steps last → ComesToEnd job steps last
 ends_cut asked (End given) job past steps last s t b = absurd b
 ends_cut asked (Do wanted owed next) job past [] last s t b =
     (ends asked (cut owed) job past [] last (sound_cut asked owed job past s.0) t b).0
@@ -65,13 +65,13 @@ ends_cut asked (May one other) job past steps last s t (inl b) = ends_cut asked 
 ends_cut asked (May one other) job past steps last s t (inr b) = ends_cut asked other job past steps last s.1 t b
 
 pub fit_ends : (asked : Request) (tree : Tree) (steps : List Step) (last : Finish) → Fit asked tree [] blank [] →
-    AllMayBeTold steps → Belongs (framed tree []) steps last → Ends idle steps last × IsCausedEnd asked steps last
+    AllMayBeTold steps → Belongs (framed tree []) steps last → ComesToEnd idle steps last × IsCausedEnd asked steps last
 fit_ends asked tree steps last f t b =
     let k = ends asked (framed tree []) idle [] steps last
     (sound_framed asked tree [] blank [] [] f (λ errno s. s)) t b in
     (k.0, end_within asked last (back steps []) steps (in_turn asked steps) k.1)
 
 pub fit_ends_cut : (asked : Request) (tree : Tree) (steps : List Step) (last : Finish) → Fit asked tree [] blank [] →
-    AllMayBeTold steps → BelongsCut (framed tree []) steps last → Ends idle steps last
+    AllMayBeTold steps → BelongsCut (framed tree []) steps last → ComesToEnd idle steps last
 fit_ends_cut asked tree steps last f t b =
     ends_cut asked (framed tree []) idle [] steps last (sound_framed asked tree [] blank [] [] f (λ errno s. s)) t b

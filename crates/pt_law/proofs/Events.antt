@@ -23,9 +23,9 @@ use Rattle.pt_req.specs.declared.hold.Hold.{Hold}
 use Rattle.pt_req.specs.declared.hold.Hold.TheVariants as hold
 use Rattle.pt_req.specs.declared.hold.Taken.{Taken}
 use Rattle.pt_req.specs.declared.hold.Taken.TheVariants as taken
-use Rattle.pt_law.specs.Discipline.{Job, Notes, Resolution, notes_after, Shifts, MovesBy, IsTold}
+use Rattle.pt_law.specs.Discipline.{Job, Notes, Resolution, notes_after, Shifts, MovesBy, HoldsTold}
 use Rattle.pt_law.specs.World.{Past, settled, settled_by}
-use Rattle.pt_law.proofs.Flows.{fd_in}
+use Rattle.pt_law.specs.Ledger.{fd_in}
 use Rattle.pt_law.proofs.Lists.{is_apart, set_at_same, set_at_other, each_replaced, each_takes, each_taken, each_map}
 use Rattle.pt_law.proofs.Lists.{each_both, each_put}
 use Rattle.pt_law.proofs.Effects.{kept, rows_kept, handles_kept, stays}
@@ -35,7 +35,7 @@ use Rattle.pt_law.proofs.Knowing.{one_object, row_later, unless_apart}
 
 -- what `Stat` told of a noted descriptor is told of the object that its opening answered
 pub told_noted : (tree : Tree) (fd : Fd) (ids : ObjIds) (was : Option ℕ) (holds : List Hold) →
-    Each (ToldRight tree) holds → IsTold holds fd ids → NotedOpen tree fd was holds →
+    Each (ToldRight tree) holds → HoldsTold holds fd ids → NotedOpen tree fd was holds →
     (object : ℕ) × Shows tree fd object ids × (was ≡ Some object)
 told_noted tree fd ids was holds told t n =
     let a = each_taken (ToldRight tree) t.1 told in

@@ -38,8 +38,7 @@ use Rattle.pt_req.specs.declared.finish.Finish.{Finish}
 use Rattle.pt_req.specs.declared.finish.Finish.TheVariants as finish
 use Rattle.pt_req.specs.declared.plan.Plan.{Plan}
 use Rattle.pt_law.specs.Opened.{made}
-use Rattle.pt_law.specs.Entered.{turn_of}
-use Rattle.pt_law.specs.World.{World, Turn, Runs, steps_of, settled_by, no_past}
+use Rattle.pt_law.specs.World.{World, Turn, turn_by, Runs, steps_of, settled_by, no_past}
 use Rattle.pt_law.specs.Entered.{IsEntered}
 use Rattle.pt_law.specs.Laws.{Starts, AreAnswered, AreEnded}
 use Rattle.pt_law.proofs.Lists.{set_at_same, set_at_other}
@@ -47,7 +46,7 @@ use Rattle.pt_law.proofs.Laws.{ended_jobs}
 use Rattle.pt_law.proofs.Hosts.{run_ended}
 use Rattle.pt_law.proofs.Entries.{entered_law}
 
-abbrev fd : ℕ → Fd
+abbrev pub fd : ℕ → Fd
 fd number = record { 0 = number }
 
 -- the letter a
@@ -63,13 +62,13 @@ abbrev names : ℕ → List ℕ → Option ℕ
 names zero child = Some 1
 names (suc dir) child = None
 
-abbrev tree : Stat → Stat → (ℕ → Option Opened) → Tree
+abbrev pub tree : Stat → Stat → (ℕ → Option Opened) → Tree
 tree root file opened = record { objects = object root ∷ object file ∷ []; names = names; opened = opened }
 
-abbrev IsSmall : (ℕ → Option Opened) → Type 0
+abbrev pub IsSmall : (ℕ → Option Opened) → Type 0
 IsSmall opened = (fd : ℕ) (one : Opened) → opened fd ≡ Some one → one.object < 2
 
-small_none : IsSmall (λ fd. None)
+pub small_none : IsSmall (λ fd. None)
 small_none fd one e = absurd (cc)
 
 small_set : (opened : ℕ → Option Opened) (k : ℕ) (x : Option Opened) →
@@ -79,7 +78,7 @@ small_set opened k x new h fd one e = ⊎_elim
     (λ (q : fd ≢ k). h fd one (sym (set_at_other opened k x fd q) ∙ e))
     (cases_eq fd k)
 
-small_open : (opened : ℕ → Option Opened) (k : ℕ) (new : Opened) → new.object < 2 → IsSmall opened →
+pub small_open : (opened : ℕ → Option Opened) (k : ℕ) (new : Opened) → new.object < 2 → IsSmall opened →
     IsSmall (set_at k (Some new) opened)
 small_open opened k new l = small_set opened k (Some new) (λ one e. same one e)
   where
@@ -124,7 +123,7 @@ directory root file kind zero child o what e is =
     let x : object root ≡ what = cc in ap (λ (at : Object). at.kind) (sym x) ∙ kind
 directory root file kind (suc dir) child o what e is = absurd (cc)
 
-well : (root file : Stat) → root.ids ≢ file.ids → kind_of root.mode ≡ directory_kind →
+pub well : (root file : Stat) → root.ids ≢ file.ids → kind_of root.mode ≡ directory_kind →
     (opened : ℕ → Option Opened) → IsSmall opened → IsWellFormed (tree root file opened)
 well root file apart kind opened small = record {
   named = leads;
@@ -157,7 +156,7 @@ after_call world job asked told tree = record {
 event_then : (seat : HostSeat) (world : World) (job : ℕ) (asked : Change) (told : EventReply) (tables : Tables)
     (turns : List Turn) → Happens world.tables asked told tables →
     Leads (after_event world job asked told tables) turns →
-    Leads world (turn_of job (made (Changes asked) (Event told)) ∷ turns)
+    Leads world (turn_by job (made (Changes asked) (Event told)) ∷ turns)
 event_then seat world job asked told tables turns h rest = record {
   last = rest.last;
   run = (
@@ -178,7 +177,7 @@ call_then : (seat : HostSeat) (world : World) (job : ℕ) (asked : Call) (what :
     (turns : List Turn) → TreeChanges world.tree asked (host.Ok what) tree → FitsCall asked what →
     seat_answer seat asked ≡ None → (AsksPathOnly world.tree asked → ⊥) →
     IsWellFormed world.tree → IsWellFormed tree → Leads (after_call world job asked (host.Ok what) tree) turns →
-    Leads world (turn_of job (made (Calls asked) (Host (host.Ok what))) ∷ turns)
+    Leads world (turn_by job (made (Calls asked) (Host (host.Ok what))) ∷ turns)
 call_then seat world job asked what tree turns h fits other unasked before well rest = record {
   last = rest.last;
   run = (
@@ -255,10 +254,10 @@ tables next_number next_row slots rows = record {
 }
 
 abbrev event_of : ℕ → Change → EventReply → Turn
-event_of job asked told = turn_of job (made (Changes asked) (Event told))
+event_of job asked told = turn_by job (made (Changes asked) (Event told))
 
 abbrev call_of : ℕ → Call → HostReply → Turn
-call_of job asked told = turn_of job (made (Calls asked) (Host told))
+call_of job asked told = turn_by job (made (Calls asked) (Host told))
 
 abbrev turns : Plan → Stat → Stat → List Turn
 turns plan root file =
@@ -289,10 +288,10 @@ turns plan root file =
     ∷ event_of 2 (change.Unpin 0) (event.Done 0) ∷ []
 
 -- an entry of what is opened by `path`
-abbrev opened_by : ℕ → Option Opened
+abbrev pub opened_by : ℕ → Option Opened
 opened_by object = Some (record { object = object; path_only = includes path.0 o_path })
 
-abbrev none : ℕ → Option Opened
+abbrev pub none : ℕ → Option Opened
 none = λ fd. None
 
 abbrev three : ℕ → Option Opened
@@ -307,7 +306,7 @@ five = set_at 5 (opened_by 1) four
 abbrev closed : ℕ → Option Opened
 closed = set_at 5 None five
 
-abbrev start : Stat → Stat → World
+abbrev pub start : Stat → Stat → World
 start root file = record { tree = tree root file none; tables = empty_tables 5; past = no_past }
 
 pub starts : (root file : Stat) → root.ids ≢ file.ids → kind_of root.mode ≡ directory_kind →
@@ -538,11 +537,9 @@ ended plan root file seat apart kind =
 -- so the laws say of it what they say: the second lookup's number names object 1, which the name led to
 pub entered : (plan : Plan) (root file : Stat) (seat : HostSeat) (apart : root.ids ≢ file.ids)
     (kind : kind_of root.mode ≡ directory_kind) →
-    IsEntered plan (start root file) (turns plan root file) (runs plan root file seat apart kind).last 2 1 name
-    (entry_of plan nothing_agreed root.ids file 2)
+    IsEntered plan (start root file) (turns plan root file) 2 1 name (entry_of plan nothing_agreed root.ids file 2)
 entered plan root file seat apart kind =
-    let r = runs plan root file seat apart kind in
-    entered_law 5 3 plan (turns plan root file) (start root file) r.last 2 1 name
+    entered_law 5 3 plan (turns plan root file) (start root file) 2 1 name
     (entry_of plan nothing_agreed root.ids file 2) (starts root file apart kind)
-    (ended_jobs 3 (turns plan root file) (ended plan root file seat apart kind)) r.run
-    (omega arith) ((answered plan root file).jobs 2 (omega arith))
+    (ended_jobs 3 (turns plan root file) (ended plan root file seat apart kind))
+    ((answered plan root file).jobs 2 (omega arith))

@@ -19,28 +19,6 @@ use Rattle.pt_req.specs.declared.hold.Hold.TheVariants as hold
 use Rattle.pt_law.specs.World.{TablesGo}
 use Rattle.pt_law.specs.Ledger.{one_if, form_slot}
 
--- descriptors: from a job to the tables, from the tables to a job, opened, closed
-
-abbrev pub fd_in : ℕ → Deed → ActReply → ℕ
-fd_in fd (Changes (change.Insert era number form ids mode)) (Event (event.Inserted given)) = is (fd_of form).0 fd
-fd_in fd (Changes (change.InsertRoot era form ids mode agreed)) (Event (event.Inserted given)) = is (fd_of form).0 fd
-fd_in fd (Changes (change.InsertHandle era handle number same)) (Event (event.Inserted given)) = is same.0 fd
-fd_in fd deed told = 0
-
-abbrev pub fd_out : ℕ → Deed → ActReply → ℕ
-fd_out fd (Changes change.TakeClosing) (Event (event.Closing same slot)) = is same.0 fd
-fd_out fd deed told = 0
-
-abbrev pub fd_made : ℕ → Deed → ActReply → ℕ
-fd_made fd (Calls (call.OpenRoot path flags)) (Host (host.Ok (value.Fd new))) = is new.0 fd
-fd_made fd (Calls (call.OpenAt dir name flags mode)) (Host (host.Ok (value.Fd new))) = is new.0 fd
-fd_made fd (Calls (call.Reopen same flags)) (Host (host.Ok (value.Fd new))) = is new.0 fd
-fd_made fd deed told = 0
-
-abbrev pub fd_ended : ℕ → Deed → ActReply → ℕ
-fd_ended fd (Calls (call.Close same)) told = is same.0 fd
-fd_ended fd deed told = 0
-
 -- slots, from a job to the tables and back
 
 abbrev pub slot_in : Deed → ActReply → ℕ
@@ -54,31 +32,6 @@ abbrev pub slot_out : Deed → ActReply → ℕ
 slot_out (Changes change.TakeFd) (Event event.Taken) = 1
 slot_out (Changes change.TakeClosing) (Event (event.Closing fd slot)) = one_if slot
 slot_out deed told = 0
-
--- pins, made and ended
-
-abbrev pub pin_made : ℕ → Deed → ActReply → ℕ
-pin_made serial (Changes (change.Resolve number)) (Event (event.Resolved row form ids mode)) = is row serial
-pin_made serial deed told = 0
-
-abbrev pub pin_ended : ℕ → Deed → ActReply → ℕ
-pin_ended serial (Changes (change.Unpin row)) told = is row serial
-pin_ended serial deed told = 0
-
--- the same of handles
-
-abbrev pub handle_pin_made : ℕ → Deed → ActReply → ℕ
-handle_pin_made serial (Changes (change.PinHandle handle number)) (Event (event.Pinned row fd)) = is row serial
-handle_pin_made serial deed told = 0
-
-abbrev pub handle_pin_ended : ℕ → Deed → ActReply → ℕ
-handle_pin_ended serial (Changes (change.UnpinHandle row)) told = is row serial
-handle_pin_ended serial deed told = 0
-
--- closings that are taken; those that come to be owed are `closings_in`
-abbrev pub closing_ended : Deed → ActReply → ℕ
-closing_ended (Changes change.TakeClosing) told = 1
-closing_ended deed told = 0
 
 -- what holds weigh
 

@@ -29,8 +29,7 @@ use Rattle.pt_req.specs.declared.begun.Session.{Session}
 use Rattle.pt_req.specs.declared.finish.Finish.{Finish}
 use Rattle.pt_req.specs.declared.finish.Finish.TheVariants as finish
 use Rattle.pt_req.specs.declared.plan.Plan.{Plan}
-use Rattle.pt_law.specs.World.{Turn, TablesGo, TablesRun, steps_of}
-use Rattle.pt_law.specs.Entered.{turn_of}
+use Rattle.pt_law.specs.World.{Turn, turn_by, TablesGo, TablesRun, steps_of}
 use Rattle.pt_law.specs.Ledger.{inserted}
 use Rattle.pt_law.specs.Branch.{IsGivenUp}
 use Rattle.pt_law.specs.Uses.{IsOn}
@@ -146,8 +145,8 @@ gone_at : (number job : ℕ) (later : List Turn) (was now : Tables) (one : List 
     inserted number later ≡ 0 → steps_of job later ≡ one ++ step ∷ two → Gone number step
 gone_at number job later was now one step two a c r i e =
     let l = located job later one step two e in
-    let k = tables_split l.0 (turn_of job step ∷ l.1) was now (subst (λ turns. TablesRun was turns now) l.2 r) in
-    let n = ap (inserted number) l.2 ∙ inserted_append number l.0 (turn_of job step ∷ l.1) in
+    let k = tables_split l.0 (turn_by job step ∷ l.1) was now (subst (λ turns. TablesRun was turns now) l.2 r) in
+    let n = ap (inserted number) l.2 ∙ inserted_append number l.0 (turn_by job step ∷ l.1) in
     record { t = k.0; t' = k.2.0; none = stays_gone number l.0 was k.0 a c k.1 (omega (arith, n, i)); go = k.2.1 }
 
 pub gone_answered_law : (limit job : ℕ) (plan : Plan) (what : Request) (turns later : List Turn) (was now : Tables)

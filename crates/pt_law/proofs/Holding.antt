@@ -24,10 +24,12 @@ use Rattle.pt_req.specs.declared.act.ActReply.TheVariants.{Event, Host}
 use Rattle.pt_req.specs.declared.hold.Hold.{Hold}
 use Rattle.pt_law.specs.Discipline.{Job, Shifts, MovesBy}
 use Rattle.pt_law.specs.Ledger.{form_slot, fd_held, open_count, some_count}
+use Rattle.pt_law.specs.Ledger.{fd_in, fd_out, fd_made, fd_ended, pin_made}
+use Rattle.pt_law.specs.Ledger.{pin_ended, handle_pin_made, handle_pin_ended}
 use Rattle.pt_law.proofs.Growing.{edit_grows}
 use Rattle.pt_law.proofs.Found.{found_only}
-use Rattle.pt_law.proofs.Flows.{fd_in, fd_out, fd_made, fd_ended, slot_in, slot_out, pin_made, pin_ended}
-use Rattle.pt_law.proofs.Flows.{handle_pin_made, handle_pin_ended, pin_held, handle_pin_held, slot_held}
+use Rattle.pt_law.proofs.Flows.{slot_in, slot_out}
+use Rattle.pt_law.proofs.Flows.{pin_held, handle_pin_held, slot_held}
 use Rattle.pt_law.proofs.Lists.{total_takes, total_replaces, is_same, is_apart, set_at_same, set_at_other}
 
 -- what a job holds more after, and less

@@ -15,10 +15,10 @@ use Rattle.pt_req.specs.declared.finish.Finish.TheVariants as finish
 use Rattle.pt_iface.specs.declared.answer.Answer.TheVariants as answer
 use Rattle.pt_req.specs.declared.hold.Hold.{Hold}
 use Rattle.pt_req.specs.declared.hold.Hold.TheVariants as hold
-use Rattle.pt_law.specs.Discipline.{Job, idle, at_job, Moves, Disciplined, entry_holds}
+use Rattle.pt_law.specs.Discipline.{Job, idle, at_job, JobMoves, Disciplined, entry_holds}
 use Rattle.pt_law.specs.World.{World, Turn, TablesGo, Runs, TablesRun, steps_of, no_past}
 use Rattle.pt_law.specs.Ledger.{closing_slot, slot_taken, slot_given_by, slots_taken, slots_given, carried}
-use Rattle.pt_law.specs.Ledger.{closing_fd, fd_held, held_by, open_count, given, inserted}
+use Rattle.pt_law.specs.Ledger.{closing_fd, fd_held, fds_carried, held_by, open_count, given, inserted}
 use Rattle.pt_law.specs.Laws.{Serves, AreDisciplined, AreEnded, Starts, AreDistinct, HasObject, IsCounted, SlotsAddUp}
 use Rattle.pt_law.specs.Laws.{AreKept, IsAtRest, LeavesRows}
 use Rattle.pt_req.specs.declared.act.ActReply.{ActReply}
@@ -28,6 +28,7 @@ use Rattle.pt_law.proofs.Lists.{total_takes, each_front, each_taken, each_both, 
 use Rattle.pt_law.proofs.Lists.{is_same, is_apart}
 use Rattle.pt_law.proofs.Effects.{Stays, stays, stays_same, stays_on}
 use Rattle.pt_law.proofs.Holding.{handed}
+use Rattle.pt_law.proofs.Returned.{fds_held, entry_weighs}
 use Rattle.pt_law.proofs.Givings.{count_in, live_count, in_live, only_taken, agree_step, counts_run}
 use Rattle.pt_law.proofs.Knowing.{Shows, RowOpen, HandleOpen, one_ids}
 use Rattle.pt_law.proofs.Steps.{Tabled, Inv, HasFlows, recount}
@@ -170,11 +171,11 @@ flows_of j (s ∷ ss) h = go (eqb s.job j) (flows_of j ss h.1)
     go true r = (h.0, r)
     go false r = r
 
-carries_step : (job after : Job) (step : Step) → HasFlows step.deed step.reply → Moves job step after →
+carries_step : (job after : Job) (step : Step) → HasFlows step.deed step.reply → JobMoves job step after →
     total slot_held after.holds + slot_given_by step.deed step.reply ≡ total slot_held job.holds + slot_taken step.reply
 carries_step job after step f m = go step.deed f m
   where
-    go : (deed : Option Deed) → HasFlows deed step.reply → Moves job (record step { deed = deed }) after →
+    go : (deed : Option Deed) → HasFlows deed step.reply → JobMoves job (record step { deed = deed }) after →
         total slot_held after.holds + slot_given_by deed step.reply ≡ total slot_held job.holds + slot_taken step.reply
     go None f m = let a = ap (λ (z : Job). total slot_held z.holds) m in omega (arith, a, f)
     go (Some deed) f m = let a = (handed job.holds deed step.reply after.holds m.0).slots in let b = f.0 in
@@ -305,9 +306,12 @@ kept_law limit bound turns more start now s a r =
     let v = reach limit bound turns more start now s a r in
     record {
       once = λ fd. let f = v.1.fds fd in omega (arith, f);
-      jobs = v.0;
-      held = λ j l. (v.2 j l).0;
-      all = v.1.fds;
+      all = λ fd.
+          let f = v.1.fds fd in
+          let c = sum_to_same (λ j. total (fd_held fd) (v.0 j).holds) (λ j. fds_carried fd (steps_of j turns)) bound
+          (λ j less. sym (fds_held fd (steps_of j turns) (v.0 j) (v.2 j less).0).0) in
+          omega (arith, f, c);
+      taken = λ fd j less. (fds_held fd (steps_of j turns) (v.0 j) (v.2 j less).0).1;
     }
 
 -- each handle's descriptor is open on the object that its number had when it was resolved for the opening
@@ -339,12 +343,6 @@ empty : {A : Type 0} (xs : List A) → length xs ≡ 0 → xs ≡ []
 empty [] h = refl
 empty (x ∷ xs) h = absurd (omega arith)
 
--- what passes with an answer is a count, which weighs nothing else
-entry_weighs : (w : Hold → ℕ) → ((era n : ℕ) → w (hold.Count era n) ≡ 0) → (era : ℕ) (end : Finish) →
-    total w (entry_holds era end) ≡ 0
-entry_weighs w z era (finish.Answer (answer.Entry entry)) = let a = z era entry.inode in omega (arith, a)
-entry_weighs w z era _ = refl
-
 pub ended_jobs : (bound : ℕ) (turns : List Turn) → AreEnded bound turns → AreDisciplined bound turns
 ended_jobs bound turns a =
     record {
@@ -353,18 +351,18 @@ ended_jobs bound turns a =
     }
 
 -- a job at its end holds nothing that weighs, and owes nothing
-abbrev HasEnded : Job → Type 0
-HasEnded job = ((w : Hold → ℕ) → ((era n : ℕ) → w (hold.Count era n) ≡ 0) → total w job.holds ≡ 0) × (job.owed ≡ 0)
+abbrev HasFinished : Job → Type 0
+HasFinished job = ((w : Hold → ℕ) → ((era n : ℕ) → w (hold.Count era n) ≡ 0) → total w job.holds ≡ 0) × (job.owed ≡ 0)
 
 abbrev AtEnd : List Step → Job → Type 0
-AtEnd steps job = Disciplined idle steps job × HasEnded job
+AtEnd steps job = Disciplined idle steps job × HasFinished job
 
 at_end : (bound : ℕ) (turns : List Turn) → AreEnded bound turns → (j : ℕ) → j < bound →
     (job : Job) × AtEnd (steps_of j turns) job
 at_end bound turns a j l = let e = a.jobs j l in let f = e.1 in
     (at_job (entry_holds f.0 e.0) f.1, (f.2, ((λ w z. entry_weighs w z f.0 e.0), refl)))
 
-sum_nothing : (bound : ℕ) (js : ℕ → Job) → ((j : ℕ) → j < bound → HasEnded (js j)) →
+sum_nothing : (bound : ℕ) (js : ℕ → Job) → ((j : ℕ) → j < bound → HasFinished (js j)) →
     ((w : Hold → ℕ) → ((era n : ℕ) → w (hold.Count era n) ≡ 0) → held_by bound w js ≡ 0)
     × (sum_to bound (λ j. (js j).owed) ≡ 0)
 sum_nothing bound js h =
@@ -376,7 +374,7 @@ rest_law limit bound turns now a r =
     let ends = choose (λ j job. AtEnd (steps_of j turns) job) bound idle (at_end bound turns a) in
     let v = tables_keep bound (λ n. 0) turns (empty_tables limit) now (λ j.
     idle) ends.0 r a.owners (begins_tabled limit bound) (λ j l. (ends.1 j l).0) in
-    let none = sum_nothing bound v.1 (λ j l. subst HasEnded (sym (v.3 j l)) (ends.1 j l).1) in
+    let none = sum_nothing bound v.1 (λ j l. subst HasFinished (sym (v.3 j l)) (ends.1 j l).1) in
     let unpinned = all_unpinned now.rows (λ s. let p = v.2.books.pins s in
     let q = none.0 (pin_held s) (λ era n. refl) in omega (arith, p, q)) in
     let unpinned_handles =
@@ -417,7 +415,7 @@ leaves_law limit bound turns start end s a r fd =
     let ends = choose (λ j job. AtEnd (steps_of j turns) job) bound idle (at_end bound turns a) in
     let v = runs_keep bound (λ fd. open_count fd start.tree) (λ n. 0) turns start end (λ j.
     idle) ends.0 r a.owners (begins limit bound start s) (λ j l. (ends.1 j l).0) in
-    let none = sum_nothing bound v.0 (λ j l. subst HasEnded (sym (v.2 j l)) (ends.1 j l).1) in
+    let none = sum_nothing bound v.0 (λ j l. subst HasFinished (sym (v.2 j l)) (ends.1 j l).1) in
     let q = none.0 (fd_held fd) (λ era n. refl) in
     let closed = empty end.tables.closing (let p = v.1.tabled.books.closings in let q = none.1 in
     omega (arith, p, q)) in

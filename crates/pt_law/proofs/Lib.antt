@@ -13,6 +13,8 @@ pub mod Told
 pub mod Answering
 pub mod Edits
 pub mod Asked
+pub mod Beginning
+pub mod OnlyLookups
 pub mod ExampleJob
 pub mod Effects
 pub mod Flows
@@ -22,6 +24,7 @@ pub mod Growing
 pub mod Found
 pub mod Holding
 pub mod Counting
+pub mod Returned
 pub mod Numbers
 pub mod Givings
 pub mod Events
@@ -35,12 +38,15 @@ pub mod Standing
 pub mod HandlesOnce
 pub mod Pinned
 pub mod Next
+pub mod Cuts
 pub mod Overtaking
 pub mod Straight
-pub mod Cuts
-pub mod Entries
 pub mod Hosts
 pub mod Reliance
+pub mod Naming
+pub mod Entries
 pub mod Forgotten
 pub mod Tracing
 pub mod ExampleRace
+pub mod ExampleOrigins
+pub mod ExampleEntered

@@ -10,7 +10,7 @@ use Rattle.pt_session.specs.declared.reply.EventReply.TheVariants as event
 use Rattle.pt_req.specs.Deed.{Deed, Calls, Changes}
 use Rattle.pt_req.specs.declared.act.ActReply.{ActReply}
 use Rattle.pt_req.specs.declared.act.ActReply.TheVariants.{Event, Host, NoCopy}
-use Rattle.pt_law.specs.Discipline.{Job, Moves, MovesIf, Disciplined}
+use Rattle.pt_law.specs.Discipline.{Job, JobMoves, MovesIf, Disciplined}
 use Rattle.pt_law.specs.World.{World, Turn, TablesGo, Runs, TablesRun, steps_of}
 use Rattle.pt_law.specs.Ledger.{open_count, inserted}
 use Rattle.pt_law.specs.Laws.{AreDisciplined, Starts, NamesOpen, IsHonoured}
@@ -28,7 +28,7 @@ owner_of bound (s ∷ turns) turn more h = owner_of bound turns turn more h.1
 
 -- the owner's next move
 pub next_move : (turn : Turn) (more : List Turn) (job end : Job) →
-    Disciplined job (steps_of turn.job (turn ∷ more)) end → (after : Job) × Moves job turn.step after
+    Disciplined job (steps_of turn.job (turn ∷ more)) end → (after : Job) × JobMoves job turn.step after
 next_move turn more job end d = let k = subst (λ steps. Disciplined job steps end) (steps_same turn more) d in
     (k.0, k.1)
 

@@ -47,7 +47,7 @@ no_refusal (Event (event.Refused why)) entry e = event_no_entry why entry e
 no_refusal (Host host.NoMemory) entry e = cc
 no_refusal told entry e = cc
 
-no_entry : (told : ActReply) (entry : Entry) (steps : List Step) → Along (Refuses told) steps (answer.Entry entry) → ⊥
+pub no_entry : (told : ActReply) (entry : Entry) (steps : List Step) → Along (Refuses told) steps (answer.Entry entry) → ⊥
 no_entry told entry [] e = no_refusal told entry e
 no_entry told entry (step ∷ steps) e = e
 

@@ -1,5 +1,5 @@
 -- A job is told that it was overtaken only where another began the session anew after its first step.
-use Rattle.std.proofs.Common.{◌≡◌, ◌≢◌, ◌⊎◌, ⊎_elim, inl, inr, ℕ, ◌<◌, List, [], ◌∷◌, ◌++◌, length, refl, sym, ap}
+use Rattle.std.proofs.Common.{◌≡◌, ◌≢◌, ◌⊎◌, ⊎_elim, inl, inr, ℕ, ◌+◌, ◌<◌, List, [], ◌∷◌, ◌++◌, length, refl, sym, ap}
 use Rattle.std.proofs.Common.{subst, ◌∙◌, arith, append_assoc, append-nil, length-append, Option, Some, None}
 use Rattle.pt_host.specs.Words.{set_at, Each}
 use Rattle.pt_host.specs.Call.{Call}
@@ -19,15 +19,17 @@ use Rattle.pt_session.proofs.Replies.{refused_stays}
 use Rattle.pt_req.specs.Deed.{Deed, Calls, Changes, Step}
 use Rattle.pt_req.specs.declared.act.ActReply.{ActReply}
 use Rattle.pt_req.specs.declared.act.ActReply.TheVariants.{Event, Host}
-use Rattle.pt_law.specs.Discipline.{Job, Notes, idle, notes_after, with_root, MovesBy, MovesIf}
-use Rattle.pt_law.specs.World.{Turn, TablesGo, TablesRun, steps_of}
-use Rattle.pt_law.specs.Laws.{AreDisciplined, IsOvertaken, TellsOvertaken}
+use Rattle.pt_law.specs.Discipline.{Job, Notes, idle, notes_after, with_root, MovesBy, MovesIf, Disciplined}
+use Rattle.pt_law.specs.World.{Turn, turn_by, TablesGo, TablesRun, steps_of}
+use Rattle.pt_law.specs.Laws.{AreDisciplined, IsOvertaken, TellsOvertaken, TellsGiven, IsBeginning, BeginsFirst}
 use Rattle.pt_law.proofs.Ignoring.{IgnoresRows, IgnoresHandles, forgets_one, forgets_all, unpins, handle_dies}
 use Rattle.pt_law.proofs.Ignoring.{unpins_handle}
 use Rattle.pt_law.proofs.Flows.{called, unmade}
 use Rattle.pt_law.proofs.Lists.{at_each, each_front}
 use Rattle.pt_law.proofs.Interleaving.{Sorted, after_step, choose, steps_same, steps_other, steps_append}
-use Rattle.pt_law.proofs.Laws.{Between, between}
+use Rattle.pt_law.proofs.Interleaving.{tables_split}
+use Rattle.pt_law.proofs.Cuts.{located}
+use Rattle.pt_law.proofs.Laws.{Between, between, era_grows}
 use Rattle.pt_law.proofs.Next.{owner_of, next_move}
 
 -- which events leave the era: all but a clearing
@@ -274,3 +276,114 @@ overtaken_law limit bound turns turn more now next a r g o =
     idle) ends.0 r (each_front (λ s. s.job < bound) turns (turn ∷ more) a.owners) (λ j era e. absurd (cc)) (λ j l.
     (ends.1 j l).0) turn.job lt asked.0 asked.1 in
     ⊎_elim (λ (e : asked.0 ≡ now.era). absurd (asked.2 e)) (λ (x : IsOvertaken turn.job turns). x) k.1
+
+-- the era that a job began in stays noted
+noted_event : (job after : Job) (e : Change) (told : ActReply) (era : ℕ) → MovesBy job (Changes e) told after →
+    job.notes.era ≡ Some era → after.notes.era ≡ Some era
+noted_event job after change.Begin (Event (event.Began was negotiated)) era m q = absurd (let x = m.1 in cc)
+noted_event job after change.Clear (Event (event.Cleared was closings)) era m q = absurd (let x = m.1 in cc)
+noted_event job after (change.Resolve number) (Event (event.Resolved serial form ids mode)) era m q =
+    ap (λ (z : Notes). z.era) m.3 ∙ q
+noted_event job after change.DrawNode (Event (event.Drawn number)) era m q = ap (λ (z : Notes). z.era) m.3 ∙ q
+noted_event job after change.DrawHandle (Event (event.Drawn number)) era m q = ap (λ (z : Notes). z.era) m.3 ∙ q
+noted_event job after (change.Insert own number form ids mode) (Event (event.Inserted given)) era m q =
+    ap (λ (z : Notes). z.era) m.3 ∙ q
+noted_event job after (change.InsertRoot own form ids mode negotiated) (Event (event.Inserted given)) era m q =
+    ap (λ (z : Notes). z.era) m.3 ∙ q
+noted_event job after (change.InsertHandle own handle number fd) (Event (event.Inserted given)) era m q =
+    ap (λ (z : Notes). z.era) m.3 ∙ q
+noted_event job after e told era m q = ap (λ (z : Notes). z.era) m.3 ∙ q
+
+noted_step : (job after : Job) (deed : Option Deed) (told : ActReply) (era : ℕ) → MovesIf job deed told after →
+    job.notes.era ≡ Some era → after.notes.era ≡ Some era
+noted_step job after None told era m q = ap (λ (z : Job). z.notes.era) m ∙ q
+noted_step job after (Some (Calls asked)) told era m q =
+    ap (λ (z : Notes). z.era) m.3 ∙ called_era job.notes asked told ∙ q
+noted_step job after (Some (Changes asked)) told era m q = noted_event job after asked told era m q
+
+noted_steps : (job after : Job) (steps : List Step) (era : ℕ) → Disciplined job steps after →
+    job.notes.era ≡ Some era → after.notes.era ≡ Some era
+noted_steps job after [] era d q = ap (λ (z : Job). z.notes.era) d ∙ q
+noted_steps job after (step ∷ steps) era d q =
+    noted_steps d.0 after steps era d.2 (noted_step job d.0 step.deed step.reply era d.1 q)
+
+-- a job begins in the era that there is after its first step
+begun_era : (t t' : Tables) (job after : Job) (deed : Option Deed) (told : ActReply) → IsBeginning deed told →
+    TablesGo t deed told t' → MovesIf job deed told after → after.notes.era ≡ Some t'.era
+begun_era t t' job after (Some (Changes change.Begin)) (Event (event.Began was negotiated)) b g m =
+    ap (λ (z : Notes). z.era) m.3 ∙ ap Some (g.0 ∙ sym (ap (λ (z : Tables). z.era) g.2))
+begun_era t t' job after (Some (Changes change.Clear)) (Event (event.Cleared was closings)) b g m =
+    ap (λ (z : Notes). z.era) m.3 ∙ ap Some (sym (ap (λ (z : Tables). z.era) g.1.8))
+begun_era t t' job after deed told b g m = absurd b
+
+-- what is given is asked for in the era of the tables
+given_era : (t t' : Tables) (job after : Job) (deed : Option Deed) (told : ActReply) → TablesGo t deed told t' →
+    MovesIf job deed told after → TellsGiven deed told → job.notes.era ≡ Some t.era
+given_era t t' job after (Some (Changes (change.Claim era handle ids))) (Event (event.Claimed number)) g m o =
+    m.1.1 ∙ ap Some g.0
+given_era t t' job after (Some (Changes (change.Insert era number form ids mode))) (Event (event.Inserted given)) g m o =
+    m.1.0 ∙ ap Some g.0
+given_era t t' job after (Some (Changes (change.Insert era number form ids mode))) (Event (event.Found given)) g m o =
+    m.1.0 ∙ ap Some g.0
+given_era t t' job after (Some (Changes (change.InsertRoot era form ids mode negotiated)))
+    (Event (event.Inserted given)) g m o = m.1.0 ∙ ap Some g.0
+given_era t t' job after (Some (Changes (change.InsertHandle era handle number fd)))
+    (Event (event.Inserted given)) g m o = m.1.1 ∙ ap Some g.0
+given_era t t' job after deed told g m o = absurd o
+
+cleared_later : (t t' : Tables) (step : Step) (era closings : ℕ) →
+    step ≡ record { deed = Some (Changes change.Clear); reply = Event (event.Cleared era closings) } →
+    TablesGo t step.deed step.reply t' → t'.era ≡ t.era + 1
+cleared_later t t' step era closings e g =
+    let h = subst (λ (s : Step). TablesGo t s.deed s.reply t') e g in
+    ap (λ (z : Tables). z.era) h.1.8 ∙ h.1.7
+
+begins_where : (first : Step) (rest more : List Step) (last : Step) → BeginsFirst (first ∷ (rest ++ last ∷ more)) →
+    IsBeginning first.deed first.reply
+begins_where first [] more last b = b
+begins_where first (step ∷ rest) more last b = b
+
+-- who began before another's clearing is given nothing after it
+shut_out : (limit bound : ℕ) (turns : List Turn) (turn : Turn) (more : List Turn) (now next : Tables)
+    (first : Step) (rest : List Step) (o : IsOvertaken turn.job turns) → steps_of turn.job o.before ≡ first ∷ rest →
+    BeginsFirst (steps_of turn.job (turns ++ turn ∷ more)) → AreDisciplined bound (turns ++ turn ∷ more) →
+    TablesRun (empty_tables limit) turns now → TablesGo now turn.step.deed turn.step.reply next →
+    TellsGiven turn.step.deed turn.step.reply → ⊥
+shut_out limit bound turns turn more now next first rest o e begins a r g given =
+    let j = turn.job in
+    let own = between bound turns (turn ∷ more) a j (owner_of bound turns turn more a.owners) in
+    let move = next_move turn more own.0 own.1.1 own.1.2 in
+    let own_later = steps_of j (o.clearing ∷ o.later) in
+    let own_steps : steps_of j turns ≡ first ∷ (rest ++ own_later) =
+    ap (steps_of j) o.in_turn ∙ steps_append j o.before (o.clearing ∷ o.later) ∙ ap (λ z. z ++ own_later) e in
+    let all_steps : steps_of j (turns ++ turn ∷ more)
+    ≡ first ∷ ((rest ++ own_later) ++ turn.step ∷ steps_of j more) =
+    steps_append j turns (turn ∷ more) ∙ ap (λ z. steps_of j turns ++ z) (steps_same turn more)
+    ∙ ap (λ z. z ++ turn.step ∷ steps_of j more) own_steps in
+    let begun = begins_where first (rest ++ own_later) (steps_of j more) turn.step (subst BeginsFirst all_steps begins) in
+    let d = subst (λ z. Disciplined idle z own.0) own_steps own.1.0 in
+    let l = located j o.before [] first rest e in
+    let run : TablesRun (empty_tables limit) (l.0 ++ turn_by j first ∷ (l.1 ++ o.clearing ∷ o.later)) now =
+    subst (λ z. TablesRun (empty_tables limit) z now)
+    (o.in_turn ∙ ap (λ z. z ++ o.clearing ∷ o.later) l.2
+    ∙ append_assoc l.0 (turn_by j first ∷ l.1) (o.clearing ∷ o.later)) r in
+    let c = tables_split l.0 (turn_by j first ∷ (l.1 ++ o.clearing ∷ o.later)) (empty_tables limit) now run in
+    let k = tables_split l.1 (o.clearing ∷ o.later) c.2.0 now c.2.2 in
+    let noted = noted_steps d.0 own.0 (rest ++ own_later) c.2.0.era d.2
+    (begun_era c.0 c.2.0 idle d.0 first.deed first.reply begun c.2.1 d.1) in
+    let asked = given_era now next own.0 move.0 turn.step.deed turn.step.reply g move.1 given in
+    let same : c.2.0.era ≡ now.era = some_same (sym noted ∙ asked) in
+    let to_clear = era_grows l.1 c.2.0 k.0 k.1 in
+    let clears = cleared_later k.0 k.2.0 o.clearing.step o.era o.closings o.cleared k.2.1 in
+    let to_now = era_grows o.later k.2.0 now k.2.2 in
+    absurd (omega (arith, same, to_clear, clears, to_now))
+
+pub shut_out_law : (limit bound : ℕ) (turns : List Turn) (turn : Turn) (more : List Turn) (now next : Tables) →
+    BeginsFirst (steps_of turn.job (turns ++ turn ∷ more)) → AreDisciplined bound (turns ++ turn ∷ more) →
+    TablesRun (empty_tables limit) turns now → TablesGo now turn.step.deed turn.step.reply next →
+    IsOvertaken turn.job turns → TellsGiven turn.step.deed turn.step.reply → ⊥
+shut_out_law limit bound turns turn more now next begins a r g o given = go (steps_of turn.job o.before) refl
+  where
+    go : (steps : List Step) → steps_of turn.job o.before ≡ steps → ⊥
+    go [] e = o.begun e
+    go (first ∷ rest) e = shut_out limit bound turns turn more now next first rest o e begins a r g given

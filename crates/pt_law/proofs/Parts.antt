@@ -27,7 +27,7 @@ use Rattle.pt_req.specs.Requests.{on_root, on_done, on_row, on_bytes, on_handle,
 use Rattle.pt_req.specs.declared.act.ActReply.TheVariants.{Event, Host, NoCopy}
 use Rattle.pt_req.specs.declared.hold.Hold.{Hold}
 use Rattle.pt_req.specs.declared.hold.Hold.TheVariants as hold
-use Rattle.pt_law.specs.Discipline.{Knows, Notes, with_root, without}
+use Rattle.pt_law.specs.Discipline.{Knows, Notes, with_root, unnoted}
 use Rattle.pt_law.specs.Cause.{HasCause}
 use Rattle.pt_law.specs.Fit.{Fit, Lasts}
 use Rattle.pt_law.proofs.Sounds.{after_any}
@@ -189,7 +189,7 @@ pub ask_insert : (asked : Request) (era fresh : ℕ) (form : RowForm) (ids : Obj
     notes.era ≡ Some era → notes.latest ≡ Some (fd_of form) → notes.drawn ≡ Some fresh →
     ((number : ℕ) (path : List Step) →
     Fit asked (next number) (hold.Count era number
-    ∷ holds) (record (without (fd_of form) notes) { drawn = None }) path) →
+    ∷ holds) (record (unnoted (fd_of form) notes) { drawn = None }) path) →
     ((number : ℕ) (path : List Step) →
     Fit asked (found number) (hold.Count era number ∷ hold.Fd (fd_of form) (Some ids) ∷ hold.Slot
     ∷ holds) notes path) →
@@ -213,7 +213,7 @@ ask_insert asked era fresh form ids mode next found holds notes path e l d f g =
 pub ask_insert_root : (asked : Request) (era : ℕ) (form : RowForm) (ids : ObjIds) (mode : ℕ)
     (agreed : Option Negotiated) (next : Tree) (holds : List Hold) (notes : Notes) (path : List Step) →
     notes.era ≡ Some era → notes.root ≡ Some (fd_of form) →
-    ((path : List Step) → Fit asked next holds (without (fd_of form) notes) path) →
+    ((path : List Step) → Fit asked next holds (unnoted (fd_of form) notes) path) →
     Fit asked (Asks (Changes (change.InsertRoot era form ids mode agreed)) (on_root next))
     (hold.Fd (fd_of form) (Some ids) ∷ hold.Slot ∷ holds) notes path
 ask_insert_root asked era form ids mode agreed next holds notes path e r f = (
@@ -321,7 +321,7 @@ pub ask_insert_handle : (asked : Request) (era handle number row : ℕ) (fd : Fd
     (holds : List Hold) (notes : Notes) (path : List Step) →
     notes.era ≡ Some era → notes.handle ≡ Some handle →
     notes.resolved ≡ Some (record { number = number; row = row }) → notes.reopened ≡ Some fd →
-    ((path : List Step) → Fit asked next holds (record (without fd notes) { handle = None }) path) →
+    ((path : List Step) → Fit asked next holds (record (unnoted fd notes) { handle = None }) path) →
     Fit asked (Asks (Changes (change.InsertHandle era handle number fd)) (on_handle next)) (hold.Fd fd was ∷ hold.Slot
     ∷ holds) notes path
 ask_insert_handle asked era handle number row fd was next holds notes path e h r o f = (

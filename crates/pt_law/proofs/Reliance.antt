@@ -23,7 +23,7 @@ use Rattle.pt_req.specs.declared.act.ActReply.TheVariants.{Event, Host}
 use Rattle.pt_law.specs.World.{World, Past, Turn, IsLawful, Runs, TablesGo, TablesRun, settled_if}
 use Rattle.pt_law.specs.Ledger.{forgotten, given_by, inserted, inserted_if, inserted_as}
 use Rattle.pt_law.specs.Laws.{AreDisciplined, Starts, IsLive, ObjectOf}
-use Rattle.pt_law.specs.Uses.{StaysLive, asked}
+use Rattle.pt_law.specs.Uses.{StaysLive, amount_asked}
 use Rattle.pt_law.proofs.Lists.{is_apart, set_at_other, each_taken, each_replaced}
 use Rattle.pt_law.proofs.Givings.{count_in, live_count, in_other, apart_from, none_other, counts_step, counts_event}
 use Rattle.pt_law.proofs.Givings.{agree_step}
@@ -88,7 +88,7 @@ one_number_law limit bound turns between more start first second n m o s a r k l
     absurd (x.4 (some_same (sym x.2 ∙ has) ∙ some_same (sym still ∙ x.3)))) (cases_eq m n)
 
 -- what is asked is taken
-forgotten_less : (n had : ℕ) (list : List (ℕ × ℕ)) → forgotten n had list ≤ had - asked n list
+forgotten_less : (n had : ℕ) (list : List (ℕ × ℕ)) → forgotten n had list ≤ had - amount_asked n list
 forgotten_less n had [] = omega arith
 forgotten_less n had (pair ∷ pairs) = let h = forgotten_less n (had - is pair.0 n * pair.1) pairs in omega (arith, h)
 
@@ -108,11 +108,11 @@ at_most n most (row ∷ rows) a h = ⊎_elim
 
 pub gone_law : (before after : Tables) (list : List (ℕ × ℕ)) (closings number : ℕ) → Agree before →
     Happens before (change.Forget list) (event.Done closings) after →
-    Each (λ row. HasNumber number row → row.count ≤ asked number list) before.rows → NoRow after (HasNumber number)
+    Each (λ row. HasNumber number row → row.count ≤ amount_asked number list) before.rows → NoRow after (HasNumber number)
 gone_law before after list closings n a h most =
     let c = counts_event n before (change.Forget list) (event.Done closings) after a h in
     let l = forgotten_less n (live_count n before) list in
-    let m = at_most n (asked n list) before.rows a.apart most in
+    let m = at_most n (amount_asked n list) before.rows a.apart most in
     (counted n after (agree_step before (Some (Changes (change.Forget list)))
     (Event (event.Done closings)) after h a)).gone (omega (arith, c, l, m))
 

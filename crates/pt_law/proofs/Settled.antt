@@ -17,7 +17,7 @@ use Rattle.pt_req.specs.declared.hold.Hold.{Hold}
 use Rattle.pt_req.specs.declared.hold.Hold.TheVariants as hold
 use Rattle.pt_req.specs.declared.hold.Taken.{Taken}
 use Rattle.pt_req.specs.declared.hold.Taken.TheVariants as taken
-use Rattle.pt_law.specs.Discipline.{Shifts, Job, MovesIf, Disciplined, Ends, idle, entry_holds}
+use Rattle.pt_law.specs.Discipline.{Shifts, Job, MovesIf, Disciplined, ComesToEnd, idle, entry_holds}
 use Rattle.pt_law.specs.Settled.{job_given, job_returned, all_given, all_returned, entry_count}
 use Rattle.pt_law.proofs.Lists.{total_takes, total_replaces}
 
@@ -104,7 +104,7 @@ entry_weighs : (n era : ℕ) (end : Finish) → total (count_of n) (entry_holds 
 entry_weighs n era (finish.Answer (answer.Entry entry)) = omega arith
 entry_weighs n era end = refl
 
-pub settled : (n : ℕ) (steps : List Step) (end : Finish) → Ends idle steps end →
+pub settled : (n : ℕ) (steps : List Step) (end : Finish) → ComesToEnd idle steps end →
     all_given n steps ≡ all_returned n steps + entry_count n end
 settled n steps end e =
     let k = each_given n idle steps _ e.2 in

@@ -6,7 +6,7 @@ use Rattle.pt_req.specs.Deed.{Step, IsStepOf}
 use Rattle.pt_req.specs.Held.{brought}
 use Rattle.pt_req.specs.Grammar.{Grammar, End, Do, May, Owed}
 use Rattle.pt_req.specs.declared.hold.Hold.{Hold}
-use Rattle.pt_law.specs.Discipline.{Job, Notes, Moves, entry_holds}
+use Rattle.pt_law.specs.Discipline.{Job, Notes, JobMoves, entry_holds}
 use Rattle.pt_law.specs.Told.{StepMayBeTold}
 use Rattle.pt_law.specs.Cause.{SomeCauses, IsCausedEnd}
 use Rattle.pt_law.specs.Fit.{Lasts}
@@ -22,7 +22,7 @@ Sound asked (End last) job past =
     ((era : ℕ) × (job.holds ≡ entry_holds era last)) × (job.owed ≡ 0) × IsCausedEnd asked past last
 Sound asked (Do deed owed next) job past = Owes owed job
     × ((step : Step) → IsStepOf deed step.deed step.reply → StepMayBeTold step.deed step.reply →
-    (mid : Job) × Moves job step mid × Sound asked (next step.reply) mid (step ∷ past))
+    (mid : Job) × JobMoves job step mid × Sound asked (next step.reply) mid (step ∷ past))
 Sound asked (May one other) job past = Sound asked one job past × Sound asked other job past
 
 -- what the one causes, the other causes too

@@ -26,9 +26,9 @@ use Rattle.pt_req.specs.declared.hold.Hold.{Hold}
 use Rattle.pt_req.specs.declared.hold.Hold.TheVariants as hold
 use Rattle.pt_req.specs.declared.hold.Taken.{Taken}
 use Rattle.pt_req.specs.declared.hold.Taken.TheVariants as taken
-use Rattle.pt_law.specs.Discipline.{Notes, Job, at_job, notes_after, without, entry_holds}
+use Rattle.pt_law.specs.Discipline.{Notes, Job, at_job, notes_after, unnoted, entry_holds}
 use Rattle.pt_law.specs.Cause.{IsCaused, IsCausedEnd}
-use Rattle.pt_law.specs.Fit.{After, Lasts, IsHeld, Fit}
+use Rattle.pt_law.specs.Fit.{After, Lasts, HoldsEntry, Fit}
 use Rattle.pt_law.proofs.Sound.{Sound, Owes, Within, Goes, owing_job}
 use Rattle.pt_law.proofs.Moving.{made_moves, never_copied, giving_lasts, gives_back, may_step, told_of, causes_of}
 
@@ -98,19 +98,19 @@ sound_taken asked taken.Slot count holds rest notes past k = sound_slot asked co
 sound_taken asked (taken.Fd fd true) count holds rest notes past k = (
   (refl, refl),
   (λ step i t. (
-    owing_job (hold.Slot ∷ holds) count (without fd notes),
+    owing_job (hold.Slot ∷ holds) count (unnoted fd notes),
     made_moves (Calls (call.Close fd)) step.deed step.reply _ _ (λ no. no) i ((None, here), tt, omega arith, refl),
-    sound_slot asked count holds rest (without fd notes) (step
-        ∷ past) (goes_on asked rest holds count notes (without fd notes) past (step
+    sound_slot asked count holds rest (unnoted fd notes) (step
+        ∷ past) (goes_on asked rest holds count notes (unnoted fd notes) past (step
         ∷ past) (refl, refl) (λ errno s. inr s) k),
   )),
 )
 sound_taken asked (taken.Fd fd false) count holds rest notes past k = (
   (refl, refl),
   (λ step i t. (
-    owing_job holds count (without fd notes),
+    owing_job holds count (unnoted fd notes),
     made_moves (Calls (call.Close fd)) step.deed step.reply _ _ (λ no. no) i ((None, here), tt, omega arith, refl),
-    k (without fd notes) (refl, refl) (step ∷ past) (λ errno s. inr s),
+    k (unnoted fd notes) (refl, refl) (step ∷ past) (λ errno s. inr s),
   )),
 )
 
@@ -192,7 +192,7 @@ all_dropped [] = refl
 all_dropped (one ∷ holds) = all_dropped holds
 
 pub sound_answered : (asked : Request) (last : Answer) (holds : List Hold) (notes : Notes) (past : List Step) →
-    IsHeld last holds → IsCaused asked past last →
+    HoldsEntry last holds → IsCaused asked past last →
     Sound asked (answered (passes_with (finish.Answer last)) holds (finish.Answer last)) (at_job holds notes) past
 sound_answered asked (answer.Entry entry) (hold.Count era number ∷ holds) notes past h c =
     sound_shut asked (Some (hold.Count era number)) (length holds) holds (λ left.

@@ -27,11 +27,12 @@ use Rattle.pt_req.specs.Made.{Does, Made}
 use Rattle.pt_req.specs.declared.act.ActReply.{ActReply}
 use Rattle.pt_req.specs.declared.act.ActReply.TheVariants.{Event, Host, NoCopy}
 use Rattle.pt_req.specs.declared.hold.Hold.{Hold}
-use Rattle.pt_law.specs.Discipline.{Job, Resolution, Shifts, Moves, MovesIf, MovesBy}
+use Rattle.pt_law.specs.Discipline.{Job, Resolution, Shifts, JobMoves, MovesIf, MovesBy}
 use Rattle.pt_law.specs.World.{World, Turn, TablesGo, Goes, IsLawful, settled_if, settled_by}
 use Rattle.pt_law.specs.Ledger.{open_count, kept_fds, held_by, fd_held, some_count, slot_taken, slot_given}
 use Rattle.pt_law.specs.Ledger.{inserted_if, inserted_as}
-use Rattle.pt_law.proofs.Flows.{fd_ended, slot_in, slot_out, IsHonest, unmade}
+use Rattle.pt_law.specs.Ledger.{fd_ended}
+use Rattle.pt_law.proofs.Flows.{slot_in, slot_out, IsHonest, unmade}
 use Rattle.pt_law.proofs.Lists.{total_takes, sum_to_set, set_at_same, set_at_other, at_each}
 use Rattle.pt_law.proofs.Balance.{moved}
 use Rattle.pt_law.proofs.Holding.{handed, in_tree}
@@ -313,7 +314,7 @@ keeps_by bound base had w js j _ _ seat seat' next after lt v g p m = absurd g
 -- Each step keeps what holds.
 pub keeps : (bound : ℕ) (base had : ℕ → ℕ) (w : World) (js : ℕ → Job) (turn : Turn) (next : World) (after : Job) →
     turn.job < bound → Inv bound base had w js → Goes w turn next →
-    Moves (js turn.job) turn.step after →
+    JobMoves (js turn.job) turn.step after →
     Inv bound base (λ n. had n + inserted_if n turn.step.deed turn.step.reply) next (set_at turn.job after js)
 keeps bound base had w js turn next after lt v g m =
     keeps_by bound base had w js turn.job turn.step.deed turn.step.reply g.seat g.seat_after next after lt v g.made g.past m

@@ -19,20 +19,20 @@ Along (Shuts passes count rest) steps last = Along rest steps last
 Along tree steps last = ⊥
 
 -- it gives a hold back, or takes a closing
-abbrev pub GivesBack : Option Deed → Type 0
-GivesBack (Some (Calls (call.Close fd))) = Unit {0}
-GivesBack (Some (Changes (change.Unpin row))) = Unit {0}
-GivesBack (Some (Changes (change.UnpinHandle row))) = Unit {0}
-GivesBack (Some (Changes change.GiveFd)) = Unit {0}
-GivesBack (Some (Changes (change.GiveBack era number))) = Unit {0}
-GivesBack (Some (Changes change.TakeClosing)) = Unit {0}
-GivesBack deed = ⊥
+abbrev pub ReturnsHold : Option Deed → Type 0
+ReturnsHold (Some (Calls (call.Close fd))) = Unit {0}
+ReturnsHold (Some (Changes (change.Unpin row))) = Unit {0}
+ReturnsHold (Some (Changes (change.UnpinHandle row))) = Unit {0}
+ReturnsHold (Some (Changes change.GiveFd)) = Unit {0}
+ReturnsHold (Some (Changes (change.GiveBack era number))) = Unit {0}
+ReturnsHold (Some (Changes change.TakeClosing)) = Unit {0}
+ReturnsHold deed = ⊥
 
 -- the first are the second without some that give back
 pub data AreOwn : List Step → List Step → Type 0 where
   none : AreOwn [] []
   keep : {step : Step} {own all : List Step} → AreOwn own all → AreOwn (step ∷ own) (step ∷ all)
-  skip : {step : Step} {own all : List Step} → GivesBack step.deed → AreOwn own all → AreOwn own (step ∷ all)
+  skip : {step : Step} {own all : List Step} → ReturnsHold step.deed → AreOwn own all → AreOwn own (step ∷ all)
 
 -- given up as memory ran out, or a lost seat
 abbrev pub IsGivenUp : Finish → Type 0

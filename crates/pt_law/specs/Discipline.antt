@@ -116,8 +116,8 @@ unless fd None = None
 unless fd (Some noted) = if noted.0 == fd.0 then None else Some noted
 
 -- this descriptor is noted no more
-abbrev pub without : Fd → Notes → Notes
-without fd notes = record notes {
+abbrev pub unnoted : Fd → Notes → Notes
+unnoted fd notes = record notes {
   latest = unless fd notes.latest;
   root = unless fd notes.root;
   reopened = unless fd notes.reopened;
@@ -136,15 +136,15 @@ notes_after notes (Calls (call.OpenAt dir name flags mode)) (Host (host.Ok (valu
 notes_after notes (Changes (change.Resolve number)) (Event (event.Resolved row form ids mode)) =
     record notes { resolved = Some (record { number = number; row = row }); reopened = None }
 notes_after notes (Calls (call.Reopen fd flags)) (Host (host.Ok (value.Fd new))) = record notes { reopened = Some new }
-notes_after notes (Calls (call.Close fd)) told = without fd notes
+notes_after notes (Calls (call.Close fd)) told = unnoted fd notes
 notes_after notes (Changes change.DrawNode) (Event (event.Drawn number)) = record notes { drawn = Some number }
 notes_after notes (Changes change.DrawHandle) (Event (event.Drawn handle)) = record notes { handle = Some handle }
 notes_after notes (Changes (change.InsertHandle era handle number fd)) (Event (event.Inserted given)) =
-    record (without fd notes) { handle = None }
+    record (unnoted fd notes) { handle = None }
 notes_after notes (Changes (change.Insert era number form ids mode)) (Event (event.Inserted given)) =
-    record (without (fd_of form) notes) { drawn = None }
+    record (unnoted (fd_of form) notes) { drawn = None }
 notes_after notes (Changes (change.InsertRoot era form ids mode agreed)) (Event (event.Inserted given)) =
-    without (fd_of form) notes
+    unnoted (fd_of form) notes
 notes_after notes _ _ = notes
 
 pub record Job : Type 0 where
@@ -165,8 +165,8 @@ owed_after owed (Changes change.TakeClosing) told = owed - 1
 owed_after owed deed told = owed + closings_in deed told
 
 -- the descriptor is held, and `Stat` told these ids of it
-abbrev pub IsTold : List Hold → Fd → ObjIds → Type 0
-IsTold holds fd ids = (rest : List Hold) × Takes (hold.Fd fd (Some ids)) holds rest
+abbrev pub HoldsTold : List Hold → Fd → ObjIds → Type 0
+HoldsTold holds fd ids = (rest : List Hold) × Takes (hold.Fd fd (Some ids)) holds rest
 
 -- the descriptor is that of the row that was resolved last, which is pinned
 abbrev pub PinsLatest : Job → Fd → Type 0
@@ -189,12 +189,12 @@ Fits job (Changes (change.InsertHandle era handle number fd)) =
     × (job.notes.resolved ≡ Some (record { number = number; row = row }))
     × (job.notes.reopened ≡ Some fd)
 Fits job (Changes (change.Claim era handle ids)) =
-    (fd : Fd) × (job.notes.era ≡ Some era) × (job.notes.latest ≡ Some fd) × IsTold job.holds fd ids
+    (fd : Fd) × (job.notes.era ≡ Some era) × (job.notes.latest ≡ Some fd) × HoldsTold job.holds fd ids
 Fits job (Changes (change.Insert era number form ids mode)) =
     (job.notes.era ≡ Some era) × (job.notes.latest ≡ Some (fd_of form)) × (job.notes.drawn ≡ Some number)
-    × IsTold job.holds (fd_of form) ids
+    × HoldsTold job.holds (fd_of form) ids
 Fits job (Changes (change.InsertRoot era form ids mode agreed)) =
-    (job.notes.era ≡ Some era) × (job.notes.root ≡ Some (fd_of form)) × IsTold job.holds (fd_of form) ids
+    (job.notes.era ≡ Some era) × (job.notes.root ≡ Some (fd_of form)) × HoldsTold job.holds (fd_of form) ids
 Fits job (Changes change.TakeClosing) = 0 < job.owed
 Fits job deed = Unit {0}
 
@@ -208,12 +208,12 @@ abbrev pub MovesIf : Job → Option Deed → ActReply → Job → Type 0
 MovesIf job None told after = after ≡ job
 MovesIf job (Some deed) told after = MovesBy job deed told after
 
-abbrev pub Moves : Job → Step → Job → Type 0
-Moves job step after = MovesIf job step.deed step.reply after
+abbrev pub JobMoves : Job → Step → Job → Type 0
+JobMoves job step after = MovesIf job step.deed step.reply after
 
 abbrev pub Disciplined : Job → List Step → Job → Type 0
 Disciplined job [] after = after ≡ job
-Disciplined job (step ∷ steps) after = (mid : Job) × Moves job step mid × Disciplined mid steps after
+Disciplined job (step ∷ steps) after = (mid : Job) × JobMoves job step mid × Disciplined mid steps after
 
 -- what is held at the end: an answered number's count, which the asker has then
 abbrev pub entry_holds : ℕ → Finish → List Hold
@@ -221,5 +221,5 @@ entry_holds era (finish.Answer (answer.Entry entry)) = hold.Count era entry.inod
 entry_holds era end = []
 
 -- by these steps the job comes to its end: it holds what passes with the answer, and owes nothing
-abbrev pub Ends : Job → List Step → Finish → Type 0
-Ends job steps end = (era : ℕ) × (last : Notes) × Disciplined job steps (at_job (entry_holds era end) last)
+abbrev pub ComesToEnd : Job → List Step → Finish → Type 0
+ComesToEnd job steps end = (era : ℕ) × (last : Notes) × Disciplined job steps (at_job (entry_holds era end) last)

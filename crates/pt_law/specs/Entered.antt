@@ -1,22 +1,22 @@
--- Believed. Which object an entry names.
-use Rattle.std.specs.Prelude.{◌≡◌, ℕ, List, [], ◌∷◌, ◌++◌, Option, Some}
+-- Believed. Which object an entry names: places of the run first, and then what holds on every path through them.
+use Rattle.std.specs.Prelude.{◌≡◌, ℕ, List, [], ◌∷◌, ◌++◌, Option, None, Some}
+use Rattle.pt_host.specs.Words.{Each}
 use Rattle.pt_host.specs.Tree.{Object, IsObject}
 use Rattle.pt_host.specs.declared.ids.ObjIds.{ObjIds}
-use Rattle.pt_host.specs.declared.op.KeptHostOp.TheVariants as call
-use Rattle.pt_host.specs.declared.reply.HostReply.TheVariants as host
-use Rattle.pt_host.specs.declared.reply.HostValue.TheVariants as value
 use Rattle.pt_session.specs.declared.event.KeptEvent.TheVariants as change
 use Rattle.pt_session.specs.declared.reply.EventReply.TheVariants as event
 use Rattle.pt_iface.specs.declared.entry.Entry.{Entry}
-use Rattle.pt_req.specs.Deed.{Deed, Calls, Changes, Step}
+use Rattle.pt_iface.specs.declared.request.Request.TheVariants as request
+use Rattle.pt_req.specs.Deed.{Deed, Changes, Step}
 use Rattle.pt_req.specs.Held.{fd_of}
-use Rattle.pt_req.specs.Requests.{path}
+use Rattle.pt_req.specs.Pattern.{Asked, Requests}
 use Rattle.pt_req.specs.declared.act.ActReply.{ActReply}
-use Rattle.pt_req.specs.declared.act.ActReply.TheVariants.{Event, Host}
+use Rattle.pt_req.specs.declared.act.ActReply.TheVariants.{Event}
 use Rattle.pt_req.specs.declared.plan.Plan.{Plan}
-use Rattle.pt_law.specs.Opened.{made, IsLookedUp}
-use Rattle.pt_law.specs.World.{Turn, World, Runs, steps_of}
+use Rattle.pt_law.specs.Opened.{IsLookedUp}
+use Rattle.pt_law.specs.World.{Turn, World, turn_by, Goes, Runs, steps_of}
 use Rattle.pt_law.specs.Laws.{ObjectOf}
+use Rattle.pt_law.specs.Naming.{OpensNone, NamePlaces, NamePath, LedTo, resolving, opening}
 
 -- the deed was asked for an object of these ids, and gave this number
 abbrev pub GivesBy : ℕ → ObjIds → Option Deed → ActReply → Type 0
@@ -28,47 +28,73 @@ GivesBy number ids (Some (Changes (change.Insert era drawn form asked mode))) (E
     (given ≡ number) × (asked ≡ ids)
 GivesBy number ids deed told = ⊥
 
-abbrev pub turn_of : ℕ → Step → Turn
-turn_of job step = record { job = job; step = step }
+-- the places of the run where a job opened a name, and where it was given a number for what it had opened; other steps
+-- of the job may stand between them
+pub record GivingPlaces (turns : List Turn) (job parent : ℕ) (name : List ℕ) (number : ℕ) (ids : ObjIds) :
+    Type 0 where
+  pub opened : NamePlaces turns job parent name
+  pub until : List Turn
+  pub give : Step
+  pub behind : List Turn
+  pub in_turn : opened.later ≡ until ++ turn_by job give ∷ behind
+  -- in between the job opened no other name
+  pub opened_last : Each (λ step. OpensNone step.deed step.reply) (steps_of job until)
+  pub gives : GivesBy number ids give.deed give.reply
 
--- An entry that a lookup answered: the job resolved the parent, opened the name in the very directory that the parent
--- stood for then, and was given the number, which stood for the object that it had opened; the entry's attributes are
--- those of that object's status.
-pub record IsEntered (plan : Plan) (start : World) (turns : List Turn) (end : World) (job parent : ℕ) (name : List ℕ)
-    (entry : Entry) : Type 0 where
+-- the steps of the run up to the giving step
+abbrev pub up_to : {turns : List Turn} {job parent : ℕ} {name : List ℕ} {number : ℕ} {ids : ObjIds} →
+    GivingPlaces turns job parent name number ids → List Turn
+up_to {job = job} {parent = parent} {name = name} places =
+    places.opened.before
+    ++ turn_by job
+    (resolving parent places.opened.row places.opened.form places.opened.ids places.opened.mode)
+    ∷ (places.opened.between
+    ++ turn_by job
+    (opening places.opened.dir name places.opened.flags places.opened.made_mode places.opened.fd)
+    ∷ (places.until ++ turn_by job places.give ∷ []))
+
+-- the worlds of a path through these places, up to the one in which the number has been given
+pub record GivingPath {turns : List Turn} {job parent : ℕ} {name : List ℕ} {number : ℕ} {ids : ObjIds} (start : World)
+    (places : GivingPlaces turns job parent name number ids) (given : World) : Type 0 where
+  pub opened : World
+  pub named : NamePath start places.opened opened
+  pub at_give : World
+  pub to_give : Runs opened places.until at_give
+  pub gives : Goes at_give (turn_by job places.give) given
+
+-- on this path the number stands for the object that the name led to, which has the ids that it was asked for by
+pub record IsGiven {turns : List Turn} {job parent : ℕ} {name : List ℕ} {number : ℕ} {ids : ObjIds} {start : World}
+    {places : GivingPlaces turns job parent name number ids} {given : World} (path : GivingPath start places given) :
+    Type 0 where
+  pub object : ℕ
+  pub led : LedTo path.named object
+  pub number_is : ObjectOf given number object
+  pub what : Object
+  pub is_object : IsObject given.tree object what
+  pub same_ids : what.ids ≡ ids
+
+-- The places of an entry that a lookup answered: the job resolved the parent, opened the name by the parent's row, and
+-- was given the number for the object whose status it was told; the entry is that number and that status.
+pub record EntryPlaces (plan : Plan) (turns : List Turn) (job parent : ℕ) (name : List ℕ) (entry : Entry) : Type 0 where
   -- the job's own steps: those by which it came to the entry, and then what it gave back
   pub own : List Step
   pub back : List Step
   pub all : steps_of job turns ≡ own ++ back
   pub looked_up : IsLookedUp plan parent name entry own
-  -- the run, cut where the parent was resolved, the name was opened and the number was given
-  pub before : List Turn
-  pub between : List Turn
-  pub later : List Turn
-  pub behind : List Turn
-  pub resolve : Step
-  pub opening : Step
-  pub give : Step
-  pub resolves : resolve
-      ≡ made (Changes (change.Resolve parent))
-      (Event (event.Resolved looked_up.row looked_up.form looked_up.ids looked_up.mode))
-  pub opens : opening
-      ≡ made (Calls (call.OpenAt (fd_of looked_up.form) name path 0)) (Host (host.Ok (value.Fd looked_up.fd)))
-  pub gives : GivesBy entry.inode looked_up.stat.ids give.deed give.reply
-  pub in_turn : turns ≡ before
-      ++ turn_of job resolve ∷ (between ++ turn_of job opening ∷ (later ++ turn_of job give ∷ behind))
-  pub at_resolve : World
-  pub at_open : World
-  pub after_give : World
-  pub to_resolve : Runs start before at_resolve
-  pub to_open : Runs at_resolve (turn_of job resolve ∷ between) at_open
-  pub to_give : Runs at_open (turn_of job opening ∷ (later ++ turn_of job give ∷ [])) after_give
-  pub to_end : Runs after_give behind end
-  pub directory : ℕ
-  pub object : ℕ
-  pub parent_is : ObjectOf at_resolve parent directory
-  pub name_is : at_open.tree.names directory name ≡ Some object
-  pub number_is : ObjectOf after_give entry.inode object
-  pub what : Object
-  pub is_object : IsObject after_give.tree object what
-  pub same_ids : what.ids ≡ looked_up.stat.ids
+  pub given : GivingPlaces turns job parent name entry.inode looked_up.stat.ids
+  -- these are the places of the lookup's own steps
+  pub same_row : given.opened.row ≡ looked_up.row
+  pub same_dir : given.opened.dir ≡ fd_of looked_up.form
+  pub same_fd : given.opened.fd ≡ looked_up.fd
+
+-- The entry has its places, and on every path through them its number stands for the object that its name led to, in
+-- the very directory that its parent stood for.
+abbrev pub IsEntered : Plan → World → List Turn → ℕ → ℕ → List ℕ → Entry → Type 0
+IsEntered plan start turns job parent name entry =
+    (places : EntryPlaces plan turns job parent name entry)
+    × ((given : World) (path : GivingPath start places.given given) → IsGiven path)
+
+-- the parent and the name that are asked for, by a lookup
+abbrev pub name_asked : Asked → Option (ℕ × List ℕ)
+name_asked (Requests (request.Lookup parent name)) = Some (parent, name)
+name_asked asked = None

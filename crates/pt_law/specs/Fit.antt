@@ -58,15 +58,15 @@ After zero P notes = P notes
 After (suc count) P notes = (later : Notes) → Lasts notes later → P later
 
 -- an entry is answered with the count of its number as the last hold
-abbrev pub IsHeld : Answer → List Hold → Type 0
-IsHeld (answer.Entry entry) (hold.Count era number ∷ holds) = number ≡ entry.inode
-IsHeld (answer.Entry entry) holds = ⊥
-IsHeld last holds = Unit {0}
+abbrev pub HoldsEntry : Answer → List Hold → Type 0
+HoldsEntry (answer.Entry entry) (hold.Count era number ∷ holds) = number ≡ entry.inode
+HoldsEntry (answer.Entry entry) holds = ⊥
+HoldsEntry last holds = Unit {0}
 
 -- On each path through the tree of what was asked, by replies that may come: each deed may be made, and a refusal has
 -- its cause on the path, whose latest step stands first.
 abbrev pub Fit : Request → Tree → List Hold → Notes → List Step → Type 0
-Fit asked (Gives last) holds notes path = IsHeld last holds × IsCaused asked path last
+Fit asked (Gives last) holds notes path = HoldsEntry last holds × IsCaused asked path last
 Fit asked (Refuses told) holds notes path = IsCaused asked path (refusal told)
 Fit asked (Asks deed next) holds notes path = MayMake deed holds notes × ((told : ActReply) → MayBeTold deed told →
     After (closings_in deed told) (λ later.

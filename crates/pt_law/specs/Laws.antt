@@ -10,7 +10,7 @@ use Rattle.pt_session.specs.Happens.{IsRow, NoRow, IsHandleRow, NoHandle}
 use Rattle.pt_session.specs.declared.event.KeptEvent.TheVariants as change
 use Rattle.pt_session.specs.declared.reply.EventRefusal.TheVariants.{Overtaken}
 use Rattle.pt_session.specs.declared.reply.EventReply.TheVariants as event
-use Rattle.pt_req.specs.Deed.{Deed, Calls, Changes}
+use Rattle.pt_req.specs.Deed.{Deed, Calls, Changes, Step}
 use Rattle.pt_req.specs.Grammar.{Belongs}
 use Rattle.pt_req.specs.Held.{fd_of}
 use Rattle.pt_req.specs.Pattern.{Asked, grammar_for}
@@ -18,10 +18,10 @@ use Rattle.pt_req.specs.declared.act.ActReply.{ActReply}
 use Rattle.pt_req.specs.declared.act.ActReply.TheVariants.{Event}
 use Rattle.pt_req.specs.declared.finish.Finish.{Finish}
 use Rattle.pt_req.specs.declared.plan.Plan.{Plan}
-use Rattle.pt_law.specs.Discipline.{Job, idle, Disciplined, Ends}
+use Rattle.pt_law.specs.Discipline.{Job, idle, Disciplined, ComesToEnd}
 use Rattle.pt_law.specs.World.{Turn, World, steps_of, no_past}
 use Rattle.pt_law.specs.Ledger.{kept_slots, row_slot, handle_fd, slots_taken, slots_given, carried, kept_fds, row_fd}
-use Rattle.pt_law.specs.Ledger.{fd_held, held_by, open_count}
+use Rattle.pt_law.specs.Ledger.{fd_taken, fd_given, fds_carried, summed, open_count}
 
 -- each step is one of the jobs' below the bound, and each of these keeps the discipline
 pub record AreDisciplined (bound : ℕ) (turns : List Turn) : Type 0 where
@@ -31,7 +31,7 @@ pub record AreDisciplined (bound : ℕ) (turns : List Turn) : Type 0 where
 -- and has come to its end
 pub record AreEnded (bound : ℕ) (turns : List Turn) : Type 0 where
   pub owners : Each (λ turn. turn.job < bound) turns
-  pub jobs : (job : ℕ) → job < bound → (end : Finish) × Ends idle (steps_of job turns) end
+  pub jobs : (job : ℕ) → job < bound → (end : Finish) × ComesToEnd idle (steps_of job turns) end
 
 -- each job's steps and end belong to what it asked, a request or an edit
 pub record AreAnswered (plan : Plan) (bound : ℕ) (asked : ℕ → Asked) (ends : ℕ → Finish)
@@ -105,20 +105,45 @@ TellsOvertaken (Some (Changes (change.InsertRoot era form ids mode agreed))) (Ev
 TellsOvertaken (Some (Changes (change.InsertHandle era handle number fd))) (Event (event.Refused Overtaken)) = Unit {0}
 TellsOvertaken deed told = ⊥
 
+-- the tables gave the job a number, or took its handle
+abbrev pub TellsGiven : Option Deed → ActReply → Type 0
+TellsGiven (Some (Changes (change.Claim era handle ids))) (Event (event.Claimed number)) = Unit {0}
+TellsGiven (Some (Changes (change.Insert era number form ids mode))) (Event (event.Inserted given)) = Unit {0}
+TellsGiven (Some (Changes (change.Insert era number form ids mode))) (Event (event.Found given)) = Unit {0}
+TellsGiven (Some (Changes (change.InsertRoot era form ids mode agreed))) (Event (event.Inserted given)) = Unit {0}
+TellsGiven (Some (Changes (change.InsertHandle era handle number fd))) (Event (event.Inserted given)) = Unit {0}
+TellsGiven deed told = ⊥
+
+-- the step begins a job: in the era that there is, or in a new one
+abbrev pub IsBeginning : Option Deed → ActReply → Type 0
+IsBeginning (Some (Changes change.Begin)) (Event (event.Began era agreed)) = Unit {0}
+IsBeginning (Some (Changes change.Clear)) (Event (event.Cleared era closings)) = Unit {0}
+IsBeginning deed told = ⊥
+
+-- a job's first step begins it, unless it is the only one
+abbrev pub BeginsFirst : List Step → Type 0
+BeginsFirst [] = Unit {0}
+BeginsFirst (step ∷ []) = Unit {0}
+BeginsFirst (step ∷ other ∷ steps) = IsBeginning step.deed step.reply
+
 -- slots left, those of rows and of the closing list, and those that jobs carry, are the limit
 pub record SlotsAddUp (limit bound : ℕ) (turns : List Turn) (tables : Tables) : Type 0 where
   pub sum : kept_slots tables + sum_to bound (λ job. carried (steps_of job turns)) ≡ limit
   -- no job gave more than it had taken
   pub taken : (job : ℕ) → job < bound → slots_given (steps_of job turns) ≤ slots_taken (steps_of job turns)
 
--- Where each open descriptor is: it was open at the start, or stands once in the tables or is held once by a job.
+-- Where each open descriptor is: it was open at the start, or stands once in the tables, or a job has it, which opened
+-- it or took it for closing, and neither closed it nor handed it to the tables.
 pub record AreKept (start : World) (bound : ℕ) (turns : List Turn) (now : World) : Type 0 where
   -- one that stands in the tables stands there once, and is open
   pub once : (fd : ℕ) → kept_fds fd now.tables ≤ open_count fd now.tree
-  pub jobs : ℕ → Job
-  pub held : (job : ℕ) → job < bound → Disciplined idle (steps_of job turns) (jobs job)
   pub all : (fd : ℕ) →
-      open_count fd now.tree ≡ kept_fds fd now.tables + held_by bound (fd_held fd) jobs + open_count fd start.tree
+      open_count fd now.tree
+      ≡ kept_fds fd now.tables + sum_to bound (λ job. fds_carried fd (steps_of job turns))
+      + open_count fd start.tree
+  -- no job closed or handed over more than it had
+  pub taken : (fd job : ℕ) → job < bound →
+      summed (fd_given fd) (steps_of job turns) ≤ summed (fd_taken fd) (steps_of job turns)
 
 -- a call names only what is open; an edit names no descriptor
 abbrev pub NamesOpen : Tree → Option Deed → Type 0

@@ -2,6 +2,9 @@
 use Rattle.std.specs.Prelude.{ℕ, ◌+◌, ◌-◌, ◌*◌, Bool, true, false, List, [], ◌∷◌, length, Option, None, Some}
 use Rattle.pt_host.specs.Words.{is, total, sum_to}
 use Rattle.pt_host.specs.Tree.{Tree}
+use Rattle.pt_host.specs.declared.op.KeptHostOp.TheVariants as call
+use Rattle.pt_host.specs.declared.reply.HostReply.TheVariants as host
+use Rattle.pt_host.specs.declared.reply.HostValue.TheVariants as value
 use Rattle.pt_session.specs.Tables.{Tables}
 use Rattle.pt_session.specs.declared.row.Row.{Row}
 use Rattle.pt_session.specs.declared.row.HandleRow.{HandleRow}
@@ -10,10 +13,10 @@ use Rattle.pt_session.specs.declared.form.RowForm.{RowForm}
 use Rattle.pt_session.specs.declared.form.RowForm.TheVariants.{File}
 use Rattle.pt_session.specs.declared.event.KeptEvent.TheVariants as change
 use Rattle.pt_session.specs.declared.reply.EventReply.TheVariants as event
-use Rattle.pt_req.specs.Deed.{Deed, Changes, Step}
+use Rattle.pt_req.specs.Deed.{Deed, Calls, Changes, Step}
 use Rattle.pt_req.specs.Held.{fd_of}
 use Rattle.pt_req.specs.declared.act.ActReply.{ActReply}
-use Rattle.pt_req.specs.declared.act.ActReply.TheVariants.{Event}
+use Rattle.pt_req.specs.declared.act.ActReply.TheVariants.{Event, Host}
 use Rattle.pt_req.specs.declared.hold.Hold.{Hold}
 use Rattle.pt_req.specs.declared.hold.Hold.TheVariants as hold
 use Rattle.pt_law.specs.Discipline.{Job}
@@ -99,6 +102,73 @@ some_count (Some one) = 1
 -- 1 where the descriptor is open, else 0
 abbrev pub open_count : ℕ → Tree → ℕ
 open_count fd tree = some_count (tree.opened fd)
+
+-- What a step moves, by its deed and its reply alone.
+
+-- a descriptor that it opens
+abbrev pub fd_made : ℕ → Deed → ActReply → ℕ
+fd_made fd (Calls (call.OpenRoot path flags)) (Host (host.Ok (value.Fd new))) = is new.0 fd
+fd_made fd (Calls (call.OpenAt dir name flags mode)) (Host (host.Ok (value.Fd new))) = is new.0 fd
+fd_made fd (Calls (call.Reopen same flags)) (Host (host.Ok (value.Fd new))) = is new.0 fd
+fd_made fd deed told = 0
+
+-- one that it closes, whatever that is answered
+abbrev pub fd_ended : ℕ → Deed → ActReply → ℕ
+fd_ended fd (Calls (call.Close same)) told = is same.0 fd
+fd_ended fd deed told = 0
+
+-- one that it hands to the tables
+abbrev pub fd_in : ℕ → Deed → ActReply → ℕ
+fd_in fd (Changes (change.Insert era number form ids mode)) (Event (event.Inserted given)) = is (fd_of form).0 fd
+fd_in fd (Changes (change.InsertRoot era form ids mode agreed)) (Event (event.Inserted given)) = is (fd_of form).0 fd
+fd_in fd (Changes (change.InsertHandle era handle number same)) (Event (event.Inserted given)) = is same.0 fd
+fd_in fd deed told = 0
+
+-- one that it takes from their closing list
+abbrev pub fd_out : ℕ → Deed → ActReply → ℕ
+fd_out fd (Changes change.TakeClosing) (Event (event.Closing same slot)) = is same.0 fd
+fd_out fd deed told = 0
+
+abbrev pub fd_taken : ℕ → Deed → ActReply → ℕ
+fd_taken fd deed told = fd_made fd deed told + fd_out fd deed told
+
+abbrev pub fd_given : ℕ → Deed → ActReply → ℕ
+fd_given fd deed told = fd_ended fd deed told + fd_in fd deed told
+
+-- a pin of a number's row, taken and given back
+abbrev pub pin_made : ℕ → Deed → ActReply → ℕ
+pin_made serial (Changes (change.Resolve number)) (Event (event.Resolved row form ids mode)) = is row serial
+pin_made serial deed told = 0
+
+abbrev pub pin_ended : ℕ → Deed → ActReply → ℕ
+pin_ended serial (Changes (change.Unpin row)) told = is row serial
+pin_ended serial deed told = 0
+
+-- a pin of a handle's row
+abbrev pub handle_pin_made : ℕ → Deed → ActReply → ℕ
+handle_pin_made serial (Changes (change.PinHandle handle number)) (Event (event.Pinned row fd)) = is row serial
+handle_pin_made serial deed told = 0
+
+abbrev pub handle_pin_ended : ℕ → Deed → ActReply → ℕ
+handle_pin_ended serial (Changes (change.UnpinHandle row)) told = is row serial
+handle_pin_ended serial deed told = 0
+
+-- a closing that it takes; those that it is told of are `closings_in`
+abbrev pub closing_ended : Deed → ActReply → ℕ
+closing_ended (Changes change.TakeClosing) told = 1
+closing_ended deed told = 0
+
+abbrev pub weighed : (Deed → ActReply → ℕ) → Option Deed → ActReply → ℕ
+weighed weight None told = 0
+weighed weight (Some deed) told = weight deed told
+
+-- what a job's steps come to together
+abbrev pub summed : (Deed → ActReply → ℕ) → List Step → ℕ
+summed weight steps = total (λ step. weighed weight step.deed step.reply) steps
+
+-- a descriptor that a job has: opened or taken, and neither closed nor handed over
+abbrev pub fds_carried : ℕ → List Step → ℕ
+fds_carried fd steps = summed (fd_taken fd) steps - summed (fd_given fd) steps
 
 -- Givings and takings of a number.
 

@@ -13,9 +13,9 @@ StaysLive start turns number =
     (front rest : List Turn) (now : World) → turns ≡ front ++ rest → Runs start front now → IsLive now.tables number
 
 -- how much of a number the pairs of a list ask
-abbrev pub asked : ℕ → List (ℕ × ℕ) → ℕ
-asked number [] = 0
-asked number (pair ∷ pairs) = is pair.0 number * pair.1 + asked number pairs
+abbrev pub amount_asked : ℕ → List (ℕ × ℕ) → ℕ
+amount_asked number [] = 0
+amount_asked number (pair ∷ pairs) = is pair.0 number * pair.1 + amount_asked number pairs
 
 -- The request is on the number: it resolves it before all else, a bad name aside. One by a handle is not, and serves
 -- on.

@@ -24,6 +24,9 @@ pub record Turn : Type 0 where
   pub job : ℕ
   pub step : Step
 
+abbrev pub turn_by : ℕ → Step → Turn
+turn_by job step = record { job = job; step = step }
+
 -- what one job did
 abbrev pub steps_of : ℕ → List Turn → List Step
 steps_of job [] = []

@@ -1,4 +1,4 @@
-ghost use Rattle.std.specs.Prelude.{◌≡◌, ◌⊎◌, ◌+◌, ℕ, List, [], length, Option};
+ghost use Rattle.std.specs.Prelude.{◌≡◌, ◌⊎◌, ℕ, List, [], length, Option};
 ghost use Rattle.pt_host.specs.declared.edit.Edit.{Edit};
 ghost use Rattle.pt_host.specs.declared.ids.Errno.{Errno};
 ghost use Rattle.pt_host.specs.declared.seat.HostSeat.{HostSeat};
@@ -16,16 +16,17 @@ ghost use Rattle.pt_req.specs.Grammar.{Belongs};
 ghost use Rattle.pt_req.specs.Frame.{BelongsCut};
 ghost use Rattle.pt_req.specs.Tree.{Tree, framed};
 ghost use Rattle.pt_req.specs.Requests.{tree_of};
-ghost use Rattle.pt_req.specs.Pattern.{Edits, EditPattern, grammar_of};
+ghost use Rattle.pt_req.specs.Pattern.{Asked, Requests, Edits, EditPattern, grammar_of, grammar_for};
 ghost use Rattle.pt_req.specs.declared.finish.Finish.{Finish};
 ghost use Rattle.pt_req.specs.declared.finish.Finish.TheVariants as finish;
 ghost use Rattle.pt_req.specs.declared.plan.Plan.{Plan};
-ghost use Rattle.pt_law.specs.Discipline.{idle, blank, Ends};
+ghost use Rattle.pt_law.specs.Discipline.{idle, blank, ComesToEnd};
 ghost use Rattle.pt_law.specs.Told.{StepMayBeTold, AllMayBeTold};
 ghost use Rattle.pt_law.specs.Cause.{HasCause, IsCausedEnd, IsCausedBy};
 ghost use Rattle.pt_law.specs.Fit.{Fit};
 ghost use Rattle.pt_law.specs.Branch.{AreOwn, IsGivenUp, IsOfBranch};
-ghost use Rattle.pt_law.specs.Settled.{all_given, all_returned, entry_count};
+ghost use Rattle.pt_law.specs.Settled.{IsSettled};
+ghost use Rattle.pt_law.specs.Laws.{BeginsFirst};
 ghost use Rattle.pt_law.specs.Opened.{IsLookedUp};
 
 use pt_host::Host;
@@ -35,14 +36,13 @@ use pt_host::Host;
 /// its answer has it.
 pub fn any_request()
     ensures whole { (asked : Request) (tree : Tree) (steps : List Step) (end : Finish) → Fit asked tree [] blank [] →
-        AllMayBeTold steps → Belongs (framed tree []) steps end → Ends idle steps end × IsCausedEnd asked steps end }
+        AllMayBeTold steps → Belongs (framed tree []) steps end → ComesToEnd idle steps end × IsCausedEnd asked steps end }
     ensures cut { (asked : Request) (tree : Tree) (steps : List Step) (end : Finish) → Fit asked tree [] blank [] →
         AllMayBeTold steps →
-        BelongsCut (framed tree []) steps end → Ends idle steps end × (end ≡ finish.Answer answer.Cut) }
+        BelongsCut (framed tree []) steps end → ComesToEnd idle steps end × (end ≡ finish.Answer answer.Cut) }
     ensures branch { (tree : Tree) (steps : List Step) (end : Finish) → Belongs (framed tree []) steps end →
         IsGivenUp end ⊎ IsOfBranch tree end steps }
-    ensures settled { (number : ℕ) (steps : List Step) (end : Finish) → Ends idle steps end →
-        all_given number steps ≡ all_returned number steps + entry_count number end }
+    ensures settled { (steps : List Step) (end : Finish) → ComesToEnd idle steps end → IsSettled steps end }
 {}
 
 /// Every request's tree is fit.
@@ -53,11 +53,16 @@ pub fn each_request()
 /// What holds of the steps of every request that there is, where their replies are such as may come.
 pub fn request_ends()
     ensures ends { (plan : Plan) (asked : Request) (steps : List Step) (end : Finish) → AllMayBeTold steps →
-        Belongs (grammar_of plan asked) steps end → Ends idle steps end }
+        Belongs (grammar_of plan asked) steps end → ComesToEnd idle steps end }
     ensures causes { (plan : Plan) (asked : Request) (steps : List Step) (errno : Errno) → AllMayBeTold steps →
         Belongs (grammar_of plan asked) steps (finish.Answer (answer.Refused errno)) → HasCause asked steps errno }
     ensures cut { (plan : Plan) (asked : Request) (steps : List Step) (end : Finish) → AllMayBeTold steps →
-        BelongsCut (grammar_of plan asked) steps end → Ends idle steps end × (end ≡ finish.Answer answer.Cut) }
+        BelongsCut (grammar_of plan asked) steps end → ComesToEnd idle steps end × (end ≡ finish.Answer answer.Cut) }
+    ensures begins { (plan : Plan) (asked : Asked) (steps : List Step) (end : Finish) →
+        Belongs (grammar_for plan asked) steps end → BeginsFirst steps }
+    ensures named { (plan : Plan) (asked : Asked) (steps : List Step) (entry : Entry) →
+        Belongs (grammar_for plan asked) steps (finish.Answer (answer.Entry entry)) →
+        ((parent : ℕ) × (name : List ℕ) × (asked ≡ Requests (request.Lookup parent name))) }
     ensures opened { (plan : Plan) (parent : ℕ) (name : List ℕ) (entry : Entry) (steps : List Step) →
         Belongs (grammar_of plan (request.Lookup parent name)) steps (finish.Answer (answer.Entry entry)) →
         ((path : List Step) × AreOwn path steps × IsLookedUp plan parent name entry path) }
@@ -69,7 +74,7 @@ pub fn edit_ends()
     ensures one { (edit : Edit) (steps : List Step) (end : Finish) → Belongs (edit_grammar edit) steps end →
         length steps ≡ 1 }
     ensures ends { (edit : Edit) (steps : List Step) (end : Finish) → Belongs (edit_grammar edit) steps end →
-        Ends idle steps end }
+        ComesToEnd idle steps end }
     ensures causes { (edit : Edit) (steps : List Step) (last : Answer) → EditPattern edit steps last →
         IsCausedBy (Edits edit) steps last }
     ensures cut { (edit : Edit) (steps : List Step) (end : Finish) → BelongsCut (edit_grammar edit) steps end →

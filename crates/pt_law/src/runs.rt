@@ -1,7 +1,8 @@
 //! Whatever jobs run, in whatever order their steps come: what holds after every step, and at the end.
 //! The parts that speak of no object hold over any host; those that do, over one that tells its tree.
 
-ghost use Rattle.std.specs.Prelude.{◌⊎◌, ◌≡◌, ◌≢◌, ◌<◌, ◌≤◌, ℕ, List, ◌++◌, ◌∷◌, true, Some};
+ghost use Rattle.std.specs.Prelude.{◌⊎◌, ◌≡◌, ◌≢◌, ◌≤◌, ℕ, List, ◌++◌, ◌∷◌, true, Some};
+ghost use Rattle.pt_host.specs.declared.ids.ObjIds.{ObjIds};
 ghost use Rattle.pt_session.specs.Tables.{Tables, Agree, empty_tables};
 ghost use Rattle.pt_session.specs.declared.row.Row.{Row};
 ghost use Rattle.pt_session.specs.declared.row.HandleRow.{HandleRow};
@@ -19,8 +20,9 @@ ghost use Rattle.pt_law.specs.World.{World, Turn, Runs, HostRuns, TablesGo, Tabl
 ghost use Rattle.pt_law.specs.Ledger.{given, inserted, handle_inserted, standing};
 ghost use Rattle.pt_law.specs.Laws.{ObjectOf, AreDisciplined, AreEnded, AreAnswered, Starts, AreDistinct, HasObject};
 ghost use Rattle.pt_law.specs.Laws.{Serves, IsCounted, IsStanding, HasEnded, SlotsAddUp, AreKept, NamesOpen};
-ghost use Rattle.pt_law.specs.Laws.{IsHonoured, IsOvertaken, TellsOvertaken, IsAtRest, LeavesRows};
-ghost use Rattle.pt_law.specs.Entered.{IsEntered};
+ghost use Rattle.pt_law.specs.Laws.{IsHonoured, IsOvertaken, TellsOvertaken, TellsGiven, BeginsFirst, IsAtRest};
+ghost use Rattle.pt_law.specs.Laws.{LeavesRows};
+ghost use Rattle.pt_law.specs.Entered.{GivingPlaces, GivingPath, IsGiven, IsEntered};
 ghost use Rattle.pt_law.specs.Origins.{WasRoot, WasNamed};
 
 use pt_host::Host;
@@ -55,6 +57,10 @@ pub fn every_run()
         AreDisciplined bound (turns ++ turn ∷ more) → TablesRun (empty_tables limit) turns now →
         TablesGo now turn.step.deed turn.step.reply next →
         TellsOvertaken turn.step.deed turn.step.reply → IsOvertaken turn.job turns }
+    ensures shut_out { (limit bound : ℕ) (turns : List Turn) (turn : Turn) (more : List Turn) (now next : Tables) →
+        BeginsFirst (steps_of turn.job (turns ++ turn ∷ more)) → AreDisciplined bound (turns ++ turn ∷ more) →
+        TablesRun (empty_tables limit) turns now → TablesGo now turn.step.deed turn.step.reply next →
+        IsOvertaken turn.job turns → TellsGiven turn.step.deed turn.step.reply → ⊥ }
     ensures disciplined { (bound : ℕ) (turns : List Turn) → AreEnded bound turns → AreDisciplined bound turns }
     ensures rest { (limit bound : ℕ) (turns : List Turn) (now : Tables) →
         AreEnded bound turns → TablesRun (empty_tables limit) turns now → IsAtRest limit bound turns now }
@@ -79,18 +85,22 @@ pub fn every_told_run()
         IsHandleRow now.tables row → Serves now row }
     ensures origins { (limit bound : ℕ) (turns more : List Turn) (start now : World) (number object : ℕ) →
         Starts limit start → AreDisciplined bound (turns ++ more) → Runs start turns now →
-        ObjectOf now number object → WasRoot start turns object ⊎ WasNamed start turns object }
+        ObjectOf now number object → WasRoot start turns now object ⊎ WasNamed start turns now object }
     ensures descriptors { (limit bound : ℕ) (turns more : List Turn) (start now : World) →
         Starts limit start → AreDisciplined bound (turns ++ more) → Runs start turns now →
         AreKept start bound turns now }
     ensures named { (limit bound : ℕ) (turns : List Turn) (turn : Turn) (more : List Turn) (start now : World) →
         Starts limit start → AreDisciplined bound (turns ++ turn ∷ more) → Runs start turns now →
         NamesOpen now.tree turn.step.deed }
-    ensures entries { (limit bound : ℕ) (plan : Plan) (turns : List Turn) (start end : World) (job parent : ℕ)
+    ensures given { (limit bound : ℕ) (turns more : List Turn) (start given : World) (job parent : ℕ) (name : List ℕ)
+        (number : ℕ) (ids : ObjIds) (places : GivingPlaces turns job parent name number ids) →
+        Starts limit start → AreDisciplined bound (turns ++ more) → (path : GivingPath start places given) →
+        IsGiven path }
+    ensures entries { (limit bound : ℕ) (plan : Plan) (turns : List Turn) (start : World) (job parent : ℕ)
         (name : List ℕ) (entry : Entry) →
-        Starts limit start → AreDisciplined bound turns → Runs start turns end → job < bound →
+        Starts limit start → AreDisciplined bound turns →
         Belongs (grammar_of plan (request.Lookup parent name)) (steps_of job turns)
-        (finish.Answer (answer.Entry entry)) → IsEntered plan start turns end job parent name entry }
+        (finish.Answer (answer.Entry entry)) → IsEntered plan start turns job parent name entry }
     ensures rest { (limit bound : ℕ) (turns : List Turn) (start end : World) →
         Starts limit start → AreEnded bound turns → Runs start turns end → LeavesRows start end }
 {}

@@ -3,6 +3,7 @@
 ghost use Rattle.std.specs.Prelude.{◌≡◌, ◌≢◌, ◌⊎◌, ◌<◌, ◌≤◌, ℕ, List, [], ◌∷◌, ◌++◌};
 ghost use Rattle.pt_host.specs.Words.{Each};
 ghost use Rattle.pt_host.specs.Errno.{ebadf};
+ghost use Rattle.pt_host.specs.declared.ids.ObjIds.{ObjIds};
 ghost use Rattle.pt_session.specs.Tables.{Tables, Agree, HasNumber, empty_tables};
 ghost use Rattle.pt_session.specs.Happens.{Happens, NoRow};
 ghost use Rattle.pt_session.specs.declared.event.KeptEvent.TheVariants as change;
@@ -20,10 +21,10 @@ ghost use Rattle.pt_law.specs.Branch.{IsGivenUp};
 ghost use Rattle.pt_law.specs.World.{World, Turn, Runs, TablesRun, steps_of};
 ghost use Rattle.pt_law.specs.Ledger.{inserted};
 ghost use Rattle.pt_law.specs.Laws.{AreDisciplined, Starts, IsLive, ObjectOf};
-ghost use Rattle.pt_law.specs.Uses.{StaysLive, asked, IsOn};
+ghost use Rattle.pt_law.specs.Entered.{GivingPlaces, up_to};
+ghost use Rattle.pt_law.specs.Uses.{StaysLive, amount_asked, IsOn};
 
-/// While a number stays live its object stays, and every other live number that stands for that object is this one:
-/// so two lookups of one object give one number, in whatever order their steps come.
+/// While a number stays live its object stays, and every other live number that stands for that object is this one.
 pub fn one_number()
     ensures stays { (turns : List Turn) (start now : World) (number object : ℕ) →
         StaysLive start turns number → Runs start turns now → ObjectOf start number object →
@@ -36,13 +37,24 @@ pub fn one_number()
         ObjectOf second other object → other ≡ number }
 {}
 
+/// Two lookups of one object, in whatever order their steps come, give one number, where the number that was given
+/// first lives until the other is given.
+pub fn two_lookups()
+    ensures { (limit bound : ℕ) (turns more : List Turn) (start first second : World) (job other parent folder : ℕ)
+        (name child : List ℕ) (number another : ℕ) (ids its : ObjIds) (between : List Turn) (object : ℕ)
+        (one : GivingPlaces turns job parent name number ids) (two : GivingPlaces turns other folder child another its) →
+        Starts limit start → AreDisciplined bound (turns ++ more) → up_to two ≡ up_to one ++ between →
+        Runs start (up_to one) first → Runs first between second → StaysLive first between number →
+        ObjectOf first number object → ObjectOf second another object → another ≡ number }
+{}
+
 /// A forget of at least the count removes the number, and no row of a handle; the number is not live and not inserted
 /// again, unless it is the root's. A request on it is answered EBADF for as long as it is not inserted again, or
 /// finds no memory.
 pub fn forgotten_number()
     ensures gone { (before after : Tables) (list : List (ℕ × ℕ)) (closings number : ℕ) →
         Agree before → Happens before (change.Forget list) (event.Done closings) after →
-        Each (λ row. HasNumber number row → row.count ≤ asked number list) before.rows →
+        Each (λ row. HasNumber number row → row.count ≤ amount_asked number list) before.rows →
         NoRow after (HasNumber number) }
     ensures handles { (before after : Tables) (list : List (ℕ × ℕ)) (closings : ℕ) →
         Happens before (change.Forget list) (event.Done closings) after → after.handles ≡ before.handles }

@@ -153,7 +153,7 @@ ran_in_order : (settings : Settings) (start : State) (lines : List ScriptJob) (s
     RanInOrder Does run.fs.plan schedule
     (jobs_of settings lines) run.opened_host run.fs.tables trace answers host run.seats tables
 ran_in_order settings start lines schedule trace answers tables host run found =
-    record { steps = run.steps; order = run.order; answers_each = run.answers_each; memory = found }
+    record { steps = run.run.steps; order = run.run.order; answers_each = run.run.answers_each; memory = found }
 
 end_agrees : (settings : Settings) (start : State) (lines : List ScriptJob) (schedule : List ℕ)
     (trace : List TraceStep) (answers : List Answer) (tables : Tables) (host : State) →
@@ -163,7 +163,7 @@ end_agrees settings start lines schedule trace answers tables host run =
     (subst (λ (t : Tables).
     TablesRun t (turns_of trace) tables) run.opened.tables
     (hosts_tables Does (turns_of trace) run.opened_host run.fs.tables host tables
-    (host_runs Does trace run.opened_host _ run.fs.tables host run.steps.seats tables run.steps.runs)))
+    (host_runs Does trace run.opened_host _ run.fs.tables host run.run.steps.seats tables run.run.steps.runs)))
 
 runs_one : (settings : Settings) (start : State) (lines : List ScriptJob) (schedule : List ℕ)
     (trace trace' : List TraceStep) (answers answers' : List Answer) (tables tables' : Tables) (host host' : State) →

@@ -18,7 +18,7 @@ use Rattle.pt_node.specs.declared.node.Node.{Node}
 use Rattle.pt_rules.specs.Laws.Lawful.{does_lawful}
 use Rattle.pt_iface.specs.declared.answer.Refusal.{Refusal}
 use Rattle.pt_iface.specs.declared.answer.Refusal.TheVariants as refusal
-use Rattle.pt_fs.specs.FileSystem.{FileSystem, IsMadeBy, opens_root, path}
+use Rattle.pt_fs.specs.FileSystem.{FileSystem, IsMadeBy, opens_root, only_path}
 use Rattle.pt_run.specs.Run.{IsOpened, IsRefused, IsNotOpened, IsNoReport, start_seat}
 use Rattle.pt_script.specs.Parse.{IsScriptOf}
 use Rattle.pt_run.proofs.Rooted.{begun_root}
@@ -43,7 +43,7 @@ opened_well settings before fs after opened =
 root_opens : (start : State) (numbers : ℕ → ℕ) (seat : HostSeat) (node : Node) → slice_get start.nodes 0 ≡ Some node →
     (fd : Fd) × ((answer start numbers seat opens_root).0 ≡ reply.Ok (value.Fd fd))
 root_opens start numbers seat node is =
-    (record { 0 = least_free start.slots }, ap (λ (found : Option Node). (opening_of start seat path 0 found).0) is)
+    (record { 0 = least_free start.slots }, ap (λ (found : Option Node). (opening_of start seat only_path 0 found).0) is)
 
 -- an answer that opened the root, or found no memory, is no refusal
 not_opened : (given : HostReply) (fs : Result FileSystem Refusal) (errno : Errno) → fs ≡ Err (refusal.Errno errno) →

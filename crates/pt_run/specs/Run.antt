@@ -16,12 +16,7 @@ use Rattle.pt_iface.specs.declared.request.Context.{Context}
 use Rattle.pt_iface.specs.declared.request.Request.{Request}
 use Rattle.pt_iface.specs.declared.request.Request.TheVariants.{Root}
 use Rattle.pt_fs.specs.FileSystem.{FileSystem, opens_root, IsMadeBy}
-use Rattle.pt_fs.specs.Keeps.{turns_of, AfterEach, AfterEachTold, LeadsOn, KeepsObjects, KeepsCounts, KeepsHandles}
-use Rattle.pt_fs.specs.Keeps.{ServesEach, InsertsOnce, OvertakenAsTold, OfEachJob, GivesBack, IsCausedIn, IsNamedIn}
-use Rattle.pt_fs.specs.Keeps.{NamesOpenOnes, LeavesOpen}
-use Rattle.pt_fs.specs.Order.{IsInOrder}
-use Rattle.pt_law.specs.Laws.{SlotsAddUp, IsAtRest, AreKept}
-use Rattle.pt_fs.specs.Trace.{RunsJobs, AnswersEach, IsBounded}
+use Rattle.pt_fs.specs.Run.{IsRun}
 use Rattle.pt_fs.specs.declared.job.Job.{Job}
 use Rattle.pt_fs.specs.declared.job.Job.TheVariants as job
 use Rattle.pt_fs.specs.declared.trace.TraceStep.{TraceStep}
@@ -83,38 +78,17 @@ pub record IsOpened (settings : Settings) (before : State) (fs : FileSystem) (af
   pub plan : IsConfigured settings fs.plan.config
   pub tables : fs.tables ≡ empty_tables fs.plan.config.guest_fd_limit
 
--- The jobs of a script run over this host: the trace leads from the new file system to these tables and that host, the
--- steps come in the schedule's order, each job is answered by the pattern of its request, or of its edit, and each
--- clause of `drive` holds.
+-- The jobs of a script run over this host: from the new file system, and from its tree, which is well formed, the run
+-- leads to these tables and that host, and all that is said of a run holds of it.
 pub record IsRunFrom (settings : Settings) (start : State) (lines : List ScriptJob) (schedule : List ℕ)
     (trace : List TraceStep) (answers : List Answer) (tables : Tables) (host : State) : Type 0 where
   pub fs : FileSystem
   pub opened_host : State
   pub opened : IsOpened settings start fs opened_host
-  pub seats : List HostSeat
-  pub steps : RunsJobs Does (jobs_of settings lines) trace opened_host fs.tables host seats tables
-  pub order : IsInOrder schedule (length (jobs_of settings lines)) trace
-  pub answers_each : AnswersEach fs.plan (jobs_of settings lines) trace answers
-  pub bounded : IsBounded (jobs_of settings lines) trace
-  pub causes : OfEachJob (jobs_of settings lines) answers (IsCausedIn trace)
-  pub gives_back : OfEachJob (jobs_of settings lines) answers (GivesBack trace)
-  pub counts : AfterEach fs.tables trace KeepsCounts
-  pub handles : AfterEach fs.tables trace KeepsHandles
-  pub once : InsertsOnce trace
-  pub overtaken : OvertakenAsTold trace
-  pub slots : AfterEach fs.tables trace (SlotsAddUp fs.tables.limit (length (jobs_of settings lines)))
-  pub at_rest : IsAtRest fs.tables.limit (length (jobs_of settings lines)) (turns_of trace) tables
-  -- the host tells its tree, which is well formed; so what is said of objects holds
   pub well_formed : IsWellFormed (tree_of opened_host)
-  pub told : LeadsOn (Some (tree_of opened_host)) fs.tables trace (Some (tree_of host)) tables
-  pub distinct : AfterEachTold (Some (tree_of opened_host)) fs.tables trace (λ start so_far now. KeepsObjects now)
-  pub serves : AfterEachTold (Some (tree_of opened_host)) fs.tables trace (λ start so_far now. ServesEach now)
-  pub entries : OfEachJob (jobs_of settings lines) answers
-      (IsNamedIn fs.plan (Some (tree_of opened_host)) fs.tables trace)
-  pub names_open : NamesOpenOnes (Some (tree_of opened_host)) fs.tables trace
-  pub descriptors : AfterEachTold (Some (tree_of opened_host)) fs.tables trace
-      (λ start so_far now. AreKept start (length (jobs_of settings lines)) so_far now)
-  pub leaves_open : LeavesOpen (Some (tree_of opened_host)) fs.tables trace
+  pub seats : List HostSeat
+  pub run : IsRun Does fs.plan (jobs_of settings lines) schedule opened_host (Some (tree_of opened_host)) fs.tables
+      trace answers host (Some (tree_of host)) seats tables
 
 -- these are the live numbers and handles of tables, each ascending
 abbrev pub AreLive : Tables → List (ℕ × ℕ) → List (ℕ × ℕ) → Type 0

@@ -2,7 +2,7 @@ use crate::one_directory::OneDirectory;
 use pt_fs::turns_are_determined;
 use pt_law::{
     any_request, each_request, edit_ends, every_host, every_run, every_told_run, forgotten_nothing,
-    forgotten_number, one_number, request_ends, steps_told,
+    forgotten_number, one_number, request_ends, steps_told, two_lookups,
 };
 use pt_req::{calm, cut_says_no_more, jobs_are_determined};
 use pt_run::script_determines_report;
@@ -22,6 +22,7 @@ fn the_laws_hold_with_no_premise() {
     every_told_run();
     every_host::<OneDirectory>();
     one_number();
+    two_lookups();
     forgotten_number();
     forgotten_nothing();
     turns_are_determined::<OneDirectory>();

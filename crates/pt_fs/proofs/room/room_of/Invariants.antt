@@ -1,5 +1,5 @@
 use Rattle.std.proofs.Common.{◌≡◌, ◌+◌, ◌*◌, ◌≤◌, drop}
-use Rattle.pt_fs.specs.Work.{room_of}
+use Rattle.pt_fs.specs.Trace.{room_of}
 use Rattle.pt_fs.proofs.room.room_of.Given as goal
 
 abbrev pub invariant-loop-job : goal.invariant-loop-job

@@ -1,10 +1,10 @@
 use Rattle.std.proofs.Common.{◌≡◌, ◌≤◌, ap, length, vec_capacity, arith, rules}
 use Rattle.pt_session.specs.Pending.{pending_in}
 use Rattle.pt_law.proofs.Hosts.{Tells}
-use Rattle.pt_fs.specs.Work.{room_of}
+use Rattle.pt_fs.specs.Trace.{room_of}
 use Rattle.pt_fs.proofs.Ended.{started_length}
 use Rattle.pt_fs.proofs.Works.{started_bounds}
-use Rattle.pt_fs.proofs.Whole.{Whole, jobs_whole, order_whole, answers_whole, bounded_whole}
+use Rattle.pt_fs.proofs.Whole.{Whole, jobs_whole, order_whole, answers_whole, bounded_whole, spent_whole}
 use Rattle.pt_fs.proofs.Laws.{ran_whole, keeps, keeps_told}
 use Rattle.pt_fs.proofs.run.drive.Goals as goal
 
@@ -50,27 +50,43 @@ returns g c =
     λ from seat asked reply to seat_after made before at. let l =
     g.met.H.Host.lawful from seat asked reply to seat_after made before at in (l.0, l.1, l.2) in
     let told = keeps_told g.H.Host.does g.H.Host.tree g.H.Host.faults g.met.H.Host.promised lawful _ _ _ _ _ trace _ _ _ ran in
+    let running = c.in-Ok.started.0.items in
+    let bounds = started_bounds _ jobs running c.in-Ok.ensures.started in
+    let none = ap pending_in c.requires.new.1 in
+    let spent = spent_whole whole in
+    let had = c.in-Ok.ensures.trace_room in
+    let kept_room = c.run_all.ensures.capacity in
     record {
-      steps = jobs_whole _ whole seats;
-      order = order_whole whole;
-      answers = answers_whole whole;
-      bounded = bounded_whole whole;
-      causes = kept.causes;
-      gives_back = kept.gives_back;
-      counts = kept.counts;
-      handles = kept.handles;
-      once = kept.once;
-      overtaken = kept.overtaken;
-      slots = kept.slots;
-      at_rest = kept.rest;
-      told = told.leads_on;
-      distinct = told.distinct;
-      serves = told.serves;
-      entries = told.entries;
-      names_open = told.named;
-      descriptors = told.descriptors;
-      leaves_open = told.leaves;
+      run = record {
+        steps = jobs_whole _ whole seats;
+        order = order_whole whole;
+        answers_each = answers_whole whole;
+        bounded = bounded_whole whole;
+        room = omega (arith, bounds, none, spent);
+        causes = kept.causes;
+        gives_back = kept.gives_back;
+        reached = kept.reached;
+        agree = kept.agree;
+        counts = kept.counts;
+        handles = kept.handles;
+        once = kept.once;
+        overtaken = kept.overtaken;
+        shut_out = kept.shut_out;
+        slots = kept.slots;
+        at_rest = kept.rest;
+        leads_on = told.leads_on;
+        distinct = told.distinct;
+        serves = told.serves;
+        entries = told.entries;
+        two_lookups = told.two_lookups;
+        origins = told.origins;
+        names_open = told.named;
+        descriptors = told.descriptors;
+        leaves_open = told.leaves;
+      };
+      room = omega (arith, had, kept_room);
       plan = c.run_all.ensures.plan;
+      root = c.run_all.ensures.root;
       nothing_done = search rules;
       handed_back = search rules;
     }

@@ -10,6 +10,8 @@ loop-place-init g c = let e : length c.args.running.now - 0 ≡ length c.args.ru
     record {
       room = c.requires.room;
       plan = refl;
+      root = refl;
+      capacity = omega arith;
       goes = rw e (goes_none _ _ _ _ _ _ _);
       finished = λ j below. absurd (omega arith);
     }
@@ -22,6 +24,9 @@ loop-place-preserved g c =
     record {
       room = c.finish_one.ensures.room;
       plan = c.finish_one.ensures.plan ∙ c.loop-place.invariant.plan;
+      root = c.finish_one.ensures.root ∙ c.loop-place.invariant.root;
+      capacity = let one = c.finish_one.ensures.capacity in let so_far = c.loop-place.invariant.capacity in
+          omega (arith, one, so_far);
       goes = goes_on _ _ _ (rest_of n 0) (rest_of (suc (n - (k + 1))) k)
           (rest_of (n - (k + 1)) (k + 1)) _ _ _ _ _ _ _ _ _ _ _ _ c.loop-place.invariant.plan
           (rw more at c.loop-place.invariant.goes) (c.finish_one.ensures.goes (n - (k + 1)));

@@ -1,4 +1,4 @@
-use Rattle.std.proofs.Common.{suc, refl, ◌+◌, ◌∙◌, sym}
+use Rattle.std.proofs.Common.{suc, refl, ◌+◌, ◌∙◌, sym, arith}
 use Rattle.pt_fs.specs.Order.{rest_of}
 use Rattle.pt_fs.proofs.Going.{goes_none, goes_on, goes_first, goes_next, finished_took, fewer_took, length_took}
 use Rattle.pt_fs.proofs.Going.{finished_at, unfinished_at}
@@ -9,6 +9,8 @@ loop-alloc-init g c =
     record {
       goes = λ jobs. goes_none _ _ _ _ _ _ _;
       plan = refl;
+      root = refl;
+      capacity = omega arith;
       others = λ j h. h;
       inside = c.requires.named;
       room = c.requires.room;
@@ -27,6 +29,9 @@ loop-alloc-preserved g c = record {
       (rest_of (suc jobs) c.args.place) _ _ _ _ _ _ _ _ _ _ _ _ c.loop-alloc.invariant.plan
       (c.loop-alloc.invariant.goes jobs) (goes_first _ _ c.args.place jobs _ _ _ _ _ _ _ _ c.take_step.ensures.took);
   plan = c.take_step.ensures.plan ∙ c.loop-alloc.invariant.plan;
+  root = c.take_step.ensures.root ∙ c.loop-alloc.invariant.root;
+  capacity = let one = c.take_step.ensures.capacity in let so_far = c.loop-alloc.invariant.capacity in
+      omega (arith, one, so_far);
   others = λ j h. finished_took _ _ _ _ _ _ _ _ _ _ _ c.take_step.ensures.took j (c.loop-alloc.invariant.others j h);
   room = c.take_step.ensures.room;
   inside = length_took _ _ _ _ _ _ _ _ _ _ _ c.take_step.ensures.took c.loop-alloc.invariant.inside;

@@ -1,11 +1,17 @@
-use Rattle.std.proofs.Common.{length, refl, ◌∙◌, drop, get_or, ◌+◌, ◌∷◌}
+use Rattle.std.proofs.Common.{length, refl, ◌∙◌, drop, get_or, ◌+◌, ◌∷◌, arith}
 use Rattle.std.proofs.lemmas.List.{drop_more}
 use Rattle.pt_fs.specs.Order.{order}
 use Rattle.pt_fs.proofs.Going.{goes_none, goes_on, goes_place}
 use Rattle.pt_fs.proofs.schedule.run_schedule.Goals as goal
 
 pub loop-place-init : goal.loop-place-init
-loop-place-init g c = record { goes = goes_none _ _ _ _ _ _ _; plan = refl; room = c.requires.room }
+loop-place-init g c = record {
+  goes = goes_none _ _ _ _ _ _ _;
+  plan = refl;
+  root = refl;
+  capacity = omega arith;
+  room = c.requires.room;
+}
 
 pub loop-place-preserved : goal.loop-place-preserved
 loop-place-preserved g c =
@@ -19,5 +25,8 @@ loop-place-preserved g c =
           (goes_place _ _ (get_or places i 0)
           (drop (i + 1) places) n _ _ _ _ _ _ _ _ c.take_if_unfinished.ensures.goes);
       plan = c.take_if_unfinished.ensures.plan ∙ c.loop-place.invariant.plan;
+      root = c.take_if_unfinished.ensures.root ∙ c.loop-place.invariant.root;
+      capacity = let one = c.take_if_unfinished.ensures.capacity in let so_far = c.loop-place.invariant.capacity in
+          omega (arith, one, so_far);
       room = c.take_if_unfinished.ensures.room;
     }

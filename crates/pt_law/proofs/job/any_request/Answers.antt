@@ -3,7 +3,7 @@ use Rattle.std.specs.Prelude.{[]}
 use Rattle.pt_law.proofs.Branches.{branch}
 use Rattle.pt_req.proofs.Ending.{is_cut}
 use Rattle.pt_law.proofs.Ending.{fit_ends, fit_ends_cut}
-use Rattle.pt_law.proofs.Settled.{settled}
+use Rattle.pt_law.proofs.Returned.{all_settled}
 use Rattle.pt_req.specs.Tree.{framed}
 
 pub returns-clause-whole : goal.returns-clause-whole
@@ -17,4 +17,4 @@ pub returns-clause-branch : goal.returns-clause-branch
 returns-clause-branch c = λ tree steps end b. branch tree [] steps end b
 
 pub returns-clause-settled : goal.returns-clause-settled
-returns-clause-settled c = settled
+returns-clause-settled c = all_settled

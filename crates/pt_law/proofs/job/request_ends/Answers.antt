@@ -5,6 +5,8 @@ use Rattle.pt_req.proofs.Ending.{is_cut}
 use Rattle.pt_law.proofs.Ending.{fit_ends, fit_ends_cut}
 use Rattle.pt_law.proofs.Opened.{opened}
 use Rattle.pt_law.proofs.Requests.{fit_request}
+use Rattle.pt_law.proofs.Beginning.{job_first}
+use Rattle.pt_law.proofs.OnlyLookups.{entry_asked}
 
 pub returns-clause-ends : goal.returns-clause-ends
 returns-clause-ends c =
@@ -23,3 +25,9 @@ returns-clause-cut c =
 
 pub returns-clause-opened : goal.returns-clause-opened
 returns-clause-opened c = opened
+
+pub returns-clause-begins : goal.returns-clause-begins
+returns-clause-begins c = job_first
+
+pub returns-clause-named : goal.returns-clause-named
+returns-clause-named c = entry_asked

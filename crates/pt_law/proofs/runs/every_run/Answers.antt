@@ -5,7 +5,7 @@ use Rattle.pt_law.proofs.Gone.{ended_law}
 use Rattle.pt_law.proofs.Next.{honoured_law}
 use Rattle.pt_law.proofs.Standing.{standing_law}
 use Rattle.pt_law.proofs.HandlesOnce.{handles_once_law}
-use Rattle.pt_law.proofs.Overtaking.{overtaken_law}
+use Rattle.pt_law.proofs.Overtaking.{overtaken_law, shut_out_law}
 
 pub returns-clause-agree : goal.returns-clause-agree
 returns-clause-agree c = agree_law
@@ -45,3 +45,6 @@ returns-clause-handles_once c = handles_once_law
 
 pub returns-clause-overtaken : goal.returns-clause-overtaken
 returns-clause-overtaken c = overtaken_law
+
+pub returns-clause-shut_out : goal.returns-clause-shut_out
+returns-clause-shut_out c = shut_out_law

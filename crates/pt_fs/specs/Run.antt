@@ -1,0 +1,72 @@
+-- Believed. All that holds of a run: what `drive` and every program over it say.
+use Rattle.std.specs.Prelude.{◌≤◌, ℕ, List, length, Option}
+use Rattle.pt_host.specs.Tree.{Tree}
+use Rattle.pt_host.specs.declared.seat.HostSeat.{HostSeat}
+use Rattle.pt_session.specs.Tables.{Tables, Agree}
+use Rattle.pt_iface.specs.declared.answer.Answer.{Answer}
+use Rattle.pt_req.specs.Made.{Does}
+use Rattle.pt_req.specs.declared.plan.Plan.{Plan}
+use Rattle.pt_law.specs.Laws.{SlotsAddUp, IsAtRest, AreKept}
+use Rattle.pt_fs.specs.Keeps.{turns_of, AfterEach, AfterEachTold, ReachesEach, LeadsOn, KeepsObjects, KeepsCounts}
+use Rattle.pt_fs.specs.Keeps.{KeepsHandles, ServesEach, InsertsOnce, OvertakenAsTold, ShutsOut, OfEachJob, GivesAllBack}
+use Rattle.pt_fs.specs.Keeps.{IsCausedIn, IsNamedIn, AgreeOnNumbers, ComeFromNames, NamesOpenOnes, LeavesOpen}
+use Rattle.pt_fs.specs.Order.{IsInOrder}
+use Rattle.pt_fs.specs.Trace.{RunsJobs, AnswersEach, IsBounded, room_of}
+use Rattle.pt_fs.specs.declared.job.Job.{Job}
+use Rattle.pt_fs.specs.declared.trace.TraceStep.{TraceStep}
+
+-- The jobs ran by this plan and schedule, from this host, the tree that it told and these tables, which are new; the
+-- trace, the answers, the host, the tree that it tells, the seats and the tables came of it.
+pub record IsRun {H : Type 0} (does : Does H) (plan : Plan) (jobs : List Job) (schedule : List ℕ) (host : H)
+    (told : Option Tree) (tables : Tables) (trace : List TraceStep) (answers : List Answer) (host' : H)
+    (told' : Option Tree) (seats : List HostSeat) (tables' : Tables) : Type 0 where
+  -- The trace runs from the host, the jobs' seats and the tables at the beginning to those at the end. An edit has no
+  -- seat.
+  pub steps : RunsJobs does jobs trace host tables host' seats tables'
+  -- The steps belong to whom the schedule gives them, and each job has one at least.
+  pub order : IsInOrder schedule (length jobs) trace
+  -- Each job is answered once, by the pattern of what it asked.
+  pub answers_each : AnswersEach plan jobs trace answers
+  -- Each job keeps its bound, and all of them the room that is had before the first step.
+  pub bounded : IsBounded jobs trace
+  pub room : length trace ≤ room_of jobs
+  -- Each refusal has its cause, in what was asked or at a step of its job. An edit is refused exactly where its step
+  -- was.
+  pub causes : OfEachJob jobs answers (IsCausedIn trace)
+  -- What a job was given it gave back, but for the number that its answer has.
+  pub gives_back : OfEachJob jobs answers (GivesAllBack trace)
+  -- After every step the tables agree; and each front of the trace leads to some tables, from which the rest leads on.
+  pub reached : ReachesEach tables trace tables'
+  pub agree : AfterEach tables trace (λ so_far now. Agree now)
+  -- After every step a number is live exactly where something was given of it and not taken back, and so much is its
+  -- count.
+  pub counts : AfterEach tables trace KeepsCounts
+  -- After every step a handle is live exactly where it was inserted and neither released nor cleared since.
+  pub handles : AfterEach tables trace KeepsHandles
+  -- No number but the root's is inserted twice, and no handle.
+  pub once : InsertsOnce trace
+  -- Who is told that it was overtaken was, by another job's clearing after its first step; and who was is given no
+  -- number and no handle.
+  pub overtaken : OvertakenAsTold trace
+  pub shut_out : ShutsOut trace
+  -- After every step slots left, those of rows and closings, and those that jobs carry are the limit; at the end
+  -- nothing is pinned or carried.
+  pub slots : AfterEach tables trace (SlotsAddUp tables.limit (length jobs))
+  pub at_rest : IsAtRest tables.limit (length jobs) (turns_of trace) tables'
+  -- Where the host tells its tree: the steps lead that tree to the one told at the end, and after every step live
+  -- numbers that differ have objects that differ, and a live row has an open descriptor of its number's object.
+  pub leads_on : LeadsOn told tables trace told' tables'
+  pub distinct : AfterEachTold told tables trace (λ start so_far now. KeepsObjects now)
+  -- After every step a handle's descriptor is open on the object that its number had when it was resolved for the
+  -- handle's opening.
+  pub serves : AfterEachTold told tables trace (λ start so_far now. ServesEach now)
+  -- An entry names the object that its name had in the directory that its parent stood for; two entries of one object
+  -- have one number while it lives; and every numbered object is a root or was so named.
+  pub entries : OfEachJob jobs answers (IsNamedIn plan told tables trace)
+  pub two_lookups : AgreeOnNumbers plan told tables trace
+  pub origins : AfterEachTold told tables trace ComeFromNames
+  -- Each call names only open descriptors; each open one stands in one place; at the end those of the rows are left,
+  -- and those from before.
+  pub names_open : NamesOpenOnes told tables trace
+  pub descriptors : AfterEachTold told tables trace (λ start so_far now. AreKept start (length jobs) so_far now)
+  pub leaves_open : LeavesOpen told tables trace

@@ -1,0 +1,282 @@
+-- A name that is opened leads from the directory that a number stood for.
+use Rattle.std.proofs.Common.{◌≡◌, ◌≢◌, ◌⊎◌, ⊎_elim, inl, inr, ℕ, ◌<◌, List, [], ◌∷◌, ◌++◌, false, refl, sym, ap, ap₂}
+use Rattle.std.proofs.Common.{subst, ◌∙◌, arith, Option, Some, None, append_assoc}
+use Rattle.std.proofs.lemmas.Bool.{cases_eq}
+use Rattle.pt_host.specs.Words.{Each, Takes}
+use Rattle.pt_host.specs.Flags.{includes, o_creat, o_path}
+use Rattle.pt_host.specs.Tree.{Tree, Opened, IsOpenOn}
+use Rattle.pt_host.specs.declared.ids.Fd.{Fd}
+use Rattle.pt_host.specs.declared.ids.ObjIds.{ObjIds}
+use Rattle.pt_host.specs.declared.flags.OpenFlags.{OpenFlags}
+use Rattle.pt_host.specs.declared.op.KeptHostOp.TheVariants as call
+use Rattle.pt_host.specs.declared.reply.HostReply.TheVariants as host
+use Rattle.pt_host.specs.declared.reply.HostValue.TheVariants as value
+use Rattle.pt_session.specs.Tables.{Tables, Agree, IsSoundRow}
+use Rattle.pt_session.specs.declared.form.RowForm.{RowForm}
+use Rattle.pt_session.specs.declared.event.KeptEvent.TheVariants as change
+use Rattle.pt_session.specs.declared.reply.EventReply.TheVariants as event
+use Rattle.pt_req.specs.Deed.{Deed, Calls, Changes, Step}
+use Rattle.pt_req.specs.declared.act.ActReply.{ActReply}
+use Rattle.pt_req.specs.declared.act.ActReply.TheVariants.{Event, Host}
+use Rattle.pt_req.specs.declared.hold.Hold.{Hold}
+use Rattle.pt_req.specs.declared.hold.Hold.TheVariants as hold
+use Rattle.pt_law.specs.Discipline.{Job, Notes, Resolution, idle, MovesIf, Disciplined, notes_after, with_root, unnoted}
+use Rattle.pt_law.specs.World.{World, Past, Turn, turn_by, Goes, IsLawful, Runs, steps_of, settled_if, object_of}
+use Rattle.pt_law.specs.Laws.{AreDisciplined, Starts, ObjectOf}
+use Rattle.pt_law.specs.Naming.{resolving, opening, ResolvesNone, OpensNone, NamePlaces, NamePath, LedTo}
+use Rattle.pt_law.proofs.Lists.{each_replaced, set_at_same, set_at_other}
+use Rattle.pt_law.proofs.Givings.{agree_step}
+use Rattle.pt_law.proofs.Knowing.{RowOpen, one_object}
+use Rattle.pt_law.proofs.Steps.{Inv, turned}
+use Rattle.pt_law.proofs.Interleaving.{steps_append, disciplined_split}
+use Rattle.pt_law.proofs.Laws.{reach, step_stays}
+use Rattle.pt_law.proofs.Next.{owner_of, next_move}
+use Rattle.pt_law.proofs.Pinned.{pinned_open}
+use Rattle.pt_law.proofs.Found.{found_only}
+use Rattle.pt_law.proofs.Cuts.{runs_append, steps_at, steps_past}
+
+some_same : {A : Type 0} {a b : A} → Some a ≡ Some b → a ≡ b
+some_same e = cc
+
+-- what is settled of a row that was there stays
+settled_objects : (past : Past) (j : ℕ) (deed : Option Deed) (told : ActReply) (next : ℕ) (tree : Tree) (row : ℕ) →
+    row < next → (settled_if past j deed told next tree).objects row ≡ past.objects row
+settled_objects past j None told next tree row l = refl
+settled_objects past j (Some (Changes (change.Insert era number form ids mode)))
+    (Event (event.Inserted given)) next tree row l =
+    set_at_other past.objects next (past.latest j) row (λ e. absurd (omega (arith, e, l)))
+settled_objects past j (Some (Changes (change.InsertRoot era form ids mode agreed)))
+    (Event (event.Inserted given)) next tree row l =
+    set_at_other past.objects next (past.roots j) row (λ e. absurd (omega (arith, e, l)))
+settled_objects past j (Some (Changes (change.InsertHandle era handle number fd)))
+    (Event (event.Inserted given)) next tree row l =
+    set_at_other past.objects next (past.resolved j number) row (λ e. absurd (omega (arith, e, l)))
+settled_objects past j (Some (Changes (change.Resolve number)))
+    (Event (event.Resolved serial form ids mode)) next tree row l = refl
+settled_objects past j (Some (Calls (call.OpenAt dir name flags mode)))
+    (Host (host.Ok (value.Fd fd))) next tree row l = refl
+settled_objects past j (Some (Calls (call.OpenRoot place flags))) (Host (host.Ok (value.Fd fd))) next tree row l = refl
+settled_objects past j (Some _) _ next tree row l = refl
+
+objects_step : (w : World) (s : Turn) (next : World) (row : ℕ) → Agree w.tables → Goes w s next →
+    row < w.tables.next_row → (next.past.objects row ≡ w.past.objects row) × (row < next.tables.next_row)
+    × Agree next.tables
+objects_step w s next row a g l =
+    let t = turned IsLawful s.step.deed s.step.reply w.tree g.seat w.tables next.tree g.seat_after next.tables g.made in
+    let later = (step_stays w.tables s.step.deed s.step.reply next.tables t).rows in (
+      ap (λ (p : Past). p.objects row) g.past
+          ∙ settled_objects w.past s.job s.step.deed s.step.reply w.tables.next_row next.tree row l,
+      omega (arith, l, later),
+      agree_step w.tables s.step.deed s.step.reply next.tables t a,
+    )
+
+objects_stay : (turns : List Turn) (w last : World) (row : ℕ) → Agree w.tables → Runs w turns last →
+    row < w.tables.next_row → last.past.objects row ≡ w.past.objects row
+objects_stay [] w last row a r l = ap (λ (z : World). z.past.objects row) r
+objects_stay (s ∷ ss) w last row a r l = let k = objects_step w s r.0 row a r.1 l in
+    objects_stay ss r.0 last row k.2 r.2 k.1 ∙ k.0
+
+settled_latest : (past : Past) (j i : ℕ) (deed : Option Deed) (told : ActReply) (next : ℕ) (tree : Tree) →
+    (j ≢ i) ⊎ OpensNone deed told → (settled_if past j deed told next tree).latest i ≡ past.latest i
+settled_latest past j i (Some (Calls (call.OpenAt dir name flags mode))) (Host (host.Ok (value.Fd fd))) next tree
+    (inl e) = set_at_other past.latest j (object_of (tree.opened fd.0)) i (λ k. e (sym k))
+settled_latest past j i (Some (Calls (call.OpenAt dir name flags mode))) (Host (host.Ok (value.Fd fd))) next tree
+    (inr q) = absurd q
+settled_latest past j i (Some (Changes (change.Insert era number form ids mode)))
+    (Event (event.Inserted given)) next tree q = refl
+settled_latest past j i (Some (Changes (change.InsertRoot era form ids mode agreed)))
+    (Event (event.Inserted given)) next tree q = refl
+settled_latest past j i (Some (Changes (change.InsertHandle era handle number fd)))
+    (Event (event.Inserted given)) next tree q = refl
+settled_latest past j i (Some (Changes (change.Resolve number)))
+    (Event (event.Resolved serial form ids mode)) next tree q = refl
+settled_latest past j i (Some (Calls (call.OpenRoot place flags))) (Host (host.Ok (value.Fd fd))) next tree q = refl
+settled_latest past j i None told next tree q = refl
+settled_latest past j i (Some _) _ next tree q = refl
+
+pub latest_step : (w : World) (i : ℕ) (s : Turn) (next : World) → Goes w s next → (s.job ≢ i) ⊎ OpensNone s.step.deed s.step.reply →
+    next.past.latest i ≡ w.past.latest i
+latest_step w i s next g q =
+    ap (λ (p : Past). p.latest i) g.past
+    ∙ settled_latest w.past s.job i s.step.deed s.step.reply w.tables.next_row next.tree q
+
+-- what a job opened last stays while it opens no name
+pub latest_stays : (j : ℕ) (turns : List Turn) (w last : World) → Runs w turns last →
+    Each (λ (step : Step). OpensNone step.deed step.reply) (steps_of j turns) → last.past.latest j ≡ w.past.latest j
+latest_stays j [] w last r q = ap (λ (z : World). z.past.latest j) r
+latest_stays j (s ∷ ss) w last r q =
+    ⊎_elim (mine (latest_stays j ss r.0 last r.2)) (other (latest_stays j ss r.0 last r.2)) (cases_eq s.job j)
+  where
+    mine : (Each (λ (step : Step). OpensNone step.deed step.reply) (steps_of j ss) → last.past.latest j ≡ r.0.past.latest j) →
+        s.job ≡ j → last.past.latest j ≡ w.past.latest j
+    mine ih e = let k = rw (steps_at j s ss e) at q in ih k.1 ∙ latest_step w j s r.0 r.1 (inr k.0)
+
+    other : (Each (λ (step : Step). OpensNone step.deed step.reply) (steps_of j ss) → last.past.latest j ≡ r.0.past.latest j) →
+        s.job ≢ j → last.past.latest j ≡ w.past.latest j
+    other ih e = ih (rw (steps_past j s ss e) at q) ∙ latest_step w j s r.0 r.1 (inl e)
+
+-- the directory that a number stood for when it was resolved
+resolve_at : (bound : ℕ) (base had : ℕ → ℕ) (w : World) (js : ℕ →
+    Job) (j parent row mode : ℕ) (form : RowForm) (ids : ObjIds) (next : World) → Inv bound base had w js →
+    Goes w (turn_by j (resolving parent row form ids mode)) next →
+    (directory : ℕ) × ObjectOf w parent directory × (w.past.objects row ≡ Some directory) × (row < w.tables.next_row)
+resolve_at bound base had w js j parent row mode form ids next v g =
+    let h = g.made.0 in
+    let o = each_replaced (RowOpen w.tree w.past) h.7.1 v.right.shown in
+    let s = each_replaced (IsSoundRow w.tables.next_row) h.7.1 v.tabled.agree.sound in (
+      o.object,
+      ap w.past.numbers (sym h.1.1) ∙ o.numbered h.1.0,
+      ap w.past.objects (sym h.2)
+          ∙ o.placed,
+      (let d = s.drawn in let e = h.2 in omega (arith, d, e)),
+    )
+
+-- what the job opened in the directory that it has pinned
+open_at : (bound : ℕ) (base had : ℕ → ℕ) (w : World) (js : ℕ →
+    Job) (j row mode : ℕ) (dir : Fd) (name : List ℕ) (flags : OpenFlags) (new : Fd) (next : World) {rest : List Hold}
+    (directory : ℕ) → includes flags.0 o_creat ≡ false → j < bound → Inv bound base had w js →
+    Takes (hold.Pin row dir) (js j).holds rest → w.past.objects row ≡ Some directory →
+    Goes w (turn_by j (opening dir name flags mode new)) next →
+    (object : ℕ) × (w.tree.names directory name ≡ Some object) × (next.past.latest j ≡ Some object)
+    × IsOpenOn w.tree dir directory × IsOpenOn next.tree new object
+open_at bound base had w js j row mode dir name flags new next directory free lt v t e g =
+    let p = pinned_open bound base had w js j row dir lt v t in
+    let l = found_only w.tree dir name flags new next.tree free g.made.0.0.trees.changes in
+    let leads = l.2 in
+    let at_dir : directory ≡ p.0 = some_same (sym e ∙ p.2) in
+    let here : leads.0 ≡ directory = one_object w.tree dir leads.0 p.0 leads.1 p.1 ∙ sym at_dir in
+    let now : object_of (next.tree.opened new.0) ≡ Some l.0 =
+    ap (λ (z : Tree). object_of (z.opened new.0)) l.3.adds
+    ∙ ap object_of (set_at_same w.tree.opened new.0
+    (Some (record { object = l.0; path_only = includes flags.0 o_path }))) in (
+      l.0,
+      ap (λ z. w.tree.names z name) (sym here) ∙ leads.2,
+      ap (λ (z : Past). z.latest j) g.past
+          ∙ set_at_same w.past.latest j (object_of (next.tree.opened new.0)) ∙ now,
+      subst (IsOpenOn w.tree dir) (sym at_dir) p.1,
+      (
+        record { object = l.0; path_only = includes flags.0 o_path },
+        ap (λ (z : Tree). z.opened new.0) l.3.adds
+            ∙ set_at_same w.tree.opened new.0
+            (Some (record { object = l.0; path_only = includes flags.0 o_path })),
+        refl,
+      ),
+    )
+
+-- what is settled of a row stays
+row_stays : (w : World) (s : Turn) (next : World) (turns : List Turn) (last : World) (row object : ℕ) →
+    Agree w.tables → Goes w s next → Runs next turns last → row < w.tables.next_row →
+    w.past.objects row ≡ Some object → last.past.objects row ≡ Some object
+row_stays w s next turns last row object a g r l e = let k = objects_step w s next row a g l in
+    objects_stay turns next last row k.2 r k.1 ∙ k.0 ∙ e
+
+-- what was resolved last stays while nothing is resolved
+root_resolved : (fd : Fd) (notes : Notes) → (with_root fd notes).resolved ≡ notes.resolved
+root_resolved fd notes = grind arith
+
+notes_resolved : (notes : Notes) (deed : Deed) (told : ActReply) → ResolvesNone (Some deed) told →
+    (notes_after notes deed told).resolved ≡ notes.resolved
+notes_resolved notes (Changes (change.Resolve number)) (Event (event.Resolved row form ids mode)) q = absurd q
+notes_resolved notes (Calls (call.OpenRoot path flags)) (Host (host.Ok (value.Fd fd))) q = root_resolved fd notes
+notes_resolved notes (Calls (call.OpenAt dir name flags mode)) (Host (host.Ok (value.Fd fd))) q = refl
+notes_resolved notes (Calls (call.Reopen fd flags)) (Host (host.Ok (value.Fd new))) q = refl
+notes_resolved notes (Calls (call.Close fd)) told q = refl
+notes_resolved notes (Changes change.Begin) (Event (event.Began era agreed)) q = refl
+notes_resolved notes (Changes change.Clear) (Event (event.Cleared era closings)) q = refl
+notes_resolved notes (Changes change.DrawNode) (Event (event.Drawn number)) q = refl
+notes_resolved notes (Changes change.DrawHandle) (Event (event.Drawn number)) q = refl
+notes_resolved notes (Changes (change.InsertHandle era handle number fd)) (Event (event.Inserted given)) q = refl
+notes_resolved notes (Changes (change.Insert era number form ids mode)) (Event (event.Inserted given)) q = refl
+notes_resolved notes (Changes (change.InsertRoot era form ids mode agreed)) (Event (event.Inserted given)) q = refl
+notes_resolved notes _ _ q = refl
+
+move_resolved : (job after : Job) (deed : Option Deed) (told : ActReply) → ResolvesNone deed told →
+    MovesIf job deed told after → after.notes.resolved ≡ job.notes.resolved
+move_resolved job after None told q m = ap (λ (z : Job). z.notes.resolved) m
+move_resolved job after (Some deed) told q m =
+    ap (λ (z : Notes). z.resolved) m.3 ∙ notes_resolved job.notes deed told q
+
+pub resolved_stays : (steps : List Step) (job after : Job) →
+    Each (λ (step : Step). ResolvesNone step.deed step.reply) steps → Disciplined job steps after →
+    after.notes.resolved ≡ job.notes.resolved
+resolved_stays [] job after q d = ap (λ (z : Job). z.notes.resolved) d
+resolved_stays (step ∷ steps) job after q d =
+    resolved_stays steps d.0 after q.1 d.2 ∙ move_resolved job d.0 step.deed step.reply q.0 d.1
+
+-- a job's own steps up to one that stands in a run
+pub own_to : (j : ℕ) (before between : List Turn) (step : Step) →
+    steps_of j (before ++ turn_by j step ∷ between) ≡ steps_of j before ++ step ∷ steps_of j between
+own_to j before between step =
+    steps_append j before (turn_by j step ∷ between)
+    ∙ ap (λ z. steps_of j before ++ z) (steps_at j (turn_by j step) between refl)
+
+last_resolved : (first between : List Step) (number row mode : ℕ) (form : RowForm) (ids : ObjIds) (job : Job) →
+    Each (λ (step : Step). ResolvesNone step.deed step.reply) between →
+    Disciplined idle (first ++ resolving number row form ids mode ∷ between) job →
+    job.notes.resolved ≡ Some (record { number = number; row = row })
+last_resolved first between number row mode form ids job q d =
+    let k = disciplined_split first (resolving number row form ids mode ∷ between) idle job d in
+    resolved_stays between k.2.0 job q k.2.2 ∙ ap (λ (z : Notes). z.resolved) k.2.1.3
+
+-- the run, cut behind the steps between
+pub regroup : (turns before between rest : List Turn) (a : Turn) → turns ≡ before ++ a ∷ (between ++ rest) →
+    turns ≡ (before ++ a ∷ between) ++ rest
+regroup turns before between rest a e = e ∙ sym (append_assoc before (a ∷ between) rest)
+
+-- with steps that are still to come
+pub and_more : (turns more before later : List Turn) (a : Turn) → turns ≡ before ++ a ∷ later →
+    turns ++ more ≡ before ++ a ∷ (later ++ more)
+and_more turns more before later a e = ap (λ z. z ++ more) e ∙ append_assoc before (a ∷ later) more
+
+pub named_cut : {j number : ℕ} {name : List ℕ} (turns more : List Turn) (p : NamePlaces turns j number name) →
+    turns ++ more ≡ (p.before ++ turn_by j (resolving number p.row p.form p.ids p.mode) ∷ p.between)
+    ++ (turn_by j (opening p.dir name p.flags p.made_mode p.fd) ∷ (p.later ++ more))
+named_cut {j = j} {number = number} {name = name} turns more p =
+    let a = turn_by j (resolving number p.row p.form p.ids p.mode) in
+    let b = turn_by j (opening p.dir name p.flags p.made_mode p.fd) in
+    regroup (turns ++ more) p.before p.between (b ∷ (p.later ++ more)) a
+    (and_more turns more p.before (p.between ++ b ∷ p.later) a p.in_turn
+    ∙ ap (λ z. p.before ++ a ∷ z) (append_assoc p.between (b ∷ p.later) more))
+
+-- a path up to where the name is opened
+pub to_open : {j number : ℕ} {name : List ℕ} {turns : List Turn} {start opened : World}
+    {p : NamePlaces turns j number name} (path : NamePath start p opened) →
+    Runs start (p.before ++ turn_by j (resolving number p.row p.form p.ids p.mode) ∷ p.between) path.at_open
+to_open {j = j} {number = number} {start = start} {p = p} path =
+    runs_append p.before (turn_by j (resolving number p.row p.form p.ids p.mode) ∷ p.between) start path.at_resolve
+    path.at_open path.to_resolve (path.resolved, path.resolves, path.to_open)
+
+-- on every path through the places the name leads to the object that the job opened last then
+pub led_law : {j number : ℕ} {name : List ℕ} (limit bound : ℕ) (turns more : List Turn) (start opened : World)
+    (p : NamePlaces turns j number name) → Starts limit start → AreDisciplined bound (turns ++ more) →
+    (path : NamePath start p opened) →
+    (object : ℕ) × LedTo path object × (opened.past.latest j ≡ Some object)
+led_law {j = j} {number = number} {name = name} limit bound turns more start opened p s d path =
+    let a = turn_by j (resolving number p.row p.form p.ids p.mode) in
+    let b = turn_by j (opening p.dir name p.flags p.made_mode p.fd) in
+    let end1 : List Turn = b ∷ (p.later ++ more) in
+    let front1 : List Turn = p.before ++ a ∷ p.between in
+    let d1 = subst (AreDisciplined bound) (named_cut turns more p) d in
+    let v0 = reach limit bound p.before (a ∷ (p.between ++ end1)) start path.at_resolve s
+    (subst (AreDisciplined bound) (append_assoc p.before (a ∷ p.between) end1) d1) path.to_resolve in
+    let directory = resolve_at bound _ _ path.at_resolve v0.0 j number p.row p.mode p.form p.ids path.resolved v0.1
+    path.resolves in
+    let v1 = reach limit bound front1 end1 start path.at_open s d1 (to_open path) in
+    let lt = owner_of bound front1 b (p.later ++ more) d1.owners in
+    let between = v1.2 j lt in
+    let move = next_move b (p.later ++ more) (v1.0 j) between.1 between.2 in
+    let fit = move.1.1 in
+    let resolved = last_resolved (steps_of j p.before) (steps_of j p.between) number p.row p.mode p.form p.ids (v1.0 j)
+    p.resolved_last (subst (λ z. Disciplined idle z (v1.0 j)) (own_to j p.before p.between
+    (resolving number p.row p.form p.ids p.mode)) between.0) in
+    let same : fit.0.0 ≡ record { number = number; row = p.row } = some_same (sym fit.0.2 ∙ resolved) in
+    let pin : Takes (hold.Pin p.row p.dir) (v1.0 j).holds fit.0.1 =
+    subst (λ (r : Resolution). Takes (hold.Pin r.row p.dir) (v1.0 j).holds fit.0.1) same fit.0.3 in
+    let kept = row_stays path.at_resolve a path.resolved p.between path.at_open p.row directory.0
+    v0.1.tabled.agree path.resolves path.to_open directory.3 directory.2 in
+    let o = open_at bound _ _ path.at_open v1.0 j p.row p.made_mode p.dir name p.flags p.fd opened directory.0 fit.1 lt
+    v1.1 pin kept path.opens in (
+      o.0,
+      record { directory = directory.0; number_is = directory.1; dir_open = o.3; named = o.1; fd_open = o.4 },
+      o.2,
+    )
