@@ -3,6 +3,7 @@ pub mod Words
 pub mod Flags
 pub mod Errno
 pub mod Call
+pub mod Sorts
 pub mod Reply
 pub mod Seat
 pub mod SeatStep
