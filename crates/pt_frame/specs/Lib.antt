@@ -1,0 +1,13 @@
+-- Inner. The files of definitions, lowest first.
+pub mod Deed
+pub mod Held
+pub mod Replies
+pub mod Grammar
+pub mod Frame
+pub mod Tree
+pub mod Edit
+pub mod Made
+pub mod Past
+pub mod Tended
+pub mod Determined
+pub mod Machine

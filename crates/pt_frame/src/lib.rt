@@ -1,0 +1,15 @@
+//! The frame round every request: deeds, holds, the grammar of what a job may do, and the machine that takes its steps.
+#![tactic(auto)]
+
+mod act;
+mod edit;
+mod finish;
+mod hold;
+mod machine;
+mod marks;
+
+pub use act::{Act, ActReply, KeptAct, Want};
+pub use edit::Editing;
+pub use finish::Finish;
+pub use hold::{Hold, Holds, Taken};
+pub use machine::{Body, Edges, Framed, Next, Shut, Then, Wanted, row_fd};
