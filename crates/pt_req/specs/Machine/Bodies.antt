@@ -1,16 +1,16 @@
 -- Inner. What is left of the bodies of requests.
 use Rattle.std.specs.Prelude.{ℕ, List}
-use Rattle.pt_session.specs.declared.event.KeptEvent.TheVariants as change
+use Rattle.pt_host.specs.declared.seat.HostSeat.{HostSeat}
 use Rattle.pt_iface.specs.declared.answer.Answer.TheVariants as answer
-use Rattle.pt_req.specs.Deed.{Changes}
-use Rattle.pt_req.specs.Tree.{Tree, Gives, Asks}
-use Rattle.pt_req.specs.Options.{init_options}
-use Rattle.pt_req.specs.Requests.{on_done, on_pinned, begun, answers_entry, answers_opened, init, destroy, root}
-use Rattle.pt_req.specs.Requests.{lookup, open_file, release, read, read_pinned, unheld}
-use Rattle.pt_req.specs.Next.{IsAsks}
-use Rattle.pt_req.specs.Parts.{look_up_left, look_up_acts, look_up_room, look_up_asks, root_open_left, root_open_acts}
-use Rattle.pt_req.specs.Parts.{root_open_room, root_open_asks}
-use Rattle.pt_req.specs.Opening.{handle_open_left, handle_open_acts, handle_open_room, handle_open_asks}
+use Rattle.pt_frame.specs.Tree.{Tree, Gives}
+use Rattle.pt_frame.specs.Machine.Next.{IsAsks}
+use Rattle.pt_req.specs.Options.{init_options, open_options}
+use Rattle.pt_req.specs.Steps.{begin, read_at, pin_handle, forget_all, release_handle}
+use Rattle.pt_req.specs.Requests.{init, destroy, root, lookup, open_file, release, read, unserved}
+use Rattle.pt_req.specs.Machine.Parts.{look_up_left, look_up_acts, look_up_room, look_up_asks}
+use Rattle.pt_req.specs.Machine.Parts.{root_open_left, root_open_acts, root_open_room, root_open_asks}
+use Rattle.pt_req.specs.Machine.Opening.{handle_open_left, handle_open_acts, handle_open_room, handle_open_asks}
+use Rattle.pt_req.specs.declared.parts.looked.Looked.{Looked}
 use Rattle.pt_req.specs.declared.plan.Plan.{Plan}
 use Rattle.pt_req.specs.declared.requests.root.Root.{Root}
 use Rattle.pt_req.specs.declared.requests.root.Root.TheVariants as at_root
@@ -38,9 +38,9 @@ use Rattle.pt_req.specs.declared.requests.unknown.Unknown.{Unknown}
 use Rattle.pt_req.specs.declared.requests.any.RequestBody.{RequestBody}
 use Rattle.pt_req.specs.declared.requests.any.RequestBody.TheVariants as body
 
-abbrev pub root_left : Root → Plan → Tree
-root_left at_root.Begin plan = root plan
-root_left (at_root.Open it) plan = root_open_left it plan (Gives answer.Done)
+abbrev pub root_left : Root → Plan → HostSeat → Tree
+root_left at_root.Begin plan seat = root plan
+root_left (at_root.Open it) plan seat = root_open_left it plan (Gives answer.Done)
 
 abbrev pub root_acts : Root → ℕ
 root_acts at_root.Begin = 7
@@ -53,16 +53,19 @@ root_room (at_root.Open it) = root_open_room it
 abbrev pub root_inserts : Root → ℕ
 root_inserts it = 1
 
-pub root_asks : (it : Root) (plan : Plan) → IsAsks (root_left it plan)
-root_asks at_root.Begin plan = tt
-root_asks (at_root.Open it) plan = root_open_asks it plan (Gives answer.Done)
+pub root_asks : (it : Root) (plan : Plan) (seat : HostSeat) → IsAsks (root_left it plan seat)
+root_asks at_root.Begin plan seat = tt
+root_asks (at_root.Open it) plan seat = root_open_asks it plan (Gives answer.Done)
+
+abbrev pub answers_entry : Looked → Tree
+answers_entry looked = Gives (answer.Entry looked.entry)
 
 abbrev pub lookup_at_left : LookupAt → List ℕ → Plan → Tree
 lookup_at_left (at_lookup.Begin parent) name plan = lookup plan parent name
 lookup_at_left (at_lookup.LookUp it) name plan = look_up_left it name plan answers_entry
 
-abbrev pub lookup_left : Lookup → Plan → Tree
-lookup_left it plan = lookup_at_left it.at it.name plan
+abbrev pub lookup_left : Lookup → Plan → HostSeat → Tree
+lookup_left it plan seat = lookup_at_left it.at it.name plan
 
 abbrev pub lookup_at_acts : LookupAt → ℕ
 lookup_at_acts (at_lookup.Begin parent) = 13
@@ -71,8 +74,9 @@ lookup_at_acts (at_lookup.LookUp it) = look_up_acts it
 abbrev pub lookup_acts : Lookup → ℕ
 lookup_acts it = lookup_at_acts it.at
 
+-- its bracket takes room as a hold does
 abbrev pub lookup_at_room : LookupAt → ℕ
-lookup_at_room (at_lookup.Begin parent) = 5
+lookup_at_room (at_lookup.Begin parent) = 6
 lookup_at_room (at_lookup.LookUp it) = look_up_room it
 
 abbrev pub lookup_room : Lookup → ℕ
@@ -85,22 +89,22 @@ lookup_at_asks : (at : LookupAt) (name : List ℕ) (plan : Plan) → IsAsks (loo
 lookup_at_asks (at_lookup.Begin parent) name plan = tt
 lookup_at_asks (at_lookup.LookUp it) name plan = look_up_asks it name plan answers_entry
 
-pub lookup_asks : (it : Lookup) (plan : Plan) → IsAsks (lookup_left it plan)
-lookup_asks it plan = lookup_at_asks it.at it.name plan
+pub lookup_asks : (it : Lookup) (plan : Plan) (seat : HostSeat) → IsAsks (lookup_left it plan seat)
+lookup_asks it plan seat = lookup_at_asks it.at it.name plan
 
 abbrev pub pairs_of : Forgotten → List (ℕ × ℕ)
 pairs_of (forgotten.One pair) = pair
 pairs_of (forgotten.Many list) = list
 
 abbrev pub forgetting : Forget → Tree
-forgetting it = Asks (Changes (change.Forget (pairs_of it.list))) (on_done (Gives answer.NoReply))
+forgetting it = forget_all (pairs_of it.list) (Gives answer.NoReply)
 
 abbrev pub forget_at_left : ForgetAt → Forget → Tree
-forget_at_left at_forget.Begin it = begun (λ session. forgetting it)
+forget_at_left at_forget.Begin it = begin (λ session. forgetting it)
 forget_at_left at_forget.Forget it = forgetting it
 
-abbrev pub forget_left : Forget → Plan → Tree
-forget_left it plan = forget_at_left it.at it
+abbrev pub forget_left : Forget → Plan → HostSeat → Tree
+forget_left it plan seat = forget_at_left it.at it
 
 abbrev pub forget_at_acts : ForgetAt → ℕ
 forget_at_acts at_forget.Begin = 2
@@ -119,12 +123,12 @@ forget_at_asks : (at : ForgetAt) (it : Forget) → IsAsks (forget_at_left at it)
 forget_at_asks at_forget.Begin it = tt
 forget_at_asks at_forget.Forget it = tt
 
-pub forget_asks : (it : Forget) (plan : Plan) → IsAsks (forget_left it plan)
-forget_asks it plan = forget_at_asks it.at it
+pub forget_asks : (it : Forget) (plan : Plan) (seat : HostSeat) → IsAsks (forget_left it plan seat)
+forget_asks it plan seat = forget_at_asks it.at it
 
-abbrev pub init_left : Init → Plan → Tree
-init_left (at_init.Clear capable) plan = init plan capable
-init_left (at_init.Open it) plan = root_open_left it plan (Gives (answer.Inited (init_options plan.config)))
+abbrev pub init_left : Init → Plan → HostSeat → Tree
+init_left (at_init.Clear capable) plan seat = init plan capable
+init_left (at_init.Open it) plan seat = root_open_left it plan (Gives (answer.Inited (init_options plan.config)))
 
 abbrev pub init_acts : Init → ℕ
 init_acts (at_init.Clear capable) = 7
@@ -137,12 +141,12 @@ init_room (at_init.Open it) = root_open_room it
 abbrev pub init_inserts : Init → ℕ
 init_inserts it = 1
 
-pub init_asks : (it : Init) (plan : Plan) → IsAsks (init_left it plan)
-init_asks (at_init.Clear capable) plan = tt
-init_asks (at_init.Open it) plan = root_open_asks it plan (Gives (answer.Inited (init_options plan.config)))
+pub init_asks : (it : Init) (plan : Plan) (seat : HostSeat) → IsAsks (init_left it plan seat)
+init_asks (at_init.Clear capable) plan seat = tt
+init_asks (at_init.Open it) plan seat = root_open_asks it plan (Gives (answer.Inited (init_options plan.config)))
 
-abbrev pub destroy_left : Destroy → Plan → Tree
-destroy_left it plan = destroy
+abbrev pub destroy_left : Destroy → Plan → HostSeat → Tree
+destroy_left it plan seat = destroy
 
 abbrev pub destroy_acts : Destroy → ℕ
 destroy_acts it = 1
@@ -153,15 +157,18 @@ destroy_room it = 0
 abbrev pub destroy_inserts : Destroy → ℕ
 destroy_inserts it = 0
 
-pub destroy_asks : (it : Destroy) (plan : Plan) → IsAsks (destroy_left it plan)
-destroy_asks it plan = tt
+pub destroy_asks : (it : Destroy) (plan : Plan) (seat : HostSeat) → IsAsks (destroy_left it plan seat)
+destroy_asks it plan seat = tt
+
+abbrev pub answers_opened : Plan → ℕ → ℕ → Tree
+answers_opened plan flags handle = Gives (answer.Opened handle (open_options plan.config flags))
 
 abbrev pub open_at_left : OpenAt → ℕ → Plan → Tree
 open_at_left (at_open.Begin inode) flags plan = open_file plan inode flags
 open_at_left (at_open.Open it) flags plan = handle_open_left it plan (answers_opened plan flags)
 
-abbrev pub open_left : Open → Plan → Tree
-open_left it plan = open_at_left it.at it.flags plan
+abbrev pub open_left : Open → Plan → HostSeat → Tree
+open_left it plan seat = open_at_left it.at it.flags plan
 
 abbrev pub open_at_acts : OpenAt → ℕ
 open_at_acts (at_open.Begin inode) = 9
@@ -170,8 +177,9 @@ open_at_acts (at_open.Open it) = handle_open_acts it
 abbrev pub open_acts : Open → ℕ
 open_acts it = open_at_acts it.at
 
+-- its bracket takes room as a hold does
 abbrev pub open_at_room : OpenAt → ℕ
-open_at_room (at_open.Begin inode) = 3
+open_at_room (at_open.Begin inode) = 4
 open_at_room (at_open.Open it) = handle_open_room it
 
 abbrev pub open_room : Open → ℕ
@@ -184,15 +192,15 @@ open_at_asks : (at : OpenAt) (flags : ℕ) (plan : Plan) → IsAsks (open_at_lef
 open_at_asks (at_open.Begin inode) flags plan = tt
 open_at_asks (at_open.Open it) flags plan = handle_open_asks it plan (answers_opened plan flags)
 
-pub open_asks : (it : Open) (plan : Plan) → IsAsks (open_left it plan)
-open_asks it plan = open_at_asks it.at it.flags plan
+pub open_asks : (it : Open) (plan : Plan) (seat : HostSeat) → IsAsks (open_left it plan seat)
+open_asks it plan seat = open_at_asks it.at it.flags plan
 
 abbrev pub release_at_left : ReleaseAt → Release → Tree
 release_at_left at_release.Begin it = release it.inode it.handle
-release_at_left at_release.Release it = Asks (Changes (change.Release it.handle it.inode)) (on_done (Gives answer.Done))
+release_at_left at_release.Release it = release_handle it.handle it.inode (Gives answer.Done)
 
-abbrev pub release_left : Release → Plan → Tree
-release_left it plan = release_at_left it.at it
+abbrev pub release_left : Release → Plan → HostSeat → Tree
+release_left it plan seat = release_at_left it.at it
 
 abbrev pub release_at_acts : ReleaseAt → ℕ
 release_at_acts at_release.Begin = 2
@@ -211,17 +219,17 @@ release_at_asks : (at : ReleaseAt) (it : Release) → IsAsks (release_at_left at
 release_at_asks at_release.Begin it = tt
 release_at_asks at_release.Release it = tt
 
-pub release_asks : (it : Release) (plan : Plan) → IsAsks (release_left it plan)
-release_asks it plan = release_at_asks it.at it
+pub release_asks : (it : Release) (plan : Plan) (seat : HostSeat) → IsAsks (release_left it plan seat)
+release_asks it plan seat = release_at_asks it.at it
 
 abbrev pub reading_left : Reading → Read → Tree
 reading_left at_read.Begin it = read it.inode it.handle it.size it.offset
 reading_left at_read.Pin it =
-    Asks (Changes (change.PinHandle it.handle it.inode)) (on_pinned (read_pinned it.size it.offset))
-reading_left (at_read.Read fd) it = read_pinned it.size it.offset fd
+    pin_handle it.handle it.inode (λ fd. read_at fd it.offset it.size (λ bytes. Gives (answer.Read bytes)))
+reading_left (at_read.Read fd) it = read_at fd it.offset it.size (λ bytes. Gives (answer.Read bytes))
 
-abbrev pub read_left : Read → Plan → Tree
-read_left it plan = reading_left it.at it
+abbrev pub read_left : Read → Plan → HostSeat → Tree
+read_left it plan seat = reading_left it.at it
 
 abbrev pub reading_acts : Reading → ℕ
 reading_acts at_read.Begin = 4
@@ -247,11 +255,11 @@ reading_asks at_read.Begin it = tt
 reading_asks at_read.Pin it = tt
 reading_asks (at_read.Read fd) it = tt
 
-pub read_asks : (it : Read) (plan : Plan) → IsAsks (read_left it plan)
-read_asks it plan = reading_asks it.at it
+pub read_asks : (it : Read) (plan : Plan) (seat : HostSeat) → IsAsks (read_left it plan seat)
+read_asks it plan seat = reading_asks it.at it
 
-abbrev pub unknown_left : Unknown → Plan → Tree
-unknown_left it plan = unheld
+abbrev pub unknown_left : Unknown → Plan → HostSeat → Tree
+unknown_left it plan seat = unserved
 
 abbrev pub unknown_acts : Unknown → ℕ
 unknown_acts it = 1
@@ -262,19 +270,19 @@ unknown_room it = 0
 abbrev pub unknown_inserts : Unknown → ℕ
 unknown_inserts it = 0
 
-pub unknown_asks : (it : Unknown) (plan : Plan) → IsAsks (unknown_left it plan)
-unknown_asks it plan = tt
+pub unknown_asks : (it : Unknown) (plan : Plan) (seat : HostSeat) → IsAsks (unknown_left it plan seat)
+unknown_asks it plan seat = tt
 
-abbrev pub request_left : RequestBody → Plan → Tree
-request_left (body.Init it) plan = init_left it plan
-request_left (body.Destroy it) plan = destroy_left it plan
-request_left (body.Root it) plan = root_left it plan
-request_left (body.Lookup it) plan = lookup_left it plan
-request_left (body.Forget it) plan = forget_left it plan
-request_left (body.Open it) plan = open_left it plan
-request_left (body.Release it) plan = release_left it plan
-request_left (body.Read it) plan = read_left it plan
-request_left (body.Unknown it) plan = unknown_left it plan
+abbrev pub request_left : RequestBody → Plan → HostSeat → Tree
+request_left (body.Init it) plan seat = init_left it plan seat
+request_left (body.Destroy it) plan seat = destroy_left it plan seat
+request_left (body.Root it) plan seat = root_left it plan seat
+request_left (body.Lookup it) plan seat = lookup_left it plan seat
+request_left (body.Forget it) plan seat = forget_left it plan seat
+request_left (body.Open it) plan seat = open_left it plan seat
+request_left (body.Release it) plan seat = release_left it plan seat
+request_left (body.Read it) plan seat = read_left it plan seat
+request_left (body.Unknown it) plan seat = unknown_left it plan seat
 
 abbrev pub request_acts : RequestBody → ℕ
 request_acts (body.Init it) = init_acts it
@@ -309,13 +317,13 @@ request_inserts (body.Release it) = release_inserts it
 request_inserts (body.Read it) = read_inserts it
 request_inserts (body.Unknown it) = unknown_inserts it
 
-pub request_asks : (it : RequestBody) (plan : Plan) → IsAsks (request_left it plan)
-request_asks (body.Init it) plan = init_asks it plan
-request_asks (body.Destroy it) plan = destroy_asks it plan
-request_asks (body.Root it) plan = root_asks it plan
-request_asks (body.Lookup it) plan = lookup_asks it plan
-request_asks (body.Forget it) plan = forget_asks it plan
-request_asks (body.Open it) plan = open_asks it plan
-request_asks (body.Release it) plan = release_asks it plan
-request_asks (body.Read it) plan = read_asks it plan
-request_asks (body.Unknown it) plan = unknown_asks it plan
+pub request_asks : (it : RequestBody) (plan : Plan) (seat : HostSeat) → IsAsks (request_left it plan seat)
+request_asks (body.Init it) plan seat = init_asks it plan seat
+request_asks (body.Destroy it) plan seat = destroy_asks it plan seat
+request_asks (body.Root it) plan seat = root_asks it plan seat
+request_asks (body.Lookup it) plan seat = lookup_asks it plan seat
+request_asks (body.Forget it) plan seat = forget_asks it plan seat
+request_asks (body.Open it) plan seat = open_asks it plan seat
+request_asks (body.Release it) plan seat = release_asks it plan seat
+request_asks (body.Read it) plan seat = read_asks it plan seat
+request_asks (body.Unknown it) plan seat = unknown_asks it plan seat
