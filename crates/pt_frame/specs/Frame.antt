@@ -1,6 +1,6 @@
 -- Believed. The frame round every request: closings follow at once, holds go back last first, scopes end with their
 -- call, brackets end with what was taken in them, a job may be cut. The seat is the one that the job began with.
-use Rattle.std.specs.Prelude.{ℕ, zero, suc, nat_le, Bool, true, false, if◌then◌else◌, List, [], ◌∷◌, length, Option}
+use Rattle.std.specs.Prelude.{ℕ, zero, suc, nat_lt, Bool, true, false, if◌then◌else◌, List, [], ◌∷◌, length, Option}
 use Rattle.std.specs.Prelude.{Some, None, ◌⊎◌}
 use Rattle.pt_host.specs.declared.ids.Errno.{Errno}
 use Rattle.pt_host.specs.declared.seat.HostSeat.{HostSeat}
@@ -103,7 +103,7 @@ outer (mark ∷ marks) = marks
 abbrev pub shut : HostSeat → Option Hold → ℕ → List Hold → (List Hold → Grammar) → Grammar
 shut seat passing mark [] next = next (under passing [])
 shut seat passing mark (one ∷ holds) next =
-    if nat_le mark (length holds)
+    if nat_lt mark (length (one ∷ holds))
     then give seat one (under passing (one ∷ holds)) (under passing holds) (λ fault.
     or_lost seat fault (under passing holds) (shut seat passing mark holds next))
     else next (under passing (one ∷ holds))

@@ -120,7 +120,8 @@ abbrev pub Tends : HostSeat → Tree → List Call → Type 0
 Tends seat (Gives last) worn = IsUncut last × PassesBare (passes_with last) worn
 Tends seat (Refuses told) worn = Unit {0}
 Tends seat (Asks deed next) worn = IsAsked deed worn × ((told : ActReply) →
-    ClosesBare taken.Nothing (closings_in deed told) worn × Tends seat (next told) (worn_after worn deed told))
+    ClosesBare taken.Nothing (closings_in deed told) (worn_after worn deed told)
+    × Tends seat (next told) (worn_after worn deed told))
 Tends seat (Opens asked scope next) worn =
     IsOpening seat asked scope worn
     × ((told : ActReply) → Tends seat (next told) (worn_after worn (Calls asked) told))

@@ -1,4 +1,4 @@
-ghost use Rattle.std.specs.Prelude.{◌≡◌, ◌+◌, ◌<◌, ◌≤◌, [], ◌∷◌, List, Some, None, length, IfSome, IfNone, drop};
+ghost use Rattle.std.specs.Prelude.{◌≡◌, ◌+◌, ◌<◌, ◌≤◌, [], ◌∷◌, true, List, Some, None, length, IfSome, IfNone, drop};
 ghost use Rattle.pt_frame.specs.declared.hold.Hold.{Hold};
 ghost use Rattle.pt_frame.specs.Frame.{behind};
 ghost use Rattle.pt_frame.specs.Machine.Room.{most_holds};
@@ -81,17 +81,32 @@ impl Holds {
         self.kept.push(hold);
     }
 
+    /// The last one.
+    fn last(&self) -> Option<Hold>
+        ensures some { IfSome result (λ hold. self.now ≡ hold ∷ drop 1 self.now) }
+        ensures none { IfNone result (self.now ≡ []) }
+    {
+        self.kept.as_slice().last().copied()
+    }
+
+    /// The one behind the last one.
+    fn second(&self) -> Option<Hold>
+        ensures some { IfSome result (λ hold. behind true self.now ≡ hold ∷ drop 1 (behind true self.now)) }
+        ensures none { IfNone result (behind true self.now ≡ []) }
+    {
+        let there = self.kept.len();
+        if there < 2 {
+            return None;
+        }
+        self.kept.as_slice().get(there - 2).copied()
+    }
+
     /// The last one, or the one behind it where that passes.
     pub fn next(&self, passes: bool) -> Option<Hold>
         ensures some { IfSome result (λ hold. behind passes self.now ≡ hold ∷ drop 1 (behind passes self.now)) }
         ensures none { IfNone result (behind passes self.now ≡ []) }
     {
-        let there = self.kept.len();
-        let place = if passes { 2 } else { 1 };
-        if there < place {
-            return None;
-        }
-        self.kept.as_slice().get(there - place).copied()
+        if passes { self.second() } else { self.last() }
     }
 
     pub fn pop(&mut self) -> Option<Hold>

@@ -1,5 +1,5 @@
 -- Inner. What is left of a job in its frame.
-use Rattle.std.specs.Prelude.{◌≡◌, ℕ, zero, suc, ◌+◌, ◌-◌, ◌*◌, ◌^◌, nat_lt, nat_le, Bool, true, false, List, [], ◌∷◌}
+use Rattle.std.specs.Prelude.{◌≡◌, ℕ, zero, suc, ◌+◌, ◌-◌, ◌*◌, ◌^◌, nat_lt, not, Bool, true, false, List, [], ◌∷◌}
 use Rattle.std.specs.Prelude.{Option, Some, None, length}
 use Rattle.pt_host.specs.declared.ids.Errno.{Errno}
 use Rattle.pt_host.specs.declared.seat.HostSeat.{HostSeat}
@@ -82,13 +82,13 @@ abbrev pub shut_passes : Option Shut → Bool
 shut_passes None = false
 shut_passes (Some it) = it.passes
 
-abbrev pub edges_pass : Edges → Bool → Bool
-edges_pass edges true = false
-edges_pass edges false = shut_passes edges.shuts
+abbrev pub edges_pass : Bool → Option Shut → Bool
+edges_pass true shuts = false
+edges_pass false shuts = shut_passes shuts
 
 abbrev pub passes_at : Mode → Bool
 passes_at mode.Body = false
-passes_at (mode.Edge edges more) = edges_pass edges edges.bares
+passes_at (mode.Edge edges more) = edges_pass edges.bares edges.shuts
 passes_at (mode.Out last) = true
 passes_at (mode.Leave last) = false
 
@@ -97,23 +97,27 @@ abbrev pub is_above : Option Shut → List Hold → List ℕ → Bool
 is_above None holds marks = false
 is_above (Some it) holds marks = nat_lt (mark_in marks) (length (behind it.passes holds))
 
-abbrev pub is_edge_ready : Edges → Bool → List Hold → List ℕ → Bool
-is_edge_ready edges true holds marks = tops holds
-is_edge_ready edges false holds marks = is_above edges.shuts holds marks
+abbrev pub is_edge_ready : Bool → Option Shut → List Hold → List ℕ → Bool
+is_edge_ready true shuts holds marks = tops holds
+is_edge_ready false shuts holds marks = is_above shuts holds marks
+
+abbrev pub none_in : List Hold → Bool
+none_in [] = true
+none_in (one ∷ holds) = false
 
 -- what gives back has something to give back; an answer with which a hold passes has that hold
 abbrev pub is_ready : Mode → List Hold → List ℕ → Bool
 is_ready mode.Body holds marks = true
-is_ready (mode.Edge edges more) holds marks = is_edge_ready edges edges.bares holds marks
-is_ready (mode.Out last) holds marks = nat_lt 0 (length holds)
+is_ready (mode.Edge edges more) holds marks = is_edge_ready edges.bares edges.shuts holds marks
+is_ready (mode.Out last) holds marks = not (none_in holds)
 is_ready (mode.Leave last) holds marks = true
 
 -- nothing is left but the end
 abbrev pub is_over : Mode → List Hold → Bool
 is_over mode.Body holds = false
 is_over (mode.Edge edges more) holds = false
-is_over (mode.Out last) holds = nat_le (length holds) 1
-is_over (mode.Leave last) holds = nat_le (length holds) 0
+is_over (mode.Out last) holds = none_in (behind true holds)
+is_over (mode.Leave last) holds = none_in holds
 
 abbrev pub is_all_over : Taken → ℕ → Mode → List Hold → Bool
 is_all_over taken.Nothing zero at holds = is_over at holds

@@ -16,7 +16,7 @@ use crate::hold::{Holds, Taken};
 use crate::machine::body::Body;
 use crate::machine::giving::{closings_in, fault_if, giving, or_first, refusal, taken_in};
 use crate::machine::holding::hold;
-use crate::machine::mode::{Mode, entered, hold_given, is_giving_scope, passes_at};
+use crate::machine::mode::{Mode, entered, hold_given, is_giving_scope, is_over, passes_at};
 use crate::marks::Marks;
 use pt_host::{Errno, HostOp, HostSeat};
 use pt_iface::Answer;
@@ -64,6 +64,12 @@ impl<B: Body> Model for Framed<B> {
         × Tells framed.mode framed.lost };
 }
 
+fn go_to(mode: &mut Mode, next: Mode)
+    ensures { mode.new ≡ next }
+{
+    *mode = next;
+}
+
 /// After a step of the body: the mode, and how many closings the reply told.
 fn body_stepped<B: Body>(
     body: &mut B,
@@ -101,7 +107,7 @@ fn body_stepped<B: Body>(
 impl<B: Body> Framed<B> {
     ghost use Rattle.pt_frame.specs.Frame.{cut};
     ghost use Rattle.pt_frame.specs.Grammar.{End, IsDo, IsSettled, Wants, owed_by, is_end, restores};
-    ghost use Rattle.pt_frame.specs.Tree.{grammar_of_tree};
+    ghost use Rattle.pt_frame.specs.Tree.{Tree, grammar_of_tree};
     ghost use Rattle.pt_frame.specs.Machine.Job.{owes, steps_left, steps_bound, inserts_left, is_finished};
     ghost use Rattle.pt_frame.specs.Machine.Job.{restores_now};
     ghost use Rattle.pt_frame.specs.Machine.Left.{IsTold};
@@ -187,7 +193,7 @@ impl<B: Body> Framed<B> {
                 seat,
                 reply,
             );
-            self.mode = mode;
+            go_to(&mut self.mode, mode);
             self.closings = closings;
             return;
         }
@@ -195,7 +201,7 @@ impl<B: Body> Framed<B> {
         self.lost = or_first(fault_if(restores, &reply), self.lost);
         let mode = mem::replace(&mut self.mode, Mode::Body);
         let (mode, closings) = hold_given(mode, &mut self.holds, &mut self.marks, seat, &reply);
-        self.mode = mode;
+        go_to(&mut self.mode, mode);
         self.closings = closings;
     }
 
@@ -211,11 +217,7 @@ impl<B: Body> Framed<B> {
         if self.closings > 0 {
             return false;
         }
-        match &self.mode {
-            Mode::Out(_) => self.holds.len() <= 1,
-            Mode::Leave(_) => self.holds.len() == 0,
-            _ => false,
-        }
+        is_over(&self.mode, &self.holds)
     }
 
     /// Leaves out all but what is owed.
@@ -231,7 +233,7 @@ impl<B: Body> Framed<B> {
         ensures bound { (acts : ℕ) → steps_bound self.new.at acts ≤ steps_bound self.old.at acts }
         ensures inserts { (inserts : ℕ) → inserts_left self.new.at inserts ≡ 0 }
     {
-        self.mode = Mode::Leave(Finish::Answer(Answer::Cut));
+        go_to(&mut self.mode, Mode::Leave(Finish::Answer(Answer::Cut)));
     }
 
     /// What the first refused restoring step was answered, also where the job was cut.

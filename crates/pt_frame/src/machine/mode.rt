@@ -85,6 +85,19 @@ pub fn is_giving_scope(mode: &Mode, holds: &Holds) -> bool
     }
 }
 
+/// Whether nothing is left but the end.
+pub fn is_over(mode: &Mode, holds: &Holds) -> bool
+    ensures { result ≡ is_over mode.now holds.now }
+{
+    match mode {
+        Mode::Body | Mode::Edge { .. } => false,
+        Mode::Out(_) | Mode::Leave(_) => match holds.next(passes_at(mode)) {
+            Some(_) => false,
+            None => true,
+        },
+    }
+}
+
 /// Takes the hold that is given back next.
 pub fn take_next(passes: bool, holds: &mut Holds) -> Option<Hold>
     requires { length holds.old ≤ most_holds }
@@ -116,10 +129,9 @@ fn answered(answer: Answer, holds: &Holds) -> Mode
     ensures counts { (count : ℕ) → mode_counts result count ≡ 0 }
     ensures begins { mode_begins result ≡ 0 }
 {
-    if passes_with(&answer) && holds.len() > 0 {
-        Mode::Out(answer)
-    } else {
-        Mode::Leave(Finish::Answer(answer))
+    match holds.next(false) {
+        Some(_) if passes_with(&answer) => Mode::Out(answer),
+        _ => Mode::Leave(Finish::Answer(answer)),
     }
 }
 
@@ -182,15 +194,18 @@ fn shut_on(edges: Edges, tail: Tail, holds: &Holds, marks: &mut Marks) -> Mode
     ensures counts { (count : ℕ) → mode_counts result count ≤ tail_counts tail count }
     ensures begins { length marks.new + mode_begins result ≤ length marks.old + begun_by edges.brackets }
 {
-    if let Some(shut) = edges.shuts {
-        if is_above(shut, holds, marks) {
+    match edges.shuts {
+        Some(shut) if is_above(shut, holds, marks) => {
             let bares = false;
             let edges = Edges { bares, ..edges };
-            return Mode::Edge { edges, tail };
+            Mode::Edge { edges, tail }
         }
-        marks.pop();
+        Some(_) => {
+            marks.pop();
+            begun(edges.brackets, tail, holds, marks)
+        }
+        None => begun(edges.brackets, tail, holds, marks),
     }
-    begun(edges.brackets, tail, holds, marks)
 }
 
 /// The open scopes end, where there is one, then a bracket, and then this follows.
@@ -213,6 +228,7 @@ fn go_over(edges: Edges, tail: Tail, holds: &Holds, marks: &mut Marks) -> Mode
 
 /// After a hold was given back in this mode.
 fn given(mode: Mode, fault: Option<Errno>, holds: &Holds, marks: &mut Marks) -> Mode
+    requires other { mode ≢ Body }
     requires holds { length holds.now ≤ most_holds }
     requires marks { length marks.old + mode_begins mode ≤ most_holds }
     requires some { passes_at mode ≡ true → 0 < length holds.now }

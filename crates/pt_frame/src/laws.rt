@@ -1,0 +1,45 @@
+//! What holds of every list of steps that a job may make, whatever its request.
+
+ghost use Rattle.std.specs.Prelude.{◌≡◌, Bool, false, true, List, [], None};
+ghost use Rattle.pt_host.specs.declared.seat.HostSeat.{HostSeat};
+ghost use Rattle.pt_iface.specs.declared.answer.Answer.TheVariants.{Cut};
+ghost use Rattle.pt_frame.specs.Deed.{Step};
+ghost use Rattle.pt_frame.specs.Determined.{IsDetermined};
+ghost use Rattle.pt_frame.specs.Frame.{cut, CutAfter, CutInFull};
+ghost use Rattle.pt_frame.specs.Grammar.{Grammar, Belongs, IsChosen, IsDo, owed_by};
+ghost use Rattle.pt_frame.specs.Past.{Past, no_past};
+ghost use Rattle.pt_frame.specs.Tended.{Tended, Tends};
+ghost use Rattle.pt_frame.specs.Tree.{Tree, grammar_of_tree};
+ghost use Rattle.pt_frame.specs.declared.finish.Finish.{Finish};
+ghost use Rattle.pt_frame.specs.declared.finish.Finish.TheVariants.{Answer};
+
+/// What belongs to a side that was chosen belongs to the choice, whole and cut.
+pub fn choices_are_kept()
+    ensures whole { (grammar chosen : Grammar) (steps : List Step) (end : Finish) → IsChosen grammar chosen →
+        Belongs chosen steps end → Belongs grammar steps end }
+    ensures cut { (seat : HostSeat) (grammar chosen : Grammar) (so_far steps : List Step) (end : Finish) →
+        IsChosen grammar chosen → CutAfter seat chosen so_far steps end → CutAfter seat grammar so_far steps end }
+{}
+
+/// A job that was cut is answered `Cut`, whether it had given up for memory or not.
+pub fn cut_says_no_more()
+    ensures ends { (seat : HostSeat) (grammar : Grammar) (so_far steps : List Step) (end : Finish) →
+        CutAfter seat grammar so_far steps end → end ≡ Answer Cut }
+    ensures full { (seat : HostSeat) (grammar : Grammar) (so_far steps : List Step) (end : Finish) →
+        CutInFull seat grammar so_far steps end → CutAfter seat grammar so_far steps end }
+{}
+
+/// A job has one outcome unless memory runs out.
+pub fn jobs_are_determined()
+    ensures { (seat : HostSeat) (tree : Tree) → IsDetermined (grammar_of_tree seat tree) }
+{}
+
+/// A tree that opens its scopes rightly makes a job that restores its seat, whole and cut, and goes on so.
+pub fn seats_are_tended()
+    ensures whole { (seat : HostSeat) (tree : Tree) → Tends seat tree [] →
+        Tended seat false (grammar_of_tree seat tree) no_past }
+    ensures cut { (seat : HostSeat) (grammar : Grammar) (past : Past) → IsDo grammar → past.lost ≡ None →
+        Tended seat false grammar past → Tended seat true (cut seat (owed_by grammar)) past }
+    ensures chosen { (seat : HostSeat) (was_cut : Bool) (grammar chosen : Grammar) (past : Past) →
+        Tended seat was_cut grammar past → IsChosen grammar chosen → Tended seat was_cut chosen past }
+{}

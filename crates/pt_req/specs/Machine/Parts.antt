@@ -1,0 +1,187 @@
+-- Inner. What is left of a lookup, and of the opening of the shared directory.
+use Rattle.std.specs.Prelude.{ℕ, Bool, true, false, List, None}
+use Rattle.pt_host.specs.declared.ids.Fd.{Fd}
+use Rattle.pt_host.specs.declared.ids.ObjIds.{ObjIds}
+use Rattle.pt_host.specs.declared.stat.Stat.{Stat}
+use Rattle.pt_session.specs.declared.form.RowForm.{RowForm}
+use Rattle.pt_session.specs.declared.form.RowForm.TheVariants.{File}
+use Rattle.pt_frame.specs.Tree.{Tree, Gives, Refuses, Shuts}
+use Rattle.pt_frame.specs.Machine.Next.{IsAsks}
+use Rattle.pt_frame.specs.declared.act.ActReply.{ActReply}
+use Rattle.pt_req.specs.Steps.{resolve, open_root, open_at, stat, take_fd, draw_node, insert, insert_root}
+use Rattle.pt_req.specs.Parts.{path, file_of, numbered, looked_of, root_open}
+use Rattle.pt_req.specs.declared.begun.Session.{Session}
+use Rattle.pt_req.specs.declared.plan.Plan.{Plan}
+use Rattle.pt_req.specs.declared.parts.part.Part.{Part}
+use Rattle.pt_req.specs.declared.parts.part.Part.TheVariants as part
+use Rattle.pt_req.specs.declared.parts.looked.Looked.{Looked}
+use Rattle.pt_req.specs.declared.parts.numbering.Numbering.{Numbering}
+use Rattle.pt_req.specs.declared.parts.numbering.NumberAt.{NumberAt}
+use Rattle.pt_req.specs.declared.parts.numbering.NumberAt.TheVariants as number_at
+use Rattle.pt_req.specs.declared.parts.look_up.LookUp.{LookUp}
+use Rattle.pt_req.specs.declared.parts.look_up.LookUpAt.{LookUpAt}
+use Rattle.pt_req.specs.declared.parts.look_up.LookUpAt.TheVariants as look_at
+use Rattle.pt_req.specs.declared.parts.root_open.RootOpen.{RootOpen}
+use Rattle.pt_req.specs.declared.parts.root_open.RootOpenAt.{RootOpenAt}
+use Rattle.pt_req.specs.declared.parts.root_open.RootOpenAt.TheVariants as root_at
+
+-- after a reply a part goes on, or its request ends, or it hands on what it had
+abbrev pub part_tree : {V : Type 0} → Part V → ActReply → Tree → (V → Tree) → Tree
+part_tree part.Goes told left next = left
+part_tree part.Refuses told left next = Refuses told
+part_tree (part.Gives last) told left next = Gives last
+part_tree (part.Has value) told left next = next value
+
+-- what counts of it then: nothing of one that is over
+abbrev pub part_counts : {V : Type 0} → Part V → ℕ → ℕ
+part_counts part.Goes count = count
+part_counts part.Refuses count = 0
+part_counts (part.Gives last) count = 0
+part_counts (part.Has value) count = 0
+
+abbrev pub numbering_at_left : NumberAt → Numbering → Session → (ℕ → Tree) → Tree
+numbering_at_left number_at.Claim it session next = numbered session it.form it.stat next
+numbering_at_left number_at.Take it session next =
+    take_fd (draw_node (λ fresh. insert session fresh it.form it.stat next))
+numbering_at_left number_at.Draw it session next = draw_node (λ fresh. insert session fresh it.form it.stat next)
+numbering_at_left (number_at.Insert fresh) it session next = insert session fresh it.form it.stat next
+
+abbrev pub numbering_left : Numbering → Session → (ℕ → Tree) → Tree
+numbering_left it session next = numbering_at_left it.at it session next
+
+-- an act that brings a hold counts twice
+abbrev pub numbering_at_acts : NumberAt → ℕ
+numbering_at_acts number_at.Claim = 7
+numbering_at_acts number_at.Take = 5
+numbering_at_acts number_at.Draw = 3
+numbering_at_acts (number_at.Insert fresh) = 2
+
+abbrev pub numbering_acts : Numbering → ℕ
+numbering_acts it = numbering_at_acts it.at
+
+abbrev pub numbering_at_room : NumberAt → ℕ
+numbering_at_room number_at.Claim = 3
+numbering_at_room number_at.Take = 2
+numbering_at_room number_at.Draw = 1
+numbering_at_room (number_at.Insert fresh) = 1
+
+abbrev pub numbering_room : Numbering → ℕ
+numbering_room it = numbering_at_room it.at
+
+numbering_at_asks : (at : NumberAt) (it : Numbering) (session : Session) (next : ℕ → Tree) →
+    IsAsks (numbering_at_left at it session next)
+numbering_at_asks number_at.Claim it session next = tt
+numbering_at_asks number_at.Take it session next = tt
+numbering_at_asks number_at.Draw it session next = tt
+numbering_at_asks (number_at.Insert fresh) it session next = tt
+
+pub numbering_asks : (it : Numbering) (session : Session) (next : ℕ → Tree) →
+    IsAsks (numbering_left it session next)
+numbering_asks it session next = numbering_at_asks it.at it session next
+
+-- the bracket of a lookup ends, and the count passes
+abbrev pub with_number : Plan → Session → ObjIds → Stat → RowForm → (Looked → Tree) → ℕ → Tree
+with_number plan session parent told form next number =
+    Shuts true (next (looked_of plan session parent told form number))
+
+-- what is opened in the directory, and looked at, becomes the entry
+abbrev pub stat_in : Plan → Session → ObjIds → Fd → (Looked → Tree) → Tree
+stat_in plan session parent fd next =
+    stat fd (λ told. numbered session (File fd) told (with_number plan session parent told (File fd) next))
+
+abbrev pub opened_in : Plan → Session → ObjIds → Fd → List ℕ → (Looked → Tree) → Tree
+opened_in plan session parent dir name next =
+    open_at dir name path (λ fd. stat_in plan session parent fd next)
+
+-- inside its bracket
+abbrev pub look_up_at_left : LookUpAt → List ℕ → Plan → Session → (Looked → Tree) → Tree
+look_up_at_left (look_at.Resolve parent) name plan session next =
+    resolve parent (λ directory. file_of directory.form (λ dir. opened_in plan session directory.ids dir name next))
+look_up_at_left (look_at.Open parent dir) name plan session next = opened_in plan session parent dir name next
+look_up_at_left (look_at.Stat parent fd) name plan session next = stat_in plan session parent fd next
+look_up_at_left (look_at.Number parent it) name plan session next =
+    numbering_left it session (with_number plan session parent it.stat it.form next)
+
+abbrev pub look_up_left : LookUp → List ℕ → Plan → (Looked → Tree) → Tree
+look_up_left it name plan next = look_up_at_left it.at name plan it.session next
+
+abbrev pub look_up_at_acts : LookUpAt → ℕ
+look_up_at_acts (look_at.Resolve parent) = 12
+look_up_at_acts (look_at.Open parent dir) = 10
+look_up_at_acts (look_at.Stat parent fd) = 8
+look_up_at_acts (look_at.Number parent it) = numbering_acts it
+
+abbrev pub look_up_acts : LookUp → ℕ
+look_up_acts it = look_up_at_acts it.at
+
+abbrev pub look_up_at_room : LookUpAt → ℕ
+look_up_at_room (look_at.Resolve parent) = 5
+look_up_at_room (look_at.Open parent dir) = 4
+look_up_at_room (look_at.Stat parent fd) = 3
+look_up_at_room (look_at.Number parent it) = numbering_room it
+
+abbrev pub look_up_room : LookUp → ℕ
+look_up_room it = look_up_at_room it.at
+
+look_up_at_asks : (at : LookUpAt) (name : List ℕ) (plan : Plan) (session : Session) (next : Looked → Tree) →
+    IsAsks (look_up_at_left at name plan session next)
+look_up_at_asks (look_at.Resolve parent) name plan session next = tt
+look_up_at_asks (look_at.Open parent dir) name plan session next = tt
+look_up_at_asks (look_at.Stat parent fd) name plan session next = tt
+look_up_at_asks (look_at.Number parent it) name plan session next =
+    numbering_asks it session (with_number plan session parent it.stat it.form next)
+
+pub look_up_asks : (it : LookUp) (name : List ℕ) (plan : Plan) (next : Looked → Tree) →
+    IsAsks (look_up_left it name plan next)
+look_up_asks it name plan next = look_up_at_asks it.at name plan it.session next
+
+-- of what was looked at: its descriptor is counted or not
+abbrev pub root_known_left : Bool → RootOpen → RowForm → Stat → Tree → Tree
+root_known_left false it form told next = take_fd (insert_root it.session form told it.agreed next)
+root_known_left true it form told next = insert_root it.session form told it.agreed next
+
+abbrev pub root_at_left : RootOpenAt → RootOpen → Plan → Tree → Tree
+root_at_left root_at.Open it plan next = root_open plan it.session it.agreed next
+root_at_left (root_at.Stat fd) it plan next =
+    stat fd (λ told. root_known_left false it (File fd) told next)
+root_at_left (root_at.Known form told counted) it plan next = root_known_left counted it form told next
+
+abbrev pub root_open_left : RootOpen → Plan → Tree → Tree
+root_open_left it plan next = root_at_left it.at it plan next
+
+abbrev pub root_known_acts : Bool → ℕ
+root_known_acts false = 3
+root_known_acts true = 1
+
+abbrev pub root_at_acts : RootOpenAt → ℕ
+root_at_acts root_at.Open = 6
+root_at_acts (root_at.Stat fd) = 4
+root_at_acts (root_at.Known form told counted) = root_known_acts counted
+
+abbrev pub root_open_acts : RootOpen → ℕ
+root_open_acts it = root_at_acts it.at
+
+abbrev pub root_known_room : Bool → ℕ
+root_known_room false = 1
+root_known_room true = 0
+
+abbrev pub root_at_room : RootOpenAt → ℕ
+root_at_room root_at.Open = 2
+root_at_room (root_at.Stat fd) = 1
+root_at_room (root_at.Known form told counted) = root_known_room counted
+
+abbrev pub root_open_room : RootOpen → ℕ
+root_open_room it = root_at_room it.at
+
+root_known_asks : (counted : Bool) (it : RootOpen) (form : RowForm) (told : Stat) (next : Tree) →
+    IsAsks (root_known_left counted it form told next)
+root_known_asks false it form told next = tt
+root_known_asks true it form told next = tt
+
+root_at_asks : (at : RootOpenAt) (it : RootOpen) (plan : Plan) (next : Tree) → IsAsks (root_at_left at it plan next)
+root_at_asks root_at.Open it plan next = tt
+root_at_asks (root_at.Stat fd) it plan next = tt
+root_at_asks (root_at.Known form told counted) it plan next = root_known_asks counted it form told next
+
+pub root_open_asks : (it : RootOpen) (plan : Plan) (next : Tree) → IsAsks (root_open_left it plan next)
+root_open_asks it plan next = root_at_asks it.at it plan next
