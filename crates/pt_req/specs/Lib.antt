@@ -1,21 +1,8 @@
 -- Inner. The files of definitions, lowest first.
 pub mod Plan
-pub mod Deed
-pub mod Held
-pub mod Grammar
-pub mod Frame
-pub mod Tree
 pub mod Options
-pub mod Requests
-pub mod Edit
-pub mod Pattern
-pub mod Made
-pub mod Room
-pub mod Next
-pub mod Left
+pub mod Replies
 pub mod Parts
-pub mod Opening
-pub mod Bodies
-pub mod Job
-pub mod Calm
-pub mod Determined
+pub mod Requests
+pub mod Pattern
+pub mod Machine

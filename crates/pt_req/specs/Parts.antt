@@ -1,124 +1,137 @@
--- Inner. What is left of the parts of bodies.
-use Rattle.std.specs.Prelude.{ℕ, true, List}
+-- Believed. The parts of requests, each for what follows it. After virtiofsd's passthrough file system:
+-- `open_root_node`, `do_lookup`, `open_inode`, `do_open`. Brackets stand where the table of requests has them.
+use Rattle.std.specs.Prelude.{ℕ, Bool, true, false, ◌&&◌, ◌||◌, not, ◌==◌, if◌then◌else◌, List, [], ◌∷◌, None, Option}
+use Rattle.std.specs.List.{list_any}
+use Rattle.pt_host.specs.Errno.{ebadf, einval}
+use Rattle.pt_host.specs.Flags.{path_flags}
+use Rattle.pt_host.specs.Tree.{kind_of}
+use Rattle.pt_host.specs.declared.ids.Fd.{Fd}
+use Rattle.pt_host.specs.declared.ids.ObjIds.{ObjIds}
+use Rattle.pt_host.specs.declared.stat.Stat.{Stat}
+use Rattle.pt_host.specs.declared.flags.OpenFlags.{OpenFlags}
 use Rattle.pt_host.specs.declared.op.KeptHostOp.TheVariants as call
+use Rattle.pt_session.specs.declared.form.RowForm.{RowForm}
 use Rattle.pt_session.specs.declared.form.RowForm.TheVariants.{File}
+use Rattle.pt_session.specs.declared.form.Negotiated.{Negotiated}
 use Rattle.pt_session.specs.declared.event.KeptEvent.TheVariants as change
+use Rattle.pt_iface.specs.declared.answer.Answer.TheVariants as answer
+use Rattle.pt_iface.specs.declared.entry.Attr.{Attr}
 use Rattle.pt_iface.specs.declared.entry.Entry.{Entry}
-use Rattle.pt_req.specs.Deed.{Calls, Changes}
-use Rattle.pt_req.specs.Tree.{Tree, Refuses, Asks, Shuts}
-use Rattle.pt_req.specs.Requests.{on_stat, on_taken, on_drawn, on_inserted, on_root, root_open, entry_of, inserted}
-use Rattle.pt_req.specs.Requests.{numbered, told_of, opened_in, look_up}
-use Rattle.pt_req.specs.Next.{IsAsks}
-use Rattle.pt_req.specs.declared.act.ActReply.{ActReply}
+use Rattle.pt_frame.specs.Deed.{Calls, Changes}
+use Rattle.pt_frame.specs.Tree.{Tree, Gives, Asks, Brackets, Shuts}
+use Rattle.pt_req.specs.Options.{host_flags, without_nofollow}
+use Rattle.pt_req.specs.Replies.{Resolved, on_resolved, on_fd, on_stat, on_claim, on_taken, on_drawn, on_given, on_inserted}
+use Rattle.pt_req.specs.declared.begun.Session.{Session}
 use Rattle.pt_req.specs.declared.plan.Plan.{Plan}
-use Rattle.pt_req.specs.declared.parts.look_up.Opened.{Opened}
-use Rattle.pt_req.specs.declared.parts.look_up.LookUp.{LookUp}
-use Rattle.pt_req.specs.declared.parts.look_up.LookUp.TheVariants as look
-use Rattle.pt_req.specs.declared.parts.look_up.LookedUp.{LookedUp}
-use Rattle.pt_req.specs.declared.parts.look_up.LookedUp.TheVariants as looked
-use Rattle.pt_req.specs.declared.parts.root_open.RootOpen.{RootOpen}
-use Rattle.pt_req.specs.declared.parts.root_open.RootOpen.TheVariants as at
-use Rattle.pt_req.specs.declared.parts.root_open.RootOpened.{RootOpened}
-use Rattle.pt_req.specs.declared.parts.root_open.RootOpened.TheVariants as opened_root
 
--- the rest of a lookup, where the number of what was opened is known
-abbrev pub with_number : Plan → Opened → (Entry → Tree) → ℕ → Tree
-with_number plan it next number = next (entry_of plan it.session.agreed it.parent it.stat number)
+-- the flags of every opening that only stands for its object
+abbrev pub path : OpenFlags
+path = record { 0 = path_flags }
 
-abbrev pub drawing : Plan → Opened → (Entry → Tree) → Tree
-drawing plan it next =
-    Asks (Changes change.DrawNode) (on_drawn (inserted it.session it.fd it.stat (with_number plan it next)))
+-- File: the descriptor that stands for a row's object
+abbrev pub file_of : RowForm → Fd
+file_of (File fd) = fd
 
-abbrev pub look_up_left : LookUp → List ℕ → Plan → (Entry → Tree) → Tree
-look_up_left (look.Resolve session parent) name plan next = look_up plan session parent name next
-look_up_left (look.Open session parent dir) name plan next = opened_in plan session parent dir name next
-look_up_left (look.Stat session parent fd) name plan next = told_of plan session parent fd next
-look_up_left (look.Claim it) name plan next = numbered it.session it.fd it.stat (with_number plan it next)
-look_up_left (look.Take it) name plan next = Asks (Changes change.TakeFd) (on_taken (drawing plan it next))
-look_up_left (look.Draw it) name plan next = drawing plan it next
-look_up_left (look.Insert it form fresh) name plan next =
-    Asks (Changes (change.Insert it.session.era fresh form it.stat.ids it.stat.mode))
-    (on_inserted (λ number. Shuts true 1 (with_number plan it next number)) (λ number.
-    Shuts true 3 (with_number plan it next number)))
-
-abbrev pub looked_up_tree : LookedUp → ActReply → Tree → (Entry → Tree) → Tree
-looked_up_tree looked.Goes told left next = left
-looked_up_tree looked.Refuses told left next = Refuses told
-looked_up_tree (looked.Ends count entry) told left next = Shuts true count (next entry)
-
-abbrev pub looked_up_counts : LookedUp → ℕ → ℕ
-looked_up_counts looked.Goes count = count
-looked_up_counts _ count = 0
-
--- an act that brings a hold counts twice
-abbrev pub look_up_acts : LookUp → ℕ
-look_up_acts (look.Resolve session parent) = 12
-look_up_acts (look.Open session parent dir) = 10
-look_up_acts (look.Stat session parent fd) = 8
-look_up_acts (look.Claim it) = 7
-look_up_acts (look.Take it) = 5
-look_up_acts (look.Draw it) = 3
-look_up_acts (look.Insert it form fresh) = 2
-
-abbrev pub look_up_room : LookUp → ℕ
-look_up_room (look.Resolve session parent) = 5
-look_up_room (look.Open session parent dir) = 4
-look_up_room (look.Stat session parent fd) = 3
-look_up_room (look.Claim it) = 3
-look_up_room (look.Take it) = 2
-look_up_room _ = 1
-
-abbrev pub look_up_inserts : LookUp → ℕ
-look_up_inserts it = 1
-
-pub look_up_asks : (it : LookUp) (name : List ℕ) (plan : Plan) (next : Entry → Tree) →
-    IsAsks (look_up_left it name plan next)
-look_up_asks (look.Resolve session parent) name plan next = tt
-look_up_asks (look.Open session parent dir) name plan next = tt
-look_up_asks (look.Stat session parent fd) name plan next = tt
-look_up_asks (look.Claim it) name plan next = tt
-look_up_asks (look.Take it) name plan next = tt
-look_up_asks (look.Draw it) name plan next = tt
-look_up_asks (look.Insert it form fresh) name plan next = tt
-
-abbrev pub root_open_left : RootOpen → Plan → Tree → Tree
-root_open_left (at.Open session agreed) plan next = root_open plan session agreed next
-root_open_left (at.Stat session agreed fd) plan next =
+-- RootOpen: the shared directory is opened and numbered 1; what is agreed on is said, or left.
+abbrev pub root_open : Plan → Session → Option Negotiated → Tree → Tree
+root_open plan session agreed next =
+    Asks (Calls (call.OpenRoot plan.config.root_dir path)) (on_fd (λ fd.
     Asks (Calls (call.Stat fd)) (on_stat (λ stat.
     Asks (Changes change.TakeFd) (on_taken (
-    Asks (Changes (change.InsertRoot session.era (File fd) stat.ids stat.mode agreed)) (on_root next)))))
-root_open_left (at.Take session agreed fd stat) plan next =
+    Asks (Changes (change.InsertRoot session.era (File fd) stat.ids stat.mode agreed)) (on_inserted next)))))))
+
+-- a name that is no name of an entry: empty, a dot, two dots, or one with a slash or a NUL
+abbrev pub is_bad_byte : ℕ → Bool
+is_bad_byte byte = (byte == 47) || (byte == 0)
+
+abbrev pub is_bad_name : List ℕ → Bool
+is_bad_name [] = true
+is_bad_name (first ∷ []) = (first == 46) || is_bad_byte first
+is_bad_name (first ∷ second ∷ []) = ((first == 46) && (second == 46)) || is_bad_byte first || is_bad_byte second
+is_bad_name name = list_any is_bad_byte name
+
+-- check N
+abbrev pub named : List ℕ → Tree → Tree
+named name next = if is_bad_name name then Gives (answer.Refused einval) else next
+
+-- the flag of a directory on another device or mount than its parent, where the guest is told of mounts
+abbrev pub mount_flag : Negotiated → ObjIds → Stat → ℕ
+mount_flag agreed parent stat =
+    if agreed.announce_submounts && (kind_of stat.mode == 4)
+    && not ((stat.ids.dev == parent.dev) && (stat.ids.mnt_id == parent.mnt_id)) then 1 else 0
+
+abbrev pub attr_of : Stat → ℕ → Attr
+attr_of stat flags = record {
+  ino = stat.ids.ino;
+  size = stat.size;
+  blocks = stat.blocks;
+  atime = stat.atime;
+  mtime = stat.mtime;
+  ctime = stat.ctime;
+  mode = stat.mode;
+  nlink = stat.nlink;
+  uid = stat.uid;
+  gid = stat.gid;
+  rdev = stat.rdev;
+  blksize = stat.blksize;
+  flags = flags;
+}
+
+abbrev pub entry_of : Plan → Negotiated → ObjIds → Stat → ℕ → Entry
+entry_of plan agreed parent stat number = record {
+  inode = number;
+  generation = 0;
+  attr = attr_of stat (mount_flag agreed parent stat);
+  attr_timeout = plan.config.attr_timeout;
+  entry_timeout = plan.config.entry_timeout;
+}
+
+-- what a lookup found: its entry, its object's ids, and the descriptor that stood for the object
+pub record Found : Type 0 where
+  pub entry : Entry
+  pub ids : ObjIds
+  pub fd : Fd
+
+abbrev pub found : Plan → Session → ObjIds → Fd → Stat → ℕ → Found
+found plan session parent fd stat number = record {
+  entry = entry_of plan session.agreed parent stat number;
+  ids = stat.ids;
+  fd = fd;
+}
+
+-- Lookup: a name in a numbered directory becomes an entry. What was opened gets a number: its row's, where the object
+-- has one, or a new one. The count passes the bracket's end.
+abbrev pub look_up : Plan → Session → ℕ → List ℕ → (Found → Tree) → Tree
+look_up plan session parent name next = Brackets (
+    Asks (Changes (change.Resolve parent)) (on_resolved (λ dir.
+    Asks (Calls (call.OpenAt (file_of dir.form) name path 0)) (on_fd (λ fd.
+    Asks (Calls (call.Stat fd)) (on_stat (λ stat.
+    Asks (Changes (change.Claim session.era None stat.ids)) (on_claim (λ number.
+    Shuts true (next (found plan session dir.ids fd stat number))) (
     Asks (Changes change.TakeFd) (on_taken (
-    Asks (Changes (change.InsertRoot session.era (File fd) stat.ids stat.mode agreed)) (on_root next)))
-root_open_left (at.Insert session agreed form stat) plan next =
-    Asks (Changes (change.InsertRoot session.era form stat.ids stat.mode agreed)) (on_root next)
+    Asks (Changes change.DrawNode) (on_drawn (λ fresh.
+    Asks (Changes (change.Insert session.era fresh (File fd) stat.ids stat.mode)) (on_given (λ number.
+    Shuts true (next (found plan session dir.ids fd stat number))))))))))))))))
 
-abbrev pub root_opened_tree : RootOpened → ActReply → Tree → Tree → Tree
-root_opened_tree opened_root.Goes told left next = left
-root_opened_tree opened_root.Refuses told left next = Refuses told
-root_opened_tree opened_root.Done told left next = next
+-- Open: what stands on a row is opened, where it is a regular file or a directory
+abbrev pub can_open : ℕ → Bool
+can_open mode = (kind_of mode == 8) || (kind_of mode == 4)
 
-abbrev pub root_opened_counts : RootOpened → ℕ → ℕ
-root_opened_counts opened_root.Goes count = count
-root_opened_counts _ count = 0
+abbrev pub open_row : Resolved → ℕ → (Fd → Tree) → Tree
+open_row it flags next =
+    if can_open it.mode
+    then Asks (Calls (call.Reopen (file_of it.form) (without_nofollow flags))) (on_fd next)
+    else Gives (answer.Refused ebadf)
 
-abbrev pub root_open_acts : RootOpen → ℕ
-root_open_acts (at.Open session agreed) = 6
-root_open_acts (at.Stat session agreed fd) = 4
-root_open_acts (at.Take session agreed fd stat) = 3
-root_open_acts (at.Insert session agreed form stat) = 1
+-- OpenI
+abbrev pub open_inode : ℕ → ℕ → (Fd → Tree) → Tree
+open_inode inode flags next = Asks (Changes (change.Resolve inode)) (on_resolved (λ it. open_row it flags next))
 
-abbrev pub root_open_room : RootOpen → ℕ
-root_open_room (at.Open session agreed) = 2
-root_open_room (at.Stat session agreed fd) = 1
-root_open_room (at.Take session agreed fd stat) = 1
-root_open_room (at.Insert session agreed form stat) = 0
-
-abbrev pub root_open_inserts : RootOpen → ℕ
-root_open_inserts it = 1
-
-pub root_open_asks : (it : RootOpen) (plan : Plan) (next : Tree) → IsAsks (root_open_left it plan next)
-root_open_asks (at.Open session agreed) plan next = tt
-root_open_asks (at.Stat session agreed fd) plan next = tt
-root_open_asks (at.Take session agreed fd stat) plan next = tt
-root_open_asks (at.Insert session agreed form stat) plan next = tt
+-- OpenNum: what a number stands for is opened and gets a handle
+abbrev pub open_number : Plan → Session → ℕ → ℕ → (ℕ → Tree) → Tree
+open_number plan session inode flags next = Brackets (
+    open_inode inode (host_flags plan.config flags) (λ fd.
+    Asks (Changes change.DrawHandle) (on_drawn (λ handle.
+    Asks (Changes change.TakeFd) (on_taken (
+    Asks (Changes (change.InsertHandle session.era handle inode fd)) (on_inserted (
+    Shuts false (next handle)))))))))

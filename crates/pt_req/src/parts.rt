@@ -1,4 +1,5 @@
 mod entry;
+mod file;
 mod look_up;
 mod name;
 mod offset;

@@ -1,21 +1,19 @@
-ghost use Rattle.std.specs.Prelude.{◌≡◌, ◌+◌, ◌<◌, ◌≤◌, ℕ, List};
-ghost use Rattle.pt_iface.specs.declared.entry.Entry.{Entry};
-ghost use Rattle.pt_req.specs.Deed.{deed_of};
-ghost use Rattle.pt_req.specs.Held.{inserted_by};
-ghost use Rattle.pt_req.specs.Next.{asked, deed_in, AsksFor};
-ghost use Rattle.pt_req.specs.Room.{adds};
-ghost use Rattle.pt_req.specs.Parts.{look_up_left, look_up_acts, look_up_room, look_up_inserts, looked_up_tree};
-ghost use Rattle.pt_req.specs.Parts.{looked_up_counts};
-ghost use Rattle.pt_req.specs.Requests.{entry_of};
-ghost use Rattle.pt_req.specs.Tree.{Tree};
+ghost use Rattle.std.specs.Prelude.{◌≡◌, ◌+◌, ◌<◌, ◌≤◌, ℕ, List, None};
+ghost use Rattle.pt_frame.specs.Replies.{inserted_by};
+ghost use Rattle.pt_frame.specs.Machine.Next.{asked, deed_in, AsksFor};
+ghost use Rattle.pt_frame.specs.Machine.Room.{brings};
+ghost use Rattle.pt_req.specs.Machine.Parts.{look_up_left, look_up_acts, look_up_room, look_up_inserts, looked_up_tree};
+ghost use Rattle.pt_req.specs.Machine.Parts.{looked_up_counts};
+ghost use Rattle.pt_req.specs.Parts.{entry_of, Found};
+ghost use Rattle.pt_frame.specs.Tree.{Tree};
 ghost use Rattle.pt_req.specs.declared.plan.Plan.{Plan};
 ghost use Rattle.pt_req.specs.declared.parts.look_up.LookedUp.TheVariants.{Ends};
 
-use crate::act::{Act, ActReply};
 use crate::begun::Session;
-use crate::frame::fd_of;
+use crate::parts::file::file_of;
 use crate::parts::entry::entry_of;
 use crate::plan::Plan;
+use pt_frame::{Act, ActReply};
 use pt_host::{Fd, HostOp, HostReply, HostValue, ObjIds, OpenFlags, Stat};
 use pt_iface::Entry;
 use pt_session::{Event, EventReply, Negotiated, RowForm};
@@ -62,23 +60,33 @@ pub enum LookUp {
 pub enum LookedUp {
     Goes,
     Refuses,
-    /// Its bracket ends with so many holds, the count passes, and this is the entry.
-    Ends { count: usize, entry: Entry },
+    /// Its bracket ends, the count passes, and this was found: the entry, the object's ids, and the descriptor that
+    /// stood for it.
+    Ends {
+        entry: Entry,
+        ids: ObjIds,
+        fd: Fd,
+    },
 }
 
 impl Opened {
-    fn ends(&self, plan: &Plan, count: usize, number: u64) -> LookedUp
-        ensures { result ≡ Ends count (entry_of plan.now self.now.session.agreed self.now.parent self.now.stat number) }
+    fn ends(&self, plan: &Plan, number: u64) -> LookedUp
+        ensures { result ≡ Ends (entry_of plan.now self.now.session.agreed self.now.parent self.now.stat number)
+            self.now.stat.ids self.now.fd }
     {
-        let entry = entry_of(plan, self.session.agreed, self.parent, &self.stat, number);
-        LookedUp::Ends { count, entry }
+        LookedUp::Ends {
+            entry: entry_of(plan, self.session.agreed, self.parent, &self.stat, number),
+            ids: self.stat.ids,
+            fd: self.fd,
+        }
     }
 }
 
 impl LookUp {
     pub fn want<'a>(&'a self, name: &'a [u8]) -> Act<'a>
-        ensures asks { (plan : Plan) (next : Entry → Tree) → AsksFor (look_up_left self.now name.now plan next) result }
-        ensures fits { adds (deed_of result) ≤ look_up_room self.now }
+        ensures asks { (plan : Plan) (next : Found → Tree) → AsksFor (look_up_left self.now name.now plan next) result None }
+        ensures fits { (plan : Plan) (next : Found → Tree) →
+            brings (look_up_left self.now name.now plan next) ≤ look_up_room self.now }
     {
         match self {
             LookUp::Resolve { parent, .. } => Act::Event(Event::Resolve { number: *parent }),
@@ -112,16 +120,16 @@ impl LookUp {
 
     /// Goes on from the reply of the act that was wanted.
     pub fn take(&mut self, plan: &Plan, reply: ActReply) -> LookedUp
-        ensures left { (name : List ℕ) (next : Entry → Tree) →
+        ensures left { (name : List ℕ) (next : Found → Tree) →
             asked (look_up_left self.old name plan.now next) reply
             ≡ looked_up_tree result reply (look_up_left self.new name plan.now next) next }
-        ensures fewer { (name : List ℕ) (next : Entry → Tree) →
-            adds (deed_in (look_up_left self.old name plan.now next))
+        ensures fewer { (name : List ℕ) (next : Found → Tree) →
+            brings (look_up_left self.old name plan.now next)
             + looked_up_counts result (look_up_acts self.new) < look_up_acts self.old }
-        ensures room { (name : List ℕ) (next : Entry → Tree) →
-            adds (deed_in (look_up_left self.old name plan.now next))
+        ensures room { (name : List ℕ) (next : Found → Tree) →
+            brings (look_up_left self.old name plan.now next)
             + looked_up_counts result (look_up_room self.new) ≤ look_up_room self.old }
-        ensures inserts { (name : List ℕ) (next : Entry → Tree) →
+        ensures inserts { (name : List ℕ) (next : Found → Tree) →
             inserted_by (deed_in (look_up_left self.old name plan.now next)) reply
             + looked_up_counts result (look_up_inserts self.new) ≤ look_up_inserts self.old }
     {
@@ -140,7 +148,7 @@ impl LookUp {
                 *self = LookUp::Open {
                     session,
                     parent: ids,
-                    dir: fd_of(&form),
+                    dir: file_of(&form),
                 };
                 LookedUp::Goes
             }
@@ -176,7 +184,7 @@ impl LookUp {
                 LookedUp::Goes
             }
             (LookUp::Claim(opened), ActReply::Event(EventReply::Claimed { number })) => {
-                opened.ends(plan, 2, number)
+                opened.ends(plan, number)
             }
             (LookUp::Claim(opened), ActReply::Event(EventReply::Absent)) => {
                 *self = LookUp::Take(opened);
@@ -195,10 +203,10 @@ impl LookUp {
                 LookedUp::Goes
             }
             (LookUp::Insert { opened, .. }, ActReply::Event(EventReply::Inserted { number })) => {
-                opened.ends(plan, 1, number)
+                opened.ends(plan, number)
             }
             (LookUp::Insert { opened, .. }, ActReply::Event(EventReply::Found { number })) => {
-                opened.ends(plan, 3, number)
+                opened.ends(plan, number)
             }
             _ => LookedUp::Refuses,
         }

@@ -1,6 +1,6 @@
 ghost use Rattle.std.specs.Prelude.{◌≡◌};
 ghost use Rattle.std.specs.List.{list_any};
-ghost use Rattle.pt_req.specs.Requests.{is_bad_byte, is_bad_name};
+ghost use Rattle.pt_req.specs.Parts.{is_bad_byte, is_bad_name};
 
 fn is_bad_byte(byte: u8) -> bool
     ensures { result ≡ is_bad_byte byte }

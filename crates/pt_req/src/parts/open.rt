@@ -1,19 +1,18 @@
-ghost use Rattle.std.specs.Prelude.{◌≡◌, ◌+◌, ◌<◌, ◌≤◌, ℕ};
-ghost use Rattle.pt_req.specs.Deed.{deed_of};
-ghost use Rattle.pt_req.specs.Held.{inserted_by};
-ghost use Rattle.pt_req.specs.Next.{asked, deed_in, AsksFor};
-ghost use Rattle.pt_req.specs.Opening.{handle_open_left, handle_open_acts, handle_open_room, handle_open_inserts};
-ghost use Rattle.pt_req.specs.Opening.{handle_opened_tree, handle_opened_counts};
-ghost use Rattle.pt_req.specs.Requests.{can_open};
-ghost use Rattle.pt_req.specs.Room.{adds};
-ghost use Rattle.pt_req.specs.Tree.{Tree};
+ghost use Rattle.std.specs.Prelude.{◌≡◌, ◌+◌, ◌<◌, ◌≤◌, ℕ, None};
+ghost use Rattle.pt_frame.specs.Replies.{inserted_by};
+ghost use Rattle.pt_frame.specs.Machine.Next.{asked, deed_in, AsksFor};
+ghost use Rattle.pt_req.specs.Machine.Parts.{handle_open_left, handle_open_acts, handle_open_room, handle_open_inserts};
+ghost use Rattle.pt_req.specs.Machine.Parts.{handle_opened_tree, handle_opened_counts};
+ghost use Rattle.pt_req.specs.Parts.{can_open};
+ghost use Rattle.pt_frame.specs.Machine.Room.{brings};
+ghost use Rattle.pt_frame.specs.Tree.{Tree};
 ghost use Rattle.pt_req.specs.declared.plan.Plan.{Plan};
 
-use crate::act::{Act, ActReply};
 use crate::begun::Session;
-use crate::frame::fd_of;
+use crate::parts::file::file_of;
 use crate::parts::options::reopen_flags;
 use crate::plan::Plan;
+use pt_frame::{Act, ActReply};
 use pt_host::{Fd, HostOp, HostReply, HostValue};
 use pt_session::{Event, EventReply};
 
@@ -48,7 +47,7 @@ pub enum HandleOpened {
     Refuses,
     /// Only regular files and directories are opened.
     IsSpecial,
-    /// Its bracket ends with its pin, and this is the handle.
+    /// Its bracket ends, and this is the handle.
     Ends { handle: u64 },
 }
 
@@ -61,8 +60,8 @@ fn can_open(mode: u32) -> bool
 
 impl HandleOpen {
     pub fn want<'a>(&self, plan: &Plan) -> Act<'a>
-        ensures asks { (next : ℕ → Tree) → AsksFor (handle_open_left self.now plan.now next) result }
-        ensures fits { adds (deed_of result) ≤ handle_open_room self.now }
+        ensures asks { (next : ℕ → Tree) → AsksFor (handle_open_left self.now plan.now next) result None }
+        ensures fits { (next : ℕ → Tree) → brings (handle_open_left self.now plan.now next) ≤ handle_open_room self.now }
     {
         match self.at {
             HandleOpenAt::Resolve => Act::Event(Event::Resolve { number: self.inode }),
@@ -87,10 +86,10 @@ impl HandleOpen {
             asked (handle_open_left self.old plan next) reply
             ≡ handle_opened_tree result reply (handle_open_left self.new plan next) next }
         ensures fewer { (plan : Plan) (next : ℕ → Tree) →
-            adds (deed_in (handle_open_left self.old plan next))
+            brings (handle_open_left self.old plan next)
             + handle_opened_counts result (handle_open_acts self.new) < handle_open_acts self.old }
         ensures room { (plan : Plan) (next : ℕ → Tree) →
-            adds (deed_in (handle_open_left self.old plan next))
+            brings (handle_open_left self.old plan next)
             + handle_opened_counts result (handle_open_room self.new) ≤ handle_open_room self.old }
         ensures inserts { (plan : Plan) (next : ℕ → Tree) →
             inserted_by (deed_in (handle_open_left self.old plan next)) reply
@@ -101,7 +100,7 @@ impl HandleOpen {
                 if !can_open(mode) {
                     return HandleOpened::IsSpecial;
                 }
-                let path = fd_of(&form);
+                let path = file_of(&form);
                 self.at = HandleOpenAt::Reopen { path };
                 HandleOpened::Goes
             }

@@ -1,15 +1,14 @@
-ghost use Rattle.std.specs.Prelude.{◌≡◌, ◌+◌, ◌<◌, ◌≤◌, ℕ};
-ghost use Rattle.pt_req.specs.Deed.{deed_of};
-ghost use Rattle.pt_req.specs.Held.{inserted_by};
-ghost use Rattle.pt_req.specs.Next.{asked, deed_in, AsksFor};
-ghost use Rattle.pt_req.specs.Room.{adds};
-ghost use Rattle.pt_req.specs.Parts.{root_open_left, root_open_acts, root_open_room, root_open_inserts};
-ghost use Rattle.pt_req.specs.Parts.{root_opened_tree, root_opened_counts};
-ghost use Rattle.pt_req.specs.Tree.{Tree};
+ghost use Rattle.std.specs.Prelude.{◌≡◌, ◌+◌, ◌<◌, ◌≤◌, ℕ, None};
+ghost use Rattle.pt_frame.specs.Replies.{inserted_by};
+ghost use Rattle.pt_frame.specs.Machine.Next.{asked, deed_in, AsksFor};
+ghost use Rattle.pt_frame.specs.Machine.Room.{brings};
+ghost use Rattle.pt_req.specs.Machine.Parts.{root_open_left, root_open_acts, root_open_room, root_open_inserts};
+ghost use Rattle.pt_req.specs.Machine.Parts.{root_opened_tree, root_opened_counts};
+ghost use Rattle.pt_frame.specs.Tree.{Tree};
 
-use crate::act::{Act, ActReply};
 use crate::begun::Session;
 use crate::plan::Plan;
+use pt_frame::{Act, ActReply};
 use pt_host::{Fd, HostOp, HostReply, HostValue, OpenFlags, Stat};
 use pt_session::{Event, EventReply, Negotiated, RowForm};
 use std::mem;
@@ -50,8 +49,8 @@ pub enum RootOpened {
 
 impl RootOpen {
     pub fn want<'a>(&'a self, plan: &'a Plan) -> Act<'a>
-        ensures asks { (next : Tree) → AsksFor (root_open_left self.now plan.now next) result }
-        ensures fits { adds (deed_of result) ≤ root_open_room self.now }
+        ensures asks { (next : Tree) → AsksFor (root_open_left self.now plan.now next) result None }
+        ensures fits { (next : Tree) → brings (root_open_left self.now plan.now next) ≤ root_open_room self.now }
     {
         match self {
             RootOpen::Open { .. } => Act::Host(HostOp::OpenRoot {
@@ -81,10 +80,10 @@ impl RootOpen {
             asked (root_open_left self.old plan.now next) reply
             ≡ root_opened_tree result reply (root_open_left self.new plan.now next) next }
         ensures fewer { (next : Tree) →
-            adds (deed_in (root_open_left self.old plan.now next))
+            brings (root_open_left self.old plan.now next)
             + root_opened_counts result (root_open_acts self.new) < root_open_acts self.old }
         ensures room { (next : Tree) →
-            adds (deed_in (root_open_left self.old plan.now next))
+            brings (root_open_left self.old plan.now next)
             + root_opened_counts result (root_open_room self.new) ≤ root_open_room self.old }
         ensures inserts { (next : Tree) →
             inserted_by (deed_in (root_open_left self.old plan.now next)) reply

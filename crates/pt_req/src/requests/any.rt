@@ -1,7 +1,6 @@
-use crate::act::{Act, ActReply};
-use crate::frame::{Body, Next};
 use crate::plan::Plan;
 use crate::requests::{Destroy, Forget, Init, Lookup, Open, Read, Release, Root, Unknown};
+use pt_frame::{ActReply, Body, Next, Wanted};
 use pt_host::HostSeat;
 
 /// The body of any request.
@@ -19,7 +18,9 @@ pub enum RequestBody {
 }
 
 impl Body for RequestBody {
-    ghost use Rattle.pt_req.specs.Bodies.{request_left, request_acts, request_room, request_inserts, request_asks};
+    type Plan = Plan;
+
+    ghost use Rattle.pt_req.specs.Machine.Bodies.{request_left, request_acts, request_room, request_inserts, request_asks};
 
     ghost left = { request_left };
 
@@ -29,7 +30,7 @@ impl Body for RequestBody {
 
     ghost inserts = { request_inserts };
 
-    fn want<'a>(&'a self, plan: &'a Plan, seat: &HostSeat) -> Act<'a> {
+    fn want<'a>(&'a self, plan: &'a Plan, seat: &'a HostSeat) -> Wanted<'a> {
         match self {
             RequestBody::Init(body) => body.want(plan, seat),
             RequestBody::Destroy(body) => body.want(plan, seat),
@@ -43,17 +44,17 @@ impl Body for RequestBody {
         }
     }
 
-    fn take(&mut self, plan: &Plan, reply: ActReply, seat: &HostSeat) -> Next {
+    fn take(&mut self, plan: &Plan, seat: &HostSeat, reply: ActReply) -> Next {
         match self {
-            RequestBody::Init(body) => body.take(plan, reply, seat),
-            RequestBody::Destroy(body) => body.take(plan, reply, seat),
-            RequestBody::Root(body) => body.take(plan, reply, seat),
-            RequestBody::Lookup(body) => body.take(plan, reply, seat),
-            RequestBody::Forget(body) => body.take(plan, reply, seat),
-            RequestBody::Open(body) => body.take(plan, reply, seat),
-            RequestBody::Release(body) => body.take(plan, reply, seat),
-            RequestBody::Read(body) => body.take(plan, reply, seat),
-            RequestBody::Unknown(body) => body.take(plan, reply, seat),
+            RequestBody::Init(body) => body.take(plan, seat, reply),
+            RequestBody::Destroy(body) => body.take(plan, seat, reply),
+            RequestBody::Root(body) => body.take(plan, seat, reply),
+            RequestBody::Lookup(body) => body.take(plan, seat, reply),
+            RequestBody::Forget(body) => body.take(plan, seat, reply),
+            RequestBody::Open(body) => body.take(plan, seat, reply),
+            RequestBody::Release(body) => body.take(plan, seat, reply),
+            RequestBody::Read(body) => body.take(plan, seat, reply),
+            RequestBody::Unknown(body) => body.take(plan, seat, reply),
         }
     }
 

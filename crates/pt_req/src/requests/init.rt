@@ -1,16 +1,15 @@
 ghost use Rattle.std.specs.Prelude.{◌≡◌, ℕ};
 ghost use Rattle.pt_iface.specs.declared.answer.Answer.TheVariants.{Inited};
-ghost use Rattle.pt_req.specs.Next.{IsNext, counts_after};
+ghost use Rattle.pt_frame.specs.Machine.Next.{IsNext, counts_after};
 ghost use Rattle.pt_req.specs.Options.{init_options};
-ghost use Rattle.pt_req.specs.Parts.{root_opened_tree, root_opened_counts};
-ghost use Rattle.pt_req.specs.Tree.{Tree, Gives};
-ghost use Rattle.pt_req.specs.declared.act.ActReply.{ActReply};
+ghost use Rattle.pt_req.specs.Machine.Parts.{root_opened_tree, root_opened_counts};
+ghost use Rattle.pt_frame.specs.Tree.{Tree, Gives};
+ghost use Rattle.pt_frame.specs.declared.act.ActReply.{ActReply};
 
-use crate::act::{Act, ActReply};
 use crate::begun::Session;
-use crate::frame::{Body, Next, Then};
 use crate::parts::{RootOpen, RootOpened, agreed_with, init_options};
 use crate::plan::Plan;
+use pt_frame::{Act, ActReply, Body, Next, Then, Wanted};
 use pt_host::HostSeat;
 use pt_iface::{Answer, FsOptions};
 use pt_session::{Event, EventReply, Negotiated};
@@ -41,7 +40,9 @@ fn with_session(opened: RootOpened, plan: &Plan) -> Next
 }
 
 impl Body for Init {
-    ghost use Rattle.pt_req.specs.Bodies.{init_left, init_acts, init_room, init_inserts, init_asks};
+    type Plan = Plan;
+
+    ghost use Rattle.pt_req.specs.Machine.Bodies.{init_left, init_acts, init_room, init_inserts, init_asks};
 
     ghost left = { init_left };
 
@@ -51,14 +52,16 @@ impl Body for Init {
 
     ghost inserts = { init_inserts };
 
-    fn want<'a>(&'a self, plan: &'a Plan, _seat: &HostSeat) -> Act<'a> {
-        match self {
+    fn want<'a>(&'a self, plan: &'a Plan, _seat: &'a HostSeat) -> Wanted<'a> {
+        let act = match self {
             Init::Clear { .. } => Act::Event(Event::Clear),
             Init::Open(part) => part.want(plan),
-        }
+        };
+        let opens = None;
+        Wanted { act, opens }
     }
 
-    fn take(&mut self, plan: &Plan, reply: ActReply, _seat: &HostSeat) -> Next {
+    fn take(&mut self, plan: &Plan, _seat: &HostSeat, reply: ActReply) -> Next {
         let nowhere = Init::Clear {
             capable: FsOptions(0),
         };

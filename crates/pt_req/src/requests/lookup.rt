@@ -1,15 +1,14 @@
 ghost use Rattle.std.specs.Prelude.{◌≡◌, ℕ};
-ghost use Rattle.pt_req.specs.Next.{IsNext, counts_after};
-ghost use Rattle.pt_req.specs.Parts.{looked_up_tree, looked_up_counts};
+ghost use Rattle.pt_frame.specs.Machine.Next.{IsNext, counts_after};
+ghost use Rattle.pt_req.specs.Machine.Parts.{looked_up_tree, looked_up_counts};
 ghost use Rattle.pt_req.specs.Requests.{answers_entry};
-ghost use Rattle.pt_req.specs.Tree.{Tree};
-ghost use Rattle.pt_req.specs.declared.act.ActReply.{ActReply};
+ghost use Rattle.pt_frame.specs.Tree.{Tree};
+ghost use Rattle.pt_frame.specs.declared.act.ActReply.{ActReply};
 
-use crate::act::{Act, ActReply};
 use crate::begun::Session;
-use crate::frame::{Body, Next, Then};
 use crate::parts::{LookUp, LookedUp, is_bad_name};
 use crate::plan::Plan;
+use pt_frame::{Act, ActReply, Body, Edges, Next, Then, Wanted};
 use pt_host::{Bytes, Errno, HostSeat};
 use pt_iface::Answer;
 use pt_session::{Event, EventReply};
@@ -38,16 +37,17 @@ fn with_entry(looked_up: LookedUp) -> Next
     match looked_up {
         LookedUp::Goes => Next::At(Then::Goes),
         LookedUp::Refuses => Next::At(Then::Refuses),
-        LookedUp::Ends { count, entry } => Next::Shuts {
-            passes: true,
-            count,
+        LookedUp::Ends { entry, .. } => Next::Over {
+            edges: Edges::PASS,
             then: Then::Gives(Answer::Entry(entry)),
         },
     }
 }
 
 impl Body for Lookup {
-    ghost use Rattle.pt_req.specs.Bodies.{lookup_left, lookup_acts, lookup_room, lookup_inserts, lookup_asks};
+    type Plan = Plan;
+
+    ghost use Rattle.pt_req.specs.Machine.Bodies.{lookup_left, lookup_acts, lookup_room, lookup_inserts, lookup_asks};
 
     ghost left = { lookup_left };
 
@@ -57,14 +57,16 @@ impl Body for Lookup {
 
     ghost inserts = { lookup_inserts };
 
-    fn want<'a>(&'a self, _plan: &'a Plan, _seat: &HostSeat) -> Act<'a> {
-        match &self.at {
+    fn want<'a>(&'a self, _plan: &'a Plan, _seat: &'a HostSeat) -> Wanted<'a> {
+        let act = match &self.at {
             LookupAt::Begin { .. } => Act::Event(Event::Begin),
             LookupAt::LookUp(part) => part.want(self.name.as_slice()),
-        }
+        };
+        let opens = None;
+        Wanted { act, opens }
     }
 
-    fn take(&mut self, plan: &Plan, reply: ActReply, _seat: &HostSeat) -> Next {
+    fn take(&mut self, plan: &Plan, _seat: &HostSeat, reply: ActReply) -> Next {
         match (
             mem::replace(&mut self.at, LookupAt::Begin { parent: 0 }),
             reply,
@@ -79,7 +81,10 @@ impl Body for Lookup {
                         agreed: negotiated,
                     };
                     self.at = LookupAt::LookUp(LookUp::Resolve { session, parent });
-                    Next::At(Then::Goes)
+                    Next::Over {
+                        edges: Edges::BEGIN,
+                        then: Then::Goes,
+                    }
                 }
             (LookupAt::Begin { .. }, _) => Next::At(Then::Refuses),
             (LookupAt::LookUp(mut part), reply) => {

@@ -1,17 +1,16 @@
 ghost use Rattle.std.specs.Prelude.{◌≡◌, ℕ, IfSome, IfNone};
-ghost use Rattle.pt_req.specs.Next.{IsNext, asked, counts_after};
-ghost use Rattle.pt_req.specs.Opening.{handle_open_left, handle_open_acts, handle_open_room, handle_opened_tree};
-ghost use Rattle.pt_req.specs.Opening.{handle_opened_counts};
+ghost use Rattle.pt_frame.specs.Machine.Next.{IsNext, asked, counts_after};
+ghost use Rattle.pt_req.specs.Machine.Parts.{handle_open_left, handle_open_acts, handle_open_room, handle_opened_tree};
+ghost use Rattle.pt_req.specs.Machine.Parts.{handle_opened_counts};
 ghost use Rattle.pt_req.specs.Requests.{answers_opened, open_file};
-ghost use Rattle.pt_req.specs.Tree.{Tree, Refuses};
-ghost use Rattle.pt_req.specs.declared.act.ActReply.{ActReply};
+ghost use Rattle.pt_frame.specs.Tree.{Tree, Refuses, Brackets};
+ghost use Rattle.pt_frame.specs.declared.act.ActReply.{ActReply};
 ghost use Rattle.pt_req.specs.declared.plan.Plan.{Plan};
 
-use crate::act::{Act, ActReply};
 use crate::begun::Session;
-use crate::frame::{Body, Next, Then};
 use crate::parts::{HandleOpen, HandleOpenAt, HandleOpened, open_options};
 use crate::plan::Plan;
+use pt_frame::{Act, ActReply, Body, Edges, Next, Then, Wanted};
 use pt_host::{Errno, HostSeat};
 use pt_iface::Answer;
 use pt_session::{Event, EventReply};
@@ -33,7 +32,7 @@ pub struct Open {
 /// The opening, once the request has begun.
 fn begun(inode: u64, flags: u32, reply: ActReply) -> Option<HandleOpen>
     ensures some { IfSome result (λ part. (plan : Plan) →
-        asked (open_file plan inode flags) reply ≡ handle_open_left part plan (answers_opened plan flags)) }
+        asked (open_file plan inode flags) reply ≡ Brackets (handle_open_left part plan (answers_opened plan flags))) }
     ensures acts { IfSome result (λ part. handle_open_acts part ≡ 8) }
     ensures room { IfSome result (λ part. handle_open_room part ≡ 3) }
     ensures none { IfNone result ((plan : Plan) → asked (open_file plan inode flags) reply ≡ Refuses reply) }
@@ -68,9 +67,8 @@ fn with_handle(opened: HandleOpened, plan: &Plan, flags: u32) -> Next
         HandleOpened::IsSpecial => Next::At(Then::Gives(Answer::Refused(Errno::EBADF))),
         HandleOpened::Ends { handle } => {
             let options = open_options(&plan.config, flags);
-            Next::Shuts {
-                passes: false,
-                count: 1,
+            Next::Over {
+                edges: Edges::END,
                 then: Then::Gives(Answer::Opened(handle, options)),
             }
         }
@@ -78,7 +76,9 @@ fn with_handle(opened: HandleOpened, plan: &Plan, flags: u32) -> Next
 }
 
 impl Body for Open {
-    ghost use Rattle.pt_req.specs.Bodies.{open_left, open_acts, open_room, open_inserts, open_asks};
+    type Plan = Plan;
+
+    ghost use Rattle.pt_req.specs.Machine.Bodies.{open_left, open_acts, open_room, open_inserts, open_asks};
 
     ghost left = { open_left };
 
@@ -88,19 +88,24 @@ impl Body for Open {
 
     ghost inserts = { open_inserts };
 
-    fn want<'a>(&'a self, plan: &'a Plan, _seat: &HostSeat) -> Act<'a> {
-        match &self.at {
+    fn want<'a>(&'a self, plan: &'a Plan, _seat: &'a HostSeat) -> Wanted<'a> {
+        let act = match &self.at {
             OpenAt::Begin { .. } => Act::Event(Event::Begin),
             OpenAt::Open(part) => part.want(plan),
-        }
+        };
+        let opens = None;
+        Wanted { act, opens }
     }
 
-    fn take(&mut self, plan: &Plan, reply: ActReply, _seat: &HostSeat) -> Next {
+    fn take(&mut self, plan: &Plan, _seat: &HostSeat, reply: ActReply) -> Next {
         match self.at {
             OpenAt::Begin { inode } => match begun(inode, self.flags, reply) {
                 Some(part) => {
                     self.at = OpenAt::Open(part);
-                    Next::At(Then::Goes)
+                    Next::Over {
+                        edges: Edges::BEGIN,
+                        then: Then::Goes,
+                    }
                 }
                 None => Next::At(Then::Refuses),
             },

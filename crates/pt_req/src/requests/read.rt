@@ -1,7 +1,6 @@
-use crate::act::{Act, ActReply};
-use crate::frame::{Body, Next, Then};
 use crate::parts::is_bad_offset;
 use crate::plan::Plan;
+use pt_frame::{Act, ActReply, Body, Next, Then, Wanted};
 use pt_host::{Errno, Fd, HostOp, HostReply, HostSeat, HostValue};
 use pt_iface::Answer;
 use pt_session::{Event, EventReply};
@@ -25,7 +24,9 @@ pub struct Read {
 }
 
 impl Body for Read {
-    ghost use Rattle.pt_req.specs.Bodies.{read_left, read_acts, read_room, read_inserts, read_asks};
+    type Plan = Plan;
+
+    ghost use Rattle.pt_req.specs.Machine.Bodies.{read_left, read_acts, read_room, read_inserts, read_asks};
 
     ghost left = { read_left };
 
@@ -35,8 +36,8 @@ impl Body for Read {
 
     ghost inserts = { read_inserts };
 
-    fn want<'a>(&'a self, _plan: &'a Plan, _seat: &HostSeat) -> Act<'a> {
-        match self.at {
+    fn want<'a>(&'a self, _plan: &'a Plan, _seat: &'a HostSeat) -> Wanted<'a> {
+        let act = match self.at {
             Reading::Begin => Act::Event(Event::Begin),
             Reading::Pin => Act::Event(Event::PinHandle {
                 handle: self.handle,
@@ -47,10 +48,12 @@ impl Body for Read {
                 offset: self.offset,
                 size: self.size,
             }),
-        }
+        };
+        let opens = None;
+        Wanted { act, opens }
     }
 
-    fn take(&mut self, _plan: &Plan, reply: ActReply, _seat: &HostSeat) -> Next {
+    fn take(&mut self, _plan: &Plan, _seat: &HostSeat, reply: ActReply) -> Next {
         match (self.at, reply) {
             (Reading::Begin, ActReply::Event(EventReply::Began { .. })) => {
                 if is_bad_offset(self.offset) {

@@ -1,15 +1,14 @@
 ghost use Rattle.std.specs.Prelude.{◌≡◌, ℕ};
-ghost use Rattle.pt_req.specs.Next.{IsNext, counts_after};
-ghost use Rattle.pt_req.specs.Parts.{root_opened_tree, root_opened_counts};
-ghost use Rattle.pt_req.specs.Tree.{Tree, Gives};
-ghost use Rattle.pt_req.specs.declared.act.ActReply.{ActReply};
+ghost use Rattle.pt_frame.specs.Machine.Next.{IsNext, counts_after};
+ghost use Rattle.pt_req.specs.Machine.Parts.{root_opened_tree, root_opened_counts};
+ghost use Rattle.pt_frame.specs.Tree.{Tree, Gives};
+ghost use Rattle.pt_frame.specs.declared.act.ActReply.{ActReply};
 ghost use Rattle.pt_iface.specs.declared.answer.Answer.TheVariants.{Done};
 
-use crate::act::{Act, ActReply};
 use crate::begun::Session;
-use crate::frame::{Body, Next, Then};
 use crate::parts::{RootOpen, RootOpened};
 use crate::plan::Plan;
+use pt_frame::{Act, ActReply, Body, Next, Then, Wanted};
 use pt_host::HostSeat;
 use pt_iface::Answer;
 use pt_session::{Event, EventReply};
@@ -36,7 +35,9 @@ fn with_root(opened: RootOpened) -> Next
 }
 
 impl Body for Root {
-    ghost use Rattle.pt_req.specs.Bodies.{root_left, root_acts, root_room, root_inserts, root_asks};
+    type Plan = Plan;
+
+    ghost use Rattle.pt_req.specs.Machine.Bodies.{root_left, root_acts, root_room, root_inserts, root_asks};
 
     ghost left = { root_left };
 
@@ -46,14 +47,16 @@ impl Body for Root {
 
     ghost inserts = { root_inserts };
 
-    fn want<'a>(&'a self, plan: &'a Plan, _seat: &HostSeat) -> Act<'a> {
-        match self {
+    fn want<'a>(&'a self, plan: &'a Plan, _seat: &'a HostSeat) -> Wanted<'a> {
+        let act = match self {
             Root::Begin => Act::Event(Event::Begin),
             Root::Open(part) => part.want(plan),
-        }
+        };
+        let opens = None;
+        Wanted { act, opens }
     }
 
-    fn take(&mut self, plan: &Plan, reply: ActReply, _seat: &HostSeat) -> Next {
+    fn take(&mut self, plan: &Plan, _seat: &HostSeat, reply: ActReply) -> Next {
         match (mem::replace(self, Root::Begin), reply) {
             (Root::Begin, ActReply::Event(EventReply::Began { era, negotiated })) => {
                 let session = Session {

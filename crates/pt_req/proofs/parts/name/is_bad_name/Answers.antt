@@ -1,6 +1,6 @@
 use Rattle.std.proofs.Common.{◌≡◌, ◌<◌, ℕ, List, [], ◌∷◌, length, refl, ◌∙◌, arith}
 use Rattle.std.specs.List.{list_any}
-use Rattle.pt_req.specs.Requests.{is_bad_byte, is_bad_name}
+use Rattle.pt_req.specs.Parts.{is_bad_byte, is_bad_name}
 use Rattle.pt_req.proofs.parts.name.is_bad_name.Goals as goal
 
 long_name : (name : List ℕ) → 2 < length name → list_any is_bad_byte name ≡ is_bad_name name
