@@ -11,14 +11,14 @@ use Rattle.pt_session.specs.declared.event.KeptEvent.TheVariants as change
 use Rattle.pt_session.specs.declared.reply.EventRefusal.TheVariants.{NotLive}
 use Rattle.pt_session.specs.declared.reply.EventReply.{EventReply}
 use Rattle.pt_session.specs.declared.reply.EventReply.TheVariants as event
-use Rattle.pt_req.specs.Deed.{Deed, Calls, Changes}
-use Rattle.pt_req.specs.Held.{closings_in}
-use Rattle.pt_req.specs.declared.act.ActReply.{ActReply}
-use Rattle.pt_req.specs.declared.act.ActReply.TheVariants.{Event}
-use Rattle.pt_req.specs.declared.hold.Hold.{Hold}
+use Rattle.pt_frame.specs.Deed.{Deed, Calls, Changes}
+use Rattle.pt_frame.specs.Replies.{closings_in}
+use Rattle.pt_frame.specs.declared.act.ActReply.{ActReply}
+use Rattle.pt_frame.specs.declared.act.ActReply.TheVariants.{Event}
+use Rattle.pt_frame.specs.declared.hold.Hold.{Hold}
 use Rattle.pt_law.specs.Discipline.{Job, MovesBy}
 use Rattle.pt_law.specs.World.{TablesGo}
-use Rattle.pt_law.specs.Ledger.{held_by, kept_slots}
+use Rattle.pt_law.specs.Ledger.{all_hold, kept_slots}
 use Rattle.pt_law.specs.Ledger.{closing_ended}
 use Rattle.pt_law.proofs.Flows.{slot_held, pin_held, handle_pin_held, row_pins, handle_pins, IsHonest}
 use Rattle.pt_law.proofs.Flows.{called}
@@ -29,12 +29,12 @@ use Rattle.pt_law.proofs.Holding.{handed}
 
 -- what is there is what tables and jobs have
 pub record Books (bound : ℕ) (t : Tables) (js : ℕ → Job) : Type 0 where
-  pub slots : kept_slots t + held_by bound slot_held js ≡ t.limit
-  pub pins : (serial : ℕ) → total (row_pins serial) t.rows ≡ held_by bound (pin_held serial) js
-  pub handle_pins : (serial : ℕ) → total (handle_pins serial) t.handles ≡ held_by bound (handle_pin_held serial) js
+  pub slots : kept_slots t + all_hold bound slot_held js ≡ t.limit
+  pub pins : (serial : ℕ) → total (row_pins serial) t.rows ≡ all_hold bound (pin_held serial) js
+  pub handle_pins : (serial : ℕ) → total (handle_pins serial) t.handles ≡ all_hold bound (handle_pin_held serial) js
   pub closings : length t.closing ≡ sum_to bound (λ j. (js j).owed)
 
-pub part : (w : Hold → ℕ) (js : ℕ → Job) (bound j : ℕ) → j < bound → total w (js j).holds ≤ held_by bound w js
+pub part : (w : Hold → ℕ) (js : ℕ → Job) (bound j : ℕ) → j < bound → total w (js j).holds ≤ all_hold bound w js
 part w js bound j h = le_sum_to (λ i. total w (js i).holds) bound j h
 
 unpinned : (serial : ℕ) (rows : List Row) → Each (λ r. (r.serial ≡ serial) × (r.pins ≢ 0) → ⊥) rows →

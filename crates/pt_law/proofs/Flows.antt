@@ -2,20 +2,16 @@
 use Rattle.std.proofs.Common.{◌≡◌, ℕ, ◌*◌, Some, None}
 use Rattle.pt_host.specs.Words.{is}
 use Rattle.pt_host.specs.Call.{Call}
-use Rattle.pt_host.specs.declared.op.KeptHostOp.TheVariants as call
-use Rattle.pt_host.specs.declared.reply.HostReply.TheVariants as host
-use Rattle.pt_host.specs.declared.reply.HostValue.TheVariants as value
 use Rattle.pt_session.specs.Tables.{Tables}
 use Rattle.pt_session.specs.declared.row.Row.{Row}
 use Rattle.pt_session.specs.declared.row.HandleRow.{HandleRow}
 use Rattle.pt_session.specs.declared.event.KeptEvent.TheVariants as change
 use Rattle.pt_session.specs.declared.reply.EventReply.TheVariants as event
-use Rattle.pt_req.specs.Deed.{Deed, Calls, Changes}
-use Rattle.pt_req.specs.Held.{fd_of}
-use Rattle.pt_req.specs.declared.act.ActReply.{ActReply}
-use Rattle.pt_req.specs.declared.act.ActReply.TheVariants.{Event, Host, NoCopy}
-use Rattle.pt_req.specs.declared.hold.Hold.{Hold}
-use Rattle.pt_req.specs.declared.hold.Hold.TheVariants as hold
+use Rattle.pt_frame.specs.Deed.{Deed, Calls, Changes}
+use Rattle.pt_frame.specs.declared.act.ActReply.{ActReply}
+use Rattle.pt_frame.specs.declared.act.ActReply.TheVariants.{Event, Host, NoCopy}
+use Rattle.pt_frame.specs.declared.hold.Hold.{Hold}
+use Rattle.pt_frame.specs.declared.hold.Hold.TheVariants as hold
 use Rattle.pt_law.specs.World.{TablesGo}
 use Rattle.pt_law.specs.Ledger.{one_if, form_slot}
 

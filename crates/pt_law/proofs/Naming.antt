@@ -1,26 +1,26 @@
 -- A name that is opened leads from the directory that a number stood for.
-use Rattle.std.proofs.Common.{◌≡◌, ◌≢◌, ◌⊎◌, ⊎_elim, inl, inr, ℕ, ◌<◌, List, [], ◌∷◌, ◌++◌, false, refl, sym, ap, ap₂}
+use Rattle.std.proofs.Common.{◌≡◌, ◌≢◌, ◌⊎◌, ⊎_elim, inl, inr, ℕ, ◌<◌, List, [], ◌∷◌, ◌++◌, false, refl, sym, ap}
 use Rattle.std.proofs.Common.{subst, ◌∙◌, arith, Option, Some, None, append_assoc}
 use Rattle.std.proofs.lemmas.Bool.{cases_eq}
 use Rattle.pt_host.specs.Words.{Each, Takes}
 use Rattle.pt_host.specs.Flags.{includes, o_creat, o_path}
-use Rattle.pt_host.specs.Tree.{Tree, Opened, IsOpenOn}
+use Rattle.pt_host.specs.Tree.{Tree, IsOpenOn}
 use Rattle.pt_host.specs.declared.ids.Fd.{Fd}
 use Rattle.pt_host.specs.declared.ids.ObjIds.{ObjIds}
 use Rattle.pt_host.specs.declared.flags.OpenFlags.{OpenFlags}
 use Rattle.pt_host.specs.declared.op.KeptHostOp.TheVariants as call
 use Rattle.pt_host.specs.declared.reply.HostReply.TheVariants as host
 use Rattle.pt_host.specs.declared.reply.HostValue.TheVariants as value
-use Rattle.pt_session.specs.Tables.{Tables, Agree, IsSoundRow}
+use Rattle.pt_session.specs.Tables.{Agree, IsSoundRow}
 use Rattle.pt_session.specs.declared.form.RowForm.{RowForm}
 use Rattle.pt_session.specs.declared.event.KeptEvent.TheVariants as change
 use Rattle.pt_session.specs.declared.reply.EventReply.TheVariants as event
-use Rattle.pt_req.specs.Deed.{Deed, Calls, Changes, Step}
-use Rattle.pt_req.specs.declared.act.ActReply.{ActReply}
-use Rattle.pt_req.specs.declared.act.ActReply.TheVariants.{Event, Host}
-use Rattle.pt_req.specs.declared.hold.Hold.{Hold}
-use Rattle.pt_req.specs.declared.hold.Hold.TheVariants as hold
-use Rattle.pt_law.specs.Discipline.{Job, Notes, Resolution, idle, MovesIf, Disciplined, notes_after, with_root, unnoted}
+use Rattle.pt_frame.specs.Deed.{Deed, Calls, Changes, Step}
+use Rattle.pt_frame.specs.declared.act.ActReply.{ActReply}
+use Rattle.pt_frame.specs.declared.act.ActReply.TheVariants.{Event, Host}
+use Rattle.pt_frame.specs.declared.hold.Hold.{Hold}
+use Rattle.pt_frame.specs.declared.hold.Hold.TheVariants as hold
+use Rattle.pt_law.specs.Discipline.{Job, Notes, Resolution, idle, MovesIf, Disciplined, notes_after, with_root}
 use Rattle.pt_law.specs.World.{World, Past, Turn, turn_by, Goes, IsLawful, Runs, steps_of, settled_if, object_of}
 use Rattle.pt_law.specs.Laws.{AreDisciplined, Starts, ObjectOf}
 use Rattle.pt_law.specs.Naming.{resolving, opening, ResolvesNone, OpensNone, NamePlaces, NamePath, LedTo}
@@ -135,7 +135,7 @@ resolve_at bound base had w js j parent row mode form ids next v g =
 open_at : (bound : ℕ) (base had : ℕ → ℕ) (w : World) (js : ℕ →
     Job) (j row mode : ℕ) (dir : Fd) (name : List ℕ) (flags : OpenFlags) (new : Fd) (next : World) {rest : List Hold}
     (directory : ℕ) → includes flags.0 o_creat ≡ false → j < bound → Inv bound base had w js →
-    Takes (hold.Pin row dir) (js j).holds rest → w.past.objects row ≡ Some directory →
+    Takes (hold.Pin row (Some dir)) (js j).holds rest → w.past.objects row ≡ Some directory →
     Goes w (turn_by j (opening dir name flags mode new)) next →
     (object : ℕ) × (w.tree.names directory name ≡ Some object) × (next.past.latest j ≡ Some object)
     × IsOpenOn w.tree dir directory × IsOpenOn next.tree new object
@@ -270,8 +270,8 @@ led_law {j = j} {number = number} {name = name} limit bound turns more start ope
     p.resolved_last (subst (λ z. Disciplined idle z (v1.0 j)) (own_to j p.before p.between
     (resolving number p.row p.form p.ids p.mode)) between.0) in
     let same : fit.0.0 ≡ record { number = number; row = p.row } = some_same (sym fit.0.2 ∙ resolved) in
-    let pin : Takes (hold.Pin p.row p.dir) (v1.0 j).holds fit.0.1 =
-    subst (λ (r : Resolution). Takes (hold.Pin r.row p.dir) (v1.0 j).holds fit.0.1) same fit.0.3 in
+    let pin : Takes (hold.Pin p.row (Some p.dir)) (v1.0 j).holds fit.0.1 =
+    subst (λ (r : Resolution). Takes (hold.Pin r.row (Some p.dir)) (v1.0 j).holds fit.0.1) same fit.0.3 in
     let kept = row_stays path.at_resolve a path.resolved p.between path.at_open p.row directory.0
     v0.1.tabled.agree path.resolves path.to_open directory.3 directory.2 in
     let o = open_at bound _ _ path.at_open v1.0 j p.row p.made_mode p.dir name p.flags p.fd opened directory.0 fit.1 lt

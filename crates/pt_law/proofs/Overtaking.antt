@@ -16,9 +16,9 @@ use Rattle.pt_session.specs.declared.reply.EventReply.{EventReply}
 use Rattle.pt_session.specs.declared.reply.EventRefusal.TheVariants.{Overtaken}
 use Rattle.pt_session.specs.declared.reply.EventReply.TheVariants as event
 use Rattle.pt_session.proofs.Replies.{refused_stays}
-use Rattle.pt_req.specs.Deed.{Deed, Calls, Changes, Step}
-use Rattle.pt_req.specs.declared.act.ActReply.{ActReply}
-use Rattle.pt_req.specs.declared.act.ActReply.TheVariants.{Event, Host}
+use Rattle.pt_frame.specs.Deed.{Deed, Calls, Changes, Step}
+use Rattle.pt_frame.specs.declared.act.ActReply.{ActReply}
+use Rattle.pt_frame.specs.declared.act.ActReply.TheVariants.{Event, Host}
 use Rattle.pt_law.specs.Discipline.{Job, Notes, idle, notes_after, with_root, MovesBy, MovesIf, Disciplined}
 use Rattle.pt_law.specs.World.{Turn, turn_by, TablesGo, TablesRun, steps_of}
 use Rattle.pt_law.specs.Laws.{AreDisciplined, IsOvertaken, TellsOvertaken, TellsGiven, IsBeginning, BeginsFirst}

@@ -7,9 +7,9 @@ use Rattle.pt_host.specs.declared.ids.Fd.{Fd}
 use Rattle.pt_session.specs.Tables.{Tables}
 use Rattle.pt_session.specs.declared.row.Row.{Row}
 use Rattle.pt_session.specs.declared.row.HandleRow.{HandleRow}
-use Rattle.pt_req.specs.Held.{fd_of}
-use Rattle.pt_req.specs.declared.hold.Hold.{Hold}
-use Rattle.pt_req.specs.declared.hold.Hold.TheVariants as hold
+use Rattle.pt_law.specs.Discipline.{fd_of}
+use Rattle.pt_frame.specs.declared.hold.Hold.{Hold}
+use Rattle.pt_frame.specs.declared.hold.Hold.TheVariants as hold
 use Rattle.pt_law.specs.Discipline.{Job}
 use Rattle.pt_law.specs.World.{Past}
 use Rattle.pt_law.proofs.Flows.{pin_held, handle_pin_held}
@@ -39,7 +39,7 @@ some_pinned {R = R} serial_of pins_of serial (row ∷ rows) h =
 pub pinned_row : (bound : ℕ) (tree : Tree) (t : Tables) (past : Past) (js : ℕ →
     Job) (j row : ℕ) (fd : Fd) {rest : List Hold} → j < bound → Books bound t js →
     Right bound tree t.next_row past t.rows t.handles js →
-    Takes (hold.Pin row fd) (js j).holds rest →
+    Takes (hold.Pin row (Some fd)) (js j).holds rest →
     (object : ℕ) × IsOpenOn tree fd object × (past.objects row ≡ Some object)
 pinned_row bound tree t past js j row fd lt b v k =
     let x = b.pins row in

@@ -17,9 +17,9 @@ use Rattle.pt_session.specs.declared.event.KeptEvent.TheVariants as change
 use Rattle.pt_session.specs.declared.reply.EventReply.{EventReply}
 use Rattle.pt_session.specs.declared.reply.EventReply.TheVariants as event
 use Rattle.pt_session.specs.declared.reply.EventRefusal.TheVariants.{NotLive, Last}
-use Rattle.pt_req.specs.Deed.{Deed, Calls, Changes}
-use Rattle.pt_req.specs.declared.act.ActReply.{ActReply}
-use Rattle.pt_req.specs.declared.act.ActReply.TheVariants.{Event, Host}
+use Rattle.pt_frame.specs.Deed.{Deed, Calls, Changes}
+use Rattle.pt_frame.specs.declared.act.ActReply.{ActReply}
+use Rattle.pt_frame.specs.declared.act.ActReply.TheVariants.{Event, Host}
 use Rattle.pt_law.specs.World.{World, Past, Turn, IsLawful, Runs, TablesGo, TablesRun, settled_if}
 use Rattle.pt_law.specs.Ledger.{forgotten, given_by, inserted, inserted_if, inserted_as}
 use Rattle.pt_law.specs.Laws.{AreDisciplined, Starts, IsLive, ObjectOf}

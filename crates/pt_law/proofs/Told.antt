@@ -8,10 +8,10 @@ use Rattle.pt_host.specs.declared.reply.HostReply.TheVariants as host
 use Rattle.pt_host.specs.declared.reply.HostValue.TheVariants as value
 use Rattle.pt_host.specs.declared.seat.HostSeat.{HostSeat}
 use Rattle.pt_session.specs.Tables.{Tables}
-use Rattle.pt_req.specs.Deed.{Deed, Calls, Changes, Step, MayTellBytes}
-use Rattle.pt_req.specs.Made.{Does, Made, RunsAlone}
-use Rattle.pt_req.specs.declared.act.ActReply.{ActReply}
-use Rattle.pt_req.specs.declared.act.ActReply.TheVariants.{Event, Host, NoCopy}
+use Rattle.pt_frame.specs.Deed.{Deed, Calls, Changes, Step, MayTellBytes}
+use Rattle.pt_frame.specs.Made.{Does, Made, RunsAlone}
+use Rattle.pt_frame.specs.declared.act.ActReply.{ActReply}
+use Rattle.pt_frame.specs.declared.act.ActReply.TheVariants.{Event, Host, NoCopy}
 use Rattle.pt_law.specs.Told.{MayBeTold, StepMayBeTold, AllMayBeTold}
 
 -- the host keeps its promises

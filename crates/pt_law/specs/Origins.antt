@@ -7,10 +7,10 @@ use Rattle.pt_host.specs.declared.flags.OpenFlags.{OpenFlags}
 use Rattle.pt_host.specs.declared.op.KeptHostOp.TheVariants as call
 use Rattle.pt_host.specs.declared.reply.HostReply.TheVariants as host
 use Rattle.pt_host.specs.declared.reply.HostValue.TheVariants as value
-use Rattle.pt_req.specs.Deed.{Calls, Step}
-use Rattle.pt_req.specs.declared.act.ActReply.TheVariants.{Host}
-use Rattle.pt_law.specs.Opened.{made}
+use Rattle.pt_frame.specs.Deed.{Calls, Step}
+use Rattle.pt_frame.specs.declared.act.ActReply.TheVariants.{Host}
 use Rattle.pt_law.specs.World.{World, Turn, turn_by, Goes, Runs}
+use Rattle.pt_law.specs.Discipline.{made}
 use Rattle.pt_law.specs.Naming.{NamePlaces, NamePath, LedTo}
 
 abbrev pub opening_root : List ℕ → OpenFlags → Fd → Step
