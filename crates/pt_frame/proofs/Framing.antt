@@ -11,7 +11,7 @@ use Rattle.pt_frame.specs.Deed.{Deed, Calls, deed_of}
 use Rattle.pt_frame.specs.Held.{held, opened, is_scope}
 use Rattle.pt_frame.specs.Replies.{closings_in, inserted_by, fault_if, refusal, restored, is_cut}
 use Rattle.pt_frame.specs.Grammar.{Grammar, End, Do, May, owing, owed_by, is_end, after, IsChosen, IsDo, IsSettled}
-use Rattle.pt_frame.specs.Grammar.{restores, told_closings, told_inserted}
+use Rattle.pt_frame.specs.Grammar.{restores, told_closings, told_inserted, Wants}
 use Rattle.pt_frame.specs.Frame.{giving, closings, give, leave, or_lost, bare, bare_one, shut, front, behind, under, mark_in}
 use Rattle.pt_frame.specs.Frame.{outer, cut, close_first, answered}
 use Rattle.pt_frame.specs.Past.{or_first}
@@ -23,8 +23,9 @@ use Rattle.pt_frame.specs.Machine.Room.{act_brings, brings, deed_brings}
 use Rattle.pt_frame.specs.Machine.Left.{held_by, tops, bared, ended, marked, edges_left, mode_left, left_of, then_left}
 use Rattle.pt_frame.specs.Machine.Left.{next_left, given_left, tail_left, passes_at, edges_pass, is_edge_ready, is_above}
 use Rattle.pt_frame.specs.Machine.Left.{is_ready, is_over, is_all_over, is_giving_scope, is_restoring_now, IsTold}
-use Rattle.pt_frame.specs.Machine.Left.{NoneUnless}
+use Rattle.pt_frame.specs.Machine.Left.{NoneUnless, Tells, end_of}
 use Rattle.pt_frame.specs.declared.act.Act.{Act}
+use Rattle.pt_frame.specs.declared.act.Want.TheVariants as want
 use Rattle.pt_frame.specs.declared.act.ActReply.{ActReply}
 use Rattle.pt_frame.specs.declared.finish.Finish.{Finish}
 use Rattle.pt_frame.specs.declared.finish.Finish.TheVariants as finish
@@ -350,17 +351,10 @@ gives seat (mode.Leave last) tree (one ∷ rest) marks other ready over = record
   is = refl;
 }
 
--- how a mode that is over ends
-pub end_of : Mode → Finish
-end_of (mode.Leave last) = last
-end_of (mode.Out last) = finish.Answer last
-end_of at = finish.Answer answer.NoMemory
-
 -- a mode that is over is left with its end, and nothing is given back in it
 pub over_left : (seat : HostSeat) (at : Mode) (tree : Tree) (holds : List Hold) (marks : List ℕ) →
     is_ready at holds marks ≡ true → is_over at holds ≡ true →
     (mode_left seat at tree holds marks ≡ End (end_of at)) × (behind (passes_at at) holds ≡ [])
-unfolding end_of
 over_left seat mode.Body tree holds marks ready over = absurd (cc)
 over_left seat (mode.Edge edges more) tree holds marks ready over = absurd (cc)
 over_left seat (mode.Out last) tree [] marks ready over = absurd (cc)
@@ -542,3 +536,35 @@ ends_over seat (taken.Fd fd slot) count at tree holds marks ready e = absurd (cc
 ends_over seat taken.Slot count at tree holds marks ready e = absurd (cc)
 ends_over seat taken.Nothing (suc count) at tree holds marks ready e = absurd (cc)
 ends_over seat taken.Nothing zero at tree holds marks ready e = (over_left seat at tree holds marks ready e).0
+
+-- what was lost is told at the end
+none_unless : (b : Bool) (lost : Option Errno) → lost ≡ None → NoneUnless b lost
+none_unless true lost e = tt
+none_unless false lost e = e
+
+pub told_end : (brings : Taken) (count : ℕ) (at : Mode) (holds : List Hold) (lost : Option Errno) →
+    is_all_over brings count at holds ≡ true → Tells at lost → IsTold (end_of at) lost
+told_end (taken.Fd fd slot) count at holds lost e t = absurd (cc)
+told_end taken.Slot count at holds lost e t = absurd (cc)
+told_end taken.Nothing (suc count) at holds lost e t = absurd (cc)
+told_end taken.Nothing zero mode.Body holds lost e t = absurd (cc)
+told_end taken.Nothing zero (mode.Edge edges more) holds lost e t = absurd (cc)
+told_end taken.Nothing zero (mode.Out last) holds lost e t = none_unless (is_cut last) lost t
+told_end taken.Nothing zero (mode.Leave last) holds lost e t = t
+
+-- what is wanted is what gives the next one back
+pub gives_wanted : (seat : HostSeat) (at : Mode) (tree : Tree) (holds : List Hold) (marks : List ℕ) (one : Hold)
+    (rest : List Hold) (act : Act) → at ≢ mode.Body → is_ready at holds marks ≡ true →
+    behind (passes_at at) holds ≡ one ∷ rest → deed_of act ≡ giving seat one →
+    Wants (mode_left seat at tree holds marks) (want.Step act)
+gives_wanted seat at tree holds marks one rest act other ready b d = by_over (is_over at holds) refl
+  where
+    by_over : (over : Bool) → is_over at holds ≡ over → Wants (mode_left seat at tree holds marks) (want.Step act)
+    by_over true o =
+        let none = (over_left seat at tree holds marks ready o).1 in
+        let e : one ∷ rest ≡ [] = sym b ∙ none in absurd (cc)
+    by_over false o =
+        let g = gives seat at tree holds marks other ready o in
+        let e : one ∷ rest ≡ g.one ∷ g.rest = sym b ∙ g.next in
+        let same : one ≡ g.one = cc in
+        subst (λ (x : Grammar). Wants x (want.Step act)) (sym g.is) (d ∙ ap (giving seat) same)

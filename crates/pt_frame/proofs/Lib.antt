@@ -1,3 +1,4 @@
 pub mod Framing
+pub mod Second
 pub mod Tending
 pub mod Ending

@@ -551,14 +551,14 @@ raised_top true (Changes back) asked worn P r some w = absurd w
 raised_top false deed asked worn P r some w = absurd (no_more w.0)
   where
     no_more : worn ≡ [] → ⊥
-    no_more e = let n : 1 ≤ length [] = subst (λ (x : List Call). 1 ≤ length x) e some in omega (arith, n)
+    no_more e = let n : 1 ≤ length {A = Call} [] = subst (λ (x : List Call). 1 ≤ length x) e some in omega (arith, n)
 
 wears_raised : (seat : HostSeat) (asked : Call) (holds : List Hold) (worn : List Call) → IsRaise asked →
     1 ≤ length worn → Wears seat holds worn → Wears seat holds (asked ∷ worn)
 wears_raised seat asked [] worn r some w = absurd (no_more w)
   where
     no_more : worn ≡ [] → ⊥
-    no_more e = let n : 1 ≤ length [] = subst (λ (x : List Call). 1 ≤ length x) e some in omega (arith, n)
+    no_more e = let n : 1 ≤ length {A = Call} [] = subst (λ (x : List Call). 1 ≤ length x) e some in omega (arith, n)
 wears_raised seat asked (one ∷ holds) worn r some w =
     raised_top (is_scope one) (giving seat one) asked worn (λ rest. Wears seat holds rest) r some w
 

@@ -151,6 +151,13 @@ Tells (mode.Edge edges more) lost = lost ≡ None
 Tells (mode.Out last) lost = lost ≡ None
 Tells (mode.Leave last) lost = IsTold last lost
 
+-- how a mode ends in which nothing is left
+abbrev pub end_of : Mode → Finish
+end_of mode.Body = finish.Answer answer.NoMemory
+end_of (mode.Edge edges more) = finish.Answer answer.NoMemory
+end_of (mode.Out last) = finish.Answer last
+end_of (mode.Leave last) = last
+
 abbrev pub tail_counts : Tail → ℕ → ℕ
 tail_counts tail.Goes count = count
 tail_counts (tail.Gives last) count = 0

@@ -34,6 +34,36 @@ pub struct Edges {
     pub brackets: bool,
 }
 
+impl Edges {
+    /// The open scopes end.
+    pub const BARE: Edges = Edges {
+        bares: true,
+        shuts: None,
+        brackets: false,
+    };
+
+    /// A bracket begins.
+    pub const BEGIN: Edges = Edges {
+        bares: false,
+        shuts: None,
+        brackets: true,
+    };
+
+    /// A bracket ends.
+    pub const END: Edges = Edges {
+        bares: false,
+        shuts: Some(Shut { passes: false }),
+        brackets: false,
+    };
+
+    /// A bracket ends, and the last hold of all passes its end.
+    pub const PASS: Edges = Edges {
+        bares: false,
+        shuts: Some(Shut { passes: true }),
+        brackets: false,
+    };
+}
+
 /// What a body does after a reply.
 #[derive(Debug, Drop)]
 pub enum Next {

@@ -16,7 +16,7 @@ use crate::hold::{Holds, Taken};
 use crate::machine::body::Body;
 use crate::machine::giving::{closings_in, fault_if, giving, or_first, refusal, taken_in};
 use crate::machine::holding::hold;
-use crate::machine::mode::{Mode, entered, hold_given, is_giving_scope, is_over, passes_at};
+use crate::machine::mode::{Mode, end_of, entered, hold_given, is_giving_scope, is_over, passes_at};
 use crate::marks::Marks;
 use pt_host::{Errno, HostOp, HostSeat};
 use pt_iface::Answer;
@@ -104,6 +104,43 @@ fn body_stepped<B: Body>(
     (mode, closings)
 }
 
+/// After the reply to what this mode wanted: the mode, and how many closings it told.
+fn moved<B: Body>(
+    mode: Mode,
+    body: &mut B,
+    holds: &mut Holds,
+    marks: &mut Marks,
+    plan: &B::Plan,
+    seat: &HostSeat,
+    reply: ActReply,
+) -> (Mode, u64)
+    requires going { is_over mode holds.old ≡ false }
+    requires ready { is_ready mode holds.old marks.old ≡ true }
+    requires room { length holds.old + length marks.old + mode_begins mode
+        + mode_counts mode (B.room body.old) ≤ most_holds }
+    ensures left { IsChosen (after reply
+        (mode_left seat.now mode (B.left body.old plan.now seat.now) holds.old marks.old))
+        (closings result.1 holds.new
+        (mode_left seat.now result.0 (B.left body.new plan.now seat.now) holds.new marks.new)) }
+    ensures told { result.1 ≡ told_closings
+        (mode_left seat.now mode (B.left body.old plan.now seat.now) holds.old marks.old) reply }
+    ensures fewer { length holds.new + mode_counts result.0 (B.acts body.new)
+        < length holds.old + mode_counts mode (B.acts body.old) }
+    ensures inserts { mode_counts result.0 (B.inserts body.new)
+        + told_inserted (mode_left seat.now mode (B.left body.old plan.now seat.now) holds.old marks.old) reply
+        ≤ mode_counts mode (B.inserts body.old) }
+    ensures room { length holds.new + length marks.new + mode_begins result.0
+        + mode_counts result.0 (B.room body.new) ≤ most_holds }
+    ensures ready { is_ready result.0 holds.new marks.new ≡ true }
+    ensures tells { (lost : Option Errno) → Tells mode lost →
+        Tells result.0 (lost_after lost (is_giving_scope mode holds.old) reply) }
+{
+    match mode {
+        Mode::Body => body_stepped(body, holds, marks, plan, seat, reply),
+        _ => hold_given(mode, holds, marks, seat, &reply),
+    }
+}
+
 impl<B: Body> Framed<B> {
     ghost use Rattle.pt_frame.specs.Frame.{cut};
     ghost use Rattle.pt_frame.specs.Grammar.{End, IsDo, IsSettled, Wants, owed_by, is_end, restores};
@@ -184,23 +221,18 @@ impl<B: Body> Framed<B> {
             self.taken = taken_in(&reply);
             return;
         }
-        if let Mode::Body = &self.mode {
-            let (mode, closings) = body_stepped(
-                &mut self.body,
-                &mut self.holds,
-                &mut self.marks,
-                plan,
-                seat,
-                reply,
-            );
-            go_to(&mut self.mode, mode);
-            self.closings = closings;
-            return;
-        }
         let restores = is_giving_scope(&self.mode, &self.holds);
         self.lost = or_first(fault_if(restores, &reply), self.lost);
         let mode = mem::replace(&mut self.mode, Mode::Body);
-        let (mode, closings) = hold_given(mode, &mut self.holds, &mut self.marks, seat, &reply);
+        let (mode, closings) = moved(
+            mode,
+            &mut self.body,
+            &mut self.holds,
+            &mut self.marks,
+            plan,
+            seat,
+            reply,
+        );
         go_to(&mut self.mode, mode);
         self.closings = closings;
     }
@@ -269,11 +301,6 @@ impl<B: Body> Framed<B> {
             owes seat self.at (B.left self.body plan seat) ≡ End result }
         ensures lost { IsTold result self.at.lost }
     {
-        let mode = self.mode;
-        match mode {
-            Mode::Leave(last) => last,
-            Mode::Out(answer) => Finish::Answer(answer),
-            _ => Finish::Answer(Answer::NoMemory),
-        }
+        end_of(self.mode)
     }
 }

@@ -9,7 +9,7 @@ ghost use Rattle.pt_frame.specs.Past.{lost_after, or_first};
 ghost use Rattle.pt_frame.specs.Tree.{Tree};
 ghost use Rattle.pt_frame.specs.Machine.Left.{tops, is_above, marked, ended, edges_left, tail_left, then_left};
 ghost use Rattle.pt_frame.specs.Machine.Left.{next_left, mode_left, passes_at, is_ready, is_over, is_giving_scope};
-ghost use Rattle.pt_frame.specs.Machine.Left.{Tells, given_left, tail_counts, mode_counts, mode_begins};
+ghost use Rattle.pt_frame.specs.Machine.Left.{Tells, end_of, given_left, tail_counts, mode_counts, mode_begins};
 ghost use Rattle.pt_frame.specs.Machine.Next.{then_counts, counts_after, begun_by, begun_in};
 ghost use Rattle.pt_frame.specs.Machine.Room.{most_holds};
 ghost use Rattle.pt_frame.specs.declared.hold.Hold.{Hold};
@@ -95,6 +95,17 @@ pub fn is_over(mode: &Mode, holds: &Holds) -> bool
             Some(_) => false,
             None => true,
         },
+    }
+}
+
+/// How a mode ends in which nothing is left.
+pub fn end_of(mode: Mode) -> Finish
+    ensures { result ≡ end_of mode }
+{
+    match mode {
+        Mode::Leave(last) => last,
+        Mode::Out(answer) => Finish::Answer(answer),
+        Mode::Body | Mode::Edge { .. } => Finish::Answer(Answer::NoMemory),
     }
 }
 
