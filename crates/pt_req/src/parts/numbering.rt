@@ -32,7 +32,8 @@ pub struct Numbering {
 impl Numbering {
     pub fn want<'a>(&'a self, session: &Session) -> Act<'a>
         ensures asks { (next : ℕ → Tree) → AsksFor (numbering_left self.now session.now next) result None }
-        ensures fits { (next : ℕ → Tree) → brings (numbering_left self.now session.now next) ≤ numbering_room self.now }
+        ensures fits { (next : ℕ → Tree) →
+            brings (numbering_left self.now session.now next) ≤ numbering_room self.now }
     {
         match self.at {
             NumberAt::Claim => Act::Event(Event::Claim {

@@ -51,7 +51,8 @@ fn can_open(mode: u32) -> bool
 impl HandleOpen {
     pub fn want<'a>(&self, plan: &Plan) -> Act<'a>
         ensures asks { (next : ℕ → Tree) → AsksFor (handle_open_left self.now plan.now next) result None }
-        ensures fits { (next : ℕ → Tree) → brings (handle_open_left self.now plan.now next) ≤ handle_open_room self.now }
+        ensures fits { (next : ℕ → Tree) →
+            brings (handle_open_left self.now plan.now next) ≤ handle_open_room self.now }
     {
         match self.at {
             HandleOpenAt::Resolve => Act::Event(Event::Resolve { number: self.inode }),
