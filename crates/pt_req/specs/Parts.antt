@@ -111,7 +111,7 @@ look_up plan session parent name next = Brackets (
     Asks (Changes change.TakeFd) (on_taken (
     Asks (Changes change.DrawNode) (on_drawn (λ fresh.
     Asks (Changes (change.Insert session.era fresh (File fd) stat.ids stat.mode)) (on_given (λ number.
-    Shuts true (next (found plan session dir.ids fd stat number))))))))))))))))
+    Shuts true (next (found plan session dir.ids fd stat number)))))))))))))))))
 
 -- Open: what stands on a row is opened, where it is a regular file or a directory
 abbrev pub can_open : ℕ → Bool
