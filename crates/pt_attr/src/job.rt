@@ -22,16 +22,16 @@ enum Work {
     Edit(Editing),
 }
 
-#[tactic(auto, unfolding(crate::specs::Machine::Job::owes, crate::specs::Machine::Job::steps_left, crate::specs::Machine::Job::steps_bound, crate::specs::Machine::Job::inserts_left, crate::specs::Machine::Job::is_finished, crate::specs::Machine::Job::lost_of, crate::specs::Machine::Job::restores_now))]
+#[tactic(auto, unfolding(crate::specs::Machine::Job::owes, crate::specs::Machine::Job::steps_left, crate::specs::Machine::Job::steps_bound, crate::specs::Machine::Job::own_left, crate::specs::Machine::Job::events_left, crate::specs::Machine::Job::inserts_left, crate::specs::Machine::Job::is_finished, crate::specs::Machine::Job::lost_of, crate::specs::Machine::Job::restores_now))]
 impl AnyJob {
     ghost use Rattle.pt_frame.specs.Edit.{edit_grammar};
     ghost use Rattle.pt_frame.specs.Frame.{cut};
     ghost use Rattle.pt_frame.specs.Grammar.{End, IsChosen, IsDo, IsSettled, Wants, after, is_end, owed_by, restores};
-    ghost use Rattle.pt_frame.specs.Grammar.{told_closings, told_inserted};
+    ghost use Rattle.pt_frame.specs.Grammar.{told_closings, told_inserted, events_first, told_slots};
     ghost use Rattle.pt_frame.specs.Machine.Left.{IsTold};
     ghost use Rattle.pt_frame.specs.Past.{lost_after};
     ghost use Rattle.pt_attr.specs.Machine.Job.{owes, steps_left, steps_bound, inserts_left, is_finished, lost_of};
-    ghost use Rattle.pt_attr.specs.Machine.Job.{restores_now};
+    ghost use Rattle.pt_attr.specs.Machine.Job.{own_left, events_left, restores_now};
     ghost use Rattle.pt_attr.specs.Pattern.{grammar_of, bound_of, most_inserted};
 
     /// A job that has made no step. An `Err`, which gives the request back, says that memory ran out; the requests of
@@ -45,6 +45,7 @@ impl AnyJob {
         ensures left { IfOk result (λ job. (plan : Plan) (seat : HostSeat) →
             owes plan seat job ≡ grammar_of plan seat who request) }
         ensures bound { IfOk result (λ job. steps_bound job ≤ bound_of request) }
+        ensures events { IfOk result (λ job. events_left job ≤ bound_of request) }
         ensures inserts { IfOk result (λ job. inserts_left job ≤ most_inserted) }
         ensures lost { IfOk result (λ job. lost_of job ≡ None) }
         ensures back { IfErr result (λ back. back ≡ request) }
@@ -57,6 +58,7 @@ impl AnyJob {
     pub fn edit(edit: Edit) -> AnyJob
         ensures left { (plan : Plan) (seat : HostSeat) → owes plan seat result ≡ edit_grammar edit }
         ensures bound { steps_bound result ≡ 1 }
+        ensures events { events_left result ≡ 0 }
         ensures inserts { inserts_left result ≡ 0 }
         ensures lost { lost_of result ≡ None }
     {
@@ -82,6 +84,10 @@ impl AnyJob {
         ensures fewer { steps_left self.new < steps_left self.old }
         ensures within { steps_bound self.new + 1
             ≤ steps_bound self.old + 3 * told_closings (owes plan.now seat.now self.old) reply }
+        ensures own { own_left self.new ≤ own_left self.old }
+        ensures slot { events_left self.new ≤ own_left self.new + 1 }
+        ensures events { events_left self.new + events_first (owes plan.now seat.now self.old)
+            ≤ events_left self.old + told_slots (owes plan.now seat.now self.old) reply }
         ensures inserts { inserts_left self.new + told_inserted (owes plan.now seat.now self.old) reply
             ≤ inserts_left self.old }
     {

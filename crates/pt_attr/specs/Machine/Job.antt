@@ -5,6 +5,7 @@ use Rattle.pt_host.specs.declared.seat.HostSeat.{HostSeat}
 use Rattle.pt_frame.specs.Edit.{edit_left, edit_steps, is_edit_over}
 use Rattle.pt_frame.specs.Grammar.{Grammar}
 use Rattle.pt_frame.specs.Machine.Job.{owes as stand_owes, steps_left as stand_left, steps_bound as stand_bound}
+use Rattle.pt_frame.specs.Machine.Job.{own_left as stand_own, events_left as stand_events}
 use Rattle.pt_frame.specs.Machine.Job.{inserts_left as stand_inserts, is_finished as is_stand_over}
 use Rattle.pt_frame.specs.Machine.Job.{restores_now as stand_restores}
 use Rattle.pt_req.specs.declared.plan.Plan.{Plan}
@@ -36,6 +37,22 @@ work_bound (work.Edit editing) = edit_steps editing
 -- a bound on its steps, but for those that closings yet to be told will take
 unfoldable pub steps_bound : AnyJob → ℕ
 steps_bound job = work_bound job.work
+
+abbrev pub work_own : Work → ℕ
+work_own (work.Request framed) = stand_own framed.at (any_acts framed.body)
+work_own (work.Edit editing) = edit_steps editing
+
+-- a bound on its steps, closings aside
+unfoldable pub own_left : AnyJob → ℕ
+own_left job = work_own job.work
+
+abbrev pub work_events : Work → ℕ
+work_events (work.Request framed) = stand_events framed.at (any_acts framed.body)
+work_events (work.Edit editing) = 0
+
+-- a bound on its events, closings that are yet to be told aside
+unfoldable pub events_left : AnyJob → ℕ
+events_left job = work_events job.work
 
 abbrev pub work_inserts : Work → ℕ
 work_inserts (work.Request framed) = stand_inserts framed.at (any_inserts framed.body)
