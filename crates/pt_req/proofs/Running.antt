@@ -12,8 +12,8 @@ use Rattle.pt_frame.specs.Deed.{Deed, Calls, Step, lacks_memory, LacksMemory}
 use Rattle.pt_frame.specs.Held.{is_scope, held, opened}
 use Rattle.pt_frame.specs.Replies.{closings_in, taken_in, fault_if, refusal, restored, passes_with}
 use Rattle.pt_frame.specs.Grammar.{Grammar, End, Do, May, Belongs}
-use Rattle.pt_frame.specs.Frame.{giving, give_slot, give_taken, closings, leave, or_lost, bare, shut, front, behind}
-use Rattle.pt_frame.specs.Frame.{under, mark_in, outer, answered_by, answered}
+use Rattle.pt_frame.specs.Frame.{giving, give_slot, give_taken, closings, give, leave, or_lost, bare_one, bare, shut}
+use Rattle.pt_frame.specs.Frame.{front, behind, under, mark_in, outer, answered_by, answered}
 use Rattle.pt_frame.specs.Tree.{Tree, Gives, Refuses, Asks, Opens, Bares, Brackets, Shuts, Allocates, framed}
 use Rattle.pt_frame.specs.Tree.{allocates, may_give_up, follows, or_gives_up}
 use Rattle.pt_frame.specs.declared.act.ActReply.{ActReply}
@@ -131,35 +131,40 @@ all_on : (reply : ActReply) (lacked : Bool) (next : List Hold → Grammar) → T
     ToldAll (lacks_memory reply || lacked) next
 all_on reply lacked next so = λ holds. told_on reply lacked (next holds) (so holds)
 
+bare_by : (lacked : Bool) (seat : HostSeat) (scope : Bool) (one : Hold) (holds : List Hold)
+    (next : List Hold → Grammar) → Told lacked (next (one ∷ holds)) →
+    ((reply : ActReply) → Told (lacks_memory reply || lacked) (bare seat holds next)) →
+    Told lacked (bare_one seat scope one holds (bare seat holds next) next)
+bare_by lacked seat false one holds next so more = so
+bare_by lacked seat true one holds next so more = λ reply.
+    told_closings (lacks_memory reply || lacked) (closings_in (giving seat one) reply) holds
+    (or_lost seat (fault_if (is_scope one) reply) holds (bare seat holds next))
+    (told_or_lost (lacks_memory reply || lacked) seat (fault_if (is_scope one) reply) holds (bare seat holds next)
+    (more reply))
+
 told_bare : (lacked : Bool) (seat : HostSeat) (holds : List Hold) (next : List Hold → Grammar) → ToldAll lacked next →
     Told lacked (bare seat holds next)
 told_bare lacked seat [] next so = so []
-told_bare lacked seat (one ∷ holds) next so = by_scope (is_scope one)
-  where
-    by_scope : (scope : Bool) → Told lacked (bare_one seat scope one holds (bare seat holds next) next)
-    by_scope false = so (one ∷ holds)
-    by_scope true = λ reply.
-        told_closings (lacks_memory reply || lacked) (closings_in (giving seat one) reply) holds
-        (or_lost seat (fault_if (is_scope one) reply) holds (bare seat holds next))
-        (told_or_lost (lacks_memory reply || lacked) seat (fault_if (is_scope one) reply) holds (bare seat holds next)
-        (told_bare (lacks_memory reply || lacked) seat holds next (all_on reply lacked next so)))
+told_bare lacked seat (one ∷ holds) next so =
+    bare_by lacked seat (is_scope one) one holds next (so (one ∷ holds)) (λ reply.
+    told_bare (lacks_memory reply || lacked) seat holds next (all_on reply lacked next so))
+
+shut_by : (lacked : Bool) (seat : HostSeat) (above : Bool) (one : Hold) (all left : List Hold)
+    (rest other : Grammar) → Told lacked other → ((reply : ActReply) → Told (lacks_memory reply || lacked) rest) →
+    Told lacked (if above then give seat one all left (λ fault. or_lost seat fault left rest) else other)
+shut_by lacked seat false one all left rest other so more = so
+shut_by lacked seat true one all left rest other so more = λ reply.
+    told_closings (lacks_memory reply || lacked) (closings_in (giving seat one) reply) left
+    (or_lost seat (fault_if (is_scope one) reply) left rest)
+    (told_or_lost (lacks_memory reply || lacked) seat (fault_if (is_scope one) reply) left rest (more reply))
 
 told_shut : (lacked : Bool) (seat : HostSeat) (passing : Option Hold) (mark : ℕ) (holds : List Hold)
     (next : List Hold → Grammar) → ToldAll lacked next → Told lacked (shut seat passing mark holds next)
 told_shut lacked seat passing mark [] next so = so (under passing [])
-told_shut lacked seat passing mark (one ∷ holds) next so = by_mark (nat_lt mark (length (one ∷ holds)))
-  where
-    by_mark : (above : Bool) → Told lacked (if above
-        then give seat one (under passing (one ∷ holds)) (under passing holds) (λ fault.
-        or_lost seat fault (under passing holds) (shut seat passing mark holds next))
-        else next (under passing (one ∷ holds)))
-    by_mark false = so (under passing (one ∷ holds))
-    by_mark true = λ reply.
-        told_closings (lacks_memory reply || lacked) (closings_in (giving seat one) reply) (under passing holds)
-        (or_lost seat (fault_if (is_scope one) reply) (under passing holds) (shut seat passing mark holds next))
-        (told_or_lost (lacks_memory reply || lacked) seat (fault_if (is_scope one) reply) (under passing holds)
-        (shut seat passing mark holds next)
-        (told_shut (lacks_memory reply || lacked) seat passing mark holds next (all_on reply lacked next so)))
+told_shut lacked seat passing mark (one ∷ holds) next so =
+    shut_by lacked seat (nat_lt mark (length (one ∷ holds))) one (under passing (one ∷ holds)) (under passing holds)
+    (shut seat passing mark holds next) (next (under passing (one ∷ holds))) (so (under passing (one ∷ holds)))
+    (λ reply. told_shut (lacks_memory reply || lacked) seat passing mark holds next (all_on reply lacked next so))
 
 told_answered : (lacked : Bool) (seat : HostSeat) (passes : Bool) (holds : List Hold) (last : Answer) →
     (IsNoMemory last → lacked ≡ true) → Told lacked (answered_by seat passes holds (finish.Answer last))

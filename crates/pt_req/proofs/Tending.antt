@@ -45,8 +45,14 @@ bare seat = record {
   gives = λ last is. (is.0, passes_bare (passes_with last));
   refuses = λ told. tt;
   had = λ told tree found so. so;
-  asks = λ deed next own so. (is_asked deed own, λ told. (closes_bare (closings_in deed told), subst (λ (worn : List
-      Call). Tends seat (next told) worn) (sym (wears_same deed told [] own)) (so told)));
+  asks = λ deed next own so. (
+    is_asked deed own,
+    λ told. (
+      closes_bare (closings_in deed told),
+      subst (λ (worn : List
+          Call). Tends seat (next told) worn) (sym (wears_same deed told [] own)) (so told),
+    ),
+  );
   brackets = λ rest so. so;
   shuts = λ passes rest so. (refl, so);
 }

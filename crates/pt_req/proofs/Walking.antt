@@ -60,7 +60,6 @@ pub record Walk (Q : Tree → Type 0) (R : ActReply → Tree → Type 0) : Type 
   pub shuts : (passes : Bool) (rest : Tree) → Q rest → Q (Shuts passes rest)
 
 module _ {Q : Tree → Type 0} {R : ActReply → Tree → Type 0} (w : Walk Q R) where
-
   begins : (next : Session → Tree) → ((session : Session) → Q (next session)) → Q (begin next)
   begins next so = w.asks (Changes change.Begin) (on_began next) refl
       (if_began R next w.refuses (λ era agreed. w.had _ _ refl (so (session_of era agreed))))
