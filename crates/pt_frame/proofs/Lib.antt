@@ -1,4 +1,6 @@
+pub mod Counting
 pub mod Framing
 pub mod Second
 pub mod Tending
+pub mod Losing
 pub mod Ending

@@ -1,7 +1,7 @@
 -- Believed. Which step lists a job may make, and how it then ends.
 use Rattle.std.specs.Prelude.{◌≡◌, ◌⊎◌, ℕ, Bool, true, false, List, [], ◌∷◌}
 use Rattle.pt_frame.specs.Deed.{Deed, Step, IsStepOf, deed_of}
-use Rattle.pt_frame.specs.Replies.{closings_in, inserted_by}
+use Rattle.pt_frame.specs.Replies.{closings_in, inserted_by, events_in, slots_told}
 use Rattle.pt_frame.specs.declared.act.ActReply.{ActReply}
 use Rattle.pt_frame.specs.declared.act.Want.{Want}
 use Rattle.pt_frame.specs.declared.act.Want.TheVariants as want
@@ -98,3 +98,15 @@ abbrev pub told_inserted : Grammar → ActReply → ℕ
 told_inserted (End last) reply = 0
 told_inserted (Do deed owed next) reply = inserted_by deed reply
 told_inserted (May one other) reply = 0
+
+-- whether what is done next is an event, closings aside
+abbrev pub events_first : Grammar → ℕ
+events_first (End last) = 0
+events_first (Do deed owed next) = events_in deed
+events_first (May one other) = 0
+
+-- and how many slots its reply brought
+abbrev pub told_slots : Grammar → ActReply → ℕ
+told_slots (End last) reply = 0
+told_slots (Do deed owed next) reply = slots_told deed reply
+told_slots (May one other) reply = 0

@@ -1,8 +1,9 @@
 -- Believed. What a job's steps did to its seat: a function of the steps alone.
 use Rattle.std.specs.Prelude.{Bool, true, false, ◌||◌, if◌then◌else◌, List, [], ◌∷◌, Option, Some, None}
-use Rattle.pt_host.specs.Call.{Call}
+use Rattle.pt_host.specs.Call.{Call, HoldsBytes}
 use Rattle.pt_host.specs.Sorts.{Sort, OpensWith, EndsFd, OfSeat, Plain, sort_of}
 use Rattle.pt_host.specs.declared.ids.Errno.{Errno}
+use Rattle.pt_host.specs.declared.seat.HostSeat.{HostSeat}
 use Rattle.pt_host.specs.declared.op.KeptHostOp.TheVariants as call
 use Rattle.pt_host.specs.declared.reply.HostReply.TheVariants as host
 use Rattle.pt_frame.specs.Deed.{Deed, Calls, Changes, Step}
@@ -82,3 +83,7 @@ past_from past (step ∷ steps) = past_from (past_made past step.deed step.reply
 
 abbrev pub past_of : List Step → Past
 past_of steps = past_from no_past steps
+
+-- the seat's own groups find room in place, so putting them back takes no memory
+abbrev pub KeepsGroups : HostSeat → Type 0
+KeepsGroups seat = HoldsBytes (call.SetGroups seat.groups) → ⊥

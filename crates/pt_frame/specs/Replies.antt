@@ -124,6 +124,25 @@ abbrev pub taken_in : ActReply → Taken
 taken_in (Event (event.Closing fd slot)) = taken.Fd fd slot
 taken_in _ = taken.Nothing
 
+-- how many slots are to be given back of it
+abbrev pub slots_in : Taken → ℕ
+slots_in taken.Nothing = 0
+slots_in taken.Slot = 1
+slots_in (taken.Fd fd true) = 1
+slots_in (taken.Fd fd false) = 0
+
+-- an event, but for a closing that is taken
+abbrev pub events_in : Deed → ℕ
+events_in (Changes change.TakeClosing) = 0
+events_in (Changes other) = 1
+events_in (Calls asked) = 0
+
+-- how many slots a closing that was taken brought
+abbrev pub slots_told : Deed → ActReply → ℕ
+slots_told (Changes change.TakeClosing) reply = slots_in (taken_in reply)
+slots_told (Changes other) reply = 0
+slots_told (Calls asked) reply = 0
+
 -- the same as holds
 abbrev pub brought : Taken → List Hold
 brought taken.Nothing = []

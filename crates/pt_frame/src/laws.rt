@@ -3,13 +3,14 @@
 ghost use Rattle.std.specs.Prelude.{◌≡◌, Bool, false, true, List, [], None};
 ghost use Rattle.pt_host.specs.declared.seat.HostSeat.{HostSeat};
 ghost use Rattle.pt_iface.specs.declared.answer.Answer.TheVariants.{Cut};
-ghost use Rattle.pt_frame.specs.Deed.{Step};
+ghost use Rattle.pt_frame.specs.Deed.{Deed, Step};
 ghost use Rattle.pt_frame.specs.Determined.{IsDetermined};
 ghost use Rattle.pt_frame.specs.Frame.{cut, CutAfter, CutInFull};
-ghost use Rattle.pt_frame.specs.Grammar.{Grammar, Belongs, IsChosen, IsDo, owed_by};
-ghost use Rattle.pt_frame.specs.Past.{Past, no_past};
-ghost use Rattle.pt_frame.specs.Tended.{Tended, Tends};
+ghost use Rattle.pt_frame.specs.Grammar.{Grammar, Do, Owed, Belongs, IsChosen, IsDo, owed_by};
+ghost use Rattle.pt_frame.specs.Past.{Past, no_past, past_from, is_restoring, KeepsGroups};
+ghost use Rattle.pt_frame.specs.Tended.{Tended, Tends, IsBack, IsFinish};
 ghost use Rattle.pt_frame.specs.Tree.{Tree, grammar_of_tree};
+ghost use Rattle.pt_frame.specs.declared.act.ActReply.{ActReply};
 ghost use Rattle.pt_frame.specs.declared.finish.Finish.{Finish};
 ghost use Rattle.pt_frame.specs.declared.finish.Finish.TheVariants.{Answer};
 
@@ -32,6 +33,20 @@ pub fn cut_says_no_more()
 /// A job has one outcome unless memory runs out.
 pub fn jobs_are_determined()
     ensures { (seat : HostSeat) (tree : Tree) → IsDetermined (grammar_of_tree seat tree) }
+{}
+
+/// A step is marked just where it restores the seat, and what is marked gives a scope back. At its end a job that tends
+/// its seat has no scope open, also where it was cut before it lost its seat, and it tells what it lost.
+pub fn losses_are_told()
+    ensures mark { (seat : HostSeat) (was_cut : Bool) (deed : Deed) (owed : Owed) (next : ActReply → Grammar)
+        (past : Past) → Tended seat was_cut (Do deed owed next) past →
+        (owed.restores ≡ is_restoring past.worn deed) × IsBack seat owed.restores deed }
+    ensures told { (seat : HostSeat) (was_cut : Bool) (grammar : Grammar) (past : Past) (steps : List Step)
+        (end : Finish) → KeepsGroups seat → Tended seat was_cut grammar past → Belongs grammar steps end →
+        ((past_from past steps).worn ≡ []) × IsFinish was_cut end (past_from past steps).lost }
+    ensures cut { (seat : HostSeat) (grammar : Grammar) (past : Past) (so_far steps : List Step) (end : Finish) →
+        KeepsGroups seat → Tended seat false grammar past → CutAfter seat grammar so_far steps end →
+        (past_from past so_far).lost ≡ None → (past_from (past_from past so_far) steps).worn ≡ [] }
 {}
 
 /// A tree that opens its scopes rightly makes a job that restores its seat, whole and cut, and goes on so.

@@ -1,4 +1,5 @@
--- Believed. The bits of openings and sessions: which flags the host is given, and which options the guest is answered.
+-- Believed. The bits of openings and sessions: which flags the host is given, and which options the guest is
+-- answered.
 use Rattle.std.specs.Prelude.{ℕ, ◌+◌, ◌-◌, ◌^◌, Bool, true, false, bit_and, bit_or, if◌then◌else◌}
 use Rattle.pt_host.specs.Flags.{includes, o_directory}
 use Rattle.pt_host.specs.declared.flags.OpenFlags.{OpenFlags}
@@ -30,7 +31,8 @@ with_bits flags bits = bit_or flags bits
 abbrev pub without : ℕ → ℕ → ℕ
 without flags bits = bit_and flags (2 ^ 32 - 1 - bits)
 
--- Each write says itself whether it appends, so no handle does; access times are the host's own, where it is set up so.
+-- Each write says itself whether it appends, so no handle does; access times are the host's own, where it is set up
+-- so.
 abbrev pub cleaned : Config → ℕ → ℕ
 cleaned config flags =
     if config.clean_noatime then without (without flags o_append) o_noatime else without flags o_append

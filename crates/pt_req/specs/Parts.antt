@@ -1,5 +1,5 @@
--- Believed. The parts of requests, each with what it hands on. After virtiofsd's `open_inode`, `do_lookup`, `do_open`,
--- `open_root_node`.
+-- Believed. The parts of requests, each with what it hands on. After virtiofsd's `open_inode`, `do_lookup`,
+-- `do_open`, `open_root_node`.
 use Rattle.std.specs.Prelude.{ℕ, true, false, if◌then◌else◌, List, Option, None}
 use Rattle.pt_host.specs.Errno.{ebadf, einval}
 use Rattle.pt_host.specs.Flags.{path_flags}

@@ -1,5 +1,5 @@
--- Believed. The requests, by their parts. After virtiofsd's passthrough file system: `init`, `open_root_node`, `lookup`,
--- `forget`, `open`, `opendir`, `release`, `read`.
+-- Believed. The requests, by their parts. After virtiofsd's passthrough file system: `init`, `open_root_node`,
+-- `lookup`, `forget`, `open`, `opendir`, `release`, `read`.
 use Rattle.std.specs.Prelude.{ℕ, List, [], ◌∷◌, Some, None}
 use Rattle.pt_host.specs.Errno.{errno_of}
 use Rattle.pt_host.specs.Flags.{o_directory}

@@ -1,8 +1,9 @@
 ghost use Rattle.std.specs.Prelude.{◌≡◌, ◌+◌, ◌*◌, ◌<◌, ◌≤◌, true, false, IfOk, IfErr, None};
 ghost use Rattle.pt_frame.specs.Frame.{cut};
 ghost use Rattle.pt_frame.specs.Grammar.{End, IsChosen, IsDo, IsSettled, Wants, after, is_end, owed_by, restores};
-ghost use Rattle.pt_frame.specs.Grammar.{told_closings, told_inserted};
-ghost use Rattle.pt_frame.specs.Machine.Job.{owes, steps_left, steps_bound, inserts_left, is_finished, restores_now};
+ghost use Rattle.pt_frame.specs.Grammar.{told_closings, told_inserted, events_first, told_slots};
+ghost use Rattle.pt_frame.specs.Machine.Job.{owes, steps_left, steps_bound, own_left, events_left, inserts_left};
+ghost use Rattle.pt_frame.specs.Machine.Job.{is_finished, restores_now};
 ghost use Rattle.pt_frame.specs.Machine.Left.{IsTold};
 ghost use Rattle.pt_frame.specs.Past.{lost_after};
 ghost use Rattle.pt_host.specs.declared.seat.HostSeat.{HostSeat};
@@ -45,6 +46,7 @@ impl JobState {
         ensures left { IfOk result (λ job. (plan : Plan) (seat : HostSeat) →
             owes seat job.at (request_left job.body plan seat) ≡ grammar_of plan seat who request) }
         ensures bound { IfOk result (λ job. steps_bound job.at (request_acts job.body) ≤ bound_of request) }
+        ensures events { IfOk result (λ job. events_left job.at (request_acts job.body) ≤ bound_of request) }
         ensures inserts { IfOk result (λ job. inserts_left job.at (request_inserts job.body) ≤ most_inserted) }
         ensures lost { IfOk result (λ job. job.at.lost ≡ None) }
         ensures back { IfErr result (λ back. back ≡ request) }
@@ -72,6 +74,14 @@ impl JobState {
         ensures within { steps_bound self.new.at (request_acts self.new.body) + 1
             ≤ steps_bound self.old.at (request_acts self.old.body)
             + 3 * told_closings (owes seat.now self.old.at (request_left self.old.body plan.now seat.now)) reply }
+        ensures own { own_left self.new.at (request_acts self.new.body)
+            ≤ own_left self.old.at (request_acts self.old.body) }
+        ensures slot { events_left self.new.at (request_acts self.new.body)
+            ≤ own_left self.new.at (request_acts self.new.body) + 1 }
+        ensures events { events_left self.new.at (request_acts self.new.body)
+            + events_first (owes seat.now self.old.at (request_left self.old.body plan.now seat.now))
+            ≤ events_left self.old.at (request_acts self.old.body)
+            + told_slots (owes seat.now self.old.at (request_left self.old.body plan.now seat.now)) reply }
         ensures inserts { inserts_left self.new.at (request_inserts self.new.body)
             + told_inserted (owes seat.now self.old.at (request_left self.old.body plan.now seat.now)) reply
             ≤ inserts_left self.old.at (request_inserts self.old.body) }

@@ -2,6 +2,7 @@
 use Rattle.std.specs.Prelude.{ℕ, ◌+◌, Bool, List, Option, length}
 use Rattle.pt_host.specs.declared.ids.Errno.{Errno}
 use Rattle.pt_host.specs.declared.seat.HostSeat.{HostSeat}
+use Rattle.pt_frame.specs.Replies.{slots_in}
 use Rattle.pt_frame.specs.Grammar.{Grammar}
 use Rattle.pt_frame.specs.Tree.{Tree}
 use Rattle.pt_frame.specs.Machine.Left.{left_of, is_all_over, is_restoring_now, mode_counts, bound_left, measure_left}
@@ -38,6 +39,14 @@ steps_left at acts = measure_left at.taken at.closings (more_of at acts)
 -- a bound on its steps, but for those that closings yet to be told will take
 abbrev pub steps_bound : Stand → ℕ → ℕ
 steps_bound at acts = bound_left at.taken at.closings (more_of at acts)
+
+-- a bound on its steps, closings aside
+abbrev pub own_left : Stand → ℕ → ℕ
+own_left at acts = more_of at acts
+
+-- a bound on its events, closings that are yet to be told aside
+abbrev pub events_left : Stand → ℕ → ℕ
+events_left at acts = more_of at acts + slots_in at.taken
 
 -- how many rows it may still insert
 abbrev pub inserts_left : Stand → ℕ → ℕ

@@ -143,10 +143,11 @@ fn moved<B: Body>(
 
 impl<B: Body> Framed<B> {
     ghost use Rattle.pt_frame.specs.Frame.{cut};
-    ghost use Rattle.pt_frame.specs.Grammar.{End, IsDo, IsSettled, Wants, owed_by, is_end, restores};
+    ghost use Rattle.pt_frame.specs.Grammar.{End, IsDo, IsSettled, Wants, owed_by, is_end, restores, events_first};
+    ghost use Rattle.pt_frame.specs.Grammar.{told_slots};
     ghost use Rattle.pt_frame.specs.Tree.{Tree, grammar_of_tree};
-    ghost use Rattle.pt_frame.specs.Machine.Job.{owes, steps_left, steps_bound, inserts_left, is_finished};
-    ghost use Rattle.pt_frame.specs.Machine.Job.{restores_now};
+    ghost use Rattle.pt_frame.specs.Machine.Job.{owes, steps_left, steps_bound, own_left, events_left, inserts_left};
+    ghost use Rattle.pt_frame.specs.Machine.Job.{is_finished, restores_now};
     ghost use Rattle.pt_frame.specs.Machine.Left.{IsTold};
 
     /// A job that has made no step.
@@ -155,6 +156,8 @@ impl<B: Body> Framed<B> {
         ensures body { result.body ≡ body }
         ensures left { (seat : HostSeat) (tree : Tree) → owes seat result.at tree ≡ grammar_of_tree seat tree }
         ensures bound { (acts : ℕ) → steps_bound result.at acts ≡ acts }
+        ensures own { (acts : ℕ) → own_left result.at acts ≡ acts }
+        ensures events { (acts : ℕ) → events_left result.at acts ≡ acts }
         ensures inserts { (inserts : ℕ) → inserts_left result.at inserts ≡ inserts }
         ensures lost { result.at.lost ≡ None }
     {
@@ -191,6 +194,7 @@ impl<B: Body> Framed<B> {
     }
 
     /// Goes on from the reply of the act that was wanted.
+    #[tactic(auto, using(crate::proofs::Counting::first_most))]
     pub fn take(&mut self, plan: &B::Plan, seat: &HostSeat, reply: ActReply)
         requires { is_finished self.old.at ≡ false }
         ensures left { IsChosen
@@ -201,6 +205,13 @@ impl<B: Body> Framed<B> {
         ensures within { steps_bound self.new.at (B.acts self.new.body) + 1
             ≤ steps_bound self.old.at (B.acts self.old.body)
             + 3 * told_closings (owes seat.now self.old.at (B.left self.old.body plan.now seat.now)) reply }
+        ensures own { own_left self.new.at (B.acts self.new.body) ≤ own_left self.old.at (B.acts self.old.body) }
+        ensures slot { events_left self.new.at (B.acts self.new.body)
+            ≤ own_left self.new.at (B.acts self.new.body) + 1 }
+        ensures events { events_left self.new.at (B.acts self.new.body)
+            + events_first (owes seat.now self.old.at (B.left self.old.body plan.now seat.now))
+            ≤ events_left self.old.at (B.acts self.old.body)
+            + told_slots (owes seat.now self.old.at (B.left self.old.body plan.now seat.now)) reply }
         ensures inserts { inserts_left self.new.at (B.inserts self.new.body)
             + told_inserted (owes seat.now self.old.at (B.left self.old.body plan.now seat.now)) reply
             ≤ inserts_left self.old.at (B.inserts self.old.body) }

@@ -1,5 +1,5 @@
 -- Inner. What is left of a lookup, and of the opening of the shared directory.
-use Rattle.std.specs.Prelude.{ℕ, Bool, true, false, List, None}
+use Rattle.std.specs.Prelude.{ℕ, Bool, true, false, List}
 use Rattle.pt_host.specs.declared.ids.Fd.{Fd}
 use Rattle.pt_host.specs.declared.ids.ObjIds.{ObjIds}
 use Rattle.pt_host.specs.declared.stat.Stat.{Stat}
@@ -15,7 +15,6 @@ use Rattle.pt_req.specs.declared.plan.Plan.{Plan}
 use Rattle.pt_req.specs.declared.parts.part.Part.{Part}
 use Rattle.pt_req.specs.declared.parts.part.Part.TheVariants as part
 use Rattle.pt_req.specs.declared.parts.looked.Looked.{Looked}
-use Rattle.pt_req.specs.declared.parts.numbering.Numbering.{Numbering}
 use Rattle.pt_req.specs.declared.parts.numbering.NumberAt.{NumberAt}
 use Rattle.pt_req.specs.declared.parts.numbering.NumberAt.TheVariants as number_at
 use Rattle.pt_req.specs.declared.parts.look_up.LookUp.{LookUp}
@@ -39,45 +38,33 @@ part_counts part.Refuses count = 0
 part_counts (part.Gives last) count = 0
 part_counts (part.Has value) count = 0
 
-abbrev pub numbering_at_left : NumberAt → Numbering → Session → (ℕ → Tree) → Tree
-numbering_at_left number_at.Claim it session next = numbered session it.form it.stat next
-numbering_at_left number_at.Take it session next =
-    take_fd (draw_node (λ fresh. insert session fresh it.form it.stat next))
-numbering_at_left number_at.Draw it session next = draw_node (λ fresh. insert session fresh it.form it.stat next)
-numbering_at_left (number_at.Insert fresh) it session next = insert session fresh it.form it.stat next
-
-abbrev pub numbering_left : Numbering → Session → (ℕ → Tree) → Tree
-numbering_left it session next = numbering_at_left it.at it session next
+-- what was opened and looked at, on its way to a number
+abbrev pub numbering_left : NumberAt → RowForm → Stat → Session → (ℕ → Tree) → Tree
+numbering_left number_at.Claim form told session next = numbered session form told next
+numbering_left number_at.Take form told session next =
+    take_fd (draw_node (λ fresh. insert session fresh form told next))
+numbering_left number_at.Draw form told session next = draw_node (λ fresh. insert session fresh form told next)
+numbering_left (number_at.Insert fresh) form told session next = insert session fresh form told next
 
 -- an act that brings a hold counts twice
-abbrev pub numbering_at_acts : NumberAt → ℕ
-numbering_at_acts number_at.Claim = 7
-numbering_at_acts number_at.Take = 5
-numbering_at_acts number_at.Draw = 3
-numbering_at_acts (number_at.Insert fresh) = 2
+abbrev pub numbering_acts : NumberAt → ℕ
+numbering_acts number_at.Claim = 7
+numbering_acts number_at.Take = 5
+numbering_acts number_at.Draw = 3
+numbering_acts (number_at.Insert fresh) = 2
 
-abbrev pub numbering_acts : Numbering → ℕ
-numbering_acts it = numbering_at_acts it.at
+abbrev pub numbering_room : NumberAt → ℕ
+numbering_room number_at.Claim = 3
+numbering_room number_at.Take = 2
+numbering_room number_at.Draw = 1
+numbering_room (number_at.Insert fresh) = 1
 
-abbrev pub numbering_at_room : NumberAt → ℕ
-numbering_at_room number_at.Claim = 3
-numbering_at_room number_at.Take = 2
-numbering_at_room number_at.Draw = 1
-numbering_at_room (number_at.Insert fresh) = 1
-
-abbrev pub numbering_room : Numbering → ℕ
-numbering_room it = numbering_at_room it.at
-
-numbering_at_asks : (at : NumberAt) (it : Numbering) (session : Session) (next : ℕ → Tree) →
-    IsAsks (numbering_at_left at it session next)
-numbering_at_asks number_at.Claim it session next = tt
-numbering_at_asks number_at.Take it session next = tt
-numbering_at_asks number_at.Draw it session next = tt
-numbering_at_asks (number_at.Insert fresh) it session next = tt
-
-pub numbering_asks : (it : Numbering) (session : Session) (next : ℕ → Tree) →
-    IsAsks (numbering_left it session next)
-numbering_asks it session next = numbering_at_asks it.at it session next
+pub numbering_asks : (at : NumberAt) (form : RowForm) (told : Stat) (session : Session) (next : ℕ → Tree) →
+    IsAsks (numbering_left at form told session next)
+numbering_asks number_at.Claim form told session next = tt
+numbering_asks number_at.Take form told session next = tt
+numbering_asks number_at.Draw form told session next = tt
+numbering_asks (number_at.Insert fresh) form told session next = tt
 
 -- the bracket of a lookup ends, and the count passes
 abbrev pub with_number : Plan → Session → ObjIds → Stat → RowForm → (Looked → Tree) → ℕ → Tree
@@ -99,8 +86,8 @@ look_up_at_left (look_at.Resolve parent) name plan session next =
     resolve parent (λ directory. file_of directory.form (λ dir. opened_in plan session directory.ids dir name next))
 look_up_at_left (look_at.Open parent dir) name plan session next = opened_in plan session parent dir name next
 look_up_at_left (look_at.Stat parent fd) name plan session next = stat_in plan session parent fd next
-look_up_at_left (look_at.Number parent it) name plan session next =
-    numbering_left it session (with_number plan session parent it.stat it.form next)
+look_up_at_left (look_at.Number parent form told at) name plan session next =
+    numbering_left at form told session (with_number plan session parent told form next)
 
 abbrev pub look_up_left : LookUp → List ℕ → Plan → (Looked → Tree) → Tree
 look_up_left it name plan next = look_up_at_left it.at name plan it.session next
@@ -109,7 +96,7 @@ abbrev pub look_up_at_acts : LookUpAt → ℕ
 look_up_at_acts (look_at.Resolve parent) = 12
 look_up_at_acts (look_at.Open parent dir) = 10
 look_up_at_acts (look_at.Stat parent fd) = 8
-look_up_at_acts (look_at.Number parent it) = numbering_acts it
+look_up_at_acts (look_at.Number parent form told at) = numbering_acts at
 
 abbrev pub look_up_acts : LookUp → ℕ
 look_up_acts it = look_up_at_acts it.at
@@ -118,7 +105,7 @@ abbrev pub look_up_at_room : LookUpAt → ℕ
 look_up_at_room (look_at.Resolve parent) = 5
 look_up_at_room (look_at.Open parent dir) = 4
 look_up_at_room (look_at.Stat parent fd) = 3
-look_up_at_room (look_at.Number parent it) = numbering_room it
+look_up_at_room (look_at.Number parent form told at) = numbering_room at
 
 abbrev pub look_up_room : LookUp → ℕ
 look_up_room it = look_up_at_room it.at
@@ -128,8 +115,8 @@ look_up_at_asks : (at : LookUpAt) (name : List ℕ) (plan : Plan) (session : Ses
 look_up_at_asks (look_at.Resolve parent) name plan session next = tt
 look_up_at_asks (look_at.Open parent dir) name plan session next = tt
 look_up_at_asks (look_at.Stat parent fd) name plan session next = tt
-look_up_at_asks (look_at.Number parent it) name plan session next =
-    numbering_asks it session (with_number plan session parent it.stat it.form next)
+look_up_at_asks (look_at.Number parent form told at) name plan session next =
+    numbering_asks at form told session (with_number plan session parent told form next)
 
 pub look_up_asks : (it : LookUp) (name : List ℕ) (plan : Plan) (next : Looked → Tree) →
     IsAsks (look_up_left it name plan next)

@@ -1,5 +1,5 @@
 ghost use Rattle.std.specs.Prelude.{◌≡◌, ◌+◌, ◌<◌, ◌≤◌, ℕ, List, None, true};
-ghost use Rattle.pt_frame.specs.Machine.Next.{asked, deed_in, AsksFor};
+ghost use Rattle.pt_frame.specs.Machine.Next.{asked, deed_in, with_memory, AsksFor};
 ghost use Rattle.pt_frame.specs.Machine.Room.{brings};
 ghost use Rattle.pt_frame.specs.Replies.{inserted_by};
 ghost use Rattle.pt_frame.specs.Tree.{Tree, Shuts};
@@ -11,20 +11,33 @@ ghost use Rattle.pt_req.specs.declared.plan.Plan.{Plan};
 use crate::begun::Session;
 use crate::parts::entry::entry_of;
 use crate::parts::looked::Looked;
-use crate::parts::numbering::{NumberAt, Numbering};
+use crate::parts::numbering::NumberAt;
 use crate::parts::part::Part;
 use crate::plan::Plan;
 use pt_frame::{Act, ActReply};
-use pt_host::{Fd, HostOp, HostReply, HostValue, ObjIds, OpenFlags};
+use pt_host::{Fd, HostOp, HostReply, HostValue, ObjIds, OpenFlags, Stat};
 use pt_session::{Event, EventReply, RowForm};
 
 /// The act that a lookup wants next. The name is its request's.
 #[derive(Drop)]
 pub enum LookUpAt {
-    Resolve { parent: u64 },
-    Open { parent: ObjIds, dir: Fd },
-    Stat { parent: ObjIds, fd: Fd },
-    Number { parent: ObjIds, numbering: Numbering },
+    Resolve {
+        parent: u64,
+    },
+    Open {
+        parent: ObjIds,
+        dir: Fd,
+    },
+    Stat {
+        parent: ObjIds,
+        fd: Fd,
+    },
+    Number {
+        parent: ObjIds,
+        form: RowForm,
+        stat: Stat,
+        at: NumberAt,
+    },
 }
 
 /// A lookup on its way, in its bracket.
@@ -39,15 +52,16 @@ fn looked_of(
     plan: &Plan,
     session: &Session,
     parent: ObjIds,
-    numbering: &Numbering,
+    stat: &Stat,
+    form: &RowForm,
     number: u64,
 ) -> Looked
-    ensures { result ≡ looked_of plan.now session.now parent numbering.now.stat numbering.now.form number }
+    ensures { result ≡ looked_of plan.now session.now parent stat.now form.now number }
 {
     Looked {
-        entry: entry_of(plan, session.agreed, parent, &numbering.stat, number),
-        ids: numbering.stat.ids,
-        form: numbering.form.copy(),
+        entry: entry_of(plan, session.agreed, parent, stat, number),
+        ids: stat.ids,
+        form: form.copy(),
     }
 }
 
@@ -67,14 +81,14 @@ impl LookUp {
                 mode: 0,
             }),
             LookUpAt::Stat { fd, .. } => Act::Host(HostOp::Stat { fd: *fd }),
-            LookUpAt::Number { numbering, .. } => numbering.want(&self.session),
+            LookUpAt::Number { form, stat, at, .. } => at.want(&self.session, form, stat),
         }
     }
 
     /// Goes on from the reply of the act that was wanted.
     pub fn take(&mut self, plan: &Plan, reply: ActReply) -> Part<Looked>
         ensures left { (name : List ℕ) (next : Looked → Tree) →
-            asked (look_up_left self.old name plan.now next) reply
+            with_memory (asked (look_up_left self.old name plan.now next) reply)
             ≡ part_tree result reply (look_up_left self.new name plan.now next) (λ looked. Shuts true (next looked)) }
         ensures fewer { (name : List ℕ) (next : Looked → Tree) →
             brings (look_up_left self.old name plan.now next) + part_counts result (look_up_acts self.new)
@@ -107,19 +121,28 @@ impl LookUp {
                     let parent = *parent;
                     let form = RowForm::File(*fd);
                     let at = NumberAt::Claim;
-                    let numbering = Numbering { form, stat, at };
-                    self.at = LookUpAt::Number { parent, numbering };
+                    self.at = LookUpAt::Number {
+                        parent,
+                        form,
+                        stat,
+                        at,
+                    };
                     Part::Goes
                 }
                 _ => Part::Refuses,
             },
-            LookUpAt::Number { parent, numbering } => match numbering.take(reply) {
-                Part::Has(number) => {
-                    Part::Has(looked_of(plan, &self.session, *parent, numbering, number))
-                }
+            LookUpAt::Number {
+                parent,
+                form,
+                stat,
+                at,
+            } => match at.take(reply) {
                 Part::Goes => Part::Goes,
                 Part::Refuses => Part::Refuses,
                 Part::Gives(answer) => Part::Gives(answer),
+                Part::Has(number) => {
+                    Part::Has(looked_of(plan, &self.session, *parent, stat, form, number))
+                }
             },
         }
     }

@@ -1,5 +1,5 @@
 ghost use Rattle.std.specs.Prelude.{◌≡◌, ◌+◌, ◌<◌, ◌≤◌, ℕ, None, false};
-ghost use Rattle.pt_frame.specs.Machine.Next.{asked, deed_in, AsksFor};
+ghost use Rattle.pt_frame.specs.Machine.Next.{asked, deed_in, with_memory, AsksFor};
 ghost use Rattle.pt_frame.specs.Machine.Room.{brings};
 ghost use Rattle.pt_frame.specs.Replies.{inserted_by};
 ghost use Rattle.pt_frame.specs.Tree.{Tree, Shuts};
@@ -33,7 +33,7 @@ pub enum HandleOpenAt {
 }
 
 /// The opening of a number by a handle, with the guest's flags.
-#[derive(Clone, Copy)]
+#[derive(Drop)]
 pub struct HandleOpen {
     pub session: Session,
     pub inode: u64,
@@ -51,7 +51,8 @@ fn can_open(mode: u32) -> bool
 impl HandleOpen {
     pub fn want<'a>(&self, plan: &Plan) -> Act<'a>
         ensures asks { (next : ℕ → Tree) → AsksFor (handle_open_left self.now plan.now next) result None }
-        ensures fits { (next : ℕ → Tree) → brings (handle_open_left self.now plan.now next) ≤ handle_open_room self.now }
+        ensures fits { (next : ℕ → Tree) →
+            brings (handle_open_left self.now plan.now next) ≤ handle_open_room self.now }
     {
         match self.at {
             HandleOpenAt::Resolve => Act::Event(Event::Resolve { number: self.inode }),
@@ -73,7 +74,7 @@ impl HandleOpen {
     /// Goes on from the reply of the act that was wanted.
     pub fn take(&mut self, reply: ActReply) -> Part<u64>
         ensures left { (plan : Plan) (next : ℕ → Tree) →
-            asked (handle_open_left self.old plan next) reply
+            with_memory (asked (handle_open_left self.old plan next) reply)
             ≡ part_tree result reply (handle_open_left self.new plan next) (λ handle. Shuts false (next handle)) }
         ensures fewer { (plan : Plan) (next : ℕ → Tree) →
             brings (handle_open_left self.old plan next) + part_counts result (handle_open_acts self.new)

@@ -1,33 +1,12 @@
 ghost use Rattle.std.specs.Prelude.{◌≡◌, ℕ, IfOk, IfErr};
-ghost use Rattle.pt_frame.specs.Machine.Next.{IsNext, IsAsks, counts_after, begun_in};
+ghost use Rattle.pt_frame.specs.Machine.Next.{IsNext, with_memory, counts_after, begun_in};
 ghost use Rattle.pt_frame.specs.Tree.{Tree};
 ghost use Rattle.pt_frame.specs.declared.act.ActReply.{ActReply};
 ghost use Rattle.pt_req.specs.Machine.Parts.{part_tree, part_counts};
 ghost use Rattle.pt_req.specs.declared.parts.part.Part.TheVariants.{Has};
 
-use pt_frame::{Edges, Next, Shut, Then};
+use pt_frame::{Next, Then};
 use pt_iface::Answer;
-
-/// A bracket begins.
-pub const BEGINS: Edges = Edges {
-    bares: false,
-    shuts: None,
-    brackets: true,
-};
-
-/// A bracket ends, and all that was taken in it is given back.
-pub const ENDS: Edges = Edges {
-    bares: false,
-    shuts: Some(Shut { passes: false }),
-    brackets: false,
-};
-
-/// The same, but for the last hold.
-pub const ENDS_PASSING: Edges = Edges {
-    bares: false,
-    shuts: Some(Shut { passes: true }),
-    brackets: false,
-};
 
 /// What a part does after a reply.
 #[derive(Drop)]
@@ -47,7 +26,7 @@ impl<V: Drop> Part<V> {
     pub fn handed(self) -> Result<V, Next>
         ensures ok { IfOk result (λ value. self ≡ Has value) }
         ensures next { IfErr result (λ next. (tree left : Tree) (told : ActReply) (more : V → Tree) →
-            IsAsks left → tree ≡ part_tree self told left more → IsNext tree told next left) }
+            with_memory tree ≡ part_tree self told left more → IsNext tree told next left) }
         ensures counts { IfErr result (λ next. (count : ℕ) → counts_after next count ≡ part_counts self count) }
         ensures begins { IfErr result (λ next. begun_in next ≡ 0) }
     {

@@ -1,5 +1,5 @@
 ghost use Rattle.std.specs.Prelude.{◌≡◌, ◌+◌, ◌<◌, ◌≤◌, ℕ, None};
-ghost use Rattle.pt_frame.specs.Machine.Next.{asked, deed_in, AsksFor};
+ghost use Rattle.pt_frame.specs.Machine.Next.{asked, deed_in, with_memory, AsksFor};
 ghost use Rattle.pt_frame.specs.Machine.Room.{brings};
 ghost use Rattle.pt_frame.specs.Replies.{inserted_by};
 ghost use Rattle.pt_frame.specs.Tree.{Tree};
@@ -16,9 +16,15 @@ use pt_session::{Event, EventReply, Negotiated, RowForm};
 #[derive(Drop)]
 pub enum RootOpenAt {
     Open,
-    Stat { fd: Fd },
+    Stat {
+        fd: Fd,
+    },
     /// What was opened is known; its descriptor is counted, or is to be.
-    Known { form: RowForm, stat: Stat, counted: bool },
+    Known {
+        form: RowForm,
+        stat: Stat,
+        counted: bool,
+    },
 }
 
 /// The opening of the shared directory, and what is agreed on with it, if anything is.
@@ -63,7 +69,7 @@ impl RootOpen {
     /// Goes on from the reply of the act that was wanted.
     pub fn take(&mut self, reply: ActReply) -> Part<()>
         ensures left { (plan : Plan) (next : Tree) →
-            asked (root_open_left self.old plan next) reply
+            with_memory (asked (root_open_left self.old plan next) reply)
             ≡ part_tree result reply (root_open_left self.new plan next) (λ done. next) }
         ensures fewer { (plan : Plan) (next : Tree) →
             brings (root_open_left self.old plan next) + part_counts result (root_open_acts self.new)

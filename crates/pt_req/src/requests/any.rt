@@ -1,4 +1,5 @@
 ghost use Rattle.std.specs.Prelude.{◌≡◌, ◌≤◌};
+ghost use Rattle.pt_frame.specs.Machine.Room.{most_holds};
 ghost use Rattle.pt_host.specs.declared.seat.HostSeat.{HostSeat};
 ghost use Rattle.pt_iface.specs.declared.request.Context.{Context};
 ghost use Rattle.pt_req.specs.Machine.Bodies.{request_left, request_acts, request_room, request_inserts};
@@ -35,7 +36,7 @@ impl RequestBody {
         ensures left { (plan : Plan) (seat : HostSeat) (who : Context) →
             request_left result plan seat ≡ tree_of plan seat who request }
         ensures acts { request_acts result ≤ bound_of request }
-        ensures room { request_room result ≤ 16 }
+        ensures room { request_room result ≤ most_holds }
         ensures inserts { request_inserts result ≤ most_inserted }
     {
         match request {

@@ -9,7 +9,8 @@ use pt_session::{Event, EventReply};
 pub struct Destroy;
 
 impl Body for Destroy {
-    ghost use Rattle.pt_req.specs.Machine.Bodies.{destroy_left, destroy_acts, destroy_room, destroy_inserts, destroy_asks};
+    ghost use Rattle.pt_req.specs.Machine.Bodies.{destroy_left, destroy_acts, destroy_room, destroy_inserts};
+    ghost use Rattle.pt_req.specs.Machine.Bodies.{destroy_asks};
 
     type Plan = Plan;
 

@@ -1,7 +1,7 @@
 use crate::begun::Session;
-use crate::parts::{BEGINS, ENDS_PASSING, LookUp, LookUpAt, is_bad_name};
+use crate::parts::{LookUp, LookUpAt, is_bad_name};
 use crate::plan::Plan;
-use pt_frame::{Act, ActReply, Body, Next, Then, Wanted};
+use pt_frame::{Act, ActReply, Body, Edges, Next, Then, Wanted};
 use pt_host::{Bytes, Errno, HostSeat};
 use pt_iface::Answer;
 use pt_session::{Event, EventReply};
@@ -53,7 +53,7 @@ impl Body for Lookup {
                     let at = LookUpAt::Resolve { parent: *parent };
                     self.at = LookupAt::LookUp(LookUp { session, at });
                     Next::Over {
-                        edges: BEGINS,
+                        edges: Edges::BEGIN,
                         then: Then::Goes,
                     }
                 }
@@ -61,7 +61,7 @@ impl Body for Lookup {
             },
             LookupAt::LookUp(part) => match part.take(plan, reply).handed() {
                 Ok(looked) => Next::Over {
-                    edges: ENDS_PASSING,
+                    edges: Edges::PASS,
                     then: Then::Gives(Answer::Entry(looked.entry)),
                 },
                 Err(next) => next,

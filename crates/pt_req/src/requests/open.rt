@@ -1,13 +1,13 @@
 use crate::begun::Session;
-use crate::parts::{BEGINS, ENDS, HandleOpen, HandleOpenAt, open_options};
+use crate::parts::{HandleOpen, HandleOpenAt, open_options};
 use crate::plan::Plan;
-use pt_frame::{Act, ActReply, Body, Next, Then, Wanted};
+use pt_frame::{Act, ActReply, Body, Edges, Next, Then, Wanted};
 use pt_host::HostSeat;
 use pt_iface::Answer;
 use pt_session::{Event, EventReply};
 
 /// Where the request `open` stands.
-#[derive(Clone, Copy)]
+#[derive(Drop)]
 pub enum OpenAt {
     Begin { inode: u64 },
     Open(HandleOpen),
@@ -53,7 +53,7 @@ impl Body for Open {
                         at: HandleOpenAt::Resolve,
                     });
                     Next::Over {
-                        edges: BEGINS,
+                        edges: Edges::BEGIN,
                         then: Then::Goes,
                     }
                 }
@@ -63,7 +63,7 @@ impl Body for Open {
                 Ok(handle) => {
                     let options = open_options(&plan.config, self.flags);
                     Next::Over {
-                        edges: ENDS,
+                        edges: Edges::END,
                         then: Then::Gives(Answer::Opened(handle, options)),
                     }
                 }

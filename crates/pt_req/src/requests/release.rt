@@ -20,7 +20,8 @@ pub struct Release {
 }
 
 impl Body for Release {
-    ghost use Rattle.pt_req.specs.Machine.Bodies.{release_left, release_acts, release_room, release_inserts, release_asks};
+    ghost use Rattle.pt_req.specs.Machine.Bodies.{release_left, release_acts, release_room, release_inserts};
+    ghost use Rattle.pt_req.specs.Machine.Bodies.{release_asks};
 
     type Plan = Plan;
 

@@ -9,7 +9,8 @@ use pt_session::{Event, EventReply};
 pub struct Unknown;
 
 impl Body for Unknown {
-    ghost use Rattle.pt_req.specs.Machine.Bodies.{unknown_left, unknown_acts, unknown_room, unknown_inserts, unknown_asks};
+    ghost use Rattle.pt_req.specs.Machine.Bodies.{unknown_left, unknown_acts, unknown_room, unknown_inserts};
+    ghost use Rattle.pt_req.specs.Machine.Bodies.{unknown_asks};
 
     type Plan = Plan;
 
