@@ -1,6 +1,6 @@
 -- A job begins, and then another clears the session. What the first asks for in its era is refused as overtaken, and no
 -- number is given to it.
-use Rattle.std.proofs.Common.{◌≡◌, ◌≢◌, ℕ, List, [], ◌∷◌, refl, sym, ◌∙◌, arith, None, Some}
+use Rattle.std.proofs.Common.{ℕ, List, [], ◌∷◌, refl, arith, None, Some}
 use Rattle.pt_host.specs.declared.ids.ObjIds.{ObjIds}
 use Rattle.pt_session.specs.Happens.{NumbersDie.{none as no_number_dies}, HandlesDie.{none as no_handle_dies}}
 use Rattle.pt_session.specs.Tables.{Tables, empty_tables, nothing_agreed}
