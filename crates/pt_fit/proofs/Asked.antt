@@ -63,8 +63,11 @@ request_right plan seat who asked steps last t b =
     gave_up : GaveUp (tree_of plan seat who asked) steps (finish.Answer last) → IsRight asked steps last
     gave_up up = subst (IsRight asked steps) (sym (same_answer last answer.NoMemory up.answered)) (elim up.why [
       | inl l ↦ (inl l, tt)
-      | inr a ↦ (inr (fit_allocates asked (tree_of plan seat who asked) [] [] blank [] a.0
-          (fit_request plan seat who asked) (first_told a.0 steps a.1 t) a.2), tt)
+      | inr a ↦ (
+        inr (fit_allocates asked (tree_of plan seat who asked) [] [] blank [] a.0
+            (fit_request plan seat who asked) (first_told a.0 steps a.1 t) a.2),
+        tt,
+      )
     ])
 
     of_branch : IsOfBranch (tree_of plan seat who asked) (finish.Answer last) steps → IsRight asked steps last

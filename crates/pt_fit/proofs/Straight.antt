@@ -203,8 +203,10 @@ straight_lookup plan parent name = (none_told change.Begin (λ t. refl), begun)
         Gives (answer.Entry looked.entry)))) t)
     begun (Event (event.Began era agreed)) =
         good (is_bad_name name) (look_up plan (session_of era agreed) parent name (λ looked.
-        Gives (answer.Entry looked.entry))) (none_told (change.Resolve parent) (λ t. refl),
-        resolves (session_of era agreed))
+        Gives (answer.Entry looked.entry))) (
+          none_told (change.Resolve parent) (λ t. refl),
+          resolves (session_of era agreed),
+        )
     begun t = tt
 
 -- an entry's steps, and then others
