@@ -1,7 +1,7 @@
 -- Each step of a request: what may follow its awaited reply is fit, and any other reply is refused with a cause.
 use Rattle.std.proofs.Common.{◌≡◌, inl, inr, ℕ, List, [], ◌∷◌, ◌++◌, Bool, true, false, Option, Some, None, refl, sym, ap, ◌∙◌}
 use Rattle.std.proofs.Common.{subst, if◌then◌else◌, length}
-use Rattle.pt_host.specs.Words.{Takes.{here, there}}
+use Rattle.pt_host.specs.Words.{Takes.{here}}
 use Rattle.pt_host.specs.Errno.{einval}
 use Rattle.pt_host.specs.Flags.{includes, o_creat}
 use Rattle.pt_host.specs.declared.ids.Fd.{Fd}
@@ -29,7 +29,7 @@ use Rattle.pt_req.specs.Steps.{take_fd, draw_node, draw_handle, insert, insert_r
 use Rattle.pt_req.specs.Steps.{forget_all, release_handle}
 use Rattle.pt_req.specs.declared.begun.Session.{Session}
 use Rattle.pt_law.specs.Discipline.{Notes, with_root, unnoted}
-use Rattle.pt_law.specs.Keeps.{Lasts, HoldsSlot, LiesOnSlot, LiesOnSlot.{here as lies}, After, down_to}
+use Rattle.pt_law.specs.Keeps.{Lasts, LiesOnSlot.{here as lies}, down_to}
 use Rattle.pt_law.specs.Discipline.{made}
 use Rattle.pt_law.proofs.Sounds.{after_any}
 use Rattle.pt_fit.specs.Cause.{OwnCause}
@@ -290,7 +290,7 @@ pub fit_insert : (asked : Request) (session : Session) (fresh : ℕ) (fd : Fd) (
     Goes asked (insert session fresh (File fd) told next) (hold.Fd fd (Some told.ids) ∷ hold.Slot ∷ holds) marks notes
 fit_insert asked session fresh fd told next holds marks notes b e l d f g = record {
   on = λ path. (
-    (lies (_, here), (e, l, d, (_, here))),
+    (lies, (e, l, d, (_, here))),
     elim [
       | Event (event.Inserted number) ↦
           λ m. on_holds asked (next number) _ (hold.Count session.era number
@@ -316,7 +316,7 @@ pub fit_insert_root : (asked : Request) (session : Session) (fd : Fd) (told : St
     notes
 fit_insert_root asked session fd told agreed next holds marks notes e r f = record {
   on = λ path. (
-    (lies (_, here), (e, r, (_, here))),
+    (lies, (e, r, (_, here))),
     elim [
       | Event (event.Inserted number) ↦
           λ m. on_holds asked next _ holds marks (unnoted fd notes) _ (handed_top fd (Some told.ids) holds) (f.on _)
@@ -338,7 +338,7 @@ pub fit_insert_handle : (asked : Request) (session : Session) (handle number row
     Goes asked (insert_handle session handle number fd next) (hold.Fd fd was ∷ hold.Slot ∷ holds) marks notes
 fit_insert_handle asked session handle number row fd was next holds marks notes e h r o f = record {
   on = λ path. (
-    ((was, lies (_, here)), (row, e, h, r, o)),
+    ((was, lies), (row, e, h, r, o)),
     elim [
       | Event (event.Inserted given) ↦
           λ m. on_holds asked next _ holds marks (record (unnoted fd notes) { handle = None }) _

@@ -15,7 +15,7 @@ use Rattle.pt_frame.specs.declared.act.ActReply.{ActReply}
 use Rattle.pt_frame.specs.declared.hold.Hold.{Hold}
 use Rattle.pt_law.specs.Discipline.{Notes, notes_after, blank}
 use Rattle.pt_law.specs.Told.{MayBeTold}
-use Rattle.pt_law.specs.Keeps.{unscoped, uncovered, down_to, MayMake, MayOpen, Lasts, After, HoldsEntry}
+use Rattle.pt_law.specs.Keeps.{uncovered, down_to, MayMake, MayOpen, Lasts, After, HoldsEntry}
 use Rattle.pt_law.specs.Discipline.{made}
 use Rattle.pt_fit.specs.Cause.{IsCaused, MayAllocate}
 
@@ -32,7 +32,7 @@ Fit asked (Gives last) holds marks notes path =
     HoldsEntry last holds × IsCaused asked path last × MayAnswer last asked
 Fit asked (Refuses told) holds marks notes path = IsCaused asked path (refusal told)
 Fit asked (Asks deed next) holds marks notes path =
-    MayMake deed (unscoped holds) notes
+    MayMake deed holds notes
     × ((told : ActReply) → MayBeTold deed told →
     After (closings_in deed told) (λ later. Fit asked (next told) (held deed told holds) marks later
     (made deed told ∷ path))

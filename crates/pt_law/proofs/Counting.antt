@@ -14,7 +14,7 @@ use Rattle.pt_session.specs.declared.reply.EventReply.TheVariants as event
 use Rattle.pt_frame.specs.Deed.{Deed, Calls, Changes}
 use Rattle.pt_frame.specs.Replies.{closings_in}
 use Rattle.pt_frame.specs.declared.act.ActReply.{ActReply}
-use Rattle.pt_frame.specs.declared.act.ActReply.TheVariants.{Event}
+use Rattle.pt_frame.specs.declared.act.ActReply.TheVariants.{Event, Host, NoCopy}
 use Rattle.pt_frame.specs.declared.hold.Hold.{Hold}
 use Rattle.pt_law.specs.Discipline.{Job, MovesBy}
 use Rattle.pt_law.specs.World.{TablesGo}
@@ -97,10 +97,16 @@ honest bound t js j change.TakeClosing (event.Refused NotLive) t' after lt b h m
 honest bound t js j change.TakeClosing (event.Refused _) t' after lt b h m = absurd h
 honest bound t js j _ _ t' after lt b h m = tt
 
+-- a closing that is taken brings none
+took_none : (told : ActReply) → closings_in (Changes change.TakeClosing) told ≡ 0
+took_none (Event told) = refl
+took_none (Host told) = refl
+took_none NoCopy = refl
+
 -- closings that come to be owed, and those that are taken
 pub owed_flow : (job : Job) (deed : Deed) (told : ActReply) (after : Job) → MovesBy job deed told after →
     after.owed + closing_ended deed told ≡ job.owed + closings_in deed told
-owed_flow job (Changes change.TakeClosing) told after m = omega (arith, m.1, m.2)
+owed_flow job (Changes change.TakeClosing) told after m = let a = took_none told in omega (arith, m.1, m.2, a)
 owed_flow job deed told after m = let e = m.2 in omega (arith, e)
 
 pub keeps_books : (bound : ℕ) (t : Tables) (js : ℕ →

@@ -1,7 +1,7 @@
 -- Steps of the frame and of a request's own part move the job as the holds say.
 use Rattle.std.proofs.Common.{◌≡◌, ◌⊎◌, inl, inr, ℕ, List, [], ◌∷◌, ◌++◌, Bool, true, false, Option, Some, None, refl, sym}
 use Rattle.std.proofs.Common.{ap, subst, ◌∙◌, arith, if◌then◌else◌, ◌==◌}
-use Rattle.pt_host.specs.Words.{Takes, Takes.{here, there}, Replaces, Replaces.{at, past}, Each}
+use Rattle.pt_host.specs.Words.{Takes, Takes.{here, there}, Replaces, Replaces.{at, past}}
 use Rattle.pt_host.specs.Call.{Call}
 use Rattle.pt_host.specs.Sorts.{Sort, OpensWith, EndsFd, OfSeat, Plain, sort_of, fds_of}
 use Rattle.pt_host.specs.declared.ids.Fd.{Fd}
@@ -14,7 +14,7 @@ use Rattle.pt_session.specs.declared.form.RowForm.TheVariants.{File}
 use Rattle.pt_session.specs.declared.event.KeptEvent.TheVariants as change
 use Rattle.pt_session.specs.declared.reply.EventReply.TheVariants as event
 use Rattle.pt_frame.specs.Deed.{Deed, Calls, Changes, IsStepOf, MayFailToCopy}
-use Rattle.pt_frame.specs.Held.{is_scope, fd_in, is_some_fd, is_same_fd, is_slot, noted, closed, slotted, unslotted}
+use Rattle.pt_frame.specs.Held.{is_scope, fd_in, is_some_fd, is_same_fd, noted, closed, slotted, unslotted}
 use Rattle.pt_frame.specs.Held.{handed, held, held_called, row_fd, statted}
 use Rattle.pt_frame.specs.Frame.{giving}
 use Rattle.pt_frame.specs.Replies.{closings_in}
@@ -25,10 +25,10 @@ use Rattle.pt_frame.specs.declared.hold.Hold.TheVariants as hold
 use Rattle.pt_law.specs.Discipline.{IsNoted, ShiftsCalled, Notes, Job, at_job, notes_after, MovesBy}
 use Rattle.pt_law.specs.Discipline.{MovesIf}
 use Rattle.pt_law.specs.Told.{MayBeTold, StepMayBeTold}
-use Rattle.pt_law.specs.Keeps.{HoldsSlot, HoldsFd, LiesOnSlot, LiesOnSlot.{here as lies_here, there as lies_there}}
+use Rattle.pt_law.specs.Keeps.{LiesOnSlot, LiesOnSlot.{here as lies_here, there as lies_there}}
 use Rattle.pt_law.specs.Keeps.{MayCall, MayMake, Lasts, unscoped, MayOpen}
 use Rattle.pt_law.proofs.Sound.{owing_job}
-use Rattle.pt_law.proofs.Unscoped.{takes_plain, takes_scope, takes_laid}
+use Rattle.pt_law.proofs.Unscoped.{takes_plain, takes_scope, takes_laid, replaces_plain}
 
 same_deed : (deed same : Deed) (told : ActReply) → IsStepOf deed (Some same) told → same ≡ deed
 same_deed deed same NoCopy i = i.0
@@ -143,40 +143,30 @@ is_noted fd ids (one ∷ holds) = go (is_same_fd fd (fd_in one)) refl (is_noted 
     go : (b : Bool) → is_same_fd fd (fd_in one) ≡ b → IsNoted fd ids holds (noted fd ids holds) →
         IsNoted fd ids (one ∷ holds) (if b then hold.Fd fd (Some ids) ∷ holds else one ∷ noted fd ids holds)
     go true e k = let d = descriptor one fd e in
-        inl (d.0, subst (λ (z : Hold). Replaces (hold.Fd fd d.0) (hold.Fd fd (Some ids)) (z ∷ holds)
-        (hold.Fd fd (Some ids) ∷ holds)) (sym d.1) at)
+        inl (
+          d.0,
+          subst (λ (z : Hold). Replaces (hold.Fd fd d.0) (hold.Fd fd (Some ids)) (z ∷ holds)
+              (hold.Fd fd (Some ids) ∷ holds)) (sym d.1) at,
+        )
     go false e k = further k
 
 takes_slotted : (holds : List Hold) → Takes hold.Slot (slotted holds) holds
 takes_slotted [] = here
-takes_slotted (one ∷ holds) = go (is_some_fd (fd_in one))
+takes_slotted (one ∷ holds) = go (is_some_fd (fd_in one)) (takes_slotted holds)
   where
-    go : (b : Bool) → Takes hold.Slot (if b then one ∷ hold.Slot ∷ holds else one ∷ slotted holds) (one ∷ holds)
-    go true = there here
-    go false = there (takes_slotted holds)
+    go : (b : Bool) → Takes hold.Slot (slotted holds) holds →
+        Takes hold.Slot (if b then one ∷ hold.Slot ∷ holds else one ∷ slotted holds) (one ∷ holds)
+    go true t = there here
+    go false t = there t
 
-slot_is : (one : Hold) → is_slot one ≡ true → one ≡ hold.Slot
-slot_is hold.Slot e = refl
-slot_is one e = absurd (cc)
-
-takes_unslotted : (holds rest : List Hold) → Takes hold.Slot holds rest → Takes hold.Slot holds (unslotted holds)
-takes_unslotted _ _ here = here
-takes_unslotted _ _ (there {y = one} {xs = holds} {ys = left} t) =
-    go (is_slot one) refl (takes_unslotted holds left t)
-  where
-    go : (b : Bool) → is_slot one ≡ b → Takes hold.Slot holds (unslotted holds) →
-        Takes hold.Slot (one ∷ holds) (if b then holds else one ∷ unslotted holds)
-    go true e k = subst (λ (z : Hold). Takes hold.Slot (z ∷ holds) holds) (sym (slot_is one e)) here
-    go false e k = there k
-
--- the tables take the descriptor and the slot that lies under it
+-- the tables take the descriptor and the slot on which it lies
 hands : (fd : Fd) (told : Option ObjIds) (holds : List Hold) → LiesOnSlot fd told holds →
     (mid : List Hold) × Takes (hold.Fd fd told) holds mid × Takes hold.Slot mid (handed fd holds)
-hands fd told _ (lies_here {holds = holds} s) = (
-  holds,
+hands fd told _ (lies_here {holds = holds}) = (
+  hold.Slot ∷ holds,
   here,
-  subst (λ (b : Bool). Takes hold.Slot holds (if b then unslotted holds else hold.Fd fd told ∷ handed fd holds))
-      (sym (same_number fd.0)) (takes_unslotted holds s.0 s.1),
+  subst (λ (b : Bool). Takes hold.Slot (hold.Slot ∷ holds)
+      (if b then holds else hold.Fd fd told ∷ handed fd (hold.Slot ∷ holds))) (sym (same_number fd.0)) here,
 )
 hands fd told _ (lies_there {one = one} {holds = holds} n l) =
     let k = hands fd told holds l in (
@@ -186,40 +176,66 @@ hands fd told _ (lies_there {one = one} {holds = holds} n l) =
           (there k.2),
     )
 
+-- what is noted, without the scopes
+noted_plain : (fd : Fd) (ids : ObjIds) (holds after : List Hold) → IsNoted fd ids holds after →
+    IsNoted fd ids (unscoped holds) (unscoped after)
+noted_plain fd ids holds after (inl r) = inl (r.0, replaces_plain r.1 refl refl)
+noted_plain fd ids holds after (inr e) = inr (ap unscoped e)
+
+ended_plain : (fd : Fd) (holds after : List Hold) → (told : Option ObjIds) × Takes (hold.Fd fd told) holds after →
+    (told : Option ObjIds) × Takes (hold.Fd fd told) (unscoped holds) (unscoped after)
+ended_plain fd holds after t = (t.0, takes_plain t.1 refl)
+
 -- a call of a request's own part
 call_shifts : (sort : Sort) (names : List Fd) (stat_of : Option Fd) (told : ActReply) (holds : List Hold) →
-    MayCall sort names holds → ShiftsCalled sort names stat_of holds told (held_called sort stat_of told holds)
+    MayCall sort names holds →
+    ShiftsCalled sort names stat_of (unscoped holds) told (unscoped (held_called sort stat_of told holds))
 call_shifts (OpensWith flags) names stat_of (Host (host.Ok (value.Fd fd))) holds m =
-    (m, takes_laid (hold.Fd fd None) holds)
+    (m, takes_plain (takes_laid (hold.Fd fd None) holds) refl)
 call_shifts (OpensWith flags) names stat_of told holds m = (m, refl)
-call_shifts (EndsFd fd) names stat_of told holds m = takes_closed fd m.0 holds m.1 m.2
+call_shifts (EndsFd fd) names stat_of told holds m =
+    ended_plain fd holds (closed fd holds) (takes_closed fd m.0 holds m.1 m.2)
 call_shifts OfSeat names stat_of told holds m = (m, refl)
-call_shifts Plain names (Some fd) (Host (host.Ok (value.Stat stat))) holds m = (m, is_noted fd stat.ids holds)
+call_shifts Plain names (Some fd) (Host (host.Ok (value.Stat stat))) holds m =
+    (m, noted_plain fd stat.ids holds (noted fd stat.ids holds) (is_noted fd stat.ids holds))
 call_shifts Plain names (Some fd) told holds m = (m, refl)
 call_shifts Plain names None told holds m = (m, refl)
 
 -- a deed of a request's own part
 may_move : (deed : Deed) (told : ActReply) (holds : List Hold) (notes : Notes) → MayMake deed holds notes →
-    MovesBy (at_job holds notes) deed told
-    (owing_job (held deed told holds) (closings_in deed told) (notes_after notes deed told))
+    MovesBy (at_job (unscoped holds) notes) deed told
+    (owing_job (unscoped (held deed told holds)) (closings_in deed told) (notes_after notes deed told))
 may_move (Calls asked) told holds notes m =
     (call_shifts (sort_of asked) (fds_of asked) (statted asked) told holds m.0, m.1, refl, refl)
 may_move (Changes (change.Resolve number)) (Event (event.Resolved row form ids mode)) holds notes m =
-    (takes_laid (hold.Pin row (row_fd form)) holds, m.1, omega arith, refl)
+    (takes_plain (takes_laid (hold.Pin row (row_fd form)) holds) refl, m.1, omega arith, refl)
 may_move (Changes (change.Claim era handle ids)) (Event (event.Claimed number)) holds notes m =
-    (takes_laid (hold.Count era number) holds, m.1, omega arith, refl)
-may_move (Changes change.TakeFd) (Event event.Taken) holds notes m = (takes_slotted holds, m.1, omega arith, refl)
+    (takes_plain (takes_laid (hold.Count era number) holds) refl, m.1, omega arith, refl)
+may_move (Changes change.TakeFd) (Event event.Taken) holds notes m =
+    (takes_plain (takes_slotted holds) refl, m.1, omega arith, refl)
 may_move (Changes (change.Insert era number (File fd) ids mode)) (Event (event.Inserted given)) holds notes m =
-    let k = hands fd (Some ids) holds m.0 in
-    ((k.0, handed fd holds, k.1, k.2, takes_laid (hold.Count era given) (handed fd holds)), m.1, omega arith, refl)
+    let k = hands fd (Some ids) holds m.0 in (
+      (
+        unscoped k.0,
+        unscoped (handed fd holds),
+        takes_plain k.1 refl,
+        takes_plain k.2 refl,
+        takes_plain (takes_laid (hold.Count era given) (handed fd holds)) refl,
+      ),
+      m.1,
+      omega arith,
+      refl,
+    )
 may_move (Changes (change.Insert era number form ids mode)) (Event (event.Found given)) holds notes m =
-    (takes_laid (hold.Count era given) holds, m.1, omega arith, refl)
+    (takes_plain (takes_laid (hold.Count era given) holds) refl, m.1, omega arith, refl)
 may_move (Changes (change.InsertRoot era (File fd) ids mode agreed)) (Event (event.Inserted given)) holds notes m =
-    (hands fd (Some ids) holds m.0, m.1, omega arith, refl)
+    let k = hands fd (Some ids) holds m.0 in
+    ((unscoped k.0, takes_plain k.1 refl, takes_plain k.2 refl), m.1, omega arith, refl)
 may_move (Changes (change.InsertHandle era handle number fd)) (Event (event.Inserted given)) holds notes m =
-    let k = hands fd m.0.0 holds m.0.1 in ((m.0.0, k.0, k.1, k.2), m.1, omega arith, refl)
+    let k = hands fd m.0.0 holds m.0.1 in
+    ((m.0.0, unscoped k.0, takes_plain k.1 refl, takes_plain k.2 refl), m.1, omega arith, refl)
 may_move (Changes (change.PinHandle handle number)) (Event (event.Pinned row fd)) holds notes m =
-    (takes_laid (hold.HandlePin row fd) holds, m.1, omega arith, refl)
+    (takes_plain (takes_laid (hold.HandlePin row fd) holds) refl, m.1, omega arith, refl)
 may_move (Changes (change.Unpin row)) told holds notes m = absurd m.0
 may_move (Changes (change.UnpinHandle row)) told holds notes m = absurd m.0
 may_move (Changes change.GiveFd) told holds notes m = absurd m.0
@@ -240,20 +256,21 @@ unnoted_call (call.Close fd) notes m = absurd m
 unnoted_call asked notes m = refl
 
 not_made : (deed : Deed) (holds : List Hold) (notes : Notes) → MayFailToCopy deed →
-    owing_job (held deed NoCopy holds) (closings_in deed NoCopy) (notes_after notes deed NoCopy) ≡ at_job holds notes
+    owing_job (unscoped (held deed NoCopy holds)) (closings_in deed NoCopy) (notes_after notes deed NoCopy)
+    ≡ at_job (unscoped holds) notes
 not_made (Calls asked) holds notes m =
-    λ i. at_job (unmade_call asked holds m i) (unnoted_call asked notes m i)
+    λ i. at_job (unscoped (unmade_call asked holds m i)) (unnoted_call asked notes m i)
 not_made (Changes (change.Forget list)) holds notes m = refl
 not_made (Changes asked) holds notes m = absurd m
 
 pub may_step : (deed : Deed) (made : Option Deed) (told : ActReply) (holds : List Hold) (notes : Notes) →
     IsStepOf deed made told → MayMake deed holds notes →
-    MovesIf (at_job holds notes) made told
-    (owing_job (held deed told holds) (closings_in deed told) (notes_after notes deed told))
+    MovesIf (at_job (unscoped holds) notes) made told
+    (owing_job (unscoped (held deed told holds)) (closings_in deed told) (notes_after notes deed told))
 may_step deed (Some same) told holds notes i m =
-    let after = owing_job (held deed told holds) (closings_in deed told) (notes_after notes deed told) in
+    let after = owing_job (unscoped (held deed told holds)) (closings_in deed told) (notes_after notes deed told) in
     subst (λ (d : Deed).
-    MovesBy (at_job holds notes) d told after) (sym (same_deed deed same told i)) (may_move deed told holds notes m)
+    MovesBy (at_job (unscoped holds) notes) d told after) (sym (same_deed deed same told i)) (may_move deed told holds notes m)
 may_step deed None NoCopy holds notes i m = not_made deed holds notes i
 may_step deed None told holds notes i m = absurd i
 

@@ -22,7 +22,7 @@ use Rattle.pt_frame.specs.Frame.{behind, under, mark_in, outer, shut, answered, 
 use Rattle.pt_frame.specs.Tree.{Tree, Gives, Refuses, Asks, Opens, Bares, Brackets, Shuts, Allocates, framed, follows}
 use Rattle.pt_frame.specs.Tree.{may_give_up}
 use Rattle.pt_frame.specs.declared.act.ActReply.{ActReply}
-use Rattle.pt_frame.specs.declared.act.ActReply.TheVariants.{Event, Host}
+use Rattle.pt_frame.specs.declared.act.ActReply.TheVariants.{Event, Host, NoCopy}
 use Rattle.pt_frame.specs.declared.finish.Finish.{Finish}
 use Rattle.pt_frame.specs.declared.finish.Finish.TheVariants as finish
 use Rattle.pt_frame.specs.declared.hold.Hold.{Hold}
@@ -32,7 +32,7 @@ use Rattle.pt_frame.specs.declared.hold.Taken.TheVariants as taken
 use Rattle.pt_law.specs.Discipline.{Notes, Job, at_job, notes_after, unnoted, entry_holds, MovesIf}
 use Rattle.pt_law.specs.Keeps.{After, Lasts, HoldsEntry, Keeps, unscoped, uncovered, down_to}
 use Rattle.pt_law.proofs.Sound.{Sound, Owes, Goes, owing_job}
-use Rattle.pt_law.proofs.Unscoped.{held_on, opened_on, all_down}
+use Rattle.pt_law.proofs.Unscoped.{opened_on, all_down}
 use Rattle.pt_law.proofs.Moving.{made_moves, giving_lasts, gives_step, may_step, seat_step, is_scope_opened, told_of}
 
 restored_bare : (last : Finish) (fault : Option Errno) → entry_holds 0 last ≡ [] →
@@ -57,6 +57,12 @@ goes_on : (rest : Grammar) (holds : List Hold) (count : ℕ) (notes later : Note
     Goes rest holds count notes → Goes rest holds count later
 goes_on rest holds count notes later l k = λ last m. k last (m.0 ∙ l.0, m.1 ∙ l.1)
 
+-- a slot that is given back brings no closing
+gave_none : (told : ActReply) → closings_in (Changes change.GiveFd) told ≡ 0
+gave_none (Event told) = refl
+gave_none (Host told) = refl
+gave_none NoCopy = refl
+
 -- what a closing brought
 sound_slot : (count : ℕ) (holds : List Hold) (rest : Grammar) (notes : Notes) → Goes rest holds count notes →
     Sound (give_slot true count holds rest) (owing_job (hold.Slot ∷ unscoped holds) count notes)
@@ -64,7 +70,8 @@ sound_slot count holds rest notes k = (
   (refl, refl),
   (λ step i t. (
     owing_job (unscoped holds) count notes,
-    made_moves (Changes change.GiveFd) step.deed step.reply _ _ (λ no. no) i (here, tt, omega arith, refl),
+    made_moves (Changes change.GiveFd) step.deed step.reply _ _ (λ no. no) i
+        (here, tt, (let a = gave_none step.reply in omega (arith, a)), refl),
     k notes (refl, refl),
   )),
 )
@@ -299,9 +306,7 @@ sound_framed seat (Asks deed next) holds marks notes f = (
       let count = closings_in deed step.reply in
       let later = notes_after notes deed step.reply in (
         owing_job (unscoped after) count later,
-        subst (λ (h : List Hold). MovesIf (at_job (unscoped holds) notes) step.deed step.reply
-            (owing_job h count later)) (sym (held_on deed step.reply holds))
-            (may_step deed step.deed step.reply (unscoped holds) notes i f.0),
+        may_step deed step.deed step.reply holds notes i f.0,
         sound_follows seat (may_give_up step.reply (next step.reply)) count after
             (framed seat (next step.reply) after marks) later
             (after_map count _ _ later (λ last g. sound_framed seat (next step.reply) after marks last g)

@@ -34,25 +34,22 @@ abbrev pub down_to : ℕ → List Hold → List Hold
 down_to mark [] = []
 down_to mark (one ∷ holds) = if nat_lt mark (length (one ∷ holds)) then down_to mark holds else one ∷ holds
 
-abbrev pub HoldsSlot : List Hold → Type 0
-HoldsSlot holds = (rest : List Hold) × Takes hold.Slot holds rest
-
 abbrev pub HoldsFd : List Hold → Fd → Type 0
 HoldsFd holds fd = (was : Option ObjIds) × (rest : List Hold) × Takes (hold.Fd fd was) holds rest
 
--- the descriptor is held, this was told of it, and a slot lies under it
+-- the descriptor is held, this was told of it, and it lies on a slot
 pub data LiesOnSlot (fd : Fd) (told : Option ObjIds) : List Hold → Type 0 where
-  here : {holds : List Hold} → HoldsSlot holds → LiesOnSlot fd told (hold.Fd fd told ∷ holds)
+  here : {holds : List Hold} → LiesOnSlot fd told (hold.Fd fd told ∷ hold.Slot ∷ holds)
   there : {one : Hold} {holds : List Hold} → is_same_fd fd (fd_in one) ≡ false → LiesOnSlot fd told holds →
       LiesOnSlot fd told (one ∷ holds)
 
 -- A request's own part may make this call, whatever it is then told: it names what it holds, and ends what it holds
 -- itself.
 abbrev pub MayCall : Sort → List Fd → List Hold → Type 0
-MayCall (OpensWith flags) names holds = KnowsAll holds names
+MayCall (OpensWith flags) names holds = KnowsAll (unscoped holds) names
 MayCall (EndsFd fd) names holds = HoldsFd holds fd
-MayCall OfSeat names holds = KnowsAll holds names
-MayCall Plain names holds = KnowsAll holds names
+MayCall OfSeat names holds = KnowsAll (unscoped holds) names
+MayCall Plain names holds = KnowsAll (unscoped holds) names
 
 -- and this event; what gives a hold back, and the closings, are the frame's
 abbrev pub MayChange : Change → List Hold → Type 0
@@ -74,8 +71,8 @@ MayChange _ holds = ⊥
 
 abbrev pub MayMake : Deed → List Hold → Notes → Type 0
 MayMake (Calls asked) holds notes =
-    MayCall (sort_of asked) (fds_of asked) holds × Fits (at_job holds notes) (Calls asked)
-MayMake (Changes asked) holds notes = MayChange asked holds × Fits (at_job holds notes) (Changes asked)
+    MayCall (sort_of asked) (fds_of asked) holds × Fits (at_job (unscoped holds) notes) (Calls asked)
+MayMake (Changes asked) holds notes = MayChange asked holds × Fits (at_job (unscoped holds) notes) (Changes asked)
 
 -- giving back and closings leave it noted which era it is and whether a root was opened, and what else is noted may
 -- change
@@ -108,7 +105,7 @@ abbrev pub Keeps : Tree → List Hold → List ℕ → Notes → Type 0
 Keeps (Gives last) holds marks notes = HoldsEntry last holds
 Keeps (Refuses told) holds marks notes = Unit {0}
 Keeps (Asks deed next) holds marks notes =
-    MayMake deed (unscoped holds) notes
+    MayMake deed holds notes
     × ((told : ActReply) → MayBeTold deed told →
     After (closings_in deed told) (λ later. Keeps (next told) (held deed told holds) marks later)
     (notes_after notes deed told))
