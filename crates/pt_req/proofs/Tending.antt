@@ -47,11 +47,9 @@ bare seat = record {
   had = λ told tree found so. so;
   asks = λ deed next own so. (
     is_asked deed own,
-    λ told. (
-      closes_bare (closings_in deed told),
-      subst (λ (worn : List
-          Call). Tends seat (next told) worn) (sym (wears_same deed told [] own)) (so told),
-    ),
+    λ told.
+        subst (λ (worn : List Call). ClosesBare Nothing (closings_in deed told) worn × Tends seat (next told) worn)
+        (sym (wears_same deed told [] own)) (closes_bare (closings_in deed told), so told),
   );
   brackets = λ rest so. so;
   shuts = λ passes rest so. (refl, so);

@@ -10,7 +10,7 @@ use pt_iface::Answer;
 
 /// What a part does after a reply.
 #[derive(Drop)]
-pub enum Part<V: Drop> {
+pub enum Part<V> {
     /// It asks for its next act.
     Goes,
     /// The reply is answered as a refusal.
@@ -21,7 +21,7 @@ pub enum Part<V: Drop> {
     Has(V),
 }
 
-impl<V: Drop> Part<V> {
+impl<V> Part<V> {
     /// What it hands on, or what its request does meanwhile.
     pub fn handed(self) -> Result<V, Next>
         ensures ok { IfOk result (λ value. self ≡ Has value) }
