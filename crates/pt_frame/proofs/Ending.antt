@@ -1,5 +1,6 @@
 -- How the lists of a grammar end.
-use Rattle.std.proofs.Common.{◌≡◌, inl, inr, ℕ, zero, suc, nat_lt, Bool, true, false, List, [], ◌∷◌, Option, Some, None}
+use Rattle.std.proofs.Common.{◌≡◌, inl, inr, ℕ, zero, suc, nat_lt, Bool, true, false, List, [], ◌∷◌, Option, Some}
+use Rattle.std.proofs.Common.{None}
 use Rattle.std.proofs.Common.{refl, sym, subst, ap, length, cond}
 use Rattle.pt_host.specs.declared.ids.Errno.{Errno}
 use Rattle.pt_host.specs.declared.seat.HostSeat.{HostSeat}
@@ -10,7 +11,8 @@ use Rattle.pt_frame.specs.Held.{is_scope, held, opened}
 use Rattle.pt_frame.specs.Replies.{closings_in, taken_in, fault_if, restored, is_cut, passes_with, refusal}
 use Rattle.pt_frame.specs.Grammar.{Grammar, End, Do, May, Belongs, Owed, owing, after, IsChosen}
 use Rattle.pt_frame.specs.Frame.{giving, give_slot, give_taken, closings, give, leave, or_lost, bare, bare_one, shut}
-use Rattle.pt_frame.specs.Frame.{front, behind, under, mark_in, outer, answered_by, answered, close_first, cut, CutAfter}
+use Rattle.pt_frame.specs.Frame.{front, behind, under, mark_in, outer, answered_by, answered, close_first, cut}
+use Rattle.pt_frame.specs.Frame.{CutAfter}
 use Rattle.pt_frame.specs.Frame.{CutInFull}
 use Rattle.pt_frame.specs.Tree.{Tree, Gives, Refuses, Asks, Opens, Bares, Brackets, Shuts, Allocates, framed}
 use Rattle.pt_frame.specs.Tree.{may_give_up, or_gives_up, follows}
@@ -97,8 +99,10 @@ cut_in_full seat (May one other) so_far steps end belongs = inr (cut_in_full sea
 pub belongs_chosen : (grammar chosen : Grammar) (steps : List Step) (end : Finish) → IsChosen grammar chosen →
     Belongs chosen steps end → Belongs grammar steps end
 belongs_chosen grammar chosen steps end (inl e) b = subst (λ (g : Grammar). Belongs g steps end) e b
-belongs_chosen (May one other) chosen steps end (inr (inl e)) b = inr (subst (λ (g : Grammar). Belongs g steps end) e b)
-belongs_chosen (May one other) chosen steps end (inr (inr e)) b = inl (subst (λ (g : Grammar). Belongs g steps end) e b)
+belongs_chosen (May one other) chosen steps end (inr (inl e)) b =
+    inr (subst (λ (g : Grammar). Belongs g steps end) e b)
+belongs_chosen (May one other) chosen steps end (inr (inr e)) b =
+    inl (subst (λ (g : Grammar). Belongs g steps end) e b)
 belongs_chosen (End last) chosen steps end (inr x) b = absurd x
 belongs_chosen (Do deed owed next) chosen steps end (inr x) b = absurd x
 
@@ -175,7 +179,8 @@ det_shut seat passing mark [] next so = so (under passing [])
 det_shut seat passing mark (one ∷ holds) next so =
     det_if (nat_lt mark (length (one ∷ holds)))
     (give seat one (under passing (one ∷ holds)) (under passing holds) (λ fault.
-    or_lost seat fault (under passing holds) (shut seat passing mark holds next))) (next (under passing (one ∷ holds)))
+    or_lost seat fault (under passing holds) (shut seat passing mark holds next)))
+    (next (under passing (one ∷ holds)))
     (det_give seat one (under passing (one ∷ holds)) (under passing holds) (λ fault.
     or_lost seat fault (under passing holds) (shut seat passing mark holds next)) (λ fault.
     det_or_lost seat fault (under passing holds) (shut seat passing mark holds next)
@@ -203,7 +208,8 @@ want_ends : (seat : HostSeat) (count : ℕ) (holds : List Hold) →
     EndsSo (λ end. IsAnsweredInFull end → ⊥) (closings count holds (leave seat holds (finish.Answer answer.NoMemory)))
 want_ends seat count holds =
     ends_closings (λ end. IsAnsweredInFull end → ⊥) count holds (leave seat holds (finish.Answer answer.NoMemory))
-    (ends_leave (λ end. IsAnsweredInFull end → ⊥) want_stays seat holds (finish.Answer answer.NoMemory) (λ full. full))
+    (ends_leave (λ end. IsAnsweredInFull end → ⊥) want_stays seat holds (finish.Answer answer.NoMemory)
+    (λ full. full))
 
 det_follows : (seat : HostSeat) (wants : Bool) (count : ℕ) (holds : List Hold) (rest : Grammar) → IsDetermined rest →
     IsDetermined (follows seat wants count holds rest)

@@ -1,5 +1,6 @@
 -- What is left of a job, step by step.
-use Rattle.std.proofs.Common.{◌≡◌, ◌≢◌, ◌≤◌, inl, inr, ℕ, zero, suc, nat_lt, Bool, true, false, ◌||◌, List, [], ◌∷◌, length}
+use Rattle.std.proofs.Common.{◌≡◌, ◌≢◌, ◌≤◌, inl, inr, ℕ, zero, suc, nat_lt, Bool, true, false, ◌||◌, List, [], ◌∷◌}
+use Rattle.std.proofs.Common.{length}
 use Rattle.std.proofs.Common.{Option, Some, None, refl, ap, sym, ◌∙◌, subst, cond, arith}
 use Rattle.std.proofs.lemmas.Bool.{lt-ltb, ltb-true}
 use Rattle.pt_host.specs.Call.{Call}
@@ -12,7 +13,8 @@ use Rattle.pt_frame.specs.Held.{held, opened, is_scope}
 use Rattle.pt_frame.specs.Replies.{closings_in, inserted_by, fault_if, refusal, restored, is_cut}
 use Rattle.pt_frame.specs.Grammar.{Grammar, End, Do, May, owing, owed_by, is_end, after, IsChosen, IsDo, IsSettled}
 use Rattle.pt_frame.specs.Grammar.{restores, told_closings, told_inserted, Wants}
-use Rattle.pt_frame.specs.Frame.{giving, closings, give, leave, or_lost, bare, bare_one, shut, front, behind, under, mark_in}
+use Rattle.pt_frame.specs.Frame.{giving, closings, give, leave, or_lost, bare, bare_one, shut, front, behind, under}
+use Rattle.pt_frame.specs.Frame.{mark_in}
 use Rattle.pt_frame.specs.Frame.{outer, cut, close_first, answered}
 use Rattle.pt_frame.specs.Past.{or_first}
 use Rattle.pt_frame.specs.Tree.{Tree, Asks, Opens, Gives, Refuses, Bares, Brackets, Shuts, Allocates, framed}
@@ -20,8 +22,10 @@ use Rattle.pt_frame.specs.Tree.{may_give_up, or_gives_up}
 use Rattle.pt_frame.specs.Machine.Next.{IsAsks, AsksFor, IsNext, asked, deed_in, with_memory, then_tree, edged}
 use Rattle.pt_frame.specs.Machine.Next.{bares_if, shuts_if, brackets_if}
 use Rattle.pt_frame.specs.Machine.Room.{act_brings, brings, deed_brings}
-use Rattle.pt_frame.specs.Machine.Left.{held_by, tops, bared, ended, marked, edges_left, mode_left, left_of, then_left}
-use Rattle.pt_frame.specs.Machine.Left.{next_left, given_left, tail_left, passes_at, edges_pass, is_edge_ready, is_above}
+use Rattle.pt_frame.specs.Machine.Left.{held_by, tops, bared, ended, marked, edges_left, mode_left, left_of}
+use Rattle.pt_frame.specs.Machine.Left.{then_left}
+use Rattle.pt_frame.specs.Machine.Left.{next_left, given_left, tail_left, passes_at, edges_pass, is_edge_ready}
+use Rattle.pt_frame.specs.Machine.Left.{is_above}
 use Rattle.pt_frame.specs.Machine.Left.{is_ready, is_over, is_all_over, is_giving_scope, is_restoring_now, IsTold}
 use Rattle.pt_frame.specs.Machine.Left.{NoneUnless, Tells, end_of}
 use Rattle.pt_frame.specs.declared.act.Act.{Act}
@@ -161,7 +165,8 @@ pub given_step : (seat : HostSeat) (at : Mode) (tree : Tree) (one : Hold) (holds
     fault ≡ fault_if scope told → deed_of wanted ≡ giving seat one → count ≡ closings_in (deed_of wanted) told →
     left ≡ given_left seat at fault tree new marks →
     after told (mode_left seat at tree holds marks) ≡ closings count new left
-given_step seat at tree one holds new marks told passes scope wanted fault count left other over ready p b f s l w n is =
+given_step seat at tree one holds new marks told passes scope wanted fault count left other over ready p b f s l w n
+    is =
     let b' = subst (λ (x : Bool). behind x holds ≡ one ∷ behind x new) p b in
     let f' = subst (λ (x : Bool). front x new ≡ front x holds) p f in
     let n' : count ≡ closings_in (giving seat one) told = n ∙ ap (λ (d : Deed). closings_in d told) w in
@@ -226,7 +231,8 @@ follows_so seat tree left told (next.At what) count holds marks rest is e =
     ∙ ap (λ (t : Tree). framed seat t holds marks) (sym is) ∙ memory_same seat tree holds marks))
 follows_so seat tree left told (next.Over edges what) count holds marks rest is e =
     rest_chosen (may_give_up told tree) _ _ _ (ap (closings count holds)
-    (e ∙ ap (λ (f : List Hold → List ℕ → Grammar). edges_left seat edges f holds marks) (then_same seat what told left)
+    (e ∙ ap (λ (f : List Hold → List ℕ → Grammar). edges_left seat edges f holds marks)
+    (then_same seat what told left)
     ∙ edges_same seat edges.bares edges.shuts edges.brackets (then_tree what told left) holds marks
     ∙ ap (λ (t : Tree). framed seat t holds marks) (sym is) ∙ memory_same seat tree holds marks))
 follows_so seat tree left told next.NoMemory count holds marks rest is e =
@@ -246,9 +252,12 @@ body_went seat (Asks deed more) left wanted None told refused what holds new mar
     l ∙ ap (λ (x : Answer). next_left seat what x left new marks) r in
     subst (λ (k : ℕ). IsChosen (after told (framed seat (Asks deed more) holds marks)) (closings k new rest)) (sym n')
     (subst (λ (x : List Hold). rest ≡ next_left seat what (refusal told) left x marks →
-    IsChosen (after told (framed seat (Asks deed more) holds marks)) (closings (closings_in deed told) x rest)) (sym h')
-    (λ e. follows_so seat (more told) left told what (closings_in deed told) (held deed told holds) marks rest is e) l')
-body_went seat (Opens call scope more) left wanted (Some laid) told refused what holds new marks count rest asks r is h n
+    IsChosen (after told (framed seat (Asks deed more) holds marks)) (closings (closings_in deed told) x rest))
+    (sym h')
+    (λ e. follows_so seat (more told) left told what (closings_in deed told) (held deed told holds) marks rest is e)
+    l')
+body_went seat (Opens call scope more) left wanted
+    (Some laid) told refused what holds new marks count rest asks r is h n
     l =
     let h' : new ≡ opened scope told holds = h ∙ ap (λ (x : Hold). opened x told holds) asks.1 in
     let n' : count ≡ 0 = n ∙ ap (λ (d : Deed). closings_in d told) asks.0 in

@@ -56,7 +56,8 @@ no_restoring seat deed true k back f =
     absurd (gives_copied seat back.0 k back.1 (subst MayFailToCopy back.2 f))
 
 -- what a step did is what its deed did
-pub step_past : (seat : HostSeat) (deed : Deed) (marked : Bool) (past : Past) (made : Option Deed) (reply : ActReply) →
+pub step_past : (seat : HostSeat) (deed : Deed) (marked : Bool) (past : Past) (made : Option Deed)
+    (reply : ActReply) →
     KeepsGroups seat → IsBack seat marked deed → marked ≡ is_restoring past.worn deed → IsStepOf deed made reply →
     past_after past deed reply ≡ past_made past made reply
 step_past seat deed marked past (Some same) told.NoCopy k back m s =
@@ -98,8 +99,10 @@ cut_loss seat (Do deed owed next) past (step ∷ so_far) steps end k t c e =
     let is = step_past seat deed owed.restores past step.deed step.reply k t.1 t.0 c.0 in
     cut_loss seat (next step.reply) (past_made past step.deed step.reply) so_far steps end k
     (subst (λ (p : Past). Tended seat false (next step.reply) p) is (t.5 step.reply)) c.1 e
-cut_loss seat (May one other) past so_far steps end k t (inl c) e = cut_loss seat one past so_far steps end k t.0 c e
-cut_loss seat (May one other) past so_far steps end k t (inr c) e = cut_loss seat other past so_far steps end k t.1 c e
+cut_loss seat (May one other) past so_far steps end k t (inl c) e =
+    cut_loss seat one past so_far steps end k t.0 c e
+cut_loss seat (May one other) past so_far steps end k t (inr c) e =
+    cut_loss seat other past so_far steps end k t.1 c e
 
 -- a step is marked where it restores, and what is marked gives a scope back
 pub mark_is : (seat : HostSeat) (was_cut : Bool) (deed : Deed) (owed : Owed) (next : ActReply → Grammar)

@@ -1,5 +1,6 @@
 -- A tree that tends its seat has a grammar that restores what it changed, whole and cut.
-use Rattle.std.proofs.Common.{◌≡◌, ◌≤◌, inl, inr, ℕ, zero, suc, nat_lt, Bool, true, false, ◌||◌, List, [], ◌∷◌, length}
+use Rattle.std.proofs.Common.{◌≡◌, ◌≤◌, inl, inr, ℕ, zero, suc, nat_lt, Bool, true, false, ◌||◌, List, [], ◌∷◌}
+use Rattle.std.proofs.Common.{length}
 use Rattle.std.proofs.Common.{Option, Some, None, refl, ap, sym, ◌∙◌, subst, cond, arith}
 use Rattle.pt_host.specs.Call.{Call}
 use Rattle.pt_host.specs.Sorts.{Sort, OpensWith, EndsFd, OfSeat, Plain, sort_of}
@@ -20,8 +21,10 @@ use Rattle.pt_iface.specs.declared.answer.Answer.{Answer}
 use Rattle.pt_iface.specs.declared.answer.Answer.TheVariants as answer
 use Rattle.pt_frame.specs.Deed.{Deed, Calls, Changes}
 use Rattle.pt_frame.specs.Held.{is_scope, laid, fd_in, is_some_fd, is_same_fd, is_slot, noted, closed, slotted}
-use Rattle.pt_frame.specs.Held.{unslotted, handed, handed_of, row_fd, statted, held_called, held_changed, held, opened}
-use Rattle.pt_frame.specs.Replies.{closings_in, event_refusal, fault_in, fault_if, refusal, restored, is_cut, passes_with, taken_in}
+use Rattle.pt_frame.specs.Held.{unslotted, handed, handed_of, row_fd, statted, held_called, held_changed, held}
+use Rattle.pt_frame.specs.Held.{opened}
+use Rattle.pt_frame.specs.Replies.{closings_in, event_refusal, fault_in, fault_if, refusal, restored, is_cut}
+use Rattle.pt_frame.specs.Replies.{passes_with, taken_in}
 use Rattle.pt_frame.specs.Grammar.{Grammar, End, Do, May, Owed, owing, IsChosen, IsDo, owed_by}
 use Rattle.pt_frame.specs.Frame.{giving, give_slot, give_taken, closings, give, leave, or_lost, bare, bare_one, shut}
 use Rattle.pt_frame.specs.Frame.{front, behind, under, mark_in, outer, answered_by, answered, close_first, cut}
@@ -30,7 +33,8 @@ use Rattle.pt_frame.specs.Tree.{may_give_up, or_gives_up, follows}
 use Rattle.pt_frame.specs.Past.{ends_scope, is_open, is_restoring, ended, worn_called, worn_after, or_first}
 use Rattle.pt_frame.specs.Past.{lost_after, Past, past_at, past_after}
 use Rattle.pt_frame.specs.Tended.{IsUncut, IsFinish, is_seats_sort, is_of_seat, WearsTop, Wears, IsBack, IsRested}
-use Rattle.pt_frame.specs.Tended.{ClosesBare, Tended, Undoes, IsOpening, IsRaise, IsAskedOf, IsAsked, PassesBare, Tends}
+use Rattle.pt_frame.specs.Tended.{ClosesBare, Tended, Undoes, IsOpening, IsRaise, IsAskedOf, IsAsked, PassesBare}
+use Rattle.pt_frame.specs.Tended.{Tends}
 use Rattle.pt_frame.specs.declared.act.ActReply.{ActReply}
 use Rattle.pt_frame.specs.declared.act.ActReply.TheVariants as told
 use Rattle.pt_frame.specs.declared.finish.Finish.{Finish}
@@ -125,10 +129,17 @@ tended_taken : (seat : HostSeat) (was_cut : Bool) (brings : Taken) (count : ℕ)
     (lost : Option Errno) → Wears seat holds [] → Tended seat was_cut rest (past_at [] lost) →
     Tended seat was_cut (give_taken brings count holds rest) (past_at [] lost)
 tended_taken seat was_cut taken.Nothing count holds rest lost w s = s
-tended_taken seat was_cut taken.Slot count holds rest lost w s = tended_slot seat was_cut true count holds rest lost w s
-tended_taken seat was_cut (taken.Fd fd slot) count holds rest lost w s =
-    (refl, tt, rested lost (Calls (call.Close fd)) [] refl (bare_of lost [] refl), w, refl, λ told.
-    tended_slot seat was_cut slot count holds rest lost w s)
+tended_taken seat was_cut taken.Slot count holds rest lost w s =
+    tended_slot seat was_cut true count holds rest lost w s
+tended_taken seat was_cut (taken.Fd fd slot) count holds rest lost w s = (
+  refl,
+  tt,
+  rested lost (Calls (call.Close fd)) [] refl (bare_of lost [] refl),
+  w,
+  refl,
+  λ told.
+      tended_slot seat was_cut slot count holds rest lost w s,
+)
 
 closing_bare : (count : ℕ) → ClosesBare taken.Nothing count []
 closing_bare zero = tt
@@ -138,10 +149,16 @@ tended_bare_closings : (seat : HostSeat) (was_cut : Bool) (count : ℕ) (holds :
     (lost : Option Errno) → Wears seat holds [] → Tended seat was_cut rest (past_at [] lost) →
     Tended seat was_cut (closings count holds rest) (past_at [] lost)
 tended_bare_closings seat was_cut zero holds rest lost w s = s
-tended_bare_closings seat was_cut (suc count) holds rest lost w s =
-    (refl, tt, rested lost (Changes change.TakeClosing) [] refl (bare_of lost [] refl), w, refl, λ told.
-    tended_taken seat was_cut (taken_in told) count holds (closings count holds rest) lost w
-    (tended_bare_closings seat was_cut count holds rest lost w s))
+tended_bare_closings seat was_cut (suc count) holds rest lost w s = (
+  refl,
+  tt,
+  rested lost (Changes change.TakeClosing) [] refl (bare_of lost [] refl),
+  w,
+  refl,
+  λ told.
+      tended_taken seat was_cut (taken_in told) count holds (closings count holds rest) lost w
+      (tended_bare_closings seat was_cut count holds rest lost w s),
+)
 
 tended_closings : (seat : HostSeat) (was_cut : Bool) (count : ℕ) (holds : List Hold) (rest : Grammar)
     (worn : List Call) (lost : Option Errno) → ClosesBare taken.Nothing count worn → Wears seat holds worn →
@@ -286,7 +303,8 @@ pub tended_bare : (seat : HostSeat) (holds : List Hold) (next : List Hold → Gr
 tended_bare seat [] next worn w s =
     subst (λ (x : List Call). Tended seat false (next []) (past_at x None)) (sym w) (s [] refl)
 tended_bare seat (one ∷ holds) next worn w s =
-    bare_top seat one holds next worn (is_scope one) refl w w s (λ later wears. tended_bare seat holds next later wears s)
+    bare_top seat one holds next worn (is_scope one) refl w w s (λ later wears.
+    tended_bare seat holds next later wears s)
 
 clear_under : (seat : HostSeat) (passing : Option Hold) (one : Hold) (holds : List Hold) →
     Clear seat (under passing (one ∷ holds)) → (is_scope one ≡ false) × Clear seat (under passing holds)
@@ -601,10 +619,11 @@ wears_asked seat (Changes asked) told holds worn a w = wears_held seat (Changes 
 follows_so : (seat : HostSeat) (wants : Bool) (count : ℕ) (holds : List Hold) (rest : Grammar) (worn : List Call) →
     ClosesBare taken.Nothing count worn → Wears seat holds worn → Tended seat false rest (past_at worn None) →
     Tended seat false (follows seat wants count holds rest) (past_at worn None)
-follows_so seat true count holds rest worn c w s =
-    (tended_closings seat false count holds (leave seat holds (finish.Answer answer.NoMemory)) worn None c w
-    (tended_leave seat false holds (finish.Answer answer.NoMemory) worn None w refl),
-    tended_closings seat false count holds rest worn None c w s)
+follows_so seat true count holds rest worn c w s = (
+  tended_closings seat false count holds (leave seat holds (finish.Answer answer.NoMemory)) worn None c w
+      (tended_leave seat false holds (finish.Answer answer.NoMemory) worn None w refl),
+  tended_closings seat false count holds rest worn None c w s,
+)
 follows_so seat false count holds rest worn c w s = tended_closings seat false count holds rest worn None c w s
 
 uncut_refusal : (told : ActReply) → IsUncut (refusal told)
@@ -632,7 +651,8 @@ wears_parted seat true [] c = c
 wears_parted seat true (top ∷ holds) c = c
 
 pub tended_framed : (seat : HostSeat) (tree : Tree) (holds : List Hold) (marks : List ℕ) (worn : List Call) →
-    Wears seat holds worn → Tends seat tree worn → Tended seat false (framed seat tree holds marks) (past_at worn None)
+    Wears seat holds worn → Tends seat tree worn →
+    Tended seat false (framed seat tree holds marks) (past_at worn None)
 tended_framed seat (Gives last) holds marks worn w t = answered_so seat (passes_with last) last holds worn t.0 t.1 w
 tended_framed seat (Refuses told) holds marks worn w t =
     tended_leave seat false holds (finish.Answer (refusal told)) worn None w (uncut_refusal told)
@@ -707,7 +727,8 @@ tended_cut seat (Do deed owed next) worn d t =
 -- a choice that is taken stays tended
 pub tended_chosen : (seat : HostSeat) (was_cut : Bool) (grammar chosen : Grammar) (past : Past) →
     Tended seat was_cut grammar past → IsChosen grammar chosen → Tended seat was_cut chosen past
-tended_chosen seat was_cut grammar chosen past t (inl e) = subst (λ (g : Grammar). Tended seat was_cut g past) (sym e) t
+tended_chosen seat was_cut grammar chosen past t (inl e) =
+    subst (λ (g : Grammar). Tended seat was_cut g past) (sym e) t
 tended_chosen seat was_cut (May one other) chosen past t (inr (inl e)) =
     subst (λ (g : Grammar). Tended seat was_cut g past) (sym e) t.1
 tended_chosen seat was_cut (May one other) chosen past t (inr (inr e)) =

@@ -24,7 +24,8 @@ edit_answer told = answer.NoMemory
 
 -- what its job may do from its start on
 abbrev pub edit_grammar : Edit → Grammar
-edit_grammar edit = Do (Calls (call.Edit edit)) (owing false Nothing 0 []) (λ told. End (finish.Answer (edit_answer told)))
+edit_grammar edit =
+    Do (Calls (call.Edit edit)) (owing false Nothing 0 []) (λ told. End (finish.Answer (edit_answer told)))
 
 -- and from here on
 abbrev pub edit_left : Editing → Grammar

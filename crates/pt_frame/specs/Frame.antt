@@ -43,7 +43,8 @@ give_taken taken.Slot count holds rest = give_slot true count holds rest
 give_taken (taken.Fd fd slot) count holds rest =
     Do (Calls (call.Close fd)) (owing false (taken.Fd fd slot) count holds) (λ told. give_slot slot count holds rest)
 
--- the closings of an event follow it at once, and these holds stay; where none is there to take, nothing is given back
+-- the closings of an event follow it at once, and these holds stay; where none is there to take, nothing is given
+-- back
 abbrev pub closings : ℕ → List Hold → Grammar → Grammar
 closings zero holds next = next
 closings (suc count) holds next =

@@ -102,8 +102,8 @@ statted (call.Stat fd) = Some fd
 statted asked = None
 
 -- The holds after a call of a body, the last one first: an opening brings a descriptor, the end of one takes it away
--- whatever is told, and what `Stat` tells is kept with its descriptor. A call on the seat opens a scope only where the
--- body says so.
+-- whatever is told, and what `Stat` tells is kept with its descriptor. A call on the seat opens a scope only where
+-- the body says so.
 abbrev pub held_called : Sort → Option Fd → ActReply → List Hold → List Hold
 held_called (OpensWith flags) stat_of (Host (host.Ok (value.Fd fd))) holds = laid (hold.Fd fd None) holds
 held_called (OpensWith flags) stat_of told holds = holds
@@ -115,7 +115,8 @@ held_called Plain stat_of told holds = holds
 -- and after an event
 abbrev pub held_changed : Change → EventReply → List Hold → List Hold
 held_changed change.Begin told holds = holds
-held_changed (change.Resolve number) (event.Resolved row form ids mode) holds = laid (hold.Pin row (row_fd form)) holds
+held_changed (change.Resolve number) (event.Resolved row form ids mode) holds =
+    laid (hold.Pin row (row_fd form)) holds
 held_changed (change.Resolve number) told holds = holds
 held_changed (change.Unpin row) told holds = holds
 held_changed (change.Claim era handle ids) (event.Claimed given) holds = laid (hold.Count era given) holds

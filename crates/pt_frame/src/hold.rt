@@ -1,4 +1,5 @@
-ghost use Rattle.std.specs.Prelude.{◌≡◌, ◌+◌, ◌<◌, ◌≤◌, [], ◌∷◌, true, List, Some, None, length, IfSome, IfNone, drop};
+ghost use Rattle.std.specs.Prelude.{◌≡◌, ◌+◌, ◌<◌, ◌≤◌, [], ◌∷◌, true, List, Some, None, length, IfSome, IfNone};
+ghost use Rattle.std.specs.Prelude.{drop};
 ghost use Rattle.pt_frame.specs.declared.hold.Hold.{Hold};
 ghost use Rattle.pt_frame.specs.Frame.{behind};
 ghost use Rattle.pt_frame.specs.Machine.Room.{most_holds};
@@ -7,8 +8,8 @@ use arrayvec::ArrayVec;
 use pt_host::{Caps, Fd, ObjIds};
 use std::marker::Model;
 
-/// What a job has to give back. The last five are scopes: what was changed of the seat, which goes back to what it was
-/// as the job began.
+/// What a job has to give back. The last five are scopes: what was changed of the seat, which goes back to what it
+/// was as the job began.
 #[derive(Clone, Copy, Debug, PartialEq, Eq)]
 pub enum Hold {
     /// A pin on a row, and the descriptor by which its object is kept, where it is kept by one.

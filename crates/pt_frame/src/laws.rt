@@ -35,8 +35,8 @@ pub fn jobs_are_determined()
     ensures { (seat : HostSeat) (tree : Tree) → IsDetermined (grammar_of_tree seat tree) }
 {}
 
-/// A step is marked just where it restores the seat, and what is marked gives a scope back. At its end a job that tends
-/// its seat has no scope open, also where it was cut before it lost its seat, and it tells what it lost.
+/// A step is marked just where it restores the seat, and what is marked gives a scope back. At its end a job that
+/// tends its seat has no scope open, also where it was cut before it lost its seat, and it tells what it lost.
 pub fn losses_are_told()
     ensures mark { (seat : HostSeat) (was_cut : Bool) (deed : Deed) (owed : Owed) (next : ActReply → Grammar)
         (past : Past) → Tended seat was_cut (Do deed owed next) past →

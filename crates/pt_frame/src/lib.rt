@@ -1,4 +1,5 @@
-//! The frame round every request: deeds, holds, the grammar of what a job may do, and the machine that takes its steps.
+//! The frame round every request: deeds, holds, the grammar of what a job may do, and the machine that takes its
+//! steps.
 #![tactic(auto)]
 
 mod act;
@@ -13,5 +14,7 @@ pub use act::{Act, ActReply, KeptAct, Want};
 pub use edit::Editing;
 pub use finish::Finish;
 pub use hold::{Hold, Holds, Taken};
-pub use laws::{choices_are_kept, cut_says_no_more, jobs_are_determined, losses_are_told, seats_are_tended};
+pub use laws::{
+    choices_are_kept, cut_says_no_more, jobs_are_determined, losses_are_told, seats_are_tended,
+};
 pub use machine::{Body, Edges, Framed, Next, Shut, Then, Wanted, row_fd};

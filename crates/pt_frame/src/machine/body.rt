@@ -68,10 +68,7 @@ impl Edges {
 #[derive(Debug, Drop)]
 pub enum Next {
     At(Then),
-    Over {
-        edges: Edges,
-        then: Then,
-    },
+    Over { edges: Edges, then: Then },
     /// Memory ran out, by the reply or as it was taken.
     NoMemory,
 }

@@ -6,7 +6,8 @@ ghost use Rattle.pt_frame.specs.Frame.{closings};
 ghost use Rattle.pt_frame.specs.Grammar.{IsChosen, after, told_closings, told_inserted};
 ghost use Rattle.pt_frame.specs.Past.{lost_after};
 ghost use Rattle.pt_frame.specs.Tree.{framed};
-ghost use Rattle.pt_frame.specs.Machine.Left.{mode_left, mode_counts, mode_begins, is_over, is_ready, is_giving_scope};
+ghost use Rattle.pt_frame.specs.Machine.Left.{mode_left, mode_counts, mode_begins, is_over, is_ready};
+ghost use Rattle.pt_frame.specs.Machine.Left.{is_giving_scope};
 ghost use Rattle.pt_frame.specs.Machine.Left.{Tells};
 ghost use Rattle.pt_frame.specs.Machine.Room.{most_holds};
 
@@ -16,7 +17,9 @@ use crate::hold::{Holds, Taken};
 use crate::machine::body::Body;
 use crate::machine::giving::{closings_in, fault_if, giving, or_first, refusal, taken_in};
 use crate::machine::holding::hold;
-use crate::machine::mode::{Mode, end_of, entered, hold_given, is_giving_scope, is_over, passes_at};
+use crate::machine::mode::{
+    Mode, end_of, entered, hold_given, is_giving_scope, is_over, passes_at,
+};
 use crate::marks::Marks;
 use pt_host::{Errno, HostOp, HostSeat};
 use pt_iface::Answer;
@@ -24,8 +27,8 @@ use pt_session::Event;
 use std::marker::Model;
 use std::mem;
 
-/// A request on its way: its body, and what the frame owes. All calls of one job are given one plan, and the seat with
-/// which the job began.
+/// A request on its way: its body, and what the frame owes. All calls of one job are given one plan, and the seat
+/// with which the job began.
 #[derive(Drop)]
 pub struct Framed<B: Body> {
     body: B,
@@ -46,15 +49,15 @@ impl<B: Body> Model for Framed<B> {
     ghost Value = { Job B };
 
     ghost view = { λ framed. record {
-        body = framed.body;
-        at = record {
-            mode = framed.mode;
-            holds = framed.holds;
-            marks = framed.marks;
-            closings = framed.closings;
-            taken = framed.taken;
-            lost = framed.lost;
-        };
+      body = framed.body;
+      at = record {
+        mode = framed.mode;
+        holds = framed.holds;
+        marks = framed.marks;
+        closings = framed.closings;
+        taken = framed.taken;
+        lost = framed.lost;
+      };
     } };
 
     ghost invariant = { λ framed.
@@ -201,7 +204,8 @@ impl<B: Body> Framed<B> {
             (after reply (owes seat.now self.old.at (B.left self.old.body plan.now seat.now)))
             (owes seat.now self.new.at (B.left self.new.body plan.now seat.now)) }
         ensures lost { self.new.at.lost ≡ lost_after self.old.at.lost (restores_now self.old.at) reply }
-        ensures fewer { steps_left self.new.at (B.acts self.new.body) < steps_left self.old.at (B.acts self.old.body) }
+        ensures fewer { steps_left self.new.at (B.acts self.new.body)
+            < steps_left self.old.at (B.acts self.old.body) }
         ensures within { steps_bound self.new.at (B.acts self.new.body) + 1
             ≤ steps_bound self.old.at (B.acts self.old.body)
             + 3 * told_closings (owes seat.now self.old.at (B.left self.old.body plan.now seat.now)) reply }

@@ -3,7 +3,8 @@ ghost use Rattle.pt_frame.specs.Deed.{deed_of};
 ghost use Rattle.pt_frame.specs.Frame.{giving};
 ghost use Rattle.pt_frame.specs.Held.{is_scope};
 ghost use Rattle.pt_frame.specs.Past.{or_first};
-ghost use Rattle.pt_frame.specs.Replies.{closings_in, event_refusal, refusal, fault_if, restored, passes_with, taken_in};
+ghost use Rattle.pt_frame.specs.Replies.{closings_in, event_refusal, refusal, fault_if, restored, passes_with};
+ghost use Rattle.pt_frame.specs.Replies.{taken_in};
 
 use crate::act::{Act, ActReply};
 use crate::finish::Finish;
@@ -42,11 +43,8 @@ pub fn is_scope(hold: Hold) -> bool
         | Hold::Fd { .. }
         | Hold::Slot
         | Hold::Count { .. } => false,
-        Hold::Groups
-        | Hold::EffectiveGid
-        | Hold::EffectiveUid
-        | Hold::Dropped(_)
-        | Hold::Umask => true,
+        Hold::Groups | Hold::EffectiveGid | Hold::EffectiveUid | Hold::Dropped(_) | Hold::Umask =>
+            true,
     }
 }
 

@@ -39,10 +39,7 @@ pub enum Tail {
 pub enum Mode {
     Body,
     /// Scopes end, or a bracket does.
-    Edge {
-        edges: Edges,
-        tail: Tail,
-    },
+    Edge { edges: Edges, tail: Tail },
     /// All is given back but the hold that passes with the answer, which is the last one.
     Out(Answer),
     Leave(Finish),

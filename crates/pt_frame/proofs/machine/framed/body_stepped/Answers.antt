@@ -37,7 +37,7 @@ pub returns-clause-inserts : goal.returns-clause-inserts
 returns-clause-inserts g c =
     let tree = g.B.Body.left c.args.body.now c.args.plan.now c.args.seat.now in
     let same = asks_inserted c.args.seat.now tree c.want-wanted.result.act c.want-wanted.result.opens c.args.reply
-        c.args.holds.now c.args.marks.now c.want-wanted.ensures.asks in
+    c.args.holds.now c.args.marks.now c.want-wanted.ensures.asks in
     let counts = c.entered-mode.ensures.counts (g.B.Body.inserts c.take-next.new.self) in
     omega (arith, same, counts, c.take-next.ensures.inserts)
 
@@ -46,5 +46,12 @@ returns-clause-room g c =
     let tree = g.B.Body.left c.args.body.now c.args.plan.now c.args.seat.now in
     let same = asks_brings tree c.want-wanted.result.act c.want-wanted.result.opens c.want-wanted.ensures.asks in
     let counts = c.entered-mode.ensures.counts (g.B.Body.room c.take-next.new.self) in
-    omega (arith, same, counts, c.entered-mode.ensures.begins, c.requires.room, c.hold.ensures.length,
-    c.take-next.ensures.room)
+    omega (
+      arith,
+      same,
+      counts,
+      c.entered-mode.ensures.begins,
+      c.requires.room,
+      c.hold.ensures.length,
+      c.take-next.ensures.room,
+    )

@@ -13,5 +13,6 @@ returns-in-Some g c =
     rw (← c.self.view_is) (subst (λ x. Wants x (want.Step c.giving.result))
     (sym (left_now seat at.taken at.closings at.mode tree at.holds at.marks c.in-Nothing.is c.if-self-gt0.false))
     (gives_wanted seat at.mode tree at.holds at.marks c.in-Some.hold _ c.giving.result c.in_default.not-Body
-    c.self.invariant.1 (subst (λ p. behind p at.holds ≡ c.in-Some.hold ∷ drop 1 (behind p at.holds)) c.passes_at.ensures
+    c.self.invariant.1 (subst (λ p. behind p at.holds ≡ c.in-Some.hold ∷ drop 1 (behind p at.holds))
+    c.passes_at.ensures
     c.in-Some.ensures.some) c.giving.ensures))
