@@ -116,8 +116,8 @@ pub record GivesAllBack (trace : List TraceStep) (j : ℕ) (job : Job) (told : A
 abbrev pub IsCausedIn : List TraceStep → ℕ → Job → Answer → Type 0
 IsCausedIn trace j job told = IsCausedBy (asked_of job) (steps_by j trace) told
 
--- An entry is the answer of a lookup, and names the object that the name which was asked had in the directory that its
--- parent stood for.
+-- An entry is the answer of a lookup, and names the object that the name which was asked had in the directory that
+-- its parent stood for.
 abbrev pub IsNamedIn : Plan → Option Tree → Tables → List TraceStep → ℕ → Job → Answer → Type 0
 IsNamedIn plan told tables trace j job (answer.Entry entry) =
     (parent : ℕ) × (name : List ℕ) × (name_asked (asked_of job) ≡ Some (parent, name))

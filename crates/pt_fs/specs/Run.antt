@@ -8,8 +8,8 @@ use Rattle.pt_req.specs.Made.{Does}
 use Rattle.pt_req.specs.declared.plan.Plan.{Plan}
 use Rattle.pt_law.specs.Laws.{SlotsAddUp, IsAtRest, AreKept}
 use Rattle.pt_fs.specs.Keeps.{turns_of, AfterEach, AfterEachTold, ReachesEach, LeadsOn, KeepsObjects, KeepsCounts}
-use Rattle.pt_fs.specs.Keeps.{KeepsHandles, ServesEach, InsertsOnce, OvertakenAsTold, ShutsOut, OfEachJob, GivesAllBack}
-use Rattle.pt_fs.specs.Keeps.{IsCausedIn, IsNamedIn, AgreeOnNumbers, ComeFromNames, NamesOpenOnes, LeavesOpen}
+use Rattle.pt_fs.specs.Keeps.{KeepsHandles, ServesEach, InsertsOnce, OvertakenAsTold, ShutsOut, OfEachJob}
+use Rattle.pt_fs.specs.Keeps.{GivesAllBack, IsCausedIn, IsNamedIn, AgreeOnNumbers, ComeFromNames, NamesOpenOnes, LeavesOpen}
 use Rattle.pt_fs.specs.Order.{IsInOrder}
 use Rattle.pt_fs.specs.Trace.{RunsJobs, AnswersEach, IsBounded, room_of}
 use Rattle.pt_fs.specs.declared.job.Job.{Job}
@@ -35,7 +35,8 @@ pub record IsRun {H : Type 0} (does : Does H) (plan : Plan) (jobs : List Job) (s
   pub causes : OfEachJob jobs answers (IsCausedIn trace)
   -- What a job was given it gave back, but for the number that its answer has.
   pub gives_back : OfEachJob jobs answers (GivesAllBack trace)
-  -- After every step the tables agree; and each front of the trace leads to some tables, from which the rest leads on.
+  -- After every step the tables agree; and each front of the trace leads to some tables, from which the rest leads
+  -- on.
   pub reached : ReachesEach tables trace tables'
   pub agree : AfterEach tables trace (λ so_far now. Agree now)
   -- After every step a number is live exactly where something was given of it and not taken back, and so much is its

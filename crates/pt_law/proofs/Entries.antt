@@ -28,6 +28,7 @@ use Rattle.pt_req.specs.declared.act.ActReply.{ActReply}
 use Rattle.pt_req.specs.declared.act.ActReply.TheVariants.{Event, Host}
 use Rattle.pt_req.specs.declared.finish.Finish.TheVariants as finish
 use Rattle.pt_req.specs.declared.plan.Plan.{Plan}
+use Rattle.pt_law.specs.Branch.{ReturnsHold, AreOwn, AreOwn.{none, keep, skip}}
 use Rattle.pt_law.specs.Discipline.{Job, HoldsTold, JobMoves, MovesIf}
 use Rattle.pt_law.specs.World.{World, Past, Turn, turn_by, Goes, IsLawful, Runs, TablesGo, steps_of}
 use Rattle.pt_law.specs.Laws.{AreDisciplined, Starts, IsLive, ObjectOf}
@@ -215,6 +216,94 @@ places_of j parent name number ids turns row mode how form its dir new flags fir
       opened_last = subst (Each (λ (step : Step). OpensNone step.deed step.reply)) (sym z.3) r;
       gives = gave;
     }
+
+first_same : {a b : Step} {xs ys : List Step} → a ∷ xs ≡ b ∷ ys → a ≡ b
+first_same e = cc
+
+rest_same : {a b : Step} {xs ys : List Step} → a ∷ xs ≡ b ∷ ys → xs ≡ ys
+rest_same e = cc
+
+-- a step of a request's own part, among all steps of its job
+record OwnAt (first more : List Step) (a : Step) (steps : List Step) : Type 0 where
+  front : List Step
+  back : List Step
+  are : steps ≡ front ++ a ∷ back
+  own_front : AreOwn first front
+  own_back : AreOwn more back
+
+own_same : (path steps first more : List Step) (a : Step) → AreOwn path steps → path ≡ first ++ a ∷ more →
+    OwnAt first more a steps
+own_same _ _ [] more a none e = absurd (cc)
+own_same _ _ (b ∷ first) more a none e = absurd (cc)
+own_same _ _ [] more a (keep {step = step} {own = own} {all = all} o) e =
+    let same : step ≡ a = first_same e in
+    let rest : own ≡ more = rest_same e in
+    record {
+      front = [];
+      back = all;
+      are = ap (λ z. z ∷ all) same;
+      own_front = none;
+      own_back = subst (λ z. AreOwn z all) rest o;
+    }
+own_same _ _ (b ∷ first) more a (keep {step = step} {own = own} {all = all} o) e =
+    let same : step ≡ b = first_same e in
+    let l = own_same own all first more a o (rest_same e) in
+    record {
+      front = step ∷ l.front;
+      back = l.back;
+      are = ap (λ z. step ∷ z) l.are;
+      own_front = subst (λ z. AreOwn (z ∷ first) (step ∷ l.front)) same (keep l.own_front);
+      own_back = l.own_back;
+    }
+own_same path _ first more a (skip {step = step} {all = all} gives o) e =
+    let l = own_same path all first more a o e in
+    record {
+      front = step ∷ l.front;
+      back = l.back;
+      are = ap (λ z. step ∷ z) l.are;
+      own_front = skip gives l.own_front;
+      own_back = l.own_back;
+    }
+
+-- what gives a hold back neither resolves nor opens
+returns_none : (deed : Option Deed) (told : ActReply) → ReturnsHold deed → ResolvesNone deed told × OpensNone deed told
+returns_none (Some (Calls (call.Close fd))) told h = (tt, tt)
+returns_none (Some (Changes (change.Unpin row))) told h = (tt, tt)
+returns_none (Some (Changes (change.UnpinHandle row))) told h = (tt, tt)
+returns_none (Some (Changes change.GiveFd)) told h = (tt, tt)
+returns_none (Some (Changes (change.GiveBack era number))) told h = (tt, tt)
+returns_none (Some (Changes change.TakeClosing)) told h = (tt, tt)
+returns_none deed told h = absurd h
+
+own_quiet : (N : Option Deed → ActReply → Type 0) →
+    ((deed : Option Deed) (told : ActReply) → ReturnsHold deed → N deed told) → (path steps : List Step) →
+    AreOwn path steps → Each (λ (step : Step). N step.deed step.reply) path →
+    Each (λ (step : Step). N step.deed step.reply) steps
+own_quiet N f _ _ none q = tt
+own_quiet N f _ _ (keep {own = own} {all = all} o) q = (q.0, own_quiet N f own all o q.1)
+own_quiet N f path _ (skip {step = step} {all = all} gives o) q =
+    (f step.deed step.reply gives, own_quiet N f path all o q)
+
+-- the places of a request that resolves, opens and is given a number on a branch, with other steps between, whatever
+-- its job gives back meanwhile
+pub branch_places : (turns : List Turn) (j parent : ℕ) (name : List ℕ) (number : ℕ) (ids : ObjIds)
+    (path first between middle rest : List Step) (row mode how : ℕ) (form : RowForm) (its : ObjIds) (dir new : Fd)
+    (flags : OpenFlags) (give : Step) → AreOwn path (steps_of j turns) →
+    path ≡ first ++ resolving parent row form its mode
+    ∷ (between ++ opening dir name flags how new ∷ (middle ++ give ∷ rest)) →
+    Each (λ (step : Step). ResolvesNone step.deed step.reply) between →
+    Each (λ (step : Step). OpensNone step.deed step.reply) middle → GivesBy number ids give.deed give.reply →
+    GivingPlaces turns j parent name number ids
+branch_places turns j parent name number ids path first between middle rest row mode how form its dir new flags give o e q r gave =
+    let a = resolving parent row form its mode in
+    let b = opening dir name flags how new in
+    let x = own_same path (steps_of j turns) first (between ++ b ∷ (middle ++ give ∷ rest)) a o e in
+    let y = own_same (between ++ b ∷ (middle ++ give ∷ rest)) x.back between (middle ++ give ∷ rest) b x.own_back refl in
+    let z = own_same (middle ++ give ∷ rest) y.back middle rest give y.own_back refl in
+    places_of j parent name number ids turns row mode how form its dir new flags x.front y.front z.front z.back give
+    (x.are ∙ ap (λ t. x.front ++ a ∷ t) (y.are ∙ ap (λ t. y.front ++ b ∷ t) z.are))
+    (own_quiet ResolvesNone (λ deed told h. (returns_none deed told h).0) between y.front y.own_front q)
+    (own_quiet OpensNone (λ deed told h. (returns_none deed told h).1) middle z.front z.own_front r) gave
 
 -- the steps of an entry behind its opening: the last one gives the number, and none before it opens a name
 record Giving (number : ℕ) (ids : ObjIds) (steps : List Step) : Type 0 where

@@ -50,3 +50,5 @@ pub mod Tracing
 pub mod ExampleRace
 pub mod ExampleOrigins
 pub mod ExampleEntered
+pub mod ExampleShutOut
+pub mod ExampleSettled

@@ -28,8 +28,8 @@ GivesBy number ids (Some (Changes (change.Insert era drawn form asked mode))) (E
     (given ≡ number) × (asked ≡ ids)
 GivesBy number ids deed told = ⊥
 
--- the places of the run where a job opened a name, and where it was given a number for what it had opened; other steps
--- of the job may stand between them
+-- the places of the run where a job opened a name, and where it was given a number for what it had opened; other
+-- steps of the job may stand between them
 pub record GivingPlaces (turns : List Turn) (job parent : ℕ) (name : List ℕ) (number : ℕ) (ids : ObjIds) :
     Type 0 where
   pub opened : NamePlaces turns job parent name
@@ -73,9 +73,10 @@ pub record IsGiven {turns : List Turn} {job parent : ℕ} {name : List ℕ} {num
   pub is_object : IsObject given.tree object what
   pub same_ids : what.ids ≡ ids
 
--- The places of an entry that a lookup answered: the job resolved the parent, opened the name by the parent's row, and
--- was given the number for the object whose status it was told; the entry is that number and that status.
-pub record EntryPlaces (plan : Plan) (turns : List Turn) (job parent : ℕ) (name : List ℕ) (entry : Entry) : Type 0 where
+-- The places of an entry that a lookup answered: the job resolved the parent, opened the name by the parent's row,
+-- and was given the number for the object whose status it was told; the entry is that number and that status.
+pub record EntryPlaces (plan : Plan) (turns : List Turn) (job parent : ℕ) (name : List ℕ)
+    (entry : Entry) : Type 0 where
   -- the job's own steps: those by which it came to the entry, and then what it gave back
   pub own : List Step
   pub back : List Step

@@ -132,8 +132,8 @@ pub record SlotsAddUp (limit bound : ℕ) (turns : List Turn) (tables : Tables) 
   -- no job gave more than it had taken
   pub taken : (job : ℕ) → job < bound → slots_given (steps_of job turns) ≤ slots_taken (steps_of job turns)
 
--- Where each open descriptor is: it was open at the start, or stands once in the tables, or a job has it, which opened
--- it or took it for closing, and neither closed it nor handed it to the tables.
+-- Where each open descriptor is: it was open at the start, or stands once in the tables, or a job has it, which
+-- opened it or took it for closing, and neither closed it nor handed it to the tables.
 pub record AreKept (start : World) (bound : ℕ) (turns : List Turn) (now : World) : Type 0 where
   -- one that stands in the tables stands there once, and is open
   pub once : (fd : ℕ) → kept_fds fd now.tables ≤ open_count fd now.tree

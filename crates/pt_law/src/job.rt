@@ -36,7 +36,8 @@ use pt_host::Host;
 /// its answer has it.
 pub fn any_request()
     ensures whole { (asked : Request) (tree : Tree) (steps : List Step) (end : Finish) → Fit asked tree [] blank [] →
-        AllMayBeTold steps → Belongs (framed tree []) steps end → ComesToEnd idle steps end × IsCausedEnd asked steps end }
+        AllMayBeTold steps → Belongs (framed tree []) steps end →
+        ComesToEnd idle steps end × IsCausedEnd asked steps end }
     ensures cut { (asked : Request) (tree : Tree) (steps : List Step) (end : Finish) → Fit asked tree [] blank [] →
         AllMayBeTold steps →
         BelongsCut (framed tree []) steps end → ComesToEnd idle steps end × (end ≡ finish.Answer answer.Cut) }

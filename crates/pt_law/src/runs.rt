@@ -2,27 +2,34 @@
 //! The parts that speak of no object hold over any host; those that do, over one that tells its tree.
 
 ghost use Rattle.std.specs.Prelude.{◌⊎◌, ◌≡◌, ◌≢◌, ◌≤◌, ℕ, List, ◌++◌, ◌∷◌, true, Some};
+ghost use Rattle.pt_host.specs.Words.{Each};
+ghost use Rattle.pt_host.specs.declared.flags.OpenFlags.{OpenFlags};
+ghost use Rattle.pt_host.specs.declared.ids.Fd.{Fd};
 ghost use Rattle.pt_host.specs.declared.ids.ObjIds.{ObjIds};
 ghost use Rattle.pt_session.specs.Tables.{Tables, Agree, empty_tables};
+ghost use Rattle.pt_session.specs.declared.form.RowForm.{RowForm};
 ghost use Rattle.pt_session.specs.declared.row.Row.{Row};
 ghost use Rattle.pt_session.specs.declared.row.HandleRow.{HandleRow};
 ghost use Rattle.pt_session.specs.Happens.{IsRow, IsHandleRow};
 ghost use Rattle.pt_iface.specs.declared.answer.Answer.TheVariants as answer;
 ghost use Rattle.pt_iface.specs.declared.entry.Entry.{Entry};
 ghost use Rattle.pt_iface.specs.declared.request.Request.TheVariants as request;
+ghost use Rattle.pt_req.specs.Deed.{Step};
 ghost use Rattle.pt_req.specs.Grammar.{Belongs};
 ghost use Rattle.pt_req.specs.Pattern.{Asked, grammar_of};
 ghost use Rattle.pt_req.specs.declared.finish.Finish.{Finish};
 ghost use Rattle.pt_req.specs.declared.finish.Finish.TheVariants as finish;
 ghost use Rattle.pt_req.specs.declared.plan.Plan.{Plan};
 ghost use Rattle.pt_law.specs.Told.{AllMayBeTold};
+ghost use Rattle.pt_law.specs.Branch.{AreOwn};
+ghost use Rattle.pt_law.specs.Naming.{resolving, opening, ResolvesNone, OpensNone};
 ghost use Rattle.pt_law.specs.World.{World, Turn, Runs, HostRuns, TablesGo, TablesRun, steps_of};
 ghost use Rattle.pt_law.specs.Ledger.{given, inserted, handle_inserted, standing};
 ghost use Rattle.pt_law.specs.Laws.{ObjectOf, AreDisciplined, AreEnded, AreAnswered, Starts, AreDistinct, HasObject};
 ghost use Rattle.pt_law.specs.Laws.{Serves, IsCounted, IsStanding, HasEnded, SlotsAddUp, AreKept, NamesOpen};
 ghost use Rattle.pt_law.specs.Laws.{IsHonoured, IsOvertaken, TellsOvertaken, TellsGiven, BeginsFirst, IsAtRest};
 ghost use Rattle.pt_law.specs.Laws.{LeavesRows};
-ghost use Rattle.pt_law.specs.Entered.{GivingPlaces, GivingPath, IsGiven, IsEntered};
+ghost use Rattle.pt_law.specs.Entered.{GivesBy, GivingPlaces, GivingPath, IsGiven, IsEntered};
 ghost use Rattle.pt_law.specs.Origins.{WasRoot, WasNamed};
 
 use pt_host::Host;
@@ -92,6 +99,14 @@ pub fn every_told_run()
     ensures named { (limit bound : ℕ) (turns : List Turn) (turn : Turn) (more : List Turn) (start now : World) →
         Starts limit start → AreDisciplined bound (turns ++ turn ∷ more) → Runs start turns now →
         NamesOpen now.tree turn.step.deed }
+    ensures placed { (turns : List Turn) (job parent : ℕ) (name : List ℕ) (number : ℕ) (ids : ObjIds)
+        (path first between middle rest : List Step) (row mode how : ℕ) (form : RowForm) (its : ObjIds) (dir fd : Fd)
+        (flags : OpenFlags) (give : Step) → AreOwn path (steps_of job turns) →
+        path ≡ first ++ resolving parent row form its mode
+        ∷ (between ++ opening dir name flags how fd ∷ (middle ++ give ∷ rest)) →
+        Each (λ step. ResolvesNone step.deed step.reply) between →
+        Each (λ step. OpensNone step.deed step.reply) middle → GivesBy number ids give.deed give.reply →
+        GivingPlaces turns job parent name number ids }
     ensures given { (limit bound : ℕ) (turns more : List Turn) (start given : World) (job parent : ℕ) (name : List ℕ)
         (number : ℕ) (ids : ObjIds) (places : GivingPlaces turns job parent name number ids) →
         Starts limit start → AreDisciplined bound (turns ++ more) → (path : GivingPath start places given) →

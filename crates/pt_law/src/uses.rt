@@ -42,7 +42,8 @@ pub fn one_number()
 pub fn two_lookups()
     ensures { (limit bound : ℕ) (turns more : List Turn) (start first second : World) (job other parent folder : ℕ)
         (name child : List ℕ) (number another : ℕ) (ids its : ObjIds) (between : List Turn) (object : ℕ)
-        (one : GivingPlaces turns job parent name number ids) (two : GivingPlaces turns other folder child another its) →
+        (one : GivingPlaces turns job parent name number ids)
+        (two : GivingPlaces turns other folder child another its) →
         Starts limit start → AreDisciplined bound (turns ++ more) → up_to two ≡ up_to one ++ between →
         Runs start (up_to one) first → Runs first between second → StaysLive first between number →
         ObjectOf first number object → ObjectOf second another object → another ≡ number }

@@ -4,7 +4,7 @@ use Rattle.pt_law.proofs.Cuts.{runs_split}
 use Rattle.pt_law.proofs.Laws.{distinct_law, object_law, handles_law, kept_law, leaves_law}
 use Rattle.pt_law.proofs.Hosts.{run_ended}
 use Rattle.pt_law.proofs.Next.{named_law}
-use Rattle.pt_law.proofs.Entries.{giving_law, entered_law}
+use Rattle.pt_law.proofs.Entries.{branch_places, giving_law, entered_law}
 use Rattle.pt_law.proofs.Tracing.{origins_law}
 
 pub returns-clause-tables : goal.returns-clause-tables
@@ -21,6 +21,9 @@ returns-clause-descriptors c = kept_law
 
 pub returns-clause-named : goal.returns-clause-named
 returns-clause-named c = named_law
+
+pub returns-clause-placed : goal.returns-clause-placed
+returns-clause-placed c = branch_places
 
 pub returns-clause-given : goal.returns-clause-given
 returns-clause-given c =

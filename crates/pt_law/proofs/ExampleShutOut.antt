@@ -1,0 +1,56 @@
+-- A job begins, and then another clears the session. What the first asks for in its era is refused as overtaken, and no
+-- number is given to it.
+use Rattle.std.proofs.Common.{◌≡◌, ◌≢◌, ℕ, List, [], ◌∷◌, refl, sym, ◌∙◌, arith, None, Some}
+use Rattle.pt_host.specs.declared.ids.ObjIds.{ObjIds}
+use Rattle.pt_session.specs.Happens.{NumbersDie.{none as no_number_dies}, HandlesDie.{none as no_handle_dies}}
+use Rattle.pt_session.specs.Tables.{Tables, empty_tables, nothing_agreed}
+use Rattle.pt_session.specs.declared.event.KeptEvent.TheVariants as change
+use Rattle.pt_session.specs.declared.reply.EventRefusal.TheVariants.{Overtaken}
+use Rattle.pt_session.specs.declared.reply.EventReply.TheVariants as event
+use Rattle.pt_req.specs.Deed.{Changes}
+use Rattle.pt_req.specs.declared.act.ActReply.TheVariants.{Event}
+use Rattle.pt_law.specs.Opened.{made}
+use Rattle.pt_law.specs.World.{Turn, turn_by, TablesGo, TablesRun}
+use Rattle.pt_law.specs.Laws.{IsOvertaken}
+
+abbrev cleared : Tables
+cleared = record (empty_tables 5) { era = 1; negotiated = nothing_agreed }
+
+abbrev turns : List Turn
+turns =
+    turn_by 1 (made (Changes change.Begin) (Event (event.Began 0 nothing_agreed)))
+    ∷ turn_by 0 (made (Changes change.Clear) (Event (event.Cleared 1 0))) ∷ []
+
+pub runs : TablesRun (empty_tables 5) turns cleared
+runs = (
+  empty_tables 5,
+  (refl, refl, refl),
+  (
+    cleared,
+    (omega arith, (empty_tables 5, empty_tables 5, 0, 0, no_number_dies tt, no_handle_dies tt, refl, refl, refl)),
+    refl,
+  ),
+)
+
+pub overtaken : IsOvertaken 1 turns
+overtaken = record {
+  before = turn_by 1 (made (Changes change.Begin) (Event (event.Began 0 nothing_agreed))) ∷ [];
+  clearing = turn_by 0 (made (Changes change.Clear) (Event (event.Cleared 1 0)));
+  later = [];
+  in_turn = refl;
+  begun = λ e. absurd (cc);
+  other = λ e. absurd (omega (arith, e));
+  era = 1;
+  closings = 0;
+  cleared = refl;
+}
+
+-- it may be told so
+pub is_told : (ids : ObjIds) →
+    TablesGo cleared (Some (Changes (change.Claim 0 None ids))) (Event (event.Refused Overtaken)) cleared
+is_told ids = ((λ e. absurd (omega (arith, e))), refl)
+
+-- and may not be given a number
+pub is_given_none : (ids : ObjIds) (number : ℕ) (next : Tables) →
+    TablesGo cleared (Some (Changes (change.Claim 0 None ids))) (Event (event.Claimed number)) next → ⊥
+is_given_none ids number next g = let e = g.0 in absurd (omega (arith, e))
