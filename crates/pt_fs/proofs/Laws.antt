@@ -33,13 +33,12 @@ use Rattle.pt_law.proofs.Standing.{standing_law}
 use Rattle.pt_law.proofs.HandlesOnce.{handles_once_law}
 use Rattle.pt_law.proofs.Overtaking.{overtaken_law, shut_out_law}
 use Rattle.pt_law.proofs.Interleaving.{tables_split}
-use Rattle.pt_law.proofs.Next.{named_law}
+use Rattle.pt_law.proofs.Next.{named_law, honoured_law, owner_of}
 use Rattle.pt_law.proofs.Entries.{entered_law, two_lookups_law}
 use Rattle.pt_law.proofs.Tracing.{origins_law}
 use Rattle.pt_law.proofs.Cuts.{runs_split}
 use Rattle.pt_law.proofs.Beginning.{job_first}
 use Rattle.pt_law.proofs.OnlyLookups.{entry_asked}
-use Rattle.pt_law.proofs.Next.{owner_of}
 use Rattle.pt_law.proofs.Asked.{job_ends, job_caused}
 use Rattle.pt_law.proofs.Returned.{all_settled}
 use Rattle.pt_fs.specs.Jobs.{asked_of, job_seat}
@@ -47,7 +46,7 @@ use Rattle.pt_fs.specs.Trace.{TraceRuns, AnswersEach, steps_by, step_of}
 use Rattle.pt_fs.specs.Keeps.{turn_of, turns_of, AfterEach, AfterEachTold, LeadsOn, begins_in, KeepsObjects}
 use Rattle.pt_fs.specs.Keeps.{KeepsCounts, KeepsHandles, ServesEach, InsertsOnce, OvertakenAsTold, ShutsOut, OfEachJob}
 use Rattle.pt_fs.specs.Keeps.{GivesAllBack, IsCausedIn, IsNamedIn, NamesOpenOnes, LeavesOpen, ReachesEach}
-use Rattle.pt_fs.specs.Keeps.{AgreeOnNumbers, ComeFromNames}
+use Rattle.pt_fs.specs.Keeps.{AgreeOnNumbers, ComeFromNames, HonoursEach}
 use Rattle.pt_fs.specs.declared.job.Job.{Job}
 use Rattle.pt_fs.specs.declared.trace.TraceStep.{TraceStep}
 use Rattle.pt_fs.proofs.Ended.{one_for_each, at_below, belongs_by}
@@ -151,6 +150,7 @@ pub record Keeps (limit : ℕ) (jobs : List Job) (tables : Tables) (trace : List
   pub once : InsertsOnce trace
   pub overtaken : OvertakenAsTold trace
   pub shut_out : ShutsOut trace
+  pub honoured : HonoursEach trace
   pub reached : ReachesEach tables trace tables'
   pub agree : AfterEach tables trace (λ so_far now. Agree now)
   pub slots : AfterEach tables trace (SlotsAddUp limit (length jobs))
@@ -216,6 +216,12 @@ keeps does faults p plan limit jobs host tables trace answers host' tables' ran 
           shut_out_law limit (length jobs) (turns_of so_far) (turn_of step) (turns_of rest) cut.0 cut.2.0
           (subst (λ (turns : List Turn). BeginsFirst (steps_of step.job turns)) (ap turns_of e
           ∙ turns-append so_far (step ∷ rest)) first) d cut.1 cut.2.1 taken given;
+      honoured = λ so_far rest step e.
+          let run = subst (λ (turns : List Turn). TablesRun (empty_tables limit) turns tables') (ap turns_of e
+          ∙ turns-append so_far (step ∷ rest)) whole in
+          let cut = tables_split (turns_of so_far) (turn_of step ∷ turns_of rest) (empty_tables limit) tables' run in
+          honoured_law limit (length jobs) (turns_of so_far) (turn_of step) (turns_of rest) cut.0 cut.2.0
+          (cut_at (length jobs) trace so_far (step ∷ rest) e disciplined) cut.1 cut.2.1;
       reached = λ so_far rest e.
           tables_split (turns_of so_far) (turns_of rest) tables tables'
           (subst (λ (turns : List Turn). TablesRun tables turns tables') (ap turns_of e ∙ turns-append so_far rest)

@@ -14,7 +14,7 @@ use Rattle.pt_req.specs.declared.plan.Plan.{Plan}
 use Rattle.pt_law.specs.Cause.{IsCausedBy}
 use Rattle.pt_law.specs.Entered.{EntryPlaces, IsEntered, up_to, name_asked}
 use Rattle.pt_law.specs.Laws.{ObjectOf, AreDistinct, HasObject, IsCounted, IsStanding, Serves, TellsOvertaken}
-use Rattle.pt_law.specs.Laws.{IsOvertaken, TellsGiven, NamesOpen, LeavesRows}
+use Rattle.pt_law.specs.Laws.{IsOvertaken, TellsGiven, IsHonoured, NamesOpen, LeavesRows}
 use Rattle.pt_law.specs.Ledger.{given, inserted, handle_inserted, standing, slots_taken, slots_given}
 use Rattle.pt_law.specs.Origins.{WasRoot, WasNamed}
 use Rattle.pt_law.specs.Settled.{IsSettled}
@@ -100,6 +100,11 @@ OvertakenAsTold trace = (so_far rest : List TraceStep) (step : TraceStep) → tr
 abbrev pub ShutsOut : List TraceStep → Type 0
 ShutsOut trace = (so_far rest : List TraceStep) (step : TraceStep) → trace ≡ so_far ++ step ∷ rest →
     IsOvertaken step.job (turns_of so_far) → TellsGiven (kept_deed_of step.act) step.reply → ⊥
+
+-- a pin or a slot that is given back is never refused, nor is a closing that is taken
+abbrev pub HonoursEach : List TraceStep → Type 0
+HonoursEach trace = (so_far rest : List TraceStep) (step : TraceStep) → trace ≡ so_far ++ step ∷ rest →
+    IsHonoured (kept_deed_of step.act) step.reply
 
 -- of each job and its answer
 abbrev pub OfEachJob : List Job → List Answer → (ℕ → Job → Answer → Type 0) → Type 0

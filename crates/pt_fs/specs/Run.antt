@@ -9,7 +9,8 @@ use Rattle.pt_req.specs.declared.plan.Plan.{Plan}
 use Rattle.pt_law.specs.Laws.{SlotsAddUp, IsAtRest, AreKept}
 use Rattle.pt_fs.specs.Keeps.{turns_of, AfterEach, AfterEachTold, ReachesEach, LeadsOn, KeepsObjects, KeepsCounts}
 use Rattle.pt_fs.specs.Keeps.{KeepsHandles, ServesEach, InsertsOnce, OvertakenAsTold, ShutsOut, OfEachJob}
-use Rattle.pt_fs.specs.Keeps.{GivesAllBack, IsCausedIn, IsNamedIn, AgreeOnNumbers, ComeFromNames, NamesOpenOnes, LeavesOpen}
+use Rattle.pt_fs.specs.Keeps.{GivesAllBack, IsCausedIn, IsNamedIn, AgreeOnNumbers, ComeFromNames, NamesOpenOnes}
+use Rattle.pt_fs.specs.Keeps.{LeavesOpen, HonoursEach}
 use Rattle.pt_fs.specs.Order.{IsInOrder}
 use Rattle.pt_fs.specs.Trace.{RunsJobs, AnswersEach, IsBounded, room_of}
 use Rattle.pt_fs.specs.declared.job.Job.{Job}
@@ -33,8 +34,9 @@ pub record IsRun {H : Type 0} (does : Does H) (plan : Plan) (jobs : List Job) (s
   -- Each refusal has its cause, in what was asked or at a step of its job. An edit is refused exactly where its step
   -- was.
   pub causes : OfEachJob jobs answers (IsCausedIn trace)
-  -- What a job was given it gave back, but for the number that its answer has.
+  -- What a job was given it gave back, but for the number that its answer has; and giving back is never refused.
   pub gives_back : OfEachJob jobs answers (GivesAllBack trace)
+  pub honoured : HonoursEach trace
   -- After every step the tables agree; and each front of the trace leads to some tables, from which the rest leads
   -- on.
   pub reached : ReachesEach tables trace tables'

@@ -65,6 +65,7 @@ returns g c =
         room = omega (arith, bounds, none, spent);
         causes = kept.causes;
         gives_back = kept.gives_back;
+        honoured = kept.honoured;
         reached = kept.reached;
         agree = kept.agree;
         counts = kept.counts;
