@@ -5,7 +5,8 @@ use Rattle.std.specs.Ordering.{nat_cmp}
 use Rattle.std.specs.Map.{lookup, remove_entry, set_value, values_of}
 use Rattle.std.specs.BTreeMap.{is_at}
 use Rattle.pt_host.specs.Words.{Each, EachTwo, Takes, Takes.{here, there}, Replaces, Replaces.{at, past}}
-use Rattle.pt_session.specs.Store.{IsAmong, IsOlder}
+use Rattle.pt_session.specs.Rows.{IsAmong}
+use Rattle.pt_session.specs.Store.{IsOlder}
 use Rattle.pt_session.specs.Index.{row_at, IsKeyed}
 use Rattle.pt_session.proofs.Lists.{each_taken}
 use Rattle.pt_session.proofs.Orders.{at_same, at_other, at_below}

@@ -7,8 +7,9 @@ use Rattle.std.specs.BTreeMap.{is_at, insert_entry}
 use Rattle.std.proofs.lemmas.Option.{same_Some}
 use Rattle.pt_host.specs.Words.{Each, EachTwo, Takes, Replaces}
 use Rattle.pt_session.specs.Tables.{HandleRow, HasHandle, IsHandle}
-use Rattle.pt_session.specs.Store.{IsAmong, NoneOf, IsOlder, IsLaterHandle, IsPinnedHandle, dead_handle}
-use Rattle.pt_session.specs.LiveAfter.{IsAbove, IsHandleAbove, IsHandleAfter, IsLeastHandle}
+use Rattle.pt_session.specs.Rows.{handle_rows, IsAmong, NoneOf, IsPinned, IsLeast}
+use Rattle.pt_session.specs.Store.{IsOlder, IsLaterHandle}
+use Rattle.pt_session.specs.LiveAfter.{IsAbove, IsLiveAbove, IsHandleAfter}
 use Rattle.pt_session.specs.Index.{row_at, serial_of_handle, is_live_handle, handle_of_row, Puts, SameAt, Leaves}
 use Rattle.pt_session.specs.Index.{IsKeyed, IsSoundHandles, IsNextIn}
 use Rattle.pt_session.proofs.Lists.{each_map, each_reverse, takes_reverse, replaces_reverse, two_takes, two_replaces}
@@ -55,21 +56,21 @@ module _ (entries : List (ℕ × HandleRow)) (handles : ℕ → Option ℕ) (sou
       let same : serial ≡ other.serial = same_Some serial other.serial (sym some ∙ ap handles (sym p.1) ∙ its) in
       same_Some other row (sym (handle_is_there other among) ∙ ap (row_at entries) (sym same) ∙ sym e))
 
-  pub handle_pin_missed : (serial : ℕ) → row_at entries serial ≡ None → NoneOf (IsPinnedHandle serial) seen
+  pub handle_pin_missed : (serial : ℕ) → row_at entries serial ≡ None → NoneOf (IsPinned handle_rows serial) seen
   handle_pin_missed serial none =
-      found_seen (IsPinnedHandle serial) None (values_of entries) seen view
-      (serial_misses serial_of_handle is_live_handle entries sound.keyed sound.ordered serial (IsPinnedHandle serial)
+      found_seen (IsPinned handle_rows serial) None (values_of entries) seen view
+      (serial_misses serial_of_handle is_live_handle entries sound.keyed sound.ordered serial (IsPinned handle_rows serial)
       (λ row p. p.0) none)
 
   pub handle_pin_absent : (serial : ℕ) (row : HandleRow) → row_at entries serial ≡ Some row → row.pins ≡ 0 →
-      NoneOf (IsPinnedHandle serial) seen
+      NoneOf (IsPinned handle_rows serial) seen
   handle_pin_absent serial row some none =
-      found_seen (IsPinnedHandle serial) None (values_of entries) seen view
+      found_seen (IsPinned handle_rows serial) None (values_of entries) seen view
       (serial_finds_other serial_of_handle is_live_handle entries sound.keyed sound.ordered serial row
-      (IsPinnedHandle serial) (λ other p. p.0) (λ p. p.1 none) some)
+      (IsPinned handle_rows serial) (λ other p. p.0) (λ p. p.1 none) some)
 
   pub handle_pin_found : (serial : ℕ) (row : HandleRow) → row_at entries serial ≡ Some row → row.pins ≢ 0 →
-      IsPinnedHandle serial row × IsAmong row seen
+      IsPinned handle_rows serial row × IsAmong row seen
   handle_pin_found serial row some pinned = (
     (serial_at serial_of_handle entries serial row sound.keyed some, pinned),
     among_seen row (values_of entries) seen view (among_at entries serial row some),
@@ -111,7 +112,7 @@ module _ (entries : List (ℕ × HandleRow)) (handles : ℕ → Option ℕ) (sou
       }
 
   pub handles_buried : (row now : HandleRow) (after : List (ℕ × HandleRow)) (handles' : ℕ → Option ℕ) →
-      IsAmong row seen → row.live ≡ true → now ≡ dead_handle row →
+      IsAmong row seen → row.live ≡ true → now ≡ handle_rows.dead row →
       after ≡ set_value (is_at (nat_cmp row.serial)) entries now →
       Puts row.serial (Some now) (row_at entries) (row_at after) → Leaves row.live row.handle handles handles' →
       IsSoundHandles after handles'
@@ -202,9 +203,9 @@ module _ (entries : List (ℕ × HandleRow)) (handles : ℕ → Option ℕ) (sou
   pub handle_next_missed : (above : Option ℕ) (next : Option (ℕ × ℕ)) → next ≡ None → IsNextIn handles above next →
       IsHandleAfter seen above None
   handle_next_missed above next e h =
-      found_seen (IsHandleAbove above) None (values_of entries) seen view
+      found_seen (IsLiveAbove handle_rows above) None (values_of entries) seen view
       (next_misses serial_of_handle is_live_handle entries sound.keyed sound.ordered handle_of_row handles above
-      (IsHandleAbove above) sound.handles (λ row p. p) (subst (λ z. IsNextIn handles above z) e h))
+      (IsLiveAbove handle_rows above) sound.handles (λ row p. p) (subst (λ z. IsNextIn handles above z) e h))
 
   pub handle_next_found : (above : Option ℕ) (next : Option (ℕ × ℕ)) (handle serial : ℕ) (row : HandleRow) →
       next ≡ Some (handle, serial) → row_at entries serial ≡ Some row → IsNextIn handles above next →
@@ -212,7 +213,7 @@ module _ (entries : List (ℕ × HandleRow)) (handles : ℕ → Option ℕ) (sou
   handle_next_found above next handle serial row e there h =
       let here_is : IsNextIn handles above (Some (handle, serial)) = subst (λ z. IsNextIn handles above z) e h in
       let found = next_is serial_of_handle is_live_handle entries sound.keyed sound.ordered handle_of_row handles above handle serial row sound.handles there here_is in
-      let least = next_least serial_of_handle is_live_handle entries sound.keyed sound.ordered handle_of_row handles above handle serial (IsHandleAbove above) sound.handles (λ other p. p) here_is in (
+      let least = next_least serial_of_handle is_live_handle entries sound.keyed sound.ordered handle_of_row handles above handle serial (IsLiveAbove handle_rows above) sound.handles (λ other p. p) here_is in (
         (
           row,
           among_seen row (values_of entries) seen view (among_at entries serial row there),
@@ -220,8 +221,8 @@ module _ (entries : List (ℕ × HandleRow)) (handles : ℕ → Option ℕ) (sou
           found.1,
           refl,
         ),
-        subst (λ z. Each (λ other. IsHandleAbove above other →
-            handle ≤ other.handle) z) view (each_reverse (λ other. IsHandleAbove above other →
+        subst (λ z. Each (λ other. IsLiveAbove handle_rows above other →
+            handle ≤ other.handle) z) view (each_reverse (λ other. IsLiveAbove handle_rows above other →
             handle ≤ other.handle) (values_of entries) least),
       )
 
@@ -241,7 +242,7 @@ module _ (entries : List (ℕ × HandleRow)) (handles : ℕ → Option ℕ) (sou
 
   pub handle_least_found : (next : Option (ℕ × ℕ)) (handle serial : ℕ) (row : HandleRow) →
       next ≡ Some (handle, serial) → row_at entries serial ≡ Some row → IsNextIn handles None next →
-      IsLeastHandle seen row
+      IsLeast handle_rows seen row
   handle_least_found next handle serial row e there h =
       let here_is : IsNextIn handles None (Some (handle, serial)) = subst (λ z. IsNextIn handles None z) e h in
       let found = next_is serial_of_handle is_live_handle entries sound.keyed sound.ordered handle_of_row handles None handle serial row sound.handles there here_is in
@@ -259,7 +260,7 @@ module _ (entries : List (ℕ × HandleRow)) (handles : ℕ → Option ℕ) (sou
   -- where a handle has a row, that is the least
   pub handle_least_finds : (next : Option (ℕ × ℕ)) (handle serial : ℕ) (found : Option HandleRow) →
       next ≡ Some (handle, serial) → found ≡ row_at entries serial → IsNextIn handles None next →
-      MatchOption found (NoneOf (λ row. row.live ≡ true) seen) (λ row. IsLeastHandle seen row)
+      MatchOption found (NoneOf (λ row. row.live ≡ true) seen) (λ row. IsLeast handle_rows seen row)
   handle_least_finds next handle serial None e f h = absurd (handle_next_leads None next handle serial e (sym f) h)
   handle_least_finds next handle serial (Some row) e f h = handle_least_found next handle serial row e (sym f) h
 

@@ -5,9 +5,11 @@ pub mod Entries
 pub mod Seen
 pub mod Stores
 pub mod HandleStores
+pub mod KeptRows
 pub mod Dying
 pub mod Slots
 pub mod Forgetting
+pub mod Cases
 pub mod Effects
 pub mod Replies
 pub mod Alone

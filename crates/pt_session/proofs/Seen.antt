@@ -9,7 +9,8 @@ use Rattle.std.specs.declared.cmp.Ordering.TheVariants.{Greater}
 use Rattle.std.proofs.lemmas.List.{reverse-reverse, reverse-append}
 use Rattle.std.proofs.lemmas.Option.{same_Some}
 use Rattle.pt_host.specs.Words.{Each, EachTwo, Takes}
-use Rattle.pt_session.specs.Store.{IsAmong, NoneOf, IsOlder}
+use Rattle.pt_session.specs.Rows.{IsAmong, NoneOf}
+use Rattle.pt_session.specs.Store.{IsOlder}
 use Rattle.pt_session.specs.LiveAfter.{IsAbove}
 use Rattle.pt_session.specs.Index.{row_at, IsKeyed, Indexes, IsNextIn}
 use Rattle.pt_session.proofs.Lists.{each_taken, each_reverse, takes_reverse}

@@ -10,8 +10,9 @@ use Rattle.std.proofs.lemmas.Option.{same_Some}
 use Rattle.pt_host.specs.Words.{Each, EachTwo, Takes, Replaces}
 use Rattle.pt_host.specs.declared.ids.ObjIds.{ObjIds}
 use Rattle.pt_session.specs.Tables.{Row, HandleRow, Closing, HasNumber, HasIds}
-use Rattle.pt_session.specs.Store.{IsAmong, NoneOf, IsOlder, IsLater, IsPinned, dead_row}
-use Rattle.pt_session.specs.LiveAfter.{IsAbove, IsLiveAbove, IsLiveAfter, IsLeast}
+use Rattle.pt_session.specs.Rows.{number_rows, IsAmong, NoneOf, IsPinned, IsLeast}
+use Rattle.pt_session.specs.Store.{IsOlder, IsLater}
+use Rattle.pt_session.specs.LiveAfter.{IsAbove, IsLiveAbove, IsLiveAfter}
 use Rattle.pt_session.specs.Index.{ObjectKey, key_of, row_at, serial_of_row, is_live_row, number_of_row}
 use Rattle.pt_session.specs.Index.{object_of_row, Puts, SameAt, Leaves, IsKeyed, IsSoundStore, IsNextIn}
 use Rattle.pt_session.proofs.Lists.{length_replaces, each_reverse, takes_reverse, replaces_reverse, two_takes}
@@ -63,21 +64,21 @@ module _ (entries : List (ℕ × Row)) (numbers : ℕ → Option ℕ) (objects :
       (index_finds serial_of_row is_live_row entries sound.keyed sound.ordered object_of_row objects (key_of ids)
       (HasIds ids) serial sound.objects (λ row l k. (l, ids_of_key row.ids ids k)) some))
 
-  pub pin_missed : (serial : ℕ) → row_at entries serial ≡ None → NoneOf (IsPinned serial) seen
+  pub pin_missed : (serial : ℕ) → row_at entries serial ≡ None → NoneOf (IsPinned number_rows serial) seen
   pin_missed serial none =
-      found_seen (IsPinned serial) None (values_of entries) seen view
-      (serial_misses serial_of_row is_live_row entries sound.keyed sound.ordered serial (IsPinned serial) (λ row p.
+      found_seen (IsPinned number_rows serial) None (values_of entries) seen view
+      (serial_misses serial_of_row is_live_row entries sound.keyed sound.ordered serial (IsPinned number_rows serial) (λ row p.
       p.0) none)
 
   pub pin_absent : (serial : ℕ) (row : Row) → row_at entries serial ≡ Some row → row.pins ≡ 0 →
-      NoneOf (IsPinned serial) seen
+      NoneOf (IsPinned number_rows serial) seen
   pin_absent serial row some none =
-      found_seen (IsPinned serial) None (values_of entries) seen view
-      (serial_finds_other serial_of_row is_live_row entries sound.keyed sound.ordered serial row (IsPinned serial)
+      found_seen (IsPinned number_rows serial) None (values_of entries) seen view
+      (serial_finds_other serial_of_row is_live_row entries sound.keyed sound.ordered serial row (IsPinned number_rows serial)
       (λ other p. p.0) (λ p. p.1 none) some)
 
   pub pin_found : (serial : ℕ) (row : Row) → row_at entries serial ≡ Some row → row.pins ≢ 0 →
-      IsPinned serial row × IsAmong row seen
+      IsPinned number_rows serial row × IsAmong row seen
   pin_found serial row some pinned = (
     (serial_at serial_of_row entries serial row sound.keyed some, pinned),
     among_seen row (values_of entries) seen view (among_at entries serial row some),
@@ -130,7 +131,7 @@ module _ (entries : List (ℕ × Row)) (numbers : ℕ → Option ℕ) (objects :
       }
 
   pub sound_buried : (row now : Row) (after : List (ℕ × Row)) (numbers' : ℕ → Option ℕ) (objects' : ObjectKey →
-      Option ℕ) → IsAmong row seen → row.live ≡ true → now ≡ dead_row row →
+      Option ℕ) → IsAmong row seen → row.live ≡ true → now ≡ number_rows.dead row →
       after ≡ set_value (is_at (nat_cmp row.serial)) entries now →
       Puts row.serial (Some now) (row_at entries) (row_at after) → Leaves row.live row.number numbers numbers' →
       Leaves row.live (key_of row.ids) objects objects' → IsSoundStore after numbers' objects' others capacity
@@ -250,9 +251,9 @@ module _ (entries : List (ℕ × Row)) (numbers : ℕ → Option ℕ) (objects :
   pub next_missed : (above : Option ℕ) (next : Option (ℕ × ℕ)) → next ≡ None → IsNextIn numbers above next →
       IsLiveAfter seen above None
   next_missed above next e h =
-      found_seen (IsLiveAbove above) None (values_of entries) seen view
+      found_seen (IsLiveAbove number_rows above) None (values_of entries) seen view
       (next_misses serial_of_row is_live_row entries sound.keyed sound.ordered number_of_row numbers above
-      (IsLiveAbove above) sound.numbers (λ row p. p) (subst (λ z. IsNextIn numbers above z) e h))
+      (IsLiveAbove number_rows above) sound.numbers (λ row p. p) (subst (λ z. IsNextIn numbers above z) e h))
 
   pub next_found : (above : Option ℕ) (next : Option (ℕ × ℕ)) (number serial : ℕ) (row : Row) →
       next ≡ Some (number, serial) → row_at entries serial ≡ Some row → IsNextIn numbers above next →
@@ -260,7 +261,7 @@ module _ (entries : List (ℕ × Row)) (numbers : ℕ → Option ℕ) (objects :
   next_found above next number serial row e there h =
       let here_is : IsNextIn numbers above (Some (number, serial)) = subst (λ z. IsNextIn numbers above z) e h in
       let found = next_is serial_of_row is_live_row entries sound.keyed sound.ordered number_of_row numbers above number serial row sound.numbers there here_is in
-      let least = next_least serial_of_row is_live_row entries sound.keyed sound.ordered number_of_row numbers above number serial (IsLiveAbove above) sound.numbers (λ other p. p) here_is in (
+      let least = next_least serial_of_row is_live_row entries sound.keyed sound.ordered number_of_row numbers above number serial (IsLiveAbove number_rows above) sound.numbers (λ other p. p) here_is in (
         (
           row,
           among_seen row (values_of entries) seen view (among_at entries serial row there),
@@ -268,8 +269,8 @@ module _ (entries : List (ℕ × Row)) (numbers : ℕ → Option ℕ) (objects :
           found.1,
           refl,
         ),
-        subst (λ z. Each (λ other. IsLiveAbove above other →
-            number ≤ other.number) z) view (each_reverse (λ other. IsLiveAbove above other →
+        subst (λ z. Each (λ other. IsLiveAbove number_rows above other →
+            number ≤ other.number) z) view (each_reverse (λ other. IsLiveAbove number_rows above other →
             number ≤ other.number) (values_of entries) least),
       )
 
@@ -288,7 +289,7 @@ module _ (entries : List (ℕ × Row)) (numbers : ℕ → Option ℕ) (objects :
       row.live ≡ true) sound.numbers (λ row p. (p, tt)) (subst (λ z. IsNextIn numbers None z) e h))
 
   pub least_found : (next : Option (ℕ × ℕ)) (number serial : ℕ) (row : Row) → next ≡ Some (number, serial) →
-      row_at entries serial ≡ Some row → IsNextIn numbers None next → IsLeast seen row
+      row_at entries serial ≡ Some row → IsNextIn numbers None next → IsLeast number_rows seen row
   least_found next number serial row e there h =
       let here_is : IsNextIn numbers None (Some (number, serial)) = subst (λ z. IsNextIn numbers None z) e h in
       let found = next_is serial_of_row is_live_row entries sound.keyed sound.ordered number_of_row numbers None number serial row sound.numbers there here_is in
@@ -306,7 +307,7 @@ module _ (entries : List (ℕ × Row)) (numbers : ℕ → Option ℕ) (objects :
   -- where a number has a row, that is the least
   pub least_finds : (next : Option (ℕ × ℕ)) (number serial : ℕ) (found : Option Row) → next ≡ Some (number, serial) →
       found ≡ row_at entries serial → IsNextIn numbers None next →
-      MatchOption found (NoneOf (λ row. row.live ≡ true) seen) (λ row. IsLeast seen row)
+      MatchOption found (NoneOf (λ row. row.live ≡ true) seen) (λ row. IsLeast number_rows seen row)
   least_finds next number serial None e f h = absurd (next_leads None next number serial e (sym f) h)
   least_finds next number serial (Some row) e f h = least_found next number serial row e (sym f) h
 

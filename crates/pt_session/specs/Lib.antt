@@ -1,6 +1,8 @@
 -- Inner. The files of definitions, lowest first.
 pub mod Change
 pub mod Tables
+pub mod Rows
+pub mod Outcome
 pub mod Store
 pub mod LiveAfter
 pub mod Index

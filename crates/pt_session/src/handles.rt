@@ -5,9 +5,10 @@ ghost use Rattle.std.specs.Map.{set_value};
 ghost use Rattle.std.specs.BTreeMap.{is_at};
 ghost use Rattle.pt_host.specs.Words.{Each, Takes, Replaces};
 ghost use Rattle.pt_session.specs.Tables.{HasHandle, IsHandle};
-ghost use Rattle.pt_session.specs.Store.{IsAmong, NoneOf, IsPinnedHandle, IsLaterHandle, dead_handle};
+ghost use Rattle.pt_session.specs.Store.{IsLaterHandle};
+ghost use Rattle.pt_session.specs.Rows.{handle_rows, IsAmong, NoneOf, IsPinned, IsLeast};
 ghost use Rattle.pt_session.specs.Index.{row_at, by_number, Puts, SameAt, Leaves};
-ghost use Rattle.pt_session.specs.LiveAfter.{IsHandleAfter, IsLeastHandle};
+ghost use Rattle.pt_session.specs.LiveAfter.{IsHandleAfter};
 
 use crate::index::{Numbers, next_number};
 use crate::row::HandleRow;
@@ -128,7 +129,7 @@ impl HandleStore {
 
     /// The row of this serial, if it has a pin.
     pub fn pinned(&self, serial: u64) -> Option<HandleRow>
-        ensures { MatchOption result (NoneOf (IsPinnedHandle serial) self.now) (λ row. IsPinnedHandle serial row
+        ensures { MatchOption result (NoneOf (IsPinned handle_rows serial) self.now) (λ row. IsPinned handle_rows serial row
             × IsAmong row self.now) }
     {
         match handle_row_at(&self.rows, serial) {
@@ -156,7 +157,7 @@ impl HandleStore {
     pub fn bury(&mut self, row: &HandleRow)
         requires among { IsAmong row.now self.old }
         requires live { row.now.live ≡ true }
-        ensures { Replaces row.now (dead_handle row.now) self.old self.new }
+        ensures { Replaces row.now (handle_rows.dead row.now) self.old self.new }
     {
         put_handle(&mut self.rows, row.serial, row.dead());
         leave_handle(&mut self.handles, row);
@@ -204,7 +205,7 @@ impl HandleStore {
 
     /// The live row of the least handle.
     pub fn least(&self) -> Option<HandleRow>
-        ensures { MatchOption result (NoneOf (λ row. row.live ≡ true) self.now) (λ row. IsLeastHandle self.now row) }
+        ensures { MatchOption result (NoneOf (λ row. row.live ≡ true) self.now) (λ row. IsLeast handle_rows self.now row) }
     {
         match next_number(&self.handles, None) {
             None => None,

@@ -6,11 +6,11 @@ ghost use Rattle.std.specs.BTreeMap.{is_at};
 ghost use Rattle.std.specs.VecDeque.{deque_capacity};
 ghost use Rattle.pt_host.specs.Words.{Each, Takes, Replaces};
 ghost use Rattle.pt_session.specs.Tables.{closing_of, closing_of_handle, HasNumber, HasIds, HasHandle, IsHandle};
-ghost use Rattle.pt_session.specs.Store.{IsAmong, NoneOf, IsPinned, IsPinnedHandle, IsLater, IsLaterHandle, dead_row};
-ghost use Rattle.pt_session.specs.Store.{dead_handle};
+ghost use Rattle.pt_session.specs.Store.{IsLater, IsLaterHandle};
+ghost use Rattle.pt_session.specs.Rows.{number_rows, handle_rows, IsAmong, NoneOf, IsPinned, IsLeast};
 ghost use Rattle.pt_session.specs.Index.{row_at, Puts};
 ghost use Rattle.pt_session.specs.Pending.{row_slots, closing_slots};
-ghost use Rattle.pt_session.specs.LiveAfter.{IsLiveAfter, IsHandleAfter, IsLeast, IsLeastHandle};
+ghost use Rattle.pt_session.specs.LiveAfter.{IsLiveAfter, IsHandleAfter};
 
 use crate::handles::HandleStore;
 use crate::index::{Numbers, Objects, enter, leave, next_number, object_key};
@@ -131,7 +131,7 @@ impl RowStore {
 
     /// The row of this serial, if it has a pin.
     pub fn pinned(&self, serial: u64) -> Option<Row>
-        ensures { MatchOption result (NoneOf (IsPinned serial) self.now.rows) (λ row. IsPinned serial row
+        ensures { MatchOption result (NoneOf (IsPinned number_rows serial) self.now.rows) (λ row. IsPinned number_rows serial row
             × IsAmong row self.now.rows) }
     {
         match row_of(&self.rows, serial) {
@@ -161,7 +161,7 @@ impl RowStore {
     pub fn bury(&mut self, row: &Row)
         requires among { IsAmong row.now self.old.rows }
         requires live { row.now.live ≡ true }
-        ensures rows { Replaces row.now (dead_row row.now) self.old.rows self.new.rows }
+        ensures rows { Replaces row.now (number_rows.dead row.now) self.old.rows self.new.rows }
         ensures handles { self.new.handles ≡ self.old.handles }
         ensures closing { self.new.closing ≡ self.old.closing }
     {
@@ -228,7 +228,7 @@ impl RowStore {
     /// The live row of the least number.
     pub fn least(&self) -> Option<Row>
         ensures least { MatchOption result (NoneOf (λ row. row.live ≡ true) self.now.rows) (λ row.
-            IsLeast self.now.rows row) }
+            IsLeast number_rows self.now.rows row) }
         ensures few { length self.now.rows + length self.now.closing ≤ usize.MAX }
     {
         match next_number(&self.numbers, None) {
@@ -255,8 +255,8 @@ impl RowStore {
 
     /// The handle's row of this serial, if it has a pin.
     pub fn pinned_handle(&self, serial: u64) -> Option<HandleRow>
-        ensures { MatchOption result (NoneOf (IsPinnedHandle serial) self.now.handles) (λ row.
-            IsPinnedHandle serial row × IsAmong row self.now.handles) }
+        ensures { MatchOption result (NoneOf (IsPinned handle_rows serial) self.now.handles) (λ row.
+            IsPinned handle_rows serial row × IsAmong row self.now.handles) }
     {
         self.handles.pinned(serial)
     }
@@ -277,7 +277,7 @@ impl RowStore {
     pub fn bury_handle(&mut self, row: &HandleRow)
         requires among { IsAmong row.now self.old.handles }
         requires live { row.now.live ≡ true }
-        ensures handles { Replaces row.now (dead_handle row.now) self.old.handles self.new.handles }
+        ensures handles { Replaces row.now (handle_rows.dead row.now) self.old.handles self.new.handles }
         ensures rows { self.new.rows ≡ self.old.rows }
         ensures closing { self.new.closing ≡ self.old.closing }
     {
@@ -319,7 +319,7 @@ impl RowStore {
     /// The live row of the least handle.
     pub fn least_handle(&self) -> Option<HandleRow>
         ensures least { MatchOption result (NoneOf (λ row. row.live ≡ true) self.now.handles) (λ row.
-            IsLeastHandle self.now.handles row) }
+            IsLeast handle_rows self.now.handles row) }
         ensures few { length self.now.handles + length self.now.closing ≤ usize.MAX }
     {
         self.handles.least()
