@@ -12,7 +12,7 @@ use Rattle.pt_host.specs.declared.op.KeptHostOp.TheVariants as call
 use Rattle.pt_host.specs.declared.reply.HostReply.TheVariants as host
 use Rattle.pt_host.specs.declared.reply.HostValue.TheVariants as value
 use Rattle.pt_session.specs.Tables.{Tables, Agree, IsSoundRow}
-use Rattle.pt_session.specs.Happens.{GivesAgain}
+use Rattle.pt_session.proofs.Cases.{GivenAgain, Case, cases}
 use Rattle.pt_session.specs.declared.form.RowForm.{RowForm}
 use Rattle.pt_session.specs.declared.form.RowForm.TheVariants.{File}
 use Rattle.pt_session.specs.declared.event.KeptEvent.TheVariants as change
@@ -139,7 +139,7 @@ StandsFor w next j number ids =
 -- a row with the ids that the job was told stands for what it opened
 again : (w : World) (j : ℕ) (job : Job) (fd : Fd) (ids : ObjIds) (number : ℕ) (t' : Tables) → IsWellFormed w.tree →
     Knowing w.tree w.tables.next_row w.past j job → Each (RowOpen w.tree w.past) w.tables.rows →
-    job.notes.latest ≡ Some fd → IsTold job.holds fd ids → GivesAgain w.tables ids number t' →
+    job.notes.latest ≡ Some fd → IsTold job.holds fd ids → GivenAgain w.tables ids number t' →
     StandsFor w w j number ids
 again w j job fd ids number t' well k rows l t g =
     let a = told_noted w.tree fd ids (w.past.latest j) job.holds k.told t (k.latest fd l) in
@@ -168,20 +168,20 @@ gives_latest bound base had w js s next after number ids lt v g m b = go s.step.
         StandsFor w next s.job number ids
     go (Some (Changes (change.Claim era handle asked))) (Event (event.Claimed given)) m b g =
         let fit = m.1 in
-        let h = g.made.0 in
+        let h = cases w.tables next.tables (change.Claim era handle asked) (event.Claimed given) g.made.0 in
         moved_on w next s.job number ids g.made.1 g.past
         (again w s.job (js s.job) fit.0 ids number next.tables v.well k v.right.shown fit.2
         (subst (IsTold (js s.job).holds fit.0) b.1 fit.3)
-        (subst (λ i. GivesAgain w.tables i number next.tables) b.1
-        (subst (λ n. GivesAgain w.tables asked n next.tables) b.0 h.1)))
+        (subst (λ i. GivenAgain w.tables i number next.tables) b.1
+        (subst (λ n. GivenAgain w.tables asked n next.tables) b.0 h.1)))
     go (Some (Changes (change.Insert era drawn form asked mode))) (Event (event.Found given)) m b g =
         let fit = m.1 in
-        let h = g.made.0 in
+        let h = cases w.tables next.tables (change.Insert era drawn form asked mode) (event.Found given) g.made.0 in
         moved_on w next s.job number ids g.made.1 g.past
         (again w s.job (js s.job) (fd_of form) ids number next.tables v.well k v.right.shown fit.1
         (subst (IsTold (js s.job).holds (fd_of form)) b.1 fit.3)
-        (subst (λ i. GivesAgain w.tables i number next.tables) b.1
-        (subst (λ n. GivesAgain w.tables asked n next.tables) b.0 h.1)))
+        (subst (λ i. GivenAgain w.tables i number next.tables) b.1
+        (subst (λ n. GivenAgain w.tables asked n next.tables) b.0 h.1)))
     go (Some (Changes (change.Insert era drawn form asked mode))) (Event (event.Inserted given)) m b g =
         let fit = m.1 in
         let a = told_noted w.tree (fd_of form) asked (w.past.latest s.job) (js s.job).holds k.told fit.3

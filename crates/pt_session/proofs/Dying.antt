@@ -4,11 +4,12 @@ use Rattle.std.proofs.Common.{length-append, refl, sym, ap, subst, ◌∙◌, ad
 use Rattle.pt_host.specs.Words.{Takes, Takes.{here, there}, Replaces, Replaces.{at, past}}
 use Rattle.pt_session.specs.Tables.{Row, HandleRow, Closing, Tables}
 use Rattle.pt_session.specs.Rows.{Kind, number_rows, handle_rows, NoneOf, NoRow, NoHandle, ChangesRow, EndsRow, Dies}
-use Rattle.pt_session.specs.Rows.{Unpins, IsLeast, AllDie, AllDie.{none, next}}
+use Rattle.pt_session.specs.Rows.{IsLeast, AllDie, AllDie.{none, next}}
 use Rattle.pt_session.specs.Happens.{Clears}
 use Rattle.pt_session.specs.Pending.{pending_in}
 use Rattle.pt_session.specs.Laws.{IsCleared}
 use Rattle.pt_session.proofs.Lists.{length_takes, length_replaces}
+use Rattle.pt_session.proofs.Cases.{GivesPin}
 use Rattle.pt_session.proofs.KeptRows.{IsKept, numbers_kept, handles_kept}
 
 abbrev one_where : Bool → ℕ
@@ -64,11 +65,12 @@ module _ {R : Type 0} (kind : Kind R) (kept : IsKept kind) where
   dies_pending tables after row closings (inr h) = let n = changes_pending tables after row _ h.2 in
       omega (arith, n, h.1)
 
-  pub unpins_pending : (tables after : Tables) (row : R) (closings : ℕ) → Unpins kind tables row closings after →
+  pub unpins_pending : (tables after : Tables) (serial closings : ℕ) → GivesPin kind tables serial closings after →
       pending_in after + closings ≤ pending_in tables
-  unpins_pending tables after row closings (inl h) = let n = ends_pending tables after row h.3 in omega (arith, n, h.2)
-  unpins_pending tables after row closings (inr h) = let n = changes_pending tables after row _ h.2 in
-      omega (arith, n, h.1)
+  unpins_pending tables after serial closings (row, pins, s, p, inl h) = let n = ends_pending tables after row h.3 in
+      omega (arith, n, h.2)
+  unpins_pending tables after serial closings (row, pins, s, p, inr h) =
+      let n = changes_pending tables after row _ h.2 in omega (arith, n, h.1)
 
   pub dies_closing : (tables after : Tables) (row : R) (closings : ℕ) → Dies kind tables row closings after →
       length after.closing ≡ length tables.closing + closings

@@ -17,7 +17,7 @@ use Rattle.pt_session.specs.Happens.{Happens, Falls, ForgetsOne, ForgetsAll, Cle
 use Rattle.pt_session.specs.Effect.{IsFree, IsNewRow, IsNewHandle, Effect}
 use Rattle.pt_session.specs.Effect.{Effect.{nothing, counted, changed, ended, added, drawn, handle_changed, handle_ended, handle_added, begun, shut}}
 use Rattle.pt_session.specs.Effect.{Effects, Effects.{none, more}}
-use Rattle.pt_session.proofs.Cases.{Case, GivenAgain, cases}
+use Rattle.pt_session.proofs.Cases.{Case, GivenAgain, GivesPin, cases}
 use Rattle.pt_session.proofs.Dying.{clears_era}
 use Rattle.pt_session.proofs.Lists.{each_replaces, each_takes, each_map, each_both, two_takes, two_replaces}
 
@@ -64,11 +64,11 @@ module _ {R : Type 0} (kind : Kind R) (makes : Makes kind) where
   dies tables after row closings (inl h) = makes.ends tables after row h.2
   dies tables after row closings (inr h) = makes.buries tables after row h.0 h.2
 
-  pub unpins : (tables after : Tables) (row : R) (closings : ℕ) → kind.pins row ≢ 0 →
-      Unpins kind tables row closings after → Effect tables after
-  unpins tables after row closings some (inl h) = makes.ends tables after row h.3
-  unpins tables after row closings some (inr h) =
-      makes.repins tables after row _ (λ d m. ⊎_elim (λ l. absurd (cc)) (λ p. omega (arith, p, m)) h.0) h.2
+  pub unpins : (tables after : Tables) (serial closings : ℕ) → GivesPin kind tables serial closings after →
+      Effect tables after
+  unpins tables after serial closings (row, pins, s, p, inl h) = makes.ends tables after row h.3
+  unpins tables after serial closings (row, pins, s, p, inr h) =
+      makes.repins tables after row pins (λ d m. ⊎_elim (λ l. absurd (cc)) (λ q. omega (arith, q)) h.0) h.2
 
   pub all_die : (tables after : Tables) (closings : ℕ) → AllDie kind tables closings after → Effects tables after
   all_die tables after closings (none_live h) = none
@@ -94,7 +94,7 @@ forgets_all tables after (pair ∷ list) closings h =
 
 again : (tables after : Tables) (ids : ObjIds) (number : ℕ) → GivenAgain tables ids number after → Effect tables after
 again tables after ids number h =
-    recounted tables after h.0 (h.0.count + 1) h.0.pins (λ l m. omega arith) (λ d m. m) h.5
+    recounted tables after h.0 (h.0.count + 1) h.0.pins (λ l m. omega arith) (λ d m. m) h.4
 
 adds : (tables after : Tables) (number : ℕ) (form : RowForm) (ids : ObjIds) (mode count : ℕ)
     (negotiated : Option Negotiated) → 1 ≤ count → IsFree tables number ids →
@@ -119,48 +119,48 @@ clears tables after closings h =
     both (all_die number_rows numbers_make tables h.0 h.2 h.4)
     (both (all_die handle_rows handles_make h.0 h.1 h.3 h.5) (one (begun (tables.era + 1) _ (omega (arith, same)) h.7)))
 
-by_case : (tables after : Tables) (asked : Change) (told : EventReply) → Case tables asked told after →
+pub case_effects : (tables after : Tables) (asked : Change) (told : EventReply) → Case tables asked told after →
     Effects tables after
-by_case tables after asked (reply.Refused refusal) h = one (nothing h.1)
-by_case tables after change.Begin (reply.Began era negotiated) h = one (nothing h.2)
-by_case tables after (change.Resolve number) (reply.Resolved serial form ids mode) h =
+case_effects tables after asked (reply.Refused refusal) h = one (nothing h.1)
+case_effects tables after change.Begin (reply.Began era negotiated) h = one (nothing h.2)
+case_effects tables after (change.Resolve number) (reply.Resolved serial form ids mode) h =
     one (numbers_make.repins tables after h.0 (h.0.pins + 1) (λ d m. omega arith) h.7)
-by_case tables after (change.Unpin serial) (reply.Done closings) h =
-    one (unpins number_rows numbers_make tables after h.0 closings h.2.1 h.3)
-by_case tables after (change.Claim era handle ids) (reply.Claimed number) h = one (again tables after ids number h.1)
-by_case tables after (change.Claim era handle ids) reply.Absent h = one (nothing h.2)
-by_case tables after change.TakeFd reply.Taken h =
-    one (counted (tables.slots - 1) tables.next_number (λ l. omega arith) (omega arith) h.1)
-by_case tables after change.GiveFd reply.Given h =
+case_effects tables after (change.Unpin serial) (reply.Done closings) h =
+    one (unpins number_rows numbers_make tables after serial closings h)
+case_effects tables after (change.Claim era handle ids) (reply.Claimed number) h = one (again tables after ids number h.1)
+case_effects tables after (change.Claim era handle ids) reply.Absent h = one (nothing h.2)
+case_effects tables after change.TakeFd reply.Taken h =
+    one (counted h.0 tables.next_number (λ l. omega (arith, h.1)) (omega arith) h.2)
+case_effects tables after change.GiveFd reply.Given h =
     one (counted (tables.slots + 1) tables.next_number (λ l. omega (arith, h.0)) (omega arith) h.1)
-by_case tables after change.DrawNode (reply.Drawn number) h =
-    one (counted tables.slots (tables.next_number + 1) (λ l. l) (omega arith) h.1)
-by_case tables after (change.Insert era number form ids mode) (reply.Inserted given) h =
-    one (adds tables after number form ids mode 1 None (omega arith) h.1 h.3)
-by_case tables after (change.Insert era number form ids mode) (reply.Found given) h =
+case_effects tables after change.DrawNode (reply.Drawn number) h =
+    one (counted tables.slots (tables.next_number + 1) (λ l. l) (omega arith) h.2)
+case_effects tables after (change.Insert era number form ids mode) (reply.Inserted given) h =
+    one (adds tables after number form ids mode 1 None (omega arith) h.1 h.4)
+case_effects tables after (change.Insert era number form ids mode) (reply.Found given) h =
     one (again tables after ids given h.1)
-by_case tables after (change.InsertRoot era form ids mode negotiated) (reply.Inserted given) h =
-    one (adds tables after 1 form ids mode 2 negotiated (omega arith) h.1 h.3)
-by_case tables after (change.Forget list) (reply.Done closings) h = forgets_all tables after list closings h
-by_case tables after (change.GiveBack era number) (reply.Done closings) h =
-    one (falls tables after h.1.0 1 closings h.1.3)
-by_case tables after change.DrawHandle (reply.Drawn handle) h = one (drawn (tables.next_handle + 1) (omega arith) h.1)
-by_case tables after (change.InsertHandle era handle number fd) (reply.Inserted given) h =
+case_effects tables after (change.InsertRoot era form ids mode negotiated) (reply.Inserted given) h =
+    one (adds tables after 1 form ids mode 2 negotiated (omega arith) h.1 h.4)
+case_effects tables after (change.Forget list) (reply.Done closings) h = forgets_all tables after list closings h
+case_effects tables after (change.GiveBack era number) (reply.Done closings) h =
+    one (forgets_one tables after number 1 closings h.2)
+case_effects tables after change.DrawHandle (reply.Drawn handle) h = one (drawn (tables.next_handle + 1) (omega arith) h.2)
+case_effects tables after (change.InsertHandle era handle number fd) (reply.Inserted given) h =
     one (handle_added (new_handle tables handle number fd)
-    (record { serial = refl; live = refl; pins = refl; free = h.1 }) h.3)
-by_case tables after (change.PinHandle handle number) (reply.Pinned serial fd) h =
+    (record { serial = refl; live = refl; pins = refl; free = h.1 }) h.4)
+case_effects tables after (change.PinHandle handle number) (reply.Pinned serial fd) h =
     one (handles_make.repins tables after h.0 (h.0.pins + 1) (λ d m. omega arith) h.5)
-by_case tables after (change.UnpinHandle serial) (reply.Done closings) h =
-    one (unpins handle_rows handles_make tables after h.0 closings h.2.1 h.3)
-by_case tables after (change.Release handle number) (reply.Done closings) h =
-    one (dies handle_rows handles_make tables after h.0 closings h.3)
-by_case tables after change.Clear (reply.Cleared era closings) h = clears tables after closings h.2
-by_case tables after change.TakeClosing (reply.Closing fd slot) h = one (shut _ h.0 h.1 h.2)
-by_case tables after _ _ h = absurd h
+case_effects tables after (change.UnpinHandle serial) (reply.Done closings) h =
+    one (unpins handle_rows handles_make tables after serial closings h)
+case_effects tables after (change.Release handle number) (reply.Done closings) h =
+    one (dies handle_rows handles_make tables after h.0 closings h.2)
+case_effects tables after change.Clear (reply.Cleared era closings) h = clears tables after closings h.1
+case_effects tables after change.TakeClosing (reply.Closing fd slot) h = one (shut _ h.0 h.1 h.2)
+case_effects tables after _ _ h = absurd h
 
 pub effects : (tables after : Tables) (asked : Change) (told : EventReply) → Happens tables asked told after →
     Effects tables after
-effects tables after asked told h = by_case tables after asked told (cases tables after asked told h)
+effects tables after asked told h = case_effects tables after asked told (cases tables after asked told h)
 
 -- what each kind of step keeps, some steps keep
 pub effects_keep : (P : Tables → Type 0) → ((tables after : Tables) → Effect tables after → P tables → P after) →

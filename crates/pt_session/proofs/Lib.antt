@@ -4,12 +4,13 @@ pub mod Indexing
 pub mod Entries
 pub mod Seen
 pub mod Stores
-pub mod HandleStores
+pub mod Finding
+pub mod Storing
+pub mod Cases
 pub mod KeptRows
 pub mod Dying
 pub mod Slots
 pub mod Forgetting
-pub mod Cases
 pub mod Effects
 pub mod Replies
 pub mod Alone

@@ -100,35 +100,35 @@ by_case tables after change.Begin (reply.Began era negotiated) h = even tables a
 by_case tables after (change.Resolve number) (reply.Resolved serial form ids mode) h =
     even tables after (changes_pending number_rows numbers_kept tables after h.0 _ h.7)
 by_case tables after (change.Unpin serial) (reply.Done closings) h =
-    paid tables after closings (unpins_pending number_rows numbers_kept tables after h.0 closings h.3)
+    paid tables after closings (unpins_pending number_rows numbers_kept tables after serial closings h)
 by_case tables after (change.Claim era handle ids) (reply.Claimed number) h =
-    even tables after (changes_pending number_rows numbers_kept tables after h.1.0 _ h.1.5)
+    even tables after (changes_pending number_rows numbers_kept tables after h.1.0 _ h.1.4)
 by_case tables after (change.Claim era handle ids) reply.Absent h = even tables after (ap pending_in h.2)
-by_case tables after change.TakeFd reply.Taken h = even tables after (ap pending_in h.1)
+by_case tables after change.TakeFd reply.Taken h = even tables after (ap pending_in h.2)
 by_case tables after change.GiveFd reply.Given h = even tables after (ap pending_in h.1)
-by_case tables after change.DrawNode (reply.Drawn number) h = even tables after (ap pending_in h.1)
+by_case tables after change.DrawNode (reply.Drawn number) h = even tables after (ap pending_in h.2)
 by_case tables after (change.Insert era number form ids mode) (reply.Inserted given) h =
-    grown tables after (agreed_pending tables after _ None h.3)
+    grown tables after (agreed_pending tables after _ None h.4)
 by_case tables after (change.Insert era number form ids mode) (reply.Found given) h =
-    even tables after (changes_pending number_rows numbers_kept tables after h.1.0 _ h.1.5)
+    even tables after (changes_pending number_rows numbers_kept tables after h.1.0 _ h.1.4)
 by_case tables after (change.InsertRoot era form ids mode negotiated) (reply.Inserted given) h =
-    grown tables after (agreed_pending tables after _ negotiated h.3)
+    grown tables after (agreed_pending tables after _ negotiated h.4)
 by_case tables after (change.Forget list) (reply.Done closings) h =
     paid tables after closings (forgets_all_pending tables after list closings h)
 by_case tables after (change.GiveBack era number) (reply.Done closings) h =
-    paid tables after closings (falls_pending tables after h.1.0 1 closings h.1.3)
-by_case tables after change.DrawHandle (reply.Drawn handle) h = even tables after (ap pending_in h.1)
+    paid tables after closings (forgets_one_pending tables after number 1 closings h.2)
+by_case tables after change.DrawHandle (reply.Drawn handle) h = even tables after (ap pending_in h.2)
 by_case tables after (change.InsertHandle era handle number fd) (reply.Inserted given) h =
     grown tables after (let n : pending_in after ≡ length tables.rows + suc (length tables.handles) =
-    ap pending_in h.3 in omega arith)
+    ap pending_in h.4 in omega arith)
 by_case tables after (change.PinHandle handle number) (reply.Pinned serial fd) h =
     even tables after (changes_pending handle_rows handles_kept tables after h.0 _ h.5)
 by_case tables after (change.UnpinHandle serial) (reply.Done closings) h =
-    paid tables after closings (unpins_pending handle_rows handles_kept tables after h.0 closings h.3)
+    paid tables after closings (unpins_pending handle_rows handles_kept tables after serial closings h)
 by_case tables after (change.Release handle number) (reply.Done closings) h =
-    paid tables after closings (dies_pending handle_rows handles_kept tables after h.0 closings h.3)
+    paid tables after closings (dies_pending handle_rows handles_kept tables after h.0 closings h.2)
 by_case tables after change.Clear (reply.Cleared era closings) h =
-    paid tables after closings (clears_pending tables after closings h.2)
+    paid tables after closings (clears_pending tables after closings h.1)
 by_case tables after change.TakeClosing (reply.Closing fd slot) h = even tables after (ap pending_in h.2)
 by_case tables after _ _ h = absurd h
 
@@ -139,4 +139,4 @@ pays tables after asked told h = by_case tables after asked told (cases tables a
 pub cleared : (tables after : Tables) (era closings : ℕ) → Happens tables change.Clear (reply.Cleared era closings) after →
     IsCleared tables after era
 cleared tables after era closings h = let case = cases tables after change.Clear (reply.Cleared era closings) h in
-    subst (λ (e : ℕ). IsCleared tables after e) (sym case.0) (clears tables after closings case.2)
+    subst (λ (e : ℕ). IsCleared tables after e) (sym case.2) (clears tables after closings case.1)

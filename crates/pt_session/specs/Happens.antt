@@ -87,63 +87,68 @@ abbrev pub TakesFirst : Tables → List Closing → Outcome
 TakesFirst tables [] = Refuses tables NotLive
 TakesFirst tables (first ∷ closing) = Tells (reply.Closing first.fd first.slot) (record tables { closing = closing })
 
+-- Each event: what it does, and what it is refused for, in this order.
 abbrev pub Happens : Tables → Change → EventReply → Tables → Type 0
--- `Begin` tells the era and what was agreed on; it is never refused.
+-- `Begin` tells the era and what was agreed on. It is never refused.
 Happens tables change.Begin = Tells (reply.Began tables.era tables.negotiated) tables
--- `Resolve` pins the row of a live number and tells it. NotLive, then Last of the row's pins.
+-- `Resolve` pins the row of a live number and tells it. Refused: NotLive unless the number is; then Last at the end of
+-- the row's pins.
 Happens tables (change.Resolve number) = UnlessRow tables number_rows (HasNumber number) NotLive (λ row.
     Pins tables number_rows row (reply.Resolved row.serial row.form row.ids row.mode))
--- `Unpin` gives a pin of a number's row back. NotLive where no row of that serial has a pin.
+-- `Unpin` gives a pin of a number's row back. Refused: NotLive unless a row of that serial has a pin.
 Happens tables (change.Unpin serial) = UnlessRow tables number_rows (IsPinned number_rows serial) NotLive (λ row.
     Closes (Unpins number_rows tables row))
--- `Claim` gives the number of the object's row once more, or tells that there is none. Overtaken, then Last of its
--- count. Rows are found by ids alone, as long as all are in file form.
+-- `Claim` gives the number of the object's row once more, or tells that there is none. Refused: Overtaken; then, where
+-- it has a row, Last at the end of its count. Rows are found by ids alone, as long as all are in file form.
 Happens tables (change.Claim era handle ids) =
     InEra tables era (GivesAgain tables ids (λ number. reply.Claimed number) (Tells reply.Absent tables))
--- `TakeFd` takes a descriptor slot. NoSlot where none is left.
+-- `TakeFd` takes a descriptor slot. Refused: NoSlot unless one is left.
 Happens tables change.TakeFd =
     Unless tables (0 < tables.slots) NoSlot (Tells reply.Taken (record tables { slots = tables.slots - 1 }))
--- `GiveFd` gives a slot back. NotLive where none is out.
+-- `GiveFd` gives a slot back. Refused: NotLive unless one is out.
 Happens tables change.GiveFd =
     Unless tables (tables.slots < tables.limit) NotLive
     (Tells reply.Given (record tables { slots = tables.slots + 1 }))
--- `DrawNode` draws the next number. Last.
+-- `DrawNode` draws the next number. Refused: Last at the end of the numbers.
 Happens tables change.DrawNode = Below tables tables.next_number
     (Tells (reply.Drawn tables.next_number) (record tables { next_number = tables.next_number + 1 }))
--- `Insert` gives the number of the object's row once more, or adds a row of the number with count 1. Overtaken; where
--- the object has a row Last of its count; else Live where the number is, Last of the serials, Memory.
+-- `Insert` gives the number of the object's row once more, or adds a row of the number with count 1. Refused:
+-- Overtaken; then, where the object has a row, Last at the end of its count; where it has none, Live if the number is,
+-- then Last at the end of the serials, then Memory.
 Happens tables (change.Insert era number form ids mode) =
     InEra tables era (GivesAgain tables ids (λ given. reply.Found given)
     (IfRow tables number_rows (HasNumber number) Live
     (Adds tables (reply.Inserted number) (with_row tables (new_row tables number form ids mode 1)))))
--- `InsertRoot` adds a row of number 1 with count 2, and keeps what was agreed on, where that is said. Overtaken, Live
--- where number 1 is or the object has a row, Last of the serials, Memory.
+-- `InsertRoot` adds a row of number 1 with count 2, and keeps what was agreed on, where that is said. Refused:
+-- Overtaken; then Live if number 1 is or the object has a row; then Last at the end of the serials; then Memory.
 Happens tables (change.InsertRoot era form ids mode negotiated) =
     InEra tables era (IfRow tables number_rows (λ row. HasNumber 1 row ⊎ HasIds ids row) Live
     (Adds tables (reply.Inserted 1) (agreed negotiated (with_row tables (new_row tables 1 form ids mode 2)))))
--- `Forget` lets the counts of the pairs fall, in order; it is never refused.
+-- `Forget` lets the counts of the pairs fall, in order. It is never refused.
 Happens tables (change.Forget list) = Closes (ForgetsAll tables list)
--- `GiveBack` lets a live number's count fall by one. Overtaken, then NotLive.
+-- `GiveBack` lets a live number's count fall by one. Refused: Overtaken; then NotLive unless the number is.
 Happens tables (change.GiveBack era number) =
     InEra tables era (UnlessRow tables number_rows (HasNumber number) NotLive (λ row. Closes (Falls tables row 1)))
--- `DrawHandle` draws the next handle. Last.
+-- `DrawHandle` draws the next handle. Refused: Last at the end of the handles.
 Happens tables change.DrawHandle = Below tables tables.next_handle
     (Tells (reply.Drawn tables.next_handle) (record tables { next_handle = tables.next_handle + 1 }))
--- `InsertHandle` adds a row of the handle. Overtaken, Live where the handle is, Last of the serials, Memory.
+-- `InsertHandle` adds a row of the handle. Refused: Overtaken; then Live if the handle is; then Last at the end of the
+-- serials; then Memory.
 Happens tables (change.InsertHandle era handle number fd) =
     InEra tables era (IfRow tables handle_rows (HasHandle handle) Live
     (Adds tables (reply.Inserted handle) (with_handle tables (new_handle tables handle number fd))))
--- `PinHandle` pins the row of a live handle of that number, and tells it. NotLive, then Last of the row's pins.
+-- `PinHandle` pins the row of a live handle of that number and tells it. Refused: NotLive unless there is one; then Last
+-- at the end of the row's pins.
 Happens tables (change.PinHandle handle number) = UnlessRow tables handle_rows (IsHandle handle number) NotLive (λ row.
     Pins tables handle_rows row (reply.Pinned row.serial row.fd))
--- `UnpinHandle` gives a pin of a handle's row back. NotLive where no row of that serial has a pin.
+-- `UnpinHandle` gives a pin of a handle's row back. Refused: NotLive unless a row of that serial has a pin.
 Happens tables (change.UnpinHandle serial) = UnlessRow tables handle_rows (IsPinned handle_rows serial) NotLive (λ row.
     Closes (Unpins handle_rows tables row))
--- `Release` lets a live handle of that number die. NotLive.
+-- `Release` lets a live handle of that number die. Refused: NotLive unless there is one.
 Happens tables (change.Release handle number) = UnlessRow tables handle_rows (IsHandle handle number) NotLive (λ row.
     Closes (Dies handle_rows tables row))
--- `Clear` begins the session anew. Last of the eras.
+-- `Clear` begins the session anew. Refused: Last at the end of the eras.
 Happens tables change.Clear = Below tables tables.era (λ told after.
     (closings : ℕ) × (told ≡ reply.Cleared (tables.era + 1) closings) × Clears tables closings after)
--- `TakeClosing` takes the first descriptor that is to be closed. NotLive where there is none.
+-- `TakeClosing` takes the first descriptor that is to be closed. Refused: NotLive unless there is one.
 Happens tables change.TakeClosing = TakesFirst tables tables.closing

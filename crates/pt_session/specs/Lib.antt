@@ -3,8 +3,8 @@ pub mod Change
 pub mod Tables
 pub mod Rows
 pub mod Outcome
-pub mod Store
 pub mod LiveAfter
+pub mod Store
 pub mod Index
 pub mod Happens
 pub mod Kept

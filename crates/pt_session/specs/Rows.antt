@@ -66,6 +66,10 @@ abbrev pub NoHandle : Tables → (HandleRow → Type 0) → Type 0
 NoHandle tables P = NoneOf P tables.handles
 
 module _ {R : Type 0} (kind : Kind R) where
+  -- it is live, and has this key
+  abbrev pub HasKey : ℕ → R → Type 0
+  HasKey key row = (kind.live row ≡ true) × (kind.key row ≡ key)
+
   -- it has this serial, and a pin
   abbrev pub IsPinned : ℕ → R → Type 0
   IsPinned serial row = (kind.serial row ≡ serial) × (kind.pins row ≢ 0)

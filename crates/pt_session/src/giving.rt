@@ -9,6 +9,7 @@ ghost use Rattle.pt_session.specs.Kept.{tables_of, Matches};
 
 use crate::event::KeptEvent;
 use crate::form::{Negotiated, RowForm};
+use crate::pinned::Pinned;
 use crate::reply::{EventRefusal, EventReply};
 use crate::row::Row;
 use crate::tables::SessionTables;

@@ -1,12 +1,13 @@
 //! What is drawn, inserted, pinned, unpinned and released of handles.
 ghost use Rattle.std.specs.Prelude.{◌≡◌, ◌≢◌, true};
 ghost use Rattle.pt_session.specs.Tables.{Agree};
-ghost use Rattle.pt_session.specs.Store.{IsLaterHandle};
+ghost use Rattle.pt_session.specs.Store.{IsSame};
 ghost use Rattle.pt_session.specs.Rows.{handle_rows, IsAmong, ChangesRow, EndsRow, Dies, Unpins};
 ghost use Rattle.pt_session.specs.Happens.{Happens};
 ghost use Rattle.pt_session.specs.Kept.{tables_of};
 
 use crate::event::KeptEvent;
+use crate::pinned::Pinned;
 use crate::reply::{EventRefusal, EventReply};
 use crate::row::HandleRow;
 use crate::tables::SessionTables;
@@ -16,8 +17,7 @@ impl SessionTables {
     /// Puts the handle's row as it is now in its place.
     pub fn change_handle(&mut self, was: &HandleRow, now: HandleRow)
         requires among { IsAmong was.now self.old.store.handles }
-        requires later { IsLaterHandle was.now now }
-        requires lives { now.live ≡ was.now.live }
+        requires same { IsSame handle_rows was.now now }
         ensures { ChangesRow handle_rows (tables_of self.old) was.now now (tables_of self.new) }
     {
         self.store.replace_handle(was, now);

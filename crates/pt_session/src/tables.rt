@@ -1,6 +1,6 @@
 ghost use Rattle.std.specs.Prelude.{◌≡◌, true, ◌↔◌, IsTrue};
 ghost use Rattle.pt_session.specs.Tables.{empty_tables};
-ghost use Rattle.pt_session.specs.Store.{IsLater};
+ghost use Rattle.pt_session.specs.Store.{IsSame};
 ghost use Rattle.pt_session.specs.Rows.{number_rows, IsAmong, ChangesRow, EndsRow, Dies};
 ghost use Rattle.pt_session.specs.Happens.{Happens, agreed};
 ghost use Rattle.pt_session.specs.Pending.{AddsUp};
@@ -45,8 +45,8 @@ impl SessionTables {
     /// Puts the row as it is now in its place.
     pub fn change(&mut self, was: &Row, now: Row)
         requires among { IsAmong was.now self.old.store.rows }
-        requires later { IsLater was.now now }
-        requires lives { now.live ≡ was.now.live }
+        requires same { IsSame number_rows was.now now }
+        requires object { now.ids ≡ was.now.ids }
         ensures { ChangesRow number_rows (tables_of self.old) was.now now (tables_of self.new) }
     {
         self.store.replace(was, now);

@@ -5,6 +5,7 @@ ghost use Rattle.pt_session.specs.Happens.{Happens, Falls, ForgetsOne};
 ghost use Rattle.pt_session.specs.Kept.{tables_of};
 
 use crate::event::KeptEvent;
+use crate::pinned::Pinned;
 use crate::reply::{EventRefusal, EventReply};
 use crate::row::Row;
 use crate::tables::SessionTables;
