@@ -1,6 +1,6 @@
 -- The steps of one lookup, by which all that is said of a request can be met: a name gets number 2.
 use Rattle.std.proofs.Common.{◌≢◌, inl, inr, ℕ, List, [], ◌∷◌, true, None, refl, arith}
-use Rattle.pt_host.specs.Words.{Replaces.{at, past}}
+use Rattle.pt_host.specs.Words.{Takes.{here, there}, Replaces.{at, past}}
 use Rattle.pt_host.specs.Errno.{einval}
 use Rattle.pt_host.specs.declared.ids.Fd.{Fd}
 use Rattle.pt_host.specs.declared.ids.ObjIds.{ObjIds}

@@ -1,17 +1,20 @@
 -- What each reply says of its event: the outcome by cases of event and reply.
-use Rattle.std.proofs.Common.{◌≡◌, ◌≢◌, ◌⊎◌, ⊎_elim, inl, inr, ℕ, suc, ◌+◌, ◌-◌, ◌<◌, ◌≤◌, List, [], ◌∷◌, true, false, refl}
+use Rattle.std.proofs.Common.{◌≡◌, ◌≢◌, ◌⊎◌, ⊎_elim, inl, inr, ℕ, suc, ◌+◌, ◌-◌, ◌<◌, ◌≤◌, List, [], ◌∷◌, true, false}
+use Rattle.std.proofs.Common.{refl}
 use Rattle.std.proofs.Common.{sym, subst, arith}
 use Rattle.std.proofs.Math.Nat.{lt_of_not-le}
 use Rattle.pt_host.specs.declared.ids.Fd.{Fd}
 use Rattle.pt_host.specs.declared.ids.ObjIds.{ObjIds}
 use Rattle.pt_session.specs.Change.{Change}
 use Rattle.pt_session.specs.Tables.{Row, HandleRow, Closing, Tables, HasNumber, HasIds, HasHandle, IsHandle}
-use Rattle.pt_session.specs.Rows.{Kind, number_rows, handle_rows, IsAmong, IsRow, IsHandleRow, NoneOf, NoRow, NoHandle}
+use Rattle.pt_session.specs.Rows.{Kind, number_rows, handle_rows, IsAmong, IsRow, IsHandleRow, NoneOf, NoRow}
+use Rattle.pt_session.specs.Rows.{NoHandle}
 use Rattle.pt_session.specs.Rows.{IsPinned, ChangesRow, EndsRow, Dies, Unpins}
 use Rattle.pt_session.specs.Answers.{refusals, IsOneOf}
 use Rattle.pt_session.specs.Outcome.{last_u64, Refuses}
 use Rattle.pt_session.specs.Effect.{IsFree}
-use Rattle.pt_session.specs.Happens.{Happens, ForgetsOne, ForgetsAll, Clears, TakesFirst, with_row, new_row, with_handle}
+use Rattle.pt_session.specs.Happens.{Happens, ForgetsOne, ForgetsAll, Clears, TakesFirst, with_row, new_row}
+use Rattle.pt_session.specs.Happens.{with_handle}
 use Rattle.pt_session.specs.Happens.{new_handle, agreed}
 use Rattle.pt_session.specs.declared.event.KeptEvent.TheVariants as change
 use Rattle.pt_session.specs.declared.reply.EventRefusal.{EventRefusal}
@@ -65,7 +68,8 @@ Case tables asked (reply.Refused refusal) after =
 Case tables change.Begin (reply.Began era negotiated) after =
     (era ≡ tables.era) × (negotiated ≡ tables.negotiated) × (after ≡ tables)
 Case tables (change.Resolve number) (reply.Resolved serial form ids mode) after =
-    (row : Row) × HasNumber number row × (row.serial ≡ serial) × (row.form ≡ form) × (row.ids ≡ ids) × (row.mode ≡ mode)
+    (row : Row) × HasNumber number row × (row.serial ≡ serial) × (row.form ≡ form) × (row.ids ≡ ids) × (row.mode ≡
+    mode)
     × IsRow tables row × ChangesRow number_rows tables row (record row { pins = row.pins + 1 }) after
 Case tables (change.Unpin serial) (reply.Done closings) after = GivesPin number_rows tables serial closings after
 Case tables (change.Claim era handle ids) (reply.Claimed number) after =
@@ -100,7 +104,8 @@ Case tables (change.InsertHandle era handle number fd) (reply.Inserted given) af
 Case tables (change.PinHandle handle number) (reply.Pinned serial fd) after =
     (row : HandleRow) × IsHandle handle number row × (row.serial ≡ serial) × (row.fd ≡ fd) × IsHandleRow tables row
     × ChangesRow handle_rows tables row (record row { pins = row.pins + 1 }) after
-Case tables (change.UnpinHandle serial) (reply.Done closings) after = GivesPin handle_rows tables serial closings after
+Case tables (change.UnpinHandle serial) (reply.Done closings) after = GivesPin handle_rows tables serial closings
+    after
 Case tables (change.Release handle number) (reply.Done closings) after =
     (row : HandleRow) × IsHandle handle number row × Dies handle_rows tables row closings after
 Case tables change.Clear (reply.Cleared era closings) after =
@@ -177,25 +182,31 @@ cases tables after change.GiveFd told (inr none) =
 cases tables after change.DrawNode told (inl on) =
     told_as tables after change.DrawNode told (reply.Drawn tables.next_number) on.1.0
     (refl, on.0, on.1.1)
-cases tables after change.DrawNode told (inr last) = refused tables after change.DrawNode told Last (inl refl) tt last.1
+cases tables after change.DrawNode told (inr last) = refused tables after change.DrawNode told Last (inl refl) tt
+    last.1
 cases tables after (change.Insert era number form ids mode) told (inr over) =
     refused tables after (change.Insert era number form ids mode) told Overtaken (inl refl) over.0 over.1
 cases tables after (change.Insert era number form ids mode) told (inl on) = elim on.1 [
   | inl none ↦ elim none.1 [
     | inl free ↦ elim free.1 [
       | inl adds ↦ elim adds.1 [
-        | inl added ↦ told_as tables after (change.Insert era number form ids mode) told (reply.Inserted number) added.0
+        | inl added ↦ told_as tables after (change.Insert era number form ids mode) told (reply.Inserted number)
+            added.0
             (on.0, (none.0, free.0), adds.0, refl, added.1)
-        | inr memory ↦ refused tables after (change.Insert era number form ids mode) told Memory (inr (inr (inr (inl refl)))) tt memory
+        | inr memory ↦ refused tables after (change.Insert era number form ids mode) told Memory (inr (inr (inr (inl
+            refl)))) tt memory
       ]
-      | inr last ↦ refused tables after (change.Insert era number form ids mode) told Last (inr (inr (inl refl))) tt last.1
+      | inr last ↦ refused tables after (change.Insert era number form ids mode) told Last (inr (inr (inl refl))) tt
+          last.1
     ]
     | inr there ↦ refused tables after (change.Insert era number form ids mode) told Live (inr (inl refl)) tt there.3
   ]
   | inr found ↦ let row = found.0 in elim found.3 [
-    | inl again ↦ told_as tables after (change.Insert era number form ids mode) told (reply.Found row.number) again.1.0
+    | inl again ↦ told_as tables after (change.Insert era number form ids mode) told (reply.Found row.number)
+        again.1.0
         (on.0, (row, found.2, refl, found.1, again.1.1))
-    | inr last ↦ refused tables after (change.Insert era number form ids mode) told Last (inr (inr (inl refl))) tt last.1
+    | inr last ↦ refused tables after (change.Insert era number form ids mode) told Last (inr (inr (inl refl))) tt
+        last.1
   ]
 ]
 cases tables after (change.InsertRoot era form ids mode negotiated) told (inr over) =
@@ -203,13 +214,17 @@ cases tables after (change.InsertRoot era form ids mode negotiated) told (inr ov
 cases tables after (change.InsertRoot era form ids mode negotiated) told (inl on) = elim on.1 [
   | inl free ↦ elim free.1 [
     | inl adds ↦ elim adds.1 [
-      | inl added ↦ told_as tables after (change.InsertRoot era form ids mode negotiated) told (reply.Inserted 1) added.0
+      | inl added ↦ told_as tables after (change.InsertRoot era form ids mode negotiated) told (reply.Inserted 1)
+          added.0
           (on.0, is_free tables 1 ids free.0, adds.0, refl, added.1)
-      | inr memory ↦ refused tables after (change.InsertRoot era form ids mode negotiated) told Memory (inr (inr (inr (inl refl)))) tt memory
+      | inr memory ↦ refused tables after (change.InsertRoot era form ids mode negotiated) told Memory (inr (inr (inr
+          (inl refl)))) tt memory
     ]
-    | inr last ↦ refused tables after (change.InsertRoot era form ids mode negotiated) told Last (inr (inr (inl refl))) tt last.1
+    | inr last ↦ refused tables after (change.InsertRoot era form ids mode negotiated) told Last (inr (inr (inl
+        refl))) tt last.1
   ]
-  | inr there ↦ refused tables after (change.InsertRoot era form ids mode negotiated) told Live (inr (inl refl)) tt there.3
+  | inr there ↦ refused tables after (change.InsertRoot era form ids mode negotiated) told Live (inr (inl refl)) tt
+      there.3
 ]
 cases tables after (change.Forget list) told h =
     told_as tables after (change.Forget list) told (reply.Done h.0) h.1 h.2
@@ -224,17 +239,21 @@ cases tables after (change.GiveBack era number) told (inl on) = elim on.1 [
 cases tables after change.DrawHandle told (inl on) =
     told_as tables after change.DrawHandle told (reply.Drawn tables.next_handle) on.1.0
     (refl, on.0, on.1.1)
-cases tables after change.DrawHandle told (inr last) = refused tables after change.DrawHandle told Last (inl refl) tt last.1
+cases tables after change.DrawHandle told (inr last) = refused tables after change.DrawHandle told Last (inl refl) tt
+    last.1
 cases tables after (change.InsertHandle era handle number fd) told (inr over) =
     refused tables after (change.InsertHandle era handle number fd) told Overtaken (inl refl) over.0 over.1
 cases tables after (change.InsertHandle era handle number fd) told (inl on) = elim on.1 [
   | inl free ↦ elim free.1 [
     | inl adds ↦ elim adds.1 [
-      | inl added ↦ told_as tables after (change.InsertHandle era handle number fd) told (reply.Inserted handle) added.0
+      | inl added ↦ told_as tables after (change.InsertHandle era handle number fd) told (reply.Inserted handle)
+          added.0
           (on.0, free.0, adds.0, refl, added.1)
-      | inr memory ↦ refused tables after (change.InsertHandle era handle number fd) told Memory (inr (inr (inr (inl refl)))) tt memory
+      | inr memory ↦ refused tables after (change.InsertHandle era handle number fd) told Memory (inr (inr (inr (inl
+          refl)))) tt memory
     ]
-    | inr last ↦ refused tables after (change.InsertHandle era handle number fd) told Last (inr (inr (inl refl))) tt last.1
+    | inr last ↦ refused tables after (change.InsertHandle era handle number fd) told Last (inr (inr (inl refl))) tt
+        last.1
   ]
   | inr there ↦ refused tables after (change.InsertHandle era handle number fd) told Live (inr (inl refl)) tt there.3
 ]

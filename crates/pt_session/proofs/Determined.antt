@@ -9,7 +9,8 @@ use Rattle.pt_session.specs.declared.reply.EventReply.TheVariants as reply
 use Rattle.pt_session.specs.Tables.{Row, HandleRow, Closing, Tables, AreApart, AreHandlesApart, Agree, HasNumber}
 use Rattle.pt_session.specs.Tables.{HasIds, HasHandle, IsHandle}
 use Rattle.pt_session.specs.Rows.{Kind, number_rows, handle_rows, IsPinned, ChangesRow, Dies, Unpins}
-use Rattle.pt_session.specs.Outcome.{Outcome, Leaves, Tells, Closes, Unless, ByRow, UnlessRow, IfRow, Below, Pins, Adds}
+use Rattle.pt_session.specs.Outcome.{Outcome, Leaves, Tells, Closes, Unless, ByRow, UnlessRow, IfRow, Below, Pins}
+use Rattle.pt_session.specs.Outcome.{Adds}
 use Rattle.pt_session.specs.Happens.{Happens, Falls, ForgetsAll, Clears, GivesAgain, TakesFirst, with_row, new_row}
 use Rattle.pt_session.specs.Happens.{with_handle, new_handle, agreed}
 use Rattle.pt_session.proofs.Alone.{none_taken}
@@ -17,7 +18,8 @@ use Rattle.pt_session.proofs.Effects.{Makes, numbers_make, handles_make}
 use Rattle.pt_session.proofs.Outcomes.{IsOne, Alone, IsApart, numbers_apart, handles_apart, leaves_alone, tells_alone}
 use Rattle.pt_session.proofs.Outcomes.{closes_alone, unless_alone, era_alone, below_alone, adds_alone, changes_one}
 use Rattle.pt_session.proofs.Outcomes.{pins_alone, row_alone, unless_row, if_row}
-use Rattle.pt_session.proofs.Endings.{number_one, ids_one, handle_one, is_handle_one, pinned_one, dies_one, unpins_one}
+use Rattle.pt_session.proofs.Endings.{number_one, ids_one, handle_one, is_handle_one, pinned_one, dies_one}
+use Rattle.pt_session.proofs.Endings.{unpins_one}
 use Rattle.pt_session.proofs.Endings.{falls_one, forgets_all_one, clears_one}
 
 again_alone : (tables : Tables) (ids : ObjIds) (tell : ℕ → EventReply) (On : Outcome) → Agree tables → Alone On →
@@ -101,7 +103,8 @@ alone tables (change.InsertRoot era form ids mode negotiated) agree =
 alone tables (change.Forget list) agree =
     closes_alone (ForgetsAll tables list) (forgets_all_one list tables agree)
 alone tables (change.GiveBack era number) agree =
-    era_alone tables era (UnlessRow tables number_rows (HasNumber number) NotLive (λ row. Closes (Falls tables row 1)))
+    era_alone tables era (UnlessRow tables number_rows (HasNumber number) NotLive (λ row. Closes (Falls tables row
+    1)))
     (unless_row number_rows AreApart numbers_apart tables agree (HasNumber number) (number_one number) NotLive
     (λ row. Closes (Falls tables row 1))
     (λ row. closes_alone (Falls tables row 1) (falls_one tables row 1 agree)))

@@ -78,17 +78,20 @@ module _ {R : Type 0} (kind : Kind R) (kept : IsKept kind) where
       let e = ap (λ (t : Tables). length t.closing) h.2.2 in
       omega (arith, e, h.1, length-append tables.closing (kind.closing row ∷ []))
   dies_closing tables after row closings (inr h) =
-      let e = ap (λ (t : Tables). length t.closing) h.2.2 ∙ ap (λ (c : List Closing). length c) (kept.closing tables h.2.0) in
+      let e = ap (λ (t : Tables). length t.closing) h.2.2 ∙ ap (λ (c : List Closing). length c) (kept.closing tables
+      h.2.0) in
       omega (arith, e, h.1)
 
   -- what stays where rows and closings come and go stays where a row dies
-  dies_keeps : {X : Type 0} (F : Tables → X) → ((tables : Tables) (rows : List R) → F (kind.with_rows rows tables) ≡ F tables) →
+  dies_keeps : {X : Type 0} (F : Tables → X) → ((tables : Tables) (rows : List R) → F (kind.with_rows rows tables) ≡ F
+      tables) →
       ((tables : Tables) (closing : List Closing) → F (record tables { closing = closing }) ≡ F tables) →
       (tables after : Tables) (row : R) (closings : ℕ) → Dies kind tables row closings after → F after ≡ F tables
   dies_keeps F same shut tables after row closings (inl h) = ap F h.2.2 ∙ shut _ _ ∙ same tables h.2.0
   dies_keeps F same shut tables after row closings (inr h) = ap F h.2.2 ∙ same tables h.2.0
 
-  pub all_keep : {X : Type 0} (F : Tables → X) → ((tables : Tables) (rows : List R) → F (kind.with_rows rows tables) ≡ F tables) →
+  pub all_keep : {X : Type 0} (F : Tables → X) → ((tables : Tables) (rows : List R) → F (kind.with_rows rows tables) ≡
+      F tables) →
       ((tables : Tables) (closing : List Closing) → F (record tables { closing = closing }) ≡ F tables) →
       (tables after : Tables) (closings : ℕ) → AllDie kind tables closings after → F after ≡ F tables
   all_keep F same shut tables after closings (none h) = refl

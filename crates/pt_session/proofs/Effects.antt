@@ -13,7 +13,8 @@ use Rattle.pt_session.specs.Tables.{Row, HandleRow, Tables, HasNumber, HasIds, H
 use Rattle.pt_session.specs.Tables.{IsSoundRow, IsSoundHandle, Agree}
 use Rattle.pt_session.specs.Rows.{Kind, number_rows, handle_rows, ChangesRow, EndsRow, Dies, Unpins, AllDie}
 use Rattle.pt_session.specs.Rows.{AllDie.{none as none_live, next as next_dies}}
-use Rattle.pt_session.specs.Happens.{Happens, Falls, ForgetsOne, ForgetsAll, Clears, with_row, new_row, new_handle, agreed}
+use Rattle.pt_session.specs.Happens.{Happens, Falls, ForgetsOne, ForgetsAll, Clears, with_row, new_row, new_handle}
+use Rattle.pt_session.specs.Happens.{agreed}
 use Rattle.pt_session.specs.Effect.{IsFree, IsNewRow, IsNewHandle, Effect}
 use Rattle.pt_session.specs.Effect.{Effect.{nothing, counted, changed, ended, added, drawn, handle_changed, handle_ended, handle_added, begun, shut}}
 use Rattle.pt_session.specs.Effect.{Effects, Effects.{none, more}}
@@ -117,7 +118,8 @@ clears : (tables after : Tables) (closings : ℕ) → Clears tables closings aft
 clears tables after closings h =
     let same = clears_era tables after closings h in
     both (all_die number_rows numbers_make tables h.0 h.2 h.4)
-    (both (all_die handle_rows handles_make h.0 h.1 h.3 h.5) (one (begun (tables.era + 1) _ (omega (arith, same)) h.7)))
+    (both (all_die handle_rows handles_make h.0 h.1 h.3 h.5) (one (begun (tables.era + 1) _ (omega (arith, same))
+    h.7)))
 
 pub case_effects : (tables after : Tables) (asked : Change) (told : EventReply) → Case tables asked told after →
     Effects tables after
@@ -127,7 +129,8 @@ case_effects tables after (change.Resolve number) (reply.Resolved serial form id
     one (numbers_make.repins tables after h.0 (h.0.pins + 1) (λ d m. omega arith) h.7)
 case_effects tables after (change.Unpin serial) (reply.Done closings) h =
     one (unpins number_rows numbers_make tables after serial closings h)
-case_effects tables after (change.Claim era handle ids) (reply.Claimed number) h = one (again tables after ids number h.1)
+case_effects tables after (change.Claim era handle ids) (reply.Claimed number) h = one (again tables after ids number
+    h.1)
 case_effects tables after (change.Claim era handle ids) reply.Absent h = one (nothing h.2)
 case_effects tables after change.TakeFd reply.Taken h =
     one (counted h.0 tables.next_number (λ l. omega (arith, h.1)) (omega arith) h.2)
@@ -144,7 +147,8 @@ case_effects tables after (change.InsertRoot era form ids mode negotiated) (repl
 case_effects tables after (change.Forget list) (reply.Done closings) h = forgets_all tables after list closings h
 case_effects tables after (change.GiveBack era number) (reply.Done closings) h =
     one (forgets_one tables after number 1 closings h.2)
-case_effects tables after change.DrawHandle (reply.Drawn handle) h = one (drawn (tables.next_handle + 1) (omega arith) h.2)
+case_effects tables after change.DrawHandle (reply.Drawn handle) h = one (drawn (tables.next_handle + 1) (omega arith)
+    h.2)
 case_effects tables after (change.InsertHandle era handle number fd) (reply.Inserted given) h =
     one (handle_added (new_handle tables handle number fd)
     (record { serial = refl; live = refl; pins = refl; free = h.1 }) h.4)
@@ -207,7 +211,8 @@ others_later handles was now e h =
     ≢ handle.serial) handles (λ handle n f. n (sym e ∙ f)) h
 
 -- a serial that none of the handles has had yet
-others_new : (tables : Tables) (row : Row) → row.serial ≡ tables.next_row → Agree tables → AreOthers tables.handles row
+others_new : (tables : Tables) (row : Row) → row.serial ≡ tables.next_row → Agree tables → AreOthers tables.handles
+    row
 others_new tables row s agree =
     each_map (IsSoundHandle tables.next_row) (λ (handle : HandleRow). row.serial
     ≢ handle.serial) tables.handles (λ handle sound e. let l = sound.drawn in
@@ -252,7 +257,8 @@ agree_effect tables after (changed was now rows r later sound e) agree = subst A
       agree.apart;
   sound_handles = agree.sound_handles;
   handles_apart = agree.handles_apart;
-  serials = each_replaces (AreOthers tables.handles) r (others_later tables.handles was now later.serial) agree.serials;
+  serials = each_replaces (AreOthers tables.handles) r (others_later tables.handles was now later.serial)
+      agree.serials;
   slots = agree.slots;
 })
 agree_effect tables after (ended row rows t e) agree =

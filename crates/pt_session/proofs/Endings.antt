@@ -9,7 +9,8 @@ use Rattle.pt_session.specs.Rows.{Kind, number_rows, handle_rows, IsAmong, IsRow
 use Rattle.pt_session.specs.Rows.{Unpins, IsLeast, AllDie, AllDie.{none, next}}
 use Rattle.pt_session.specs.Happens.{Falls, ForgetsOne, ForgetsAll, Clears}
 use Rattle.pt_session.proofs.Lists.{each_taken}
-use Rattle.pt_session.proofs.Effects.{Makes, numbers_make, handles_make, effects_keep, agree_effect, forgets_one, dies}
+use Rattle.pt_session.proofs.Effects.{Makes, numbers_make, handles_make, effects_keep, agree_effect, forgets_one}
+use Rattle.pt_session.proofs.Effects.{dies}
 use Rattle.pt_session.proofs.Effects.{all_die}
 use Rattle.pt_session.proofs.Alone.{replaced, none_taken, takes_one}
 use Rattle.pt_session.proofs.Outcomes.{IsOne, IsApart, numbers_apart, handles_apart, changes_one, ends_one}
@@ -82,9 +83,11 @@ module _ {R : Type 0} (kind : Kind R) (Apart : R → R → Type 0) (apart : IsAp
       (subst (λ (t : Tables). IsAmong row (kind.rows t)) (sym e) least.1).1 least.0)
   all_one tables tables' after after' closings closings' e agree (next {mid = mid} {one = one} {more =
       more} row least d k) (next {mid = mid'} {one = one'} {more = more'} row' least' d' k') =
-      let same = least_one tables row row' agree least (subst (λ (t : Tables). IsLeast kind (kind.rows t) row') e least') in
+      let same = least_one tables row row' agree least (subst (λ (t : Tables). IsLeast kind (kind.rows t) row') e
+      least') in
       let died : Dies kind tables row one' mid' =
-      subst (λ (t : Tables). Dies kind t row one' mid') e (subst (λ (r : R). Dies kind tables' r one' mid') same d') in
+      subst (λ (t : Tables). Dies kind t row one' mid') e (subst (λ (r : R). Dies kind tables' r one' mid') same d')
+      in
       let first = dies_one tables row agree one one' mid mid' d died in
       let rest = all_one mid mid' after after' more more' (sym first.1)
       (agree_effect tables mid (dies kind makes tables mid row one d) agree) k k' in
@@ -129,9 +132,11 @@ forgets_all_one (pair ∷ list) tables agree told told' after after' h k =
 
 pub clears_one : (tables : Tables) → Agree tables → IsOne (Clears tables)
 clears_one tables agree told told' after after' h k =
-    let first = all_one number_rows AreApart numbers_apart numbers_make tables tables h.0 k.0 h.2 k.2 refl agree h.4 k.4 in
+    let first = all_one number_rows AreApart numbers_apart numbers_make tables tables h.0 k.0 h.2 k.2 refl agree h.4
+    k.4 in
     let mid : Agree h.0 =
     effects_keep Agree agree_effect tables h.0 (all_die number_rows numbers_make tables h.0 h.2 h.4) agree in
-    let second = all_one handle_rows AreHandlesApart handles_apart handles_make h.0 k.0 h.1 k.1 h.3 k.3 (sym first.1) mid
+    let second = all_one handle_rows AreHandlesApart handles_apart handles_make h.0 k.0 h.1 k.1 h.3 k.3 (sym first.1)
+    mid
     h.5 k.5 in
     (omega (arith, first.0, second.0, h.6, k.6), h.7 ∙ cc second.1 ∙ sym k.7)

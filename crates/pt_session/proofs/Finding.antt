@@ -63,7 +63,8 @@ module _ (rows : List Row) (objects : ObjectKey → Option ℕ) (finds : FindsOb
       absurd (each_taken (λ (row : Row). row.serial ≡ serial → ⊥) leads.1.1 none leads.2)
   object_found ids serial (Some row) some at_serial alone =
       let leads = finds.sound (key_of ids) serial some in
-      let same : leads.0 ≡ row = each_taken (λ (other : Row). other.serial ≡ serial → other ≡ row) leads.1.1 alone leads.2 in (
+      let same : leads.0 ≡ row = each_taken (λ (other : Row). other.serial ≡ serial → other ≡ row) leads.1.1 alone
+      leads.2 in (
         (
           ap (λ (r : Row). r.live) (sym same) ∙ leads.3,
           ap (λ (r : Row). r.ids) (sym same) ∙ ids_of_key leads.0.ids ids leads.4,
@@ -108,7 +109,8 @@ module _ (rows : List Row) (objects : ObjectKey → Option ℕ) (finds : FindsOb
         (puts key);
     whole = λ other there lives. let before = back other there lives in
         let found = finds.whole other before.1 lives in
-        puts_there (key_of row.ids) None objects objects' puts (key_of other.ids) (λ (s : key_of other.ids ≡ key_of row.ids).
+        puts_there (key_of row.ids) None objects objects' puts (key_of other.ids) (λ (s : key_of other.ids ≡ key_of
+        row.ids).
         before.0 (same_Some other.serial row.serial (sym found ∙ ap objects s ∙ finds.whole row among live))) ∙ found;
   }
 
@@ -128,7 +130,8 @@ module _ (rows : List Row) (objects : ObjectKey → Option ℕ) (finds : FindsOb
       Leaves row.live (key_of row.ids) objects objects' → FindsObjects after objects'
   objects_ended row after objects' among t gone leaves = by_live row.live refl leaves
     where
-      by_live : (live : _) → row.live ≡ live → Leaves live (key_of row.ids) objects objects' → FindsObjects after objects'
+      by_live : (live : _) → row.live ≡ live → Leaves live (key_of row.ids) objects objects' → FindsObjects after
+          objects'
       by_live true l puts =
           objects_left row after objects' among l puts (λ other there. taken_or there.1 t) (λ other there lives. (
             λ e. each_taken (λ (z : Row). z.serial ≡ row.serial → ⊥) there.1 gone e,
@@ -151,7 +154,8 @@ module _ (rows : List Row) (objects : ObjectKey → Option ℕ) (finds : FindsOb
           absurd (each_taken (λ (z : Row). HasIds ids z → ⊥) found.1.1 free
           (found.3, ids_of_key found.0.ids ids found.4))
 
-  pub objects_inserted : (row : Row) (objects' : ObjectKey → Option ℕ) → row.live ≡ true → NoneOf (HasIds row.ids) rows →
+  pub objects_inserted : (row : Row) (objects' : ObjectKey → Option ℕ) → row.live ≡ true → NoneOf (HasIds row.ids)
+      rows →
       Puts (key_of row.ids) (Some row.serial) objects objects' → FindsObjects (row ∷ rows) objects'
   objects_inserted row objects' live free puts = record {
     sound = λ key serial e. ⊎_elim

@@ -95,13 +95,17 @@ module _ {R : Type 0} (kind : Kind R) (Apart : R → R → Type 0) (apart : IsAp
   pub ends_one : (row : R) (after after' : Tables) → EndsRow kind tables row after → EndsRow kind tables row after' →
       after ≡ after'
   ends_one row after after' h k =
-      h.2 ∙ ap (λ (rows : List R). record (kind.with_rows rows tables) { closing = tables.closing ++ kind.closing row ∷ [] })
+      h.2 ∙ ap (λ (rows : List R). record (kind.with_rows rows tables) {
+        closing = tables.closing ++ kind.closing row
+            ∷ [];
+      })
       (takes_one Apart (λ (other : R). kind.serial other ≡ kind.serial row)
       (λ a b p q r. apart.serials a b p (q ∙ sym r)) (apart.two tables agree) h.1 k.1 refl refl).1 ∙ sym k.2
 
   pub pins_alone : (row : R) (one : EventReply) → Alone (Pins tables kind row one)
   pins_alone row one =
-      below_alone tables (kind.pins row) (Leaves one (ChangesRow kind tables row (kind.repinned row (kind.pins row + 1))))
+      below_alone tables (kind.pins row) (Leaves one (ChangesRow kind tables row (kind.repinned row (kind.pins row +
+      1))))
       (leaves_alone one (ChangesRow kind tables row (kind.repinned row (kind.pins row + 1))) (changes_one row _))
 
   module _ (Such : R → Type 0) (one : (row other : R) → Apart row other → Such row → Such other → ⊥) where
@@ -109,8 +113,10 @@ module _ {R : Type 0} (kind : Kind R) (Apart : R → R → Type 0) (apart : IsAp
         Alone (ByRow tables kind Such None Some)
     row_alone None Some none some told told' after after' w w' (inl h) (inl k) =
         none told told' after after' w w' h.1 k.1
-    row_alone None Some none some told told' after after' w w' (inl h) (inr k) = absurd (none_taken Such h.0 k.1.1 k.2)
-    row_alone None Some none some told told' after after' w w' (inr h) (inl k) = absurd (none_taken Such k.0 h.1.1 h.2)
+    row_alone None Some none some told told' after after' w w' (inl h) (inr k) = absurd (none_taken Such h.0 k.1.1
+        k.2)
+    row_alone None Some none some told told' after after' w w' (inr h) (inl k) = absurd (none_taken Such k.0 h.1.1
+        h.2)
     row_alone None Some none some told told' after after' w w' (inr h) (inr k) =
         let same : k.0 ≡ h.0 = sym (takes_one Apart Such one (apart.two tables agree) h.1.1 k.1.1 h.2 k.2).0 in
         some h.0 told told' after after' w w' h.3 (subst (λ (row : R). Some row told' after') same k.3)

@@ -1,5 +1,6 @@
 -- Which reply an event has, that a refused event changes nothing, and that each closing is paid by a row.
-use Rattle.std.proofs.Common.{◌≡◌, inl, inr, ℕ, suc, ◌+◌, ◌≤◌, List, [], ◌∷◌, Option, Some, None, length, sym, ap, subst}
+use Rattle.std.proofs.Common.{◌≡◌, inl, inr, ℕ, suc, ◌+◌, ◌≤◌, List, [], ◌∷◌, Option, Some, None, length, sym, ap}
+use Rattle.std.proofs.Common.{subst}
 use Rattle.std.proofs.Common.{arith}
 use Rattle.pt_session.specs.Change.{Change}
 use Rattle.pt_session.specs.declared.form.Negotiated.{Negotiated}
@@ -94,7 +95,8 @@ by_case : (tables after : Tables) (asked : Change) (told : EventReply) → Case 
     pending_in after + put_by told ≤ pending_in tables + added_by asked told
 by_case tables after asked (reply.Refused refusal) h = refused_adds asked
   where
-    refused_adds : (asked : Change) → pending_in after + 0 ≤ pending_in tables + added_by asked (reply.Refused refusal)
+    refused_adds : (asked : Change) → pending_in after + 0 ≤ pending_in tables + added_by asked (reply.Refused
+        refusal)
     refused_adds asked = let n : pending_in after ≡ pending_in tables = ap pending_in h.1 in omega (arith, n)
 by_case tables after change.Begin (reply.Began era negotiated) h = even tables after (ap pending_in h.2)
 by_case tables after (change.Resolve number) (reply.Resolved serial form ids mode) h =
@@ -136,7 +138,8 @@ pub pays : (tables after : Tables) (asked : Change) (told : EventReply) → Happ
     pending_in after + put_by told ≤ pending_in tables + added_by asked told
 pays tables after asked told h = by_case tables after asked told (cases tables after asked told h)
 
-pub cleared : (tables after : Tables) (era closings : ℕ) → Happens tables change.Clear (reply.Cleared era closings) after →
+pub cleared : (tables after : Tables) (era closings : ℕ) → Happens tables change.Clear (reply.Cleared era closings)
+    after →
     IsCleared tables after era
 cleared tables after era closings h = let case = cases tables after change.Clear (reply.Cleared era closings) h in
     subst (λ (e : ℕ). IsCleared tables after e) (sym case.2) (clears tables after closings case.1)

@@ -25,7 +25,8 @@ among_reversed row rows seen e h = (
       Takes row z (reverse h.0)) (reverse-reverse rows) (takes_reverse (subst (λ z. Takes row z h.0) (sym e) h.1)),
 )
 
-pub among_seen : {R : Type 0} (row : R) (rows seen : List R) → reverse rows ≡ seen → IsAmong row rows → IsAmong row seen
+pub among_seen : {R : Type 0} (row : R) (rows seen : List R) → reverse rows ≡ seen → IsAmong row rows → IsAmong row
+    seen
 among_seen row rows seen e h = (reverse h.0, subst (λ z. Takes row z (reverse h.0)) e (takes_reverse h.1))
 
 pub each_unseen : {R : Type 0} (P : R → Type 0) (rows seen : List R) → reverse rows ≡ seen → Each P seen → Each P rows

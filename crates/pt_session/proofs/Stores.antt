@@ -11,7 +11,8 @@ use Rattle.pt_session.specs.LiveAfter.{IsAbove, IsLiveAbove}
 use Rattle.pt_session.specs.Store.{IsOlder, IsSame, IsDead, IsNext}
 use Rattle.pt_session.specs.Index.{row_at, Puts, SameAt, Leaves, IsKeyed, IsSoundRows, IsNextIn}
 use Rattle.pt_session.proofs.Lists.{each_reverse, takes_reverse, replaces_reverse, two_takes, two_replaces, two_push}
-use Rattle.pt_session.proofs.Indexing.{puts_back, puts_here, index_same, index_inserted, index_changed, index_left, index_ended}
+use Rattle.pt_session.proofs.Indexing.{puts_back, puts_here, index_same, index_inserted, index_changed, index_left}
+use Rattle.pt_session.proofs.Indexing.{index_ended}
 use Rattle.pt_session.proofs.Entries.{lookup_takes, lookup_replaces, keyed_removed, keyed_set, keyed_push, serial_at}
 use Rattle.pt_session.proofs.Entries.{among_found, each_from_among}
 use Rattle.pt_session.proofs.Seen.{among_reversed, among_seen, each_unseen, found_seen, among_at, index_misses}
@@ -72,7 +73,8 @@ module _ {R : Type 0} (kind : Kind R) (entries : List (ℕ × R)) (keys : ℕ �
   key_alone key serial (Some row) some e =
       each_from_among (λ other. HasKey kind key other → other ≡ row) seen (λ other among p.
       let its = sound.keys.whole (kind.serial other) other (is_there other among) p.0 in
-      let same : serial ≡ kind.serial other = same_Some serial (kind.serial other) (sym some ∙ ap keys (sym p.1) ∙ its) in
+      let same : serial ≡ kind.serial other = same_Some serial (kind.serial other) (sym some ∙ ap keys (sym p.1) ∙
+      its) in
       same_Some other row (sym (is_there other among) ∙ ap (row_at entries) (sym same) ∙ sym e))
 
   pub pin_missed : (serial : ℕ) → row_at entries serial ≡ None → NoneOf (IsPinned kind serial) seen
@@ -124,14 +126,17 @@ module _ {R : Type 0} (kind : Kind R) (entries : List (ℕ × R)) (keys : ℕ �
         (keyed_set kind.serial serial now entries (same.serial ∙ sym s) sound.keyed);
     ordered = subst (λ z. EachTwo (IsOlder kind.serial) (values_of z)) (sym e)
         (set_ordered was now serial there same.serial);
-    keys = index_changed kind.live kind.key (row_at entries) (row_at after) keys was now serial there same.live same.key
+    keys = index_changed kind.live kind.key (row_at entries) (row_at after) keys was now serial there same.live
+        same.key
         puts sound.keys;
   }
 
-  pub sound_buried : (row now : R) (serial : ℕ) (after : List (ℕ × R)) (live : Bool) (key : ℕ) (keys' : ℕ → Option ℕ) →
+  pub sound_buried : (row now : R) (serial : ℕ) (after : List (ℕ × R)) (live : Bool) (key : ℕ) (keys' : ℕ → Option ℕ)
+      →
       serial ≡ kind.serial row → live ≡ kind.live row → key ≡ kind.key row → IsAmong row seen →
       kind.live row ≡ true → IsDead kind row now → after ≡ set_value (is_at (nat_cmp serial)) entries now →
-      Puts serial (Some now) (row_at entries) (row_at after) → Leaves live key keys keys' → IsSoundRows kind after keys'
+      Puts serial (Some now) (row_at entries) (row_at after) → Leaves live key keys keys' → IsSoundRows kind after
+      keys'
   sound_buried row now serial after live key keys' s l n among lives dead e puts leaves =
       let there = is_there_by row serial s among in
       let dies : (other : R) → Some now ≡ Some other → kind.live other ≡ false =
@@ -141,7 +146,8 @@ module _ {R : Type 0} (kind : Kind R) (entries : List (ℕ × R)) (keys : ℕ �
             (keyed_set kind.serial serial now entries (dead.serial ∙ sym s) sound.keyed);
         ordered = subst (λ z. EachTwo (IsOlder kind.serial) (values_of z)) (sym e)
             (set_ordered row now serial there dead.serial);
-        keys = index_left kind.live kind.key (row_at entries) (row_at after) keys keys' row serial (Some now) there lives
+        keys = index_left kind.live kind.key (row_at entries) (row_at after) keys keys' row serial (Some now) there
+            lives
             dies puts (subst (λ (k : ℕ). Puts k None keys keys') n
             (subst (λ (b : Bool). Leaves b key keys keys') (l ∙ lives) leaves)) sound.keys;
       }
@@ -158,7 +164,8 @@ module _ {R : Type 0} (kind : Kind R) (entries : List (ℕ × R)) (keys : ℕ �
             (keyed_removed kind.serial (is_at (nat_cmp serial)) entries sound.keyed);
         ordered = subst (λ z. EachTwo (IsOlder kind.serial) (values_of z)) (sym e)
             (two_takes (IsOlder kind.serial) takes sound.ordered);
-        keys = index_ended kind.live kind.key live (row_at entries) (row_at after) keys keys' row serial there (sym l) puts
+        keys = index_ended kind.live kind.key live (row_at entries) (row_at after) keys keys' row serial there (sym l)
+            puts
             (subst (λ (k : ℕ). Leaves live k keys keys') n leaves) sound.keys;
       }
 
@@ -204,7 +211,8 @@ module _ {R : Type 0} (kind : Kind R) (entries : List (ℕ × R)) (keys : ℕ �
             (two_push (IsOlder kind.serial) (values_of entries) row sound.ordered
             (each_unseen (λ other. kind.serial other < kind.serial row) (values_of entries) seen view newest));
         keys = index_inserted kind.live kind.key (row_at entries) (row_at after) keys keys' row serial live absent
-            (is_free (kind.key row) free) puts (subst (λ (k : ℕ). Puts k (Some serial) keys keys') n enters) sound.keys;
+            (is_free (kind.key row) free) puts (subst (λ (k : ℕ). Puts k (Some serial) keys keys') n enters)
+            sound.keys;
       }
 
   pub sound_same : (keys' : ℕ → Option ℕ) → SameAt keys keys' → IsSoundRows kind entries keys'
@@ -228,7 +236,8 @@ module _ {R : Type 0} (kind : Kind R) (entries : List (ℕ × R)) (keys : ℕ �
       (IsLiveAbove kind above) sound.keys (λ row p. p) (subst (λ z. IsNextIn keys above z) e h))
 
   pub next_found : (above : Option ℕ) (next : Option (ℕ × ℕ)) (key serial : ℕ) (found : Option R) →
-      next ≡ Some (key, serial) → found ≡ row_at entries serial → IsNextIn keys above next → IsNext kind seen above found
+      next ≡ Some (key, serial) → found ≡ row_at entries serial → IsNextIn keys above next → IsNext kind seen above
+      found
   next_found above next key serial None e there h =
       absurd (next_leads_in kind.serial kind.live entries sound.keyed sound.ordered kind.key keys above key serial
       sound.keys (sym there) (subst (λ z. IsNextIn keys above z) e h))
@@ -238,7 +247,8 @@ module _ {R : Type 0} (kind : Kind R) (entries : List (ℕ × R)) (keys : ℕ �
       sound.keys (sym there) here_is in
       let least = next_least kind.serial kind.live entries sound.keyed sound.ordered kind.key keys above key serial
       (IsLiveAbove kind above) sound.keys (λ other p. p) here_is in
-      let least_is : Each (λ other. IsLiveAbove kind above other → kind.key row ≤ kind.key other) (values_of entries) =
+      let least_is : Each (λ other. IsLiveAbove kind above other → kind.key row ≤ kind.key other) (values_of entries)
+      =
       subst (λ (n : ℕ). Each (λ other. IsLiveAbove kind above other → n ≤ kind.key other) (values_of entries))
       (sym found.1) least in (
         (found.0, subst (IsAbove above) (sym found.1) here_is.1),
@@ -254,14 +264,17 @@ module _ {R : Type 0} (kind : Kind R) (entries : List (ℕ × R)) (keys : ℕ �
       NoneOf (λ other. kind.serial other ≡ kind.serial row) (reverse (values_of after))
   ended_gone row serial after keys' s left puts =
       each_reverse (λ other. kind.serial other ≡ kind.serial row → ⊥) (values_of after)
-      (serial_misses kind.serial kind.live after left.keyed left.ordered serial (λ other. kind.serial other ≡ kind.serial row)
+      (serial_misses kind.serial kind.live after left.keyed left.ordered serial (λ other. kind.serial other ≡
+      kind.serial row)
       (λ other p. p ∙ sym s) (puts_here serial None (row_at entries) (row_at after) puts))
 
-  pub buried_gone : (row now : R) (serial : ℕ) (after : List (ℕ × R)) (keys' : ℕ → Option ℕ) → serial ≡ kind.serial row →
+  pub buried_gone : (row now : R) (serial : ℕ) (after : List (ℕ × R)) (keys' : ℕ → Option ℕ) → serial ≡ kind.serial
+      row →
       IsDead kind row now → IsSoundRows kind after keys' → Puts serial (Some now) (row_at entries) (row_at after) →
       NoneOf (λ other. (kind.serial other ≡ kind.serial row) × (kind.live other ≡ true)) (reverse (values_of after))
   buried_gone row now serial after keys' s dead left puts =
       each_reverse (λ other. (kind.serial other ≡ kind.serial row) × (kind.live other ≡ true) → ⊥) (values_of after)
       (serial_finds_other kind.serial kind.live after left.keyed left.ordered serial now
       (λ other. (kind.serial other ≡ kind.serial row) × (kind.live other ≡ true)) (λ other p. p.0 ∙ sym s)
-      (λ p. let d = dead.live in let l = p.1 in absurd (cc)) (puts_here serial (Some now) (row_at entries) (row_at after) puts))
+      (λ p. let d = dead.live in let l = p.1 in absurd (cc)) (puts_here serial (Some now) (row_at entries) (row_at
+      after) puts))

@@ -91,15 +91,17 @@ TakesFirst tables (first ∷ closing) = Tells (reply.Closing first.fd first.slot
 abbrev pub Happens : Tables → Change → EventReply → Tables → Type 0
 -- `Begin` tells the era and what was agreed on. It is never refused.
 Happens tables change.Begin = Tells (reply.Began tables.era tables.negotiated) tables
--- `Resolve` pins the row of a live number and tells it. Refused: NotLive unless the number is; then Last at the end of
--- the row's pins.
-Happens tables (change.Resolve number) = UnlessRow tables number_rows (HasNumber number) NotLive (λ row.
+-- `Resolve` pins the row of a live number and tells it. Refused: NotLive unless the number is; then Last at the end
+-- of the row's pins.
+Happens tables (change.Resolve number) =
+    UnlessRow tables number_rows (HasNumber number) NotLive (λ row.
     Pins tables number_rows row (reply.Resolved row.serial row.form row.ids row.mode))
 -- `Unpin` gives a pin of a number's row back. Refused: NotLive unless a row of that serial has a pin.
-Happens tables (change.Unpin serial) = UnlessRow tables number_rows (IsPinned number_rows serial) NotLive (λ row.
+Happens tables (change.Unpin serial) =
+    UnlessRow tables number_rows (IsPinned number_rows serial) NotLive (λ row.
     Closes (Unpins number_rows tables row))
--- `Claim` gives the number of the object's row once more, or tells that there is none. Refused: Overtaken; then, where
--- it has a row, Last at the end of its count. Rows are found by ids alone, as long as all are in file form.
+-- `Claim` gives the number of the object's row once more, or tells that there is none. Refused: Overtaken; then,
+-- where it has a row, Last at the end of its count. Rows are found by ids alone, as long as all are in file form.
 Happens tables (change.Claim era handle ids) =
     InEra tables era (GivesAgain tables ids (λ number. reply.Claimed number) (Tells reply.Absent tables))
 -- `TakeFd` takes a descriptor slot. Refused: NoSlot unless one is left.
@@ -113,8 +115,8 @@ Happens tables change.GiveFd =
 Happens tables change.DrawNode = Below tables tables.next_number
     (Tells (reply.Drawn tables.next_number) (record tables { next_number = tables.next_number + 1 }))
 -- `Insert` gives the number of the object's row once more, or adds a row of the number with count 1. Refused:
--- Overtaken; then, where the object has a row, Last at the end of its count; where it has none, Live if the number is,
--- then Last at the end of the serials, then Memory.
+-- Overtaken; then, where the object has a row, Last at the end of its count; where it has none, Live if the number
+-- is, then Last at the end of the serials, then Memory.
 Happens tables (change.Insert era number form ids mode) =
     InEra tables era (GivesAgain tables ids (λ given. reply.Found given)
     (IfRow tables number_rows (HasNumber number) Live
@@ -132,20 +134,23 @@ Happens tables (change.GiveBack era number) =
 -- `DrawHandle` draws the next handle. Refused: Last at the end of the handles.
 Happens tables change.DrawHandle = Below tables tables.next_handle
     (Tells (reply.Drawn tables.next_handle) (record tables { next_handle = tables.next_handle + 1 }))
--- `InsertHandle` adds a row of the handle. Refused: Overtaken; then Live if the handle is; then Last at the end of the
--- serials; then Memory.
+-- `InsertHandle` adds a row of the handle. Refused: Overtaken; then Live if the handle is; then Last at the end of
+-- the serials; then Memory.
 Happens tables (change.InsertHandle era handle number fd) =
     InEra tables era (IfRow tables handle_rows (HasHandle handle) Live
     (Adds tables (reply.Inserted handle) (with_handle tables (new_handle tables handle number fd))))
--- `PinHandle` pins the row of a live handle of that number and tells it. Refused: NotLive unless there is one; then Last
--- at the end of the row's pins.
-Happens tables (change.PinHandle handle number) = UnlessRow tables handle_rows (IsHandle handle number) NotLive (λ row.
+-- `PinHandle` pins the row of a live handle of that number and tells it. Refused: NotLive unless there is one; then
+-- Last at the end of the row's pins.
+Happens tables (change.PinHandle handle number) =
+    UnlessRow tables handle_rows (IsHandle handle number) NotLive (λ row.
     Pins tables handle_rows row (reply.Pinned row.serial row.fd))
 -- `UnpinHandle` gives a pin of a handle's row back. Refused: NotLive unless a row of that serial has a pin.
-Happens tables (change.UnpinHandle serial) = UnlessRow tables handle_rows (IsPinned handle_rows serial) NotLive (λ row.
+Happens tables (change.UnpinHandle serial) =
+    UnlessRow tables handle_rows (IsPinned handle_rows serial) NotLive (λ row.
     Closes (Unpins handle_rows tables row))
 -- `Release` lets a live handle of that number die. Refused: NotLive unless there is one.
-Happens tables (change.Release handle number) = UnlessRow tables handle_rows (IsHandle handle number) NotLive (λ row.
+Happens tables (change.Release handle number) =
+    UnlessRow tables handle_rows (IsHandle handle number) NotLive (λ row.
     Closes (Dies handle_rows tables row))
 -- `Clear` begins the session anew. Refused: Last at the end of the eras.
 Happens tables change.Clear = Below tables tables.era (λ told after.

@@ -3,9 +3,9 @@ use Rattle.std.specs.Prelude.{◌≡◌, ◌≢◌, ◌≤◌, ◌⊎◌, ◌+�
 use Rattle.pt_host.specs.Words.{Each, Takes, Replaces}
 use Rattle.pt_session.specs.Tables.{Row, HandleRow, Closing, Tables, closing_of, closing_of_handle}
 
--- A kind of rows. A row has a serial and a key, and so many pins; it is live or not. `repinned` is the row with so many
--- pins, `dead` the row that is live no more and stays for its pins, `closing` what is to be closed when it ends. The
--- tables keep the rows of a kind in a list.
+-- A kind of rows. A row has a serial and a key, and so many pins; it is live or not. `repinned` is the row with so
+-- many pins, `dead` the row that is live no more and stays for its pins, `closing` what is to be closed when it ends.
+-- The tables keep the rows of a kind in a list.
 pub record Kind (R : Type 0) : Type 0 where
   pub serial : R → ℕ
   pub key : R → ℕ
@@ -65,46 +65,45 @@ IsHandleRow tables row = IsAmong row tables.handles
 abbrev pub NoHandle : Tables → (HandleRow → Type 0) → Type 0
 NoHandle tables P = NoneOf P tables.handles
 
-module _ {R : Type 0} (kind : Kind R) where
-  -- it is live, and has this key
-  abbrev pub HasKey : ℕ → R → Type 0
-  HasKey key row = (kind.live row ≡ true) × (kind.key row ≡ key)
+-- it is live, and has this key
+abbrev pub HasKey : {R : Type 0} → Kind R → ℕ → R → Type 0
+HasKey kind key row = (kind.live row ≡ true) × (kind.key row ≡ key)
 
-  -- it has this serial, and a pin
-  abbrev pub IsPinned : ℕ → R → Type 0
-  IsPinned serial row = (kind.serial row ≡ serial) × (kind.pins row ≢ 0)
+-- it has this serial, and a pin
+abbrev pub IsPinned : {R : Type 0} → Kind R → ℕ → R → Type 0
+IsPinned kind serial row = (kind.serial row ≡ serial) × (kind.pins row ≢ 0)
 
-  -- one row changes
-  abbrev pub ChangesRow : Tables → R → R → Tables → Type 0
-  ChangesRow tables row now after =
-      (rows : List R) × Replaces row now (kind.rows tables) rows × (after ≡ kind.with_rows rows tables)
+-- one row changes
+abbrev pub ChangesRow : {R : Type 0} → Kind R → Tables → R → R → Tables → Type 0
+ChangesRow {R} kind tables row now after =
+    (rows : List R) × Replaces row now (kind.rows tables) rows × (after ≡ kind.with_rows rows tables)
 
-  -- a row ends, and its descriptor is to be closed
-  abbrev pub EndsRow : Tables → R → Tables → Type 0
-  EndsRow tables row after =
-      (rows : List R) × Takes row (kind.rows tables) rows
-      × (after ≡ record (kind.with_rows rows tables) { closing = tables.closing ++ kind.closing row ∷ [] })
+-- a row ends, and its descriptor is to be closed
+abbrev pub EndsRow : {R : Type 0} → Kind R → Tables → R → Tables → Type 0
+EndsRow {R} kind tables row after =
+    (rows : List R) × Takes row (kind.rows tables) rows
+    × (after ≡ record (kind.with_rows rows tables) { closing = tables.closing ++ kind.closing row ∷ [] })
 
-  -- a live row dies: with a pin it stays, without one it ends
-  abbrev pub Dies : Tables → R → ℕ → Tables → Type 0
-  Dies tables row closings after =
-      ((kind.pins row ≡ 0) × (closings ≡ 1) × EndsRow tables row after)
-      ⊎ ((kind.pins row ≢ 0) × (closings ≡ 0) × ChangesRow tables row (kind.dead row) after)
+-- a live row dies: with a pin it stays, without one it ends
+abbrev pub Dies : {R : Type 0} → Kind R → Tables → R → ℕ → Tables → Type 0
+Dies kind tables row closings after =
+    ((kind.pins row ≡ 0) × (closings ≡ 1) × EndsRow kind tables row after)
+    ⊎ ((kind.pins row ≢ 0) × (closings ≡ 0) × ChangesRow kind tables row (kind.dead row) after)
 
-  -- a pin is given back: the last one of a row that is not live ends it
-  abbrev pub Unpins : Tables → R → ℕ → Tables → Type 0
-  Unpins tables row closings after =
-      ((kind.live row ≡ false) × (kind.pins row ≡ 1) × (closings ≡ 1) × EndsRow tables row after)
-      ⊎ (((kind.live row ≡ true) ⊎ (kind.pins row ≢ 1)) × (closings ≡ 0)
-      × ChangesRow tables row (kind.repinned row (kind.pins row - 1)) after)
+-- a pin is given back: the last one of a row that is not live ends it
+abbrev pub Unpins : {R : Type 0} → Kind R → Tables → R → ℕ → Tables → Type 0
+Unpins kind tables row closings after =
+    ((kind.live row ≡ false) × (kind.pins row ≡ 1) × (closings ≡ 1) × EndsRow kind tables row after)
+    ⊎ (((kind.live row ≡ true) ⊎ (kind.pins row ≢ 1)) × (closings ≡ 0)
+    × ChangesRow kind tables row (kind.repinned row (kind.pins row - 1)) after)
 
-  -- a live row, and no live one has a lesser key
-  abbrev pub IsLeast : List R → R → Type 0
-  IsLeast rows row = (kind.live row ≡ true) × IsAmong row rows
-      × Each (λ other. kind.live other ≡ true → kind.key row ≤ kind.key other) rows
+-- a live row, and no live one has a lesser key
+abbrev pub IsLeast : {R : Type 0} → Kind R → List R → R → Type 0
+IsLeast kind rows row = (kind.live row ≡ true) × IsAmong row rows
+    × Each (λ other. kind.live other ≡ true → kind.key row ≤ kind.key other) rows
 
-  -- all live rows die, the one of the least key first
-  pub data AllDie : Tables → ℕ → Tables → Type 0 where
-    none : {tables : Tables} → NoneOf (λ row. kind.live row ≡ true) (kind.rows tables) → AllDie tables 0 tables
-    next : {tables mid after : Tables} {one more : ℕ} (row : R) → IsLeast (kind.rows tables) row →
-        Dies tables row one mid → AllDie mid more after → AllDie tables (one + more) after
+-- all live rows die, the one of the least key first
+pub data AllDie {R : Type 0} (kind : Kind R) : Tables → ℕ → Tables → Type 0 where
+  none : {tables : Tables} → NoneOf (λ row. kind.live row ≡ true) (kind.rows tables) → AllDie kind tables 0 tables
+  next : {tables mid after : Tables} {one more : ℕ} (row : R) → IsLeast kind (kind.rows tables) row →
+      Dies kind tables row one mid → AllDie kind mid more after → AllDie kind tables (one + more) after

@@ -115,7 +115,8 @@ impl<R: Pinned> Rows<R> {
     pub fn at(&self, serial: u64) -> Option<R>
         ensures found { MatchOption result (NoneOf (λ row. R.kind.serial row ≡ serial) self.now) (λ row.
             R.kind.serial row ≡ serial × IsAmong row self.now) }
-        ensures alone { MatchOption result (Unit {0}) (λ row. Each (λ other. R.kind.serial other ≡ serial → other ≡ row) self.now) }
+        ensures alone { MatchOption result (Unit {0}) (λ row.
+            Each (λ other. R.kind.serial other ≡ serial → other ≡ row) self.now) }
     {
         row_of(&self.rows, serial)
     }
@@ -124,7 +125,8 @@ impl<R: Pinned> Rows<R> {
     pub fn live(&self, key: u64) -> Option<R>
         ensures found { MatchOption result (NoneOf (HasKey R.kind key) self.now) (λ row. HasKey R.kind key row
             × IsAmong row self.now) }
-        ensures alone { MatchOption result (Unit {0}) (λ row. Each (λ other. HasKey R.kind key other → other ≡ row) self.now) }
+        ensures alone { MatchOption result (Unit {0}) (λ row.
+            Each (λ other. HasKey R.kind key other → other ≡ row) self.now) }
     {
         match self.keys.get(&key) {
             None => None,

@@ -4,4 +4,5 @@ use Rattle.pt_session.proofs.Storing.{handles_replaced}
 use Rattle.pt_session.proofs.store.RowStore.bury_handle.Goals as goal
 
 pub invariant_of-self : goal.invariant_of-self
-invariant_of-self c = handles_replaced _ _ _ _ _ c.self.invariant _ (ap (λ (stored : Stored). stored.rows) c.self.view_is) _ _ _ c.bury.ensures.rows
+invariant_of-self c = handles_replaced _ _ _ _ _ c.self.invariant _ (ap (λ (stored : Stored). stored.rows)
+    c.self.view_is) _ _ _ c.bury.ensures.rows

@@ -8,7 +8,8 @@ use Rattle.pt_session.proofs.store.RowStore.object.Goals as goal
 
 pub returns-in-None : goal.returns-in-None
 returns-in-None c =
-    subst (λ (rows : List Row). NoneOf (HasIds c.args.ids) rows) (ap (λ (stored : Stored). stored.rows) c.self.view_is)
+    subst (λ (rows : List Row). NoneOf (HasIds c.args.ids) rows) (ap (λ (stored : Stored). stored.rows)
+    c.self.view_is)
     (object_missed _ _ c.self.invariant.objects c.args.ids
     (subst (λ (key : ObjectKey). by_object c.self.inside.objects key ≡ None) c.object_key.ensures
     (sym c.in-None.ensures.value)))

@@ -8,7 +8,8 @@ loop-row-smaller c = dies_live number_rows numbers_kept _ _ _ _ c.kill-closings.
 
 pub loop-row-preserved : goal.loop-row-preserved
 loop-row-preserved c = record {
-  whole = all_on number_rows numbers_kept _ _ _ _ _ _ c.loop-row.invariant.whole c.in-Some.ensures.least c.kill-closings.ensures;
+  whole = all_on number_rows numbers_kept _ _ _ _ _ _ c.loop-row.invariant.whole c.in-Some.ensures.least
+      c.kill-closings.ensures;
   bound = all_bound number_rows numbers_kept _ _ _ _ _ _ c.loop-row.invariant.bound c.kill-closings.ensures;
 }
 
