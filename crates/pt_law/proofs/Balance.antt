@@ -14,7 +14,6 @@ use Rattle.pt_session.specs.declared.form.RowForm.{RowForm}
 use Rattle.pt_session.specs.declared.form.RowForm.TheVariants.{File}
 use Rattle.pt_session.specs.declared.form.Negotiated.{Negotiated}
 use Rattle.pt_session.specs.declared.event.KeptEvent.TheVariants as change
-use Rattle.pt_session.specs.declared.reply.EventRefusal.TheVariants.{NotLive}
 use Rattle.pt_session.specs.declared.reply.EventReply.{EventReply}
 use Rattle.pt_session.specs.declared.reply.EventReply.TheVariants as reply
 use Rattle.pt_req.specs.Deed.{Deed, Changes as Asks}
@@ -359,7 +358,7 @@ moved_by_case t (change.Resolve number) (reply.Resolved serial form ids mode) af
       closings = omega arith;
     })
 moved_by_case t (change.Unpin serial) (reply.Done closings) after h a = unpinned t serial closings after h
-moved_by_case t (change.Unpin serial) (reply.Refused NotLive) after h a = absurd a
+moved_by_case t (change.Unpin serial) (reply.Refused why) after h a = absurd a
 moved_by_case t (change.Claim era handle ids) (reply.Claimed number) after h a =
     again t h.1.0 after _ _ h.1.4 refl refl (λ _. refl) refl (λ _. refl) (λ _. refl)
 moved_by_case t (change.Claim era handle ids) reply.Absent after h a =
@@ -380,7 +379,7 @@ moved_by_case t change.GiveFd reply.Given after h a =
       handle_pins = λ _. omega arith;
       closings = omega arith;
     })
-moved_by_case t change.GiveFd (reply.Refused NotLive) after h a = absurd a
+moved_by_case t change.GiveFd (reply.Refused why) after h a = absurd a
 moved_by_case t change.DrawNode (reply.Drawn number) after h a =
     rw h.2 (record {
       fds = λ fd. omega arith;
@@ -434,7 +433,7 @@ moved_by_case t (change.PinHandle handle number) (reply.Pinned serial fd) after 
       closings = omega arith;
     })
 moved_by_case t (change.UnpinHandle serial) (reply.Done closings) after h a = handle_unpinned t serial closings after h
-moved_by_case t (change.UnpinHandle serial) (reply.Refused NotLive) after h a = absurd a
+moved_by_case t (change.UnpinHandle serial) (reply.Refused why) after h a = absurd a
 moved_by_case t (change.Release handle number) (reply.Done closings) after h a =
     moved_by t after closings (Asks (change.Release handle number)) (Event (reply.Done closings))
     (sheds_handle t h.0 closings after h.2) refl refl (λ _. refl) refl (λ _. refl) (λ _. refl)
@@ -449,7 +448,7 @@ moved_by_case t change.TakeClosing (reply.Closing fd slot) after h a =
       handle_pins = λ _. omega arith;
       closings = let x = ap length h.1 in omega (arith, x);
     })
-moved_by_case t change.TakeClosing (reply.Refused NotLive) after h a = absurd a
+moved_by_case t change.TakeClosing (reply.Refused why) after h a = absurd a
 moved_by_case t e (reply.Refused why) after h a =
     same t after _ _ h.1 refl refl (λ _. refl) refl (λ _. refl) (λ _. refl)
 moved_by_case t _ _ after h a = absurd h

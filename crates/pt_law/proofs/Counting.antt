@@ -74,8 +74,7 @@ honest_by bound t js j (change.Unpin row) (event.Refused NotLive) t' after lt b 
     let k = total_takes (pin_held row) m.0.1 in
     let s = is_same row in
     absurd (omega (arith, u, p, q, k, s))
-honest_by bound t js j (change.Unpin row) (event.Refused _) t' after lt b h m =
-    absurd (elim h.0 [ inl e ↦ cc | inr no ↦ no ])
+honest_by bound t js j (change.Unpin row) (event.Refused _) t' after lt b h m = absurd h.0
 honest_by bound t js j (change.UnpinHandle row) (event.Refused NotLive) t' after lt b h m =
     let u = handle_unpinned row t.handles h.2 in
     let p = b.handle_pins row in
@@ -83,22 +82,19 @@ honest_by bound t js j (change.UnpinHandle row) (event.Refused NotLive) t' after
     let k = total_takes (handle_pin_held row) m.0.1 in
     let s = is_same row in
     absurd (omega (arith, u, p, q, k, s))
-honest_by bound t js j (change.UnpinHandle row) (event.Refused _) t' after lt b h m =
-    absurd (elim h.0 [ inl e ↦ cc | inr no ↦ no ])
+honest_by bound t js j (change.UnpinHandle row) (event.Refused _) t' after lt b h m = absurd h.0
 honest_by bound t js j change.GiveFd (event.Refused NotLive) t' after lt b h m =
     let p = b.slots in
     let q = part slot_held js bound j lt in
     let k = total_takes slot_held m.0 in
     absurd (omega (arith, p, q, k, h.2))
-honest_by bound t js j change.GiveFd (event.Refused _) t' after lt b h m =
-    absurd (elim h.0 [ inl e ↦ cc | inr no ↦ no ])
+honest_by bound t js j change.GiveFd (event.Refused _) t' after lt b h m = absurd h.0
 honest_by bound t js j change.TakeClosing (event.Refused NotLive) t' after lt b h m =
     let p = b.closings in
     let q = le_sum_to (λ i. (js i).owed) bound j lt in
     let e = ap length h.2 in
     absurd (omega (arith, p, q, e, m.1))
-honest_by bound t js j change.TakeClosing (event.Refused _) t' after lt b h m =
-    absurd (elim h.0 [ inl e ↦ cc | inr no ↦ no ])
+honest_by bound t js j change.TakeClosing (event.Refused _) t' after lt b h m = absurd h.0
 honest_by bound t js j _ _ t' after lt b h m = tt
 
 pub honest : (bound : ℕ) (t : Tables) (js : ℕ → Job) (j : ℕ) (e : Change) (r : EventReply) (t' : Tables) (after : Job) →

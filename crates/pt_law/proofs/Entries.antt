@@ -219,7 +219,7 @@ resolve_at : (bound : ℕ) (base had : ℕ → ℕ) (w : World) (js : ℕ →
     Goes w (turn_of j (resolving parent row form ids mode)) next →
     (directory : ℕ) × ObjectOf w parent directory × (w.past.objects row ≡ Some directory) × (row < w.tables.next_row)
 resolve_at bound base had w js j parent row mode form ids next v g =
-    let h = g.made.0 in
+    let h = cases w.tables next.tables (change.Resolve parent) (event.Resolved row form ids mode) g.made.0 in
     let o = each_replaced (RowOpen w.tree w.past) h.7.1 v.right.shown in
     let s = each_replaced (IsSoundRow w.tables.next_row) h.7.1 v.tabled.agree.sound in (
       o.object,

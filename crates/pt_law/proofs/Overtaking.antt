@@ -210,6 +210,8 @@ other_step j t t' turns owner (Some (Changes change.Clear)) (Event (event.Cleare
     })
 other_step j t t' turns owner (Some (Changes change.Clear)) (Event (event.Refused why)) g n b era e =
     inl (e ∙ sym (era_step t (Some (Changes change.Clear)) (Event (event.Refused why)) t' g (λ c. c)))
+other_step j t t' turns owner (Some (Changes change.Clear)) (Event told) g n b era e =
+    absurd (cases t t' change.Clear told g)
 other_step j t t' turns owner (Some (Changes change.Clear)) told g n b era e = absurd g
 other_step j t t' turns owner deed told g n b era e = inl (e ∙ sym (era_step t deed told t' g (λ c. c)))
 

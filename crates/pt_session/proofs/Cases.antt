@@ -140,7 +140,7 @@ none_out tables full = let l : tables.limit < suc tables.slots = lt_of_not-le fu
 
 takes_first : (tables after : Tables) (told : EventReply) (list : List Closing) → tables.closing ≡ list →
     TakesFirst tables list told after → Case tables change.TakeClosing told after
-takes_first tables after told [] e h = refused tables after change.TakeClosing told NotLive (inl refl) e h
+takes_first tables after told [] e h = refused tables after change.TakeClosing told NotLive tt e h
 takes_first tables after told (first ∷ closing) e h =
     told_as tables after change.TakeClosing told _ h.0 (closing, e, h.1)
 
@@ -149,43 +149,42 @@ pub cases : (tables after : Tables) (asked : Change) (told : EventReply) → Hap
 cases tables after change.Begin told h =
     told_as tables after change.Begin told (reply.Began tables.era tables.negotiated) h.0 (refl, refl, h.1)
 cases tables after (change.Resolve number) told (inl none) =
-    refused tables after (change.Resolve number) told NotLive (inl refl) tt none.1
+    refused tables after (change.Resolve number) told NotLive tt tt none.1
 cases tables after (change.Resolve number) told (inr found) = let row = found.0 in elim found.3 [
   | inl on ↦ told_as tables after (change.Resolve number) told
       (reply.Resolved row.serial row.form row.ids row.mode) on.1.0
       (row, found.2, refl, refl, refl, refl, found.1, on.1.1)
-  | inr last ↦ refused tables after (change.Resolve number) told Last (inr (inl refl)) tt last.1
+  | inr last ↦ refused tables after (change.Resolve number) told Last tt tt last.1
 ]
 cases tables after (change.Unpin serial) told (inl none) =
-    refused tables after (change.Unpin serial) told NotLive (inl refl) none.0 none.1
+    refused tables after (change.Unpin serial) told NotLive tt none.0 none.1
 cases tables after (change.Unpin serial) told (inr found) = let done = found.3 in
     told_as tables after (change.Unpin serial) told (reply.Done done.0) done.1
     (gives_pin number_rows tables after serial done.0 found.0 found.2 done.2)
 cases tables after (change.Claim era handle ids) told (inr over) =
-    refused tables after (change.Claim era handle ids) told Overtaken (inl refl) over.0 over.1
+    refused tables after (change.Claim era handle ids) told Overtaken tt over.0 over.1
 cases tables after (change.Claim era handle ids) told (inl on) = elim on.1 [
   | inl none ↦ told_as tables after (change.Claim era handle ids) told reply.Absent none.1.0 (on.0, none.0, none.1.1)
   | inr found ↦ let row = found.0 in elim found.3 [
     | inl again ↦ told_as tables after (change.Claim era handle ids) told (reply.Claimed row.number) again.1.0
         (on.0, (row, found.2, refl, found.1, again.1.1))
-    | inr last ↦ refused tables after (change.Claim era handle ids) told Last (inr (inl refl)) tt last.1
+    | inr last ↦ refused tables after (change.Claim era handle ids) told Last tt tt last.1
   ]
 ]
 cases tables after change.TakeFd told (inl on) =
     told_as tables after change.TakeFd told reply.Taken on.1.0
     (tables.slots - 1, (let some = on.0 in omega arith), on.1.1)
-cases tables after change.TakeFd told (inr none) = refused tables after change.TakeFd told NoSlot (inl refl) tt none.1
+cases tables after change.TakeFd told (inr none) = refused tables after change.TakeFd told NoSlot tt tt none.1
 cases tables after change.GiveFd told (inl on) =
     told_as tables after change.GiveFd told reply.Given on.1.0 (on.0, on.1.1)
 cases tables after change.GiveFd told (inr none) =
-    refused tables after change.GiveFd told NotLive (inl refl) (none_out tables none.0) none.1
+    refused tables after change.GiveFd told NotLive tt (none_out tables none.0) none.1
 cases tables after change.DrawNode told (inl on) =
     told_as tables after change.DrawNode told (reply.Drawn tables.next_number) on.1.0
     (refl, on.0, on.1.1)
-cases tables after change.DrawNode told (inr last) = refused tables after change.DrawNode told Last (inl refl) tt
-    last.1
+cases tables after change.DrawNode told (inr last) = refused tables after change.DrawNode told Last tt tt last.1
 cases tables after (change.Insert era number form ids mode) told (inr over) =
-    refused tables after (change.Insert era number form ids mode) told Overtaken (inl refl) over.0 over.1
+    refused tables after (change.Insert era number form ids mode) told Overtaken tt over.0 over.1
 cases tables after (change.Insert era number form ids mode) told (inl on) = elim on.1 [
   | inl none ↦ elim none.1 [
     | inl free ↦ elim free.1 [
@@ -193,45 +192,39 @@ cases tables after (change.Insert era number form ids mode) told (inl on) = elim
         | inl added ↦ told_as tables after (change.Insert era number form ids mode) told (reply.Inserted number)
             added.0
             (on.0, (none.0, free.0), adds.0, refl, added.1)
-        | inr memory ↦ refused tables after (change.Insert era number form ids mode) told Memory (inr (inr (inr (inl
-            refl)))) tt memory
+        | inr memory ↦ refused tables after (change.Insert era number form ids mode) told Memory tt tt memory
       ]
-      | inr last ↦ refused tables after (change.Insert era number form ids mode) told Last (inr (inr (inl refl))) tt
-          last.1
+      | inr last ↦ refused tables after (change.Insert era number form ids mode) told Last tt tt last.1
     ]
-    | inr there ↦ refused tables after (change.Insert era number form ids mode) told Live (inr (inl refl)) tt there.3
+    | inr there ↦ refused tables after (change.Insert era number form ids mode) told Live tt tt there.3
   ]
   | inr found ↦ let row = found.0 in elim found.3 [
     | inl again ↦ told_as tables after (change.Insert era number form ids mode) told (reply.Found row.number)
         again.1.0
         (on.0, (row, found.2, refl, found.1, again.1.1))
-    | inr last ↦ refused tables after (change.Insert era number form ids mode) told Last (inr (inr (inl refl))) tt
-        last.1
+    | inr last ↦ refused tables after (change.Insert era number form ids mode) told Last tt tt last.1
   ]
 ]
 cases tables after (change.InsertRoot era form ids mode negotiated) told (inr over) =
-    refused tables after (change.InsertRoot era form ids mode negotiated) told Overtaken (inl refl) over.0 over.1
+    refused tables after (change.InsertRoot era form ids mode negotiated) told Overtaken tt over.0 over.1
 cases tables after (change.InsertRoot era form ids mode negotiated) told (inl on) = elim on.1 [
   | inl free ↦ elim free.1 [
     | inl adds ↦ elim adds.1 [
       | inl added ↦ told_as tables after (change.InsertRoot era form ids mode negotiated) told (reply.Inserted 1)
           added.0
           (on.0, is_free tables 1 ids free.0, adds.0, refl, added.1)
-      | inr memory ↦ refused tables after (change.InsertRoot era form ids mode negotiated) told Memory (inr (inr (inr
-          (inl refl)))) tt memory
+      | inr memory ↦ refused tables after (change.InsertRoot era form ids mode negotiated) told Memory tt tt memory
     ]
-    | inr last ↦ refused tables after (change.InsertRoot era form ids mode negotiated) told Last (inr (inr (inl
-        refl))) tt last.1
+    | inr last ↦ refused tables after (change.InsertRoot era form ids mode negotiated) told Last tt tt last.1
   ]
-  | inr there ↦ refused tables after (change.InsertRoot era form ids mode negotiated) told Live (inr (inl refl)) tt
-      there.3
+  | inr there ↦ refused tables after (change.InsertRoot era form ids mode negotiated) told Live tt tt there.3
 ]
 cases tables after (change.Forget list) told h =
     told_as tables after (change.Forget list) told (reply.Done h.0) h.1 h.2
 cases tables after (change.GiveBack era number) told (inr over) =
-    refused tables after (change.GiveBack era number) told Overtaken (inl refl) over.0 over.1
+    refused tables after (change.GiveBack era number) told Overtaken tt over.0 over.1
 cases tables after (change.GiveBack era number) told (inl on) = elim on.1 [
-  | inl none ↦ refused tables after (change.GiveBack era number) told NotLive (inr (inl refl)) tt none.1
+  | inl none ↦ refused tables after (change.GiveBack era number) told NotLive tt tt none.1
   | inr found ↦ let done = found.3 in
       told_as tables after (change.GiveBack era number) told (reply.Done done.0) done.1
       (on.0, (found.0, found.1, found.2), inr (found.0, found.2, done.2))
@@ -239,42 +232,39 @@ cases tables after (change.GiveBack era number) told (inl on) = elim on.1 [
 cases tables after change.DrawHandle told (inl on) =
     told_as tables after change.DrawHandle told (reply.Drawn tables.next_handle) on.1.0
     (refl, on.0, on.1.1)
-cases tables after change.DrawHandle told (inr last) = refused tables after change.DrawHandle told Last (inl refl) tt
-    last.1
+cases tables after change.DrawHandle told (inr last) = refused tables after change.DrawHandle told Last tt tt last.1
 cases tables after (change.InsertHandle era handle number fd) told (inr over) =
-    refused tables after (change.InsertHandle era handle number fd) told Overtaken (inl refl) over.0 over.1
+    refused tables after (change.InsertHandle era handle number fd) told Overtaken tt over.0 over.1
 cases tables after (change.InsertHandle era handle number fd) told (inl on) = elim on.1 [
   | inl free ↦ elim free.1 [
     | inl adds ↦ elim adds.1 [
       | inl added ↦ told_as tables after (change.InsertHandle era handle number fd) told (reply.Inserted handle)
           added.0
           (on.0, free.0, adds.0, refl, added.1)
-      | inr memory ↦ refused tables after (change.InsertHandle era handle number fd) told Memory (inr (inr (inr (inl
-          refl)))) tt memory
+      | inr memory ↦ refused tables after (change.InsertHandle era handle number fd) told Memory tt tt memory
     ]
-    | inr last ↦ refused tables after (change.InsertHandle era handle number fd) told Last (inr (inr (inl refl))) tt
-        last.1
+    | inr last ↦ refused tables after (change.InsertHandle era handle number fd) told Last tt tt last.1
   ]
-  | inr there ↦ refused tables after (change.InsertHandle era handle number fd) told Live (inr (inl refl)) tt there.3
+  | inr there ↦ refused tables after (change.InsertHandle era handle number fd) told Live tt tt there.3
 ]
 cases tables after (change.PinHandle handle number) told (inl none) =
-    refused tables after (change.PinHandle handle number) told NotLive (inl refl) tt none.1
+    refused tables after (change.PinHandle handle number) told NotLive tt tt none.1
 cases tables after (change.PinHandle handle number) told (inr found) = let row = found.0 in elim found.3 [
   | inl on ↦ told_as tables after (change.PinHandle handle number) told (reply.Pinned row.serial row.fd) on.1.0
       (row, found.2, refl, refl, found.1, on.1.1)
-  | inr last ↦ refused tables after (change.PinHandle handle number) told Last (inr (inl refl)) tt last.1
+  | inr last ↦ refused tables after (change.PinHandle handle number) told Last tt tt last.1
 ]
 cases tables after (change.UnpinHandle serial) told (inl none) =
-    refused tables after (change.UnpinHandle serial) told NotLive (inl refl) none.0 none.1
+    refused tables after (change.UnpinHandle serial) told NotLive tt none.0 none.1
 cases tables after (change.UnpinHandle serial) told (inr found) = let done = found.3 in
     told_as tables after (change.UnpinHandle serial) told (reply.Done done.0) done.1
     (gives_pin handle_rows tables after serial done.0 found.0 found.2 done.2)
 cases tables after (change.Release handle number) told (inl none) =
-    refused tables after (change.Release handle number) told NotLive (inl refl) tt none.1
+    refused tables after (change.Release handle number) told NotLive tt tt none.1
 cases tables after (change.Release handle number) told (inr found) = let done = found.3 in
     told_as tables after (change.Release handle number) told (reply.Done done.0) done.1 (found.0, found.2, done.2)
 cases tables after change.Clear told (inl on) = let cleared = on.1 in
     told_as tables after change.Clear told (reply.Cleared (tables.era + 1) cleared.0) cleared.1
     (on.0, cleared.2, refl)
-cases tables after change.Clear told (inr last) = refused tables after change.Clear told Last (inl refl) tt last.1
+cases tables after change.Clear told (inr last) = refused tables after change.Clear told Last tt tt last.1
 cases tables after change.TakeClosing told h = takes_first tables after told tables.closing refl h

@@ -1,5 +1,5 @@
 -- Believed. Which replies an event may have.
-use Rattle.std.specs.Prelude.{◌≡◌, ◌⊎◌, List, [], ◌∷◌}
+use Rattle.std.specs.Prelude.{Bool, true, false, List, [], ◌∷◌}
 use Rattle.pt_session.specs.Change.{Change}
 use Rattle.pt_session.specs.declared.event.KeptEvent.TheVariants as change
 use Rattle.pt_session.specs.declared.reply.EventRefusal.{EventRefusal}
@@ -28,9 +28,22 @@ refusals (change.Release handle number) = NotLive ∷ []
 refusals change.Clear = Last ∷ []
 refusals change.TakeClosing = NotLive ∷ []
 
+abbrev pub is_same : EventRefusal → EventRefusal → Bool
+is_same NotLive NotLive = true
+is_same Overtaken Overtaken = true
+is_same NoSlot NoSlot = true
+is_same Last Last = true
+is_same Live Live = true
+is_same Memory Memory = true
+is_same one other = false
+
 abbrev pub IsOneOf : EventRefusal → List EventRefusal → Type 0
 IsOneOf refusal [] = ⊥
-IsOneOf refusal (one ∷ others) = (refusal ≡ one) ⊎ IsOneOf refusal others
+IsOneOf refusal (one ∷ others) = this_or (is_same refusal one) (IsOneOf refusal others)
+  where
+    this_or : Bool → Type 0 → Type 0
+    this_or true Other = Unit {0}
+    this_or false Other = Other
 
 -- one of these refusals, or its own reply
 abbrev pub IsReplyFor : Change → EventReply → Type 0
