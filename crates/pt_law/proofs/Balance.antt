@@ -251,7 +251,8 @@ record HandleShut (t after : Tables) (row : HandleRow) : Type 0 where
       total (handle_pins serial) after.handles + handle_pins serial row ≡ total (handle_pins serial) t.handles
   closings : length after.closing ≡ length t.closing + 1
 
-handle_shuts : (t : Tables) (row : HandleRow) (after : Tables) → EndsRow handle_rows t row after → HandleShut t after row
+handle_shuts : (t : Tables) (row : HandleRow) (after : Tables) → EndsRow handle_rows t row after → HandleShut t after
+    row
 handle_shuts t row after h = rw h.2 (record {
   fds = λ fd. let a = total_takes (handle_fd fd) h.1 in
       let b = total_push (closing_fd fd) t.closing (closing_of_handle row) in omega (arith, a, b);
@@ -262,7 +263,8 @@ handle_shuts t row after h = rw h.2 (record {
   closings = let a = length-append t.closing (closing_of_handle row ∷ []) in omega (arith, a);
 })
 
-sheds_handle : (t : Tables) (row : HandleRow) (n : ℕ) (after : Tables) → Dies handle_rows t row n after → Sheds t after n
+sheds_handle : (t : Tables) (row : HandleRow) (n : ℕ) (after : Tables) → Dies handle_rows t row n after → Sheds t
+    after n
 sheds_handle t row n after (inl h) =
     let s = handle_shuts t row after h.2 in
     record {
@@ -432,7 +434,8 @@ moved_by_case t (change.PinHandle handle number) (reply.Pinned serial fd) after 
           omega (arith, x, y);
       closings = omega arith;
     })
-moved_by_case t (change.UnpinHandle serial) (reply.Done closings) after h a = handle_unpinned t serial closings after h
+moved_by_case t (change.UnpinHandle serial) (reply.Done closings) after h a = handle_unpinned t serial closings after
+    h
 moved_by_case t (change.UnpinHandle serial) (reply.Refused why) after h a = absurd a
 moved_by_case t (change.Release handle number) (reply.Done closings) after h a =
     moved_by t after closings (Asks (change.Release handle number)) (Event (reply.Done closings))

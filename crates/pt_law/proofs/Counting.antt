@@ -97,7 +97,8 @@ honest_by bound t js j change.TakeClosing (event.Refused NotLive) t' after lt b 
 honest_by bound t js j change.TakeClosing (event.Refused _) t' after lt b h m = absurd h.0
 honest_by bound t js j _ _ t' after lt b h m = tt
 
-pub honest : (bound : ℕ) (t : Tables) (js : ℕ → Job) (j : ℕ) (e : Change) (r : EventReply) (t' : Tables) (after : Job) →
+pub honest : (bound : ℕ) (t : Tables) (js : ℕ → Job) (j : ℕ) (e : Change) (r : EventReply) (t' : Tables) (after : Job)
+    →
     j < bound → Books bound t js → Happens t e r t' → MovesBy (js j) (Changes e) (Event r) after →
     IsHonest (Changes e) (Event r)
 honest bound t js j e r t' after lt b h m = honest_by bound t js j e r t' after lt b (cases t t' e r h) m

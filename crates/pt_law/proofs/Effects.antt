@@ -49,7 +49,8 @@ same_row row count pins = record { serial = refl; number = refl; form = refl; id
 dead_row : (row : Row) → Later row (record row { count = 0; live = false })
 dead_row row = record { serial = refl; number = refl; form = refl; ids = refl; live = λ l. absurd (cc) }
 
-changes : (t : Tables) (row later : Row) (after : Tables) → ChangesRow number_rows t row later after → Later row later → Kept t after
+changes : (t : Tables) (row later : Row) (after : Tables) → ChangesRow number_rows t row later after → Later row later
+    → Kept t after
 changes t row later after h l = changed row later h.0 h.1 l h.2
 
 ends : (t : Tables) (row : Row) (after : Tables) → EndsRow number_rows t row after → Kept t after
@@ -64,7 +65,10 @@ recounted : (t : Tables) (row : Row) (count : ℕ) (after : Tables) →
     ChangesRow number_rows t row (record row { count = count }) after → Kept t after
 recounted t row count after h = changes t row _ after h (same_row row count row.pins)
 
-repinned : (t : Tables) (row : Row) (pins : ℕ) (after : Tables) → ChangesRow number_rows t row (record row { pins = pins }) after →
+repinned : (t : Tables) (row : Row) (pins : ℕ) (after : Tables) → ChangesRow number_rows t row (record row {
+  pins =
+      pins;
+}) after →
     Kept t after
 repinned t row pins after h = changes t row _ after h (same_row row row.count pins)
 
@@ -124,7 +128,8 @@ handles_die t n after (next_dies {mid = mid} {one = one} {more = rest} row least
 clears : (t : Tables) (n : ℕ) (after : Tables) → Clears t n after → Kept t after
 clears t n after h =
     both (numbers_die t h.2 h.0 h.4)
-    (both (handles_die h.0 h.3 h.1 h.5) (other (ap (λ (z : Tables). z.rows) h.7) (ap (λ (z : Tables). z.handles) h.7)))
+    (both (handles_die h.0 h.3 h.1 h.5) (other (ap (λ (z : Tables). z.rows) h.7) (ap (λ (z : Tables). z.handles)
+    h.7)))
 
 -- the event inserts no row
 abbrev pub KeepsRows : Change → EventReply → Type 0
@@ -165,7 +170,8 @@ kept_by t change.Clear (reply.Cleared era closings) after k h = clears t closing
 kept_by t e (reply.Refused why) after k h = nothing h.1
 kept_by t _ _ after k h = absurd h
 
-pub kept : (t : Tables) (e : Change) (r : EventReply) (after : Tables) → KeepsRows e r → Happens t e r after → Kept t after
+pub kept : (t : Tables) (e : Change) (r : EventReply) (after : Tables) → KeepsRows e r → Happens t e r after → Kept t
+    after
 kept t e r after k h = kept_by t e r after k (cases t after e r h)
 
 -- Each event keeps the tables in agreement.

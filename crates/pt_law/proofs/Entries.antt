@@ -12,7 +12,7 @@ use Rattle.pt_host.specs.declared.op.KeptHostOp.TheVariants as call
 use Rattle.pt_host.specs.declared.reply.HostReply.TheVariants as host
 use Rattle.pt_host.specs.declared.reply.HostValue.TheVariants as value
 use Rattle.pt_session.specs.Tables.{Tables, Agree, IsSoundRow}
-use Rattle.pt_session.proofs.Cases.{GivenAgain, Case, cases}
+use Rattle.pt_session.proofs.Cases.{GivenAgain, cases}
 use Rattle.pt_session.specs.declared.form.RowForm.{RowForm}
 use Rattle.pt_session.specs.declared.form.RowForm.TheVariants.{File}
 use Rattle.pt_session.specs.declared.event.KeptEvent.TheVariants as change

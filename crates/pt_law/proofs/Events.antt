@@ -11,8 +11,8 @@ use Rattle.pt_session.specs.declared.row.Row.{Row}
 use Rattle.pt_session.specs.declared.row.HandleRow.{HandleRow}
 use Rattle.pt_session.specs.Store.{IsLaterHandle}
 use Rattle.pt_session.specs.Effect.{IsFree}
-use Rattle.pt_session.specs.Happens.{Happens, new_row, with_row, agreed}
-use Rattle.pt_session.proofs.Cases.{Case, cases}
+use Rattle.pt_session.specs.Happens.{new_row, with_row, agreed}
+use Rattle.pt_session.proofs.Cases.{Case}
 use Rattle.pt_session.specs.declared.form.RowForm.{RowForm}
 use Rattle.pt_session.specs.declared.form.Negotiated.{Negotiated}
 use Rattle.pt_session.specs.declared.event.KeptEvent.TheVariants as change

@@ -118,14 +118,31 @@ told stat apart =
                     (
                       tables 3 1 3 pinned,
                       tables 3 2 3 (added ∷ pinned),
-                      inl (refl, inl (free, inl (((λ h. absurd (omega (arith, h.1))), tt), inl (omega arith, inl (refl, refl))))),
+                      inl (
+                        refl,
+                        inl (
+                          free,
+                          inl (
+                            ((λ h. absurd (omega (arith, h.1))), tt),
+                            inl (
+                              omega arith,
+                              inl
+                                  (refl, refl),
+                            ),
+                          ),
+                        ),
+                      ),
                     ),
                     (
                       (
                         tables 3 2 3 (added ∷ pinned),
                         tables 3 2 3 (added ∷ row 0 ∷ []),
-                        inr (row 1, (added ∷ [], there here), (refl, λ e. omega (arith, e)),
-                            (0, refl, inr (inl refl, refl, (added ∷ row 0 ∷ [], past at, refl)))),
+                        inr (
+                          row 1,
+                          (added ∷ [], there here),
+                          (refl, λ e. omega (arith, e)),
+                          (0, refl, inr (inl refl, refl, (added ∷ row 0 ∷ [], past at, refl))),
+                        ),
                       ),
                       tt,
                     ),

@@ -378,26 +378,69 @@ runs plan root file seat apart =
     (inl (refl, inl (((λ h. apart h.1), tt), (refl, refl)))) (
     event_then seat _ 2 (change.Claim 0 None file.ids) event.Absent (tables 2 1 4 (row root 2 ∷ [])) _
     (inl (refl, inl (((λ h. apart h.1), tt), (refl, refl)))) (
-    event_then seat _ 1 change.TakeFd event.Taken (tables 2 1 3 (row root 2 ∷ [])) _ (inl (omega arith, (refl, refl))) (
-    event_then seat _ 2 change.TakeFd event.Taken (tables 2 1 2 (row root 2 ∷ [])) _ (inl (omega arith, (refl, refl))) (
-    event_then seat _ 1 change.DrawNode (event.Drawn 2) (tables 3 1 2 (row root 2 ∷ [])) _ (inl (omega arith, (refl, refl))) (
-    event_then seat _ 2 change.DrawNode (event.Drawn 3) (tables 4 1 2 (row root 2 ∷ [])) _ (inl (omega arith, (refl, refl))) (
+    event_then seat _ 1 change.TakeFd event.Taken (tables 2 1 3 (row root 2 ∷ [])) _ (inl (omega arith, (refl, refl)))
+    (
+    event_then seat _ 2 change.TakeFd event.Taken (tables 2 1 2 (row root 2 ∷ [])) _ (inl (omega arith, (refl, refl)))
+    (
+    event_then seat _ 1 change.DrawNode (event.Drawn 2) (tables 3 1 2 (row root 2 ∷ [])) _ (inl (
+      omega arith,
+      (
+        refl,
+        refl,
+      ),
+    )) (
+    event_then seat _ 2 change.DrawNode (event.Drawn 3) (tables 4 1 2 (row root 2 ∷ [])) _ (inl (
+      omega arith,
+      (
+        refl,
+        refl,
+      ),
+    )) (
     event_then seat _ 1 (change.Insert 0 2 (File (fd 4)) file.ids file.mode) (event.Inserted 2)
     (tables 4 2 2 (added file 1 ∷ row root 2 ∷ [])) _
-    (inl (refl, inl (((λ h. apart h.1), tt), inl (((λ h. absurd (omega (arith, h.1))), tt),
-    inl (omega arith, inl (refl, refl)))))) (
+    (inl (
+      refl,
+      inl (
+        ((λ h. apart h.1), tt),
+        inl (
+          ((λ h. absurd (omega (arith, h.1))), tt),
+          inl (omega arith, inl (refl, refl)),
+        ),
+      ),
+    )) (
     event_then seat _ 2 (change.Insert 0 3 (File (fd 5)) file.ids file.mode) (event.Found 2)
     (tables 4 2 2 (added file 2 ∷ row root 2 ∷ [])) _
-    (inl (refl, inr (added file 1, (row root 2 ∷ [], here), (refl, refl),
-    inl (omega arith, (refl, (added file 2 ∷ row root 2 ∷ [], at, refl)))))) (
+    (inl (
+      refl,
+      inr (
+        added file 1,
+        (row root 2 ∷ [], here),
+        (refl, refl),
+        inl (omega arith, (refl, (added file 2 ∷ row root 2 ∷ [], at, refl))),
+      ),
+    )) (
     event_then seat _ 1 (change.Unpin 0) (event.Done 0) (tables 4 2 2 (added file 2 ∷ row root 1 ∷ [])) _
-    (inr (row root 2, (added file 2 ∷ [], there here), (refl, λ e. omega (arith, e)),
-    (0, refl, inr (inl refl, refl, (added file 2 ∷ row root 1 ∷ [], past at, refl))))) (
+    (inr (
+      row root 2,
+      (added file 2 ∷ [], there here),
+      (refl, λ e. omega (arith, e)),
+      (0, refl, inr (inl refl, refl, (added file 2 ∷ row root 1 ∷ [], past at, refl))),
+    )) (
     call_then seat _ 2 (call.Close (fd 5)) value.Unit (tree root file closed) _ refl tt refl (λ asks. asks) at_end (
-    event_then seat _ 2 change.GiveFd event.Given (tables 4 2 3 (added file 2 ∷ row root 1 ∷ [])) _ (inl (slot, (refl, refl))) (
+    event_then seat _ 2 change.GiveFd event.Given (tables 4 2 3 (added file 2 ∷ row root 1 ∷ [])) _ (inl (
+      slot,
+      (
+        refl,
+        refl,
+      ),
+    )) (
     event_then seat _ 2 (change.Unpin 0) (event.Done 0) (tables 4 2 3 (added file 2 ∷ row root 0 ∷ [])) _
-    (inr (row root 1, (added file 2 ∷ [], there here), (refl, λ e. omega (arith, e)),
-    (0, refl, inr (inl refl, refl, (added file 2 ∷ row root 0 ∷ [], past at, refl))))) (
+    (inr (
+      row root 1,
+      (added file 2 ∷ [], there here),
+      (refl, λ e. omega (arith, e)),
+      (0, refl, inr (inl refl, refl, (added file 2 ∷ row root 0 ∷ [], past at, refl))),
+    )) (
     record { last = _; run = refl })))))))))))))))))))))))))
 
 -- what the jobs asked, and how they ended

@@ -91,7 +91,8 @@ rises n m t r after l e c = rw c.2 (
     let f = numbered n m r e in
     omega (arith, a, b, d, f))
 
-same_count : (n : ℕ) (t : Tables) (r s : Row) (after : Tables) → ChangesRow number_rows t r s after → count_in n s ≡ count_in n r →
+same_count : (n : ℕ) (t : Tables) (r s : Row) (after : Tables) → ChangesRow number_rows t r s after → count_in n s ≡
+    count_in n r →
     live_count n after ≡ live_count n t
 same_count n t r s after c e = rw c.2 (let a = total_replaces (count_in n) c.1 in omega (arith, a, e))
 
@@ -107,7 +108,8 @@ same_is m n e = subst (λ i. is m i ≡ 1) e (is_same m)
 
 -- less is taken than the count
 falls : (n m k : ℕ) (t : Tables) (r : Row) (after : Tables) → HasNumber m r → k < r.count →
-    ChangesRow number_rows t r (record r { count = r.count - k }) after → live_count n after ≡ live_count n t - is m n * k
+    ChangesRow number_rows t r (record r { count = r.count - k }) after → live_count n after ≡ live_count n t - is m n
+    * k
 falls n m k t r after h l c = rw c.2 (⊎_elim
     (λ (e : m ≡ n).
     let a = total_replaces (count_in n) c.1 in

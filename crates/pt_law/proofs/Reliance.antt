@@ -18,7 +18,7 @@ use Rattle.pt_session.proofs.Cases.{Case, cases}
 use Rattle.pt_session.specs.declared.event.KeptEvent.TheVariants as change
 use Rattle.pt_session.specs.declared.reply.EventReply.{EventReply}
 use Rattle.pt_session.specs.declared.reply.EventReply.TheVariants as event
-use Rattle.pt_session.specs.declared.reply.EventRefusal.TheVariants.{NotLive, Last}
+use Rattle.pt_session.specs.declared.reply.EventRefusal.TheVariants.{NotLive}
 use Rattle.pt_req.specs.Deed.{Deed, Calls, Changes}
 use Rattle.pt_req.specs.declared.act.ActReply.{ActReply}
 use Rattle.pt_req.specs.declared.act.ActReply.TheVariants.{Event, Host}
@@ -212,7 +212,8 @@ changes_nothing t row k after e c =
     let same : c.0 ≡ t.rows = same_rows (subst (λ x. Replaces row (record row { count = x }) t.rows c.0) e c.1) in
     c.2 ∙ ap (λ rows. record t { rows = rows }) same
 
-died : (t : Tables) (row : Row) (c : ℕ) (after : Tables) (P : Row → Type 0) → Dies number_rows t row c after → Each P t.rows → P row
+died : (t : Tables) (row : Row) (c : ℕ) (after : Tables) (P : Row → Type 0) → Dies number_rows t row c after → Each P
+    t.rows → P row
 died t row c after P (inl h) p = each_taken P h.2.1 p
 died t row c after P (inr h) p = each_replaced P h.2.1 p
 

@@ -193,7 +193,8 @@ keeps_event bound base had w js j e r t' after lt v h m =
           let s = sum_to_set (λ (k : Job). total (fd_held fd) k.holds) js j after bound lt in
           omega (arith, x, y, z, s);
       right = record {
-        handled = handles_event w.tree w.past w.tables j (js j) after e r t' a case m (v.right.knows j lt) v.right.handled;
+        handled = handles_event w.tree w.past w.tables j (js j) after e r t' a case m (v.right.knows j lt)
+            v.right.handled;
         shown = rows_event w.tree w.past w.tables j (js j) after e r t' a case m (v.right.knows j lt) v.right.shown;
         knows = λ i less. at_each (Knowing w.tree t'.next_row later) js j after i
             (knows_event w.tree w.past w.tables j (js j) after e r t' a case m v.right.shown v.right.handled

@@ -3,11 +3,10 @@ use Rattle.std.proofs.Common.{◌≡◌, ◌≢◌, ◌⊎◌, ⊎_elim, inl, in
 use Rattle.std.proofs.Common.{refl}
 use Rattle.std.proofs.Common.{sym, subst, arith}
 use Rattle.std.proofs.Math.Nat.{lt_of_not-le}
-use Rattle.pt_host.specs.declared.ids.Fd.{Fd}
 use Rattle.pt_host.specs.declared.ids.ObjIds.{ObjIds}
 use Rattle.pt_session.specs.Change.{Change}
 use Rattle.pt_session.specs.Tables.{Row, HandleRow, Closing, Tables, HasNumber, HasIds, HasHandle, IsHandle}
-use Rattle.pt_session.specs.Rows.{Kind, number_rows, handle_rows, IsAmong, IsRow, IsHandleRow, NoneOf, NoRow}
+use Rattle.pt_session.specs.Rows.{Kind, number_rows, handle_rows, IsRow, IsHandleRow, NoRow}
 use Rattle.pt_session.specs.Rows.{NoHandle}
 use Rattle.pt_session.specs.Rows.{IsPinned, ChangesRow, EndsRow, Dies, Unpins}
 use Rattle.pt_session.specs.Answers.{refusals, IsOneOf}

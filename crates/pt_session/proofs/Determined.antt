@@ -6,16 +6,16 @@ use Rattle.pt_session.specs.declared.event.KeptEvent.TheVariants as change
 use Rattle.pt_session.specs.declared.reply.EventRefusal.TheVariants.{NotLive, NoSlot, Live, Memory}
 use Rattle.pt_session.specs.declared.reply.EventReply.{EventReply}
 use Rattle.pt_session.specs.declared.reply.EventReply.TheVariants as reply
-use Rattle.pt_session.specs.Tables.{Row, HandleRow, Closing, Tables, AreApart, AreHandlesApart, Agree, HasNumber}
+use Rattle.pt_session.specs.Tables.{Closing, Tables, AreApart, AreHandlesApart, Agree, HasNumber}
 use Rattle.pt_session.specs.Tables.{HasIds, HasHandle, IsHandle}
 use Rattle.pt_session.specs.Rows.{Kind, number_rows, handle_rows, IsPinned, ChangesRow, Dies, Unpins}
-use Rattle.pt_session.specs.Outcome.{Outcome, Leaves, Tells, Closes, Unless, ByRow, UnlessRow, IfRow, Below, Pins}
+use Rattle.pt_session.specs.Outcome.{Outcome, Leaves, Tells, Closes, UnlessRow, IfRow, Below, Pins}
 use Rattle.pt_session.specs.Outcome.{Adds}
 use Rattle.pt_session.specs.Happens.{Happens, Falls, ForgetsAll, Clears, GivesAgain, TakesFirst, with_row, new_row}
 use Rattle.pt_session.specs.Happens.{with_handle, new_handle, agreed}
 use Rattle.pt_session.proofs.Alone.{none_taken}
 use Rattle.pt_session.proofs.Effects.{Makes, numbers_make, handles_make}
-use Rattle.pt_session.proofs.Outcomes.{IsOne, Alone, IsApart, numbers_apart, handles_apart, leaves_alone, tells_alone}
+use Rattle.pt_session.proofs.Outcomes.{Alone, IsApart, numbers_apart, handles_apart, leaves_alone, tells_alone}
 use Rattle.pt_session.proofs.Outcomes.{closes_alone, unless_alone, era_alone, below_alone, adds_alone, changes_one}
 use Rattle.pt_session.proofs.Outcomes.{pins_alone, row_alone, unless_row, if_row}
 use Rattle.pt_session.proofs.Endings.{number_one, ids_one, handle_one, is_handle_one, pinned_one, dies_one}

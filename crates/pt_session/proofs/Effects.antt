@@ -1,6 +1,6 @@
 -- Each event is a few steps of a few kinds. What each kind of step keeps, each event keeps.
-use Rattle.std.proofs.Common.{◌≡◌, ◌≢◌, ◌⊎◌, ⊎_elim, inl, inr, ℕ, ◌+◌, ◌-◌, ◌<◌, ◌≤◌, List, [], ◌∷◌, true, false}
-use Rattle.std.proofs.Common.{Option, Some, None, refl, sym, ap, subst, ◌∙◌, arith}
+use Rattle.std.proofs.Common.{◌≡◌, ◌≢◌, ⊎_elim, inl, inr, ℕ, ◌+◌, ◌-◌, ◌≤◌, List, [], ◌∷◌, true, false}
+use Rattle.std.proofs.Common.{Option, Some, None, refl, sym, subst, ◌∙◌, arith}
 use Rattle.pt_host.specs.Words.{Each}
 use Rattle.pt_host.specs.declared.ids.ObjIds.{ObjIds}
 use Rattle.pt_session.specs.Change.{Change}
@@ -11,7 +11,7 @@ use Rattle.pt_session.specs.declared.reply.EventReply.{EventReply}
 use Rattle.pt_session.specs.declared.reply.EventReply.TheVariants as reply
 use Rattle.pt_session.specs.Tables.{Row, HandleRow, Tables, HasNumber, HasIds, HasHandle, AreApart, AreHandlesApart}
 use Rattle.pt_session.specs.Tables.{IsSoundRow, IsSoundHandle, Agree}
-use Rattle.pt_session.specs.Rows.{Kind, number_rows, handle_rows, ChangesRow, EndsRow, Dies, Unpins, AllDie}
+use Rattle.pt_session.specs.Rows.{Kind, number_rows, handle_rows, ChangesRow, EndsRow, Dies, AllDie}
 use Rattle.pt_session.specs.Rows.{AllDie.{none as none_live, next as next_dies}}
 use Rattle.pt_session.specs.Happens.{Happens, Falls, ForgetsOne, ForgetsAll, Clears, with_row, new_row, new_handle}
 use Rattle.pt_session.specs.Happens.{agreed}

@@ -1,11 +1,10 @@
 -- Rows end in one way: what is forgotten, unpinned, released and cleared is one outcome.
-use Rattle.std.proofs.Common.{◌≡◌, ◌≢◌, ◌⊎◌, inl, inr, ℕ, ◌+◌, ◌-◌, ◌<◌, ◌≤◌, List, [], ◌∷◌, true, false, refl, sym}
-use Rattle.std.proofs.Common.{ap, subst, ◌∙◌, arith}
-use Rattle.pt_host.specs.Words.{Each}
+use Rattle.std.proofs.Common.{◌≡◌, inl, inr, ℕ, ◌≤◌, List, [], ◌∷◌, true, refl, sym}
+use Rattle.std.proofs.Common.{subst, ◌∙◌, arith}
 use Rattle.pt_host.specs.declared.ids.ObjIds.{ObjIds}
 use Rattle.pt_session.specs.Tables.{Row, HandleRow, Tables, AreApart, AreHandlesApart, Agree, HasNumber, HasIds}
 use Rattle.pt_session.specs.Tables.{HasHandle, IsHandle}
-use Rattle.pt_session.specs.Rows.{Kind, number_rows, handle_rows, IsAmong, IsRow, NoneOf, IsPinned, ChangesRow, Dies}
+use Rattle.pt_session.specs.Rows.{Kind, number_rows, handle_rows, IsAmong, IsRow, IsPinned, Dies}
 use Rattle.pt_session.specs.Rows.{Unpins, IsLeast, AllDie, AllDie.{none, next}}
 use Rattle.pt_session.specs.Happens.{Falls, ForgetsOne, ForgetsAll, Clears}
 use Rattle.pt_session.proofs.Lists.{each_taken}

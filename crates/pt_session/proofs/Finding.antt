@@ -1,11 +1,11 @@
 -- How objects are found among the rows of numbers, and how they still are where a row changes, dies, ends or comes.
-use Rattle.std.proofs.Common.{◌≡◌, ◌≢◌, ◌⊎◌, ⊎_elim, inl, inr, ℕ, List, [], ◌∷◌, true, false, Option, Some, None}
-use Rattle.std.proofs.Common.{MatchOption, refl, sym, ap, subst, ◌∙◌}
+use Rattle.std.proofs.Common.{◌≡◌, ◌≢◌, ◌⊎◌, ⊎_elim, inl, inr, ℕ, List, ◌∷◌, true, false, Option, Some, None}
+use Rattle.std.proofs.Common.{MatchOption, refl, sym, ap, ◌∙◌}
 use Rattle.std.proofs.lemmas.Option.{same_Some}
 use Rattle.pt_host.specs.Words.{Each, Takes, Takes.{here, there}, Replaces, Replaces.{at, past}}
 use Rattle.pt_host.specs.declared.ids.ObjIds.{ObjIds}
 use Rattle.pt_session.specs.Tables.{Row, HasIds}
-use Rattle.pt_session.specs.Rows.{number_rows, IsAmong, NoneOf}
+use Rattle.pt_session.specs.Rows.{IsAmong, NoneOf}
 use Rattle.pt_session.specs.Index.{ObjectKey, key_of, Puts, SameAt, Leaves, FindsObjects}
 use Rattle.pt_session.proofs.Lists.{each_taken}
 use Rattle.pt_session.proofs.Indexing.{puts_here, puts_there}

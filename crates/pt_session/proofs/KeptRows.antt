@@ -1,6 +1,6 @@
 -- What holds of the rows of numbers and of those of handles alike.
-use Rattle.std.proofs.Common.{◌≡◌, ℕ, ◌+◌, List, false, length, refl, arith}
-use Rattle.pt_session.specs.Tables.{Row, HandleRow, Closing, Tables}
+use Rattle.std.proofs.Common.{◌≡◌, ◌+◌, List, false, length, refl, arith}
+use Rattle.pt_session.specs.Tables.{Closing, Tables}
 use Rattle.pt_session.specs.Rows.{Kind, number_rows, handle_rows}
 use Rattle.pt_session.specs.Pending.{pending_in}
 

@@ -2,8 +2,8 @@
 use Rattle.std.proofs.Common.{◌≡◌, ◌≢◌, ◌⊎◌, inl, inr, ℕ, ◌+◌, ◌<◌, ◌++◌, List, [], ◌∷◌, true, refl, sym, ap, subst}
 use Rattle.std.proofs.Common.{◌∙◌}
 use Rattle.pt_host.specs.Words.{EachTwo}
-use Rattle.pt_session.specs.Tables.{Row, HandleRow, Tables, AreApart, AreHandlesApart, Agree}
-use Rattle.pt_session.specs.Rows.{Kind, number_rows, handle_rows, IsAmong, NoneOf, ChangesRow, EndsRow}
+use Rattle.pt_session.specs.Tables.{Tables, AreApart, AreHandlesApart, Agree}
+use Rattle.pt_session.specs.Rows.{Kind, number_rows, handle_rows, ChangesRow, EndsRow}
 use Rattle.pt_session.specs.Outcome.{Outcome, Leaves, Tells, Closes, Refuses, Unless, ByRow, UnlessRow, IfRow, InEra}
 use Rattle.pt_session.specs.Outcome.{Below, Pins, Adds, last_u64}
 use Rattle.pt_session.specs.declared.reply.EventRefusal.{EventRefusal}

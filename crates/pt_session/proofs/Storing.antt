@@ -1,11 +1,11 @@
 -- How the store stays sound where a row changes, dies, ends or comes.
-use Rattle.std.proofs.Common.{◌≡◌, ℕ, ◌+◌, ◌≤◌, List, [], ◌∷◌, ◌++◌, true, false, Option, Some, None, length, refl}
+use Rattle.std.proofs.Common.{◌≡◌, ℕ, ◌+◌, ◌≤◌, List, [], ◌∷◌, ◌++◌, true, Option, Some, None, length, refl}
 use Rattle.std.proofs.Common.{sym}
-use Rattle.std.proofs.Common.{MatchOption, ap, subst, ◌∙◌, arith, length-append}
-use Rattle.pt_host.specs.Words.{Each, Takes, Replaces}
+use Rattle.std.proofs.Common.{MatchOption, ap, subst, arith, length-append}
+use Rattle.pt_host.specs.Words.{Takes, Replaces}
 use Rattle.pt_host.specs.declared.ids.ObjIds.{ObjIds}
 use Rattle.pt_session.specs.Tables.{Row, HandleRow, Closing, HasIds}
-use Rattle.pt_session.specs.Rows.{number_rows, handle_rows, IsAmong, NoneOf, IsLeast, Kind}
+use Rattle.pt_session.specs.Rows.{number_rows, IsAmong, NoneOf, IsLeast, Kind}
 use Rattle.pt_session.specs.LiveAfter.{IsLiveAbove}
 use Rattle.pt_session.specs.Store.{IsSame, IsNext}
 use Rattle.pt_session.specs.Index.{ObjectKey, key_of, Puts, SameAt, Leaves, IsSoundStore}

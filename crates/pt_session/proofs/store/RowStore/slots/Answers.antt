@@ -1,4 +1,4 @@
-use Rattle.std.proofs.Common.{◌≡◌, length, ap, ◌∙◌, arith}
+use Rattle.std.proofs.Common.{◌≡◌, length, ap, arith}
 use Rattle.pt_session.specs.Store.{Stored}
 use Rattle.pt_session.specs.Pending.{row_slots, closing_slots}
 use Rattle.pt_session.proofs.Slots.{rows_hold}
