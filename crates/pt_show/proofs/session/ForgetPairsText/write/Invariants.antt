@@ -1,7 +1,7 @@
 use Rattle.std.proofs.Common.{◌≡◌, ◌++◌, drop}
 use Rattle.pt_show.specs.Texts.{items_text}
 use Rattle.pt_show.specs.SessionTexts.{pair_text}
-use Rattle.pt_show.proofs.session.ForgetListText.write.Given as goal
+use Rattle.pt_show.proofs.session.ForgetPairsText.write.Given as goal
 
 abbrev pub invariant-loop-pair : goal.invariant-loop-pair
 invariant-loop-pair l =
