@@ -4,7 +4,8 @@ use Rattle.std.proofs.Common.{if◌then◌else◌, arith, Option, Some, None}
 use Rattle.pt_host.specs.Errno.{ebadf, einval}
 use Rattle.pt_session.specs.Change.{Change, HoldsList}
 use Rattle.pt_session.specs.Tables.{Tables, HasNumber, Agree, empty_tables}
-use Rattle.pt_session.specs.Happens.{Happens, NoRow}
+use Rattle.pt_session.specs.Rows.{NoRow}
+use Rattle.pt_session.specs.Happens.{Happens}
 use Rattle.pt_session.specs.declared.form.Negotiated.{Negotiated}
 use Rattle.pt_session.specs.declared.event.KeptEvent.TheVariants as change
 use Rattle.pt_session.specs.declared.reply.EventReply.{EventReply}
@@ -55,8 +56,7 @@ happened e (Some same) NoCopy t t' bare is go = absurd (subst (λ d. TablesGo t 
 
 began : (t t' : Tables) (r : EventReply) → Happens t change.Begin r t' →
     (era : ℕ) × (agreed : Negotiated) × (r ≡ event.Began era agreed)
-began t t' (event.Began era agreed) h = (era, agreed, refl)
-began t t' r h = absurd h
+began t t' r h = (t.era, t.negotiated, h.0)
 
 -- what follows an act of a job that holds nothing and is told no closings
 follows : (deed : Deed) (next : ActReply → Tree) (step : Step) (steps : List Step) (end : Finish) →

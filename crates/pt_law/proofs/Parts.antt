@@ -17,6 +17,7 @@ use Rattle.pt_session.specs.declared.form.Negotiated.{Negotiated}
 use Rattle.pt_session.specs.declared.event.KeptEvent.TheVariants as change
 use Rattle.pt_session.specs.declared.reply.EventReply.TheVariants as event
 use Rattle.pt_session.specs.declared.reply.EventRefusal.TheVariants as refused
+use Rattle.pt_session.proofs.Replies.{answered}
 use Rattle.pt_iface.specs.declared.answer.Answer.TheVariants as answer
 use Rattle.pt_iface.specs.declared.request.Request.{Request}
 use Rattle.pt_req.specs.Deed.{Calls, Changes, Step}
@@ -51,7 +52,7 @@ ask_begin asked next holds notes path none f = (
   none,
   elim [
     | Event (event.Began era agreed) ↦ λ m. f era agreed _
-    | Event told ↦ λ m. absurd m.2
+    | Event told ↦ λ m. absurd (answered m.0 m.1 change.Begin told m.2)
     | Host told ↦ λ m. absurd m
     | NoCopy ↦ λ m. tt
   ],
@@ -74,7 +75,7 @@ ask_resolve asked number next holds notes path f = (
         (f row form ids _)
     | Event (event.Refused refused.NotLive) ↦ λ m. inr (inl refl)
     | Event (event.Refused refused.Last) ↦ λ m. inr (inl refl)
-    | Event told ↦ λ m. absurd m.2
+    | Event told ↦ λ m. absurd (answered m.0 m.1 (change.Resolve number) told m.2)
     | Host told ↦ λ m. absurd m
     | NoCopy ↦ λ m. tt
   ],
@@ -150,7 +151,7 @@ ask_claim asked era fd ids next absent holds notes path e l f g = (
     | Event event.Absent ↦ λ m. g _
     | Event (event.Refused refused.Overtaken) ↦ λ m. inr (inl refl)
     | Event (event.Refused refused.Last) ↦ λ m. inr (inl refl)
-    | Event told ↦ λ m. absurd m.2
+    | Event told ↦ λ m. absurd (answered m.0 m.1 (change.Claim era None ids) told m.2)
     | Host told ↦ λ m. absurd m
     | NoCopy ↦ λ m. tt
   ],
@@ -164,7 +165,7 @@ ask_slot asked next top holds notes path f = (
   elim [
     | Event event.Taken ↦ λ m. f _
     | Event (event.Refused refused.NoSlot) ↦ λ m. inr (inl refl)
-    | Event told ↦ λ m. absurd m.2
+    | Event told ↦ λ m. absurd (answered m.0 m.1 change.TakeFd told m.2)
     | Host told ↦ λ m. absurd m
     | NoCopy ↦ λ m. tt
   ],
@@ -178,7 +179,7 @@ ask_number asked next holds notes path f = (
   elim [
     | Event (event.Drawn number) ↦ λ m. f number _
     | Event (event.Refused refused.Last) ↦ λ m. inr (inl refl)
-    | Event told ↦ λ m. absurd m.2
+    | Event told ↦ λ m. absurd (answered m.0 m.1 change.DrawNode told m.2)
     | Host told ↦ λ m. absurd m
     | NoCopy ↦ λ m. tt
   ],
@@ -204,7 +205,7 @@ ask_insert asked era fresh form ids mode next found holds notes path e l d f g =
     | Event (event.Refused refused.Live) ↦ λ m. inr (inl refl)
     | Event (event.Refused refused.Last) ↦ λ m. inr (inl refl)
     | Event (event.Refused refused.Memory) ↦ λ m. tt
-    | Event told ↦ λ m. absurd m.2
+    | Event told ↦ λ m. absurd (answered m.0 m.1 (change.Insert era fresh form ids mode) told m.2)
     | Host told ↦ λ m. absurd m
     | NoCopy ↦ λ m. tt
   ],
@@ -224,7 +225,7 @@ ask_insert_root asked era form ids mode agreed next holds notes path e r f = (
     | Event (event.Refused refused.Live) ↦ λ m. inr (inl refl)
     | Event (event.Refused refused.Last) ↦ λ m. inr (inl refl)
     | Event (event.Refused refused.Memory) ↦ λ m. tt
-    | Event told ↦ λ m. absurd m.2
+    | Event told ↦ λ m. absurd (answered m.0 m.1 (change.InsertRoot era form ids mode agreed) told m.2)
     | Host told ↦ λ m. absurd m
     | NoCopy ↦ λ m. tt
   ],
@@ -237,7 +238,7 @@ ask_forget asked list next holds notes path f = (
   tt,
   elim [
     | Event (event.Done closings) ↦ λ m. after_any closings _ notes (λ later l. f later _ l)
-    | Event told ↦ λ m. absurd m.2
+    | Event told ↦ λ m. absurd (answered m.0 m.1 (change.Forget list) told m.2)
     | Host told ↦ λ m. absurd m
     | NoCopy ↦ λ m. tt
   ],
@@ -259,7 +260,7 @@ ask_row asked number next holds notes path f = (
         (f row form ids mode path)
     | Event (event.Refused refused.NotLive) ↦ λ m. inr (inl refl)
     | Event (event.Refused refused.Last) ↦ λ m. inr (inl refl)
-    | Event told ↦ λ m. absurd m.2
+    | Event told ↦ λ m. absurd (answered m.0 m.1 (change.Resolve number) told m.2)
     | Host told ↦ λ m. absurd m
     | NoCopy ↦ λ m. tt
   ],
@@ -311,7 +312,7 @@ ask_handle asked next holds notes path f = (
   elim [
     | Event (event.Drawn handle) ↦ λ m. f handle _
     | Event (event.Refused refused.Last) ↦ λ m. inr (inl refl)
-    | Event told ↦ λ m. absurd m.2
+    | Event told ↦ λ m. absurd (answered m.0 m.1 change.DrawHandle told m.2)
     | Host told ↦ λ m. absurd m
     | NoCopy ↦ λ m. tt
   ],
@@ -332,7 +333,7 @@ ask_insert_handle asked era handle number row fd was next holds notes path e h r
     | Event (event.Refused refused.Live) ↦ λ m. inr (inl refl)
     | Event (event.Refused refused.Last) ↦ λ m. inr (inl refl)
     | Event (event.Refused refused.Memory) ↦ λ m. tt
-    | Event told ↦ λ m. absurd m.2
+    | Event told ↦ λ m. absurd (answered m.0 m.1 (change.InsertHandle era handle number fd) told m.2)
     | Host told ↦ λ m. absurd m
     | NoCopy ↦ λ m. tt
   ],
@@ -348,7 +349,7 @@ ask_pin asked handle number next holds notes path f = (
     | Event (event.Pinned row fd) ↦ λ m. on_top asked (next fd) (hold.HandlePin row fd) holds notes _ (f row fd _)
     | Event (event.Refused refused.NotLive) ↦ λ m. inr (inl refl)
     | Event (event.Refused refused.Last) ↦ λ m. inr (inl refl)
-    | Event told ↦ λ m. absurd m.2
+    | Event told ↦ λ m. absurd (answered m.0 m.1 (change.PinHandle handle number) told m.2)
     | Host told ↦ λ m. absurd m
     | NoCopy ↦ λ m. tt
   ],
@@ -362,7 +363,7 @@ ask_release asked handle number next holds notes path f = (
   elim [
     | Event (event.Done closings) ↦ λ m. after_any closings _ notes (λ later l. f later _ l)
     | Event (event.Refused refused.NotLive) ↦ λ m. inr (inl refl)
-    | Event told ↦ λ m. absurd m.2
+    | Event told ↦ λ m. absurd (answered m.0 m.1 (change.Release handle number) told m.2)
     | Host told ↦ λ m. absurd m
     | NoCopy ↦ λ m. tt
   ],
@@ -379,7 +380,7 @@ ask_clear asked next holds notes path none f = (
     | Event (event.Cleared era closings) ↦
         λ m. after_any closings _ (record notes { era = Some era }) (λ later l. f era later _ l)
     | Event (event.Refused refused.Last) ↦ λ m. inr (inl refl)
-    | Event told ↦ λ m. absurd m.2
+    | Event told ↦ λ m. absurd (answered m.0 m.1 change.Clear told m.2)
     | Host told ↦ λ m. absurd m
     | NoCopy ↦ λ m. tt
   ],

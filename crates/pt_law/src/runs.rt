@@ -10,7 +10,7 @@ ghost use Rattle.pt_session.specs.Tables.{Tables, Agree, empty_tables};
 ghost use Rattle.pt_session.specs.declared.form.RowForm.{RowForm};
 ghost use Rattle.pt_session.specs.declared.row.Row.{Row};
 ghost use Rattle.pt_session.specs.declared.row.HandleRow.{HandleRow};
-ghost use Rattle.pt_session.specs.Happens.{IsRow, IsHandleRow};
+ghost use Rattle.pt_session.specs.Rows.{IsRow, IsHandleRow};
 ghost use Rattle.pt_iface.specs.declared.answer.Answer.TheVariants as answer;
 ghost use Rattle.pt_iface.specs.declared.entry.Entry.{Entry};
 ghost use Rattle.pt_iface.specs.declared.request.Request.TheVariants as request;
