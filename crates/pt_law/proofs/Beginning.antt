@@ -1,5 +1,5 @@
 -- A job's first step begins it, unless it is its only one.
-use Rattle.std.proofs.Common.{◌≡◌, ⊎_elim, ℕ, List, [], ◌∷◌, Option, None, Some, sym, subst}
+use Rattle.std.proofs.Common.{⊎_elim, ℕ, List, [], ◌∷◌, Option, None, Some, sym, subst}
 use Rattle.pt_session.specs.declared.form.Negotiated.{Negotiated}
 use Rattle.pt_session.specs.declared.event.KeptEvent.TheVariants as change
 use Rattle.pt_session.specs.declared.reply.EventReply.TheVariants as event
@@ -12,7 +12,7 @@ use Rattle.pt_req.specs.Grammar.{Belongs}
 use Rattle.pt_req.specs.Options.{nothing_agreed, agreed_with, init_options, with_bits}
 use Rattle.pt_host.specs.Flags.{o_directory}
 use Rattle.pt_req.specs.Pattern.{Asked, Requests, Edits, grammar_for, grammar_of}
-use Rattle.pt_req.specs.Requests.{begun, on_began, on_cleared, root_open, named, look_up, answers_entry, on_done}
+use Rattle.pt_req.specs.Requests.{begun, on_cleared, root_open, named, look_up, answers_entry, on_done}
 use Rattle.pt_req.specs.Requests.{do_open, answers_opened, placed, on_pinned, read_pinned}
 use Rattle.pt_req.specs.Tree.{Tree, Gives, Asks, framed}
 use Rattle.pt_req.specs.declared.act.ActReply.{ActReply}

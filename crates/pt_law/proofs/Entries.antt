@@ -1,15 +1,15 @@
 -- An entry names what its name led to.
-use Rattle.std.proofs.Common.{◌≡◌, ◌⊎◌, ⊎_elim, inl, inr, ℕ, ◌+◌, ◌<◌, List, [], ◌∷◌, ◌++◌, true, refl, sym, ap, subst, ◌∙◌}
+use Rattle.std.proofs.Common.{◌≡◌, ◌⊎◌, ⊎_elim, inl, inr, ℕ, ◌+◌, ◌<◌, List, [], ◌∷◌, ◌++◌, refl, sym, ap, subst, ◌∙◌}
 use Rattle.std.proofs.Common.{append_assoc, append-nil, Option, Some, None}
 use Rattle.pt_host.specs.Words.{Each, Replaces, Replaces.{at, past}, Takes, Takes.{here, there}}
-use Rattle.pt_host.specs.Tree.{Tree, Object, IsObject, IsWellFormed}
+use Rattle.pt_host.specs.Tree.{Object, IsObject, IsWellFormed}
 use Rattle.pt_host.specs.declared.ids.Fd.{Fd}
 use Rattle.pt_host.specs.declared.ids.ObjIds.{ObjIds}
 use Rattle.pt_host.specs.declared.flags.OpenFlags.{OpenFlags}
 use Rattle.pt_host.specs.declared.op.KeptHostOp.TheVariants as call
 use Rattle.pt_host.specs.declared.reply.HostReply.TheVariants as host
 use Rattle.pt_host.specs.declared.reply.HostValue.TheVariants as value
-use Rattle.pt_session.specs.Tables.{Tables, HasNumber}
+use Rattle.pt_session.specs.Tables.{Tables}
 use Rattle.pt_session.specs.Happens.{new_row}
 use Rattle.pt_session.specs.Rows.{IsRow}
 use Rattle.pt_session.specs.declared.row.Row.{Row}
@@ -35,7 +35,7 @@ use Rattle.pt_law.specs.Discipline.{Job, HoldsTold, JobMoves, MovesIf}
 use Rattle.pt_law.specs.World.{World, Past, Turn, turn_by, Goes, IsLawful, Runs, TablesGo, steps_of}
 use Rattle.pt_law.specs.Laws.{AreDisciplined, Starts, IsLive, ObjectOf}
 use Rattle.pt_law.specs.Opened.{made, inserting, InsertionGives, IsLookedUp}
-use Rattle.pt_law.specs.Naming.{resolving, opening, ResolvesNone, OpensNone, NamePlaces}
+use Rattle.pt_law.specs.Naming.{resolving, opening, ResolvesNone, OpensNone}
 use Rattle.pt_law.specs.Entered.{GivesBy, GivingPlaces, GivingPath, IsGiven, EntryPlaces, IsEntered, up_to}
 use Rattle.pt_law.specs.Uses.{StaysLive}
 use Rattle.pt_law.proofs.Lists.{each_replaced, set_at_same}

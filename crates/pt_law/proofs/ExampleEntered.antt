@@ -1,5 +1,5 @@
 -- An entry from another directory than the one that its parent stood for is none.
-use Rattle.std.proofs.Common.{◌≡◌, ℕ, List, sym, ap, ◌∙◌, arith, Some}
+use Rattle.std.proofs.Common.{◌≡◌, ℕ, List, sym, ◌∙◌, arith, Some}
 use Rattle.pt_host.specs.Tree.{IsOpenOn}
 use Rattle.pt_law.specs.World.{World, Turn}
 use Rattle.pt_law.specs.Laws.{ObjectOf}

@@ -1,6 +1,6 @@
 -- A run of one step, which opens the shared directory as a root. That step might have opened either object of the host;
 -- in the world to which it led here it opened object 0, which so comes from it, and object 1 does not.
-use Rattle.std.proofs.Common.{◌≡◌, ◌≢◌, ℕ, ◌<◌, List, [], ◌∷◌, ◌++◌, refl, sym, ap, subst, ◌∙◌, arith, Option, Some, None}
+use Rattle.std.proofs.Common.{◌≡◌, ◌≢◌, ℕ, ◌<◌, List, [], ◌∷◌, ◌++◌, refl, sym, ap, subst, ◌∙◌, arith, Some}
 use Rattle.pt_host.specs.Words.{set_at}
 use Rattle.pt_host.specs.Flags.{includes, o_path}
 use Rattle.pt_host.specs.Tree.{Opened, IsOpenOn, directory_kind, kind_of}
@@ -16,9 +16,9 @@ use Rattle.pt_req.specs.Deed.{Calls}
 use Rattle.pt_req.specs.Requests.{path}
 use Rattle.pt_req.specs.declared.act.ActReply.TheVariants.{Host}
 use Rattle.pt_law.specs.World.{World, Turn, turn_by, Goes, Runs, settled_by, no_past}
-use Rattle.pt_law.specs.Origins.{opening_root, RootPlace, RootPath, WasRoot}
+use Rattle.pt_law.specs.Origins.{opening_root, RootPath, WasRoot}
 use Rattle.pt_law.proofs.Lists.{set_at_same}
-use Rattle.pt_law.proofs.ExampleRace.{fd, tree, well, IsSmall, small_none, small_open, opened_by, none, start}
+use Rattle.pt_law.proofs.ExampleRace.{fd, tree, well, small_none, small_open, opened_by, none, start}
 
 -- a slash
 abbrev slash : List ℕ

@@ -1,6 +1,6 @@
 -- What a job opens it has to close: a job that opened a root and did no more has not given back what it was given, and
 -- one that closed what it had opened has.
-use Rattle.std.proofs.Common.{◌≡◌, ℕ, List, [], ◌∷◌, refl, arith}
+use Rattle.std.proofs.Common.{◌≡◌, ℕ, [], ◌∷◌, arith}
 use Rattle.pt_host.specs.Words.{is}
 use Rattle.pt_host.specs.declared.ids.Fd.{Fd}
 use Rattle.pt_host.specs.declared.op.KeptHostOp.TheVariants as call
@@ -10,7 +10,6 @@ use Rattle.pt_iface.specs.declared.answer.Answer.TheVariants as answer
 use Rattle.pt_req.specs.Deed.{Calls, Step}
 use Rattle.pt_req.specs.Requests.{path}
 use Rattle.pt_req.specs.declared.act.ActReply.TheVariants.{Host}
-use Rattle.pt_req.specs.declared.finish.Finish.{Finish}
 use Rattle.pt_req.specs.declared.finish.Finish.TheVariants as finish
 use Rattle.pt_law.specs.Opened.{made}
 use Rattle.pt_law.specs.Origins.{opening_root}

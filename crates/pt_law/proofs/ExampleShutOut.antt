@@ -1,6 +1,6 @@
 -- A job begins, and then another clears the session. What the first asks for in its era is refused as overtaken, and no
 -- number is given to it.
-use Rattle.std.proofs.Common.{◌≡◌, ◌≢◌, inl, inr, ℕ, List, [], ◌∷◌, refl, sym, ◌∙◌, arith, None, Some}
+use Rattle.std.proofs.Common.{inl, inr, ℕ, List, [], ◌∷◌, refl, arith, None, Some}
 use Rattle.pt_host.specs.declared.ids.ObjIds.{ObjIds}
 use Rattle.pt_session.specs.Rows.{AllDie.{none as none_dies}}
 use Rattle.pt_session.proofs.Cases.{cases}

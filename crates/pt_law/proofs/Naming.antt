@@ -1,17 +1,17 @@
 -- A name that is opened leads from the directory that a number stood for.
-use Rattle.std.proofs.Common.{◌≡◌, ◌≢◌, ◌⊎◌, ⊎_elim, inl, inr, ℕ, ◌<◌, List, [], ◌∷◌, ◌++◌, false, refl, sym, ap, ap₂}
+use Rattle.std.proofs.Common.{◌≡◌, ◌≢◌, ◌⊎◌, ⊎_elim, inl, inr, ℕ, ◌<◌, List, [], ◌∷◌, ◌++◌, false, refl, sym, ap}
 use Rattle.std.proofs.Common.{subst, ◌∙◌, arith, Option, Some, None, append_assoc}
 use Rattle.std.proofs.lemmas.Bool.{cases_eq}
 use Rattle.pt_host.specs.Words.{Each, Takes}
 use Rattle.pt_host.specs.Flags.{includes, o_creat, o_path}
-use Rattle.pt_host.specs.Tree.{Tree, Opened, IsOpenOn}
+use Rattle.pt_host.specs.Tree.{Tree, IsOpenOn}
 use Rattle.pt_host.specs.declared.ids.Fd.{Fd}
 use Rattle.pt_host.specs.declared.ids.ObjIds.{ObjIds}
 use Rattle.pt_host.specs.declared.flags.OpenFlags.{OpenFlags}
 use Rattle.pt_host.specs.declared.op.KeptHostOp.TheVariants as call
 use Rattle.pt_host.specs.declared.reply.HostReply.TheVariants as host
 use Rattle.pt_host.specs.declared.reply.HostValue.TheVariants as value
-use Rattle.pt_session.specs.Tables.{Tables, Agree, IsSoundRow}
+use Rattle.pt_session.specs.Tables.{Agree, IsSoundRow}
 use Rattle.pt_session.proofs.Cases.{cases}
 use Rattle.pt_session.specs.declared.form.RowForm.{RowForm}
 use Rattle.pt_session.specs.declared.event.KeptEvent.TheVariants as change
@@ -21,7 +21,7 @@ use Rattle.pt_req.specs.declared.act.ActReply.{ActReply}
 use Rattle.pt_req.specs.declared.act.ActReply.TheVariants.{Event, Host}
 use Rattle.pt_req.specs.declared.hold.Hold.{Hold}
 use Rattle.pt_req.specs.declared.hold.Hold.TheVariants as hold
-use Rattle.pt_law.specs.Discipline.{Job, Notes, Resolution, idle, MovesIf, Disciplined, notes_after, with_root, unnoted}
+use Rattle.pt_law.specs.Discipline.{Job, Notes, Resolution, idle, MovesIf, Disciplined, notes_after, with_root}
 use Rattle.pt_law.specs.World.{World, Past, Turn, turn_by, Goes, IsLawful, Runs, steps_of, settled_if, object_of}
 use Rattle.pt_law.specs.Laws.{AreDisciplined, Starts, ObjectOf}
 use Rattle.pt_law.specs.Naming.{resolving, opening, ResolvesNone, OpensNone, NamePlaces, NamePath, LedTo}

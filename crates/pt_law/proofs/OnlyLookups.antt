@@ -1,10 +1,8 @@
 -- An entry is the answer of a lookup.
-use Rattle.std.proofs.Common.{◌≡◌, ⊎_elim, inl, inr, ℕ, List, [], ◌∷◌, Bool, true, false, None, Some, refl, sym, subst}
-use Rattle.std.proofs.Common.{◌∙◌, if◌then◌else◌}
+use Rattle.std.proofs.Common.{◌≡◌, ⊎_elim, ℕ, List, [], ◌∷◌, Bool, true, false, refl, sym, subst}
+use Rattle.std.proofs.Common.{if◌then◌else◌}
 use Rattle.pt_host.specs.Flags.{o_directory}
-use Rattle.pt_host.specs.declared.edit.Edit.{Edit}
 use Rattle.pt_host.specs.declared.ids.Fd.{Fd}
-use Rattle.pt_host.specs.declared.ids.ObjIds.{ObjIds}
 use Rattle.pt_host.specs.declared.stat.Stat.{Stat}
 use Rattle.pt_host.specs.declared.reply.HostReply.TheVariants as host
 use Rattle.pt_host.specs.declared.reply.HostValue.TheVariants as value
@@ -26,7 +24,6 @@ use Rattle.pt_req.specs.Requests.{on_cleared, on_pinned, on_handle, is_bad_offse
 use Rattle.pt_req.specs.Tree.{Tree, Gives, Refuses, Asks, Shuts}
 use Rattle.pt_req.specs.declared.act.ActReply.{ActReply}
 use Rattle.pt_req.specs.declared.act.ActReply.TheVariants.{Event, Host}
-use Rattle.pt_req.specs.declared.finish.Finish.{Finish}
 use Rattle.pt_req.specs.declared.finish.Finish.TheVariants as finish
 use Rattle.pt_req.specs.declared.plan.Plan.{Plan}
 use Rattle.pt_law.specs.Branch.{Along, IsGivenUp}

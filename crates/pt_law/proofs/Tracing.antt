@@ -1,10 +1,10 @@
 -- Where a numbered object comes from.
-use Rattle.std.proofs.Common.{◌≡◌, ◌≢◌, ◌⊎◌, ⊎_elim, inl, inr, ℕ, ◌<◌, List, [], ◌∷◌, ◌++◌, refl, sym, ap, subst, ◌∙◌}
+use Rattle.std.proofs.Common.{◌≡◌, ◌≢◌, ◌⊎◌, ⊎_elim, inl, inr, ℕ, List, [], ◌∷◌, ◌++◌, refl, sym, ap, subst, ◌∙◌}
 use Rattle.std.proofs.Common.{append_assoc, Option, Some, None}
 use Rattle.std.proofs.lemmas.Bool.{cases_eq}
 use Rattle.pt_host.specs.Words.{Each}
 use Rattle.pt_host.specs.Flags.{includes, o_path}
-use Rattle.pt_host.specs.Tree.{Tree, Opened, IsOpenOn}
+use Rattle.pt_host.specs.Tree.{Tree, Opened}
 use Rattle.pt_host.specs.declared.ids.Fd.{Fd}
 use Rattle.pt_host.specs.declared.ids.ObjIds.{ObjIds}
 use Rattle.pt_host.specs.declared.flags.OpenFlags.{OpenFlags}
@@ -18,12 +18,12 @@ use Rattle.pt_session.specs.declared.reply.EventReply.TheVariants as event
 use Rattle.pt_req.specs.Deed.{Deed, Calls, Changes, Step}
 use Rattle.pt_req.specs.declared.act.ActReply.{ActReply}
 use Rattle.pt_req.specs.declared.act.ActReply.TheVariants.{Event, Host}
-use Rattle.pt_law.specs.Discipline.{Job, Notes, idle}
+use Rattle.pt_law.specs.Discipline.{idle}
 use Rattle.pt_law.specs.Opened.{made}
-use Rattle.pt_law.specs.World.{World, Past, Turn, turn_by, Goes, Runs, settled_if, object_of, first_of, no_past, steps_of}
+use Rattle.pt_law.specs.World.{World, Past, Turn, turn_by, Goes, Runs, settled_if, object_of, first_of, steps_of}
 use Rattle.pt_law.specs.Laws.{AreDisciplined, Starts, ObjectOf}
-use Rattle.pt_law.specs.Naming.{resolving, opening, ResolvesNone, OpensNone, NamePlaces, NamePath, LedTo}
-use Rattle.pt_law.specs.Origins.{opening_root, RootPlace, RootPath, WasRoot, WasNamed}
+use Rattle.pt_law.specs.Naming.{resolving, opening, ResolvesNone, OpensNone, NamePlaces, LedTo}
+use Rattle.pt_law.specs.Origins.{opening_root, RootPlace, WasRoot, WasNamed}
 use Rattle.pt_law.proofs.Lists.{at_each, set_at_same, set_at_other}
 use Rattle.pt_law.proofs.Laws.{between}
 use Rattle.pt_law.proofs.Next.{owner_of, next_move}
