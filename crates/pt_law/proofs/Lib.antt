@@ -10,6 +10,7 @@ pub mod Requests
 pub mod Opened
 pub mod Settled
 pub mod Told
+pub mod Seats
 pub mod Answering
 pub mod Edits
 pub mod Asked

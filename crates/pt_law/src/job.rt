@@ -10,6 +10,7 @@ ghost use Rattle.pt_iface.specs.declared.request.Request.{Request};
 ghost use Rattle.pt_iface.specs.declared.request.Request.TheVariants as request;
 ghost use Rattle.pt_req.specs.Deed.{Deed, Step};
 ghost use Rattle.pt_req.specs.Made.{Made, RunsAlone};
+ghost use Rattle.pt_req.specs.Seats.{seat_at, seat_by};
 ghost use Rattle.pt_req.specs.declared.act.ActReply.{ActReply};
 ghost use Rattle.pt_req.specs.Edit.{edit_grammar};
 ghost use Rattle.pt_req.specs.Grammar.{Belongs};
@@ -90,4 +91,14 @@ pub fn steps_told<H: Host>()
     ensures alone { (steps : List Step) (host : H) (seat : HostSeat) (tables : Tables) (host_after : H)
         (seat_after : HostSeat) (tables_after : Tables) →
         RunsAlone H.does steps host seat tables host_after seat_after tables_after → AllMayBeTold steps }
+{}
+
+/// The seat after a step, and after all steps of a job, is the fold of what each call leaves, over any host.
+pub fn steps_seated<H: Host>()
+    ensures made { (deed : Option Deed) (told : ActReply) (host : H) (seat : HostSeat) (tables : Tables)
+        (host_after : H) (seat_after : HostSeat) (tables_after : Tables) →
+        Made H.does deed told host seat tables host_after seat_after tables_after → seat_after ≡ seat_by seat deed told }
+    ensures alone { (steps : List Step) (host : H) (seat : HostSeat) (tables : Tables) (host_after : H)
+        (seat_after : HostSeat) (tables_after : Tables) →
+        RunsAlone H.does steps host seat tables host_after seat_after tables_after → seat_after ≡ seat_at seat steps }
 {}

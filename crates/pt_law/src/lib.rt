@@ -5,6 +5,6 @@ mod job;
 mod runs;
 mod uses;
 
-pub use job::{any_request, each_request, edit_ends, request_ends, steps_told};
+pub use job::{any_request, each_request, edit_ends, request_ends, steps_seated, steps_told};
 pub use runs::{every_host, every_run, every_told_run};
 pub use uses::{forgotten_nothing, forgotten_number, one_number, two_lookups};

@@ -10,6 +10,7 @@ pub mod Requests
 pub mod Edit
 pub mod Pattern
 pub mod Made
+pub mod Seats
 pub mod Room
 pub mod Next
 pub mod Left
