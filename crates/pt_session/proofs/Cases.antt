@@ -10,7 +10,7 @@ use Rattle.pt_session.specs.Rows.{Kind, number_rows, handle_rows, IsRow, IsHandl
 use Rattle.pt_session.specs.Rows.{NoHandle}
 use Rattle.pt_session.specs.Rows.{IsPinned, ChangesRow, EndsRow, Dies, Unpins}
 use Rattle.pt_session.specs.Answers.{refusals, IsOneOf}
-use Rattle.pt_session.specs.Outcome.{last_u64, Refuses}
+use Rattle.pt_session.specs.Outcome.{last_u64, RefusesEvent}
 use Rattle.pt_session.specs.Effect.{IsFree}
 use Rattle.pt_session.specs.Happens.{Happens, ForgetsOne, ForgetsAll, Clears, TakesFirst, with_row, new_row}
 use Rattle.pt_session.specs.Happens.{with_handle}
@@ -115,7 +115,7 @@ Case tables change.TakeClosing (reply.Closing fd slot) after =
 Case tables asked told after = ⊥
 
 refused : (tables after : Tables) (asked : Change) (told : EventReply) (refusal : EventRefusal) →
-    IsOneOf refusal (refusals asked) → Reason tables asked refusal → Refuses tables refusal told after →
+    IsOneOf refusal (refusals asked) → Reason tables asked refusal → RefusesEvent tables refusal told after →
     Case tables asked told after
 refused tables after asked told refusal one reason h =
     subst (λ z. Case tables asked z after) (sym h.0) (one, h.1, reason)

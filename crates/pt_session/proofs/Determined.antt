@@ -9,7 +9,7 @@ use Rattle.pt_session.specs.declared.reply.EventReply.TheVariants as reply
 use Rattle.pt_session.specs.Tables.{Closing, Tables, AreApart, AreHandlesApart, Agree, HasNumber}
 use Rattle.pt_session.specs.Tables.{HasIds, HasHandle, IsHandle}
 use Rattle.pt_session.specs.Rows.{Kind, number_rows, handle_rows, IsPinned, ChangesRow, Dies, Unpins}
-use Rattle.pt_session.specs.Outcome.{Outcome, Leaves, Tells, Closes, UnlessRow, IfRow, Below, Pins}
+use Rattle.pt_session.specs.Outcome.{EventOutcome, Leaves, Replies, Closes, UnlessRow, IfRow, Below, Pins}
 use Rattle.pt_session.specs.Outcome.{Adds}
 use Rattle.pt_session.specs.Happens.{Happens, Falls, ForgetsAll, Clears, GivesAgain, TakesFirst, with_row, new_row}
 use Rattle.pt_session.specs.Happens.{with_handle, new_handle, agreed}
@@ -22,7 +22,7 @@ use Rattle.pt_session.proofs.Endings.{number_one, ids_one, handle_one, is_handle
 use Rattle.pt_session.proofs.Endings.{unpins_one}
 use Rattle.pt_session.proofs.Endings.{falls_one, forgets_all_one, clears_one}
 
-again_alone : (tables : Tables) (ids : ObjIds) (tell : ℕ → EventReply) (On : Outcome) → Agree tables → Alone On →
+again_alone : (tables : Tables) (ids : ObjIds) (tell : ℕ → EventReply) (On : EventOutcome) → Agree tables → Alone On →
     Alone (GivesAgain tables ids tell On)
 again_alone tables ids tell On agree alone =
     row_alone number_rows AreApart numbers_apart tables agree (HasIds ids) (ids_one ids) On
@@ -34,7 +34,7 @@ again_alone tables ids tell On agree alone =
     (changes_one number_rows AreApart numbers_apart tables agree row _)))
 
 -- neither number 1 nor the object has two rows, but each may have one
-taken_one : (tables : Tables) (ids : ObjIds) (On : Outcome) → Alone On →
+taken_one : (tables : Tables) (ids : ObjIds) (On : EventOutcome) → Alone On →
     Alone (IfRow tables number_rows (λ row. HasNumber 1 row ⊎ HasIds ids row) Live On)
 taken_one tables ids On alone told told' after after' w w' (inl h) (inl k) =
     alone told told' after after' w w' h.1 k.1
@@ -75,18 +75,18 @@ alone tables (change.Resolve number) agree =
 alone tables (change.Unpin serial) agree =
     unpins_alone number_rows AreApart numbers_apart numbers_make tables serial agree
 alone tables (change.Claim era handle ids) agree =
-    era_alone tables era (GivesAgain tables ids (λ number. reply.Claimed number) (Tells reply.Absent tables))
-    (again_alone tables ids (λ number. reply.Claimed number) (Tells reply.Absent tables) agree
+    era_alone tables era (GivesAgain tables ids (λ number. reply.Claimed number) (Replies reply.Absent tables))
+    (again_alone tables ids (λ number. reply.Claimed number) (Replies reply.Absent tables) agree
     (tells_alone reply.Absent tables))
 alone tables change.TakeFd agree =
-    unless_alone tables (0 < tables.slots) NoSlot (Tells reply.Taken (record tables { slots = tables.slots - 1 }))
+    unless_alone tables (0 < tables.slots) NoSlot (Replies reply.Taken (record tables { slots = tables.slots - 1 }))
     (tells_alone reply.Taken (record tables { slots = tables.slots - 1 }))
 alone tables change.GiveFd agree =
     unless_alone tables (tables.slots < tables.limit) NotLive
-    (Tells reply.Given (record tables { slots = tables.slots + 1 }))
+    (Replies reply.Given (record tables { slots = tables.slots + 1 }))
     (tells_alone reply.Given (record tables { slots = tables.slots + 1 }))
 alone tables change.DrawNode agree = below_alone tables tables.next_number
-    (Tells (reply.Drawn tables.next_number) (record tables { next_number = tables.next_number + 1 }))
+    (Replies (reply.Drawn tables.next_number) (record tables { next_number = tables.next_number + 1 }))
     (tells_alone (reply.Drawn tables.next_number) (record tables { next_number = tables.next_number + 1 }))
 alone tables (change.Insert era number form ids mode) agree =
     let left = with_row tables (new_row tables number form ids mode 1) in
@@ -109,7 +109,7 @@ alone tables (change.GiveBack era number) agree =
     (λ row. Closes (Falls tables row 1))
     (λ row. closes_alone (Falls tables row 1) (falls_one tables row 1 agree)))
 alone tables change.DrawHandle agree = below_alone tables tables.next_handle
-    (Tells (reply.Drawn tables.next_handle) (record tables { next_handle = tables.next_handle + 1 }))
+    (Replies (reply.Drawn tables.next_handle) (record tables { next_handle = tables.next_handle + 1 }))
     (tells_alone (reply.Drawn tables.next_handle) (record tables { next_handle = tables.next_handle + 1 }))
 alone tables (change.InsertHandle era handle number fd) agree =
     let left = with_handle tables (new_handle tables handle number fd) in

@@ -16,7 +16,8 @@ use Rattle.pt_session.specs.Rows.{AllDie.{none as none_live, next as next_dies}}
 use Rattle.pt_session.specs.Happens.{Happens, Falls, ForgetsOne, ForgetsAll, Clears, with_row, new_row, new_handle}
 use Rattle.pt_session.specs.Happens.{agreed}
 use Rattle.pt_session.specs.Effect.{IsFree, IsNewRow, IsNewHandle, Effect}
-use Rattle.pt_session.specs.Effect.{Effect.{nothing, counted, changed, ended, added, drawn, handle_changed, handle_ended, handle_added, begun, shut}}
+use Rattle.pt_session.specs.Effect.{Effect.{nothing, counted, changed, ended, added, drawn, begun, shut}}
+use Rattle.pt_session.specs.Effect.{Effect.{handle_changed, handle_ended, handle_added}}
 use Rattle.pt_session.specs.Effect.{Effects, Effects.{none, more}}
 use Rattle.pt_session.proofs.Cases.{Case, GivenAgain, GivesPin, cases}
 use Rattle.pt_session.proofs.Dying.{clears_era}

@@ -4,7 +4,8 @@ use Rattle.std.proofs.Common.{◌∙◌}
 use Rattle.pt_host.specs.Words.{EachTwo}
 use Rattle.pt_session.specs.Tables.{Tables, AreApart, AreHandlesApart, Agree}
 use Rattle.pt_session.specs.Rows.{Kind, number_rows, handle_rows, ChangesRow, EndsRow}
-use Rattle.pt_session.specs.Outcome.{Outcome, Leaves, Tells, Closes, Refuses, Unless, ByRow, UnlessRow, IfRow, InEra}
+use Rattle.pt_session.specs.Outcome.{EventOutcome, Leaves, Replies, Closes, RefusesEvent, Unless, ByRow, UnlessRow}
+use Rattle.pt_session.specs.Outcome.{IfRow, InEra}
 use Rattle.pt_session.specs.Outcome.{Below, Pins, Adds, last_u64}
 use Rattle.pt_session.specs.declared.reply.EventRefusal.{EventRefusal}
 use Rattle.pt_session.specs.declared.reply.EventRefusal.TheVariants.{Overtaken, Last, Memory}
@@ -18,7 +19,7 @@ IsOne {T} Q = (told told' : T) (after after' : Tables) → Q told after → Q to
     (told ≡ told') × (after ≡ after')
 
 -- the same of what an event is told, where that is not that memory ran out
-abbrev pub Alone : Outcome → Type 0
+abbrev pub Alone : EventOutcome → Type 0
 Alone Q = (told told' : EventReply) (after after' : Tables) → told ≢ reply.Refused Memory →
     told' ≢ reply.Refused Memory → Q told after → Q told' after' → (told ≡ told') × (after ≡ after')
 
@@ -26,14 +27,14 @@ pub leaves_alone : (one : EventReply) (Left : Tables → Type 0) →
     ((after after' : Tables) → Left after → Left after' → after ≡ after') → Alone (Leaves one Left)
 leaves_alone one Left same told told' after after' w w' h k = (h.0 ∙ sym k.0, same after after' h.1 k.1)
 
-pub tells_alone : (one : EventReply) (left : Tables) → Alone (Tells one left)
+pub tells_alone : (one : EventReply) (left : Tables) → Alone (Replies one left)
 tells_alone one left = leaves_alone one (λ after. after ≡ left) (λ after after' h k. h ∙ sym k)
 
 pub closes_alone : (Left : ℕ → Tables → Type 0) → IsOne Left → Alone (Closes Left)
 closes_alone Left one told told' after after' w w' h k = let e = one h.0 k.0 after after' h.2 k.2 in
     (h.1 ∙ ap (λ (n : ℕ). reply.Done n) e.0 ∙ sym k.1, e.1)
 
-pub unless_alone : (tables : Tables) (Holds : Type 0) (refusal : EventRefusal) (On : Outcome) → Alone On →
+pub unless_alone : (tables : Tables) (Holds : Type 0) (refusal : EventRefusal) (On : EventOutcome) → Alone On →
     Alone (Unless tables Holds refusal On)
 unless_alone tables Holds refusal On alone told told' after after' w w' (inl h) (inl k) =
     alone told told' after after' w w' h.1 k.1
@@ -42,14 +43,14 @@ unless_alone tables Holds refusal On alone told told' after after' w w' (inr h) 
 unless_alone tables Holds refusal On alone told told' after after' w w' (inr h) (inr k) =
     tells_alone (reply.Refused refusal) tables told told' after after' w w' h.1 k.1
 
-pub era_alone : (tables : Tables) (era : ℕ) (On : Outcome) → Alone On → Alone (InEra tables era On)
+pub era_alone : (tables : Tables) (era : ℕ) (On : EventOutcome) → Alone On → Alone (InEra tables era On)
 era_alone tables era On alone = unless_alone tables (era ≡ tables.era) Overtaken On alone
 
-pub below_alone : (tables : Tables) (counter : ℕ) (On : Outcome) → Alone On → Alone (Below tables counter On)
+pub below_alone : (tables : Tables) (counter : ℕ) (On : EventOutcome) → Alone On → Alone (Below tables counter On)
 below_alone tables counter On alone = unless_alone tables (counter < last_u64) Last On alone
 
 or_memory : (tables : Tables) (one : EventReply) (left : Tables) →
-    Alone (λ told after. Tells one left told after ⊎ Refuses tables Memory told after)
+    Alone (λ told after. Replies one left told after ⊎ RefusesEvent tables Memory told after)
 or_memory tables one left told told' after after' w w' (inl h) (inl k) =
     tells_alone one left told told' after after' w w' h k
 or_memory tables one left told told' after after' w w' (inl h) (inr k) = absurd (w' k.0)
@@ -57,7 +58,8 @@ or_memory tables one left told told' after after' w w' (inr h) k = absurd (w h.0
 
 pub adds_alone : (tables : Tables) (one : EventReply) (left : Tables) → Alone (Adds tables one left)
 adds_alone tables one left =
-    below_alone tables tables.next_row (λ told after. Tells one left told after ⊎ Refuses tables Memory told after)
+    below_alone tables tables.next_row (λ told after. Replies one left told after ⊎ RefusesEvent tables Memory told
+    after)
     (or_memory tables one left)
 
 -- rows of a kind stand apart by their serials, and live ones by their keys, where tables agree
@@ -109,7 +111,7 @@ module _ {R : Type 0} (kind : Kind R) (Apart : R → R → Type 0) (apart : IsAp
       (leaves_alone one (ChangesRow kind tables row (kind.repinned row (kind.pins row + 1))) (changes_one row _))
 
   module _ (Such : R → Type 0) (one : (row other : R) → Apart row other → Such row → Such other → ⊥) where
-    pub row_alone : (None : Outcome) (Some : R → Outcome) → Alone None → ((row : R) → Alone (Some row)) →
+    pub row_alone : (None : EventOutcome) (Some : R → EventOutcome) → Alone None → ((row : R) → Alone (Some row)) →
         Alone (ByRow tables kind Such None Some)
     row_alone None Some none some told told' after after' w w' (inl h) (inl k) =
         none told told' after after' w w' h.1 k.1
@@ -121,11 +123,11 @@ module _ {R : Type 0} (kind : Kind R) (Apart : R → R → Type 0) (apart : IsAp
         let same : k.0 ≡ h.0 = sym (takes_one Apart Such one (apart.two tables agree) h.1.1 k.1.1 h.2 k.2).0 in
         some h.0 told told' after after' w w' h.3 (subst (λ (row : R). Some row told' after') same k.3)
 
-    pub unless_row : (refusal : EventRefusal) (On : R → Outcome) → ((row : R) → Alone (On row)) →
+    pub unless_row : (refusal : EventRefusal) (On : R → EventOutcome) → ((row : R) → Alone (On row)) →
         Alone (UnlessRow tables kind Such refusal On)
     unless_row refusal On alone =
-        row_alone (Refuses tables refusal) On (tells_alone (reply.Refused refusal) tables) alone
+        row_alone (RefusesEvent tables refusal) On (tells_alone (reply.Refused refusal) tables) alone
 
-    pub if_row : (refusal : EventRefusal) (On : Outcome) → Alone On → Alone (IfRow tables kind Such refusal On)
+    pub if_row : (refusal : EventRefusal) (On : EventOutcome) → Alone On → Alone (IfRow tables kind Such refusal On)
     if_row refusal On alone =
-        row_alone On (λ row. Refuses tables refusal) alone (λ row. tells_alone (reply.Refused refusal) tables)
+        row_alone On (λ row. RefusesEvent tables refusal) alone (λ row. tells_alone (reply.Refused refusal) tables)

@@ -8,7 +8,7 @@ use Rattle.std.proofs.lemmas.Option.{same_Some}
 use Rattle.pt_host.specs.Words.{Each, EachTwo, Takes, Replaces}
 use Rattle.pt_session.specs.Rows.{Kind, IsAmong, NoneOf, HasKey, IsPinned}
 use Rattle.pt_session.specs.LiveAfter.{IsAbove, IsLiveAbove}
-use Rattle.pt_session.specs.Store.{IsOlder, IsSame, IsDead, IsNext}
+use Rattle.pt_session.specs.Store.{IsOlder, IsSame, IsDead, IsNextRow}
 use Rattle.pt_session.specs.Index.{row_at, Puts, SameAt, Leaves, IsKeyed, IsSoundRows, IsNextIn}
 use Rattle.pt_session.proofs.Lists.{each_reverse, takes_reverse, replaces_reverse, two_takes, two_replaces, two_push}
 use Rattle.pt_session.proofs.Indexing.{puts_back, puts_here, index_same, index_inserted, index_changed, index_left}
@@ -236,7 +236,7 @@ module _ {R : Type 0} (kind : Kind R) (entries : List (ℕ × R)) (keys : ℕ �
       (IsLiveAbove kind above) sound.keys (λ row p. p) (subst (λ z. IsNextIn keys above z) e h))
 
   pub next_found : (above : Option ℕ) (next : Option (ℕ × ℕ)) (key serial : ℕ) (found : Option R) →
-      next ≡ Some (key, serial) → found ≡ row_at entries serial → IsNextIn keys above next → IsNext kind seen above
+      next ≡ Some (key, serial) → found ≡ row_at entries serial → IsNextIn keys above next → IsNextRow kind seen above
       found
   next_found above next key serial None e there h =
       absurd (next_leads_in kind.serial kind.live entries sound.keyed sound.ordered kind.key keys above key serial

@@ -7,7 +7,7 @@ use Rattle.pt_host.specs.declared.ids.ObjIds.{ObjIds}
 use Rattle.pt_session.specs.Tables.{Row, HandleRow, Closing, HasIds}
 use Rattle.pt_session.specs.Rows.{number_rows, IsAmong, NoneOf, IsLeast, Kind}
 use Rattle.pt_session.specs.LiveAfter.{IsLiveAbove}
-use Rattle.pt_session.specs.Store.{IsSame, IsNext}
+use Rattle.pt_session.specs.Store.{IsSame, IsNextRow}
 use Rattle.pt_session.specs.Index.{ObjectKey, key_of, Puts, SameAt, Leaves, IsSoundStore}
 use Rattle.pt_session.proofs.Lists.{length_takes, length_replaces, each_map}
 use Rattle.pt_session.proofs.Indexing.{puts_back}
@@ -15,7 +15,7 @@ use Rattle.pt_session.proofs.Finding.{objects_replaced, objects_buried, objects_
 use Rattle.pt_session.proofs.Finding.{object_free}
 
 -- the next of all is the least
-pub least : {R : Type 0} (kind : Kind R) (rows : List R) (found : Option R) → IsNext kind rows None found →
+pub least : {R : Type 0} (kind : Kind R) (rows : List R) (found : Option R) → IsNextRow kind rows None found →
     MatchOption found (NoneOf (λ row. kind.live row ≡ true) rows) (λ row. IsLeast kind rows row)
 least kind rows None h = each_map (λ row. IsLiveAbove kind None row → ⊥) (λ row. kind.live row ≡ true → ⊥) rows
     (λ row no live. no (live, tt)) h
@@ -51,7 +51,8 @@ module _ (rows : List Row) (index : ObjectKey → Option ℕ) (handles : List Ha
           gone leaves;
     }
 
-    pub store_ended : (row : Row) (last : Closing) (after : List Row) (index' : ObjectKey → Option ℕ) → IsAmong row seen
+    pub store_ended : (row : Row) (last : Closing) (after : List Row) (index' : ObjectKey → Option ℕ) → IsAmong row
+        seen
         →
         Takes row rows after → NoneOf (λ (other : Row). other.serial ≡ row.serial) after →
         Leaves row.live (key_of row.ids) index index' →
@@ -81,7 +82,12 @@ module _ (rows : List Row) (index : ObjectKey → Option ℕ) (handles : List Ha
     pub store_kept : (after : List Closing) (more : ℕ) (index' : ObjectKey → Option ℕ) → after ≡ closing →
         capacity ≤ more → SameAt index index' → IsSoundStore rows index' handles after more
     store_kept after more index' e l same = record {
-      room = let room = sound.room in let n : length after ≡ length closing = ap length e in omega (arith, room, l, n);
+      room = let room = sound.room in let n : length after ≡ length closing = ap length e in omega (
+        arith,
+        room,
+        l,
+        n,
+      );
       objects = objects_same rows index sound.objects index' same;
     }
 

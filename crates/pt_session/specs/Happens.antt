@@ -6,7 +6,8 @@ use Rattle.pt_session.specs.Change.{Change}
 use Rattle.pt_session.specs.Tables.{Row, HandleRow, Closing, Tables, nothing_agreed, HasNumber, HasIds, HasHandle}
 use Rattle.pt_session.specs.Tables.{IsHandle}
 use Rattle.pt_session.specs.Rows.{number_rows, handle_rows, NoRow, IsPinned, ChangesRow, Dies, Unpins, AllDie}
-use Rattle.pt_session.specs.Outcome.{Outcome, Leaves, Tells, Closes, Refuses, Unless, ByRow, UnlessRow, IfRow, InEra}
+use Rattle.pt_session.specs.Outcome.{EventOutcome, Leaves, Replies, Closes, RefusesEvent, Unless, ByRow, UnlessRow}
+use Rattle.pt_session.specs.Outcome.{IfRow, InEra}
 use Rattle.pt_session.specs.Outcome.{Below, Pins, Adds}
 use Rattle.pt_session.specs.declared.form.RowForm.{RowForm}
 use Rattle.pt_session.specs.declared.form.Negotiated.{Negotiated}
@@ -77,20 +78,22 @@ agreed None tables = tables
 agreed (Some negotiated) tables = record tables { negotiated = negotiated }
 
 -- a row of the object is given once more, unless its count is at its end; where there is none it goes on
-abbrev pub GivesAgain : Tables → ObjIds → (ℕ → EventReply) → Outcome → Outcome
+abbrev pub GivesAgain : Tables → ObjIds → (ℕ → EventReply) → EventOutcome → EventOutcome
 GivesAgain tables ids tell On = ByRow tables number_rows (HasIds ids) On (λ row.
     Below tables row.count (Leaves (tell row.number)
     (ChangesRow number_rows tables row (record row { count = row.count + 1 }))))
 
 -- the first of what is to be closed is taken, unless nothing is
-abbrev pub TakesFirst : Tables → List Closing → Outcome
-TakesFirst tables [] = Refuses tables NotLive
-TakesFirst tables (first ∷ closing) = Tells (reply.Closing first.fd first.slot) (record tables { closing = closing })
+abbrev pub TakesFirst : Tables → List Closing → EventOutcome
+TakesFirst tables [] = RefusesEvent tables NotLive
+TakesFirst tables (first ∷ closing) = Replies (reply.Closing first.fd first.slot) (record tables {
+  closing = closing;
+})
 
 -- Each event: what it does, and what it is refused for, in this order.
 abbrev pub Happens : Tables → Change → EventReply → Tables → Type 0
 -- `Begin` tells the era and what was agreed on. It is never refused.
-Happens tables change.Begin = Tells (reply.Began tables.era tables.negotiated) tables
+Happens tables change.Begin = Replies (reply.Began tables.era tables.negotiated) tables
 -- `Resolve` pins the row of a live number and tells it. Refused: NotLive unless the number is; then Last at the end
 -- of the row's pins.
 Happens tables (change.Resolve number) =
@@ -103,17 +106,17 @@ Happens tables (change.Unpin serial) =
 -- `Claim` gives the number of the object's row once more, or tells that there is none. Refused: Overtaken; then,
 -- where it has a row, Last at the end of its count. Rows are found by ids alone, as long as all are in file form.
 Happens tables (change.Claim era handle ids) =
-    InEra tables era (GivesAgain tables ids (λ number. reply.Claimed number) (Tells reply.Absent tables))
+    InEra tables era (GivesAgain tables ids (λ number. reply.Claimed number) (Replies reply.Absent tables))
 -- `TakeFd` takes a descriptor slot. Refused: NoSlot unless one is left.
 Happens tables change.TakeFd =
-    Unless tables (0 < tables.slots) NoSlot (Tells reply.Taken (record tables { slots = tables.slots - 1 }))
+    Unless tables (0 < tables.slots) NoSlot (Replies reply.Taken (record tables { slots = tables.slots - 1 }))
 -- `GiveFd` gives a slot back. Refused: NotLive unless one is out.
 Happens tables change.GiveFd =
     Unless tables (tables.slots < tables.limit) NotLive
-    (Tells reply.Given (record tables { slots = tables.slots + 1 }))
+    (Replies reply.Given (record tables { slots = tables.slots + 1 }))
 -- `DrawNode` draws the next number. Refused: Last at the end of the numbers.
 Happens tables change.DrawNode = Below tables tables.next_number
-    (Tells (reply.Drawn tables.next_number) (record tables { next_number = tables.next_number + 1 }))
+    (Replies (reply.Drawn tables.next_number) (record tables { next_number = tables.next_number + 1 }))
 -- `Insert` gives the number of the object's row once more, or adds a row of the number with count 1. Refused:
 -- Overtaken; then, where the object has a row, Last at the end of its count; where it has none, Live if the number
 -- is, then Last at the end of the serials, then Memory.
@@ -133,7 +136,7 @@ Happens tables (change.GiveBack era number) =
     InEra tables era (UnlessRow tables number_rows (HasNumber number) NotLive (λ row. Closes (Falls tables row 1)))
 -- `DrawHandle` draws the next handle. Refused: Last at the end of the handles.
 Happens tables change.DrawHandle = Below tables tables.next_handle
-    (Tells (reply.Drawn tables.next_handle) (record tables { next_handle = tables.next_handle + 1 }))
+    (Replies (reply.Drawn tables.next_handle) (record tables { next_handle = tables.next_handle + 1 }))
 -- `InsertHandle` adds a row of the handle. Refused: Overtaken; then Live if the handle is; then Last at the end of
 -- the serials; then Memory.
 Happens tables (change.InsertHandle era handle number fd) =

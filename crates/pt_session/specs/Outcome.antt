@@ -9,62 +9,63 @@ use Rattle.pt_session.specs.declared.reply.EventReply.{EventReply}
 use Rattle.pt_session.specs.declared.reply.EventReply.TheVariants as reply
 
 -- what an event is answered, and the tables that it leaves
-abbrev pub Outcome : Type 1
-Outcome = EventReply → Tables → Type 0
+abbrev pub EventOutcome : Type 1
+EventOutcome = EventReply → Tables → Type 0
 
 -- where a counter ends
 abbrev pub last_u64 : ℕ
 last_u64 = 2 ^ 64 - 1
 
 -- this reply, and tables that are left so
-abbrev pub Leaves : EventReply → (Tables → Type 0) → Outcome
+abbrev pub Leaves : EventReply → (Tables → Type 0) → EventOutcome
 Leaves reply Left told after = (told ≡ reply) × Left after
 
 -- this reply, and these tables
-abbrev pub Tells : EventReply → Tables → Outcome
-Tells reply left = Leaves reply (λ after. after ≡ left)
+abbrev pub Replies : EventReply → Tables → EventOutcome
+Replies reply left = Leaves reply (λ after. after ≡ left)
 
 -- so many descriptors are put on the closing list, and that is told
-abbrev pub Closes : (ℕ → Tables → Type 0) → Outcome
+abbrev pub Closes : (ℕ → Tables → Type 0) → EventOutcome
 Closes Left told after = (closings : ℕ) × (told ≡ reply.Done closings) × Left closings after
 
 -- it is refused
-abbrev pub Refuses : Tables → EventRefusal → Outcome
-Refuses tables refusal = Tells (reply.Refused refusal) tables
+abbrev pub RefusesEvent : Tables → EventRefusal → EventOutcome
+RefusesEvent tables refusal = Replies (reply.Refused refusal) tables
 
 -- it is refused unless that holds; else it goes on
-abbrev pub Unless : Tables → Type 0 → EventRefusal → Outcome → Outcome
+abbrev pub Unless : Tables → Type 0 → EventRefusal → EventOutcome → EventOutcome
 Unless tables Holds refusal On told after =
-    (Holds × On told after) ⊎ ((Holds → ⊥) × Refuses tables refusal told after)
+    (Holds × On told after) ⊎ ((Holds → ⊥) × RefusesEvent tables refusal told after)
 
 -- a row that is such goes on in one way; where there is none it goes on in another
-abbrev pub ByRow : {R : Type 0} → Tables → Kind R → (R → Type 0) → Outcome → (R → Outcome) → Outcome
+abbrev pub ByRow : {R : Type 0} → Tables → Kind R → (R → Type 0) → EventOutcome → (R → EventOutcome) → EventOutcome
 ByRow {R} tables kind Such None Some told after =
     (NoneOf Such (kind.rows tables) × None told after)
     ⊎ ((row : R) × IsAmong row (kind.rows tables) × Such row × Some row told after)
 
 -- it is refused unless a row is such; else it goes on with that row
-abbrev pub UnlessRow : {R : Type 0} → Tables → Kind R → (R → Type 0) → EventRefusal → (R → Outcome) → Outcome
-UnlessRow tables kind Such refusal On = ByRow tables kind Such (Refuses tables refusal) On
+abbrev pub UnlessRow : {R : Type 0} → Tables → Kind R → (R → Type 0) → EventRefusal → (R → EventOutcome) →
+    EventOutcome
+UnlessRow tables kind Such refusal On = ByRow tables kind Such (RefusesEvent tables refusal) On
 
 -- it is refused if a row is such; else it goes on
-abbrev pub IfRow : {R : Type 0} → Tables → Kind R → (R → Type 0) → EventRefusal → Outcome → Outcome
-IfRow tables kind Such refusal On = ByRow tables kind Such On (λ row. Refuses tables refusal)
+abbrev pub IfRow : {R : Type 0} → Tables → Kind R → (R → Type 0) → EventRefusal → EventOutcome → EventOutcome
+IfRow tables kind Such refusal On = ByRow tables kind Such On (λ row. RefusesEvent tables refusal)
 
 -- it is refused as overtaken unless the session's era is this one
-abbrev pub InEra : Tables → ℕ → Outcome → Outcome
+abbrev pub InEra : Tables → ℕ → EventOutcome → EventOutcome
 InEra tables era On = Unless tables (era ≡ tables.era) Overtaken On
 
 -- it is refused unless the counter can still rise
-abbrev pub Below : Tables → ℕ → Outcome → Outcome
+abbrev pub Below : Tables → ℕ → EventOutcome → EventOutcome
 Below tables counter On = Unless tables (counter < last_u64) Last On
 
 -- the row is pinned once more, unless its pins are at their end
-abbrev pub Pins : {R : Type 0} → Tables → Kind R → R → EventReply → Outcome
+abbrev pub Pins : {R : Type 0} → Tables → Kind R → R → EventReply → EventOutcome
 Pins tables kind row reply =
     Below tables (kind.pins row) (Leaves reply (ChangesRow kind tables row (kind.repinned row (kind.pins row + 1))))
 
 -- a row comes, unless the serials are at their end, or it is refused since memory ran out
-abbrev pub Adds : Tables → EventReply → Tables → Outcome
+abbrev pub Adds : Tables → EventReply → Tables → EventOutcome
 Adds tables reply left =
-    Below tables tables.next_row (λ told after. Tells reply left told after ⊎ Refuses tables Memory told after)
+    Below tables tables.next_row (λ told after. Replies reply left told after ⊎ RefusesEvent tables Memory told after)

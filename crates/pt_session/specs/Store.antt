@@ -40,9 +40,9 @@ pub record IsDead {R : Type 0} (kind : Kind R) (was now : R) : Type 0 where
   pub live : kind.live now ≡ false
 
 -- the live row of the least key above, or none where there is none
-abbrev pub IsNext : {R : Type 0} → Kind R → List R → Option ℕ → Option R → Type 0
-IsNext kind rows above None = NoneOf (IsLiveAbove kind above) rows
-IsNext kind rows above (Some row) = IsLiveAbove kind above row × IsAmong row rows
+abbrev pub IsNextRow : {R : Type 0} → Kind R → List R → Option ℕ → Option R → Type 0
+IsNextRow kind rows above None = NoneOf (IsLiveAbove kind above) rows
+IsNextRow kind rows above (Some row) = IsLiveAbove kind above row × IsAmong row rows
     × Each (λ other. IsLiveAbove kind above other → kind.key row ≤ kind.key other) rows
 
 -- the first row is the older, by the serials

@@ -6,7 +6,7 @@ ghost use Rattle.std.specs.Map.{set_value};
 ghost use Rattle.std.specs.BTreeMap.{is_at};
 ghost use Rattle.pt_host.specs.Words.{Each, Takes, Replaces};
 ghost use Rattle.pt_session.specs.Rows.{IsAmong, NoneOf, HasKey, IsPinned};
-ghost use Rattle.pt_session.specs.Store.{IsSame, IsNext};
+ghost use Rattle.pt_session.specs.Store.{IsSame, IsNextRow};
 ghost use Rattle.pt_session.specs.Index.{row_at, by_key, Puts, SameAt, Leaves, IsNextIn};
 
 use crate::pinned::Pinned;
@@ -152,7 +152,7 @@ impl<R: Pinned> Rows<R> {
 
     /// The live row of the least key above the given one, or of the least of all.
     pub fn next(&self, above: Option<u64>) -> Option<R>
-        ensures { IsNext R.kind self.now above result }
+        ensures { IsNextRow R.kind self.now above result }
     {
         match next_key(&self.keys, above) {
             None => None,
