@@ -1,5 +1,5 @@
 -- An entry names what its name led to.
-use Rattle.std.proofs.Common.{◌≡◌, ◌⊎◌, ⊎_elim, inl, inr, ℕ, ◌+◌, ◌<◌, List, [], ◌∷◌, ◌++◌, refl, sym, ap, subst, ◌∙◌}
+use Rattle.std.proofs.Common.{◌≡◌, ⊎_elim, inl, inr, ℕ, ◌+◌, ◌<◌, List, [], ◌∷◌, ◌++◌, refl, sym, ap, subst, ◌∙◌}
 use Rattle.std.proofs.Common.{append_assoc, append-nil, Option, Some, None}
 use Rattle.pt_host.specs.Words.{Each, Replaces, Replaces.{at, past}, Takes, Takes.{here, there}}
 use Rattle.pt_host.specs.Tree.{Object, IsObject, IsWellFormed}

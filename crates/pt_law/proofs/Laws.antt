@@ -10,8 +10,6 @@ use Rattle.pt_session.specs.declared.row.HandleRow.{HandleRow}
 use Rattle.pt_session.specs.Rows.{IsRow, IsHandleRow}
 use Rattle.pt_req.specs.Deed.{Deed, Calls, Changes, Step}
 use Rattle.pt_req.specs.Held.{fd_of}
-use Rattle.pt_req.specs.declared.finish.Finish.TheVariants as finish
-use Rattle.pt_iface.specs.declared.answer.Answer.TheVariants as answer
 use Rattle.pt_req.specs.declared.hold.Hold.{Hold}
 use Rattle.pt_req.specs.declared.hold.Hold.TheVariants as hold
 use Rattle.pt_law.specs.Discipline.{Job, idle, at_job, JobMoves, Disciplined, entry_holds}

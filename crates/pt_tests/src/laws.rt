@@ -1,8 +1,8 @@
 use crate::one_directory::OneDirectory;
-use pt_fs::turns_are_determined;
+use pt_fs::{seats_follow, turns_are_determined};
 use pt_law::{
     any_request, each_request, edit_ends, every_host, every_run, every_told_run, forgotten_nothing,
-    forgotten_number, one_number, request_ends, steps_told, two_lookups,
+    forgotten_number, one_number, request_ends, steps_seated, steps_told, two_lookups,
 };
 use pt_req::{calm, cut_says_no_more, jobs_are_determined};
 use pt_run::script_determines_report;
@@ -18,6 +18,7 @@ fn the_laws_hold_with_no_premise() {
     request_ends();
     edit_ends();
     steps_told::<OneDirectory>();
+    steps_seated::<OneDirectory>();
     every_run();
     every_told_run();
     every_host::<OneDirectory>();
@@ -26,6 +27,7 @@ fn the_laws_hold_with_no_premise() {
     forgotten_number();
     forgotten_nothing();
     turns_are_determined::<OneDirectory>();
+    seats_follow::<OneDirectory>();
     first_bad_line();
     script_determines_report();
 }
