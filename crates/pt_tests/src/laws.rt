@@ -5,8 +5,9 @@ use pt_law::{
     forgotten_number, one_number, request_ends, steps_told,
 };
 use pt_req::{calm, cut_says_no_more, jobs_are_determined};
-use pt_run::script_determines_report;
+use pt_run::{report_determines_run, script_determines_report};
 use pt_script::first_bad_line;
+use pt_show::texts_tell_values;
 
 #[test]
 fn the_laws_hold_with_no_premise() {
@@ -27,4 +28,6 @@ fn the_laws_hold_with_no_premise() {
     turns_are_determined::<OneDirectory>();
     first_bad_line();
     script_determines_report();
+    texts_tell_values();
+    report_determines_run();
 }
