@@ -11,7 +11,7 @@ use Rattle.pt_req.specs.declared.act.ActReply.{ActReply}
 use Rattle.pt_law.proofs.Seats.{made_seat}
 use Rattle.pt_law.proofs.Told.{Promises}
 use Rattle.pt_fs.proofs.Places.{get-set_other, get-set_same}
-use Rattle.pt_fs.specs.Trace.{MadeFrom, Runs, step_of, steps_by}
+use Rattle.pt_fs.specs.Trace.{MadeFrom, TraceRuns, step_of, steps_by}
 use Rattle.pt_fs.specs.declared.trace.TraceStep.{TraceStep}
 
 abbrev has_seat : HostSeat → Option (Option HostSeat)
@@ -30,7 +30,7 @@ module _ {H : Type 0} (does : Does H) (faults : H → ℕ) (p : Promises does fa
   seat_made deed told from None tables to now tables_after seat m is = absurd (cc)
 
   pub seats_at : (xs : List TraceStep) (h0 h1 : H) (s0 s1 : List (Option HostSeat)) (r0 r1 : Tables) →
-      Runs does xs h0 s0 r0 h1 s1 r1 → (job : ℕ) (seat : HostSeat) → slice_get s0 job ≡ has_seat seat →
+      TraceRuns does xs h0 s0 r0 h1 s1 r1 → (job : ℕ) (seat : HostSeat) → slice_get s0 job ≡ has_seat seat →
       slice_get s1 job ≡ has_seat (seat_at seat (steps_by job xs))
   seats_at [] h0 h1 s0 s1 r0 r1 runs job seat is = ap (λ (s : List (Option HostSeat)). slice_get s job) runs.1 ∙ is
   seats_at (x ∷ xs) h0 h1 s0 s1 r0 r1 runs job seat is =
