@@ -1,5 +1,5 @@
 -- The records of a directory, entry by entry.
-use Rattle.std.proofs.Common.{◌≡◌, ◌<◌, ◌≤◌, ◌+◌, ◌-◌, ◌%◌, ◌/◌, ◌++◌, ◌∷◌, [], ℕ, suc, true, false, cond, List, drop}
+use Rattle.std.proofs.Common.{◌≡◌, ◌≤◌, ◌+◌, ◌-◌, ◌%◌, ◌/◌, ◌++◌, ◌∷◌, [], ℕ, zero, suc, true, false, cond, List, Some, drop}
 use Rattle.std.proofs.Common.{length, nat_le, refl, ap, sym, ◌∙◌, arith, append_assoc, slice_get}
 use Rattle.std.specs.Int.{to_le_bytes, w16}
 use Rattle.pt_rules.specs.ListCalls.{before_others, record_at, record_size, records}
@@ -20,18 +20,22 @@ in_one old a b c d =
 pub less_than_record : (name : List ℕ) → length name + 20 ≤ record_size name
 less_than_record name = omega arith
 
-pub at_entry : {X : Type 0} (start place : ℕ) (entry : X) (more : List X) → start ≤ place →
-    drop (start - place) (entry ∷ more) ≡ entry ∷ more
-at_entry start place entry more low = let e : start - place ≡ 0 = omega arith in ap (λ n. drop n (entry ∷ more)) e
+-- what stands at a place, and what comes behind it
+pub stands_at : {X : Type 0} (names : List X) (place : ℕ) (entry : X) (more : List X) →
+    entry ∷ more ≡ drop place names → slice_get names place ≡ Some entry
+stands_at [] zero entry more is = cc
+stands_at [] (suc place) entry more is = cc
+stands_at (name ∷ names) zero entry more is = (let e : entry ≡ name = cc in ap (λ n. Some n) (sym e))
+stands_at (name ∷ names) (suc place) entry more is = stands_at names place entry more is
 
-pub past_entry : {X : Type 0} (start place : ℕ) (entry : X) (more : List X) → place < start →
-    drop (start - place) (entry ∷ more) ≡ drop (start - (place + 1)) more
-past_entry start place entry more low =
-    let e : start - place ≡ suc (start - (place + 1)) = omega arith in
-    ap (λ n. drop n (entry ∷ more)) e
-
-pub none_left : {X : Type 0} (start place : ℕ) (more : List X) → start ≤ place → drop (start - (place + 1)) more ≡ more
-none_left start place more low = let e : start - (place + 1) ≡ 0 = omega arith in ap (λ n. drop n more) e
+pub stands_on : {X : Type 0} (names : List X) (place : ℕ) (entry : X) (more : List X) →
+    entry ∷ more ≡ drop place names → more ≡ drop (place + 1) names
+stands_on [] zero entry more is = cc
+stands_on [] (suc place) entry more is = cc
+stands_on (name ∷ names) zero entry more is = cc
+stands_on (name ∷ names) (suc place) entry more is =
+    let e : suc place + 1 ≡ suc (place + 1) = omega arith in
+    stands_on names place entry more is ∙ ap (λ n. drop n (name ∷ names)) (sym e)
 
 -- a record that fits comes next
 pub record_fits : (bytes : List ℕ) (size place : ℕ) (nodes : List Node) (entry : List ℕ

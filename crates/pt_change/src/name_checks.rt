@@ -128,14 +128,20 @@ pub fn symlink_refusal(seat: &HostSeat, dir: &Node, name: &[u8], target: &[u8]) 
 }
 
 /// The error for which the object does not get this name.
-pub fn link_refusal(seat: &HostSeat, node: &Node, dir: &Node, name: &[u8]) -> Option<Errno>
-    ensures { result ≡ first_refusal (link_checks seat.now node.now dir.now name.now) }
+pub fn link_refusal(
+    seat: &HostSeat,
+    links: u32,
+    node: &Node,
+    dir: &Node,
+    name: &[u8],
+) -> Option<Errno>
+    ensures { result ≡ first_refusal (link_checks seat.now links node.now dir.now name.now) }
 {
     if node.is_directory() {
         Some(Errno::EPERM)
     } else if node.ids.mnt_id != dir.ids.mnt_id {
         Some(Errno::EXDEV)
-    } else if node.nlink == 0 {
+    } else if links == 0 {
         Some(Errno::ENOENT)
     } else if dir.content.lookup(name).is_some() {
         Some(Errno::EEXIST)

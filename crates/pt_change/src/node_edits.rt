@@ -3,9 +3,7 @@ ghost use Rattle.std.specs.Option.{option_map_or};
 ghost use Rattle.pt_node.specs.Node.{name_at};
 ghost use Rattle.pt_rules.specs.NameCalls.{exchanged, linked};
 ghost use Rattle.pt_node.specs.Entries.{
-  after_losing,
   changed_at,
-  is_directory_at,
   restamped,
   rewritten,
   touched,
@@ -16,7 +14,6 @@ ghost use Rattle.pt_node.specs.NewPlace.{seen_place};
 ghost use Rattle.pt_rules.specs.Edits.{
   holds_any,
   is_mounted,
-  is_target_directory,
   move_refusal,
   moved,
   node_at,
@@ -32,15 +29,6 @@ use pt_host::{Bytes, Errno, Time};
 use pt_node::node::{Content, FILE_MAX, Node};
 use pt_node::path::name_at;
 use std::alloc::{AllocError, Global};
-
-pub fn is_directory_at(nodes: &[Node], place: usize) -> bool
-    ensures { result ≡ is_directory_at nodes.now place }
-{
-    match nodes.get(place) {
-        None => false,
-        Some(node) => node.is_directory(),
-    }
-}
 
 pub fn holds_any(node: &Node) -> bool
     ensures { result ≡ holds_any node.now }
@@ -151,14 +139,6 @@ pub fn write_refusal(nodes: &[Node], object: usize, size: usize) -> Option<Errno
     }
 }
 
-fn lose_name(nodes: &mut [Node], place: usize, now: Time)
-    ensures { nodes.new ≡ changed_at place (after_losing now) nodes.old }
-{
-    if place < nodes.len() {
-        nodes[place].lose_name(now);
-    }
-}
-
 fn restamp(nodes: &mut [Node], place: usize, now: Time)
     ensures { nodes.new ≡ changed_at place (restamped now) nodes.old }
 {
@@ -167,11 +147,11 @@ fn restamp(nodes: &mut [Node], place: usize, now: Time)
     }
 }
 
-fn lose_entry(nodes: &mut [Node], dir: usize, name: &[u8], directory: bool, now: Time)
-    ensures { nodes.new ≡ changed_at dir (λ at. touched now (without_entry name.now directory at)) nodes.old }
+fn lose_entry(nodes: &mut [Node], dir: usize, name: &[u8], now: Time)
+    ensures { nodes.new ≡ changed_at dir (λ at. touched now (without_entry name.now at)) nodes.old }
 {
     if dir < nodes.len() {
-        nodes[dir].lose_entry(name, directory, now);
+        nodes[dir].lose_entry(name, now);
     }
 }
 
@@ -181,16 +161,14 @@ pub fn gain_entry(
     dir: usize,
     name: Vec<u8>,
     object: usize,
-    directory: bool,
-    replaced: bool,
     now: Time,
 ) -> Result<(), AllocError>
     ensures ok { OnOk result (nodes.new
-        ≡ changed_at dir (λ at. touched now (with_entry name.items object directory replaced at)) nodes.old) }
+        ≡ changed_at dir (λ at. touched now (with_entry name.items object at)) nodes.old) }
     ensures err { OnErr result (nodes.new ≡ nodes.old) }
 {
     if dir < nodes.len() {
-        return nodes[dir].gain_entry(name, object, directory, replaced, now);
+        return nodes[dir].gain_entry(name, object, now);
     }
     Ok(())
 }
@@ -208,25 +186,15 @@ pub fn rewrite(nodes: &mut [Node], object: usize, bytes: Bytes, now: Time)
 pub fn unlink(nodes: &mut [Node], now: Time, dir: usize, name: &[u8], object: usize)
     ensures { nodes.new ≡ unlinked now dir name.now object nodes.old }
 {
-    let directory = is_directory_at(nodes, object);
-    lose_entry(nodes, dir, name, directory, now);
-    lose_name(nodes, object, now);
-}
-
-fn is_target_directory(nodes: &[Node], target: Option<usize>) -> bool
-    ensures { result ≡ is_target_directory nodes.now target }
-{
-    match target {
-        None => false,
-        Some(target) => is_directory_at(nodes, target),
-    }
+    lose_entry(nodes, dir, name, now);
+    restamp(nodes, object, now);
 }
 
 fn lose_replaced(nodes: &mut [Node], target: Option<usize>, now: Time)
     ensures { nodes.new ≡ replaced now target nodes.old }
 {
     if let Some(target) = target {
-        lose_name(nodes, target, now);
+        restamp(nodes, target, now);
     }
 }
 
@@ -244,32 +212,22 @@ pub fn rename(
         ≡ moved now (seen_place from.entry) (seen_place to.entry) object target nodes.old) }
     ensures err { OnErr result (nodes.new ≡ nodes.old) }
 {
-    let directory = is_directory_at(nodes, object);
-    let replaced = is_target_directory(nodes, target);
     let new = to.1.to_vec(alloc)?;
-    gain_entry(nodes, to.0, new, object, directory, replaced, now)?;
+    gain_entry(nodes, to.0, new, object, now)?;
     lose_replaced(nodes, target, now);
-    lose_entry(nodes, from.0, from.1, directory, now);
+    lose_entry(nodes, from.0, from.1, now);
     restamp(nodes, object, now);
     Ok(())
 }
 
 /// The name in this directory, which is there, leads to the object.
-fn lead_entry(
-    nodes: &mut [Node],
-    dir: usize,
-    name: &[u8],
-    object: usize,
-    directory: bool,
-    replaced: bool,
-    now: Time,
-)
+fn lead_entry(nodes: &mut [Node], dir: usize, name: &[u8], object: usize, now: Time)
     requires { is_some (name_at nodes.old dir name.now) ≡ true }
     ensures { nodes.new
-        ≡ changed_at dir (λ at. touched now (with_entry name.now object directory replaced at)) nodes.old }
+        ≡ changed_at dir (λ at. touched now (with_entry name.now object at)) nodes.old }
 {
     if dir < nodes.len() {
-        nodes[dir].lead_entry(name, object, directory, replaced, now);
+        nodes[dir].lead_entry(name, object, now);
     }
 }
 
@@ -284,10 +242,8 @@ pub fn link(
     ensures ok { OnOk result (nodes.new ≡ linked now dir name.items object nodes.old) }
     ensures err { OnErr result (nodes.new ≡ nodes.old) }
 {
-    gain_entry(nodes, dir, name, object, false, false, now)?;
-    if object < nodes.len() {
-        nodes[object].gain_name(now);
-    }
+    gain_entry(nodes, dir, name, object, now)?;
+    restamp(nodes, object, now);
     Ok(())
 }
 
@@ -304,10 +260,8 @@ pub fn exchange(
     requires too { name_at nodes.old to.0 to.1.now ≡ Some other }
     ensures { nodes.new ≡ exchanged now (seen_place from.entry) (seen_place to.entry) object other nodes.old }
 {
-    let directory = is_directory_at(nodes, object);
-    let another = is_directory_at(nodes, other);
-    lead_entry(nodes, to.0, to.1, object, directory, another, now);
-    lead_entry(nodes, from.0, from.1, other, another, directory, now);
+    lead_entry(nodes, to.0, to.1, object, now);
+    lead_entry(nodes, from.0, from.1, other, now);
     restamp(nodes, object, now);
     restamp(nodes, other, now);
 }
@@ -325,7 +279,7 @@ pub fn add_node(
 {
     nodes.reserve(1)?;
     let object = nodes.len();
-    gain_entry(nodes, dir, name, object, node.is_directory(), false, now)?;
+    gain_entry(nodes, dir, name, object, now)?;
     let _ = nodes.push(node);
     Ok(())
 }

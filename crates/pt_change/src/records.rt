@@ -1,6 +1,6 @@
-ghost use Rattle.std.specs.Prelude.{◌≡◌, ◌++◌, IfOk, OnOk, slice_get};
+ghost use Rattle.std.specs.Prelude.{◌≡◌, ◌++◌, IfOk, IfSome, OnOk, Some, option_map, slice_get};
 ghost use Rattle.std.specs.Int.{to_le_bytes, w16};
-ghost use Rattle.pt_node.specs.Node.{kind_number};
+ghost use Rattle.pt_node.specs.Node.{kind_number, names_in};
 ghost use Rattle.pt_node.specs.Opening.{first_refusal};
 ghost use Rattle.pt_rules.specs.ListCalls.{
   does_not_fit,
@@ -82,9 +82,11 @@ pub struct Listed {
     pub bytes: Vec<u8>,
     /// The place after the last one.
     pub place: u64,
+    /// The name that stands there, where its record did not fit.
+    pub next: Option<Vec<u8>>,
 }
 
-#[tactic(auto, using(crate::proofs::Listed::past_entry))]
+#[tactic(auto, using(crate::proofs::Listed::record_fits))]
 pub fn records_from(
     alloc: Global,
     nodes: &[Node],
@@ -92,50 +94,44 @@ pub fn records_from(
     start: u64,
     size: u32,
 ) -> Result<Listed, AllocError>
-    ensures { IfOk result (λ listed. (listed.bytes.items, listed.place)
+    ensures records { IfOk result (λ listed. (listed.bytes.items, listed.place)
         ≡ records size start nodes.now (names_from start dir.now)) }
+    ensures next { IfOk result (λ listed. IfSome listed.next (λ name.
+        option_map (λ entry. entry.0) (slice_get (names_in dir.now.content) listed.place) ≡ Some name.items)) }
 {
     let mut listed = Listed {
         bytes: Vec::new(alloc),
         place: start,
+        next: None,
     };
-    let Some(names) = dir.content.names() else {
+    let Some(rest) = dir.content.names_from(start as usize) else {
         return Ok(listed);
     };
     let mut left = size as usize;
-    let mut place = 0;
-    for (name, object) in names.kept.iter() {
-        place += 1;
-        if place <= start {
-            continue;
-        }
+    for (name, object) in rest {
         let record = record_size(name);
         if record > left {
+            listed.next = Some(name.to_vec(alloc)?);
             return Ok(listed);
         }
         left -= record;
-        push_record_at(&mut listed.bytes, place, name, nodes, *object)?;
-        listed.place = place;
+        listed.place += 1;
+        push_record_at(&mut listed.bytes, listed.place, name, nodes, *object)?;
     }
     Ok(listed)
 }
 
 /// Whether there is a next record and it does not fit.
-#[tactic(auto, using(crate::proofs::Listed::past_entry))]
 fn does_not_fit(dir: &Node, start: u64, size: u32) -> bool
     ensures { result ≡ does_not_fit size (names_from start dir.now) }
 {
-    let Some(names) = dir.content.names() else {
+    let Some(mut rest) = dir.content.names_from(start as usize) else {
         return false;
     };
-    let mut place = 0;
-    for (name, _) in names.kept.iter() {
-        if place == start {
-            return record_size(name) > size as usize;
-        }
-        place += 1;
+    match rest.next() {
+        None => false,
+        Some((name, _)) => record_size(name) > size as usize,
     }
-    false
 }
 
 pub fn list_refusal(file: OpenFile, node: &Node, start: u64, size: u32) -> Option<Errno>

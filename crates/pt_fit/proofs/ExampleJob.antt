@@ -1,6 +1,6 @@
 -- The steps of one lookup, by which all that is said of a request can be met: a name gets number 2.
 use Rattle.std.proofs.Common.{◌≢◌, inl, inr, ℕ, List, [], ◌∷◌, true, None, refl, arith}
-use Rattle.pt_host.specs.Words.{Replaces.{at, past}}
+use Rattle.pt_host.specs.Words.{Takes.{here, there}, Replaces.{at, past}}
 use Rattle.pt_host.specs.Errno.{einval}
 use Rattle.pt_host.specs.declared.ids.Fd.{Fd}
 use Rattle.pt_host.specs.declared.ids.ObjIds.{ObjIds}
@@ -10,7 +10,7 @@ use Rattle.pt_iface.specs.declared.request.Context.{Context}
 use Rattle.pt_host.specs.declared.op.KeptHostOp.TheVariants as call
 use Rattle.pt_host.specs.declared.reply.HostReply.TheVariants as host
 use Rattle.pt_host.specs.declared.reply.HostValue.TheVariants as value
-use Rattle.pt_session.specs.Happens.{NoRow}
+use Rattle.pt_session.specs.Rows.{NoRow}
 use Rattle.pt_session.specs.Tables.{Tables, HasIds, nothing_agreed}
 use Rattle.pt_session.specs.declared.row.Row.{Row}
 use Rattle.pt_session.specs.declared.form.RowForm.TheVariants.{File}
@@ -100,34 +100,52 @@ told stat apart =
       pins = 0;
       live = true;
     } in (
-      (tables 2 1 4 (row 0 ∷ []), tables 2 1 4 (row 0 ∷ []), (refl, refl, refl)),
+      (tables 2 1 4 (row 0 ∷ []), tables 2 1 4 (row 0 ∷ []), (refl, refl)),
       (
         (
           tables 2 1 4 (row 0 ∷ []),
           tables 2 1 4 pinned,
-          (row 0, (refl, refl), refl, refl, refl, refl, omega arith, (pinned, at, refl)),
+          inr (row 0, ([], here), (refl, refl), inl (omega arith, (refl, (pinned, at, refl)))),
         ),
         (
           tt,
           (
             tt,
             (
-              (tables 2 1 4 pinned, tables 2 1 4 pinned, (refl, free, refl)),
+              (tables 2 1 4 pinned, tables 2 1 4 pinned, inl (refl, inl (free, (refl, refl)))),
               (
-                (tables 2 1 4 pinned, tables 2 1 3 pinned, (3, refl, refl)),
+                (tables 2 1 4 pinned, tables 2 1 3 pinned, inl (omega arith, (refl, refl))),
                 (
-                  (tables 2 1 3 pinned, tables 3 1 3 pinned, (refl, omega arith, refl)),
+                  (tables 2 1 3 pinned, tables 3 1 3 pinned, inl (omega arith, (refl, refl))),
                   (
                     (
                       tables 3 1 3 pinned,
                       tables 3 2 3 (added ∷ pinned),
-                      (refl, (free, ((λ h. absurd (omega (arith, h.1))), tt)), omega arith, refl, refl),
+                      inl (
+                        refl,
+                        inl (
+                          free,
+                          inl (
+                            ((λ h. absurd (omega (arith, h.1))), tt),
+                            inl (
+                              omega arith,
+                              inl
+                                  (refl, refl),
+                            ),
+                          ),
+                        ),
+                      ),
                     ),
                     (
                       (
                         tables 3 2 3 (added ∷ pinned),
                         tables 3 2 3 (added ∷ row 0 ∷ []),
-                        (row 1, 0, refl, refl, inr (inl refl, refl, (added ∷ row 0 ∷ [], past at, refl))),
+                        inr (
+                          row 1,
+                          (added ∷ [], there here),
+                          (refl, λ e. omega (arith, e)),
+                          (0, refl, inr (inl refl, refl, (added ∷ row 0 ∷ [], past at, refl))),
+                        ),
                       ),
                       tt,
                     ),

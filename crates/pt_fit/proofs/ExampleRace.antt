@@ -3,7 +3,7 @@
 use Rattle.std.proofs.Common.{◌≡◌, ◌≢◌, ⊎_elim, inl, inr, ℕ, zero, suc, ◌<◌, List, [], ◌∷◌, true, refl, sym, ap}
 use Rattle.std.proofs.Common.{subst, ◌∙◌, arith, Option, Some, None, slice_get}
 use Rattle.std.proofs.lemmas.Bool.{cases_eq}
-use Rattle.pt_host.specs.Words.{Each, Replaces.{at, past}, set_at}
+use Rattle.pt_host.specs.Words.{Each, Takes.{here, there}, Replaces.{at, past}, set_at}
 use Rattle.pt_host.proofs.SeatAnswers.{unanswered}
 use Rattle.pt_host.specs.Call.{Call}
 use Rattle.pt_host.specs.Flags.{includes, o_path}
@@ -336,7 +336,7 @@ runs plan root file seat apart kind =
     let at_five = well root file apart kind five small_five in
     let at_end = well root file apart kind closed (small_close five 5 small_five) in
     let slot : 2 < 5 = omega arith in
-    event_then seat _ 0 change.Begin (event.Began 0 nothing_agreed) (empty_tables 5) _ (refl, refl, refl) (
+    event_then seat _ 0 change.Begin (event.Began 0 nothing_agreed) (empty_tables 5) _ (refl, refl) (
     call_then seat _ 0 (call.OpenRoot plan.config.root_dir path) (value.Fd (fd 3)) (tree root file three) _ (
       0,
       record { listed = omega arith; fresh = refl; allowed = refl; adds = refl },
@@ -349,41 +349,17 @@ runs plan root file seat apart kind =
       record { ids = refl; kind = refl },
       refl,
     ) tt refl (λ asks. asks) at_three at_three (
-    event_then seat _ 0 change.TakeFd event.Taken (tables 2 0 4 []) _ (4, refl, refl) (
+    event_then seat _ 0 change.TakeFd event.Taken (tables 2 0 4 []) _ (inl (omega arith, (refl, refl))) (
     event_then seat _ 0 (change.InsertRoot 0 (File (fd 3)) root.ids root.mode None) (event.Inserted 1)
-    (tables 2 1 4 (row root 0 ∷ [])) _ (refl, (tt, tt), omega arith, refl, refl) (
-    event_then seat _ 1 change.Begin (event.Began 0 nothing_agreed) (tables 2 1 4 (row root 0 ∷ [])) _ (
-      refl,
-      refl,
-      refl,
-    ) (
-    event_then seat _ 2 change.Begin (event.Began 0 nothing_agreed) (tables 2 1 4 (row root 0 ∷ [])) _ (
-      refl,
-      refl,
-      refl,
-    ) (
+    (tables 2 1 4 (row root 0 ∷ [])) _ (inl (refl, inl (tt, inl (omega arith, inl (refl, refl))))) (
+    event_then seat _ 1 change.Begin (event.Began 0 nothing_agreed) (tables 2 1 4 (row root 0 ∷ [])) _ (refl, refl) (
+    event_then seat _ 2 change.Begin (event.Began 0 nothing_agreed) (tables 2 1 4 (row root 0 ∷ [])) _ (refl, refl) (
     event_then seat _ 1 (change.Resolve 1) (event.Resolved 0 (File (fd 3)) root.ids root.mode)
-    (tables 2 1 4 (row root 1 ∷ [])) _ (
-      row root 0,
-      (refl, refl),
-      refl,
-      refl,
-      refl,
-      refl,
-      omega arith,
-      (row root 1 ∷ [], at, refl),
-    ) (
+    (tables 2 1 4 (row root 1 ∷ [])) _
+    (inr (row root 0, ([], here), (refl, refl), inl (omega arith, (refl, (row root 1 ∷ [], at, refl))))) (
     event_then seat _ 2 (change.Resolve 1) (event.Resolved 0 (File (fd 3)) root.ids root.mode)
-    (tables 2 1 4 (row root 2 ∷ [])) _ (
-      row root 1,
-      (refl, refl),
-      refl,
-      refl,
-      refl,
-      refl,
-      omega arith,
-      (row root 2 ∷ [], at, refl),
-    ) (
+    (tables 2 1 4 (row root 2 ∷ [])) _
+    (inr (row root 1, ([], here), (refl, refl), inl (omega arith, (refl, (row root 2 ∷ [], at, refl))))) (
     call_then seat _ 1 (call.OpenAt (fd 3) name path 0) (value.Fd (fd 4)) (tree root file four) _
     (inl (
       1,
@@ -426,42 +402,73 @@ runs plan root file seat apart kind =
       record { ids = refl; kind = refl },
       refl,
     ) tt refl (λ asks. asks) at_five at_five (
-    event_then seat _ 1 (change.Claim 0 None file.ids) event.Absent (tables 2 1 4 (row root 2 ∷ [])) _ (
-      refl,
-      ((λ h. apart h.1), tt),
-      refl,
-    ) (
-    event_then seat _ 2 (change.Claim 0 None file.ids) event.Absent (tables 2 1 4 (row root 2 ∷ [])) _ (
-      refl,
-      ((λ h. apart h.1), tt),
-      refl,
-    ) (
-    event_then seat _ 1 change.TakeFd event.Taken (tables 2 1 3 (row root 2 ∷ [])) _ (3, refl, refl) (
-    event_then seat _ 2 change.TakeFd event.Taken (tables 2 1 2 (row root 2 ∷ [])) _ (2, refl, refl) (
-    event_then seat _ 1 change.DrawNode (event.Drawn 2) (tables 3 1 2 (row root 2 ∷ [])) _ (refl, omega arith, refl) (
-    event_then seat _ 2 change.DrawNode (event.Drawn 3) (tables 4 1 2 (row root 2 ∷ [])) _ (refl, omega arith, refl) (
+    event_then seat _ 1 (change.Claim 0 None file.ids) event.Absent (tables 2 1 4 (row root 2 ∷ [])) _
+    (inl (refl, inl (((λ h. apart h.1), tt), (refl, refl)))) (
+    event_then seat _ 2 (change.Claim 0 None file.ids) event.Absent (tables 2 1 4 (row root 2 ∷ [])) _
+    (inl (refl, inl (((λ h. apart h.1), tt), (refl, refl)))) (
+    event_then seat _ 1 change.TakeFd event.Taken (tables 2 1 3 (row root 2 ∷ [])) _ (inl (omega arith, (refl, refl)))
+    (
+    event_then seat _ 2 change.TakeFd event.Taken (tables 2 1 2 (row root 2 ∷ [])) _ (inl (omega arith, (refl, refl)))
+    (
+    event_then seat _ 1 change.DrawNode (event.Drawn 2) (tables 3 1 2 (row root 2 ∷ [])) _ (inl (
+      omega arith,
+      (
+        refl,
+        refl,
+      ),
+    )) (
+    event_then seat _ 2 change.DrawNode (event.Drawn 3) (tables 4 1 2 (row root 2 ∷ [])) _ (inl (
+      omega arith,
+      (
+        refl,
+        refl,
+      ),
+    )) (
     event_then seat _ 1 (change.Insert 0 2 (File (fd 4)) file.ids file.mode) (event.Inserted 2)
     (tables 4 2 2 (added file 1 ∷ row root 2 ∷ [])) _
-    (refl, (((λ h. apart h.1), tt), ((λ h. absurd (omega (arith, h.1))), tt)), omega arith, refl, refl) (
+    (inl (
+      refl,
+      inl (
+        ((λ h. apart h.1), tt),
+        inl (
+          ((λ h. absurd (omega (arith, h.1))), tt),
+          inl (omega arith, inl (refl, refl)),
+        ),
+      ),
+    )) (
     event_then seat _ 2 (change.Insert 0 3 (File (fd 5)) file.ids file.mode) (event.Found 2)
     (tables 4 2 2 (added file 2 ∷ row root 2 ∷ [])) _
-    (refl, (added file 1, (refl, refl), refl, omega arith, (added file 2 ∷ row root 2 ∷ [], at, refl))) (
-    event_then seat _ 1 (change.Unpin 0) (event.Done 0) (tables 4 2 2 (added file 2 ∷ row root 1 ∷ [])) _ (
+    (inl (
+      refl,
+      inr (
+        added file 1,
+        (row root 2 ∷ [], here),
+        (refl, refl),
+        inl (omega arith, (refl, (added file 2 ∷ row root 2 ∷ [], at, refl))),
+      ),
+    )) (
+    event_then seat _ 1 (change.Unpin 0) (event.Done 0) (tables 4 2 2 (added file 2 ∷ row root 1 ∷ [])) _
+    (inr (
       row root 2,
-      1,
-      refl,
-      refl,
-      inr (inl refl, refl, (added file 2 ∷ row root 1 ∷ [], past at, refl)),
-    ) (
+      (added file 2 ∷ [], there here),
+      (refl, λ e. omega (arith, e)),
+      (0, refl, inr (inl refl, refl, (added file 2 ∷ row root 1 ∷ [], past at, refl))),
+    )) (
     call_then seat _ 2 (call.Close (fd 5)) value.Unit (tree root file closed) _ refl tt refl (λ asks. asks) at_five at_end (
-    event_then seat _ 2 change.GiveFd event.Given (tables 4 2 3 (added file 2 ∷ row root 1 ∷ [])) _ (slot, refl) (
-    event_then seat _ 2 (change.Unpin 0) (event.Done 0) (tables 4 2 3 (added file 2 ∷ row root 0 ∷ [])) _ (
+    event_then seat _ 2 change.GiveFd event.Given (tables 4 2 3 (added file 2 ∷ row root 1 ∷ [])) _ (inl (
+      slot,
+      (
+        refl,
+        refl,
+      ),
+    )) (
+    event_then seat _ 2 (change.Unpin 0) (event.Done 0) (tables 4 2 3 (added file 2 ∷ row root 0 ∷ [])) _
+    (inr (
       row root 1,
-      0,
-      refl,
-      refl,
-      inr (inl refl, refl, (added file 2 ∷ row root 0 ∷ [], past at, refl)),
-    ) (
+      (added file 2 ∷ [], there here),
+      (refl, λ e. omega (arith, e)),
+      (0, refl, inr (inl refl, refl, (added file 2 ∷ row root 0 ∷ [], past at, refl))),
+    )) (
     record { last = _; run = refl })))))))))))))))))))))))))
 
 -- what the jobs asked, and how they ended

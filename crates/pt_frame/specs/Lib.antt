@@ -7,6 +7,7 @@ pub mod Frame
 pub mod Tree
 pub mod Edit
 pub mod Made
+pub mod Seats
 pub mod Past
 pub mod Tended
 pub mod Determined

@@ -10,3 +10,4 @@ pub mod Whole
 pub mod Laws
 pub mod Lockstep
 pub mod Determined
+pub mod SeatsAt

@@ -19,4 +19,4 @@ pub use job::Job;
 pub use passthrough::PassthroughFs;
 pub use run::{DriveError, Driven, drive};
 pub use trace::TraceStep;
-pub use turns::turns_are_determined;
+pub use turns::{seats_follow, turns_are_determined};

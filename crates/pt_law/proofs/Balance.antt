@@ -6,16 +6,14 @@ use Rattle.pt_session.specs.Change.{Change}
 use Rattle.pt_session.specs.Tables.{Tables, closing_of, closing_of_handle}
 use Rattle.pt_session.specs.declared.row.Row.{Row}
 use Rattle.pt_session.specs.declared.row.HandleRow.{HandleRow}
-use Rattle.pt_session.specs.Happens.{Happens, Changes, Ends, Dies, ForgetsOne, ForgetsAll, Unpins, ChangesHandle}
-use Rattle.pt_session.specs.Happens.{EndsHandle, HandleDies, UnpinsHandle, NumbersDie}
-use Rattle.pt_session.specs.Happens.{NumbersDie.{none as no_number, next as next_number}, HandlesDie}
-use Rattle.pt_session.specs.Happens.{HandlesDie.{none as no_handle, next as next_handle}, Clears, new_row, with_row}
-use Rattle.pt_session.specs.Happens.{agreed}
+use Rattle.pt_session.specs.Rows.{ChangesRow, number_rows, EndsRow, Dies, handle_rows, AllDie}
+use Rattle.pt_session.specs.Rows.{AllDie.{none as no_live, next as next_dies}}
+use Rattle.pt_session.specs.Happens.{Happens, ForgetsOne, ForgetsAll, Clears, new_row, with_row, agreed}
+use Rattle.pt_session.proofs.Cases.{GivesPin, Case, cases}
 use Rattle.pt_session.specs.declared.form.RowForm.{RowForm}
 use Rattle.pt_session.specs.declared.form.RowForm.TheVariants.{File}
 use Rattle.pt_session.specs.declared.form.Negotiated.{Negotiated}
 use Rattle.pt_session.specs.declared.event.KeptEvent.TheVariants as change
-use Rattle.pt_session.specs.declared.reply.EventRefusal.TheVariants.{NotLive, Overtaken, NoSlot, Last, Live, Memory}
 use Rattle.pt_session.specs.declared.reply.EventReply.{EventReply}
 use Rattle.pt_session.specs.declared.reply.EventReply.TheVariants as reply
 use Rattle.pt_frame.specs.Deed.{Deed, Changes as Asks}
@@ -73,7 +71,7 @@ sheds_none t = record {
 
 -- a row changes, and keeps form and pins
 recounts : (t : Tables) (row later : Row) (after : Tables) → later.form ≡ row.form → later.serial ≡ row.serial →
-    later.pins ≡ row.pins → Changes t row later after → Sheds t after 0
+    later.pins ≡ row.pins → ChangesRow number_rows t row later after → Sheds t after 0
 recounts t row later after form serial pins h = rw h.2 (record {
   fds = λ fd. let a = total_replaces (row_has fd) h.1 in
       let b : row_has fd later ≡ row_has fd row = ap (λ f. row_has fd (record row { form = f })) form in
@@ -95,7 +93,7 @@ record Shut (t after : Tables) (row : Row) : Type 0 where
   handle_pins : (serial : ℕ) → total (handle_pins serial) after.handles ≡ total (handle_pins serial) t.handles
   closings : length after.closing ≡ length t.closing + 1
 
-shuts : (t : Tables) (row : Row) (after : Tables) → Ends t row after → Shut t after row
+shuts : (t : Tables) (row : Row) (after : Tables) → EndsRow number_rows t row after → Shut t after row
 shuts t row after h = rw h.2 (record {
   fds = λ fd. let a = total_takes (row_has fd) h.1 in let b = total_push (closing_has fd) t.closing (closing_of row) in
       let c = closing_fd_of fd row in omega (arith, a, b, c);
@@ -109,7 +107,7 @@ shuts t row after h = rw h.2 (record {
 no_pins : (serial : ℕ) (row : Row) → row.pins ≡ 0 → row_pins serial row ≡ 0
 no_pins serial row e = let a = ap (λ p. is row.serial serial * p) e in omega (arith, a)
 
-sheds_dies : (t : Tables) (row : Row) (n : ℕ) (after : Tables) → Dies t row n after → Sheds t after n
+sheds_dies : (t : Tables) (row : Row) (n : ℕ) (after : Tables) → Dies number_rows t row n after → Sheds t after n
 sheds_dies t row n after (inl h) =
     let s = shuts t row after h.2 in
     record {
@@ -177,14 +175,14 @@ same : (t after : Tables) (deed : Deed) (told : ActReply) → after ≡ t → cl
 same t after deed told e = rw e (moved_by t t 0 deed told (sheds_none t))
 
 again : (t : Tables) (row : Row) (after : Tables) (deed : Deed) (told : ActReply) →
-    Changes t row (record row { count = row.count + 1 }) after → closings_in deed told ≡ 0 →
+    ChangesRow number_rows t row (record row { count = row.count + 1 }) after → closings_in deed told ≡ 0 →
     closing_ended deed told ≡ 0 →
     ((fd : ℕ) → fd_received fd deed told ≡ fd_handed fd deed told) → slot_out deed told ≡ slot_in deed told →
     ((serial : ℕ) → pin_ended serial deed told ≡ pin_made serial deed told) →
     ((serial : ℕ) → handle_pin_ended serial deed told ≡ handle_pin_made serial deed told) → Moved t after deed told
 again t row after deed told h = moved_by t after 0 deed told (recounts t row _ after refl refl refl h)
 
-unpinned : (t : Tables) (serial n : ℕ) (after : Tables) → Unpins t serial n after →
+unpinned : (t : Tables) (serial n : ℕ) (after : Tables) → GivesPin number_rows t serial n after →
     Moved t after (Asks (change.Unpin serial)) (Event (reply.Done n))
 unpinned t serial n after (row, pins, s, p, inl h) =
     let m = shuts t row after h.3 in
@@ -237,7 +235,7 @@ inserts t number form row deed told e z f s p q c d (Some n) = record {
 
 -- the same of handles: a handle's row has a slot and a descriptor
 handle_recounts : (t : Tables) (row : HandleRow) (after : Tables) →
-    ChangesHandle t row (record row { live = false }) after → Sheds t after 0
+    ChangesRow handle_rows t row (record row { live = false }) after → Sheds t after 0
 handle_recounts t row after h = rw h.2 (record {
   fds = λ fd. let a = total_replaces (handle_has fd) h.1 in omega (arith, a);
   slots = let a = length_replaces h.1 in omega (arith, a);
@@ -255,7 +253,8 @@ record HandleShut (t after : Tables) (row : HandleRow) : Type 0 where
       total (handle_pins serial) after.handles + handle_pins serial row ≡ total (handle_pins serial) t.handles
   closings : length after.closing ≡ length t.closing + 1
 
-handle_shuts : (t : Tables) (row : HandleRow) (after : Tables) → EndsHandle t row after → HandleShut t after row
+handle_shuts : (t : Tables) (row : HandleRow) (after : Tables) → EndsRow handle_rows t row after → HandleShut t after
+    row
 handle_shuts t row after h = rw h.2 (record {
   fds = λ fd. let a = total_takes (handle_has fd) h.1 in
       let b = total_push (closing_has fd) t.closing (closing_of_handle row) in omega (arith, a, b);
@@ -266,7 +265,8 @@ handle_shuts t row after h = rw h.2 (record {
   closings = let a = length-append t.closing (closing_of_handle row ∷ []) in omega (arith, a);
 })
 
-sheds_handle : (t : Tables) (row : HandleRow) (n : ℕ) (after : Tables) → HandleDies t row n after → Sheds t after n
+sheds_handle : (t : Tables) (row : HandleRow) (n : ℕ) (after : Tables) → Dies handle_rows t row n after → Sheds t
+    after n
 sheds_handle t row n after (inl h) =
     let s = handle_shuts t row after h.2 in
     record {
@@ -295,20 +295,20 @@ sheds_both t mid after n m a b = record {
   closings = let x = a.closings in let y = b.closings in omega (arith, x, y);
 }
 
-sheds_numbers : (t : Tables) (n : ℕ) (after : Tables) → NumbersDie t n after → Sheds t after n
-sheds_numbers t n after (no_number h) = sheds_none t
-sheds_numbers t n after (next_number {mid = mid} {one = one} {more = rest} row l least d k) =
+sheds_numbers : (t : Tables) (n : ℕ) (after : Tables) → AllDie number_rows t n after → Sheds t after n
+sheds_numbers t n after (no_live h) = sheds_none t
+sheds_numbers t n after (next_dies {mid = mid} {one = one} {more = rest} row least d k) =
     sheds_both t mid after one rest (sheds_dies t row one mid d) (sheds_numbers mid rest after k)
 
-sheds_handles : (t : Tables) (n : ℕ) (after : Tables) → HandlesDie t n after → Sheds t after n
-sheds_handles t n after (no_handle h) = sheds_none t
-sheds_handles t n after (next_handle {mid = mid} {one = one} {more = rest} row l least d k) =
+sheds_handles : (t : Tables) (n : ℕ) (after : Tables) → AllDie handle_rows t n after → Sheds t after n
+sheds_handles t n after (no_live h) = sheds_none t
+sheds_handles t n after (next_dies {mid = mid} {one = one} {more = rest} row least d k) =
     sheds_both t mid after one rest (sheds_handle t row one mid d) (sheds_handles mid rest after k)
 
-sheds_clears : (t : Tables) (era n : ℕ) (after : Tables) → Clears t era n after → Sheds t after n
-sheds_clears t era n after h =
+sheds_clears : (t : Tables) (n : ℕ) (after : Tables) → Clears t n after → Sheds t after n
+sheds_clears t n after h =
     let s = sheds_both t h.0 h.1 h.2 h.3 (sheds_numbers t h.2 h.0 h.4) (sheds_handles h.0 h.3 h.1 h.5) in
-    rw h.8 (record {
+    rw h.7 (record {
       fds = s.fds;
       slots = s.slots;
       pins = s.pins;
@@ -316,7 +316,7 @@ sheds_clears t era n after h =
       closings = let a = s.closings in omega (arith, a, h.6);
     })
 
-handle_unpinned : (t : Tables) (serial n : ℕ) (after : Tables) → UnpinsHandle t serial n after →
+handle_unpinned : (t : Tables) (serial n : ℕ) (after : Tables) → GivesPin handle_rows t serial n after →
     Moved t after (Asks (change.UnpinHandle serial)) (Event (reply.Done n))
 handle_unpinned t serial n after (row, pins, s, p, inl h) =
     let m = handle_shuts t row after h.3 in
@@ -345,11 +345,11 @@ handle_unpinned t serial n after (row, pins, s, p, inr h) =
       closings = omega (arith, h.1);
     })
 
-pub moved : (t : Tables) (e : Change) (r : EventReply) (after : Tables) → Happens t e r after →
+moved_by_case : (t : Tables) (e : Change) (r : EventReply) (after : Tables) → Case t e r after →
     IsHonest (Asks e) (Event r) → Moved t after (Asks e) (Event r)
-moved t change.Begin (reply.Began era negotiated) after h a =
+moved_by_case t change.Begin (reply.Began era negotiated) after h a =
     same t after _ _ h.2 refl refl (λ _. refl) refl (λ _. refl) (λ _. refl)
-moved t (change.Resolve number) (reply.Resolved serial form ids mode) after h a =
+moved_by_case t (change.Resolve number) (reply.Resolved serial form ids mode) after h a =
     let c = h.7 in
     rw c.2 (record {
       fds = λ fd. let x = total_replaces (row_has fd) c.1 in omega (arith, x);
@@ -361,21 +361,13 @@ moved t (change.Resolve number) (reply.Resolved serial form ids mode) after h a 
       handle_pins = λ k. omega arith;
       closings = omega arith;
     })
-moved t (change.Resolve number) (reply.Refused NotLive) after h a =
-    same t after _ _ h.1 refl refl (λ _. refl) refl (λ _. refl) (λ _. refl)
-moved t (change.Resolve number) (reply.Refused Last) after h a =
-    same t after _ _ h.4 refl refl (λ _. refl) refl (λ _. refl) (λ _. refl)
-moved t (change.Unpin serial) (reply.Done closings) after h a = unpinned t serial closings after h
-moved t (change.Unpin serial) (reply.Refused NotLive) after h a = absurd a
-moved t (change.Claim era handle ids) (reply.Claimed number) after h a =
+moved_by_case t (change.Unpin serial) (reply.Done closings) after h a = unpinned t serial closings after h
+moved_by_case t (change.Unpin serial) (reply.Refused why) after h a = absurd a
+moved_by_case t (change.Claim era handle ids) (reply.Claimed number) after h a =
     again t h.1.0 after _ _ h.1.4 refl refl (λ _. refl) refl (λ _. refl) (λ _. refl)
-moved t (change.Claim era handle ids) reply.Absent after h a =
+moved_by_case t (change.Claim era handle ids) reply.Absent after h a =
     same t after _ _ h.2 refl refl (λ _. refl) refl (λ _. refl) (λ _. refl)
-moved t (change.Claim era handle ids) (reply.Refused Overtaken) after h a =
-    same t after _ _ h.1 refl refl (λ _. refl) refl (λ _. refl) (λ _. refl)
-moved t (change.Claim era handle ids) (reply.Refused Last) after h a =
-    same t after _ _ h.2 refl refl (λ _. refl) refl (λ _. refl) (λ _. refl)
-moved t change.TakeFd reply.Taken after h a =
+moved_by_case t change.TakeFd reply.Taken after h a =
     rw h.2 (record {
       fds = λ fd. omega arith;
       slots = omega (arith, h.1);
@@ -383,9 +375,7 @@ moved t change.TakeFd reply.Taken after h a =
       handle_pins = λ _. omega arith;
       closings = omega arith;
     })
-moved t change.TakeFd (reply.Refused NoSlot) after h a =
-    same t after _ _ h.1 refl refl (λ _. refl) refl (λ _. refl) (λ _. refl)
-moved t change.GiveFd reply.Given after h a =
+moved_by_case t change.GiveFd reply.Given after h a =
     rw h.1 (record {
       fds = λ fd. omega arith;
       slots = omega arith;
@@ -393,8 +383,8 @@ moved t change.GiveFd reply.Given after h a =
       handle_pins = λ _. omega arith;
       closings = omega arith;
     })
-moved t change.GiveFd (reply.Refused NotLive) after h a = absurd a
-moved t change.DrawNode (reply.Drawn number) after h a =
+moved_by_case t change.GiveFd (reply.Refused why) after h a = absurd a
+moved_by_case t change.DrawNode (reply.Drawn number) after h a =
     rw h.2 (record {
       fds = λ fd. omega arith;
       slots = omega arith;
@@ -402,45 +392,23 @@ moved t change.DrawNode (reply.Drawn number) after h a =
       handle_pins = λ _. omega arith;
       closings = omega arith;
     })
-moved t change.DrawNode (reply.Refused Last) after h a =
-    same t after _ _ h.1 refl refl (λ _. refl) refl (λ _. refl) (λ _. refl)
-moved t (change.Insert era number form ids mode) (reply.Inserted given) after h a =
+moved_by_case t (change.Insert era number form ids mode) (reply.Inserted given) after h a =
     rw h.4 (inserts t number form (new_row t number form ids mode 1) (Asks (change.Insert era number form ids mode))
     (Event (reply.Inserted given)) refl refl (λ _. omega arith) (omega arith) (λ _. refl) (λ _.
     refl) refl refl None)
-moved t (change.Insert era number form ids mode) (reply.Found given) after h a =
+moved_by_case t (change.Insert era number form ids mode) (reply.Found given) after h a =
     again t h.1.0 after _ _ h.1.4 refl refl (λ _. refl) refl (λ _. refl) (λ _. refl)
-moved t (change.Insert era number form ids mode) (reply.Refused Overtaken) after h a =
-    same t after _ _ h.1 refl refl (λ _. refl) refl (λ _. refl) (λ _. refl)
-moved t (change.Insert era number form ids mode) (reply.Refused Live) after h a =
-    same t after _ _ h.3 refl refl (λ _. refl) refl (λ _. refl) (λ _. refl)
-moved t (change.Insert era number form ids mode) (reply.Refused Last) after h a =
-    same t after _ _ h.2 refl refl (λ _. refl) refl (λ _. refl) (λ _. refl)
-moved t (change.Insert era number form ids mode) (reply.Refused Memory) after h a =
-    same t after _ _ h.3 refl refl (λ _. refl) refl (λ _. refl) (λ _. refl)
-moved t (change.InsertRoot era form ids mode negotiated) (reply.Inserted given) after h a =
+moved_by_case t (change.InsertRoot era form ids mode negotiated) (reply.Inserted given) after h a =
     rw h.4 (inserts t 1 form (new_row t 1 form ids mode 2) (Asks (change.InsertRoot era form ids mode negotiated))
     (Event (reply.Inserted given)) refl refl (λ _. omega arith) (omega arith) (λ _. refl) (λ _.
     refl) refl refl negotiated)
-moved t (change.InsertRoot era form ids mode negotiated) (reply.Refused Overtaken) after h a =
-    same t after _ _ h.1 refl refl (λ _. refl) refl (λ _. refl) (λ _. refl)
-moved t (change.InsertRoot era form ids mode negotiated) (reply.Refused Live) after h a =
-    same t after _ _ h.2 refl refl (λ _. refl) refl (λ _. refl) (λ _. refl)
-moved t (change.InsertRoot era form ids mode negotiated) (reply.Refused Last) after h a =
-    same t after _ _ h.3 refl refl (λ _. refl) refl (λ _. refl) (λ _. refl)
-moved t (change.InsertRoot era form ids mode negotiated) (reply.Refused Memory) after h a =
-    same t after _ _ h.3 refl refl (λ _. refl) refl (λ _. refl) (λ _. refl)
-moved t (change.Forget list) (reply.Done closings) after h a =
+moved_by_case t (change.Forget list) (reply.Done closings) after h a =
     moved_by t after closings (Asks (change.Forget list)) (Event (reply.Done closings))
     (sheds_all t list closings after h) refl refl (λ _. refl) refl (λ _. refl) (λ _. refl)
-moved t (change.GiveBack era number) (reply.Done closings) after h a =
+moved_by_case t (change.GiveBack era number) (reply.Done closings) after h a =
     moved_by t after closings (Asks (change.GiveBack era number)) (Event (reply.Done closings))
     (sheds_one t number 1 closings after h.2) refl refl (λ _. refl) refl (λ _. refl) (λ _. refl)
-moved t (change.GiveBack era number) (reply.Refused Overtaken) after h a =
-    same t after _ _ h.1 refl refl (λ _. refl) refl (λ _. refl) (λ _. refl)
-moved t (change.GiveBack era number) (reply.Refused NotLive) after h a =
-    same t after _ _ h.2 refl refl (λ _. refl) refl (λ _. refl) (λ _. refl)
-moved t change.DrawHandle (reply.Drawn handle) after h a =
+moved_by_case t change.DrawHandle (reply.Drawn handle) after h a =
     rw h.2 (record {
       fds = λ fd. omega arith;
       slots = omega arith;
@@ -448,9 +416,7 @@ moved t change.DrawHandle (reply.Drawn handle) after h a =
       handle_pins = λ _. omega arith;
       closings = omega arith;
     })
-moved t change.DrawHandle (reply.Refused Last) after h a =
-    same t after _ _ h.1 refl refl (λ _. refl) refl (λ _. refl) (λ _. refl)
-moved t (change.InsertHandle era handle number fd) (reply.Inserted given) after h a =
+moved_by_case t (change.InsertHandle era handle number fd) (reply.Inserted given) after h a =
     rw h.4 (record {
       fds = λ k. omega arith;
       slots = omega arith;
@@ -458,15 +424,7 @@ moved t (change.InsertHandle era handle number fd) (reply.Inserted given) after 
       handle_pins = λ k. omega arith;
       closings = omega arith;
     })
-moved t (change.InsertHandle era handle number fd) (reply.Refused Overtaken) after h a =
-    same t after _ _ h.1 refl refl (λ _. refl) refl (λ _. refl) (λ _. refl)
-moved t (change.InsertHandle era handle number fd) (reply.Refused Live) after h a =
-    same t after _ _ h.2 refl refl (λ _. refl) refl (λ _. refl) (λ _. refl)
-moved t (change.InsertHandle era handle number fd) (reply.Refused Last) after h a =
-    same t after _ _ h.3 refl refl (λ _. refl) refl (λ _. refl) (λ _. refl)
-moved t (change.InsertHandle era handle number fd) (reply.Refused Memory) after h a =
-    same t after _ _ h.3 refl refl (λ _. refl) refl (λ _. refl) (λ _. refl)
-moved t (change.PinHandle handle number) (reply.Pinned serial fd) after h a =
+moved_by_case t (change.PinHandle handle number) (reply.Pinned serial fd) after h a =
     let c = h.5 in
     rw c.2 (record {
       fds = λ k. let x = total_replaces (handle_has k) c.1 in omega (arith, x);
@@ -478,23 +436,16 @@ moved t (change.PinHandle handle number) (reply.Pinned serial fd) after h a =
           omega (arith, x, y);
       closings = omega arith;
     })
-moved t (change.PinHandle handle number) (reply.Refused NotLive) after h a =
-    same t after _ _ h.1 refl refl (λ _. refl) refl (λ _. refl) (λ _. refl)
-moved t (change.PinHandle handle number) (reply.Refused Last) after h a =
-    same t after _ _ h.4 refl refl (λ _. refl) refl (λ _. refl) (λ _. refl)
-moved t (change.UnpinHandle serial) (reply.Done closings) after h a = handle_unpinned t serial closings after h
-moved t (change.UnpinHandle serial) (reply.Refused NotLive) after h a = absurd a
-moved t (change.Release handle number) (reply.Done closings) after h a =
+moved_by_case t (change.UnpinHandle serial) (reply.Done closings) after h a = handle_unpinned t serial closings after
+    h
+moved_by_case t (change.UnpinHandle serial) (reply.Refused why) after h a = absurd a
+moved_by_case t (change.Release handle number) (reply.Done closings) after h a =
     moved_by t after closings (Asks (change.Release handle number)) (Event (reply.Done closings))
     (sheds_handle t h.0 closings after h.2) refl refl (λ _. refl) refl (λ _. refl) (λ _. refl)
-moved t (change.Release handle number) (reply.Refused NotLive) after h a =
-    same t after _ _ h.1 refl refl (λ _. refl) refl (λ _. refl) (λ _. refl)
-moved t change.Clear (reply.Cleared era closings) after h a =
+moved_by_case t change.Clear (reply.Cleared era closings) after h a =
     moved_by t after closings (Asks change.Clear) (Event (reply.Cleared era closings))
-    (sheds_clears t era closings after h.1) refl refl (λ _. refl) refl (λ _. refl) (λ _. refl)
-moved t change.Clear (reply.Refused Last) after h a =
-    same t after _ _ h.1 refl refl (λ _. refl) refl (λ _. refl) (λ _. refl)
-moved t change.TakeClosing (reply.Closing fd slot) after h a =
+    (sheds_clears t closings after h.1) refl refl (λ _. refl) refl (λ _. refl) (λ _. refl)
+moved_by_case t change.TakeClosing (reply.Closing fd slot) after h a =
     rw h.2 (record {
       fds = λ k. let x = ap (total (closing_has k)) h.1 in omega (arith, x);
       slots = let x = ap (total closing_slot) h.1 in omega (arith, x);
@@ -502,5 +453,11 @@ moved t change.TakeClosing (reply.Closing fd slot) after h a =
       handle_pins = λ _. omega arith;
       closings = let x = ap length h.1 in omega (arith, x);
     })
-moved t change.TakeClosing (reply.Refused NotLive) after h a = absurd a
-moved t _ _ after h a = absurd h
+moved_by_case t change.TakeClosing (reply.Refused why) after h a = absurd a
+moved_by_case t e (reply.Refused why) after h a =
+    same t after _ _ h.1 refl refl (λ _. refl) refl (λ _. refl) (λ _. refl)
+moved_by_case t _ _ after h a = absurd h
+
+pub moved : (t : Tables) (e : Change) (r : EventReply) (after : Tables) → Happens t e r after →
+    IsHonest (Asks e) (Event r) → Moved t after (Asks e) (Event r)
+moved t e r after h a = moved_by_case t e r after (cases t after e r h) a

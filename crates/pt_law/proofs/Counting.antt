@@ -7,6 +7,7 @@ use Rattle.pt_session.specs.Tables.{Tables, Agree}
 use Rattle.pt_session.specs.declared.row.Row.{Row}
 use Rattle.pt_session.specs.declared.row.HandleRow.{HandleRow}
 use Rattle.pt_session.specs.Happens.{Happens}
+use Rattle.pt_session.proofs.Cases.{Case, cases}
 use Rattle.pt_session.specs.declared.event.KeptEvent.TheVariants as change
 use Rattle.pt_session.specs.declared.reply.EventRefusal.TheVariants.{NotLive}
 use Rattle.pt_session.specs.declared.reply.EventReply.{EventReply}
@@ -64,38 +65,44 @@ handle_unpinned serial (r ∷ rs) h = let k = handle_unpinned serial rs h.1 in
     other e = let y = ap (λ i. i * r.pins) (is_apart r.serial serial e) in omega (arith, y)
 
 -- what a job holds can be given back
-pub honest : (bound : ℕ) (t : Tables) (js : ℕ →
+honest_by : (bound : ℕ) (t : Tables) (js : ℕ →
     Job) (j : ℕ) (e : Change) (r : EventReply) (t' : Tables) (after : Job) → j < bound → Books bound t js →
-    Happens t e r t' → MovesBy (js j) (Changes e) (Event r) after → IsHonest (Changes e) (Event r)
-honest bound t js j (change.Unpin row) (event.Refused NotLive) t' after lt b h m =
-    let u = unpinned row t.rows h.0 in
+    Case t e r t' → MovesBy (js j) (Changes e) (Event r) after → IsHonest (Changes e) (Event r)
+honest_by bound t js j (change.Unpin row) (event.Refused NotLive) t' after lt b h m =
+    let u = unpinned row t.rows h.2 in
     let p = b.pins row in
     let q = part (pin_held row) js bound j lt in
     let k = total_takes (pin_held row) m.0.1 in
     let s = is_same row in
     absurd (omega (arith, u, p, q, k, s))
-honest bound t js j (change.Unpin row) (event.Refused _) t' after lt b h m = absurd h
-honest bound t js j (change.UnpinHandle row) (event.Refused NotLive) t' after lt b h m =
-    let u = handle_unpinned row t.handles h.0 in
+honest_by bound t js j (change.Unpin row) (event.Refused _) t' after lt b h m = absurd h.0
+honest_by bound t js j (change.UnpinHandle row) (event.Refused NotLive) t' after lt b h m =
+    let u = handle_unpinned row t.handles h.2 in
     let p = b.handle_pins row in
     let q = part (handle_pin_held row) js bound j lt in
     let k = total_takes (handle_pin_held row) m.0.1 in
     let s = is_same row in
     absurd (omega (arith, u, p, q, k, s))
-honest bound t js j (change.UnpinHandle row) (event.Refused _) t' after lt b h m = absurd h
-honest bound t js j change.GiveFd (event.Refused NotLive) t' after lt b h m =
+honest_by bound t js j (change.UnpinHandle row) (event.Refused _) t' after lt b h m = absurd h.0
+honest_by bound t js j change.GiveFd (event.Refused NotLive) t' after lt b h m =
     let p = b.slots in
     let q = part slot_held js bound j lt in
     let k = total_takes slot_held m.0 in
-    absurd (omega (arith, p, q, k, h.0))
-honest bound t js j change.GiveFd (event.Refused _) t' after lt b h m = absurd h
-honest bound t js j change.TakeClosing (event.Refused NotLive) t' after lt b h m =
+    absurd (omega (arith, p, q, k, h.2))
+honest_by bound t js j change.GiveFd (event.Refused _) t' after lt b h m = absurd h.0
+honest_by bound t js j change.TakeClosing (event.Refused NotLive) t' after lt b h m =
     let p = b.closings in
     let q = le_sum_to (λ i. (js i).owed) bound j lt in
-    let e = ap length h.0 in
+    let e = ap length h.2 in
     absurd (omega (arith, p, q, e, m.1))
-honest bound t js j change.TakeClosing (event.Refused _) t' after lt b h m = absurd h
-honest bound t js j _ _ t' after lt b h m = tt
+honest_by bound t js j change.TakeClosing (event.Refused _) t' after lt b h m = absurd h.0
+honest_by bound t js j _ _ t' after lt b h m = tt
+
+pub honest : (bound : ℕ) (t : Tables) (js : ℕ → Job) (j : ℕ) (e : Change) (r : EventReply) (t' : Tables) (after : Job)
+    →
+    j < bound → Books bound t js → Happens t e r t' → MovesBy (js j) (Changes e) (Event r) after →
+    IsHonest (Changes e) (Event r)
+honest bound t js j e r t' after lt b h m = honest_by bound t js j e r t' after lt b (cases t t' e r h) m
 
 -- a closing that is taken brings none
 took_none : (told : ActReply) → closings_in (Changes change.TakeClosing) told ≡ 0

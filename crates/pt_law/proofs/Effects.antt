@@ -6,19 +6,18 @@ use Rattle.pt_session.specs.Change.{Change}
 use Rattle.pt_session.specs.Tables.{Tables, closing_of, Agree}
 use Rattle.pt_session.specs.declared.row.Row.{Row}
 use Rattle.pt_session.specs.declared.row.HandleRow.{HandleRow}
-use Rattle.pt_session.specs.Happens.{Happens, Changes, Ends, Dies, ForgetsOne, ForgetsAll, Unpins, GivesAgain}
-use Rattle.pt_session.specs.Happens.{ChangesHandle, EndsHandle, HandleDies, UnpinsHandle, NumbersDie}
-use Rattle.pt_session.specs.Happens.{NumbersDie.{none as no_number, next as next_number}, HandlesDie}
-use Rattle.pt_session.specs.Happens.{HandlesDie.{none as no_handle, next as next_handle}, Clears}
+use Rattle.pt_session.specs.Rows.{ChangesRow, number_rows, EndsRow, Dies, handle_rows, AllDie}
+use Rattle.pt_session.specs.Rows.{AllDie.{none as no_live, next as next_dies}}
+use Rattle.pt_session.specs.Happens.{Happens, ForgetsOne, ForgetsAll, Clears}
+use Rattle.pt_session.proofs.Cases.{GivesPin, GivenAgain, Case, cases}
 use Rattle.pt_session.specs.Store.{IsLaterHandle}
 use Rattle.pt_session.specs.Effect.{Effect}
 use Rattle.pt_session.specs.Effect.{Effect.{nothing as unchanged, counted, changed as row_changed, ended as row_ended, added, drawn, handle_changed, handle_ended, handle_added, begun, shut}}
 use Rattle.pt_session.specs.Effect.{Effects, Effects.{none, more}}
 use Rattle.pt_session.specs.declared.event.KeptEvent.TheVariants as change
-use Rattle.pt_session.specs.declared.reply.EventRefusal.TheVariants.{NotLive, Overtaken, NoSlot, Last, Live, Memory}
 use Rattle.pt_session.specs.declared.reply.EventReply.{EventReply}
 use Rattle.pt_session.specs.declared.reply.EventReply.TheVariants as reply
-use Rattle.pt_session.proofs.Effects.{effects, keeps_agree}
+use Rattle.pt_session.proofs.Effects.{case_effects, effects, keeps_agree}
 use Rattle.pt_law.proofs.Lists.{each_replaces, each_takes}
 
 -- the same row, later
@@ -50,22 +49,26 @@ same_row row count pins = record { serial = refl; number = refl; form = refl; id
 dead_row : (row : Row) → Later row (record row { count = 0; live = false })
 dead_row row = record { serial = refl; number = refl; form = refl; ids = refl; live = λ l. absurd (cc) }
 
-changes : (t : Tables) (row later : Row) (after : Tables) → Changes t row later after → Later row later → Kept t after
+changes : (t : Tables) (row later : Row) (after : Tables) → ChangesRow number_rows t row later after → Later row later
+    → Kept t after
 changes t row later after h l = changed row later h.0 h.1 l h.2
 
-ends : (t : Tables) (row : Row) (after : Tables) → Ends t row after → Kept t after
+ends : (t : Tables) (row : Row) (after : Tables) → EndsRow number_rows t row after → Kept t after
 ends t row after h = ended row h.0 h.1 h.2
 
-dies : (t : Tables) (row : Row) (n : ℕ) (after : Tables) → Dies t row n after → Kept t after
+dies : (t : Tables) (row : Row) (n : ℕ) (after : Tables) → Dies number_rows t row n after → Kept t after
 dies t row n after (inl h) = ends t row after h.2
 dies t row n after (inr h) = changes t row _ after h.2 (dead_row row)
 
 -- the row's count changes, its pins stay
 recounted : (t : Tables) (row : Row) (count : ℕ) (after : Tables) →
-    Changes t row (record row { count = count }) after → Kept t after
+    ChangesRow number_rows t row (record row { count = count }) after → Kept t after
 recounted t row count after h = changes t row _ after h (same_row row count row.pins)
 
-repinned : (t : Tables) (row : Row) (pins : ℕ) (after : Tables) → Changes t row (record row { pins = pins }) after →
+repinned : (t : Tables) (row : Row) (pins : ℕ) (after : Tables) → ChangesRow number_rows t row (record row {
+  pins =
+      pins;
+}) after →
     Kept t after
 repinned t row pins after h = changes t row _ after h (same_row row row.count pins)
 
@@ -79,24 +82,24 @@ forgets_all t [] n after h = nothing h.1
 forgets_all t (pair ∷ pairs) n after h =
     both (forgets_one t pair.0 pair.1 h.1 h.0 h.3) (forgets_all h.0 pairs h.2 after h.4)
 
-unpins : (t : Tables) (serial n : ℕ) (after : Tables) → Unpins t serial n after → Kept t after
+unpins : (t : Tables) (serial n : ℕ) (after : Tables) → GivesPin number_rows t serial n after → Kept t after
 unpins t serial n after (row, pins, s, p, inl h) = ends t row after h.3
 unpins t serial n after (row, pins, s, p, inr h) = repinned t row pins after h.2
 
-given_again : (t : Tables) (ids : ObjIds) (number : ℕ) (after : Tables) → GivesAgain t ids number after → Kept t after
+given_again : (t : Tables) (ids : ObjIds) (number : ℕ) (after : Tables) → GivenAgain t ids number after → Kept t after
 given_again t ids number after h = recounted t h.0 (h.0.count + 1) after h.4
 
 -- handles are no rows of numbers
-handle_ends : (t : Tables) (row : HandleRow) (after : Tables) → EndsHandle t row after → Kept t after
+handle_ends : (t : Tables) (row : HandleRow) (after : Tables) → EndsRow handle_rows t row after → Kept t after
 handle_ends t row after h =
     handle_gone row h.0 h.1 (ap (λ (z : Tables). z.rows) h.2) (ap (λ (z : Tables). z.handles) h.2)
 
 handle_repinned : (t : Tables) (row : HandleRow) (pins : ℕ) (after : Tables) →
-    ChangesHandle t row (record row { pins = pins }) after → Kept t after
+    ChangesRow handle_rows t row (record row { pins = pins }) after → Kept t after
 handle_repinned t row pins after h =
     handled row _ h.0 h.1 (record { serial = refl; handle = refl; number = refl; fd = refl; live = λ l. l }) h.2
 
-handle_dies : (t : Tables) (row : HandleRow) (n : ℕ) (after : Tables) → HandleDies t row n after → Kept t after
+handle_dies : (t : Tables) (row : HandleRow) (n : ℕ) (after : Tables) → Dies handle_rows t row n after → Kept t after
 handle_dies t row n after (inl h) = handle_ends t row after h.2
 handle_dies t row n after (inr h) =
     handled row _ h.2.0 h.2.1 (record {
@@ -108,24 +111,25 @@ handle_dies t row n after (inr h) =
           λ l. absurd (cc);
     }) h.2.2
 
-unpins_handle : (t : Tables) (serial n : ℕ) (after : Tables) → UnpinsHandle t serial n after → Kept t after
+unpins_handle : (t : Tables) (serial n : ℕ) (after : Tables) → GivesPin handle_rows t serial n after → Kept t after
 unpins_handle t serial n after (row, pins, s, p, inl h) = handle_ends t row after h.3
 unpins_handle t serial n after (row, pins, s, p, inr h) = handle_repinned t row pins after h.2
 
-numbers_die : (t : Tables) (n : ℕ) (after : Tables) → NumbersDie t n after → Kept t after
-numbers_die t n after (no_number h) = nothing refl
-numbers_die t n after (next_number {mid = mid} {one = one} {more = rest} row l least d k) =
+numbers_die : (t : Tables) (n : ℕ) (after : Tables) → AllDie number_rows t n after → Kept t after
+numbers_die t n after (no_live h) = nothing refl
+numbers_die t n after (next_dies {mid = mid} {one = one} {more = rest} row least d k) =
     both (dies t row one mid d) (numbers_die mid rest after k)
 
-handles_die : (t : Tables) (n : ℕ) (after : Tables) → HandlesDie t n after → Kept t after
-handles_die t n after (no_handle h) = nothing refl
-handles_die t n after (next_handle {mid = mid} {one = one} {more = rest} row l least d k) =
+handles_die : (t : Tables) (n : ℕ) (after : Tables) → AllDie handle_rows t n after → Kept t after
+handles_die t n after (no_live h) = nothing refl
+handles_die t n after (next_dies {mid = mid} {one = one} {more = rest} row least d k) =
     both (handle_dies t row one mid d) (handles_die mid rest after k)
 
-clears : (t : Tables) (era n : ℕ) (after : Tables) → Clears t era n after → Kept t after
-clears t era n after h =
+clears : (t : Tables) (n : ℕ) (after : Tables) → Clears t n after → Kept t after
+clears t n after h =
     both (numbers_die t h.2 h.0 h.4)
-    (both (handles_die h.0 h.3 h.1 h.5) (other (ap (λ (z : Tables). z.rows) h.8) (ap (λ (z : Tables). z.handles) h.8)))
+    (both (handles_die h.0 h.3 h.1 h.5) (other (ap (λ (z : Tables). z.rows) h.7) (ap (λ (z : Tables). z.handles)
+    h.7)))
 
 -- the event inserts no row
 abbrev pub KeepsRows : Change → EventReply → Type 0
@@ -134,65 +138,41 @@ KeepsRows (change.InsertRoot era form ids mode negotiated) (reply.Inserted given
 KeepsRows (change.InsertHandle era handle number fd) (reply.Inserted given) = ⊥
 KeepsRows asked told = Unit {0}
 
-pub kept : (t : Tables) (e : Change) (r : EventReply) (after : Tables) → KeepsRows e r → Happens t e r after →
+pub kept_by : (t : Tables) (e : Change) (r : EventReply) (after : Tables) → KeepsRows e r → Case t e r after →
     Kept t after
-kept t change.Begin (reply.Began era negotiated) after k h = nothing h.2
-kept t (change.Resolve number) (reply.Resolved serial form ids mode) after k h =
+kept_by t change.Begin (reply.Began era negotiated) after k h = nothing h.2
+kept_by t (change.Resolve number) (reply.Resolved serial form ids mode) after k h =
     repinned t h.0 (h.0.pins + 1) after h.7
-kept t (change.Resolve number) (reply.Refused NotLive) after k h = nothing h.1
-kept t (change.Resolve number) (reply.Refused Last) after k h = nothing h.4
-kept t (change.Unpin serial) (reply.Done closings) after k h = unpins t serial closings after h
-kept t (change.Unpin serial) (reply.Refused NotLive) after k h = nothing h.1
-kept t (change.Claim era handle ids) (reply.Claimed number) after k h = given_again t ids number after h.1
-kept t (change.Claim era handle ids) reply.Absent after k h = nothing h.2
-kept t (change.Claim era handle ids) (reply.Refused Overtaken) after k h = nothing h.1
-kept t (change.Claim era handle ids) (reply.Refused Last) after k h = nothing h.2
-kept t change.TakeFd reply.Taken after k h =
+kept_by t (change.Unpin serial) (reply.Done closings) after k h = unpins t serial closings after h
+kept_by t (change.Claim era handle ids) (reply.Claimed number) after k h = given_again t ids number after h.1
+kept_by t (change.Claim era handle ids) reply.Absent after k h = nothing h.2
+kept_by t change.TakeFd reply.Taken after k h =
     other (ap (λ (z : Tables). z.rows) h.2) (ap (λ (z : Tables). z.handles) h.2)
-kept t change.TakeFd (reply.Refused NoSlot) after k h = nothing h.1
-kept t change.GiveFd reply.Given after k h =
+kept_by t change.GiveFd reply.Given after k h =
     other (ap (λ (z : Tables). z.rows) h.1) (ap (λ (z : Tables). z.handles) h.1)
-kept t change.GiveFd (reply.Refused NotLive) after k h = nothing h.1
-kept t change.DrawNode (reply.Drawn number) after k h =
+kept_by t change.DrawNode (reply.Drawn number) after k h =
     other (ap (λ (z : Tables). z.rows) h.2) (ap (λ (z : Tables). z.handles) h.2)
-kept t change.DrawNode (reply.Refused Last) after k h = nothing h.1
-kept t (change.Insert era number form ids mode) (reply.Inserted given) after k h = absurd k
-kept t (change.Insert era number form ids mode) (reply.Found given) after k h = given_again t ids given after h.1
-kept t (change.Insert era number form ids mode) (reply.Refused Overtaken) after k h = nothing h.1
-kept t (change.Insert era number form ids mode) (reply.Refused Live) after k h = nothing h.3
-kept t (change.Insert era number form ids mode) (reply.Refused Last) after k h = nothing h.2
-kept t (change.Insert era number form ids mode) (reply.Refused Memory) after k h = nothing h.3
-kept t (change.InsertRoot era form ids mode negotiated) (reply.Inserted given) after k h = absurd k
-kept t (change.InsertRoot era form ids mode negotiated) (reply.Refused Overtaken) after k h = nothing h.1
-kept t (change.InsertRoot era form ids mode negotiated) (reply.Refused Live) after k h = nothing h.2
-kept t (change.InsertRoot era form ids mode negotiated) (reply.Refused Last) after k h = nothing h.3
-kept t (change.InsertRoot era form ids mode negotiated) (reply.Refused Memory) after k h = nothing h.3
-kept t (change.Forget list) (reply.Done closings) after k h = forgets_all t list closings after h
-kept t (change.GiveBack era number) (reply.Done closings) after k h = forgets_one t number 1 closings after h.2
-kept t (change.GiveBack era number) (reply.Refused Overtaken) after k h = nothing h.1
-kept t (change.GiveBack era number) (reply.Refused NotLive) after k h = nothing h.2
-kept t change.TakeClosing (reply.Closing fd slot) after k h =
+kept_by t (change.Insert era number form ids mode) (reply.Inserted given) after k h = absurd k
+kept_by t (change.Insert era number form ids mode) (reply.Found given) after k h = given_again t ids given after h.1
+kept_by t (change.InsertRoot era form ids mode negotiated) (reply.Inserted given) after k h = absurd k
+kept_by t (change.Forget list) (reply.Done closings) after k h = forgets_all t list closings after h
+kept_by t (change.GiveBack era number) (reply.Done closings) after k h = forgets_one t number 1 closings after h.2
+kept_by t change.TakeClosing (reply.Closing fd slot) after k h =
     other (ap (λ (z : Tables). z.rows) h.2) (ap (λ (z : Tables). z.handles) h.2)
-kept t change.TakeClosing (reply.Refused NotLive) after k h = nothing h.1
-kept t change.DrawHandle (reply.Drawn handle) after k h =
+kept_by t change.DrawHandle (reply.Drawn handle) after k h =
     other (ap (λ (z : Tables). z.rows) h.2) (ap (λ (z : Tables). z.handles) h.2)
-kept t change.DrawHandle (reply.Refused Last) after k h = nothing h.1
-kept t (change.InsertHandle era handle number fd) (reply.Inserted given) after k h = absurd k
-kept t (change.InsertHandle era handle number fd) (reply.Refused Overtaken) after k h = nothing h.1
-kept t (change.InsertHandle era handle number fd) (reply.Refused Live) after k h = nothing h.2
-kept t (change.InsertHandle era handle number fd) (reply.Refused Last) after k h = nothing h.3
-kept t (change.InsertHandle era handle number fd) (reply.Refused Memory) after k h = nothing h.3
-kept t (change.PinHandle handle number) (reply.Pinned serial fd) after k h =
+kept_by t (change.InsertHandle era handle number fd) (reply.Inserted given) after k h = absurd k
+kept_by t (change.PinHandle handle number) (reply.Pinned serial fd) after k h =
     handle_repinned t h.0 (h.0.pins + 1) after h.5
-kept t (change.PinHandle handle number) (reply.Refused NotLive) after k h = nothing h.1
-kept t (change.PinHandle handle number) (reply.Refused Last) after k h = nothing h.4
-kept t (change.UnpinHandle serial) (reply.Done closings) after k h = unpins_handle t serial closings after h
-kept t (change.UnpinHandle serial) (reply.Refused NotLive) after k h = nothing h.1
-kept t (change.Release handle number) (reply.Done closings) after k h = handle_dies t h.0 closings after h.2
-kept t (change.Release handle number) (reply.Refused NotLive) after k h = nothing h.1
-kept t change.Clear (reply.Cleared era closings) after k h = clears t era closings after h.1
-kept t change.Clear (reply.Refused Last) after k h = nothing h.1
-kept t _ _ after k h = absurd h
+kept_by t (change.UnpinHandle serial) (reply.Done closings) after k h = unpins_handle t serial closings after h
+kept_by t (change.Release handle number) (reply.Done closings) after k h = handle_dies t h.0 closings after h.2
+kept_by t change.Clear (reply.Cleared era closings) after k h = clears t closings after h.1
+kept_by t e (reply.Refused why) after k h = nothing h.1
+kept_by t _ _ after k h = absurd h
+
+pub kept : (t : Tables) (e : Change) (r : EventReply) (after : Tables) → KeepsRows e r → Happens t e r after → Kept t
+    after
+kept t e r after k h = kept_by t e r after k (cases t after e r h)
 
 -- Each event keeps the tables in agreement.
 pub agrees : (t : Tables) (e : Change) (r : EventReply) (after : Tables) → Happens t e r after → Agree t → Agree after
@@ -250,6 +230,9 @@ stays_on a b = record {
 stays_effects : {t after : Tables} → Effects t after → Stays t after
 stays_effects {t = t} none = stays_same t
 stays_effects (more e es) = stays_on (stays_effect e) (stays_effects es)
+
+pub stays_by : (t : Tables) (e : Change) (r : EventReply) (after : Tables) → Case t e r after → Stays t after
+stays_by t e r after h = stays_effects (case_effects t after e r h)
 
 pub stays : (t : Tables) (e : Change) (r : EventReply) (after : Tables) → Happens t e r after → Stays t after
 stays t e r after h = stays_effects (effects t after e r h)

@@ -10,7 +10,9 @@ use Rattle.pt_session.specs.Tables.{Tables, HasNumber, IsSoundRow, IsSoundHandle
 use Rattle.pt_session.specs.declared.row.Row.{Row}
 use Rattle.pt_session.specs.declared.row.HandleRow.{HandleRow}
 use Rattle.pt_session.specs.Store.{IsLaterHandle}
-use Rattle.pt_session.specs.Happens.{Happens, IsFree, new_row, with_row, agreed}
+use Rattle.pt_session.specs.Effect.{IsFree}
+use Rattle.pt_session.specs.Happens.{new_row, with_row, agreed}
+use Rattle.pt_session.proofs.Cases.{Case}
 use Rattle.pt_session.specs.declared.form.RowForm.{RowForm}
 use Rattle.pt_session.specs.declared.form.RowForm.TheVariants.{File}
 use Rattle.pt_frame.specs.Held.{row_fd}
@@ -31,7 +33,7 @@ use Rattle.pt_law.specs.World.{Past, settled, settled_by}
 use Rattle.pt_law.specs.Ledger.{fd_handed}
 use Rattle.pt_law.proofs.Lists.{is_apart, set_at_same, set_at_other, each_replaced, each_takes, each_taken, each_map}
 use Rattle.pt_law.proofs.Lists.{each_both, each_put}
-use Rattle.pt_law.proofs.Effects.{kept, rows_kept, handles_kept, stays}
+use Rattle.pt_law.proofs.Effects.{kept_by, rows_kept, handles_kept, stays_by}
 use Rattle.pt_law.proofs.Holding.{handed}
 use Rattle.pt_law.proofs.Knowing.{Shows, RowOpen, HandleOpen, ToldRight, PinRight, NotedOpen, NotedRight, Knowing}
 use Rattle.pt_law.proofs.Knowing.{one_object, row_later, unless_apart}
@@ -138,7 +140,7 @@ agreed_handles None t = refl
 agreed_handles (Some n) t = refl
 
 pub handles_event : (tree : Tree) (past : Past) (t : Tables) (j : ℕ) (job after : Job) (e : Change) (r : EventReply)
-    (t' : Tables) → Agree t → Happens t e r t' → MovesBy job (Changes e) (Event r) after →
+    (t' : Tables) → Agree t → Case t e r t' → MovesBy job (Changes e) (Event r) after →
     Knowing tree t.next_row past j job → Each (HandleOpen tree past) t.handles →
     Each (HandleOpen tree (settled_by past j (Changes e) (Event r) t.next_row tree)) t'.handles
 handles_event tree past t j job after (change.Insert era number form ids mode) (event.Inserted given) t' a h m k rows =
@@ -166,12 +168,12 @@ handles_event tree past t j job after (change.InsertHandle era handle number fd)
     )
 handles_event tree past t j job after (change.Resolve number) (event.Resolved serial form ids mode) t' a h m k rows =
     handles_kept (HandleOpen tree past) (handle_later tree past)
-    (kept t (change.Resolve number) (event.Resolved serial form ids mode) t' tt h) rows
+    (kept_by t (change.Resolve number) (event.Resolved serial form ids mode) t' tt h) rows
 handles_event tree past t j job after e r t' a h m k rows =
-    handles_kept (HandleOpen tree past) (handle_later tree past) (kept t e r t' tt h) rows
+    handles_kept (HandleOpen tree past) (handle_later tree past) (kept_by t e r t' tt h) rows
 
 pub rows_event : (tree : Tree) (past : Past) (t : Tables) (j : ℕ) (job after : Job) (e : Change) (r : EventReply)
-    (t' : Tables) → Agree t → Happens t e r t' → MovesBy job (Changes e) (Event r) after →
+    (t' : Tables) → Agree t → Case t e r t' → MovesBy job (Changes e) (Event r) after →
     Knowing tree t.next_row past j job → Each (RowOpen tree past) t.rows →
     Each (RowOpen tree (settled_by past j (Changes e) (Event r) t.next_row tree)) t'.rows
 rows_event tree past t j job after (change.Insert era number form ids mode) (event.Inserted given) t' a h m k rows =
@@ -191,9 +193,9 @@ rows_event tree past t j job after (change.InsertHandle era handle number fd) (e
     row_place tree past t.next_row fd (past.resolved j number) row s o) a.sound rows)
 rows_event tree past t j job after (change.Resolve number) (event.Resolved serial form ids mode) t' a h m k rows =
     rows_kept (RowOpen tree past) (row_later tree past)
-    (kept t (change.Resolve number) (event.Resolved serial form ids mode) t' tt h) rows
+    (kept_by t (change.Resolve number) (event.Resolved serial form ids mode) t' tt h) rows
 rows_event tree past t j job after e r t' a h m k rows =
-    rows_kept (RowOpen tree past) (row_later tree past) (kept t e r t' tt h) rows
+    rows_kept (RowOpen tree past) (row_later tree past) (kept_by t e r t' tt h) rows
 
 -- what is held of slots, counts, new descriptors and new pins, and of what was held before, is held after
 each_brought : (P : Hold → Type 0) (b : Taken) (holds : List Hold) → P hold.Slot → ((fd : Fd) → P (hold.Fd fd None)) →
@@ -262,7 +264,7 @@ next_agreed None t row = omega arith
 next_agreed (Some n) t row = omega arith
 
 pub grows : (tree : Tree) (past : Past) (t : Tables) (j : ℕ) (e : Change) (r : EventReply) (t' : Tables) → Agree t →
-    Happens t e r t' → Grows past (settled_by past j (Changes e) (Event r) t.next_row tree) t.next_row t'.next_row
+    Case t e r t' → Grows past (settled_by past j (Changes e) (Event r) t.next_row tree) t.next_row t'.next_row
 grows tree past t j (change.Insert era number form ids mode) (event.Inserted given) t' a h =
     grows_settled past given t.next_row t'.next_row (fd_of form) (past.latest j) (rw h.4 (omega arith))
 grows tree past t j (change.InsertRoot era form ids mode negotiated) (event.Inserted given) t' a h =
@@ -277,9 +279,9 @@ grows tree past t j (change.InsertHandle era handle number fd) (event.Inserted g
   rows = rw h.4 (omega arith);
 }
 grows tree past t j (change.Resolve number) (event.Resolved serial form ids mode) t' a h =
-    let l = (stays t (change.Resolve number) (event.Resolved serial form ids mode) t' h).rows in
+    let l = (stays_by t (change.Resolve number) (event.Resolved serial form ids mode) t' h).rows in
     record { latest = refl; roots = refl; fds = λ row k. refl; objects = λ row k. refl; rows = l }
-grows tree past t j e r t' a h = let l = (stays t e r t' h).rows in
+grows tree past t j e r t' a h = let l = (stays_by t e r t' h).rows in
     record { latest = refl; roots = refl; fds = λ row k. refl; objects = λ row k. refl; rows = l }
 
 pub pin_grows : (past later : Past) (next next' : ℕ) (one : Hold) → Grows past later next next' →
@@ -359,7 +361,7 @@ kept_fd : (form : RowForm) → Some (fd_of form) ≡ row_fd form
 kept_fd (File fd) = refl
 
 resolved_pin : (tree : Tree) (past : Past) (t : Tables) (number row mode : ℕ) (form : RowForm) (ids : ObjIds)
-    (t' : Tables) → Agree t → Happens t (change.Resolve number) (event.Resolved row form ids mode) t' →
+    (t' : Tables) → Agree t → Case t (change.Resolve number) (event.Resolved row form ids mode) t' →
     Each (RowOpen tree past) t.rows → PinRight t.next_row past.fds (hold.Pin row (row_fd form))
 resolved_pin tree past t number row mode form ids t' a h rows =
     let o = each_replaced (RowOpen tree past) h.7.1 rows in
@@ -383,7 +385,7 @@ resolved_stays past later next next' j noted g q k was e =
 
 -- a number that is resolved has the object of the row that is pinned
 resolved_now : (tree : Tree) (past : Past) (t : Tables) (number row mode : ℕ) (form : RowForm) (ids : ObjIds)
-    (t' : Tables) → Agree t → Happens t (change.Resolve number) (event.Resolved row form ids mode) t' →
+    (t' : Tables) → Agree t → Case t (change.Resolve number) (event.Resolved row form ids mode) t' →
     Each (RowOpen tree past) t.rows → (row < t.next_row) × (past.objects row ≡ past.numbers number)
 resolved_now tree past t number row mode form ids t' a h rows =
     let o = each_replaced (RowOpen tree past) h.7.1 rows in
@@ -397,7 +399,7 @@ number_of other None = other
 number_of other (Some was) = was.number
 
 resolved_event : (tree : Tree) (past : Past) (t : Tables) (j : ℕ) (notes : Notes) (e : Change) (r : EventReply)
-    (t' : Tables) → Agree t → Happens t e r t' → Each (RowOpen tree past) t.rows →
+    (t' : Tables) → Agree t → Case t e r t' → Each (RowOpen tree past) t.rows →
     Grows past (settled_by past j (Changes e) (Event r) t.next_row tree) t.next_row t'.next_row →
     ((was : Resolution) → notes.resolved ≡ Some was →
     (was.row < t.next_row) × (past.objects was.row ≡ past.resolved j was.number)) →
@@ -507,7 +509,7 @@ reopened_event tree past t j job after e r m k was u =
     (k was (sym (ap (λ (n : Notes). n.resolved) m.3) ∙ u))
 
 pinned_now : (tree : Tree) (past : Past) (t : Tables) (handle number row : ℕ) (fd : Fd) (t' : Tables) → Agree t →
-    Happens t (change.PinHandle handle number) (event.Pinned row fd) t' →
+    Case t (change.PinHandle handle number) (event.Pinned row fd) t' →
     Each (HandleOpen tree past) t.handles → PinRight t.next_row past.fds (hold.HandlePin row fd)
 pinned_now tree past t handle number row fd t' a h rows =
     let o = each_replaced (HandleOpen tree past) h.5.1 rows in
@@ -516,7 +518,7 @@ pinned_now tree past t handle number row fd t' a h rows =
 
 -- what the job that made the event knows
 pub knows_event : (tree : Tree) (past : Past) (t : Tables) (j : ℕ) (job after : Job) (e : Change) (r : EventReply)
-    (t' : Tables) → Agree t → Happens t e r t' → MovesBy job (Changes e) (Event r) after →
+    (t' : Tables) → Agree t → Case t e r t' → MovesBy job (Changes e) (Event r) after →
     Each (RowOpen tree past) t.rows → Each (HandleOpen tree past) t.handles → Knowing tree t.next_row past j job →
     Knowing tree t'.next_row (settled_by past j (Changes e) (Event r) t.next_row tree) j after
 knows_event tree past t j job after e r t' a h m rows handles k =

@@ -1,8 +1,9 @@
 -- A job begins, and then another clears the session. What the first asks for in its era is refused as overtaken, and no
 -- number is given to it.
-use Rattle.std.proofs.Common.{◌≡◌, ◌≢◌, ℕ, List, [], ◌∷◌, refl, ◌∙◌, arith, None, Some}
+use Rattle.std.proofs.Common.{◌≡◌, ◌≢◌, inl, inr, ℕ, List, [], ◌∷◌, refl, ◌∙◌, arith, None, Some}
 use Rattle.pt_host.specs.declared.ids.ObjIds.{ObjIds}
-use Rattle.pt_session.specs.Happens.{NumbersDie.{none as no_number_dies}, HandlesDie.{none as no_handle_dies}}
+use Rattle.pt_session.specs.Rows.{AllDie.{none as none_dies}}
+use Rattle.pt_session.proofs.Cases.{cases}
 use Rattle.pt_session.specs.Tables.{Tables, empty_tables, nothing_agreed}
 use Rattle.pt_session.specs.declared.event.KeptEvent.TheVariants as change
 use Rattle.pt_session.specs.declared.reply.EventRefusal.TheVariants.{Overtaken}
@@ -24,10 +25,10 @@ turns =
 pub runs : TablesRun (empty_tables 5) turns cleared
 runs = (
   empty_tables 5,
-  (refl, refl, refl),
+  (refl, refl),
   (
     cleared,
-    (omega arith, (empty_tables 5, empty_tables 5, 0, 0, no_number_dies tt, no_handle_dies tt, refl, refl, refl)),
+    inl (omega arith, (0, refl, (empty_tables 5, empty_tables 5, 0, 0, none_dies tt, none_dies tt, refl, refl))),
     refl,
   ),
 )
@@ -48,9 +49,10 @@ overtaken = record {
 -- it may be told so
 pub is_told : (ids : ObjIds) →
     TablesGo cleared (Some (Changes (change.Claim 0 None ids))) (Event (event.Refused Overtaken)) cleared
-is_told ids = ((λ e. absurd (omega (arith, e))), refl)
+is_told ids = inr ((λ e. absurd (omega (arith, e))), (refl, refl))
 
 -- and may not be given a number
 pub is_given_none : (ids : ObjIds) (number : ℕ) (next : Tables) →
     TablesGo cleared (Some (Changes (change.Claim 0 None ids))) (Event (event.Claimed number)) next → ⊥
-is_given_none ids number next g = let e = g.0 in absurd (omega (arith, e))
+is_given_none ids number next g =
+    let e = (cases cleared next (change.Claim 0 None ids) (event.Claimed number) g).0 in absurd (omega (arith, e))

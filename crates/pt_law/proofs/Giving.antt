@@ -1,6 +1,6 @@
 -- A number that is given names what its name led to.
-use Rattle.std.proofs.Common.{◌≡◌, ◌⊎◌, ⊎_elim, ℕ, ◌+◌, ◌<◌, List, [], ◌∷◌, ◌++◌, refl, sym, ap, subst, ◌∙◌}
-use Rattle.std.proofs.Common.{append_assoc, Option, Some, None}
+use Rattle.std.proofs.Common.{◌≡◌, ◌⊎◌, ⊎_elim, inl, inr, ℕ, ◌+◌, ◌<◌, List, [], ◌∷◌, ◌++◌, refl, sym, ap, subst, ◌∙◌}
+use Rattle.std.proofs.Common.{append_assoc, append-nil, Option, Some, None}
 use Rattle.pt_host.specs.Words.{Each, Replaces, Replaces.{at, past}, Takes, Takes.{here, there}}
 use Rattle.pt_host.specs.Call.{Call}
 use Rattle.pt_session.specs.Change.{Change}
@@ -10,8 +10,10 @@ use Rattle.pt_host.specs.declared.ids.ObjIds.{ObjIds}
 use Rattle.pt_host.specs.declared.flags.OpenFlags.{OpenFlags}
 use Rattle.pt_host.specs.declared.op.KeptHostOp.TheVariants as call
 use Rattle.pt_session.specs.Tables.{Tables}
-use Rattle.pt_session.specs.Happens.{GivesAgain, IsRow, new_row}
+use Rattle.pt_session.specs.Happens.{new_row}
+use Rattle.pt_session.specs.Rows.{IsRow}
 use Rattle.pt_session.specs.declared.row.Row.{Row}
+use Rattle.pt_session.proofs.Cases.{GivenAgain, cases}
 use Rattle.pt_session.specs.declared.form.RowForm.{RowForm}
 use Rattle.pt_session.specs.declared.event.KeptEvent.TheVariants as change
 use Rattle.pt_session.specs.declared.reply.EventReply.TheVariants as event
@@ -46,7 +48,7 @@ StandsFor w next j number ids =
 -- a row with the ids that the job was told stands for what it opened
 again : (w : World) (j : ℕ) (job : Job) (fd : Fd) (ids : ObjIds) (number : ℕ) (t' : Tables) → IsWellFormed w.tree →
     Knowing w.tree w.tables.next_row w.past j job → Each (RowOpen w.tree w.past) w.tables.rows →
-    job.notes.latest ≡ Some fd → HoldsTold job.holds fd ids → GivesAgain w.tables ids number t' →
+    job.notes.latest ≡ Some fd → HoldsTold job.holds fd ids → GivenAgain w.tables ids number t' →
     StandsFor w w j number ids
 again w j job fd ids number t' well k rows l t g =
     let a = told_noted w.tree fd ids (w.past.latest j) job.holds k.told t (k.latest fd l) in
@@ -75,20 +77,20 @@ gives_latest bound base had w js s next after number ids lt v g m b = go s.step.
         StandsFor w next s.job number ids
     go (Some (Changes (change.Claim era handle asked))) (Event (event.Claimed given)) m b g =
         let fit = m.1 in
-        let h = g.made.0 in
+        let h = cases w.tables next.tables (change.Claim era handle asked) (event.Claimed given) g.made.0 in
         moved_on w next s.job number ids g.made.1 g.past
         (again w s.job (js s.job) fit.0 ids number next.tables v.well k v.right.shown fit.2
         (subst (HoldsTold (js s.job).holds fit.0) b.1 fit.3)
-        (subst (λ i. GivesAgain w.tables i number next.tables) b.1
-        (subst (λ n. GivesAgain w.tables asked n next.tables) b.0 h.1)))
+        (subst (λ i. GivenAgain w.tables i number next.tables) b.1
+        (subst (λ n. GivenAgain w.tables asked n next.tables) b.0 h.1)))
     go (Some (Changes (change.Insert era drawn form asked mode))) (Event (event.Found given)) m b g =
         let fit = m.1 in
-        let h = g.made.0 in
+        let h = cases w.tables next.tables (change.Insert era drawn form asked mode) (event.Found given) g.made.0 in
         moved_on w next s.job number ids g.made.1 g.past
         (again w s.job (js s.job) (fd_of form) ids number next.tables v.well k v.right.shown fit.1
         (subst (HoldsTold (js s.job).holds (fd_of form)) b.1 fit.3)
-        (subst (λ i. GivesAgain w.tables i number next.tables) b.1
-        (subst (λ n. GivesAgain w.tables asked n next.tables) b.0 h.1)))
+        (subst (λ i. GivenAgain w.tables i number next.tables) b.1
+        (subst (λ n. GivenAgain w.tables asked n next.tables) b.0 h.1)))
     go (Some (Changes (change.Insert era drawn form asked mode))) (Event (event.Inserted given)) m b g =
         let fit = m.1 in
         let a = told_noted w.tree (fd_of form) asked (w.past.latest s.job) (js s.job).holds k.told fit.3
@@ -306,7 +308,7 @@ replaced_in : {x y : Row} {xs ys : List Row} → Replaces x y xs ys → (zs : Li
 replaced_in (at {xs = xs}) = (xs, here)
 replaced_in (past {z = z} r) = let k = replaced_in r in (z ∷ k.0, there k.1)
 
-again_live : (t : Tables) (ids : ObjIds) (number : ℕ) (t' : Tables) → GivesAgain t ids number t' → IsLive t' number
+again_live : (t : Tables) (ids : ObjIds) (number : ℕ) (t' : Tables) → GivenAgain t ids number t' → IsLive t' number
 again_live t ids number t' g =
     let row : Row = record g.0 { count = g.0.count + 1 } in
     let k = replaced_in g.4.1 in
@@ -315,13 +317,16 @@ again_live t ids number t' g =
 gives_live : (t t' : Tables) (number : ℕ) (ids : ObjIds) (deed : Option Deed) (told : ActReply) →
     GivesBy number ids deed told → TablesGo t deed told t' → IsLive t' number
 gives_live t t' number ids (Some (Changes (change.Claim era handle asked))) (Event (event.Claimed given)) b g =
-    subst (IsLive t') b.0 (again_live t asked given t' g.1)
+    let h = cases t t' (change.Claim era handle asked) (event.Claimed given) g in
+    subst (IsLive t') b.0 (again_live t asked given t' h.1)
 gives_live t t' number ids (Some (Changes (change.Insert era drawn form asked mode))) (Event (event.Found given)) b g =
-    subst (IsLive t') b.0 (again_live t asked given t' g.1)
+    let h = cases t t' (change.Insert era drawn form asked mode) (event.Found given) g in
+    subst (IsLive t') b.0 (again_live t asked given t' h.1)
 gives_live t t' number ids (Some (Changes (change.Insert era drawn form asked mode)))
     (Event (event.Inserted given)) b g =
+    let h = cases t t' (change.Insert era drawn form asked mode) (event.Inserted given) g in
     let row : Row = new_row t drawn form asked mode 1 in
-    (row, subst (λ (z : Tables). IsRow z row) (sym g.4) (t.rows, here), (refl, sym g.3 ∙ b.0))
+    (row, subst (λ (z : Tables). IsRow z row) (sym h.4) (t.rows, here), (refl, sym h.3 ∙ b.0))
 gives_live t t' number ids _ _ b g = absurd b
 
 -- two entries of one object have one number

@@ -6,11 +6,11 @@ use Rattle.pt_host.specs.Words.{is, total, Each, EachTwo, Takes, Takes.{here, th
 use Rattle.pt_session.specs.Change.{Change}
 use Rattle.pt_session.specs.Tables.{Tables, HasNumber, AreApart, Agree}
 use Rattle.pt_session.specs.declared.row.Row.{Row}
-use Rattle.pt_session.specs.Happens.{Happens, Changes, Dies, ForgetsOne, ForgetsAll, Unpins, NoRow, new_row, with_row}
-use Rattle.pt_session.specs.Happens.{agreed}
+use Rattle.pt_session.specs.Rows.{ChangesRow, number_rows, Dies, NoRow}
+use Rattle.pt_session.specs.Happens.{Happens, ForgetsOne, ForgetsAll, new_row, with_row, agreed}
+use Rattle.pt_session.proofs.Cases.{GivesPin, Case, cases}
 use Rattle.pt_session.specs.declared.form.Negotiated.{Negotiated}
 use Rattle.pt_session.specs.declared.event.KeptEvent.TheVariants as change
-use Rattle.pt_session.specs.declared.reply.EventRefusal.TheVariants.{NotLive, Overtaken, NoSlot, Last, Live, Memory}
 use Rattle.pt_session.specs.declared.reply.EventReply.{EventReply}
 use Rattle.pt_session.specs.declared.reply.EventReply.TheVariants as event
 use Rattle.pt_frame.specs.Deed.{Deed, Changes as Asks, Calls}
@@ -83,7 +83,7 @@ only_taken n {r = r} (there {y = z} c) m h =
 
 -- a count that rises by one
 rises : (n m : ℕ) (t : Tables) (r : Row) (after : Tables) → r.live ≡ true → r.number ≡ m →
-    Changes t r (record r { count = r.count + 1 }) after → live_count n after ≡ live_count n t + is m n
+    ChangesRow number_rows t r (record r { count = r.count + 1 }) after → live_count n after ≡ live_count n t + is m n
 rises n m t r after l e c = rw c.2 (
     let a = total_replaces (count_in n) c.1 in
     let b = in_live n r l in
@@ -91,7 +91,8 @@ rises n m t r after l e c = rw c.2 (
     let f = numbered n m r e in
     omega (arith, a, b, d, f))
 
-same_count : (n : ℕ) (t : Tables) (r s : Row) (after : Tables) → Changes t r s after → count_in n s ≡ count_in n r →
+same_count : (n : ℕ) (t : Tables) (r s : Row) (after : Tables) → ChangesRow number_rows t r s after → count_in n s ≡
+    count_in n r →
     live_count n after ≡ live_count n t
 same_count n t r s after c e = rw c.2 (let a = total_replaces (count_in n) c.1 in omega (arith, a, e))
 
@@ -107,7 +108,8 @@ same_is m n e = subst (λ i. is m i ≡ 1) e (is_same m)
 
 -- less is taken than the count
 falls : (n m k : ℕ) (t : Tables) (r : Row) (after : Tables) → HasNumber m r → k < r.count →
-    Changes t r (record r { count = r.count - k }) after → live_count n after ≡ live_count n t - is m n * k
+    ChangesRow number_rows t r (record r { count = r.count - k }) after → live_count n after ≡ live_count n t - is m n
+    * k
 falls n m k t r after h l c = rw c.2 (⊎_elim
     (λ (e : m ≡ n).
     let a = total_replaces (count_in n) c.1 in
@@ -153,7 +155,7 @@ goes n m k t r left h l e z = ⊎_elim
     (cases_eq m n)
 
 dies : (n m k : ℕ) (t : Tables) (r : Row) (c : ℕ) (after : Tables) → Agree t → HasNumber m r → r.count ≤ k →
-    Dies t r c after → live_count n after ≡ live_count n t - is m n * k
+    Dies number_rows t r c after → live_count n after ≡ live_count n t - is m n * k
 dies n m k t r c after a h l (inl d) = let e = d.2 in
     rw e.2 (goes n m k t r (total (count_in n) e.0) h l (total_takes (count_in n) e.1) (λ q.
     subst (λ i. total (count_in i) e.0 ≡ 0) q (only_taken m e.1 h a.apart)))
@@ -171,7 +173,8 @@ counts_one n m k t c after a (inr (r, has, inr h)) = dies n m k t r c after a ha
 -- a pair is a list of one
 agree_one : (t : Tables) (m k c : ℕ) (after : Tables) → Agree t → ForgetsOne t m k c after → Agree after
 agree_one t m k c after a f =
-    agrees t (change.Forget ((m, k) ∷ [])) (event.Done (c + 0)) after (after, c, 0, f, (refl, refl), refl) a
+    agrees t (change.Forget ((m, k) ∷ [])) (event.Done (c + 0)) after
+    (c + 0, refl, (after, c, 0, f, (refl, refl), refl)) a
 
 counts_all : (n : ℕ) (t : Tables) (list : List (ℕ × ℕ)) (c : ℕ) (after : Tables) → Agree t →
     ForgetsAll t list c after → live_count n after ≡ forgotten n (live_count n t) list
@@ -181,7 +184,7 @@ counts_all n t (pair ∷ pairs) c after a h =
     let rest = counts_all n h.0 pairs h.2 after (agree_one t pair.0 pair.1 h.1 h.0 a h.3) h.4 in
     rest ∙ ap (λ had. forgotten n had pairs) one
 
-unpins : (n : ℕ) (t : Tables) (serial c : ℕ) (after : Tables) → Unpins t serial c after →
+unpins : (n : ℕ) (t : Tables) (serial c : ℕ) (after : Tables) → GivesPin number_rows t serial c after →
     live_count n after ≡ live_count n t
 unpins n t serial c after (r, pins, s, p, inl h) = let e = h.3 in
     rw e.2 (let x = total_takes (count_in n) e.1 in let y = in_dead n r h.0 in omega (arith, x, y))
@@ -195,71 +198,45 @@ said : (n : ℕ) (negotiated : Option Negotiated) (t : Tables) → live_count n 
 said n None t = refl
 said n (Some x) t = refl
 
-pub counts_event : (n : ℕ) (t : Tables) (e : Change) (r : EventReply) (after : Tables) → Agree t →
-    Happens t e r after → live_count n after ≡ given_by n (live_count n t) (Asks e) (Event r)
-counts_event n t change.Begin (event.Began era negotiated) after a h = ap (live_count n) h.2
-counts_event n t (change.Resolve number) (event.Resolved serial form ids mode) after a h =
+counts_by : (n : ℕ) (t : Tables) (e : Change) (r : EventReply) (after : Tables) → Agree t →
+    Case t e r after → live_count n after ≡ given_by n (live_count n t) (Asks e) (Event r)
+counts_by n t change.Begin (event.Began era negotiated) after a h = ap (live_count n) h.2
+counts_by n t (change.Resolve number) (event.Resolved serial form ids mode) after a h =
     same_count n t h.0 _ after h.7 refl
-counts_event n t (change.Resolve number) (event.Refused NotLive) after a h = ap (live_count n) h.1
-counts_event n t (change.Resolve number) (event.Refused Last) after a h = ap (live_count n) h.4
-counts_event n t (change.Unpin serial) (event.Done closings) after a h = unpins n t serial closings after h
-counts_event n t (change.Unpin serial) (event.Refused NotLive) after a h = ap (live_count n) h.1
-counts_event n t (change.Claim era handle ids) (event.Claimed number) after a h = let g = h.1 in
+counts_by n t (change.Unpin serial) (event.Done closings) after a h = unpins n t serial closings after h
+counts_by n t (change.Claim era handle ids) (event.Claimed number) after a h = let g = h.1 in
     rises n number t g.0 after g.1.0 g.2 g.4
-counts_event n t (change.Claim era handle ids) event.Absent after a h = ap (live_count n) h.2
-counts_event n t (change.Claim era handle ids) (event.Refused Overtaken) after a h = ap (live_count n) h.1
-counts_event n t (change.Claim era handle ids) (event.Refused Last) after a h = ap (live_count n) h.2
-counts_event n t change.TakeFd event.Taken after a h = ap (live_count n) h.2
-counts_event n t change.TakeFd (event.Refused NoSlot) after a h = ap (live_count n) h.1
-counts_event n t change.GiveFd event.Given after a h = ap (live_count n) h.1
-counts_event n t change.GiveFd (event.Refused NotLive) after a h = ap (live_count n) h.1
-counts_event n t change.DrawNode (event.Drawn number) after a h = ap (live_count n) h.2
-counts_event n t change.DrawNode (event.Refused Last) after a h = ap (live_count n) h.1
-counts_event n t (change.Insert era number form ids mode) (event.Inserted given) after a h =
+counts_by n t (change.Claim era handle ids) event.Absent after a h = ap (live_count n) h.2
+counts_by n t change.TakeFd event.Taken after a h = ap (live_count n) h.2
+counts_by n t change.GiveFd event.Given after a h = ap (live_count n) h.1
+counts_by n t change.DrawNode (event.Drawn number) after a h = ap (live_count n) h.2
+counts_by n t (change.Insert era number form ids mode) (event.Inserted given) after a h =
     rw h.4 (let e = ap (λ i. is i n) h.3 in omega (arith, e))
-counts_event n t (change.Insert era number form ids mode) (event.Found given) after a h = let g = h.1 in
+counts_by n t (change.Insert era number form ids mode) (event.Found given) after a h = let g = h.1 in
     rises n given t g.0 after g.1.0 g.2 g.4
-counts_event n t (change.Insert era number form ids mode) (event.Refused Overtaken) after a h = ap (live_count n) h.1
-counts_event n t (change.Insert era number form ids mode) (event.Refused Live) after a h = ap (live_count n) h.3
-counts_event n t (change.Insert era number form ids mode) (event.Refused Last) after a h = ap (live_count n) h.2
-counts_event n t (change.Insert era number form ids mode) (event.Refused Memory) after a h = ap (live_count n) h.3
-counts_event n t (change.InsertRoot era form ids mode negotiated) (event.Inserted given) after a h =
+counts_by n t (change.InsertRoot era form ids mode negotiated) (event.Inserted given) after a h =
     ap (live_count n) h.4 ∙ said n negotiated (with_row t (new_row t 1 form ids mode 2))
     ∙ (let e = ap (λ i. is i n) h.3 in omega (arith, e))
-counts_event n t (change.InsertRoot era form ids mode negotiated) (event.Refused Overtaken) after a h =
-    ap (live_count n) h.1
-counts_event n t (change.InsertRoot era form ids mode negotiated) (event.Refused Live) after a h = ap (live_count n) h.2
-counts_event n t (change.InsertRoot era form ids mode negotiated) (event.Refused Last) after a h = ap (live_count n) h.3
-counts_event n t (change.InsertRoot era form ids mode negotiated) (event.Refused Memory) after a h =
-    ap (live_count n) h.3
-counts_event n t (change.Forget list) (event.Done closings) after a h = counts_all n t list closings after a h
-counts_event n t (change.GiveBack era number) (event.Done closings) after a h =
+counts_by n t (change.Forget list) (event.Done closings) after a h = counts_all n t list closings after a h
+counts_by n t (change.GiveBack era number) (event.Done closings) after a h =
     let x = counts_one n number 1 t closings after a h.2 in omega (arith, x)
-counts_event n t (change.GiveBack era number) (event.Refused Overtaken) after a h = ap (live_count n) h.1
-counts_event n t (change.GiveBack era number) (event.Refused NotLive) after a h = ap (live_count n) h.2
-counts_event n t change.DrawHandle (event.Drawn handle) after a h = ap (live_count n) h.2
-counts_event n t change.DrawHandle (event.Refused Last) after a h = ap (live_count n) h.1
-counts_event n t (change.InsertHandle era handle number fd) (event.Inserted given) after a h = ap (live_count n) h.4
-counts_event n t (change.InsertHandle era handle number fd) (event.Refused Overtaken) after a h = ap (live_count n) h.1
-counts_event n t (change.InsertHandle era handle number fd) (event.Refused Live) after a h = ap (live_count n) h.2
-counts_event n t (change.InsertHandle era handle number fd) (event.Refused Last) after a h = ap (live_count n) h.3
-counts_event n t (change.InsertHandle era handle number fd) (event.Refused Memory) after a h = ap (live_count n) h.3
-counts_event n t (change.PinHandle handle number) (event.Pinned serial fd) after a h = ap (live_count n) h.5.2
-counts_event n t (change.PinHandle handle number) (event.Refused NotLive) after a h = ap (live_count n) h.1
-counts_event n t (change.PinHandle handle number) (event.Refused Last) after a h = ap (live_count n) h.4
-counts_event n t (change.UnpinHandle serial) (event.Done closings) after a h =
+counts_by n t change.DrawHandle (event.Drawn handle) after a h = ap (live_count n) h.2
+counts_by n t (change.InsertHandle era handle number fd) (event.Inserted given) after a h = ap (live_count n) h.4
+counts_by n t (change.PinHandle handle number) (event.Pinned serial fd) after a h = ap (live_count n) h.5.2
+counts_by n t (change.UnpinHandle serial) (event.Done closings) after a h =
     unpins_handle (live_count n) (no_handles n) t serial closings after h
-counts_event n t (change.UnpinHandle serial) (event.Refused NotLive) after a h = ap (live_count n) h.1
-counts_event n t (change.Release handle number) (event.Done closings) after a h =
+counts_by n t (change.Release handle number) (event.Done closings) after a h =
     handle_dies (live_count n) (no_handles n) t h.0 closings after h.2
-counts_event n t (change.Release handle number) (event.Refused NotLive) after a h = ap (live_count n) h.1
-counts_event n t change.Clear (event.Cleared era closings) after a h =
+counts_by n t change.Clear (event.Cleared era closings) after a h =
     none_other n after.rows (each_map (λ z. z.live ≡ true → ⊥) (λ z. HasNumber n z →
-    ⊥) after.rows (λ z f k. f k.0) (clears t after era closings h.1).numbers)
-counts_event n t change.Clear (event.Refused Last) after a h = ap (live_count n) h.1
-counts_event n t change.TakeClosing (event.Closing fd slot) after a h = ap (live_count n) h.2
-counts_event n t change.TakeClosing (event.Refused NotLive) after a h = ap (live_count n) h.1
-counts_event n t _ _ after a h = absurd h
+    ⊥) after.rows (λ z f k. f k.0) (clears t after closings h.1).numbers)
+counts_by n t change.TakeClosing (event.Closing fd slot) after a h = ap (live_count n) h.2
+counts_by n t e (event.Refused why) after a h = ap (live_count n) h.1
+counts_by n t _ _ after a h = absurd h
+
+pub counts_event : (n : ℕ) (t : Tables) (e : Change) (r : EventReply) (after : Tables) → Agree t →
+    Happens t e r after → live_count n after ≡ given_by n (live_count n t) (Asks e) (Event r)
+counts_event n t e r after a h = counts_by n t e r after a (cases t after e r h)
 
 pub counts_step : (n : ℕ) (t : Tables) (deed : Option Deed) (told : ActReply) (after : Tables) → Agree t →
     TablesGo t deed told after → live_count n after ≡ given_if n (live_count n t) deed told

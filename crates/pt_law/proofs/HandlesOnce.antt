@@ -10,6 +10,7 @@ use Rattle.pt_host.specs.declared.reply.HostValue.TheVariants as value
 use Rattle.pt_session.specs.Tables.{Tables, empty_tables}
 use Rattle.pt_session.specs.declared.event.KeptEvent.TheVariants as change
 use Rattle.pt_session.specs.declared.reply.EventReply.TheVariants as event
+use Rattle.pt_session.proofs.Cases.{cases}
 use Rattle.pt_frame.specs.Deed.{Deed, Calls, Changes}
 use Rattle.pt_frame.specs.declared.act.ActReply.{ActReply}
 use Rattle.pt_frame.specs.declared.act.ActReply.TheVariants.{Event, Host}
@@ -77,7 +78,7 @@ handle_flow job t (Changes change.DrawHandle) (Event (event.Drawn k)) t' after g
 handle_flow job t (Changes (change.InsertHandle era handle number fd)) (Event (event.Inserted given)) t' after g m n =
     let a = ap (λ (z : Notes). is_drawn n z.handle) m.3 in
     let b = ap (is_drawn n) m.1.2 in
-    let c = ap (λ i. is i n) g.3 in
+    let c = ap (λ i. is i n) (cases t t' (change.InsertHandle era handle number fd) (event.Inserted given) g).3 in
     omega (arith, a, b, c)
 handle_flow job t (Calls (call.OpenRoot path flags)) (Host (host.Ok (value.Fd fd))) t' after g m n =
     let a = ap (λ (z : Notes). is_drawn n z.handle) m.3 in
@@ -114,7 +115,8 @@ keeps_handles bound had t js j None told t' after lt v g m =
     omega (arith, z, a)) v
 keeps_handles bound had t js j (Some (Changes change.DrawHandle)) (Event (event.Drawn k)) t' after lt v g m =
     let f = handle_flow (js j) t (Changes change.DrawHandle) (Event (event.Drawn k)) t' after g m in
-    singly_drawn t.next_handle t'.next_handle k _ _ g.0 (ap (λ (z : Tables). z.next_handle) g.2) (λ n.
+    let case = cases t t' change.DrawHandle (event.Drawn k) g in
+    singly_drawn t.next_handle t'.next_handle k _ _ case.0 (ap (λ (z : Tables). z.next_handle) case.2) (λ n.
     let z = sum_to_set (λ (k : Job). is_drawn n k.notes.handle) js j after bound lt in
     let a = f n in
     omega (arith, z, a)) v

@@ -4,7 +4,9 @@ use Rattle.pt_session.specs.Tables.{Tables}
 use Rattle.pt_session.specs.declared.row.Row.{Row}
 use Rattle.pt_session.specs.declared.row.HandleRow.{HandleRow}
 use Rattle.pt_session.specs.declared.row.Closing.{Closing}
-use Rattle.pt_session.specs.Happens.{Dies, ForgetsOne, ForgetsAll, Unpins, HandleDies, UnpinsHandle}
+use Rattle.pt_session.specs.Rows.{Dies, number_rows, handle_rows}
+use Rattle.pt_session.specs.Happens.{ForgetsOne, ForgetsAll}
+use Rattle.pt_session.proofs.Cases.{GivesPin}
 
 pub record IgnoresRows {X : Type 0} (f : Tables → X) : Type 0 where
   pub changed : (t : Tables) (rows : List Row) → f (record t { rows = rows }) ≡ f t
@@ -12,7 +14,7 @@ pub record IgnoresRows {X : Type 0} (f : Tables → X) : Type 0 where
       f (record t { rows = rows; closing = closing }) ≡ f t
 
 pub dies : {X : Type 0} (f : Tables → X) → IgnoresRows f → (t : Tables) (row : Row) (c : ℕ) (after : Tables) →
-    Dies t row c after → f after ≡ f t
+    Dies number_rows t row c after → f after ≡ f t
 dies f i t row c after (inl h) = ap f h.2.2 ∙ i.ended t h.2.0 _
 dies f i t row c after (inr h) = ap f h.2.2 ∙ i.changed t h.2.0
 
@@ -29,7 +31,7 @@ forgets_all f i t (pair ∷ pairs) c after h =
     forgets_all f i h.0 pairs h.2 after h.4 ∙ forgets_one f i t pair.0 pair.1 h.1 h.0 h.3
 
 pub unpins : {X : Type 0} (f : Tables → X) → IgnoresRows f → (t : Tables) (serial c : ℕ) (after : Tables) →
-    Unpins t serial c after → f after ≡ f t
+    GivesPin number_rows t serial c after → f after ≡ f t
 unpins f i t serial c after (row, pins, s, p, inl h) = ap f h.3.2 ∙ i.ended t h.3.0 _
 unpins f i t serial c after (row, pins, s, p, inr h) = ap f h.2.2 ∙ i.changed t h.2.0
 
@@ -39,11 +41,11 @@ pub record IgnoresHandles {X : Type 0} (f : Tables → X) : Type 0 where
       f (record t { handles = handles; closing = closing }) ≡ f t
 
 pub handle_dies : {X : Type 0} (f : Tables → X) → IgnoresHandles f →
-    (t : Tables) (row : HandleRow) (c : ℕ) (after : Tables) → HandleDies t row c after → f after ≡ f t
+    (t : Tables) (row : HandleRow) (c : ℕ) (after : Tables) → Dies handle_rows t row c after → f after ≡ f t
 handle_dies f i t row c after (inl h) = ap f h.2.2 ∙ i.ended t h.2.0 _
 handle_dies f i t row c after (inr h) = ap f h.2.2 ∙ i.changed t h.2.0
 
 pub unpins_handle : {X : Type 0} (f : Tables → X) → IgnoresHandles f → (t : Tables) (serial c : ℕ) (after : Tables) →
-    UnpinsHandle t serial c after → f after ≡ f t
+    GivesPin handle_rows t serial c after → f after ≡ f t
 unpins_handle f i t serial c after (row, pins, s, p, inl h) = ap f h.3.2 ∙ i.ended t h.3.0 _
 unpins_handle f i t serial c after (row, pins, s, p, inr h) = ap f h.2.2 ∙ i.changed t h.2.0

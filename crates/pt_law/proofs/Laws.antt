@@ -7,7 +7,7 @@ use Rattle.pt_host.specs.Tree.{Tree, IsWellFormed}
 use Rattle.pt_session.specs.Tables.{Tables, Agree, AreApart, IsSoundRow, IsSoundHandle, HasNumber, empty_tables}
 use Rattle.pt_session.specs.declared.row.Row.{Row}
 use Rattle.pt_session.specs.declared.row.HandleRow.{HandleRow}
-use Rattle.pt_session.specs.Happens.{IsRow, IsHandleRow}
+use Rattle.pt_session.specs.Rows.{IsRow, IsHandleRow}
 use Rattle.pt_frame.specs.Deed.{Deed, Calls, Changes, Step}
 use Rattle.pt_law.specs.Discipline.{fd_of}
 use Rattle.pt_frame.specs.declared.hold.Hold.{Hold}

@@ -8,6 +8,7 @@ pub mod Ending
 pub mod Branches
 pub mod Full
 pub mod Told
+pub mod Seats
 pub mod Answering
 pub mod Effects
 pub mod Flows

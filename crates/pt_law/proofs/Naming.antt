@@ -12,6 +12,7 @@ use Rattle.pt_host.specs.declared.op.KeptHostOp.TheVariants as call
 use Rattle.pt_host.specs.declared.reply.HostReply.TheVariants as host
 use Rattle.pt_host.specs.declared.reply.HostValue.TheVariants as value
 use Rattle.pt_session.specs.Tables.{Agree, IsSoundRow}
+use Rattle.pt_session.proofs.Cases.{cases}
 use Rattle.pt_session.specs.declared.form.RowForm.{RowForm}
 use Rattle.pt_session.specs.declared.event.KeptEvent.TheVariants as change
 use Rattle.pt_session.specs.declared.reply.EventReply.TheVariants as event
@@ -121,7 +122,7 @@ resolve_at : (bound : ℕ) (base had : ℕ → ℕ) (w : World) (js : ℕ →
     Goes w (turn_by j (resolving parent row form ids mode)) next →
     (directory : ℕ) × ObjectOf w parent directory × (w.past.objects row ≡ Some directory) × (row < w.tables.next_row)
 resolve_at bound base had w js j parent row mode form ids next v g =
-    let h = g.made.0 in
+    let h = cases w.tables next.tables (change.Resolve parent) (event.Resolved row form ids mode) g.made.0 in
     let o = each_replaced (RowOpen w.tree w.past) h.7.1 v.right.shown in
     let s = each_replaced (IsSoundRow w.tables.next_row) h.7.1 v.tabled.agree.sound in (
       o.object,

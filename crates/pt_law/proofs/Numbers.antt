@@ -10,6 +10,7 @@ use Rattle.pt_host.specs.declared.reply.HostValue.TheVariants as value
 use Rattle.pt_session.specs.Tables.{Tables, Agree}
 use Rattle.pt_session.specs.declared.event.KeptEvent.TheVariants as change
 use Rattle.pt_session.specs.declared.reply.EventReply.TheVariants as event
+use Rattle.pt_session.proofs.Cases.{cases}
 use Rattle.pt_frame.specs.Deed.{Deed, Calls, Changes}
 use Rattle.pt_frame.specs.declared.act.ActReply.{ActReply}
 use Rattle.pt_frame.specs.declared.act.ActReply.TheVariants.{Event, Host}
@@ -55,12 +56,13 @@ drawn_flow job t (Changes change.DrawNode) (Event (event.Drawn k)) t' after g m 
 drawn_flow job t (Changes (change.Insert era number form ids mode)) (Event (event.Inserted given)) t' after g m n ne =
     let a = ap (λ (z : Notes). is_drawn n z.drawn) m.3 in
     let b = ap (is_drawn n) m.1.2 in
-    let c = ap (λ i. is i n) g.3 in
+    let c = ap (λ i. is i n) (cases t t' (change.Insert era number form ids mode) (event.Inserted given) g).3 in
     omega (arith, a, b, c)
 drawn_flow job t (Changes (change.InsertRoot era form ids mode agreed))
     (Event (event.Inserted given)) t' after g m n ne =
     let a = ap (λ (z : Notes). is_drawn n z.drawn) m.3 in
-    let c = is_apart given n (λ e. ne (sym e ∙ g.3)) in
+    let c = is_apart given n (λ e. ne (sym e
+    ∙ (cases t t' (change.InsertRoot era form ids mode agreed) (event.Inserted given) g).3)) in
     omega (arith, a, c)
 drawn_flow job t (Calls (call.OpenRoot path flags)) (Host (host.Ok (value.Fd fd))) t' after g m n ne =
     let a = ap (λ (z : Notes). is_drawn n z.drawn) m.3 in
@@ -95,12 +97,13 @@ pub keeps_numbers : (bound : ℕ) (had : ℕ → ℕ) (t : Tables) (js : ℕ →
     TablesGo t (Some deed) told t' → MovesBy (js j) deed told after →
     Numbers bound (λ n. had n + inserted_as n deed told) t' (set_at j after js)
 keeps_numbers bound had t js j (Changes change.DrawNode) (Event (event.Drawn k)) t' after lt agree v g m =
-    let later : t'.next_number ≡ t.next_number + 1 = ap (λ (t : Tables). t.next_number) g.2 in
+    let case = cases t t' change.DrawNode (event.Drawn k) g in
+    let later : t'.next_number ≡ t.next_number + 1 = ap (λ (t : Tables). t.next_number) case.2 in
     let z = (λ (n : ℕ). sum_to_set (λ (k : Job). is_drawn n k.notes.drawn) js j after bound lt) in
     let f = drawn_flow (js j) t (Changes change.DrawNode) (Event (event.Drawn k)) t' after g m in
     record {
       once = λ n ne. ⊎_elim
-          (λ (q : k ≡ n). let a = v.fresh n (omega (arith, q, g.0)) in let i = is_within k n in let b = f n ne in
+          (λ (q : k ≡ n). let a = v.fresh n (omega (arith, q, case.0)) in let i = is_within k n in let b = f n ne in
           let c = z n in omega (arith, a, i, b, c))
           (λ (q : k ≢ n). let a = v.once n ne in let i = is_apart k n q in let b = f n ne in let c = z n in
           omega (arith, a, i, b, c))
@@ -108,7 +111,7 @@ keeps_numbers bound had t js j (Changes change.DrawNode) (Event (event.Drawn k))
       fresh = λ n l.
           let s = v.second in
           let a = v.fresh n (omega (arith, later, l)) in
-          let i = is_apart k n (λ q. absurd (omega (arith, q, later, l, g.0))) in
+          let i = is_apart k n (λ q. absurd (omega (arith, q, later, l, case.0))) in
           let b = f n (λ q. absurd (omega (arith, q, later, l, s))) in
           let c = z n in
           omega (arith, a, i, b, c);

@@ -11,6 +11,7 @@ use Rattle.pt_session.specs.Change.{Change}
 use Rattle.pt_session.specs.Tables.{Tables, empty_tables}
 use Rattle.pt_session.specs.declared.form.Negotiated.{Negotiated}
 use Rattle.pt_session.specs.Happens.{Happens, new_row, with_row, agreed}
+use Rattle.pt_session.proofs.Cases.{Case, cases}
 use Rattle.pt_session.specs.declared.event.KeptEvent.TheVariants as change
 use Rattle.pt_session.specs.declared.reply.EventReply.{EventReply}
 use Rattle.pt_session.specs.declared.reply.EventRefusal.TheVariants.{Overtaken}
@@ -50,34 +51,38 @@ abbrev IsClearing : Option Deed → ActReply → Type 0
 IsClearing (Some (Changes change.Clear)) (Event (event.Cleared era closings)) = Unit {0}
 IsClearing deed told = ⊥
 
+era_by : (t : Tables) (e : Change) (r : EventReply) (after : Tables) → Case t e r after →
+    (IsClearing (Some (Changes e)) (Event r) → ⊥) → after.era ≡ t.era
+era_by t change.Begin (event.Began era negotiated) after h n = ap (λ (z : Tables). z.era) h.2
+era_by t (change.Resolve number) (event.Resolved serial form ids mode) after h n = ap (λ (z : Tables). z.era) h.7.2
+era_by t (change.Unpin serial) (event.Done closings) after h n = unpins era_of no_rows t serial closings after h
+era_by t (change.Claim era handle ids) (event.Claimed number) after h n = ap (λ (z : Tables). z.era) h.1.4.2
+era_by t (change.Claim era handle ids) event.Absent after h n = ap (λ (z : Tables). z.era) h.2
+era_by t change.TakeFd event.Taken after h n = ap (λ (z : Tables). z.era) h.2
+era_by t change.GiveFd event.Given after h n = ap (λ (z : Tables). z.era) h.1
+era_by t change.DrawNode (event.Drawn number) after h n = ap (λ (z : Tables). z.era) h.2
+era_by t (change.Insert era number form ids mode) (event.Inserted given) after h n = ap (λ (z : Tables). z.era) h.4
+era_by t (change.Insert era number form ids mode) (event.Found given) after h n = ap (λ (z : Tables). z.era) h.1.4.2
+era_by t (change.InsertRoot era form ids mode negotiated) (event.Inserted given) after h n =
+    ap (λ (z : Tables). z.era) h.4 ∙ said negotiated (with_row t (new_row t 1 form ids mode 2))
+era_by t (change.Forget list) (event.Done closings) after h n = forgets_all era_of no_rows t list closings after h
+era_by t (change.GiveBack era number) (event.Done closings) after h n =
+    forgets_one era_of no_rows t number 1 closings after h.2
+era_by t change.DrawHandle (event.Drawn handle) after h n = ap (λ (z : Tables). z.era) h.2
+era_by t (change.InsertHandle era handle number fd) (event.Inserted given) after h n = ap (λ (z : Tables). z.era) h.4
+era_by t (change.PinHandle handle number) (event.Pinned serial fd) after h n = ap (λ (z : Tables). z.era) h.5.2
+era_by t (change.UnpinHandle serial) (event.Done closings) after h n =
+    unpins_handle era_of no_handles t serial closings after h
+era_by t (change.Release handle number) (event.Done closings) after h n =
+    handle_dies era_of no_handles t h.0 closings after h.2
+era_by t change.Clear (event.Cleared era closings) after h n = absurd (n tt)
+era_by t change.TakeClosing (event.Closing fd slot) after h n = ap (λ (z : Tables). z.era) h.2
+era_by t e (event.Refused why) after h n = ap (λ (z : Tables). z.era) h.1
+era_by t _ _ after h n = absurd h
+
 era_event : (t : Tables) (e : Change) (r : EventReply) (after : Tables) → Happens t e r after →
     (IsClearing (Some (Changes e)) (Event r) → ⊥) → after.era ≡ t.era
-era_event t change.Begin (event.Began era negotiated) after h n = ap (λ (z : Tables). z.era) h.2
-era_event t (change.Resolve number) (event.Resolved serial form ids mode) after h n = ap (λ (z : Tables). z.era) h.7.2
-era_event t (change.Unpin serial) (event.Done closings) after h n = unpins era_of no_rows t serial closings after h
-era_event t (change.Claim era handle ids) (event.Claimed number) after h n = ap (λ (z : Tables). z.era) h.1.4.2
-era_event t (change.Claim era handle ids) event.Absent after h n = ap (λ (z : Tables). z.era) h.2
-era_event t change.TakeFd event.Taken after h n = ap (λ (z : Tables). z.era) h.2
-era_event t change.GiveFd event.Given after h n = ap (λ (z : Tables). z.era) h.1
-era_event t change.DrawNode (event.Drawn number) after h n = ap (λ (z : Tables). z.era) h.2
-era_event t (change.Insert era number form ids mode) (event.Inserted given) after h n = ap (λ (z : Tables). z.era) h.4
-era_event t (change.Insert era number form ids mode) (event.Found given) after h n = ap (λ (z : Tables). z.era) h.1.4.2
-era_event t (change.InsertRoot era form ids mode negotiated) (event.Inserted given) after h n =
-    ap (λ (z : Tables). z.era) h.4 ∙ said negotiated (with_row t (new_row t 1 form ids mode 2))
-era_event t (change.Forget list) (event.Done closings) after h n = forgets_all era_of no_rows t list closings after h
-era_event t (change.GiveBack era number) (event.Done closings) after h n =
-    forgets_one era_of no_rows t number 1 closings after h.2
-era_event t change.DrawHandle (event.Drawn handle) after h n = ap (λ (z : Tables). z.era) h.2
-era_event t (change.InsertHandle era handle number fd) (event.Inserted given) after h n = ap (λ (z : Tables). z.era) h.4
-era_event t (change.PinHandle handle number) (event.Pinned serial fd) after h n = ap (λ (z : Tables). z.era) h.5.2
-era_event t (change.UnpinHandle serial) (event.Done closings) after h n =
-    unpins_handle era_of no_handles t serial closings after h
-era_event t (change.Release handle number) (event.Done closings) after h n =
-    handle_dies era_of no_handles t h.0 closings after h.2
-era_event t change.Clear (event.Cleared era closings) after h n = absurd (n tt)
-era_event t change.TakeClosing (event.Closing fd slot) after h n = ap (λ (z : Tables). z.era) h.2
-era_event t e (event.Refused why) after h n = ap (λ (z : Tables). z.era) (refused_stays t after e why h)
-era_event t _ _ after h n = absurd h
+era_event t e r after h n = era_by t e r after (cases t after e r h) n
 
 era_step : (t : Tables) (deed : Option Deed) (told : ActReply) (after : Tables) → TablesGo t deed told after →
     (IsClearing deed told → ⊥) → after.era ≡ t.era
@@ -144,9 +149,11 @@ own_event : (j : ℕ) (t t' : Tables) (job after : Job) (turns turns' : List Tur
     Happens t e r t' → MovesBy job (Changes e) (Event r) after → (IsOvertaken j turns → IsOvertaken j turns') →
     Right j turns t job → (era : ℕ) → after.notes.era ≡ Some era → (era ≡ t'.era) ⊎ IsOvertaken j turns'
 own_event j t t' job after turns turns' change.Begin (event.Began was negotiated) h m f k era q =
-    inl (some_same (sym q ∙ ap (λ (z : Notes). z.era) m.3) ∙ h.0 ∙ sym (ap (λ (z : Tables). z.era) h.2))
+    let case = cases t t' change.Begin (event.Began was negotiated) h in
+    inl (some_same (sym q ∙ ap (λ (z : Notes). z.era) m.3) ∙ case.0 ∙ sym (ap (λ (z : Tables). z.era) case.2))
 own_event j t t' job after turns turns' change.Clear (event.Cleared was closings) h m f k era q =
-    inl (some_same (sym q ∙ ap (λ (z : Notes). z.era) m.3) ∙ sym (ap (λ (z : Tables). z.era) h.1.8))
+    let case = cases t t' change.Clear (event.Cleared was closings) h in
+    inl (some_same (sym q ∙ ap (λ (z : Notes). z.era) m.3) ∙ case.2 ∙ sym (ap (λ (z : Tables). z.era) case.1.7))
 own_event j t t' job after turns turns' (change.Resolve number) (event.Resolved serial form ids mode) h m f k era q =
     unmoved j t t' job after turns turns' (ap (λ (z : Notes). z.era) m.3)
     (era_event t (change.Resolve number) (event.Resolved serial form ids mode) t' h (λ c. c)) f k era q
@@ -206,6 +213,8 @@ other_step j t t' turns owner (Some (Changes change.Clear)) (Event (event.Cleare
     })
 other_step j t t' turns owner (Some (Changes change.Clear)) (Event (event.Refused why)) g n b era e =
     inl (e ∙ sym (era_step t (Some (Changes change.Clear)) (Event (event.Refused why)) t' g (λ c. c)))
+other_step j t t' turns owner (Some (Changes change.Clear)) (Event told) g n b era e =
+    absurd (cases t t' change.Clear told g)
 other_step j t t' turns owner (Some (Changes change.Clear)) told g n b era e = absurd g
 other_step j t t' turns owner deed told g n b era e = inl (e ∙ sym (era_step t deed told t' g (λ c. c)))
 
@@ -252,13 +261,16 @@ right_runs bound past (s ∷ ss) t last js ends r lt k d j l =
 asked_era : (t t' : Tables) (job after : Job) (deed : Option Deed) (told : ActReply) → TablesGo t deed told t' →
     MovesIf job deed told after → TellsOvertaken deed told → (era : ℕ) × (job.notes.era ≡ Some era) × (era ≢ t.era)
 asked_era t t' job after (Some (Changes (change.Claim era handle ids))) (Event (event.Refused Overtaken)) g m o =
-    (era, m.1.1, g.0)
+    (era, m.1.1, (cases t t' (change.Claim era handle ids) (event.Refused Overtaken) g).2)
 asked_era t t' job after (Some (Changes (change.Insert era number form ids mode)))
-    (Event (event.Refused Overtaken)) g m o = (era, m.1.0, g.0)
+    (Event (event.Refused Overtaken)) g m o =
+    (era, m.1.0, (cases t t' (change.Insert era number form ids mode) (event.Refused Overtaken) g).2)
 asked_era t t' job after (Some (Changes (change.InsertRoot era form ids mode negotiated)))
-    (Event (event.Refused Overtaken)) g m o = (era, m.1.0, g.0)
+    (Event (event.Refused Overtaken)) g m o =
+    (era, m.1.0, (cases t t' (change.InsertRoot era form ids mode negotiated) (event.Refused Overtaken) g).2)
 asked_era t t' job after (Some (Changes (change.InsertHandle era handle number fd)))
-    (Event (event.Refused Overtaken)) g m o = (era, m.1.1, g.0)
+    (Event (event.Refused Overtaken)) g m o =
+    (era, m.1.1, (cases t t' (change.InsertHandle era handle number fd) (event.Refused Overtaken) g).2)
 asked_era t t' job after deed told g m o = absurd o
 
 pub overtaken_law : (limit bound : ℕ) (turns : List Turn) (turn : Turn) (more : List Turn) (now next : Tables) →
@@ -311,32 +323,36 @@ noted_steps job after (step ∷ steps) era d q =
 begun_era : (t t' : Tables) (job after : Job) (deed : Option Deed) (told : ActReply) → IsBeginning deed told →
     TablesGo t deed told t' → MovesIf job deed told after → after.notes.era ≡ Some t'.era
 begun_era t t' job after (Some (Changes change.Begin)) (Event (event.Began was negotiated)) b g m =
-    ap (λ (z : Notes). z.era) m.3 ∙ ap Some (g.0 ∙ sym (ap (λ (z : Tables). z.era) g.2))
+    let h = cases t t' change.Begin (event.Began was negotiated) g in
+    ap (λ (z : Notes). z.era) m.3 ∙ ap Some (h.0 ∙ sym (ap (λ (z : Tables). z.era) h.2))
 begun_era t t' job after (Some (Changes change.Clear)) (Event (event.Cleared was closings)) b g m =
-    ap (λ (z : Notes). z.era) m.3 ∙ ap Some (sym (ap (λ (z : Tables). z.era) g.1.8))
+    let h = cases t t' change.Clear (event.Cleared was closings) g in
+    ap (λ (z : Notes). z.era) m.3 ∙ ap Some (h.2 ∙ sym (ap (λ (z : Tables). z.era) h.1.7))
 begun_era t t' job after deed told b g m = absurd b
 
 -- what is given is asked for in the era of the tables
 given_era : (t t' : Tables) (job after : Job) (deed : Option Deed) (told : ActReply) → TablesGo t deed told t' →
     MovesIf job deed told after → TellsGiven deed told → job.notes.era ≡ Some t.era
 given_era t t' job after (Some (Changes (change.Claim era handle ids))) (Event (event.Claimed number)) g m o =
-    m.1.1 ∙ ap Some g.0
+    m.1.1 ∙ ap Some (cases t t' (change.Claim era handle ids) (event.Claimed number) g).0
 given_era t t' job after (Some (Changes (change.Insert era number form ids mode))) (Event (event.Inserted given)) g m o =
-    m.1.0 ∙ ap Some g.0
+    m.1.0 ∙ ap Some (cases t t' (change.Insert era number form ids mode) (event.Inserted given) g).0
 given_era t t' job after (Some (Changes (change.Insert era number form ids mode))) (Event (event.Found given)) g m o =
-    m.1.0 ∙ ap Some g.0
+    m.1.0 ∙ ap Some (cases t t' (change.Insert era number form ids mode) (event.Found given) g).0
 given_era t t' job after (Some (Changes (change.InsertRoot era form ids mode negotiated)))
-    (Event (event.Inserted given)) g m o = m.1.0 ∙ ap Some g.0
+    (Event (event.Inserted given)) g m o =
+    m.1.0 ∙ ap Some (cases t t' (change.InsertRoot era form ids mode negotiated) (event.Inserted given) g).0
 given_era t t' job after (Some (Changes (change.InsertHandle era handle number fd)))
-    (Event (event.Inserted given)) g m o = m.1.1 ∙ ap Some g.0
+    (Event (event.Inserted given)) g m o =
+    m.1.1 ∙ ap Some (cases t t' (change.InsertHandle era handle number fd) (event.Inserted given) g).0
 given_era t t' job after deed told g m o = absurd o
 
 cleared_later : (t t' : Tables) (step : Step) (era closings : ℕ) →
     step ≡ record { deed = Some (Changes change.Clear); reply = Event (event.Cleared era closings) } →
     TablesGo t step.deed step.reply t' → t'.era ≡ t.era + 1
 cleared_later t t' step era closings e g =
-    let h = subst (λ (s : Step). TablesGo t s.deed s.reply t') e g in
-    ap (λ (z : Tables). z.era) h.1.8 ∙ h.1.7
+    let h = cases t t' change.Clear (event.Cleared era closings) (subst (λ (s : Step). TablesGo t s.deed s.reply t') e g) in
+    ap (λ (z : Tables). z.era) h.1.7
 
 begins_where : (first : Step) (rest more : List Step) (last : Step) → BeginsFirst (first ∷ (rest ++ last ∷ more)) →
     IsBeginning first.deed first.reply

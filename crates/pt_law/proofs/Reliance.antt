@@ -12,7 +12,9 @@ use Rattle.pt_session.specs.Change.{Change}
 use Rattle.pt_session.specs.Tables.{Tables, HasNumber, AreApart, IsSoundRow, Agree, empty_tables}
 use Rattle.pt_session.specs.declared.row.Row.{Row}
 use Rattle.pt_session.specs.declared.row.HandleRow.{HandleRow}
-use Rattle.pt_session.specs.Happens.{Happens, Changes as RowChanges, Dies, ForgetsOne, NoRow}
+use Rattle.pt_session.specs.Rows.{ChangesRow, number_rows, Dies, NoRow}
+use Rattle.pt_session.specs.Happens.{Happens, ForgetsOne}
+use Rattle.pt_session.proofs.Cases.{Case, cases}
 use Rattle.pt_session.specs.declared.event.KeptEvent.TheVariants as change
 use Rattle.pt_session.specs.declared.reply.EventReply.{EventReply}
 use Rattle.pt_session.specs.declared.reply.EventReply.TheVariants as event
@@ -44,10 +46,12 @@ settled_number : (past : Past) (t t' : Tables) (j : ℕ) (deed : Option Deed) (t
 settled_number past t t' j None told tree n l g = refl
 settled_number past t t' j (Some (Changes (change.Insert era number form ids mode)))
     (Event (event.Inserted given)) tree n l g =
-    set_at_other past.numbers given (past.latest j) n (not_live_twice n number given t l g.1.1 g.3)
+    let case = cases t t' (change.Insert era number form ids mode) (event.Inserted given) g in
+    set_at_other past.numbers given (past.latest j) n (not_live_twice n number given t l case.1.1 case.3)
 settled_number past t t' j (Some (Changes (change.InsertRoot era form ids mode agreed)))
     (Event (event.Inserted given)) tree n l g =
-    set_at_other past.numbers given (past.roots j) n (not_live_twice n 1 given t l g.1.1 g.3)
+    let case = cases t t' (change.InsertRoot era form ids mode agreed) (event.Inserted given) g in
+    set_at_other past.numbers given (past.roots j) n (not_live_twice n 1 given t l case.1.1 case.3)
 settled_number past t t' j (Some (Changes (change.InsertHandle era handle number fd)))
     (Event (event.Inserted given)) tree n l g = refl
 settled_number past t t' j (Some (Changes (change.Resolve number)))
@@ -127,25 +131,29 @@ handles_stay_law before after list closings h =
       changed = λ t rows. refl;
       ended =
           λ t rows closing. refl;
-    }) before list closings after h
+    }) before list closings after (cases before after (change.Forget list) (event.Done closings) h)
 
 -- a number that is not live comes by an insertion alone
+comes_case : (n : ℕ) (t : Tables) (e : Change) (r : EventReply) (t' : Tables) → NoRow t (HasNumber n) →
+    Case t e r t' → given_by n 0 (Changes e) (Event r) ≤ 2 * inserted_as n (Changes e) (Event r)
+comes_case n t (change.InsertRoot era form ids mode negotiated) (event.Inserted given) t' z h = omega arith
+comes_case n t (change.Insert era number form ids mode) (event.Inserted given) t' z h = omega arith
+comes_case n t (change.Insert era number form ids mode) (event.Found given) t' z h =
+    let g = h.1 in
+    let a = is_apart given n (λ e. each_replaced (λ row. HasNumber n row → ⊥) g.4.1 z (g.1.0, g.2 ∙ e)) in
+    omega (arith, a)
+comes_case n t (change.Claim era handle ids) (event.Claimed given) t' z h =
+    let g = h.1 in
+    let a = is_apart given n (λ e. each_replaced (λ row. HasNumber n row → ⊥) g.4.1 z (g.1.0, g.2 ∙ e)) in
+    omega (arith, a)
+comes_case n t (change.Forget list) (event.Done closings) t' z h = let a = forgotten_less n 0 list in omega (arith, a)
+comes_case n t (change.GiveBack era given) (event.Done closings) t' z h = omega arith
+comes_case n t change.Clear (event.Cleared era closings) t' z h = omega arith
+comes_case n t e r t' z h = omega arith
+
 comes_by : (n : ℕ) (t : Tables) (e : Change) (r : EventReply) (t' : Tables) → NoRow t (HasNumber n) →
     Happens t e r t' → given_by n 0 (Changes e) (Event r) ≤ 2 * inserted_as n (Changes e) (Event r)
-comes_by n t (change.InsertRoot era form ids mode negotiated) (event.Inserted given) t' z h = omega arith
-comes_by n t (change.Insert era number form ids mode) (event.Inserted given) t' z h = omega arith
-comes_by n t (change.Insert era number form ids mode) (event.Found given) t' z h =
-    let g = h.1 in
-    let a = is_apart given n (λ e. each_replaced (λ row. HasNumber n row → ⊥) g.4.1 z (g.1.0, g.2 ∙ e)) in
-    omega (arith, a)
-comes_by n t (change.Claim era handle ids) (event.Claimed given) t' z h =
-    let g = h.1 in
-    let a = is_apart given n (λ e. each_replaced (λ row. HasNumber n row → ⊥) g.4.1 z (g.1.0, g.2 ∙ e)) in
-    omega (arith, a)
-comes_by n t (change.Forget list) (event.Done closings) t' z h = let a = forgotten_less n 0 list in omega (arith, a)
-comes_by n t (change.GiveBack era given) (event.Done closings) t' z h = omega arith
-comes_by n t change.Clear (event.Cleared era closings) t' z h = omega arith
-comes_by n t e r t' z h = omega arith
+comes_by n t e r t' z h = comes_case n t e r t' z (cases t t' e r h)
 
 comes_step : (n : ℕ) (t : Tables) (deed : Option Deed) (told : ActReply) (t' : Tables) → Agree t →
     NoRow t (HasNumber n) → live_count n t ≡ 0 → TablesGo t deed told t' → inserted_if n deed told ≡ 0 →
@@ -190,11 +198,8 @@ never_again_law limit bound turns later more was now n ne d r k some none =
 
 pub refused_law : (before after : Tables) (number : ℕ) (told : EventReply) → NoRow before (HasNumber number) →
     Happens before (change.Resolve number) told after → (told ≡ event.Refused NotLive) × (after ≡ before)
-refused_law before after n (event.Resolved serial form ids mode) z h =
-    absurd (each_replaced (λ row. HasNumber n row → ⊥) h.7.1 z h.1)
-refused_law before after n (event.Refused NotLive) z h = (refl, h.1)
-refused_law before after n (event.Refused Last) z h = absurd (each_taken (λ row. HasNumber n row → ⊥) h.1.1 z h.2)
-refused_law before after n told z h = absurd h
+refused_law before after n told z (inl none) = none.1
+refused_law before after n told z (inr found) = absurd (each_taken (λ row. HasNumber n row → ⊥) found.1.1 z found.2)
 
 -- a row in place of itself
 same_rows : {row : Row} {rows rows' : List Row} → Replaces row row rows rows' → rows' ≡ rows
@@ -202,12 +207,13 @@ same_rows replaced_here = refl
 same_rows (replaced_past {z = z} c) = ap (λ x. z ∷ x) (same_rows c)
 
 changes_nothing : (t : Tables) (row : Row) (k : ℕ) (after : Tables) → k ≡ row.count →
-    RowChanges t row (record row { count = k }) after → after ≡ t
+    ChangesRow number_rows t row (record row { count = k }) after → after ≡ t
 changes_nothing t row k after e c =
     let same : c.0 ≡ t.rows = same_rows (subst (λ x. Replaces row (record row { count = x }) t.rows c.0) e c.1) in
     c.2 ∙ ap (λ rows. record t { rows = rows }) same
 
-died : (t : Tables) (row : Row) (c : ℕ) (after : Tables) (P : Row → Type 0) → Dies t row c after → Each P t.rows → P row
+died : (t : Tables) (row : Row) (c : ℕ) (after : Tables) (P : Row → Type 0) → Dies number_rows t row c after → Each P
+    t.rows → P row
 died t row c after P (inl h) p = each_taken P h.2.1 p
 died t row c after P (inr h) p = each_replaced P h.2.1 p
 
@@ -228,7 +234,8 @@ nothing_one t n k c after (inr zero) a (inr (row, has, inr h)) =
 pub forgotten_nothing_law : (before after : Tables) (number amount : ℕ) (told : EventReply) → Agree before →
     NoRow before (HasNumber number) ⊎ (amount ≡ 0) →
     Happens before (change.Forget ((number, amount) ∷ [])) told after → (told ≡ event.Done 0) × (after ≡ before)
-forgotten_nothing_law before after n k (event.Done closings) a why h =
-    let one = nothing_one before n k h.1 h.0 why a h.3 in
-    (ap event.Done (h.5 ∙ (let x = one.0 in let y = h.4.0 in omega (arith, x, y))), h.4.1 ∙ one.1)
-forgotten_nothing_law before after n k told a why h = absurd h
+forgotten_nothing_law before after n k told a why h =
+    let all = h.2 in
+    let one = nothing_one before n k all.1 all.0 why a all.3 in
+    let none : h.0 ≡ 0 = let x = one.0 in let y = all.4.0 in omega (arith, x, y, all.5) in
+    (h.1 ∙ ap event.Done none, all.4.1 ∙ one.1)

@@ -6,12 +6,13 @@ use Rattle.pt_host.specs.Words.{is, total, Each, Takes, Takes.{here, there}}
 use Rattle.pt_session.specs.Change.{Change}
 use Rattle.pt_session.specs.Tables.{Tables, HasHandle, empty_tables}
 use Rattle.pt_session.specs.declared.row.HandleRow.{HandleRow}
-use Rattle.pt_session.specs.Happens.{Happens, HandleDies, UnpinsHandle, new_row, with_row, agreed}
+use Rattle.pt_session.specs.Rows.{Dies, handle_rows}
+use Rattle.pt_session.specs.Happens.{Happens, new_row, with_row, agreed}
+use Rattle.pt_session.proofs.Cases.{GivesPin, Case, cases}
 use Rattle.pt_session.specs.declared.form.Negotiated.{Negotiated}
 use Rattle.pt_session.specs.declared.event.KeptEvent.TheVariants as change
 use Rattle.pt_session.specs.declared.reply.EventReply.{EventReply}
 use Rattle.pt_session.specs.declared.reply.EventReply.TheVariants as event
-use Rattle.pt_session.proofs.Replies.{refused_stays}
 use Rattle.pt_session.proofs.Dying.{clears}
 use Rattle.pt_frame.specs.Deed.{Deed, Calls, Changes as Asks}
 use Rattle.pt_frame.specs.declared.act.ActReply.{ActReply}
@@ -81,7 +82,7 @@ said n (Some x) t = refl
 
 -- a live handle's row ends or dies
 releases : (n handle : ℕ) (t : Tables) (row : HandleRow) (c : ℕ) (after : Tables) → row.live ≡ true →
-    row.handle ≡ handle → HandleDies t row c after → live_handles n after ≡ live_handles n t - is handle n
+    row.handle ≡ handle → Dies handle_rows t row c after → live_handles n after ≡ live_handles n t - is handle n
 releases n handle t row c after l e (inl h) = rw h.2.2 (
     let a = total_takes (handle_in n) h.2.1 in
     let b = in_live n row l in
@@ -93,7 +94,7 @@ releases n handle t row c after l e (inr h) = rw h.2.2 (
     let d = ap (λ i. is i n) e in
     omega (arith, a, b, d))
 
-unpins_handle : (n : ℕ) (t : Tables) (serial c : ℕ) (after : Tables) → UnpinsHandle t serial c after →
+unpins_handle : (n : ℕ) (t : Tables) (serial c : ℕ) (after : Tables) → GivesPin handle_rows t serial c after →
     live_handles n after ≡ live_handles n t
 unpins_handle n t serial c after (row, pins, s, p, inl h) = let k = h.3 in
     rw k.2 (let a = total_takes (handle_in n) k.1 in let b = in_dead n row h.0 in omega (arith, a, b))
@@ -108,38 +109,42 @@ no_live n (row ∷ rows) h =
     let b = no_live n rows h.1 in
     omega (arith, a, b)
 
+stands_by : (n : ℕ) (t : Tables) (e : Change) (r : EventReply) (after : Tables) → Case t e r after →
+    live_handles n after ≡ standing_by n (live_handles n t) (Asks e) (Event r)
+stands_by n t change.Begin (event.Began era negotiated) after h = ap (live_handles n) h.2
+stands_by n t (change.Resolve number) (event.Resolved serial form ids mode) after h = ap (live_handles n) h.7.2
+stands_by n t (change.Unpin serial) (event.Done closings) after h =
+    unpins (live_handles n) (no_numbers n) t serial closings after h
+stands_by n t (change.Claim era handle ids) (event.Claimed number) after h = ap (live_handles n) h.1.4.2
+stands_by n t (change.Claim era handle ids) event.Absent after h = ap (live_handles n) h.2
+stands_by n t change.TakeFd event.Taken after h = ap (live_handles n) h.2
+stands_by n t change.GiveFd event.Given after h = ap (live_handles n) h.1
+stands_by n t change.DrawNode (event.Drawn number) after h = ap (live_handles n) h.2
+stands_by n t (change.Insert era number form ids mode) (event.Inserted given) after h = ap (live_handles n) h.4
+stands_by n t (change.Insert era number form ids mode) (event.Found given) after h = ap (live_handles n) h.1.4.2
+stands_by n t (change.InsertRoot era form ids mode negotiated) (event.Inserted given) after h =
+    ap (live_handles n) h.4 ∙ said n negotiated (with_row t (new_row t 1 form ids mode 2))
+stands_by n t (change.Forget list) (event.Done closings) after h =
+    forgets_all (live_handles n) (no_numbers n) t list closings after h
+stands_by n t (change.GiveBack era number) (event.Done closings) after h =
+    forgets_one (live_handles n) (no_numbers n) t number 1 closings after h.2
+stands_by n t change.DrawHandle (event.Drawn handle) after h = ap (live_handles n) h.2
+stands_by n t (change.InsertHandle era handle number fd) (event.Inserted given) after h =
+    rw h.4 (let e = ap (λ i. is i n) h.3 in omega (arith, e))
+stands_by n t (change.PinHandle handle number) (event.Pinned serial fd) after h = let k = h.5 in
+    rw k.2 (let a = total_replaces (handle_in n) k.1 in omega (arith, a))
+stands_by n t (change.UnpinHandle serial) (event.Done closings) after h = unpins_handle n t serial closings after h
+stands_by n t (change.Release handle number) (event.Done closings) after h =
+    releases n handle t h.0 closings after h.1.0 h.1.1 h.2
+stands_by n t change.Clear (event.Cleared era closings) after h =
+    no_live n after.handles (clears t after closings h.1).handles
+stands_by n t change.TakeClosing (event.Closing fd slot) after h = ap (live_handles n) h.2
+stands_by n t e (event.Refused why) after h = ap (live_handles n) h.1
+stands_by n t _ _ after h = absurd h
+
 stands_event : (n : ℕ) (t : Tables) (e : Change) (r : EventReply) (after : Tables) → Happens t e r after →
     live_handles n after ≡ standing_by n (live_handles n t) (Asks e) (Event r)
-stands_event n t change.Begin (event.Began era negotiated) after h = ap (live_handles n) h.2
-stands_event n t (change.Resolve number) (event.Resolved serial form ids mode) after h = ap (live_handles n) h.7.2
-stands_event n t (change.Unpin serial) (event.Done closings) after h =
-    unpins (live_handles n) (no_numbers n) t serial closings after h
-stands_event n t (change.Claim era handle ids) (event.Claimed number) after h = ap (live_handles n) h.1.4.2
-stands_event n t (change.Claim era handle ids) event.Absent after h = ap (live_handles n) h.2
-stands_event n t change.TakeFd event.Taken after h = ap (live_handles n) h.2
-stands_event n t change.GiveFd event.Given after h = ap (live_handles n) h.1
-stands_event n t change.DrawNode (event.Drawn number) after h = ap (live_handles n) h.2
-stands_event n t (change.Insert era number form ids mode) (event.Inserted given) after h = ap (live_handles n) h.4
-stands_event n t (change.Insert era number form ids mode) (event.Found given) after h = ap (live_handles n) h.1.4.2
-stands_event n t (change.InsertRoot era form ids mode negotiated) (event.Inserted given) after h =
-    ap (live_handles n) h.4 ∙ said n negotiated (with_row t (new_row t 1 form ids mode 2))
-stands_event n t (change.Forget list) (event.Done closings) after h =
-    forgets_all (live_handles n) (no_numbers n) t list closings after h
-stands_event n t (change.GiveBack era number) (event.Done closings) after h =
-    forgets_one (live_handles n) (no_numbers n) t number 1 closings after h.2
-stands_event n t change.DrawHandle (event.Drawn handle) after h = ap (live_handles n) h.2
-stands_event n t (change.InsertHandle era handle number fd) (event.Inserted given) after h =
-    rw h.4 (let e = ap (λ i. is i n) h.3 in omega (arith, e))
-stands_event n t (change.PinHandle handle number) (event.Pinned serial fd) after h = let k = h.5 in
-    rw k.2 (let a = total_replaces (handle_in n) k.1 in omega (arith, a))
-stands_event n t (change.UnpinHandle serial) (event.Done closings) after h = unpins_handle n t serial closings after h
-stands_event n t (change.Release handle number) (event.Done closings) after h =
-    releases n handle t h.0 closings after h.1.0 h.1.1 h.2
-stands_event n t change.Clear (event.Cleared era closings) after h =
-    no_live n after.handles (clears t after era closings h.1).handles
-stands_event n t change.TakeClosing (event.Closing fd slot) after h = ap (live_handles n) h.2
-stands_event n t e (event.Refused why) after h = ap (live_handles n) (refused_stays t after e why h)
-stands_event n t _ _ after h = absurd h
+stands_event n t e r after h = stands_by n t e r after (cases t after e r h)
 
 stands_step : (n : ℕ) (t : Tables) (deed : Option Deed) (told : ActReply) (after : Tables) →
     TablesGo t deed told after → live_handles n after ≡ standing_if n (live_handles n t) deed told

@@ -20,6 +20,7 @@ use Rattle.pt_host.specs.declared.reply.HostValue.TheVariants as value
 use Rattle.pt_session.specs.Change.{Change}
 use Rattle.pt_session.specs.Tables.{Tables, Agree}
 use Rattle.pt_session.specs.Happens.{Happens}
+use Rattle.pt_session.proofs.Cases.{Case, cases}
 use Rattle.pt_session.specs.declared.event.KeptEvent.TheVariants as change
 use Rattle.pt_session.specs.declared.reply.EventReply.{EventReply}
 use Rattle.pt_session.specs.declared.reply.EventReply.TheVariants as event
@@ -96,20 +97,24 @@ abbrev pub HasFlows : Option Deed → ActReply → Type 0
 HasFlows None told = slot_taken told ≡ 0
 HasFlows (Some deed) told = (slot_in deed told ≡ slot_given deed told) × (slot_out deed told ≡ slot_taken told)
 
+flows_by : (t : Tables) (e : Change) (r : EventReply) (t' : Tables) → Case t e r t' →
+    IsHonest (Changes e) (Event r) → HasFlows (Some (Changes e)) (Event r)
+flows_by t change.TakeFd event.Taken t' h a = (refl, refl)
+flows_by t change.GiveFd event.Given t' h a = (refl, refl)
+flows_by t change.GiveFd (event.Refused why) t' h a = absurd a
+flows_by t (change.Insert era number form ids mode) (event.Inserted given) t' h a = (refl, refl)
+flows_by t (change.InsertRoot era form ids mode negotiated) (event.Inserted given) t' h a = (refl, refl)
+flows_by t (change.InsertHandle era handle number fd) (event.Inserted given) t' h a = (refl, refl)
+flows_by t change.TakeClosing (event.Closing fd slot) t' h a = (refl, refl)
+flows_by t change.GiveFd _ t' h a = absurd h
+flows_by t _ event.Taken t' h a = absurd h
+flows_by t _ event.Given t' h a = absurd h
+flows_by t _ (event.Closing fd slot) t' h a = absurd h
+flows_by t _ _ t' h a = (refl, refl)
+
 event_flows : (t : Tables) (e : Change) (r : EventReply) (t' : Tables) → Happens t e r t' →
     IsHonest (Changes e) (Event r) → HasFlows (Some (Changes e)) (Event r)
-event_flows t change.TakeFd event.Taken t' h a = (refl, refl)
-event_flows t change.GiveFd event.Given t' h a = (refl, refl)
-event_flows t change.GiveFd (event.Refused why) t' h a = absurd a
-event_flows t (change.Insert era number form ids mode) (event.Inserted given) t' h a = (refl, refl)
-event_flows t (change.InsertRoot era form ids mode negotiated) (event.Inserted given) t' h a = (refl, refl)
-event_flows t (change.InsertHandle era handle number fd) (event.Inserted given) t' h a = (refl, refl)
-event_flows t change.TakeClosing (event.Closing fd slot) t' h a = (refl, refl)
-event_flows t change.GiveFd _ t' h a = absurd h
-event_flows t _ event.Taken t' h a = absurd h
-event_flows t _ event.Given t' h a = absurd h
-event_flows t _ (event.Closing fd slot) t' h a = absurd h
-event_flows t _ _ t' h a = (refl, refl)
+event_flows t e r t' h a = flows_by t e r t' (cases t t' e r h) a
 
 pub has_flows : (bound : ℕ) (had : ℕ → ℕ) (t : Tables) (js : ℕ →
     Job) (j : ℕ) (deed : Option Deed) (told : ActReply) (t' : Tables) (after : Job) → j < bound →
@@ -192,7 +197,8 @@ keeps_event : (bound : ℕ) (base had : ℕ → ℕ) (w : World) (js : ℕ →
 keeps_event bound base had w js j e r t' after lt v h m =
     let a = v.tabled.agree in
     let later = settled_by w.past j (Changes e) (Event r) w.tables.next_row w.tree in
-    let g = grows w.tree w.past w.tables j e r t' a h in
+    let case = cases w.tables t' e r h in
+    let g = grows w.tree w.past w.tables j e r t' a case in
     record {
       tabled = keeps_tabled bound had w.tables js j (Some (Changes e)) (Event r) t' after lt v.tabled h m;
       well = v.well;
@@ -203,10 +209,11 @@ keeps_event bound base had w js j e r t' after lt v h m =
           let s = sum_to_set (λ (k : Job). total (fd_held fd) k.holds) js j after bound lt in
           omega (arith, x, y, z, s);
       right = record {
-        handled = handles_event w.tree w.past w.tables j (js j) after e r t' a h m (v.right.knows j lt) v.right.handled;
-        shown = rows_event w.tree w.past w.tables j (js j) after e r t' a h m (v.right.knows j lt) v.right.shown;
+        handled = handles_event w.tree w.past w.tables j (js j) after e r t' a case m (v.right.knows j lt)
+            v.right.handled;
+        shown = rows_event w.tree w.past w.tables j (js j) after e r t' a case m (v.right.knows j lt) v.right.shown;
         knows = λ i less. at_each (Knowing w.tree t'.next_row later) js j after i
-            (knows_event w.tree w.past w.tables j (js j) after e r t' a h m v.right.shown v.right.handled
+            (knows_event w.tree w.past w.tables j (js j) after e r t' a case m v.right.shown v.right.handled
             (v.right.knows j lt))
             (λ other. knows_other w.tree w.past later w.tables.next_row t'.next_row i (js i) g
             (resolved_other w.past j e r w.tables.next_row w.tree i other) (v.right.knows i less));

@@ -7,7 +7,7 @@ use Rattle.pt_host.specs.Tree.{Tree, IsOpenOn, IsWellFormed}
 use Rattle.pt_session.specs.Tables.{Tables, empty_tables, HasNumber, HasHandle}
 use Rattle.pt_session.specs.declared.row.Row.{Row}
 use Rattle.pt_session.specs.declared.row.HandleRow.{HandleRow}
-use Rattle.pt_session.specs.Happens.{IsRow, NoRow, IsHandleRow, NoHandle}
+use Rattle.pt_session.specs.Rows.{IsRow, NoRow, IsHandleRow, NoHandle}
 use Rattle.pt_session.specs.declared.event.KeptEvent.TheVariants as change
 use Rattle.pt_session.specs.declared.reply.EventRefusal.TheVariants.{Overtaken}
 use Rattle.pt_session.specs.declared.reply.EventReply.TheVariants as event

@@ -5,6 +5,6 @@ mod course;
 mod runs;
 mod uses;
 
-pub use course::{any_course, steps_told};
+pub use course::{any_course, steps_seated, steps_told};
 pub use runs::{every_host, every_run, every_told_run};
 pub use uses::{forgotten_nothing, forgotten_number, one_number, two_lookups};

@@ -10,7 +10,7 @@ ghost use Rattle.pt_session.specs.Tables.{Tables, Agree, empty_tables};
 ghost use Rattle.pt_session.specs.declared.form.RowForm.{RowForm};
 ghost use Rattle.pt_session.specs.declared.row.Row.{Row};
 ghost use Rattle.pt_session.specs.declared.row.HandleRow.{HandleRow};
-ghost use Rattle.pt_session.specs.Happens.{IsRow, IsHandleRow};
+ghost use Rattle.pt_session.specs.Rows.{IsRow, IsHandleRow};
 ghost use Rattle.pt_frame.specs.Deed.{Step};
 ghost use Rattle.pt_law.specs.Told.{AllMayBeTold};
 ghost use Rattle.pt_law.specs.Branch.{AreOwn};

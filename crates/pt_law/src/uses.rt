@@ -4,7 +4,8 @@ ghost use Rattle.std.specs.Prelude.{◌≡◌, ◌≢◌, ◌⊎◌, ◌<◌, �
 ghost use Rattle.pt_host.specs.Words.{Each};
 ghost use Rattle.pt_host.specs.declared.ids.ObjIds.{ObjIds};
 ghost use Rattle.pt_session.specs.Tables.{Tables, Agree, HasNumber, empty_tables};
-ghost use Rattle.pt_session.specs.Happens.{Happens, NoRow};
+ghost use Rattle.pt_session.specs.Rows.{NoRow};
+ghost use Rattle.pt_session.specs.Happens.{Happens};
 ghost use Rattle.pt_session.specs.declared.event.KeptEvent.TheVariants as change;
 ghost use Rattle.pt_session.specs.declared.reply.EventReply.{EventReply};
 ghost use Rattle.pt_session.specs.declared.reply.EventReply.TheVariants as event;

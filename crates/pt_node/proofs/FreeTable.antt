@@ -16,7 +16,7 @@ use Rattle.std.proofs.lemmas.Map.Keys.{ge_from_not_lt}
 use Rattle.std.proofs.lemmas.List.{length_push}
 use Rattle.std.proofs.lemmas.List.Sums.{sum_by-cons, sum_by-set, sum_by_push, position_or_len_is}
 use Rattle.std.proofs.lemmas.Option.{get_or_from_slice_get, slice_get_within, slice_get-get_or}
-use Rattle.pt_node.specs.FreeNumbers.{IsTable, times, counts_as, free_weight, open_weight}
+use Rattle.pt_node.specs.FreeNumbers.{IsTable, times, counts_as, free_weight, open_weight, taken, taken_weight}
 use Rattle.pt_node.specs.Slots.{file_of, open_at, is_free, least_free, put_at}
 use Rattle.pt_node.specs.Laws.Updates.{put_before, get-set_here, get-set_apart, get-push_here, get-push_apart}
 use Rattle.pt_node.specs.declared.slots.OpenFile.{OpenFile}
@@ -97,6 +97,8 @@ popped_table slots items more capacity item file table same greatest =
     let within = slice_get_within slots item.0 Free free in
     let weights = sum_by-set open_weight slots item.0 (Open file) Reserved within in
     let was = ap open_weight (get_or_from_slice_get slots item.0 Free Reserved free) in
+    let takes = sum_by-set taken_weight slots item.0 (Open file) Reserved within in
+    let took = ap taken_weight (get_or_from_slice_get slots item.0 Free Reserved free) in
     let shorter = length_permutation items (item ∷ more) same in
     let long = length-set slots item.0 (Open file) in
     record {
@@ -116,6 +118,7 @@ popped_table slots items more capacity item file table same greatest =
                 let equal : times number more ≡ times number items = omega (arith, counted, none) in
                 equal ∙ each ∙ sym now)
           ];
+      parts = (let parts = table.parts in omega (arith, parts, takes, took, shorter, long));
       few = (let few = table.few in omega (arith, few, long));
       room = (let room = table.room in omega (arith, room, weights, was, shorter));
     }
@@ -132,6 +135,7 @@ pub grown_table : (slots : List Slot) (items : List (Reverse ℕ)) (capacity roo
 grown_table slots items capacity room file table empty few enough =
     let longer = sum_by_push open_weight slots (Open file) in
     let weights = open_weights-le slots in
+    let takes = sum_by_push taken_weight slots (Open file) in
     let none = ap length empty in
     let long = length_push slots (Open file) in
     record {
@@ -141,6 +145,7 @@ grown_table slots items capacity room file table empty few enough =
             ∙ sym (ap free_weight (ap (slice_get (slots ++ Open file ∷ [])) e.1 ∙ get-push_here slots (Open file)))
         | inr e ↦ table.each number ∙ sym (ap free_weight (get-push_apart slots (Open file) number e.1))
       ];
+      parts = (let parts = table.parts in omega (arith, parts, takes, long));
       few = omega (arith, long);
       room = omega (arith, longer, weights, none);
     }
@@ -152,6 +157,14 @@ open_weighs slots place file is =
     let weights = sum_by-set open_weight slots place Free Reserved within in
     let was = ap open_weight (get_or_from_slice_get slots place (Open file) Reserved is) in
     omega (arith, weights, was)
+
+taken_weighs : (slots : List Slot) (place : ℕ) (file : OpenFile) → slice_get slots place ≡ Some (Open file) →
+    taken (slice_set slots place Free) + 1 ≡ taken slots
+taken_weighs slots place file is =
+    let within = slice_get_within slots place (Open file) is in
+    let takes = sum_by-set taken_weight slots place Free Reserved within in
+    let took = ap taken_weight (get_or_from_slice_get slots place (Open file) Reserved is) in
+    omega (arith, takes, took)
 
 -- the heap has room for the number of an open descriptor
 pub room_to_close : (slots : List Slot) (items : List (Reverse ℕ)) (capacity place : ℕ) (file : OpenFile) →
@@ -169,6 +182,7 @@ pub closed_table : (slots : List Slot) (items more : List (Reverse ℕ)) (capaci
 closed_table slots items more capacity room place file table is same keeps enough =
     let within = slice_get_within slots place (Open file) is in
     let weighs = open_weighs slots place file is in
+    let takes = taken_weighs slots place file is in
     let longer = length_permutation (record { 0 = place } ∷ items) more same in
     let long = length-set slots place Free in
     record {
@@ -188,6 +202,7 @@ closed_table slots items more capacity room place file table is same keeps enoug
                 let equal : times number more ≡ times number items = omega (arith, counted, none) in
                 equal ∙ each ∙ sym now)
           ];
+      parts = (let parts = table.parts in omega (arith, parts, takes, longer, long));
       few = (let few = table.few in omega (arith, few, long));
       room = (let was = table.room in omega (arith, was, weighs, longer));
     }
@@ -237,6 +252,8 @@ reopened_table slots items capacity place file after table is =
     let within = slice_get_within slots place (Open file) is in
     let weights = sum_by-set open_weight slots place (Open after) Reserved within in
     let was = ap open_weight (get_or_from_slice_get slots place (Open file) Reserved is) in
+    let takes = sum_by-set taken_weight slots place (Open after) Reserved within in
+    let took = ap taken_weight (get_or_from_slice_get slots place (Open file) Reserved is) in
     let long = length-set slots place (Open after) in
     record {
       heap = table.heap;
@@ -246,6 +263,7 @@ reopened_table slots items capacity place file after table is =
             ∙ get-set_here slots place (Open after) within))
         | inr e ↦ table.each number ∙ sym (ap free_weight (get-set_apart slots place (Open after) number e.1))
       ];
+      parts = (let parts = table.parts in omega (arith, parts, takes, took, long));
       few = (let few = table.few in omega (arith, few, long));
       room = (let room = table.room in omega (arith, room, weights, was));
     }
@@ -259,6 +277,7 @@ shorter_table : (front : List Slot) (file : OpenFile) (items : List (Reverse ℕ
 shorter_table front file items capacity table =
     let long = length_push front (Open file) in
     let weights = sum_by_push open_weight front (Open file) in
+    let takes = sum_by_push taken_weight front (Open file) in
     record {
       heap = table.heap;
       each = λ number. elim (eqb_tells number (length front)) [
@@ -267,6 +286,7 @@ shorter_table front file items capacity table =
             ∙ sym (ap free_weight (ap (slice_get front) e.1 ∙ none_at_end front))
         | inr e ↦ table.each number ∙ ap free_weight (get-push_apart front (Open file) number e.1)
       ];
+      parts = (let parts = table.parts in omega (arith, parts, takes, long));
       few = (let few = table.few in omega (arith, few, long));
       room = (let room = table.room in omega (arith, room, weights));
     }

@@ -1,13 +1,12 @@
--- Believed. The names of a directory as they come and go, with the links and the times that they change, after
--- `stat(2)` and `inode(7)`.
-use Rattle.std.specs.Prelude.{ℕ, ◌+◌, ◌-◌, min, Bool, true, false, List, [], Option, Some, None, slice_get, slice_set}
+-- Believed. The names of a directory as they come and go, with the times that they change, after `stat(2)` and
+-- `inode(7)`.
+use Rattle.std.specs.Prelude.{ℕ, Bool, false, List, [], Option, Some, None, slice_get, slice_set}
 use Rattle.pt_host.specs.declared.ids.Time.{Time}
 use Rattle.pt_node.specs.Names.{named, unnamed}
 use Rattle.pt_node.specs.Node.{is_directory}
 use Rattle.pt_node.specs.declared.node.Node.{Node}
 use Rattle.pt_node.specs.declared.node.Content.{Content}
 use Rattle.pt_node.specs.declared.node.Content.TheVariants.{Directory, Regular}
-use Rattle.pt_node.specs.Limits.{links_max}
 
 -- the objects with one of them changed
 abbrev pub changed_where : Option Node → ℕ → (Node → Node) → List Node → List Node
@@ -38,63 +37,25 @@ abbrev pub with_bytes : List ℕ → Content → Content
 with_bytes bytes (Regular old) = Regular bytes
 with_bytes bytes content = content
 
--- a directory has one link more by each directory in it; the count stands still where its type ends
-abbrev pub links_with : Bool → ℕ → ℕ
-links_with true links = min (links + 1) links_max
-links_with false links = links
+-- the directory with a name that leads to an object
+abbrev pub with_entry : List ℕ → ℕ → Node → Node
+with_entry name object dir = record dir { content = with_name name object dir.content }
 
-abbrev pub links_without : Bool → ℕ → ℕ
-links_without true links = links - 1
-links_without false links = links
-
--- the directory with a name that leads to an object; the Bools say whether that is a directory, and whether one that
--- had the name is gone
-abbrev pub with_entry : List ℕ → ℕ → Bool → Bool → Node → Node
-with_entry name object directory replaced dir = record dir {
-  nlink = links_with directory (links_without replaced dir.nlink);
-  content = with_name name object dir.content;
-}
-
--- the directory without the name, which led to a directory or not
-abbrev pub without_entry : List ℕ → Bool → Node → Node
-without_entry name directory dir = record dir {
-  nlink = links_without directory dir.nlink;
-  content = without_name name dir.content;
-}
+-- the directory without the name
+abbrev pub without_entry : List ℕ → Node → Node
+without_entry name dir = record dir { content = without_name name dir.content }
 
 -- contents have changed
 abbrev pub touched : Time → Node → Node
 touched now node = record node { mtime = now; ctime = now }
 
--- the status alone has changed
+-- the status alone has changed, as where a name was got or lost
 abbrev pub restamped : Time → Node → Node
 restamped now node = record node { ctime = now }
 
 -- a regular file with other contents
 abbrev pub rewritten : Time → List ℕ → Node → Node
 rewritten now bytes node = touched now (record node { content = with_bytes bytes node.content })
-
--- the links of a new object: a directory is named by its parent and by itself
-abbrev pub first_links : Content → ℕ
-first_links (Directory names) = 2
-first_links content = 1
-
--- The links of an object that lost a name. A directory keeps its own: those of itself and of the directories in it.
-abbrev pub fewer_links : Content → ℕ → ℕ
-fewer_links (Directory names) links = links
-fewer_links content links = links - 1
-
--- the links of an object that is no directory, with one name more; the count stands still where its type ends
-abbrev pub more_links : ℕ → ℕ
-more_links links = min (links + 1) links_max
-
--- an object that got another name
-abbrev pub after_gaining : Time → Node → Node
-after_gaining now node = restamped now (record node { nlink = more_links node.nlink })
-
--- an object that lost a name
-abbrev pub after_losing : Time → Node → Node
-after_losing now node = restamped now (record node { nlink = fewer_links node.content node.nlink })
 
 -- an object made at this time, with this number and serial, on the mount of this directory
 abbrev pub new_object : Time → ℕ → ℕ → Node → ℕ → ℕ → ℕ → ℕ → Content → Node
@@ -103,7 +64,6 @@ new_object now number serial dir permissions uid gid rdev content = record {
   serial = serial;
   has_handle = dir.has_handle;
   permissions = permissions;
-  nlink = first_links content;
   uid = uid;
   gid = gid;
   rdev = rdev;

@@ -7,6 +7,7 @@ pub mod FreeNumbers
 pub mod Numbers
 pub mod Mounts
 pub mod Limits
+pub mod Links
 pub mod Names
 pub mod NewPlace
 pub mod Node
@@ -14,4 +15,5 @@ pub mod Opening
 pub mod Permission
 pub mod Reading
 pub mod Slots
+pub mod Stops
 pub mod Laws

@@ -85,11 +85,12 @@ blocks_of size = (size + 511) / 512
 abbrev pub mode_of : Node → ℕ
 mode_of node = 4096 * kind_number node.content + node.permissions
 
-abbrev pub status_of : Node → Stat
-status_of node = record {
+-- the status of an object with so many links
+abbrev pub status_of : ℕ → Node → Stat
+status_of links node = record {
   ids = node.ids;
   mode = mode_of node;
-  nlink = node.nlink;
+  nlink = links;
   uid = node.uid;
   gid = node.gid;
   rdev = node.rdev;

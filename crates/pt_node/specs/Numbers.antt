@@ -2,6 +2,7 @@
 use Rattle.std.specs.Prelude.{◌-◌, ◌==◌, ℕ, List, [], ◌∷◌, Option, Some, None, slice_set, slice_index, if◌then◌else◌}
 use Rattle.pt_host.specs.Words.{set_at}
 use Rattle.pt_node.specs.Slots.{closed, no_numbers}
+use Rattle.pt_node.specs.declared.inodes.Inodes.{Inodes}
 use Rattle.pt_node.specs.declared.inodes.NumberTable.{NumberTable}
 use Rattle.pt_node.specs.declared.slots.OpenFile.{OpenFile}
 use Rattle.pt_node.specs.declared.slots.Slot.{Slot}
@@ -15,7 +16,15 @@ abbrev pub table_in : List NumberTable → ℕ → List Slot
 table_in [] dev = no_numbers
 table_in (table ∷ more) dev = if table.dev == dev then table.numbers else table_in more dev
 
--- one hold of the object less
+-- how often each object is held, and how many names it has
+pub record Counts : Type 0 where
+  pub holds : List ℕ
+  pub names : List ℕ
+
+abbrev pub counts_of : Inodes → Counts
+counts_of inodes = record { holds = inodes.holds.items; names = inodes.names.items }
+
+-- one hold, or one name, of the object less
 abbrev pub released : ℕ → List ℕ → List ℕ
 released object holds = slice_set holds object (slice_index holds object - 1)
 

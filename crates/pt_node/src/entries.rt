@@ -2,12 +2,6 @@ ghost use Rattle.std.specs.Prelude.{◌≡◌, OnOk, OnErr, is_some, true};
 ghost use Rattle.pt_node.specs.Names.{found};
 ghost use Rattle.pt_node.specs.Node.{names_in};
 ghost use Rattle.pt_node.specs.Entries.{
-  after_gaining,
-  after_losing,
-  fewer_links,
-  first_links,
-  links_with,
-  links_without,
   new_object,
   restamped,
   rewritten,
@@ -24,49 +18,7 @@ use crate::node::{Content, Node};
 use pt_host::{Bytes, ObjIds, Time};
 use std::alloc::{AllocError, Global};
 
-fn links_with(directory: bool, links: u32) -> u32
-    ensures { result ≡ links_with directory links }
-{
-    if directory {
-        links.saturating_add(1)
-    } else {
-        links
-    }
-}
-
-fn links_without(directory: bool, links: u32) -> u32
-    ensures { result ≡ links_without directory links }
-{
-    if directory {
-        links.saturating_sub(1)
-    } else {
-        links
-    }
-}
-
 impl Content {
-    /// The links of a new object that holds this.
-    fn first_links(&self) -> u32
-        ensures { result ≡ first_links self.now }
-    {
-        match self {
-            Content::Directory(_) => 2,
-            Content::Regular(_) | Content::Link(_) | Content::Special(_) => 1,
-        }
-    }
-
-    /// The links of an object that holds this and lost a name.
-    fn fewer_links(&self, links: u32) -> u32
-        ensures { result ≡ fewer_links self.now links }
-    {
-        match self {
-            Content::Directory(_) => links,
-            Content::Regular(_) | Content::Link(_) | Content::Special(_) => {
-                links.saturating_sub(1)
-            }
-        }
-    }
-
     fn add_name(&mut self, name: Vec<u8>, object: usize) -> Result<(), AllocError>
         ensures ok { OnOk result (self.new ≡ with_name name.items object self.old) }
         ensures err { OnErr result (self.new ≡ self.old) }
@@ -105,37 +57,27 @@ impl Content {
 }
 
 impl Node {
-    /// The name leads to the object, which is a directory or not, in place of a directory or not.
-    pub fn add_entry(
-        &mut self,
-        name: Vec<u8>,
-        object: usize,
-        directory: bool,
-        replaced: bool,
-    ) -> Result<(), AllocError>
-        ensures ok { OnOk result (self.new ≡ with_entry name.items object directory replaced self.old) }
+    /// The name leads to the object.
+    pub fn add_entry(&mut self, name: Vec<u8>, object: usize) -> Result<(), AllocError>
+        ensures ok { OnOk result (self.new ≡ with_entry name.items object self.old) }
         ensures err { OnErr result (self.new ≡ self.old) }
     {
-        self.content.add_name(name, object)?;
-        self.nlink = links_with(directory, links_without(replaced, self.nlink));
-        Ok(())
+        self.content.add_name(name, object)
     }
 
     /// The name, which is there, leads to this object.
-    pub fn lead(&mut self, name: &[u8], object: usize, directory: bool, replaced: bool)
+    pub fn lead(&mut self, name: &[u8], object: usize)
         requires { is_some (found name.now (names_in self.old.content)) ≡ true }
-        ensures { self.new ≡ with_entry name.now object directory replaced self.old }
+        ensures { self.new ≡ with_entry name.now object self.old }
     {
         self.content.lead_name(name, object);
-        self.nlink = links_with(directory, links_without(replaced, self.nlink));
     }
 
-    /// The name, which led to a directory or not, leads nowhere any more.
-    pub fn remove_entry(&mut self, name: &[u8], directory: bool)
-        ensures { self.new ≡ without_entry name.now directory self.old }
+    /// The name leads nowhere any more.
+    pub fn remove_entry(&mut self, name: &[u8])
+        ensures { self.new ≡ without_entry name.now self.old }
     {
         self.content.remove_name(name);
-        self.nlink = links_without(directory, self.nlink);
     }
 
     /// What it holds has changed.
@@ -152,14 +94,6 @@ impl Node {
     {
         self.ctime = now;
     }
-
-    /// It has one name less.
-    pub fn lose_name(&mut self, now: Time)
-        ensures { self.new ≡ after_losing now self.old }
-    {
-        self.nlink = self.content.fewer_links(self.nlink);
-        self.restamp(now);
-    }
 }
 
 impl Node {
@@ -169,14 +103,6 @@ impl Node {
     {
         self.content.set_bytes(bytes);
         self.touch(now);
-    }
-
-    /// It has one name more.
-    pub fn gain_name(&mut self, now: Time)
-        ensures { self.new ≡ after_gaining now self.old }
-    {
-        self.nlink = self.nlink.saturating_add(1);
-        self.restamp(now);
     }
 }
 
@@ -204,7 +130,6 @@ pub fn new_object(
         serial,
         has_handle: dir.has_handle,
         permissions,
-        nlink: content.first_links(),
         uid,
         gid,
         rdev,
@@ -217,40 +142,26 @@ pub fn new_object(
 }
 
 impl Node {
-    pub fn lose_entry(&mut self, name: &[u8], directory: bool, now: Time)
-        ensures { self.new ≡ touched now (without_entry name.now directory self.old) }
+    pub fn lose_entry(&mut self, name: &[u8], now: Time)
+        ensures { self.new ≡ touched now (without_entry name.now self.old) }
     {
-        self.remove_entry(name, directory);
+        self.remove_entry(name);
         self.touch(now);
     }
 
-    pub fn lead_entry(
-        &mut self,
-        name: &[u8],
-        object: usize,
-        directory: bool,
-        replaced: bool,
-        now: Time,
-    )
+    pub fn lead_entry(&mut self, name: &[u8], object: usize, now: Time)
         requires { is_some (found name.now (names_in self.old.content)) ≡ true }
-        ensures { self.new ≡ touched now (with_entry name.now object directory replaced self.old) }
+        ensures { self.new ≡ touched now (with_entry name.now object self.old) }
     {
-        self.lead(name, object, directory, replaced);
+        self.lead(name, object);
         self.touch(now);
     }
 
-    pub fn gain_entry(
-        &mut self,
-        name: Vec<u8>,
-        object: usize,
-        directory: bool,
-        replaced: bool,
-        now: Time,
-    ) -> Result<(), AllocError>
-        ensures ok { OnOk result (self.new ≡ touched now (with_entry name.items object directory replaced self.old)) }
+    pub fn gain_entry(&mut self, name: Vec<u8>, object: usize, now: Time) -> Result<(), AllocError>
+        ensures ok { OnOk result (self.new ≡ touched now (with_entry name.items object self.old)) }
         ensures err { OnErr result (self.new ≡ self.old) }
     {
-        self.add_entry(name, object, directory, replaced)?;
+        self.add_entry(name, object)?;
         self.touch(now);
         Ok(())
     }

@@ -22,6 +22,7 @@ ghost use Rattle.std.specs.Prelude.{
 ghost use Rattle.pt_host.specs.Words.{set_at};
 ghost use Rattle.pt_node.specs.Slots.{least_free, put_at};
 ghost use Rattle.pt_node.specs.declared.slots.Slot.TheVariants.{Open};
+ghost use Rattle.pt_node.specs.FreeNumbers.{given_numbers};
 ghost use Rattle.pt_node.specs.Numbers.{
   freed,
   given_up,
@@ -48,6 +49,8 @@ pub struct NumberTable {
 pub struct Inodes {
     /// How often each object is held: the root by its mount, each by its names and its descriptors.
     pub holds: Vec<usize>,
+    /// How many names each object has.
+    pub names: Vec<usize>,
     pub tables: Vec<NumberTable>,
 }
 
@@ -114,39 +117,53 @@ impl Inodes {
     /// With no object.
     pub fn new(alloc: Global) -> Inodes
         ensures holds { result.holds.items ≡ [] }
+        ensures names { result.names.items ≡ [] }
         ensures tables { result.tables.items ≡ [] }
     {
         Inodes {
             holds: Vec::new(alloc),
+            names: Vec::new(alloc),
             tables: Vec::new(alloc),
         }
     }
 
-    /// One object more, which is held once and has the least number of the device that is free.
-    pub fn add(&mut self, alloc: Global, dev: u64, object: usize) -> Result<u64, AllocError>
+    /// One object more, which is held once, has so many names, and has the least number of the device that is free.
+    pub fn add(
+        &mut self,
+        alloc: Global,
+        dev: u64,
+        object: usize,
+        names: usize,
+    ) -> Result<u64, AllocError>
         ensures number { IfOk result (λ number. number ≡ least_free (table_in self.old.tables.items dev)) }
         ensures holds { IfOk result (λ number. self.new.holds.items ≡ self.old.holds.items ++ 1 ∷ []) }
+        ensures names { IfOk result (λ number. self.new.names.items ≡ self.old.names.items ++ names ∷ []) }
         ensures tables { IfOk result (λ number. (other : ℕ) →
             table_in self.new.tables.items other
             ≡ set_at dev (put_at number (Open (having object)) (table_in self.old.tables.items dev))
             (table_in self.old.tables.items) other) }
         ensures same_holds { OnErr result (self.new.holds.items ≡ self.old.holds.items) }
+        ensures same_names { OnErr result (self.new.names.items ≡ self.old.names.items) }
         ensures same_tables { OnErr result ((other : ℕ) →
             table_in self.new.tables.items other ≡ table_in self.old.tables.items other) }
     {
         self.holds.reserve(1)?;
+        self.names.reserve(1)?;
         let number = give_number(alloc, &mut self.tables, dev, object)?;
         let _ = self.holds.push(1);
+        let _ = self.names.push(names);
         Ok(number)
     }
 
     /// Takes the addition of the last object back.
     pub fn take_back(&mut self, dev: u64, number: u64)
         ensures holds { self.new.holds.items ≡ take (length self.old.holds.items - 1) self.old.holds.items }
+        ensures names { self.new.names.items ≡ take (length self.old.names.items - 1) self.old.names.items }
         ensures tables { (other : ℕ) →
             table_in self.new.tables.items other ≡ freed dev number (table_in self.old.tables.items) other }
     {
         let _ = self.holds.pop();
+        let _ = self.names.pop();
         free_number(&mut self.tables, dev, number);
     }
 
@@ -157,6 +174,16 @@ impl Inodes {
         match self.holds.get(object) {
             None => false,
             Some(held) => *held > 0,
+        }
+    }
+
+    /// How many objects of the device live: each has a number.
+    pub fn living(&self, dev: u64) -> usize
+        ensures { result ≡ given_numbers (table_in self.now.tables.items dev) }
+    {
+        match place_of(&self.tables, dev) {
+            None => 0,
+            Some(place) => self.tables[place].numbers.taken().saturating_sub(1),
         }
     }
 
@@ -171,9 +198,43 @@ impl Inodes {
         }
     }
 
+    /// How many names the object has after one more, where that can be counted.
+    pub fn one_name_more(&self, object: usize) -> Option<usize>
+        ensures { SomeIff result ((object < length self.now.names.items)
+            × (slice_index self.now.names.items object + 1 < 2 ^ 64)) (slice_index self.now.names.items object + 1) }
+    {
+        match self.names.get(object) {
+            None => None,
+            Some(names) => names.checked_add(1),
+        }
+    }
+
+    /// The object has one name less.
+    pub fn lose_name(&mut self, object: usize)
+        ensures names { self.new.names.items ≡ released object self.old.names.items }
+        ensures holds { self.new.holds.items ≡ self.old.holds.items }
+        ensures tables { self.new.tables.items ≡ self.old.tables.items }
+    {
+        if let Some(names) = self.names.get_mut(object) {
+            *names = names.saturating_sub(1);
+        }
+    }
+
+    /// The same where there is such an object.
+    pub fn lose_name_where(&mut self, object: Option<usize>)
+        ensures names { self.new.names.items ≡ released_where object self.old.names.items }
+        ensures holds { self.new.holds.items ≡ self.old.holds.items }
+        ensures tables { self.new.tables.items ≡ self.old.tables.items }
+    {
+        if let Some(object) = object {
+            self.lose_name(object);
+        }
+    }
+
     /// One hold of the object, which has this number of the device, ends; with the last one its number is free.
     pub fn release(&mut self, object: usize, dev: u64, number: u64)
         ensures holds { self.new.holds.items ≡ released object self.old.holds.items }
+        ensures names { self.new.names.items ≡ self.old.names.items }
         ensures tables { (other : ℕ) →
             table_in self.new.tables.items other
             ≡ given_up dev number object self.old.holds.items (table_in self.old.tables.items) other }
@@ -191,6 +252,7 @@ impl Inodes {
     /// The same where there is such an object.
     pub fn release_where(&mut self, object: Option<usize>, dev: u64, number: u64)
         ensures holds { self.new.holds.items ≡ released_where object self.old.holds.items }
+        ensures names { self.new.names.items ≡ self.old.names.items }
         ensures tables { (other : ℕ) →
             table_in self.new.tables.items other
             ≡ given_up_where dev number object self.old.holds.items (table_in self.old.tables.items) other }

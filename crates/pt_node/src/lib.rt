@@ -5,6 +5,8 @@ pub mod attributes;
 pub mod changes;
 pub mod entries;
 pub mod inodes;
+pub mod links;
+pub mod listing;
 pub mod mounts;
 pub mod names;
 pub mod new_place;

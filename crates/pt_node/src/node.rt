@@ -47,7 +47,6 @@ pub struct Node {
     pub has_handle: bool,
     /// The mode without the kind.
     pub permissions: u32,
-    pub nlink: u32,
     pub uid: u32,
     pub gid: u32,
     /// The device that a node was made for.
@@ -145,16 +144,16 @@ impl Node {
         4096 * self.content.kind_number() + self.permissions
     }
 
-    /// The status that `stat(2)` tells.
-    pub fn status(&self) -> Stat
+    /// The status that `stat(2)` tells of an object with so many links.
+    pub fn status(&self, links: u32) -> Stat
         requires { self.now.permissions < 4096 }
-        ensures { result ≡ status_of self.now }
+        ensures { result ≡ status_of links self.now }
     {
         let size = self.content.size();
         Stat {
             ids: self.ids,
             mode: self.mode(),
-            nlink: self.nlink,
+            nlink: links,
             uid: self.uid,
             gid: self.gid,
             rdev: self.rdev,

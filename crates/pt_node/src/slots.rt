@@ -1,4 +1,5 @@
 ghost use Rattle.std.specs.Prelude.{◌≡◌, ◌<◌, ◌-◌, IfOk, OnErr, is_some, length, position, true};
+ghost use Rattle.pt_node.specs.FreeNumbers.{taken};
 ghost use Rattle.pt_node.specs.Slots.{
   open_at,
   least_free,
@@ -116,6 +117,13 @@ impl Descriptors {
         ensures { result ≡ length self.now }
     {
         self.slots.len()
+    }
+
+    /// How many numbers are not free.
+    pub fn taken(&self) -> usize
+        ensures { result ≡ taken self.now }
+    {
+        self.slots.len() - self.free.len()
     }
 
     /// Takes back the opening of this descriptor, before which there were so many numbers.

@@ -95,7 +95,6 @@ mount_root id dev serial handles = record {
   serial = serial;
   has_handle = handles;
   permissions = 493;
-  nlink = 2;
   uid = 0;
   gid = 0;
   rdev = 0;

@@ -11,6 +11,7 @@ use Rattle.pt_host.specs.declared.reply.HostReply.{HostReply}
 use Rattle.pt_host.specs.declared.reply.HostReply.TheVariants as reply
 use Rattle.pt_host.specs.declared.reply.HostValue.{HostValue}
 use Rattle.pt_host.specs.declared.reply.HostValue.TheVariants as value
+use Rattle.pt_node.specs.Links.{links_of}
 use Rattle.pt_node.specs.Node.{is_directory, status_of}
 use Rattle.pt_node.specs.Permission.{may}
 use Rattle.pt_node.specs.Slots.{least_free, open_at, put_at, closed}
@@ -122,4 +123,5 @@ close_file state fd =
     on_slot state (open_at state.slots fd.0) (λ file. done (record state { slots = closed fd.0 state.slots }))
 
 abbrev pub tell_status : State → Fd → Answered
-tell_status state fd = on_fd state fd (λ file node. tells state (value.Stat (status_of node)))
+tell_status state fd = on_fd state fd (λ file node.
+    tells state (value.Stat (status_of (links_of state.nodes file.object node) node)))

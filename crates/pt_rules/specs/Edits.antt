@@ -14,7 +14,7 @@ use Rattle.pt_node.specs.Node.{is_directory, is_link, is_special, name_at, names
 use Rattle.pt_rules.specs.State.{State, time_of}
 use Rattle.pt_node.specs.Opening.{first_refusal}
 use Rattle.pt_rules.specs.Calls.{Answered, done, refused, unless}
-use Rattle.pt_node.specs.Entries.{after_losing, changed_at, is_directory_at, new_object, restamped, rewritten}
+use Rattle.pt_node.specs.Entries.{changed_at, new_object, restamped, rewritten}
 use Rattle.pt_node.specs.Entries.{touched, with_entry, without_entry}
 use Rattle.pt_rules.specs.EditPaths.{judged, path_goes_through}
 use Rattle.pt_node.specs.declared.node.Node.{Node}
@@ -50,8 +50,8 @@ unlink_refusal _ _ = Some eio
 -- the objects after this one lost this name
 abbrev pub unlinked : Time → ℕ → List ℕ → ℕ → List Node → List Node
 unlinked now dir name object nodes =
-    changed_at object (after_losing now)
-    (changed_at dir (λ at. touched now (without_entry name (is_directory_at nodes object) at)) nodes)
+    changed_at object (restamped now)
+    (changed_at dir (λ at. touched now (without_entry name at)) nodes)
 
 abbrev pub with_unlinked : State → ℕ → List ℕ → ℕ → State
 with_unlinked state dir name object = record state { nodes = unlinked (time_of state) dir name object state.nodes }
@@ -98,20 +98,16 @@ replace_refusal _ _ = Some eio
 -- the object that had the new name lost it
 abbrev pub replaced : Time → Option ℕ → List Node → List Node
 replaced now None nodes = nodes
-replaced now (Some target) nodes = changed_at target (after_losing now) nodes
-
-abbrev pub is_target_directory : List Node → Option ℕ → Bool
-is_target_directory nodes target = option_map_or (is_directory_at nodes) target false
+replaced now (Some target) nodes = changed_at target (restamped now) nodes
 
 -- the objects after this one got the new name, in place of another one or not, and lost the old one
 abbrev pub moved : Time → ℕ × List ℕ → ℕ × List ℕ → ℕ → Option ℕ → List Node → List Node
 moved now from to object target nodes =
     changed_at object (restamped now)
-    (changed_at from.0 (λ dir. touched now (without_entry from.1 (is_directory_at nodes object) dir))
+    (changed_at from.0 (λ dir. touched now (without_entry from.1 dir))
     (replaced now target
     (changed_at to.0 (λ dir.
-    touched now (with_entry to.1 object (is_directory_at nodes object)
-    (is_target_directory nodes target) dir)) nodes)))
+    touched now (with_entry to.1 object dir)) nodes)))
 
 abbrev pub with_moved : State → ℕ × List ℕ → ℕ × List ℕ → ℕ → Option ℕ → State
 with_moved state from to object target =
@@ -152,7 +148,7 @@ make_refusal there size = first_refusal ((is_some there, eexist) ∷ (nat_lt fil
 -- the objects with this new one, to which the name in the directory leads
 abbrev pub grown : Time → ℕ → List ℕ → Node → List Node → List Node
 grown now dir name node nodes =
-    changed_at dir (λ parent. touched now (with_entry name (length nodes) (is_directory node) false parent)) nodes
+    changed_at dir (λ parent. touched now (with_entry name (length nodes) parent)) nodes
     ++ node ∷ []
 
 -- an object that is made in this directory: its serial is one more than that of the last one made

@@ -1,22 +1,13 @@
 -- Believed. Which objects live, and the inode numbers that new ones get, after `unlink(2)`, `close(2)` and `inode(7)`.
-use Rattle.std.specs.Prelude.{◌≡◌, ◌<◌, ◌+◌, ◌==◌, ◌&&◌, nat_lt, ℕ, Bool, false, List, Option, Some, None, slice_get}
+use Rattle.std.specs.Prelude.{◌≡◌, ◌<◌, ◌+◌, ◌==◌, ◌&&◌, nat_lt, ℕ, Bool, List, Some, slice_get}
 use Rattle.std.specs.Prelude.{sum_by, count_by}
 use Rattle.std.specs.List.{enumerate_from}
-use Rattle.std.specs.Map.{values_of}
 use Rattle.pt_host.specs.Words.{is}
-use Rattle.pt_node.specs.Node.{names_in}
+use Rattle.pt_node.specs.Links.{names_of}
 use Rattle.pt_node.specs.declared.node.Node.{Node}
 use Rattle.pt_node.specs.declared.slots.Slot.{Slot}
 use Rattle.pt_node.specs.declared.slots.Slot.TheVariants.{Reserved, Free, Open}
 use Rattle.pt_rules.specs.State.{State}
-
--- how many of these names lead to the object
-abbrev pub names_to : ℕ → List (List ℕ × ℕ) → ℕ
-names_to object names = sum_by (is object) (values_of names)
-
--- how many names it has, in whatever directory
-abbrev pub names_of : List Node → ℕ → ℕ
-names_of nodes object = sum_by (λ node. names_to object (names_in node.content)) nodes
 
 abbrev pub opens : ℕ → Slot → ℕ
 opens object Reserved = 0
@@ -65,8 +56,3 @@ lives_on state dev entry = (entry.1.ids.dev == dev) && is_alive state entry.0
 -- how many objects of the device live
 abbrev pub living_of : State → ℕ → ℕ
 living_of state dev = count_by (lives_on state dev) (enumerate_from 0 state.nodes)
-
--- the same of what stands at a place, if anything
-abbrev pub lives_where : State → ℕ → ℕ → Option Node → Bool
-lives_where state dev place None = false
-lives_where state dev place (Some node) = lives_on state dev (place, node)

@@ -13,13 +13,14 @@ use Rattle.pt_host.specs.declared.ids.Errno.{Errno}
 use Rattle.pt_host.specs.declared.ids.Fd.{Fd}
 use Rattle.pt_host.specs.declared.ids.Time.{Time}
 use Rattle.pt_host.specs.declared.seat.HostSeat.{HostSeat}
+use Rattle.pt_node.specs.Links.{links_of}
 use Rattle.pt_node.specs.Names.{found}
 use Rattle.pt_node.specs.Node.{is_directory, name_at, names_in}
 use Rattle.pt_node.specs.Permission.{may, mknod}
 use Rattle.pt_rules.specs.State.{State, time_of}
 use Rattle.pt_node.specs.Opening.{first_refusal}
 use Rattle.pt_rules.specs.Calls.{Answered, checked, done, on_fd, on_name, on_node, refused, unless}
-use Rattle.pt_node.specs.Entries.{after_gaining, changed_at, is_directory_at, restamped, touched, with_entry}
+use Rattle.pt_node.specs.Entries.{changed_at, restamped, touched, with_entry}
 use Rattle.pt_rules.specs.Edits.{holds_any, is_mounted, make_in, node_at, rename_onto, with_unlinked}
 use Rattle.pt_node.specs.declared.node.Node.{Node}
 use Rattle.pt_node.specs.declared.node.Content.{Content}
@@ -114,11 +115,11 @@ make_symlink state numbers seat fd name target = on_name state seat fd name
 -- ---- MakeLink
 
 -- a directory; another mount; an object without a name; as of a directory
-abbrev pub link_checks : HostSeat → Node → Node → List ℕ → List (Bool × Errno)
-link_checks seat node dir name =
+abbrev pub link_checks : HostSeat → ℕ → Node → Node → List ℕ → List (Bool × Errno)
+link_checks seat links node dir name =
     (is_directory node, eperm)
     ∷ (not (node.ids.mnt_id == dir.ids.mnt_id), exdev)
-    ∷ (node.nlink == 0, enoent)
+    ∷ (links == 0, enoent)
     ∷ (is_some (there_in dir name), eexist)
     ∷ (cannot_write seat dir, eacces)
     ∷ []
@@ -126,8 +127,8 @@ link_checks seat node dir name =
 -- the objects after this one got this name
 abbrev pub linked : Time → ℕ → List ℕ → ℕ → List Node → List Node
 linked now dir name object nodes =
-    changed_at object (after_gaining now)
-    (changed_at dir (λ at. touched now (with_entry name object false false at)) nodes)
+    changed_at object (restamped now)
+    (changed_at dir (λ at. touched now (with_entry name object at)) nodes)
 
 abbrev pub with_linked : State → ℕ → List ℕ → ℕ → State
 with_linked state dir name object = record state { nodes = linked (time_of state) dir name object state.nodes }
@@ -135,7 +136,8 @@ with_linked state dir name object = record state { nodes = linked (time_of state
 -- both descriptors have to be open first
 abbrev pub make_link : State → HostSeat → Fd → Fd → List ℕ → Answered
 make_link state seat from fd name = on_fd state from (λ file node. on_name state seat fd name
-    (λ dir parent. checked state (link_checks seat node parent name) (done (with_linked state dir name file.object))))
+    (λ dir parent. checked state (link_checks seat (links_of state.nodes file.object node) node parent name)
+    (done (with_linked state dir name file.object))))
 
 -- ---- Unlink, RemoveDir
 
@@ -232,9 +234,9 @@ abbrev pub exchanged : Time → ℕ × List ℕ → ℕ × List ℕ → ℕ → 
 exchanged now from to object other nodes =
     changed_at other (restamped now) (changed_at object (restamped now)
     (changed_at from.0 (λ dir.
-    touched now (with_entry from.1 other (is_directory_at nodes other) (is_directory_at nodes object) dir))
+    touched now (with_entry from.1 other dir))
     (changed_at to.0 (λ dir.
-    touched now (with_entry to.1 object (is_directory_at nodes object) (is_directory_at nodes other) dir)) nodes)))
+    touched now (with_entry to.1 object dir)) nodes)))
 
 abbrev pub with_exchanged : State → ℕ × List ℕ → ℕ × List ℕ → ℕ → ℕ → State
 with_exchanged state from to object other =

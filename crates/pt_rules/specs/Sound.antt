@@ -36,7 +36,3 @@ pub record IsSound (state : State) : Type 0 where
       object < length state.nodes
   pub opened : (fd : ℕ) (file : OpenFile) → open_at state.slots fd ≡ Some file → file.object < length state.nodes
   pub apart : AreApart state
-
--- permissions have no bits of a kind
-abbrev pub HavePermissions : List Node → Type 0
-HavePermissions nodes = (place : ℕ) (node : Node) → slice_get nodes place ≡ Some node → node.permissions < 4096

@@ -5,3 +5,5 @@ pub mod CommandWords
 pub mod Rooted
 pub mod Opening
 pub mod Determined
+pub mod LinesTell
+pub mod Told

@@ -5,7 +5,7 @@ use Rattle.std.specs.Str.{bytes_eq}
 use Rattle.std.specs.Prelude.{nat_lt, nat_le, ◌/◌, ◌%◌, option_map, option_and_then}
 use Rattle.pt_node.specs.Attributes.{with_value}
 use Rattle.pt_rules.specs.Edits.{with_made}
-use Rattle.pt_node.specs.Entries.{after_gaining, changed_at, touched, with_entry}
+use Rattle.pt_node.specs.Entries.{changed_at, restamped, touched, with_entry}
 use Rattle.pt_rules.specs.Faults.{planned, with_plan}
 use Rattle.pt_rules.specs.Laws.Changed.{length-changed}
 use Rattle.pt_rules.specs.NameCalls.{special_kind, with_linked}
@@ -56,7 +56,7 @@ made_roots : (state : State) (dir : ℕ) (name : List ℕ) (node : Node) → Has
 made_roots state dir name node =
     pushed_some (changed_at dir (λ (parent : Node).
     touched (time_of state)
-    (with_entry name (length state.nodes) (is_directory node) false parent)) state.nodes) node
+    (with_entry name (length state.nodes) parent)) state.nodes) node
 
 put_roots : (state : State) (place : Option (ℕ × List ℕ)) (object : Node → Node) → Roots (put_object state place object)
 put_roots state place object =
@@ -92,8 +92,8 @@ mount_roots state id dev path handles at =
 linked_root : (state : State) (place : ℕ × List ℕ) (object : ℕ) → HasRoot state →
     HasRoot (with_linked state place.0 place.1 object)
 linked_root state place object root =
-    let entered : Node → Node = λ at. touched (time_of state) (with_entry place.1 object false false at) in
-    changed_some object (after_gaining (time_of state)) (changed_at place.0 entered state.nodes)
+    let entered : Node → Node = λ at. touched (time_of state) (with_entry place.1 object at) in
+    changed_some object (restamped (time_of state)) (changed_at place.0 entered state.nodes)
     (changed_some place.0 entered state.nodes root)
 
 link_roots : (state : State) (place : ℕ × List ℕ) (object : ℕ) → HasRoot state → Roots (add_link state place object)

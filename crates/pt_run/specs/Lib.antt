@@ -9,3 +9,4 @@ pub mod Status
 pub mod Configured
 pub mod Run
 pub mod Determined
+pub mod Alike

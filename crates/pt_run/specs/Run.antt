@@ -95,7 +95,12 @@ abbrev pub AreLive : Tables → List (ℕ × ℕ) → List (ℕ × ℕ) → Type
 AreLive tables lives handles = LivesAbove tables.rows None lives × HandlesAbove tables.handles None handles
 
 -- the report of a run: its steps, answers, live numbers and handles, slots and objects
-abbrev pub report_of : List TraceStep → List Answer → List (ℕ × ℕ) → List (ℕ × ℕ) → Tables → State → List ℕ
+abbrev pub report_of :
+    (trace : List TraceStep) →
+    (answers : List Answer) →
+    (lives : List (ℕ × ℕ)) →
+    (handles : List (ℕ × ℕ)) →
+    Tables → State → List ℕ
 report_of trace answers lives handles tables host =
     step_lines trace ++ answer_lines 0 answers ++ live_lines lives ++ handle_lines handles
     ++ slots_line tables.slots ++ listing_of host

@@ -6,6 +6,8 @@ use Rattle.pt_session.specs.LiveAfter.{IsLiveAfter, IsHandleAfter}
 use Rattle.pt_show.specs.Texts.{number_text, ended}
 use Rattle.pt_show.specs.SessionTexts.{pair_text}
 
+-- Lines of pairs.
+
 -- a name and two numbers
 abbrev pub pair_line : List ℕ → ℕ × ℕ → List ℕ
 pair_line name pair = ended (name ++ pair_text pair)
@@ -18,6 +20,8 @@ pair_lines name (pair ∷ pairs) = pair_line name pair ++ pair_lines name pairs
 abbrev pub AllAbove : (Option ℕ → Option (ℕ × ℕ) → Type 0) → Option ℕ → List (ℕ × ℕ) → Type 0
 AllAbove Next above [] = Next above None
 AllAbove Next above (pair ∷ pairs) = Next above (Some pair) × AllAbove Next (Some pair.0) pairs
+
+-- Numbers and handles.
 
 -- the live numbers above the given one with their counts, and `live NUMBER COUNT` of each
 abbrev pub LivesAbove : List Row → Option ℕ → List (ℕ × ℕ) → Type 0
@@ -32,6 +36,8 @@ HandlesAbove rows above handles = AllAbove (IsHandleAfter rows) above handles
 
 abbrev pub handle_lines : List (ℕ × ℕ) → List ℕ
 handle_lines handles = pair_lines (codes "handle") handles
+
+-- Slots.
 
 -- `slots LEFT`
 abbrev pub slots_line : ℕ → List ℕ

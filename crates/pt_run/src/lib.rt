@@ -15,14 +15,10 @@ mod streams;
 mod table_lines;
 
 pub use input::{InputError, MAX_SCRIPT, read_script};
-pub use laws::script_determines_report;
-pub use make_report::report_of_script;
+pub use laws::{report_determines_run, script_determines_report};
 pub use mem::{MemSink, MemSource};
-pub use output::push_all;
 pub use process::{end_process, run_process};
 pub use program::run;
-pub use report::{push_answers, push_steps};
 pub use status::Status;
 pub use std_streams::{StdSink, StdSource};
 pub use streams::{Failed, Sink, Source};
-pub use table_lines::{push_handles, push_lives, push_slots};

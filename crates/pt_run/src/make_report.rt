@@ -149,7 +149,7 @@ fn run_jobs(
 }
 
 /// The report of the script that these bytes are, run over its tree.
-pub fn report_of_script(alloc: Global, bytes: &[u8]) -> Result<Vec<u8>, Status>
+pub(crate) fn report_of_script(alloc: Global, bytes: &[u8]) -> Result<Vec<u8>, Status>
     requires { length bytes.now ≤ 16777216 }
     ensures ok { IfOk result (λ report. IsReportOf bytes.now report.items) }
     ensures err { IfErr result (λ status. IsNoReport bytes.now status) }

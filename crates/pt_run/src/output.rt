@@ -5,7 +5,7 @@ ghost use Rattle.pt_run.specs.Output.{IsWritten, IsFrontWritten};
 use crate::streams::{Failed, Sink};
 
 /// Writes all of a piece.
-pub fn push_all<O: Sink>(output: &mut O, piece: &[u8]) -> Result<(), Failed>
+pub(crate) fn push_all<O: Sink>(output: &mut O, piece: &[u8]) -> Result<(), Failed>
     ensures ok { OnOk result (IsWritten (O.written output.old) piece.now (O.written output.new)) }
     ensures err { OnErr result (IsFrontWritten (O.written output.old) piece.now (O.written output.new)) }
     ensures fault { OnErr result (HasRisen (O.faults output.old) (O.faults output.new)) }

@@ -3,6 +3,7 @@ ghost use Rattle.pt_host.specs.Promises.{HasRisen};
 ghost use Rattle.pt_host.specs.declared.ids.Errno.{Errno};
 ghost use Rattle.pt_run.specs.Streams.{IsAtEnd, IsLonger};
 ghost use Rattle.pt_run.specs.Determined.{DeterminesReport};
+ghost use Rattle.pt_run.specs.Alike.{TellsRun};
 ghost use Rattle.pt_run.specs.Output.{IsWritten, IsFrontWritten};
 ghost use Rattle.pt_run.specs.Run.{IsReportOf, IsNoReport, IsScriptWord, IsReportFrom, IsNoReportFrom};
 
@@ -47,7 +48,7 @@ fn write_report<O: Sink>(alloc: Global, bytes: &[u8], output: &mut O) -> Status
 }
 
 /// Reads the script, runs it and writes the report. Want of memory may end it at any time, as `NoMemory`.
-#[tactic(auto, using(crate::proofs::Determined::only_from))]
+#[tactic(auto, using(crate::proofs::Determined::only_from, crate::proofs::Told::told_from))]
 pub fn run<I: Source, O: Sink>(
     alloc: Global,
     words: &[String],
@@ -59,6 +60,8 @@ pub fn run<I: Source, O: Sink>(
         × IsWritten (O.written output.old) report (O.written output.new) }
     // Where no reply and no answer of a run tells that memory ran out, what was read alone determines the report.
     ensures determined { DeterminesReport (I.left input.old) }
+    // The bytes of a report tell its run, and of themselves whether they are the script's only report.
+    ensures told { TellsRun (I.left input.old) }
     ensures read_whole { result ≡ Status.Done → IsAtEnd (I.left input.new) }
 
     ensures usage { (result ≡ Status.Usage) ↔ (IsScriptWord (map string_bytes words.now) → ⊥) }

@@ -20,7 +20,7 @@ fn push_step(out: &mut Vec<u8>, job: u32, act: &KeptAct, reply: &ActReply) -> Re
 }
 
 /// Appends the lines of the steps. After an `Err` part of them may stand there, as after each of these calls.
-pub fn push_steps(out: &mut Vec<u8>, trace: &[TraceStep]) -> Result<(), AllocError>
+pub(crate) fn push_steps(out: &mut Vec<u8>, trace: &[TraceStep]) -> Result<(), AllocError>
     ensures { OnOk result (out.new.items ≡ out.old.items ++ step_lines trace.now) }
 {
     for step in trace {
@@ -39,7 +39,7 @@ fn push_answer(out: &mut Vec<u8>, job: u64, answer: &Answer) -> Result<(), Alloc
 }
 
 /// Appends the lines of the answers, in the order of the jobs.
-pub fn push_answers(out: &mut Vec<u8>, answers: &[Answer]) -> Result<(), AllocError>
+pub(crate) fn push_answers(out: &mut Vec<u8>, answers: &[Answer]) -> Result<(), AllocError>
     ensures { OnOk result (out.new.items ≡ out.old.items ++ answer_lines 0 answers.now) }
 {
     for (job, answer) in answers.iter().enumerate() {

@@ -16,7 +16,7 @@ fn push_pair(out: &mut Vec<u8>, name: &[u8], pair: (u64, u64)) -> Result<(), All
 
 /// Appends the lines of the live numbers, ascending. After an `Err` part of them may stand there, as after each of
 /// these calls.
-pub fn push_lives(out: &mut Vec<u8>, session: &Session) -> Result<(), AllocError>
+pub(crate) fn push_lives(out: &mut Vec<u8>, session: &Session) -> Result<(), AllocError>
     ensures { OnOk result ((lives : List (ℕ × ℕ)) × LivesAbove session.now.rows None lives
         × (out.new.items ≡ out.old.items ++ live_lines lives)) }
 {
@@ -29,7 +29,7 @@ pub fn push_lives(out: &mut Vec<u8>, session: &Session) -> Result<(), AllocError
 }
 
 /// Appends the lines of the live handles, ascending.
-pub fn push_handles(out: &mut Vec<u8>, session: &Session) -> Result<(), AllocError>
+pub(crate) fn push_handles(out: &mut Vec<u8>, session: &Session) -> Result<(), AllocError>
     ensures { OnOk result ((handles : List (ℕ × ℕ)) × HandlesAbove session.now.handles None handles
         × (out.new.items ≡ out.old.items ++ handle_lines handles)) }
 {
@@ -42,7 +42,7 @@ pub fn push_handles(out: &mut Vec<u8>, session: &Session) -> Result<(), AllocErr
 }
 
 /// Appends the line of the slots that are left.
-pub fn push_slots(out: &mut Vec<u8>, left: u64) -> Result<(), AllocError>
+pub(crate) fn push_slots(out: &mut Vec<u8>, left: u64) -> Result<(), AllocError>
     ensures { OnOk result (out.new.items ≡ out.old.items ++ slots_line left) }
 {
     push_text(out, b"slots")?;

@@ -1,4 +1,4 @@
-use Rattle.std.proofs.Common.{◌≡◌, ◌<◌, ℕ, suc, ◌+◌, Bool, true, false, cond, not, ◌&&◌, List, [], ◌∷◌, ◌++◌, length}
+use Rattle.std.proofs.Common.{◌≡◌, ◌<◌, ◌≤◌, ℕ, suc, ◌+◌, Bool, true, false, cond, not, ◌&&◌, List, [], ◌∷◌, ◌++◌, length}
 use Rattle.std.proofs.Common.{take, Option, Some, None, Ok, Err, refl, ap, sym, subst, ◌∙◌, arith}
 use Rattle.std.specs.Prelude.{option_and_then, codes}
 use Rattle.pt_tree.specs.declared.spec.TreeLine.{TreeLine}
@@ -218,12 +218,13 @@ begins lines after is =
 -- the first bad line of a text that is no script
 abbrev FailsAt : ℕ → Begun → List (List ℕ) → ℕ → Type 0
 FailsAt number begun lines n =
-    (k : ℕ) × (n ≡ number + k) × (mid : Begun) × (fold begun (take k lines) ≡ Some mid)
+    (k : ℕ) × (n ≡ number + k) × (k ≤ length lines) × (mid : Begun) × (fold begun (take k lines) ≡ Some mid)
     × (k < length lines → fold begun (take (suc k) lines) ≡ None)
 
 fails : (parts : List (List ℕ)) (number : ℕ) (begun : Begun) (n : ℕ) → script_from number begun parts ≡ Err n →
     FailsAt number begun (whole_lines parts) n
-fails [] number begun n is = let same : number ≡ n = cc in (0, omega arith, begun, refl, λ within. absurd (omega arith))
+fails [] number begun n is = let same : number ≡ n = cc in
+    (0, omega arith, omega arith, begun, refl, λ within. absurd (omega arith))
 fails (text ∷ more) number begun n is = go (λ b. fails more (number + 1) b n) (is_empty text && is_empty more) is
   where
     last : (ended : Bool) → cond ended (Ok begun) (Err number) ≡ Err n → number ≡ n
@@ -236,15 +237,16 @@ fails (text ∷ more) number begun n is = go (λ b. fails more (number + 1) b n)
         FailsAt number begun (text ∷ whole_lines more) n
     at below None same e =
         let first : number ≡ n = cc in
-        (0, omega arith, begun, refl, λ within. ap (λ (o : Option Begun). fold_on o (λ b. fold b [])) same)
+        (0, omega arith, omega arith, begun, refl, λ within. ap (λ (o : Option Begun). fold_on o (λ b. fold b [])) same)
     at below (Some b) same e =
         let f = below b e in (
           suc f.0,
           (let h : n ≡ number + 1 + f.0 = f.1 in omega arith),
-          f.2,
-          ap (λ (o : Option Begun). fold_on o (λ b. fold b (take f.0 (whole_lines more)))) same ∙ f.3,
+          (let h : f.0 ≤ length (whole_lines more) = f.2 in omega arith),
+          f.3,
+          ap (λ (o : Option Begun). fold_on o (λ b. fold b (take f.0 (whole_lines more)))) same ∙ f.4,
           λ within. ap (λ (o : Option Begun). fold_on o (λ b. fold b (take (suc f.0) (whole_lines more)))) same
-              ∙ f.4 (omega arith),
+              ∙ f.5 (omega arith),
         )
 
     go : ((b : Begun) → script_from (number + 1) b more ≡ Err n → FailsAt (number + 1) b (whole_lines more) n) →
@@ -253,13 +255,18 @@ fails (text ∷ more) number begun n is = go (λ b. fails more (number + 1) b n)
         (going_on number (with_text begun text) (λ b. script_from (number + 1) b more)) ≡ Err n →
         FailsAt number begun (cond empty [] (text ∷ whole_lines more)) n
     go below true e = let first : number ≡ n = last begun.ended e in
-        (0, omega arith, begun, refl, λ within. absurd (omega arith))
+        (0, omega arith, omega arith, begun, refl, λ within. absurd (omega arith))
     go below false e = at below (with_text begun text) refl e
 
 pub names_first_bad : NamesFirstBad
 names_first_bad bytes number is =
-    let f = fails (lines_of bytes) 1 nothing number is in
-    (f.0, omega arith, begins (take f.0 (whole_lines (lines_of bytes))) f.2 f.3, λ within b. clash f.0 (f.4 within) b)
+    let f = fails (lines_of bytes) 1 nothing number is in (
+      f.0,
+      omega arith,
+      f.2,
+      begins (take f.0 (whole_lines (lines_of bytes))) f.3 f.4,
+      λ within b. clash f.0 (f.5 within) b,
+    )
   where
     clash : (k : ℕ) → fold nothing (take (suc k) (whole_lines (lines_of bytes))) ≡ None →
         BeginScript (take (suc k) (whole_lines (lines_of bytes))) → ⊥

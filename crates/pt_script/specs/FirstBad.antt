@@ -1,5 +1,6 @@
 -- Believed. Which line of a script is called bad.
-use Rattle.std.specs.Prelude.{◌≡◌, ◌<◌, ℕ, suc, List, [], ◌∷◌, ◌++◌, length, take, Ok, Err, if◌then◌else◌, ◌&&◌}
+use Rattle.std.specs.Prelude.{◌≡◌, ◌<◌, ◌≤◌, ℕ, suc, List, [], ◌∷◌, ◌++◌, length, take, Ok, Err, if◌then◌else◌}
+use Rattle.std.specs.Prelude.{◌&&◌}
 use Rattle.pt_text.specs.Words.{lines_of}
 use Rattle.pt_script.specs.Script.{Begun, nothing, is_empty, script_from, script_of}
 
@@ -17,10 +18,10 @@ abbrev pub BeginScript : List (List ℕ) → Type 0
 BeginScript lines = (more : List (List ℕ)) × AreScript (lines ++ more)
 
 -- The lines above this one, counted from 1, begin a script, and with it they begin none. Where there is no such
--- line, the text ended too early.
+-- line, the text ended too early, and the number is one past its last line.
 abbrev pub IsFirstBad : List (List ℕ) → ℕ → Type 0
 IsFirstBad lines number =
-    (above : ℕ) × (number ≡ suc above) × BeginScript (take above lines)
+    (above : ℕ) × (number ≡ suc above) × (above ≤ length lines) × BeginScript (take above lines)
     × (above < length lines → BeginScript (take (suc above) lines) → ⊥)
 
 -- the number that a text which is no script is refused with is that of the first bad line

@@ -1,67 +1,92 @@
 -- Each event is a few steps of a few kinds. What each kind of step keeps, each event keeps.
-use Rattle.std.proofs.Common.{◌≡◌, ◌≢◌, ◌⊎◌, ⊎_elim, inl, inr, ℕ, ◌+◌, ◌-◌, ◌<◌, ◌≤◌, List, [], ◌∷◌, true, false}
-use Rattle.std.proofs.Common.{Option, Some, None, refl, sym, ap, subst, ◌∙◌, arith}
+use Rattle.std.proofs.Common.{◌≡◌, ◌≢◌, ⊎_elim, inl, inr, ℕ, ◌+◌, ◌-◌, ◌≤◌, List, [], ◌∷◌, true, false}
+use Rattle.std.proofs.Common.{Option, Some, None, refl, sym, subst, ◌∙◌, arith}
 use Rattle.pt_host.specs.Words.{Each}
 use Rattle.pt_host.specs.declared.ids.ObjIds.{ObjIds}
 use Rattle.pt_session.specs.Change.{Change}
 use Rattle.pt_session.specs.declared.form.RowForm.{RowForm}
 use Rattle.pt_session.specs.declared.form.Negotiated.{Negotiated}
 use Rattle.pt_session.specs.declared.event.KeptEvent.TheVariants as change
-use Rattle.pt_session.specs.declared.reply.EventRefusal.TheVariants.{NotLive, Overtaken, NoSlot, Last, Live, Memory}
 use Rattle.pt_session.specs.declared.reply.EventReply.{EventReply}
 use Rattle.pt_session.specs.declared.reply.EventReply.TheVariants as reply
 use Rattle.pt_session.specs.Tables.{Row, HandleRow, Tables, HasNumber, HasIds, HasHandle, AreApart, AreHandlesApart}
 use Rattle.pt_session.specs.Tables.{IsSoundRow, IsSoundHandle, Agree}
-use Rattle.pt_session.specs.Store.{IsLater}
-use Rattle.pt_session.specs.Happens.{Happens, Changes, Ends, Dies, ForgetsOne, ForgetsAll, GivesAgain, ChangesHandle}
-use Rattle.pt_session.specs.Happens.{EndsHandle, HandleDies, NumbersDie}
-use Rattle.pt_session.specs.Happens.{NumbersDie.{none as no_number, next as next_number}, HandlesDie}
-use Rattle.pt_session.specs.Happens.{HandlesDie.{none as no_handle, next as next_handle}, Clears, IsFree, with_row}
-use Rattle.pt_session.specs.Happens.{new_row, new_handle, agreed}
-use Rattle.pt_session.specs.Effect.{IsNewRow, IsNewHandle, Effect}
-use Rattle.pt_session.specs.Effect.{Effect.{nothing, counted, changed, ended, added, drawn, handle_changed, handle_ended, handle_added, begun, shut}}
+use Rattle.pt_session.specs.Rows.{Kind, number_rows, handle_rows, ChangesRow, EndsRow, Dies, AllDie}
+use Rattle.pt_session.specs.Rows.{AllDie.{none as none_live, next as next_dies}}
+use Rattle.pt_session.specs.Happens.{Happens, Falls, ForgetsOne, ForgetsAll, Clears, with_row, new_row, new_handle}
+use Rattle.pt_session.specs.Happens.{agreed}
+use Rattle.pt_session.specs.Effect.{IsFree, IsNewRow, IsNewHandle, Effect}
+use Rattle.pt_session.specs.Effect.{Effect.{nothing, counted, changed, ended, added, drawn, begun, shut}}
+use Rattle.pt_session.specs.Effect.{Effect.{handle_changed, handle_ended, handle_added}}
 use Rattle.pt_session.specs.Effect.{Effects, Effects.{none, more}}
-use Rattle.pt_session.proofs.Dying.{clears_within}
+use Rattle.pt_session.proofs.Cases.{Case, GivenAgain, GivesPin, cases}
+use Rattle.pt_session.proofs.Dying.{clears_era}
 use Rattle.pt_session.proofs.Lists.{each_replaces, each_takes, each_map, each_both, two_takes, two_replaces}
 
-same_row : (row : Row) (count pins : ℕ) → IsLater row (record row { count = count; pins = pins })
-same_row row count pins = record { serial = refl; number = refl; ids = refl; form = refl; mode = refl; live = λ l. l }
+-- what a kind of rows makes of a row is a step of its own
+pub record Makes {R : Type 0} (kind : Kind R) : Type 0 where
+  pub ends : (tables after : Tables) (row : R) → EndsRow kind tables row after → Effect tables after
+  pub repins : (tables after : Tables) (row : R) (pins : ℕ) →
+      (kind.live row ≡ false → 1 ≤ kind.pins row → 1 ≤ pins) →
+      ChangesRow kind tables row (kind.repinned row pins) after → Effect tables after
+  pub buries : (tables after : Tables) (row : R) → kind.pins row ≢ 0 →
+      ChangesRow kind tables row (kind.dead row) after → Effect tables after
 
 recounted : (tables after : Tables) (row : Row) (count pins : ℕ) → (row.live ≡ true → 1 ≤ row.count → 1 ≤ count) →
     (row.live ≡ false → 1 ≤ row.pins → 1 ≤ pins) →
-    Changes tables row (record row { count = count; pins = pins }) after → Effect tables after
+    ChangesRow number_rows tables row (record row { count = count; pins = pins }) after → Effect tables after
 recounted tables after row count pins f g h =
-    changed row _ h.0 h.1 (same_row row count pins) (λ sound.
+    changed row _ h.0 h.1
+    (record { serial = refl; number = refl; ids = refl; form = refl; mode = refl; live = λ l. l }) (λ sound.
     record { drawn = sound.drawn; counted = λ l. f l (sound.counted l); pinned = λ d. g d (sound.pinned d) }) h.2
 
-ends : (tables after : Tables) (row : Row) → Ends tables row after → Effect tables after
-ends tables after row h = ended row h.0 h.1 h.2
+pub numbers_make : Makes number_rows
+numbers_make = record {
+  ends = λ tables after row h. ended row h.0 h.1 h.2;
+  repins = λ tables after row pins g h. recounted tables after row row.count pins (λ l m. m) g h;
+  buries = λ tables after row some h. changed row _ h.0 h.1
+      (record { serial = refl; number = refl; ids = refl; form = refl; mode = refl; live = λ l. absurd (cc) })
+      (λ sound. record { drawn = sound.drawn; counted = λ l. absurd (cc); pinned = λ d. omega (arith, some) }) h.2;
+}
 
-pub dies : (tables after : Tables) (row : Row) (closings : ℕ) → Dies tables row closings after → Effect tables after
-dies tables after row closings (inl h) = ends tables after row h.2
-dies tables after row closings (inr h) =
-    changed row _ h.2.0 h.2.1 (record {
-      serial = refl;
-      number = refl;
-      ids = refl;
-      form = refl;
-      mode = refl;
-      live =
-          λ l. absurd (cc);
-    }) (λ sound.
-    record { drawn = sound.drawn; counted = λ l. absurd (cc); pinned = λ d. omega (arith, h.0) }) h.2.2
+pub handles_make : Makes handle_rows
+handles_make = record {
+  ends = λ tables after row h. handle_ended row h.0 h.1 h.2;
+  repins = λ tables after row pins g h. handle_changed row _ h.0 h.1
+      (record { serial = refl; handle = refl; number = refl; fd = refl; live = λ l. l })
+      (λ sound. record { drawn = sound.drawn; pinned = λ d. g d (sound.pinned d) }) h.2;
+  buries = λ tables after row some h. handle_changed row _ h.0 h.1
+      (record { serial = refl; handle = refl; number = refl; fd = refl; live = λ l. absurd (cc) })
+      (λ sound. record { drawn = sound.drawn; pinned = λ d. omega (arith, some) }) h.2;
+}
 
-forgets_row : (tables after : Tables) (row : Row) (amount closings : ℕ) →
-    ((amount < row.count) × (closings ≡ 0) × Changes tables row (record row { count = row.count - amount }) after)
-    ⊎ ((row.count ≤ amount) × Dies tables row closings after) → Effect tables after
-forgets_row tables after row amount closings (inl h) =
+module _ {R : Type 0} (kind : Kind R) (makes : Makes kind) where
+  pub dies : (tables after : Tables) (row : R) (closings : ℕ) → Dies kind tables row closings after →
+      Effect tables after
+  dies tables after row closings (inl h) = makes.ends tables after row h.2
+  dies tables after row closings (inr h) = makes.buries tables after row h.0 h.2
+
+  pub unpins : (tables after : Tables) (serial closings : ℕ) → GivesPin kind tables serial closings after →
+      Effect tables after
+  unpins tables after serial closings (row, pins, s, p, inl h) = makes.ends tables after row h.3
+  unpins tables after serial closings (row, pins, s, p, inr h) =
+      makes.repins tables after row pins (λ d m. ⊎_elim (λ l. absurd (cc)) (λ q. omega (arith, q)) h.0) h.2
+
+  pub all_die : (tables after : Tables) (closings : ℕ) → AllDie kind tables closings after → Effects tables after
+  all_die tables after closings (none_live h) = none
+  all_die tables after closings (next_dies {mid = mid} {one = one} {more = rest} row least d k) =
+      more (dies tables mid row one d) (all_die mid after rest k)
+
+falls : (tables after : Tables) (row : Row) (amount closings : ℕ) → Falls tables row amount closings after →
+    Effect tables after
+falls tables after row amount closings (inl h) =
     recounted tables after row (row.count - amount) row.pins (λ l m. omega (arith, h.0)) (λ d m. m) h.2
-forgets_row tables after row amount closings (inr h) = dies tables after row closings h.1
+falls tables after row amount closings (inr h) = dies number_rows numbers_make tables after row closings h.1
 
 pub forgets_one : (tables after : Tables) (number amount closings : ℕ) →
     ForgetsOne tables number amount closings after → Effect tables after
 forgets_one tables after number amount closings (inl h) = nothing h.2
-forgets_one tables after number amount closings (inr h) = forgets_row tables after h.0 amount closings h.2
+forgets_one tables after number amount closings (inr h) = falls tables after h.0 amount closings h.2
 
 pub forgets_all : (tables after : Tables) (list : List (ℕ × ℕ)) (closings : ℕ) →
     ForgetsAll tables list closings after → Effects tables after
@@ -69,169 +94,78 @@ forgets_all tables after [] closings h = subst (λ z. Effects tables z) (sym h.1
 forgets_all tables after (pair ∷ list) closings h =
     more (forgets_one tables h.0 pair.0 pair.1 h.1 h.3) (forgets_all h.0 after list h.2 h.4)
 
-unpins_row : (tables after : Tables) (row : Row) (pins closings : ℕ) →
-    ((row.live ≡ false) × (pins ≡ 0) × (closings ≡ 1) × Ends tables row after)
-    ⊎ (((row.live ≡ true) ⊎ (pins ≢ 0)) × (closings ≡ 0) × Changes tables row (record row { pins = pins }) after) →
-    Effect tables after
-unpins_row tables after row pins closings (inl h) = ends tables after row h.3
-unpins_row tables after row pins closings (inr h) =
-    recounted tables after row row.count pins (λ l m. m) (λ d m.
-    ⊎_elim (λ l. absurd (cc)) (λ p. omega (arith, p)) h.0) h.2
-
-gives_again : (tables after : Tables) (ids : ObjIds) (number : ℕ) → GivesAgain tables ids number after →
-    Effect tables after
-gives_again tables after ids number h =
+again : (tables after : Tables) (ids : ObjIds) (number : ℕ) → GivenAgain tables ids number after → Effect tables after
+again tables after ids number h =
     recounted tables after h.0 (h.0.count + 1) h.0.pins (λ l m. omega arith) (λ d m. m) h.4
 
 adds : (tables after : Tables) (number : ℕ) (form : RowForm) (ids : ObjIds) (mode count : ℕ)
     (negotiated : Option Negotiated) → 1 ≤ count → IsFree tables number ids →
     after ≡ agreed negotiated (with_row tables (new_row tables number form ids mode count)) → Effect tables after
 adds tables after number form ids mode count None l free e =
-    added (new_row tables number form ids mode count) tables.negotiated (record {
-      serial = refl;
-      live = refl;
-      count =
-          l;
-      pins = refl;
-      free = free;
-    }) e
+    added (new_row tables number form ids mode count) tables.negotiated
+    (record { serial = refl; live = refl; count = l; pins = refl; free = free }) e
 adds tables after number form ids mode count (Some negotiated) l free e =
-    added (new_row tables number form ids mode count) negotiated (record {
-      serial = refl;
-      live = refl;
-      count = l;
-      pins = refl;
-      free = free;
-    }) e
+    added (new_row tables number form ids mode count) negotiated
+    (record { serial = refl; live = refl; count = l; pins = refl; free = free }) e
 
 one : {tables after : Tables} → Effect tables after → Effects tables after
 one e = more e none
-
-stays : {tables after : Tables} → after ≡ tables → Effects tables after
-stays e = one (nothing e)
-
-handle_repinned : (tables after : Tables) (row : HandleRow) (pins : ℕ) →
-    (row.live ≡ false → 1 ≤ row.pins → 1 ≤ pins) → ChangesHandle tables row (record row { pins = pins }) after →
-    Effect tables after
-handle_repinned tables after row pins g h =
-    handle_changed row _ h.0 h.1 (record { serial = refl; handle = refl; number = refl; fd = refl; live = λ l. l })
-    (λ sound. record { drawn = sound.drawn; pinned = λ d. g d (sound.pinned d) }) h.2
-
-handle_ends : (tables after : Tables) (row : HandleRow) → EndsHandle tables row after → Effect tables after
-handle_ends tables after row h = handle_ended row h.0 h.1 h.2
-
-pub handle_dies : (tables after : Tables) (row : HandleRow) (closings : ℕ) → HandleDies tables row closings after →
-    Effect tables after
-handle_dies tables after row closings (inl h) = handle_ends tables after row h.2
-handle_dies tables after row closings (inr h) =
-    handle_changed row _ h.2.0 h.2.1 (record {
-      serial = refl;
-      handle = refl;
-      number = refl;
-      fd = refl;
-      live =
-          λ l. absurd (cc);
-    }) (λ sound. record { drawn = sound.drawn; pinned = λ d. omega (arith, h.0) }) h.2.2
-
-unpins_handle : (tables after : Tables) (row : HandleRow) (pins closings : ℕ) →
-    ((row.live ≡ false) × (pins ≡ 0) × (closings ≡ 1) × EndsHandle tables row after)
-    ⊎ (((row.live ≡ true) ⊎ (pins ≢ 0)) × (closings ≡ 0)
-    × ChangesHandle tables row (record row { pins = pins }) after) → Effect tables after
-unpins_handle tables after row pins closings (inl h) = handle_ends tables after row h.3
-unpins_handle tables after row pins closings (inr h) =
-    handle_repinned tables after row pins (λ d m. ⊎_elim (λ l. absurd (cc)) (λ p. omega (arith, p)) h.0) h.2
-
-pub numbers_die : (tables after : Tables) (closings : ℕ) → NumbersDie tables closings after → Effects tables after
-numbers_die tables after closings (no_number h) = none
-numbers_die tables after closings (next_number {mid = mid} {one = one} {more = rest} row l least d k) =
-    more (dies tables mid row one d) (numbers_die mid after rest k)
-
-pub handles_die : (tables after : Tables) (closings : ℕ) → HandlesDie tables closings after → Effects tables after
-handles_die tables after closings (no_handle h) = none
-handles_die tables after closings (next_handle {mid = mid} {one = one} {more = rest} row l least d k) =
-    more (handle_dies tables mid row one d) (handles_die mid after rest k)
 
 both : {tables mid after : Tables} → Effects tables mid → Effects mid after → Effects tables after
 both none fs = fs
 both (more e es) fs = more e (both es fs)
 
-clears : (tables after : Tables) (era closings : ℕ) → Clears tables era closings after → Effects tables after
-clears tables after era closings h =
-    let same = ap (λ (t : Tables). t.era) (clears_within tables after era closings h) in
-    both (numbers_die tables h.0 h.2 h.4)
-    (both (handles_die h.0 h.1 h.3 h.5) (one (begun era _ (omega (arith, same, h.7)) h.8)))
+clears : (tables after : Tables) (closings : ℕ) → Clears tables closings after → Effects tables after
+clears tables after closings h =
+    let same = clears_era tables after closings h in
+    both (all_die number_rows numbers_make tables h.0 h.2 h.4)
+    (both (all_die handle_rows handles_make h.0 h.1 h.3 h.5) (one (begun (tables.era + 1) _ (omega (arith, same))
+    h.7)))
+
+pub case_effects : (tables after : Tables) (asked : Change) (told : EventReply) → Case tables asked told after →
+    Effects tables after
+case_effects tables after asked (reply.Refused refusal) h = one (nothing h.1)
+case_effects tables after change.Begin (reply.Began era negotiated) h = one (nothing h.2)
+case_effects tables after (change.Resolve number) (reply.Resolved serial form ids mode) h =
+    one (numbers_make.repins tables after h.0 (h.0.pins + 1) (λ d m. omega arith) h.7)
+case_effects tables after (change.Unpin serial) (reply.Done closings) h =
+    one (unpins number_rows numbers_make tables after serial closings h)
+case_effects tables after (change.Claim era handle ids) (reply.Claimed number) h = one (again tables after ids number
+    h.1)
+case_effects tables after (change.Claim era handle ids) reply.Absent h = one (nothing h.2)
+case_effects tables after change.TakeFd reply.Taken h =
+    one (counted h.0 tables.next_number (λ l. omega (arith, h.1)) (omega arith) h.2)
+case_effects tables after change.GiveFd reply.Given h =
+    one (counted (tables.slots + 1) tables.next_number (λ l. omega (arith, h.0)) (omega arith) h.1)
+case_effects tables after change.DrawNode (reply.Drawn number) h =
+    one (counted tables.slots (tables.next_number + 1) (λ l. l) (omega arith) h.2)
+case_effects tables after (change.Insert era number form ids mode) (reply.Inserted given) h =
+    one (adds tables after number form ids mode 1 None (omega arith) h.1 h.4)
+case_effects tables after (change.Insert era number form ids mode) (reply.Found given) h =
+    one (again tables after ids given h.1)
+case_effects tables after (change.InsertRoot era form ids mode negotiated) (reply.Inserted given) h =
+    one (adds tables after 1 form ids mode 2 negotiated (omega arith) h.1 h.4)
+case_effects tables after (change.Forget list) (reply.Done closings) h = forgets_all tables after list closings h
+case_effects tables after (change.GiveBack era number) (reply.Done closings) h =
+    one (forgets_one tables after number 1 closings h.2)
+case_effects tables after change.DrawHandle (reply.Drawn handle) h = one (drawn (tables.next_handle + 1) (omega arith)
+    h.2)
+case_effects tables after (change.InsertHandle era handle number fd) (reply.Inserted given) h =
+    one (handle_added (new_handle tables handle number fd)
+    (record { serial = refl; live = refl; pins = refl; free = h.1 }) h.4)
+case_effects tables after (change.PinHandle handle number) (reply.Pinned serial fd) h =
+    one (handles_make.repins tables after h.0 (h.0.pins + 1) (λ d m. omega arith) h.5)
+case_effects tables after (change.UnpinHandle serial) (reply.Done closings) h =
+    one (unpins handle_rows handles_make tables after serial closings h)
+case_effects tables after (change.Release handle number) (reply.Done closings) h =
+    one (dies handle_rows handles_make tables after h.0 closings h.2)
+case_effects tables after change.Clear (reply.Cleared era closings) h = clears tables after closings h.1
+case_effects tables after change.TakeClosing (reply.Closing fd slot) h = one (shut _ h.0 h.1 h.2)
+case_effects tables after _ _ h = absurd h
 
 pub effects : (tables after : Tables) (asked : Change) (told : EventReply) → Happens tables asked told after →
     Effects tables after
-effects tables after change.Begin (reply.Began era negotiated) h = stays h.2
-effects tables after (change.Resolve number) (reply.Resolved serial form ids mode) h =
-    one (recounted tables after h.0 h.0.count (h.0.pins + 1) (λ l m. m) (λ d m. omega arith) h.7)
-effects tables after (change.Resolve number) (reply.Refused NotLive) h = stays h.1
-effects tables after (change.Resolve number) (reply.Refused Last) h = stays h.4
-effects tables after (change.Unpin serial) (reply.Done closings) h = one (unpins_row tables after h.0 h.1 closings h.4)
-effects tables after (change.Unpin serial) (reply.Refused NotLive) h = stays h.1
-effects tables after (change.Claim era handle ids) (reply.Claimed number) h =
-    one (gives_again tables after ids number h.1)
-effects tables after (change.Claim era handle ids) reply.Absent h = stays h.2
-effects tables after (change.Claim era handle ids) (reply.Refused Overtaken) h = stays h.1
-effects tables after (change.Claim era handle ids) (reply.Refused Last) h = stays h.2
-effects tables after change.TakeFd reply.Taken h =
-    one (counted h.0 tables.next_number (λ l. omega arith) (omega arith) h.2)
-effects tables after change.TakeFd (reply.Refused NoSlot) h = stays h.1
-effects tables after change.GiveFd reply.Given h =
-    one (counted (tables.slots + 1) tables.next_number (λ l. omega arith) (omega arith) h.1)
-effects tables after change.GiveFd (reply.Refused NotLive) h = stays h.1
-effects tables after change.DrawNode (reply.Drawn number) h =
-    one (counted tables.slots (tables.next_number + 1) (λ l. l) (omega arith) h.2)
-effects tables after change.DrawNode (reply.Refused Last) h = stays h.1
-effects tables after (change.Insert era number form ids mode) (reply.Inserted given) h =
-    one (adds tables after number form ids mode 1 None (omega arith) h.1 h.4)
-effects tables after (change.Insert era number form ids mode) (reply.Found given) h =
-    one (gives_again tables after ids given h.1)
-effects tables after (change.Insert era number form ids mode) (reply.Refused Overtaken) h = stays h.1
-effects tables after (change.Insert era number form ids mode) (reply.Refused Live) h = stays h.3
-effects tables after (change.Insert era number form ids mode) (reply.Refused Last) h = stays h.2
-effects tables after (change.Insert era number form ids mode) (reply.Refused Memory) h = stays h.3
-effects tables after (change.InsertRoot era form ids mode negotiated) (reply.Inserted given) h =
-    one (adds tables after 1 form ids mode 2 negotiated (omega arith) h.1 h.4)
-effects tables after (change.InsertRoot era form ids mode negotiated) (reply.Refused Overtaken) h = stays h.1
-effects tables after (change.InsertRoot era form ids mode negotiated) (reply.Refused Live) h = stays h.2
-effects tables after (change.InsertRoot era form ids mode negotiated) (reply.Refused Last) h = stays h.3
-effects tables after (change.InsertRoot era form ids mode negotiated) (reply.Refused Memory) h = stays h.3
-effects tables after (change.Forget list) (reply.Done closings) h = forgets_all tables after list closings h
-effects tables after (change.GiveBack era number) (reply.Done closings) h =
-    one (forgets_one tables after number 1 closings h.2)
-effects tables after (change.GiveBack era number) (reply.Refused Overtaken) h = stays h.1
-effects tables after (change.GiveBack era number) (reply.Refused NotLive) h = stays h.2
-effects tables after change.DrawHandle (reply.Drawn handle) h = one (drawn (tables.next_handle + 1) (omega arith) h.2)
-effects tables after change.DrawHandle (reply.Refused Last) h = stays h.1
-effects tables after (change.InsertHandle era handle number fd) (reply.Inserted given) h =
-    one (handle_added (new_handle tables handle number fd) (record {
-      serial = refl;
-      live = refl;
-      pins = refl;
-      free =
-          h.1;
-    }) h.4)
-effects tables after (change.InsertHandle era handle number fd) (reply.Refused Overtaken) h = stays h.1
-effects tables after (change.InsertHandle era handle number fd) (reply.Refused Live) h = stays h.2
-effects tables after (change.InsertHandle era handle number fd) (reply.Refused Last) h = stays h.3
-effects tables after (change.InsertHandle era handle number fd) (reply.Refused Memory) h = stays h.3
-effects tables after (change.PinHandle handle number) (reply.Pinned serial fd) h =
-    one (handle_repinned tables after h.0 (h.0.pins + 1) (λ d m. omega arith) h.5)
-effects tables after (change.PinHandle handle number) (reply.Refused NotLive) h = stays h.1
-effects tables after (change.PinHandle handle number) (reply.Refused Last) h = stays h.4
-effects tables after (change.UnpinHandle serial) (reply.Done closings) h =
-    one (unpins_handle tables after h.0 h.1 closings h.4)
-effects tables after (change.UnpinHandle serial) (reply.Refused NotLive) h = stays h.1
-effects tables after (change.Release handle number) (reply.Done closings) h =
-    one (handle_dies tables after h.0 closings h.2)
-effects tables after (change.Release handle number) (reply.Refused NotLive) h = stays h.1
-effects tables after change.Clear (reply.Cleared era closings) h = clears tables after era closings h.1
-effects tables after change.Clear (reply.Refused Last) h = stays h.1
-effects tables after change.TakeClosing (reply.Closing fd slot) h = one (shut _ h.0 h.1 h.2)
-effects tables after change.TakeClosing (reply.Refused NotLive) h = stays h.1
-effects tables after _ _ h = absurd h
+effects tables after asked told h = case_effects tables after asked told (cases tables after asked told h)
 
 -- what each kind of step keeps, some steps keep
 pub effects_keep : (P : Tables → Type 0) → ((tables after : Tables) → Effect tables after → P tables → P after) →
@@ -278,7 +212,8 @@ others_later handles was now e h =
     ≢ handle.serial) handles (λ handle n f. n (sym e ∙ f)) h
 
 -- a serial that none of the handles has had yet
-others_new : (tables : Tables) (row : Row) → row.serial ≡ tables.next_row → Agree tables → AreOthers tables.handles row
+others_new : (tables : Tables) (row : Row) → row.serial ≡ tables.next_row → Agree tables → AreOthers tables.handles
+    row
 others_new tables row s agree =
     each_map (IsSoundHandle tables.next_row) (λ (handle : HandleRow). row.serial
     ≢ handle.serial) tables.handles (λ handle sound e. let l = sound.drawn in
@@ -323,7 +258,8 @@ agree_effect tables after (changed was now rows r later sound e) agree = subst A
       agree.apart;
   sound_handles = agree.sound_handles;
   handles_apart = agree.handles_apart;
-  serials = each_replaces (AreOthers tables.handles) r (others_later tables.handles was now later.serial) agree.serials;
+  serials = each_replaces (AreOthers tables.handles) r (others_later tables.handles was now later.serial)
+      agree.serials;
   slots = agree.slots;
 })
 agree_effect tables after (ended row rows t e) agree =

@@ -5,7 +5,8 @@ use Rattle.std.specs.Ordering.{nat_cmp}
 use Rattle.std.specs.Map.{lookup, remove_entry, set_value, values_of}
 use Rattle.std.specs.BTreeMap.{is_at}
 use Rattle.pt_host.specs.Words.{Each, EachTwo, Takes, Takes.{here, there}, Replaces, Replaces.{at, past}}
-use Rattle.pt_session.specs.Store.{IsAmong, IsOlder}
+use Rattle.pt_session.specs.Rows.{IsAmong}
+use Rattle.pt_session.specs.Store.{IsOlder}
 use Rattle.pt_session.specs.Index.{row_at, IsKeyed}
 use Rattle.pt_session.proofs.Lists.{each_taken}
 use Rattle.pt_session.proofs.Orders.{at_same, at_other, at_below}
@@ -22,7 +23,8 @@ module _ {R : Type 0} (test : ℕ → Bool) where
   pub lookup_takes : (entries : List (ℕ × R)) (row : R) → lookup test entries ≡ Some row →
       Takes row (values_of entries) (values_of (remove_entry test entries))
   lookup_takes [] row e = absurd (cc)
-  lookup_takes (entry ∷ entries) row e = takes_head (test entry.0) entry entries row e (λ h. lookup_takes entries row h)
+  lookup_takes (entry ∷ entries) row e = takes_head (test entry.0) entry entries row e (λ h. lookup_takes entries row
+      h)
 
   replaces_head : (b : Bool) (entry : ℕ × R) (entries : List (ℕ × R)) (was now : R) →
       cond b (Some entry.1) (lookup test entries) ≡ Some was →
@@ -101,7 +103,8 @@ module _ {R : Type 0} (serial_of : R → ℕ) where
   found_by row (first ∷ rows) (y ∷ others) (there t) [] e k o = absurd (cc)
   found_by row (first ∷ rows) (y ∷ others) (there t) (entry ∷ entries) e k o =
       let rest : values_of entries ≡ rows = cc in
-      let older = each_taken (IsOlder serial_of entry.1) t (subst (λ z. Each (IsOlder serial_of entry.1) z) rest o.0) in
+      let older = each_taken (IsOlder serial_of entry.1) t (subst (λ z. Each (IsOlder serial_of entry.1) z) rest o.0)
+      in
       let key = k.0 in
       rw (at_other (serial_of row) entry.0 (omega arith)) (found_by row rows others t entries rest k.1 o.1)
 

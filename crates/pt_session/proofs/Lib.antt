@@ -4,7 +4,10 @@ pub mod Indexing
 pub mod Entries
 pub mod Seen
 pub mod Stores
-pub mod HandleStores
+pub mod Finding
+pub mod Storing
+pub mod Cases
+pub mod KeptRows
 pub mod Dying
 pub mod Slots
 pub mod Forgetting

@@ -34,7 +34,8 @@ each_reverse P [] h = tt
 each_reverse P (x ∷ xs) h =
     rw (reverse_onto xs x []) (each_append P (reverse xs) (x ∷ []) (each_reverse P xs h.1) (h.0, tt))
 
-pub two_takes : {A : Type 0} (R : A → A → Type 0) {x : A} {xs ys : List A} → Takes x xs ys → EachTwo R xs → EachTwo R ys
+pub two_takes : {A : Type 0} (R : A → A → Type 0) {x : A} {xs ys : List A} → Takes x xs ys → EachTwo R xs → EachTwo R
+    ys
 two_takes R here h = h.1
 two_takes R (there {y = y} t) h = (each_takes (R y) t h.0, two_takes R t h.1)
 
@@ -89,6 +90,7 @@ replaces_reverse {x = x} {y = y} (at {xs = xs}) =
     (subst (λ zs. Replaces x y (reverse xs ++ x ∷ []) zs) (sym (reverse_onto xs y []))
     (replaces_last (reverse xs) x y))
 replaces_reverse {x = x} {y = y} (past {z = z} {xs = xs} {ys = ys} r) =
-    let e : Replaces x y (reverse xs ++ z ∷ []) (reverse ys ++ z ∷ []) = replaces_left (z ∷ []) (replaces_reverse r) in
+    let e : Replaces x y (reverse xs ++ z ∷ []) (reverse ys ++ z ∷ []) = replaces_left (z ∷ []) (replaces_reverse r)
+    in
     subst (λ zs. Replaces x y zs (reverse (z ∷ ys))) (sym (reverse_onto xs z []))
     (subst (λ zs. Replaces x y (reverse xs ++ z ∷ []) zs) (sym (reverse_onto ys z [])) e)

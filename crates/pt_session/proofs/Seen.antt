@@ -9,7 +9,8 @@ use Rattle.std.specs.declared.cmp.Ordering.TheVariants.{Greater}
 use Rattle.std.proofs.lemmas.List.{reverse-reverse, reverse-append}
 use Rattle.std.proofs.lemmas.Option.{same_Some}
 use Rattle.pt_host.specs.Words.{Each, EachTwo, Takes}
-use Rattle.pt_session.specs.Store.{IsAmong, NoneOf, IsOlder}
+use Rattle.pt_session.specs.Rows.{IsAmong, NoneOf}
+use Rattle.pt_session.specs.Store.{IsOlder}
 use Rattle.pt_session.specs.LiveAfter.{IsAbove}
 use Rattle.pt_session.specs.Index.{row_at, IsKeyed, Indexes, IsNextIn}
 use Rattle.pt_session.proofs.Lists.{each_taken, each_reverse, takes_reverse}
@@ -24,7 +25,8 @@ among_reversed row rows seen e h = (
       Takes row z (reverse h.0)) (reverse-reverse rows) (takes_reverse (subst (λ z. Takes row z h.0) (sym e) h.1)),
 )
 
-pub among_seen : {R : Type 0} (row : R) (rows seen : List R) → reverse rows ≡ seen → IsAmong row rows → IsAmong row seen
+pub among_seen : {R : Type 0} (row : R) (rows seen : List R) → reverse rows ≡ seen → IsAmong row rows → IsAmong row
+    seen
 among_seen row rows seen e h = (reverse h.0, subst (λ z. Takes row z (reverse h.0)) e (takes_reverse h.1))
 
 pub each_unseen : {R : Type 0} (P : R → Type 0) (rows seen : List R) → reverse rows ≡ seen → Each P seen → Each P rows

@@ -1,8 +1,5 @@
 -- How many slots rows hold.
-use Rattle.std.proofs.Common.{◌≡◌, ℕ, ◌+◌, List, ◌∷◌, true, cond, length, reverse, refl, sym, ap, ◌∙◌, arith}
-use Rattle.std.proofs.lemmas.List.{length-reverse}
-use Rattle.std.specs.Map.{values_of}
-use Rattle.std.proofs.lemmas.Map.Entries.{length-values_of}
+use Rattle.std.proofs.Common.{◌≡◌, ◌+◌, List, ◌∷◌, true, cond, length, refl, sym, arith}
 use Rattle.std.proofs.lemmas.List.Recursion.{is_count_by}
 use Rattle.pt_session.specs.Tables.{Row}
 use Rattle.pt_session.specs.declared.form.RowForm.{RowForm}
@@ -19,9 +16,3 @@ one_more row rows = rw (form_holds row.form) (omega arith)
 -- each row is in file form
 pub rows_hold : (rows : List Row) → row_slots rows ≡ length rows
 rows_hold rows = sym (is_count_by (λ (xs : List Row). length xs) (λ row. holds_slot row.form) refl one_more rows)
-
--- as many rows are seen as the map holds
-pub length_seen : (entries : List (ℕ × Row)) (seen : List Row) → reverse (values_of entries) ≡ seen →
-    length seen ≡ length entries
-length_seen entries seen e =
-    ap (λ (xs : List Row). length xs) (sym e) ∙ length-reverse (values_of entries) ∙ length-values_of entries

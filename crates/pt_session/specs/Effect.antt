@@ -1,11 +1,17 @@
 -- Believed. The few ways in which an event changes the tables.
 use Rattle.std.specs.Prelude.{◌≡◌, ◌≤◌, ℕ, true, List, [], ◌∷◌, ◌++◌}
 use Rattle.pt_host.specs.Words.{Takes, Replaces}
+use Rattle.pt_host.specs.declared.ids.ObjIds.{ObjIds}
 use Rattle.pt_session.specs.declared.form.Negotiated.{Negotiated}
-use Rattle.pt_session.specs.Tables.{Row, HandleRow, Closing, Tables, closing_of, closing_of_handle, HasHandle}
-use Rattle.pt_session.specs.Tables.{IsSoundRow, IsSoundHandle}
+use Rattle.pt_session.specs.Tables.{Row, HandleRow, Closing, Tables, closing_of, closing_of_handle, HasNumber}
+use Rattle.pt_session.specs.Tables.{HasIds, HasHandle, IsSoundRow, IsSoundHandle}
 use Rattle.pt_session.specs.Store.{IsLater, IsLaterHandle}
-use Rattle.pt_session.specs.Happens.{IsFree, NoHandle, with_row, with_handle}
+use Rattle.pt_session.specs.Rows.{NoRow, NoHandle}
+use Rattle.pt_session.specs.Happens.{with_row, with_handle}
+
+-- neither the number nor the object has a live row
+abbrev pub IsFree : Tables → ℕ → ObjIds → Type 0
+IsFree tables number ids = NoRow tables (HasIds ids) × NoRow tables (HasNumber number)
 
 -- the row that an insertion makes
 pub record IsNewRow (tables : Tables) (row : Row) : Type 0 where

@@ -6,7 +6,8 @@ use Rattle.std.specs.Map.{lookup, values_of}
 use Rattle.std.specs.BTreeMap.{BTreeMap, is_at, get}
 use Rattle.pt_host.specs.Words.{Each, EachTwo}
 use Rattle.pt_host.specs.declared.ids.ObjIds.{ObjIds}
-use Rattle.pt_session.specs.Tables.{Row, HandleRow}
+use Rattle.pt_session.specs.Tables.{Row, HandleRow, Closing}
+use Rattle.pt_session.specs.Rows.{Kind, IsAmong}
 use Rattle.pt_session.specs.Store.{IsOlder}
 use Rattle.pt_session.specs.LiveAfter.{IsAbove}
 
@@ -24,34 +25,13 @@ pair_cmp x y = ordering_then (nat_cmp x.0 y.0) (nat_cmp x.1 y.1)
 abbrev pub object_cmp : ObjectKey → ObjectKey → Ordering
 object_cmp x y = ordering_then (pair_cmp x.0 y.0) (nat_cmp x.1 y.1)
 
--- the serial that a number leads to
-abbrev pub by_number : BTreeMap ℕ ℕ → ℕ → Option ℕ
-by_number numbers = get nat_cmp numbers
+-- the serial that a key leads to
+abbrev pub by_key : BTreeMap ℕ ℕ → ℕ → Option ℕ
+by_key keys = get nat_cmp keys
 
 -- the serial that an object leads to
 abbrev pub by_object : BTreeMap ObjectKey ℕ → ObjectKey → Option ℕ
 by_object objects = get object_cmp objects
-
-abbrev pub serial_of_row : Row → ℕ
-serial_of_row row = row.serial
-
-abbrev pub is_live_row : Row → Bool
-is_live_row row = row.live
-
-abbrev pub number_of_row : Row → ℕ
-number_of_row row = row.number
-
-abbrev pub object_of_row : Row → ObjectKey
-object_of_row row = key_of row.ids
-
-abbrev pub serial_of_handle : HandleRow → ℕ
-serial_of_handle row = row.serial
-
-abbrev pub is_live_handle : HandleRow → Bool
-is_live_handle row = row.live
-
-abbrev pub handle_of_row : HandleRow → ℕ
-handle_of_row row = row.handle
 
 -- the row of this serial
 abbrev pub row_at : {R : Type 0} → List (ℕ × R) → ℕ → Option R
@@ -82,21 +62,23 @@ pub record Indexes {R K : Type 0} (is_live : R → Bool) (key : R → K) (rows :
 abbrev pub IsKeyed : {R : Type 0} → (R → ℕ) → List (ℕ × R) → Type 0
 IsKeyed serial_of entries = Each (λ entry. serial_of entry.1 ≡ entry.0) entries
 
--- Each row can still be put on the closing list without memory, where others have their room, stands under its
--- serial, and is found by what it stands for.
-pub record IsSoundStore (entries : List (ℕ × Row)) (number_index : ℕ → Option ℕ) (object_index : ObjectKey → Option ℕ)
-    (others : ℕ) (capacity : ℕ) : Type 0 where
-  pub room : length entries + others ≤ capacity
-  pub keyed : IsKeyed serial_of_row entries
-  pub ordered : EachTwo (IsOlder serial_of_row) (values_of entries)
-  pub numbers : Indexes is_live_row number_of_row (row_at entries) number_index
-  pub objects : Indexes is_live_row object_of_row (row_at entries) object_index
+-- each row stands under its serial, and a live one is found by its key
+pub record IsSoundRows {R : Type 0} (kind : Kind R) (entries : List (ℕ × R)) (index : ℕ → Option ℕ) : Type 0 where
+  pub keyed : IsKeyed kind.serial entries
+  pub ordered : EachTwo (IsOlder kind.serial) (values_of entries)
+  pub keys : Indexes kind.live kind.key (row_at entries) index
 
--- each handle's row stands under its serial, and is found by its handle
-pub record IsSoundHandles (entries : List (ℕ × HandleRow)) (handle_index : ℕ → Option ℕ) : Type 0 where
-  pub keyed : IsKeyed serial_of_handle entries
-  pub ordered : EachTwo (IsOlder serial_of_handle) (values_of entries)
-  pub handles : Indexes is_live_handle handle_of_row (row_at entries) handle_index
+-- an object leads to the serial of its live row
+pub record FindsObjects (rows : List Row) (objects : ObjectKey → Option ℕ) : Type 0 where
+  pub sound : (key : ObjectKey) (serial : ℕ) → objects key ≡ Some serial →
+      (row : Row) × IsAmong row rows × (row.serial ≡ serial) × (row.live ≡ true) × (key_of row.ids ≡ key)
+  pub whole : (row : Row) → IsAmong row rows → row.live ≡ true → objects (key_of row.ids) ≡ Some row.serial
+
+-- each row can still be put on the closing list without memory, and objects are found
+pub record IsSoundStore (rows : List Row) (index : ObjectKey → Option ℕ) (handles : List HandleRow)
+    (closing : List Closing) (capacity : ℕ) : Type 0 where
+  pub room : length rows + length handles + length closing ≤ capacity
+  pub objects : FindsObjects rows index
 
 -- the least key above, with what it has, or none where nothing is above
 abbrev pub IsNextIn : (ℕ → Option ℕ) → Option ℕ → Option (ℕ × ℕ) → Type 0

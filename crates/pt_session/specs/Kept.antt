@@ -1,13 +1,12 @@
 -- Inner. The tables as they are kept in memory, and what parts of events do to them.
-use Rattle.std.specs.Prelude.{◌≡◌, ◌<◌, ◌≤◌, ℕ}
+use Rattle.std.specs.Prelude.{◌≡◌, ◌<◌, ◌+◌}
 use Rattle.pt_host.specs.declared.ids.ObjIds.{ObjIds}
 use Rattle.pt_session.specs.declared.tables.SessionTables.{SessionTables}
 use Rattle.pt_session.specs.declared.giving.Matching.{Matching}
 use Rattle.pt_session.specs.declared.giving.Matching.TheVariants as matching
-use Rattle.pt_session.specs.declared.reply.EventRefusal.{EventRefusal}
-use Rattle.pt_session.specs.declared.reply.EventRefusal.TheVariants.{Last, Live, Memory}
-use Rattle.pt_session.specs.Tables.{Row, Tables, HasNumber, HasIds}
-use Rattle.pt_session.specs.Happens.{last_u64, IsRow, NoRow, GivesAgain, IsFull, IsFree}
+use Rattle.pt_session.specs.Tables.{Row, Tables, HasIds}
+use Rattle.pt_session.specs.Rows.{IsRow, NoRow, number_rows, ChangesRow}
+use Rattle.pt_session.specs.Outcome.{last_u64}
 
 -- the tables that these are
 abbrev pub tables_of : SessionTables → Tables
@@ -27,12 +26,8 @@ tables_of it = record {
 -- the row of this object is given once more, where it has one
 abbrev pub Matches : Tables → ObjIds → Matching → Tables → Type 0
 Matches tables ids matching.Nothing after = NoRow tables (HasIds ids) × (after ≡ tables)
-Matches tables ids matching.Full after = IsFull tables ids × (after ≡ tables)
-Matches tables ids (matching.Given number) after = GivesAgain tables ids number after
-
--- why a row for this number and object is not added
-abbrev pub IsNotAdded : Tables → ℕ → ObjIds → EventRefusal → Type 0
-IsNotAdded tables number ids Live = NoRow tables (HasIds ids) × ((row : Row) × IsRow tables row × HasNumber number row)
-IsNotAdded tables number ids Last = IsFree tables number ids × (last_u64 ≤ tables.next_row)
-IsNotAdded tables number ids Memory = IsFree tables number ids × (tables.next_row < last_u64)
-IsNotAdded tables number ids refusal = ⊥
+Matches tables ids matching.Full after =
+    (row : Row) × IsRow tables row × HasIds ids row × (row.count ≡ last_u64) × (after ≡ tables)
+Matches tables ids (matching.Given number) after =
+    (row : Row) × IsRow tables row × HasIds ids row × (row.number ≡ number) × (row.count < last_u64)
+    × ChangesRow number_rows tables row (record row { count = row.count + 1 }) after

@@ -2,7 +2,8 @@
 use Rattle.std.specs.Prelude.{◌≡◌, ◌≤◌, ◌+◌, ℕ, true}
 use Rattle.pt_session.specs.Change.{Change}
 use Rattle.pt_session.specs.Tables.{Tables, Agree, nothing_agreed, empty_tables}
-use Rattle.pt_session.specs.Happens.{Happens, NoRow, NoHandle}
+use Rattle.pt_session.specs.Rows.{NoRow, NoHandle}
+use Rattle.pt_session.specs.Happens.{Happens}
 use Rattle.pt_session.specs.Effect.{Effects}
 use Rattle.pt_session.specs.Answers.{IsReplyFor}
 use Rattle.pt_session.specs.Pending.{pending_in, put_by, added_by}

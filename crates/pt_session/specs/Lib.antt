@@ -1,8 +1,10 @@
 -- Inner. The files of definitions, lowest first.
 pub mod Change
 pub mod Tables
-pub mod Store
+pub mod Rows
+pub mod Outcome
 pub mod LiveAfter
+pub mod Store
 pub mod Index
 pub mod Happens
 pub mod Kept

@@ -1,28 +1,15 @@
 -- Inner. The rows and the closing list, as they are kept together.
-use Rattle.std.specs.Prelude.{◌≡◌, ◌≢◌, ◌<◌, ℕ, true, false, List}
-use Rattle.pt_host.specs.Words.{Each, Takes}
+use Rattle.std.specs.Prelude.{◌≡◌, ◌<◌, ◌≤◌, ℕ, true, false, List, Option, Some, None}
+use Rattle.pt_host.specs.Words.{Each}
 use Rattle.pt_session.specs.Tables.{Row, HandleRow, Closing}
+use Rattle.pt_session.specs.Rows.{Kind, IsAmong, NoneOf}
+use Rattle.pt_session.specs.LiveAfter.{IsLiveAbove}
 
 -- the rows of numbers and of handles, newest first, and the closing list
 pub record Stored : Type 0 where
   pub rows : List Row
   pub handles : List HandleRow
   pub closing : List Closing
-
--- it is one of the rows
-abbrev pub IsAmong : {R : Type 0} → R → List R → Type 0
-IsAmong {R} row rows = (others : List R) × Takes row rows others
-
--- none of the rows is such
-abbrev pub NoneOf : {R : Type 0} → (R → Type 0) → List R → Type 0
-NoneOf P rows = Each (λ row. P row → ⊥) rows
-
--- it has this serial, and a pin
-abbrev pub IsPinned : ℕ → Row → Type 0
-IsPinned serial row = (row.serial ≡ serial) × (row.pins ≢ 0)
-
-abbrev pub IsPinnedHandle : ℕ → HandleRow → Type 0
-IsPinnedHandle serial row = (row.serial ≡ serial) × (row.pins ≢ 0)
 
 -- the same row as time goes on: what it stands for stays, and it may die
 pub record IsLater (was now : Row) : Type 0 where
@@ -41,14 +28,23 @@ pub record IsLaterHandle (was now : HandleRow) : Type 0 where
   pub fd : now.fd ≡ was.fd
   pub live : now.live ≡ true → was.live ≡ true
 
+-- a row changes in what it is not found by
+pub record IsSame {R : Type 0} (kind : Kind R) (was now : R) : Type 0 where
+  pub serial : kind.serial now ≡ kind.serial was
+  pub key : kind.key now ≡ kind.key was
+  pub live : kind.live now ≡ kind.live was
+
+-- a row that is live no more
+pub record IsDead {R : Type 0} (kind : Kind R) (was now : R) : Type 0 where
+  pub serial : kind.serial now ≡ kind.serial was
+  pub live : kind.live now ≡ false
+
+-- the live row of the least key above, or none where there is none
+abbrev pub IsNextRow : {R : Type 0} → Kind R → List R → Option ℕ → Option R → Type 0
+IsNextRow kind rows above None = NoneOf (IsLiveAbove kind above) rows
+IsNextRow kind rows above (Some row) = IsLiveAbove kind above row × IsAmong row rows
+    × Each (λ other. IsLiveAbove kind above other → kind.key row ≤ kind.key other) rows
+
 -- the first row is the older, by the serials
 abbrev pub IsOlder : {R : Type 0} → (R → ℕ) → R → R → Type 0
 IsOlder serial_of row other = serial_of row < serial_of other
-
--- the row that died and stays for its pins
-abbrev pub dead_row : Row → Row
-dead_row row = record row { count = 0; live = false }
-
--- the handle's row that was released and stays for its pins
-abbrev pub dead_handle : HandleRow → HandleRow
-dead_handle row = record row { live = false }

@@ -68,7 +68,8 @@ HasHandle handle row = (row.live ≡ true) × (row.handle ≡ handle)
 abbrev pub IsHandle : ℕ → ℕ → HandleRow → Type 0
 IsHandle handle number row = (row.live ≡ true) × (row.handle ≡ handle) × (row.number ≡ number)
 
--- a row that is alone in what it stands for: serials differ, and so do the numbers and the objects of two that are live
+-- a row that is alone in what it stands for: serials differ, and so do the numbers and the objects of two that are
+-- live
 pub record AreApart (row other : Row) : Type 0 where
   pub serials : row.serial ≢ other.serial
   pub numbers : row.live ≡ true → other.live ≡ true → row.number ≢ other.number

@@ -1,6 +1,7 @@
 //! How the session begins anew.
 ghost use Rattle.std.specs.Prelude.{◌≡◌, ◌≤◌, ◌+◌, length};
-ghost use Rattle.pt_session.specs.Happens.{Happens, NumbersDie, HandlesDie};
+ghost use Rattle.pt_session.specs.Rows.{number_rows, handle_rows, AllDie};
+ghost use Rattle.pt_session.specs.Happens.{Happens};
 ghost use Rattle.pt_session.specs.Kept.{tables_of};
 
 use crate::event::KeptEvent;
@@ -11,7 +12,7 @@ use crate::tables::SessionTables;
 impl SessionTables {
     /// Lets all live numbers die, the least first, and tells how many descriptors are to be closed for them.
     fn kill_numbers(&mut self) -> u64
-        ensures die { NumbersDie (tables_of self.old) result (tables_of self.new) }
+        ensures die { AllDie number_rows (tables_of self.old) result (tables_of self.new) }
         ensures bound { result ≤ length self.new.store.closing }
     {
         let mut closings: u64 = 0;
@@ -23,7 +24,7 @@ impl SessionTables {
 
     /// Lets all live handles die, the least first, and tells how many descriptors are to be closed for them.
     fn kill_handles(&mut self) -> u64
-        ensures die { HandlesDie (tables_of self.old) result (tables_of self.new) }
+        ensures die { AllDie handle_rows (tables_of self.old) result (tables_of self.new) }
         ensures bound { length self.old.store.closing + result ≤ u64.MAX }
     {
         let mut closings: u64 = 0;

@@ -9,11 +9,11 @@ use std::marker::Model;
 
 /// Numbers with the counts that are taken back of them.
 #[derive(Debug, Drop)]
-pub struct ForgetList {
+pub struct ForgetPairs {
     pairs: Vec<(u64, u64)>,
 }
 
-impl Model for ForgetList {
+impl Model for ForgetPairs {
     ghost use Rattle.std.specs.Prelude.{List, ℕ};
 
     ghost Value = { List (ℕ × ℕ) };
@@ -21,11 +21,11 @@ impl Model for ForgetList {
     ghost view = { λ list. list.pairs.items };
 }
 
-impl ForgetList {
+impl ForgetPairs {
     pub fn from_vec(pairs: Vec<(u64, u64)>) -> Self
         ensures { result ≡ pairs.items }
     {
-        ForgetList { pairs }
+        ForgetPairs { pairs }
     }
 
     pub fn as_slice(&self) -> &[(u64, u64)]
@@ -141,7 +141,7 @@ pub enum KeptEvent {
         negotiated: Option<Negotiated>,
     },
     Forget {
-        list: ForgetList,
+        list: ForgetPairs,
     },
     GiveBack {
         era: u64,
@@ -229,7 +229,7 @@ impl<'a> Event<'a> {
             }
             Event::Forget { list } => {
                 let pairs = list.to_vec(alloc)?;
-                let list = ForgetList::from_vec(pairs);
+                let list = ForgetPairs::from_vec(pairs);
                 Ok(KeptEvent::Forget { list })
             }
             Event::GiveBack { era, number } => Ok(KeptEvent::GiveBack { era, number }),

@@ -32,14 +32,8 @@ impl SessionTables {
                 ids,
                 mode,
             } => {
-                let new = NewRow {
-                    number,
-                    form,
-                    ids,
-                    mode,
-                    count: 1,
-                };
-                self.insert(era, &new)
+                let new = NewRow { form, ids, mode };
+                self.insert(era, number, &new)
             }
             Event::InsertRoot {
                 era,
@@ -48,13 +42,7 @@ impl SessionTables {
                 mode,
                 negotiated,
             } => {
-                let new = NewRow {
-                    number: 1,
-                    form,
-                    ids,
-                    mode,
-                    count: 2,
-                };
+                let new = NewRow { form, ids, mode };
                 self.insert_root(era, &new, negotiated)
             }
             Event::Forget { list } => self.forget(list),

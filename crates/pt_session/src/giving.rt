@@ -1,12 +1,15 @@
 //! How numbers are given.
 ghost use Rattle.std.specs.Prelude.{◌≡◌, ◌<◌, OnOk, IfErr};
 ghost use Rattle.std.specs.Option.{option_copied};
-ghost use Rattle.pt_session.specs.Tables.{HasIds, Agree};
-ghost use Rattle.pt_session.specs.Happens.{Happens, NoRow, IsFree, with_row, new_row, last_u64};
-ghost use Rattle.pt_session.specs.Kept.{tables_of, Matches, IsNotAdded};
+ghost use Rattle.pt_session.specs.Tables.{HasNumber, HasIds, Agree};
+ghost use Rattle.pt_session.specs.Rows.{NoRow};
+ghost use Rattle.pt_session.specs.Outcome.{Adds};
+ghost use Rattle.pt_session.specs.Happens.{Happens, with_row, new_row, agreed};
+ghost use Rattle.pt_session.specs.Kept.{tables_of, Matches};
 
 use crate::event::KeptEvent;
 use crate::form::{Negotiated, RowForm};
+use crate::pinned::Pinned;
 use crate::reply::{EventRefusal, EventReply};
 use crate::row::Row;
 use crate::tables::SessionTables;
@@ -23,14 +26,12 @@ pub enum Matching {
     Given(u64),
 }
 
-/// What stands in a new row.
+/// What stands in a new row, its number and count aside.
 #[derive(Clone, Copy)]
 pub struct NewRow<'a> {
-    pub number: u64,
     pub form: &'a RowForm,
     pub ids: ObjIds,
     pub mode: u32,
-    pub count: u64,
 }
 
 impl SessionTables {
@@ -49,40 +50,42 @@ impl SessionTables {
         }
     }
 
-    /// Adds a row of an object that has none.
-    fn add(&mut self, new: &NewRow<'_>) -> Result<(), EventRefusal>
+    /// Adds a row of a number and an object that have none, and keeps what was agreed on, if it is said.
+    fn add(
+        &mut self,
+        number: u64,
+        count: u64,
+        new: &NewRow<'_>,
+        negotiated: Option<Negotiated>,
+    ) -> EventReply
         requires agree { Agree (tables_of self.old) }
-        requires absent { NoRow (tables_of self.old) (HasIds new.now.ids) }
-        ensures ok { OnOk result (tables_of self.new
-            ≡ with_row (tables_of self.old)
-            (new_row (tables_of self.old) new.now.number new.now.form.now new.now.ids new.now.mode new.now.count)) }
-        ensures free { OnOk result (IsFree (tables_of self.old) new.now.number new.now.ids) }
-        ensures drawn { OnOk result (self.old.next_row < last_u64) }
-        ensures refused { IfErr result (λ refusal. IsNotAdded (tables_of self.old) new.now.number new.now.ids refusal) }
-        ensures kept { IfErr result (λ refusal. tables_of self.new ≡ tables_of self.old) }
+        requires number { NoRow (tables_of self.old) (HasNumber number) }
+        requires object { NoRow (tables_of self.old) (HasIds new.now.ids) }
+        ensures { Adds (tables_of self.old) (EventReply.Inserted number)
+            (agreed negotiated (with_row (tables_of self.old)
+            (new_row (tables_of self.old) number new.now.form.now new.now.ids new.now.mode count)))
+            result (tables_of self.new) }
     {
-        if self.store.live(new.number).is_some() {
-            return Err(EventRefusal::Live);
-        }
         let serial = self.next_row;
         if serial == u64::MAX {
-            return Err(EventRefusal::Last);
+            return EventReply::Refused(EventRefusal::Last);
         }
         let row = Row {
             serial,
-            number: new.number,
+            number,
             form: new.form.copy(),
             ids: new.ids,
             mode: new.mode,
-            count: new.count,
+            count,
             pins: 0,
             live: true,
         };
         if self.store.insert(row).is_err() {
-            return Err(EventRefusal::Memory);
+            return EventReply::Refused(EventRefusal::Memory);
         }
         self.next_row = serial + 1;
-        Ok(())
+        self.agree(negotiated);
+        EventReply::Inserted { number }
     }
 
     pub fn claim(&mut self, era: u64, handle: Option<&FileHandle>, ids: ObjIds) -> EventReply
@@ -99,12 +102,10 @@ impl SessionTables {
         }
     }
 
-    pub fn insert(&mut self, era: u64, new: &NewRow<'_>) -> EventReply
-        requires agree { Agree (tables_of self.old) }
-        requires once { new.now.count ≡ 1 }
+    pub fn insert(&mut self, era: u64, number: u64, new: &NewRow<'_>) -> EventReply
+        requires { Agree (tables_of self.old) }
         ensures { Happens (tables_of self.old)
-            (KeptEvent.Insert era new.now.number new.now.form.now new.now.ids new.now.mode) result
-            (tables_of self.new) }
+            (KeptEvent.Insert era number new.now.form.now new.now.ids new.now.mode) result (tables_of self.new) }
     {
         if era != self.era {
             return EventReply::Refused(EventRefusal::Overtaken);
@@ -112,10 +113,12 @@ impl SessionTables {
         match self.give_again(new.ids) {
             Matching::Full => EventReply::Refused(EventRefusal::Last),
             Matching::Given(number) => EventReply::Found { number },
-            Matching::Nothing => match self.add(new) {
-                Ok(()) => EventReply::Inserted { number: new.number },
-                Err(refusal) => EventReply::Refused(refusal),
-            },
+            Matching::Nothing => {
+                if self.store.live(number).is_some() {
+                    return EventReply::Refused(EventRefusal::Live);
+                }
+                self.add(number, 1, new, None)
+            }
         }
     }
 
@@ -125,9 +128,7 @@ impl SessionTables {
         new: &NewRow<'_>,
         negotiated: Option<Negotiated>,
     ) -> EventReply
-        requires agree { Agree (tables_of self.old) }
-        requires root { new.now.number ≡ 1 }
-        requires twice { new.now.count ≡ 2 }
+        requires { Agree (tables_of self.old) }
         ensures { Happens (tables_of self.old)
             (KeptEvent.InsertRoot era new.now.form.now new.now.ids new.now.mode negotiated) result
             (tables_of self.new) }
@@ -135,15 +136,9 @@ impl SessionTables {
         if era != self.era {
             return EventReply::Refused(EventRefusal::Overtaken);
         }
-        if self.store.object(new.ids).is_some() {
+        if self.store.live(1).is_some() || self.store.object(new.ids).is_some() {
             return EventReply::Refused(EventRefusal::Live);
         }
-        match self.add(new) {
-            Ok(()) => {
-                self.agree(negotiated);
-                EventReply::Inserted { number: 1 }
-            }
-            Err(refusal) => EventReply::Refused(refusal),
-        }
+        self.add(1, 2, new, negotiated)
     }
 }

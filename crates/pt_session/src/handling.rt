@@ -1,11 +1,13 @@
 //! What is drawn, inserted, pinned, unpinned and released of handles.
-ghost use Rattle.std.specs.Prelude.{◌≡◌, true};
+ghost use Rattle.std.specs.Prelude.{◌≡◌, ◌≢◌, true};
 ghost use Rattle.pt_session.specs.Tables.{Agree};
-ghost use Rattle.pt_session.specs.Store.{IsAmong, IsLaterHandle};
-ghost use Rattle.pt_session.specs.Happens.{Happens, ChangesHandle, EndsHandle, HandleDies};
+ghost use Rattle.pt_session.specs.Store.{IsSame};
+ghost use Rattle.pt_session.specs.Rows.{handle_rows, IsAmong, ChangesRow, EndsRow, Dies, Unpins};
+ghost use Rattle.pt_session.specs.Happens.{Happens};
 ghost use Rattle.pt_session.specs.Kept.{tables_of};
 
 use crate::event::KeptEvent;
+use crate::pinned::Pinned;
 use crate::reply::{EventRefusal, EventReply};
 use crate::row::HandleRow;
 use crate::tables::SessionTables;
@@ -15,9 +17,8 @@ impl SessionTables {
     /// Puts the handle's row as it is now in its place.
     pub fn change_handle(&mut self, was: &HandleRow, now: HandleRow)
         requires among { IsAmong was.now self.old.store.handles }
-        requires later { IsLaterHandle was.now now }
-        requires lives { now.live ≡ was.now.live }
-        ensures { ChangesHandle (tables_of self.old) was.now now (tables_of self.new) }
+        requires same { IsSame handle_rows was.now now }
+        ensures { ChangesRow handle_rows (tables_of self.old) was.now now (tables_of self.new) }
     {
         self.store.replace_handle(was, now);
     }
@@ -25,7 +26,7 @@ impl SessionTables {
     /// Ends the handle's row: its descriptor is to be closed.
     pub fn end_handle(&mut self, row: &HandleRow)
         requires { IsAmong row.now self.old.store.handles }
-        ensures { EndsHandle (tables_of self.old) row.now (tables_of self.new) }
+        ensures { EndsRow handle_rows (tables_of self.old) row.now (tables_of self.new) }
     {
         self.store.end_handle(row);
     }
@@ -34,7 +35,7 @@ impl SessionTables {
     pub fn kill_handle(&mut self, row: &HandleRow) -> u64
         requires among { IsAmong row.now self.old.store.handles }
         requires live { row.now.live ≡ true }
-        ensures { HandleDies (tables_of self.old) row.now result (tables_of self.new) }
+        ensures { Dies handle_rows (tables_of self.old) row.now result (tables_of self.new) }
     {
         if row.pins == 0 {
             self.end_handle(row);
@@ -109,16 +110,25 @@ impl SessionTables {
     {
         match self.store.pinned_handle(serial) {
             None => EventReply::Refused(EventRefusal::NotLive),
-            Some(row) => {
-                let pins = row.pins - 1;
-                if pins == 0 && !row.live {
-                    self.end_handle(&row);
-                    return EventReply::Done { closings: 1 };
-                }
-                self.change_handle(&row, row.with_pins(pins));
-                EventReply::Done { closings: 0 }
-            }
+            Some(row) => EventReply::Done {
+                closings: self.release_handle_pin(&row),
+            },
         }
+    }
+
+    /// Gives a pin of the row back, and tells how many descriptors are to be closed for it.
+    fn release_handle_pin(&mut self, row: &HandleRow) -> u64
+        requires among { IsAmong row.now self.old.store.handles }
+        requires pinned { row.now.pins ≢ 0 }
+        ensures { Unpins handle_rows (tables_of self.old) row.now result (tables_of self.new) }
+    {
+        let pins = row.pins - 1;
+        if pins == 0 && !row.live {
+            self.end_handle(row);
+            return 1;
+        }
+        self.change_handle(row, row.with_pins(pins));
+        0
     }
 
     pub fn release(&mut self, handle: u64, number: u64) -> EventReply

@@ -1,4 +1,4 @@
-//! What holds of every event of the case table, as functions that do nothing.
+//! What holds of every event of the table, as functions that do nothing.
 ghost use Rattle.pt_session.specs.Determined.{EventsAreDetermined};
 ghost use Rattle.pt_session.specs.Laws.{EventsKeepAgreement, NewTablesAgree, RefusalsChangeNothing};
 ghost use Rattle.pt_session.specs.Laws.{EventsAreAnswered, ClosingsArePaid, EventsHaveEffects, ClearingsClear};

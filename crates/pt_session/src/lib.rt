@@ -6,18 +6,19 @@ mod event;
 mod events;
 mod form;
 mod giving;
-mod handles;
 mod handling;
-mod index;
 mod laws;
+mod objects;
+mod pinned;
 mod reply;
 mod row;
+mod rows;
 mod session;
 mod store;
 mod tables;
 mod taking;
 
-pub use event::{Event, ForgetList, KeptEvent};
+pub use event::{Event, ForgetPairs, KeptEvent};
 pub use form::{Negotiated, RowForm};
 pub use laws::{
     clearings_clear, closings_are_paid, events_are_answered, events_are_determined,

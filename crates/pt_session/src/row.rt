@@ -1,7 +1,8 @@
-ghost use Rattle.std.specs.Prelude.{◌≡◌, false};
-ghost use Rattle.pt_session.specs.Tables.{closing_of, closing_of_handle};
+ghost use Rattle.std.specs.Prelude.{◌≡◌, refl};
+ghost use Rattle.pt_session.specs.Rows.{number_rows, handle_rows};
 
 use crate::form::RowForm;
+use crate::pinned::Pinned;
 use pt_host::{Fd, ObjIds};
 
 /// A number's row. A live row has a count; one that is not live stays until its last pin is given back.
@@ -37,10 +38,19 @@ pub struct Closing {
 }
 
 impl Row {
-    /// The same row once more, which takes no memory.
-    pub fn copy(&self) -> Row
-        ensures { result ≡ self.now }
+    pub fn with_count(&self, count: u64) -> Row
+        ensures { result ≡ record self.now { count = count } }
     {
+        let mut row = self.copy();
+        row.count = count;
+        row
+    }
+}
+
+impl Pinned for Row {
+    ghost kind = { number_rows };
+
+    fn copy(&self) -> Row {
         Row {
             serial: self.serial,
             number: self.number,
@@ -53,66 +63,88 @@ impl Row {
         }
     }
 
-    pub fn with_pins(&self, pins: u64) -> Row
-        ensures { result ≡ record self.now { pins = pins } }
-    {
+    fn serial(&self) -> u64 {
+        self.serial
+    }
+
+    fn key(&self) -> u64 {
+        self.number
+    }
+
+    fn pins(&self) -> u64 {
+        self.pins
+    }
+
+    fn is_live(&self) -> bool {
+        self.live
+    }
+
+    fn with_pins(&self, pins: u64) -> Row {
         let mut row = self.copy();
         row.pins = pins;
         row
     }
 
-    pub fn with_count(&self, count: u64) -> Row
-        ensures { result ≡ record self.now { count = count } }
-    {
-        let mut row = self.copy();
-        row.count = count;
-        row
-    }
-
-    /// The row as it stays for its pins once nobody counts it any more.
-    pub fn dead(&self) -> Row
-        ensures { result ≡ record self.now { count = 0; live = false } }
-    {
+    fn dead(&self) -> Row {
         let mut row = self.copy();
         row.count = 0;
         row.live = false;
         row
     }
 
-    /// What is to be closed when the row ends.
-    pub fn closing(&self) -> Closing
-        ensures { result ≡ closing_of self.now }
-    {
+    fn closing(&self) -> Closing {
         match self.form {
             RowForm::File(fd) => Closing { fd, slot: true },
         }
     }
+
+    ghost repins = { λ row pins. record { serial = refl; key = refl; live = refl } };
+
+    ghost dies = { λ row. record { serial = refl; live = refl } };
 }
 
-impl HandleRow {
-    pub fn with_pins(&self, pins: u64) -> HandleRow
-        ensures { result ≡ record self.now { pins = pins } }
-    {
+impl Pinned for HandleRow {
+    ghost kind = { handle_rows };
+
+    fn copy(&self) -> HandleRow {
+        *self
+    }
+
+    fn serial(&self) -> u64 {
+        self.serial
+    }
+
+    fn key(&self) -> u64 {
+        self.handle
+    }
+
+    fn pins(&self) -> u64 {
+        self.pins
+    }
+
+    fn is_live(&self) -> bool {
+        self.live
+    }
+
+    fn with_pins(&self, pins: u64) -> HandleRow {
         HandleRow { pins, ..*self }
     }
 
-    /// The row as it stays for its pins once the handle was released.
-    pub fn dead(&self) -> HandleRow
-        ensures { result ≡ record self.now { live = false } }
-    {
+    fn dead(&self) -> HandleRow {
         HandleRow {
             live: false,
             ..*self
         }
     }
 
-    /// What is to be closed when the row ends.
-    pub fn closing(&self) -> Closing
-        ensures { result ≡ closing_of_handle self.now }
-    {
+    fn closing(&self) -> Closing {
         Closing {
             fd: self.fd,
             slot: true,
         }
     }
+
+    ghost repins = { λ row pins. record { serial = refl; key = refl; live = refl } };
+
+    ghost dies = { λ row. record { serial = refl; live = refl } };
 }

@@ -1,77 +1,47 @@
-ghost use Rattle.std.specs.Prelude.{◌≡◌, ◌<◌, ◌≤◌, ◌+◌, length, ◌++◌, ◌∷◌, [], true, Some, MatchOption, OnOk, OnErr};
-ghost use Rattle.std.specs.Prelude.{IsSome};
-ghost use Rattle.std.specs.Ordering.{nat_cmp};
-ghost use Rattle.std.specs.Map.{set_value};
-ghost use Rattle.std.specs.BTreeMap.{is_at};
+ghost use Rattle.std.specs.Prelude.{◌≡◌, ◌<◌, ◌≤◌, ◌+◌, length, ◌++◌, ◌∷◌, [], true, MatchOption, OnOk, OnErr};
 ghost use Rattle.std.specs.VecDeque.{deque_capacity};
 ghost use Rattle.pt_host.specs.Words.{Each, Takes, Replaces};
 ghost use Rattle.pt_session.specs.Tables.{closing_of, closing_of_handle, HasNumber, HasIds, HasHandle, IsHandle};
-ghost use Rattle.pt_session.specs.Store.{IsAmong, NoneOf, IsPinned, IsPinnedHandle, IsLater, IsLaterHandle, dead_row};
-ghost use Rattle.pt_session.specs.Store.{dead_handle};
-ghost use Rattle.pt_session.specs.Index.{row_at, Puts};
+ghost use Rattle.pt_session.specs.Rows.{number_rows, handle_rows, IsAmong, NoneOf, IsPinned, IsLeast};
+ghost use Rattle.pt_session.specs.Store.{IsSame};
 ghost use Rattle.pt_session.specs.Pending.{row_slots, closing_slots};
-ghost use Rattle.pt_session.specs.LiveAfter.{IsLiveAfter, IsHandleAfter, IsLeast, IsLeastHandle};
+ghost use Rattle.pt_session.specs.LiveAfter.{IsLiveAfter, IsHandleAfter};
 
-use crate::handles::HandleStore;
-use crate::index::{Numbers, Objects, enter, leave, next_number, object_key};
+use crate::objects::{Objects, enter_object, leave_object, object_key};
+use crate::pinned::Pinned;
 use crate::row::{Closing, HandleRow, Row};
+use crate::rows::Rows;
 use pt_host::ObjIds;
 use std::alloc::{AllocError, Global};
 use std::collections::{BTreeMap, VecDeque};
 use std::marker::Model;
 
-/// By serial, so the oldest row comes first.
-type Rows = BTreeMap<u64, Row>;
-
 /// The rows and what is to be closed.
 #[derive(Drop)]
 pub struct RowStore {
-    rows: Rows,
-    numbers: Numbers,
+    numbers: Rows<Row>,
     objects: Objects,
-    handles: HandleStore,
+    handles: Rows<HandleRow>,
     /// Has room for the descriptor of each row.
     closing: VecDeque<Closing>,
 }
 
 impl Model for RowStore {
-    ghost use Rattle.std.specs.Prelude.{◌+◌, length, reverse};
-    ghost use Rattle.std.specs.Map.{values_of};
     ghost use Rattle.std.specs.VecDeque.{deque_capacity};
     ghost use Rattle.pt_session.specs.Store.{Stored};
-    ghost use Rattle.pt_session.specs.Index.{by_number, by_object, IsSoundStore};
+    ghost use Rattle.pt_session.specs.Index.{by_object, IsSoundStore};
 
     ghost Value = { Stored };
 
     ghost view = { λ store. record {
-      rows = reverse (values_of store.rows.entries);
+      rows = store.numbers;
       handles = store.handles;
       closing = store.closing.items;
     } };
 
     ghost invariant = { λ store.
-        IsSoundStore store.rows.entries (by_number store.numbers) (by_object store.objects) (length store.handles
-        + length store.closing.items) (deque_capacity store.closing) };
-}
-
-fn row_of(rows: &Rows, serial: u64) -> Option<Row>
-    ensures { result ≡ row_at rows.now.entries serial }
-{
-    match rows.get(&serial) {
-        None => None,
-        Some(row) => Some(row.copy()),
-    }
-}
-
-/// Puts a row in the place of the one that its serial has.
-fn put(rows: &mut Rows, serial: u64, now: Row)
-    requires { IsSome (row_at rows.old.entries serial) }
-    ensures entries { rows.new.entries ≡ set_value (is_at (nat_cmp serial)) rows.old.entries now }
-    ensures puts { Puts serial (Some now) (row_at rows.old.entries) (row_at rows.new.entries) }
-{
-    if let Some(row) = rows.get_mut(&serial) {
-        *row = now;
-    }
+        IsSoundStore store.numbers (by_object store.objects) store.handles store.closing.items
+        (deque_capacity store.closing) };
 }
 
 /// Gets room on the closing list for one more row than there are, and for all of those.
@@ -99,10 +69,9 @@ impl RowStore {
         ensures closing { result.closing ≡ [] }
     {
         RowStore {
-            rows: BTreeMap::new(alloc),
-            numbers: BTreeMap::new(alloc),
+            numbers: Rows::new(alloc),
             objects: BTreeMap::new(alloc),
-            handles: HandleStore::new(alloc),
+            handles: Rows::new(alloc),
             closing: VecDeque::new(alloc),
         }
     }
@@ -112,10 +81,7 @@ impl RowStore {
         ensures { MatchOption result (NoneOf (HasNumber number) self.now.rows) (λ row. HasNumber number row
             × IsAmong row self.now.rows) }
     {
-        match self.numbers.get(&number) {
-            None => None,
-            Some(serial) => row_of(&self.rows, *serial),
-        }
+        self.numbers.live(number)
     }
 
     /// The live row of this object.
@@ -125,60 +91,8 @@ impl RowStore {
     {
         match self.objects.get(&object_key(ids)) {
             None => None,
-            Some(serial) => row_of(&self.rows, *serial),
+            Some(serial) => self.numbers.at(*serial),
         }
-    }
-
-    /// The row of this serial, if it has a pin.
-    pub fn pinned(&self, serial: u64) -> Option<Row>
-        ensures { MatchOption result (NoneOf (IsPinned serial) self.now.rows) (λ row. IsPinned serial row
-            × IsAmong row self.now.rows) }
-    {
-        match row_of(&self.rows, serial) {
-            None => None,
-            Some(row) => {
-                if row.pins == 0 {
-                    return None;
-                }
-                Some(row)
-            }
-        }
-    }
-
-    /// Puts the row as it is now in its place.
-    pub fn replace(&mut self, was: &Row, now: Row)
-        requires among { IsAmong was.now self.old.rows }
-        requires later { IsLater was.now now }
-        requires lives { now.live ≡ was.now.live }
-        ensures rows { Replaces was.now now self.old.rows self.new.rows }
-        ensures handles { self.new.handles ≡ self.old.handles }
-        ensures closing { self.new.closing ≡ self.old.closing }
-    {
-        put(&mut self.rows, was.serial, now);
-    }
-
-    /// Lets a live row die that stays for its pins.
-    pub fn bury(&mut self, row: &Row)
-        requires among { IsAmong row.now self.old.rows }
-        requires live { row.now.live ≡ true }
-        ensures rows { Replaces row.now (dead_row row.now) self.old.rows self.new.rows }
-        ensures handles { self.new.handles ≡ self.old.handles }
-        ensures closing { self.new.closing ≡ self.old.closing }
-    {
-        put(&mut self.rows, row.serial, row.dead());
-        leave(&mut self.numbers, &mut self.objects, row);
-    }
-
-    /// Takes the row out, and puts its descriptor on the closing list.
-    pub fn end(&mut self, row: &Row)
-        requires { IsAmong row.now self.old.rows }
-        ensures rows { Takes row.now self.old.rows self.new.rows }
-        ensures handles { self.new.handles ≡ self.old.handles }
-        ensures closing { self.new.closing ≡ self.old.closing ++ closing_of row.now ∷ [] }
-    {
-        let _ = self.rows.remove(&row.serial);
-        leave(&mut self.numbers, &mut self.objects, row);
-        self.closing.push_back_reserved(row.closing());
     }
 
     /// Adds a row that is newer than all others, with the room that its closing will want.
@@ -192,48 +106,25 @@ impl RowStore {
         ensures handles { self.new.handles ≡ self.old.handles }
         ensures closing { self.new.closing ≡ self.old.closing }
     {
-        reserve(&mut self.closing, self.rows.len(), self.handles.len())?;
-        enter(&mut self.numbers, &mut self.objects, &row)?;
-        match self.rows.insert(row.serial, row) {
-            Ok(_) => Ok(()),
-            Err(refused) => {
-                leave(&mut self.numbers, &mut self.objects, &refused.value.1);
+        reserve(&mut self.closing, self.numbers.len(), self.handles.len())?;
+        let ids = row.ids;
+        enter_object(&mut self.objects, ids, row.serial)?;
+        match self.numbers.insert(row) {
+            Ok(()) => Ok(()),
+            Err(_) => {
+                leave_object(&mut self.objects, true, ids);
                 Err(AllocError)
             }
         }
-    }
-
-    /// Takes the first descriptor that is to be closed.
-    pub fn take_closing(&mut self) -> Option<Closing>
-        ensures { MatchOption result (self.old.closing ≡ []
-            × self.new ≡ self.old) (λ closing. self.old.closing ≡ closing ∷ self.new.closing
-            × self.new.rows ≡ self.old.rows × self.new.handles ≡ self.old.handles) }
-    {
-        self.closing.pop_front()
     }
 
     /// The least live number above the given one, or the least of all, with its count.
     pub fn live_after(&self, above: Option<u64>) -> Option<(u64, u64)>
         ensures { IsLiveAfter self.now.rows above result }
     {
-        match next_number(&self.numbers, above) {
+        match self.numbers.next(above) {
             None => None,
-            Some((number, serial)) => match row_of(&self.rows, serial) {
-                None => None,
-                Some(row) => Some((number, row.count)),
-            },
-        }
-    }
-
-    /// The live row of the least number.
-    pub fn least(&self) -> Option<Row>
-        ensures least { MatchOption result (NoneOf (λ row. row.live ≡ true) self.now.rows) (λ row.
-            IsLeast self.now.rows row) }
-        ensures few { length self.now.rows + length self.now.closing ≤ usize.MAX }
-    {
-        match next_number(&self.numbers, None) {
-            None => None,
-            Some((_, serial)) => row_of(&self.rows, serial),
+            Some(row) => Some((row.number, row.count)),
         }
     }
 
@@ -250,49 +141,15 @@ impl RowStore {
         ensures { MatchOption result (NoneOf (IsHandle handle number) self.now.handles) (λ row.
             IsHandle handle number row × IsAmong row self.now.handles) }
     {
-        self.handles.of_number(handle, number)
-    }
-
-    /// The handle's row of this serial, if it has a pin.
-    pub fn pinned_handle(&self, serial: u64) -> Option<HandleRow>
-        ensures { MatchOption result (NoneOf (IsPinnedHandle serial) self.now.handles) (λ row.
-            IsPinnedHandle serial row × IsAmong row self.now.handles) }
-    {
-        self.handles.pinned(serial)
-    }
-
-    /// Puts the handle's row as it is now in its place.
-    pub fn replace_handle(&mut self, was: &HandleRow, now: HandleRow)
-        requires among { IsAmong was.now self.old.handles }
-        requires later { IsLaterHandle was.now now }
-        requires lives { now.live ≡ was.now.live }
-        ensures handles { Replaces was.now now self.old.handles self.new.handles }
-        ensures rows { self.new.rows ≡ self.old.rows }
-        ensures closing { self.new.closing ≡ self.old.closing }
-    {
-        self.handles.replace(was, now);
-    }
-
-    /// Lets a live handle's row die that stays for its pins.
-    pub fn bury_handle(&mut self, row: &HandleRow)
-        requires among { IsAmong row.now self.old.handles }
-        requires live { row.now.live ≡ true }
-        ensures handles { Replaces row.now (dead_handle row.now) self.old.handles self.new.handles }
-        ensures rows { self.new.rows ≡ self.old.rows }
-        ensures closing { self.new.closing ≡ self.old.closing }
-    {
-        self.handles.bury(row);
-    }
-
-    /// Takes the handle's row out, and puts its descriptor on the closing list.
-    pub fn end_handle(&mut self, row: &HandleRow)
-        requires { IsAmong row.now self.old.handles }
-        ensures handles { Takes row.now self.old.handles self.new.handles }
-        ensures rows { self.new.rows ≡ self.old.rows }
-        ensures closing { self.new.closing ≡ self.old.closing ++ closing_of_handle row.now ∷ [] }
-    {
-        self.handles.remove(row);
-        self.closing.push_back_reserved(row.closing());
+        match self.handles.live(handle) {
+            None => None,
+            Some(row) => {
+                if row.number != number {
+                    return None;
+                }
+                Some(row)
+            }
+        }
     }
 
     /// Adds a handle's row that is newer than all others, with the room that its closing will want.
@@ -305,7 +162,7 @@ impl RowStore {
         ensures rows { self.new.rows ≡ self.old.rows }
         ensures closing { self.new.closing ≡ self.old.closing }
     {
-        reserve(&mut self.closing, self.rows.len(), self.handles.len())?;
+        reserve(&mut self.closing, self.numbers.len(), self.handles.len())?;
         self.handles.insert(row)
     }
 
@@ -313,29 +170,136 @@ impl RowStore {
     pub fn handle_after(&self, above: Option<u64>) -> Option<(u64, u64)>
         ensures { IsHandleAfter self.now.handles above result }
     {
-        self.handles.after(above)
+        match self.handles.next(above) {
+            None => None,
+            Some(row) => Some((row.handle, row.number)),
+        }
     }
 
-    /// The live row of the least handle.
-    pub fn least_handle(&self) -> Option<HandleRow>
-        ensures least { MatchOption result (NoneOf (λ row. row.live ≡ true) self.now.handles) (λ row.
-            IsLeastHandle self.now.handles row) }
-        ensures few { length self.now.handles + length self.now.closing ≤ usize.MAX }
+    /// Takes the first descriptor that is to be closed.
+    pub fn take_closing(&mut self) -> Option<Closing>
+        ensures { MatchOption result (self.old.closing ≡ []
+            × self.new ≡ self.old) (λ closing. self.old.closing ≡ closing ∷ self.new.closing
+            × self.new.rows ≡ self.old.rows × self.new.handles ≡ self.old.handles) }
     {
-        self.handles.least()
+        self.closing.pop_front()
     }
 
     /// How many rows and closing entries there are. Each has its room, so that they can be counted.
     pub fn pending(&self) -> usize
         ensures { result ≡ length self.now.rows + length self.now.handles + length self.now.closing }
     {
-        self.rows.len() + self.handles.len() + self.closing.len()
+        self.numbers.len() + self.handles.len() + self.closing.len()
     }
 
     /// How many slots the rows and the closing list hold.
     pub fn slots(&self) -> usize
         ensures { result ≡ row_slots self.now.rows + length self.now.handles + closing_slots self.now.closing }
     {
-        self.rows.len() + self.handles.len() + slots_of(&self.closing)
+        self.numbers.len() + self.handles.len() + slots_of(&self.closing)
+    }
+}
+
+/// The rows of numbers, as their events find, change and end them.
+impl RowStore {
+    /// The row of this serial, if it has a pin.
+    pub fn pinned(&self, serial: u64) -> Option<Row>
+        ensures { MatchOption result (NoneOf (IsPinned number_rows serial) self.now.rows) (λ row.
+            IsPinned number_rows serial row × IsAmong row self.now.rows) }
+    {
+        self.numbers.pinned(serial)
+    }
+
+    /// The live row of the least number.
+    pub fn least(&self) -> Option<Row>
+        ensures least { MatchOption result (NoneOf (λ row. row.live ≡ true) self.now.rows) (λ row.
+            IsLeast number_rows self.now.rows row) }
+        ensures few { length self.now.rows + length self.now.closing ≤ usize.MAX }
+    {
+        self.numbers.next(None)
+    }
+
+    /// Puts the row as it is now in its place.
+    pub fn replace(&mut self, was: &Row, now: Row)
+        requires among { IsAmong was.now self.old.rows }
+        requires same { IsSame number_rows was.now now }
+        requires object { now.ids ≡ was.now.ids }
+        ensures rows { Replaces was.now now self.old.rows self.new.rows }
+        ensures handles { self.new.handles ≡ self.old.handles }
+        ensures closing { self.new.closing ≡ self.old.closing }
+    {
+        self.numbers.replace(was, now);
+    }
+
+    /// Lets a live row die that stays for its pins.
+    pub fn bury(&mut self, row: &Row)
+        requires among { IsAmong row.now self.old.rows }
+        requires live { row.now.live ≡ true }
+        ensures rows { Replaces row.now (number_rows.dead row.now) self.old.rows self.new.rows }
+        ensures handles { self.new.handles ≡ self.old.handles }
+        ensures closing { self.new.closing ≡ self.old.closing }
+    {
+        self.numbers.bury(row);
+        leave_object(&mut self.objects, true, row.ids);
+    }
+
+    /// Takes the row out, and puts its descriptor on the closing list.
+    pub fn end(&mut self, row: &Row)
+        requires { IsAmong row.now self.old.rows }
+        ensures rows { Takes row.now self.old.rows self.new.rows }
+        ensures handles { self.new.handles ≡ self.old.handles }
+        ensures closing { self.new.closing ≡ self.old.closing ++ closing_of row.now ∷ [] }
+    {
+        self.numbers.remove(row);
+        leave_object(&mut self.objects, row.live, row.ids);
+        self.closing.push_back_reserved(row.closing());
+    }
+}
+
+/// The same of the rows of handles.
+impl RowStore {
+    pub fn pinned_handle(&self, serial: u64) -> Option<HandleRow>
+        ensures { MatchOption result (NoneOf (IsPinned handle_rows serial) self.now.handles) (λ row.
+            IsPinned handle_rows serial row × IsAmong row self.now.handles) }
+    {
+        self.handles.pinned(serial)
+    }
+
+    pub fn least_handle(&self) -> Option<HandleRow>
+        ensures least { MatchOption result (NoneOf (λ row. row.live ≡ true) self.now.handles) (λ row.
+            IsLeast handle_rows self.now.handles row) }
+        ensures few { length self.now.handles + length self.now.closing ≤ usize.MAX }
+    {
+        self.handles.next(None)
+    }
+
+    pub fn replace_handle(&mut self, was: &HandleRow, now: HandleRow)
+        requires among { IsAmong was.now self.old.handles }
+        requires same { IsSame handle_rows was.now now }
+        ensures handles { Replaces was.now now self.old.handles self.new.handles }
+        ensures rows { self.new.rows ≡ self.old.rows }
+        ensures closing { self.new.closing ≡ self.old.closing }
+    {
+        self.handles.replace(was, now);
+    }
+
+    pub fn bury_handle(&mut self, row: &HandleRow)
+        requires among { IsAmong row.now self.old.handles }
+        requires live { row.now.live ≡ true }
+        ensures handles { Replaces row.now (handle_rows.dead row.now) self.old.handles self.new.handles }
+        ensures rows { self.new.rows ≡ self.old.rows }
+        ensures closing { self.new.closing ≡ self.old.closing }
+    {
+        self.handles.bury(row);
+    }
+
+    pub fn end_handle(&mut self, row: &HandleRow)
+        requires { IsAmong row.now self.old.handles }
+        ensures handles { Takes row.now self.old.handles self.new.handles }
+        ensures rows { self.new.rows ≡ self.old.rows }
+        ensures closing { self.new.closing ≡ self.old.closing ++ closing_of_handle row.now ∷ [] }
+    {
+        self.handles.remove(row);
+        self.closing.push_back_reserved(row.closing());
     }
 }

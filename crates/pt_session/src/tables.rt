@@ -1,7 +1,8 @@
 ghost use Rattle.std.specs.Prelude.{◌≡◌, true, ◌↔◌, IsTrue};
 ghost use Rattle.pt_session.specs.Tables.{empty_tables};
-ghost use Rattle.pt_session.specs.Store.{IsAmong, IsLater};
-ghost use Rattle.pt_session.specs.Happens.{Happens, Changes, Ends, Dies, agreed};
+ghost use Rattle.pt_session.specs.Store.{IsSame};
+ghost use Rattle.pt_session.specs.Rows.{number_rows, IsAmong, ChangesRow, EndsRow, Dies};
+ghost use Rattle.pt_session.specs.Happens.{Happens, agreed};
 ghost use Rattle.pt_session.specs.Pending.{AddsUp};
 ghost use Rattle.pt_session.specs.Kept.{tables_of};
 
@@ -44,9 +45,9 @@ impl SessionTables {
     /// Puts the row as it is now in its place.
     pub fn change(&mut self, was: &Row, now: Row)
         requires among { IsAmong was.now self.old.store.rows }
-        requires later { IsLater was.now now }
-        requires lives { now.live ≡ was.now.live }
-        ensures { Changes (tables_of self.old) was.now now (tables_of self.new) }
+        requires same { IsSame number_rows was.now now }
+        requires object { now.ids ≡ was.now.ids }
+        ensures { ChangesRow number_rows (tables_of self.old) was.now now (tables_of self.new) }
     {
         self.store.replace(was, now);
     }
@@ -54,7 +55,7 @@ impl SessionTables {
     /// Ends the row: its descriptor is to be closed.
     pub fn end(&mut self, row: &Row)
         requires { IsAmong row.now self.old.store.rows }
-        ensures { Ends (tables_of self.old) row.now (tables_of self.new) }
+        ensures { EndsRow number_rows (tables_of self.old) row.now (tables_of self.new) }
     {
         self.store.end(row);
     }
@@ -63,7 +64,7 @@ impl SessionTables {
     pub fn kill(&mut self, row: &Row) -> u64
         requires among { IsAmong row.now self.old.store.rows }
         requires live { row.now.live ≡ true }
-        ensures { Dies (tables_of self.old) row.now result (tables_of self.new) }
+        ensures { Dies number_rows (tables_of self.old) row.now result (tables_of self.new) }
     {
         if row.pins == 0 {
             self.end(row);

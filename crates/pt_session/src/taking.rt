@@ -1,10 +1,13 @@
 //! What is pinned, unpinned and taken back.
-ghost use Rattle.std.specs.Prelude.{◌≤◌};
-ghost use Rattle.pt_session.specs.Happens.{Happens, ForgetsOne, ForgetsAll};
+ghost use Rattle.std.specs.Prelude.{◌≡◌, ◌≢◌, ◌≤◌, true};
+ghost use Rattle.pt_session.specs.Rows.{number_rows, IsAmong, Unpins};
+ghost use Rattle.pt_session.specs.Happens.{Happens, Falls, ForgetsOne};
 ghost use Rattle.pt_session.specs.Kept.{tables_of};
 
 use crate::event::KeptEvent;
+use crate::pinned::Pinned;
 use crate::reply::{EventRefusal, EventReply};
+use crate::row::Row;
 use crate::tables::SessionTables;
 
 impl SessionTables {
@@ -33,16 +36,39 @@ impl SessionTables {
     {
         match self.store.pinned(serial) {
             None => EventReply::Refused(EventRefusal::NotLive),
-            Some(row) => {
-                let pins = row.pins - 1;
-                if pins == 0 && !row.live {
-                    self.end(&row);
-                    return EventReply::Done { closings: 1 };
-                }
-                self.change(&row, row.with_pins(pins));
-                EventReply::Done { closings: 0 }
-            }
+            Some(row) => EventReply::Done {
+                closings: self.release_pin(&row),
+            },
         }
+    }
+
+    /// Gives a pin of the row back, and tells how many descriptors are to be closed for it.
+    fn release_pin(&mut self, row: &Row) -> u64
+        requires among { IsAmong row.now self.old.store.rows }
+        requires pinned { row.now.pins ≢ 0 }
+        ensures { Unpins number_rows (tables_of self.old) row.now result (tables_of self.new) }
+    {
+        let pins = row.pins - 1;
+        if pins == 0 && !row.live {
+            self.end(row);
+            return 1;
+        }
+        self.change(row, row.with_pins(pins));
+        0
+    }
+
+    /// Lets the count of a live row fall, and tells how many descriptors are to be closed for it.
+    fn fall(&mut self, row: &Row, amount: u64) -> u64
+        requires among { IsAmong row.now self.old.store.rows }
+        requires live { row.now.live ≡ true }
+        ensures tables { Falls (tables_of self.old) row.now amount result (tables_of self.new) }
+        ensures bound { result ≤ 1 }
+    {
+        if amount >= row.count {
+            return self.kill(row);
+        }
+        self.change(row, row.with_count(row.count - amount));
+        0
     }
 
     /// Takes one pair back, and tells how many descriptors are to be closed for it.
@@ -52,13 +78,7 @@ impl SessionTables {
     {
         match self.store.live(number) {
             None => 0,
-            Some(row) => {
-                if amount >= row.count {
-                    return self.kill(&row);
-                }
-                self.change(&row, row.with_count(row.count - amount));
-                0
-            }
+            Some(row) => self.fall(&row, amount),
         }
     }
 
@@ -80,8 +100,8 @@ impl SessionTables {
         }
         match self.store.live(number) {
             None => EventReply::Refused(EventRefusal::NotLive),
-            Some(_) => EventReply::Done {
-                closings: self.forget_one(number, 1),
+            Some(row) => EventReply::Done {
+                closings: self.fall(&row, 1),
             },
         }
     }

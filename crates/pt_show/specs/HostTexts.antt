@@ -21,6 +21,7 @@ use Rattle.pt_host.specs.declared.reply.HostReply.TheVariants as reply
 use Rattle.pt_show.specs.Texts.{word, number_text, signed_text, bytes_text, switch_text, option_text, items_text}
 use Rattle.pt_show.specs.EditTexts.{edit_text}
 
+-- an error number, a descriptor, sets of bits, ids and times
 abbrev pub errno_text : Errno → List ℕ
 errno_text errno = signed_text errno.0
 
@@ -54,6 +55,7 @@ c_handle_text handle = signed_text handle.handle_type ++ bytes_text handle.bytes
 abbrev pub handle_text : FileHandle → List ℕ
 handle_text handle = number_text handle.mnt_id ++ c_handle_text handle.handle
 
+-- what is told of an object, and of a file system
 abbrev pub stat_text : Stat → List ℕ
 stat_text stat =
     ids_text stat.ids ++ number_text stat.mode ++ number_text stat.nlink ++ number_text stat.uid ++ number_text stat.gid
@@ -66,7 +68,9 @@ fs_stat_text stat =
     ++ number_text stat.ffree
     ++ number_text stat.bsize ++ number_text stat.namelen ++ number_text stat.frsize
 
+-- a call: its name and its fields in their order
 abbrev pub call_text : KeptHostOp → List ℕ
+-- openings, and the end of a descriptor
 call_text (call.OpenRoot path flags) = word (codes "OpenRoot") ++ bytes_text path ++ flags_text flags
 call_text (call.OpenPath fd path flags) = word (codes "OpenPath") ++ fd_text fd ++ bytes_text path ++ flags_text flags
 call_text (call.OpenAt fd name flags mode) =
@@ -75,12 +79,14 @@ call_text (call.Reopen fd flags) = word (codes "Reopen") ++ fd_text fd ++ flags_
 call_text (call.OpenByHandle fd handle flags) =
     word (codes "OpenByHandle") ++ fd_text fd ++ c_handle_text handle ++ flags_text flags
 call_text (call.Close fd) = word (codes "Close") ++ fd_text fd
+-- what a descriptor tells of its object
 call_text (call.Stat fd) = word (codes "Stat") ++ fd_text fd
 call_text (call.HandleOf fd) = word (codes "HandleOf") ++ fd_text fd
 call_text (call.StatFs fd) = word (codes "StatFs") ++ fd_text fd
 call_text (call.ReadLink fd) = word (codes "ReadLink") ++ fd_text fd
 call_text (call.FdPath fd) = word (codes "FdPath") ++ fd_text fd
 call_text call.MountInfo = word (codes "MountInfo")
+-- names
 call_text (call.MakeDir fd name mode) = word (codes "MakeDir") ++ fd_text fd ++ bytes_text name ++ number_text mode
 call_text (call.MakeNode fd name mode rdev) =
     word (codes "MakeNode") ++ fd_text fd ++ bytes_text name ++ number_text mode ++ number_text rdev
@@ -90,6 +96,7 @@ call_text (call.Unlink fd name) = word (codes "Unlink") ++ fd_text fd ++ bytes_t
 call_text (call.RemoveDir fd name) = word (codes "RemoveDir") ++ fd_text fd ++ bytes_text name
 call_text (call.Rename fd name fd2 name2 flags) =
     word (codes "Rename") ++ fd_text fd ++ bytes_text name ++ fd_text fd2 ++ bytes_text name2 ++ number_text flags
+-- contents and positions
 call_text (call.ReadAt fd offset size) = word (codes "ReadAt") ++ fd_text fd ++ number_text offset ++ number_text size
 call_text (call.WriteAt fd offset bytes append) =
     word (codes "WriteAt") ++ fd_text fd ++ number_text offset ++ bytes_text bytes ++ switch_text append
@@ -105,6 +112,7 @@ call_text (call.ListAt fd offset size) =
 call_text (call.Flush fd) = word (codes "Flush") ++ fd_text fd
 call_text (call.Sync fd datasync) = word (codes "Sync") ++ fd_text fd ++ switch_text datasync
 call_text (call.SyncFs fd) = word (codes "SyncFs") ++ fd_text fd
+-- modes, owners, times and attributes
 call_text (call.ChMod fd through mode) = word (codes "ChMod") ++ fd_text fd ++ switch_text through ++ number_text mode
 call_text (call.ChOwn fd uid gid) = word (codes "ChOwn") ++ fd_text fd ++ number_text uid ++ number_text gid
 call_text (call.SetTimes fd through atime mtime) =
@@ -118,14 +126,17 @@ call_text (call.ListXattr fd through size) =
     word (codes "ListXattr") ++ fd_text fd ++ switch_text through ++ number_text size
 call_text (call.RemoveXattr fd through name) =
     word (codes "RemoveXattr") ++ fd_text fd ++ switch_text through ++ bytes_text name
+-- the seat
 call_text (call.SetGroups list) = word (codes "SetGroups") ++ groups_text list
 call_text (call.SetEgid gid) = word (codes "SetEgid") ++ number_text gid
 call_text (call.SetEuid uid) = word (codes "SetEuid") ++ number_text uid
 call_text (call.RaiseCap caps) = word (codes "RaiseCap") ++ caps_text caps
 call_text (call.DropCap caps) = word (codes "DropCap") ++ caps_text caps
 call_text (call.SetUmask mask) = word (codes "SetUmask") ++ number_text mask
+-- a change beside the requests
 call_text (call.Edit edit) = word (codes "Edit") ++ edit_text edit
 
+-- what a call that succeeded tells
 abbrev pub value_text : HostValue → List ℕ
 value_text value.Unit = word (codes "Unit")
 value_text (value.Fd fd) = word (codes "Fd") ++ fd_text fd
@@ -135,6 +146,7 @@ value_text (value.FsStat stat) = word (codes "FsStat") ++ fs_stat_text stat
 value_text (value.Bytes bytes) = word (codes "Bytes") ++ bytes_text bytes
 value_text (value.Count count) = word (codes "Count") ++ number_text count
 
+-- what a call was answered
 abbrev pub host_reply_text : HostReply → List ℕ
 host_reply_text (reply.Ok told) = word (codes "Ok") ++ value_text told
 host_reply_text (reply.Refused errno) = word (codes "Refused") ++ errno_text errno

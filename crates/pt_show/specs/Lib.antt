@@ -5,3 +5,4 @@ pub mod HostTexts
 pub mod SessionTexts
 pub mod ActTexts
 pub mod AnswerTexts
+pub mod Laws

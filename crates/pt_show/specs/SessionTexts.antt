@@ -33,18 +33,27 @@ abbrev pub forgets_text : List (ℕ × ℕ) → List ℕ
 forgets_text pairs = number_text (length pairs) ++ items_text pair_text pairs
 
 -- a name and what a new handle is told by
-abbrev pub new_handle_text : List ℕ → ℕ → ℕ → ℕ → Fd → List ℕ
+abbrev pub new_handle_text :
+    (name : List ℕ) →
+    (era : ℕ) →
+    (handle : ℕ) →
+    (number : ℕ) →
+    Fd → List ℕ
 new_handle_text name era handle number fd =
     word name ++ number_text era ++ number_text handle ++ number_text number ++ fd_text fd
 
+-- an event: its name and its fields in their order
 abbrev pub event_text : KeptEvent → List ℕ
+-- a request begins; numbers and their rows
 event_text event.Begin = word (codes "Begin")
 event_text (event.Resolve number) = word (codes "Resolve") ++ number_text number
 event_text (event.Unpin row) = word (codes "Unpin") ++ number_text row
 event_text (event.Claim era handle ids) =
     word (codes "Claim") ++ number_text era ++ option_text handle_text handle ++ ids_text ids
+-- slots of descriptors
 event_text event.TakeFd = word (codes "TakeFd")
 event_text event.GiveFd = word (codes "GiveFd")
+-- new numbers, and what is taken back of them
 event_text event.DrawNode = word (codes "DrawNode")
 event_text (event.Insert era number form ids mode) =
     word (codes "Insert") ++ number_text era ++ number_text number ++ row_text form ids mode
@@ -52,14 +61,17 @@ event_text (event.InsertRoot era form ids mode negotiated) =
     word (codes "InsertRoot") ++ number_text era ++ row_text form ids mode ++ option_text negotiated_text negotiated
 event_text (event.Forget list) = word (codes "Forget") ++ forgets_text list
 event_text (event.GiveBack era number) = word (codes "GiveBack") ++ number_text era ++ number_text number
+-- handles
 event_text event.DrawHandle = word (codes "DrawHandle")
 event_text (event.InsertHandle era handle number fd) = new_handle_text (codes "InsertHandle") era handle number fd
 event_text (event.PinHandle handle number) = word (codes "PinHandle") ++ number_text handle ++ number_text number
 event_text (event.UnpinHandle row) = word (codes "UnpinHandle") ++ number_text row
 event_text (event.Release handle number) = word (codes "Release") ++ number_text handle ++ number_text number
+-- the session begins anew; what has to be closed
 event_text event.Clear = word (codes "Clear")
 event_text event.TakeClosing = word (codes "TakeClosing")
 
+-- why an event was refused
 abbrev pub refusal_text : EventRefusal → List ℕ
 refusal_text refusal.NotLive = word (codes "NotLive")
 refusal_text refusal.Overtaken = word (codes "Overtaken")
@@ -68,19 +80,24 @@ refusal_text refusal.Last = word (codes "Last")
 refusal_text refusal.Live = word (codes "Live")
 refusal_text refusal.Memory = word (codes "Memory")
 
+-- what an event was answered
 abbrev pub event_reply_text : EventReply → List ℕ
+-- numbers and their rows
 event_reply_text (reply.Began era negotiated) = word (codes "Began") ++ number_text era ++ negotiated_text negotiated
 event_reply_text (reply.Resolved row form ids mode) =
     word (codes "Resolved") ++ number_text row ++ row_text form ids mode
 event_reply_text (reply.Done closings) = word (codes "Done") ++ number_text closings
 event_reply_text (reply.Claimed number) = word (codes "Claimed") ++ number_text number
 event_reply_text reply.Absent = word (codes "Absent")
+-- slots and counters
 event_reply_text reply.Taken = word (codes "Taken")
 event_reply_text reply.Given = word (codes "Given")
 event_reply_text (reply.Drawn number) = word (codes "Drawn") ++ number_text number
+-- insertions, closings and handles
 event_reply_text (reply.Inserted number) = word (codes "Inserted") ++ number_text number
 event_reply_text (reply.Found number) = word (codes "Found") ++ number_text number
 event_reply_text (reply.Closing fd slot) = word (codes "Closing") ++ fd_text fd ++ switch_text slot
 event_reply_text (reply.Pinned row fd) = word (codes "Pinned") ++ number_text row ++ fd_text fd
 event_reply_text (reply.Cleared era closings) = word (codes "Cleared") ++ number_text era ++ number_text closings
+-- a refusal
 event_reply_text (reply.Refused why) = word (codes "Refused") ++ refusal_text why

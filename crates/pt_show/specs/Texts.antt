@@ -1,16 +1,26 @@
 -- Believed. The texts of plain values: each word stands behind a space.
-use Rattle.std.specs.Prelude.{ℕ, ℤ, Bool, List, [], ◌∷◌, ◌++◌, Option, Some, None, if◌then◌else◌, codes, decimal}
-use Rattle.std.specs.Fmt.{signed_decimal}
+use Rattle.std.specs.Prelude.{ℕ, suc, ℤ, pos, negsuc, Bool, false, List, [], ◌∷◌, ◌++◌, Option, Some, None, if◌then◌else◌}
+use Rattle.std.specs.Prelude.{codes}
+use Rattle.std.specs.Fmt.{digits_onto}
 use Rattle.pt_text.specs.ByteWord.{byte_word}
 
 abbrev pub word : List ℕ → List ℕ
 word bytes = 32 ∷ bytes
 
+-- A number in decimal, whatever its size: it has no more digits than it has units and one. std's `decimal` is the same
+-- of a number of up to 64 digits.
+unfoldable pub all_digits : ℕ → List ℕ
+all_digits n = digits_onto (suc n) 10 false n []
+
+abbrev pub signed_digits : ℤ → List ℕ
+signed_digits (pos n) = all_digits n
+signed_digits (negsuc n) = 45 ∷ all_digits (suc n)
+
 abbrev pub number_text : ℕ → List ℕ
-number_text n = word (decimal n)
+number_text n = word (all_digits n)
 
 abbrev pub signed_text : ℤ → List ℕ
-signed_text n = word (signed_decimal n)
+signed_text n = word (signed_digits n)
 
 abbrev pub bytes_text : List ℕ → List ℕ
 bytes_text bytes = word (byte_word bytes)

@@ -7,6 +7,7 @@ mod answer;
 mod call;
 mod edit;
 mod host;
+mod laws;
 mod plain;
 mod read;
 mod read_call;
@@ -15,6 +16,6 @@ mod read_values;
 mod session;
 mod text;
 
-pub use plain::{push_bytes, push_five, push_four, push_named, push_three, push_two, push_word};
+pub use laws::texts_tell_values;
 pub use read::{Read, ReadError, Words, read_text};
 pub use text::Text;

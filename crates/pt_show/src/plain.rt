@@ -7,7 +7,7 @@ use pt_text::{push_byte_word, push_decimal, push_signed, push_text};
 use std::alloc::AllocError;
 
 /// Appends a word.
-pub fn push_word(out: &mut Vec<u8>, text: &[u8]) -> Result<(), AllocError>
+pub(crate) fn push_word(out: &mut Vec<u8>, text: &[u8]) -> Result<(), AllocError>
     ensures { OnOk result (out.new.items ≡ out.old.items ++ word text.now) }
 {
     push_text(out, b" ")?;
@@ -15,7 +15,11 @@ pub fn push_word(out: &mut Vec<u8>, text: &[u8]) -> Result<(), AllocError>
 }
 
 /// Appends a name and one value.
-pub fn push_named<T: Text>(out: &mut Vec<u8>, name: &[u8], value: &T) -> Result<(), AllocError>
+pub(crate) fn push_named<T: Text>(
+    out: &mut Vec<u8>,
+    name: &[u8],
+    value: &T,
+) -> Result<(), AllocError>
     ensures { OnOk result (out.new.items ≡ out.old.items ++ (word name.now ++ T.text value.now)) }
 {
     push_word(out, name)?;
@@ -23,7 +27,7 @@ pub fn push_named<T: Text>(out: &mut Vec<u8>, name: &[u8], value: &T) -> Result<
 }
 
 /// Appends a name and two values.
-pub fn push_two<A: Text, B: Text>(
+pub(crate) fn push_two<A: Text, B: Text>(
     out: &mut Vec<u8>,
     name: &[u8],
     first: &A,
@@ -36,7 +40,7 @@ pub fn push_two<A: Text, B: Text>(
 }
 
 /// Appends a name and three values.
-pub fn push_three<A: Text, B: Text, C: Text>(
+pub(crate) fn push_three<A: Text, B: Text, C: Text>(
     out: &mut Vec<u8>,
     name: &[u8],
     first: &A,
@@ -51,7 +55,7 @@ pub fn push_three<A: Text, B: Text, C: Text>(
 }
 
 /// Appends a name and four values.
-pub fn push_four<A: Text, B: Text, C: Text, D: Text>(
+pub(crate) fn push_four<A: Text, B: Text, C: Text, D: Text>(
     out: &mut Vec<u8>,
     name: &[u8],
     first: &A,
@@ -68,7 +72,7 @@ pub fn push_four<A: Text, B: Text, C: Text, D: Text>(
 }
 
 /// Appends a name and five values.
-pub fn push_five<A: Text, B: Text, C: Text, D: Text, E: Text>(
+pub(crate) fn push_five<A: Text, B: Text, C: Text, D: Text, E: Text>(
     out: &mut Vec<u8>,
     name: &[u8],
     first: &A,
@@ -90,8 +94,9 @@ impl Text for u64 {
     ghost text = { number_text };
 
     fn write(&self, out: &mut Vec<u8>) -> Result<(), AllocError> {
+        let number = *self;
         push_text(out, b" ")?;
-        push_decimal(out, *self)
+        push_decimal(out, number)
     }
 }
 
@@ -107,8 +112,9 @@ impl Text for i64 {
     ghost text = { signed_text };
 
     fn write(&self, out: &mut Vec<u8>) -> Result<(), AllocError> {
+        let number = *self;
         push_text(out, b" ")?;
-        push_signed(out, *self)
+        push_signed(out, number)
     }
 }
 
@@ -129,7 +135,7 @@ impl Text for bool {
 }
 
 /// Appends bytes as a word.
-pub fn push_bytes(out: &mut Vec<u8>, bytes: &[u8]) -> Result<(), AllocError>
+pub(crate) fn push_bytes(out: &mut Vec<u8>, bytes: &[u8]) -> Result<(), AllocError>
     ensures { OnOk result (out.new.items ≡ out.old.items ++ bytes_text bytes.now) }
 {
     push_text(out, b" ")?;

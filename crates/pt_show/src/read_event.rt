@@ -1,6 +1,6 @@
 //! Events of a session read from their texts.
 use crate::read::{Read, ReadError, Words};
-use pt_session::{ForgetList, KeptEvent, Negotiated, RowForm};
+use pt_session::{ForgetPairs, KeptEvent, Negotiated, RowForm};
 
 impl Read for (u64, u64) {
     fn read(words: &mut Words<'_>) -> Result<Self, ReadError> {
@@ -10,9 +10,9 @@ impl Read for (u64, u64) {
     }
 }
 
-impl Read for ForgetList {
+impl Read for ForgetPairs {
     fn read(words: &mut Words<'_>) -> Result<Self, ReadError> {
-        Ok(ForgetList::from_vec(words.list()?))
+        Ok(ForgetPairs::from_vec(words.list()?))
     }
 }
 

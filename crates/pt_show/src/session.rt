@@ -5,7 +5,7 @@ ghost use Rattle.pt_show.specs.SessionTexts.{new_handle_text, event_text, refusa
 use crate::plain::{push_named, push_word};
 use crate::text::Text;
 use pt_host::{Fd, ObjIds};
-use pt_session::{EventRefusal, EventReply, ForgetList, KeptEvent, Negotiated, RowForm};
+use pt_session::{EventRefusal, EventReply, ForgetPairs, KeptEvent, Negotiated, RowForm};
 use std::alloc::AllocError;
 
 impl Text for RowForm {
@@ -47,7 +47,7 @@ impl Text for (u64, u64) {
     }
 }
 
-impl Text for ForgetList {
+impl Text for ForgetPairs {
     ghost text = { forgets_text };
 
     fn write(&self, out: &mut Vec<u8>) -> Result<(), AllocError> {

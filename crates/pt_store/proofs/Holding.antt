@@ -28,7 +28,8 @@ use Rattle.pt_rules.specs.Laws.Opens.{least_free-closed}
 use Rattle.pt_rules.specs.Laws.SlotTable.{least_free-le-length}
 use Rattle.pt_node.specs.Laws.Updates.{open_slot}
 use Rattle.pt_node.specs.Laws.Updates.{put_before, put_end}
-use Rattle.pt_rules.specs.Living.{names_of, names_to, opens, opens_of}
+use Rattle.pt_node.specs.Links.{names_of, names_to}
+use Rattle.pt_rules.specs.Living.{opens, opens_of}
 
 -- ---- in one directory
 

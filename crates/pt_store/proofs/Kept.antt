@@ -7,8 +7,9 @@ use Rattle.std.proofs.lemmas.Bool.Decides.{eqb_tells}
 use Rattle.std.proofs.lemmas.List.Sums.{prefix_len_passes}
 use Rattle.std.proofs.lemmas.Option.{same_Some, slice_get_within, slice_get-get_or, get_or_from_slice_get}
 use Rattle.pt_host.specs.Words.{is, set_at}
-use Rattle.pt_store.specs.Kept.{AreNumbered, IsKept}
-use Rattle.pt_node.specs.Numbers.{freed, given_up, released}
+use Rattle.pt_store.specs.Kept.{AreNamed, AreNumbered, IsKept}
+use Rattle.pt_node.specs.Links.{names_of}
+use Rattle.pt_node.specs.Numbers.{Counts, freed, given_up, released}
 use Rattle.pt_rules.specs.Living.{AreLeastFree, IsLeastFree, IsTaken, held_by}
 use Rattle.pt_node.specs.Slots.{closed, closed_where, file_of, is_free, least_free, open_at}
 use Rattle.pt_rules.specs.Sound.{IsSound}
@@ -62,20 +63,7 @@ numbered_alike state after dev numbers are alike back on = record {
   no_other = are.no_other;
 }
 
-pub kept_alike : (state after : State) (holds : List ℕ) (tables : ℕ → List Slot) → IsKept state holds tables →
-    IsSound after → AreAlike state.nodes after.nodes →
-    ((object : ℕ) → held_by after object ≡ held_by state object) → IsKept after holds tables
-kept_alike state after holds tables kept sound alike same = record {
-  sound = sound;
-  long = kept.long ∙ sym alike.long;
-  held = λ object within. kept.held object (subst (λ n. object < n) alike.long within)
-      ∙ ap (λ n. Some n) (sym (same object));
-  numbered = λ dev. numbered_alike state after dev (tables dev) (kept.numbered dev) alike
-      (λ object node there of some. subst (λ n. 0 < n) (same object) some)
-      (λ object node there of some. subst (λ n. 0 < n) (sym (same object)) some);
-}
-
--- ---- once more
+-- ---- counts
 
 index_is : (xs : List ℕ) (place value : ℕ) → slice_get xs place ≡ Some value → slice_index xs place ≡ value
 index_is xs place value is = get_or_from_slice_get xs place value 0 is
@@ -90,19 +78,79 @@ held_value holds object value other count after is here there = elim (eqb_tells 
   | inr apart ↦ get-set_apart holds object value other apart.1 ∙ is ∙ ap (λ n. Some n) (sym (there apart.1))
 ]
 
-module _ (state after : State) (holds : List ℕ) (tables : ℕ → List Slot) (object : ℕ)
+-- one more at a place
+abbrev pub once_more : ℕ → List ℕ → List ℕ
+once_more place counts = slice_set counts place (slice_index counts place + 1)
+
+-- ---- how many names each object has
+
+pub named_same : (nodes after : List Node) (names : List ℕ) → AreNamed nodes names → length after ≡ length nodes →
+    ((object : ℕ) → names_of after object ≡ names_of nodes object) → AreNamed after names
+named_same nodes after names named long same = record {
+  long = named.long ∙ sym long;
+  each = λ object within. named.each object (subst (λ n. object < n) long within) ∙ ap (λ n. Some n) (sym (same object));
+}
+
+pub named_more : (nodes after : List Node) (names : List ℕ) (object : ℕ) → AreNamed nodes names →
+    length after ≡ length nodes → object < length nodes →
+    ((o : ℕ) → names_of after o ≡ names_of nodes o + is o object) → AreNamed after (once_more object names)
+named_more nodes after names object named long within more = record {
+  long = length-set names object (slice_index names object + 1) ∙ named.long ∙ sym long;
+  each = λ o below.
+      let was = index_is names object (names_of nodes object) (named.each object within) in
+      held_value names object (slice_index names object + 1) o (names_of nodes o) (names_of after o)
+      (named.each o (subst (λ n. o < n) long below))
+      (λ same. let a = more o in let one = is_one o object same in let e = ap (names_of nodes) same in
+      omega (arith, a, one, e, was))
+      (λ apart. let a = more o in let none = is_none o object apart in omega (arith, a, none));
+}
+
+pub named_less : (nodes after : List Node) (names : List ℕ) (object : ℕ) → AreNamed nodes names →
+    length after ≡ length nodes → object < length nodes →
+    ((o : ℕ) → names_of after o + is o object ≡ names_of nodes o) → AreNamed after (released object names)
+named_less nodes after names object named long within less = record {
+  long = length-set names object (slice_index names object - 1) ∙ named.long ∙ sym long;
+  each = λ o below.
+      let was = index_is names object (names_of nodes object) (named.each object within) in
+      held_value names object (slice_index names object - 1) o (names_of nodes o) (names_of after o)
+      (named.each o (subst (λ n. o < n) long below))
+      (λ same. let a = less o in let one = is_one o object same in let e = ap (names_of nodes) same in
+      omega (arith, a, one, e, was))
+      (λ apart. let a = less o in let none = is_none o object apart in omega (arith, a, none));
+}
+
+pub kept_alike : (state after : State) (holds : Counts) (tables : ℕ → List Slot) → IsKept state holds tables →
+    IsSound after → AreAlike state.nodes after.nodes →
+    ((object : ℕ) → held_by after object ≡ held_by state object) →
+    ((object : ℕ) → names_of after.nodes object ≡ names_of state.nodes object) → IsKept after holds tables
+kept_alike state after holds tables kept sound alike same names = record {
+  sound = sound;
+  long = kept.long ∙ sym alike.long;
+  named = named_same state.nodes after.nodes holds.names kept.named alike.long names;
+  held = λ object within. kept.held object (subst (λ n. object < n) alike.long within)
+      ∙ ap (λ n. Some n) (sym (same object));
+  numbered = λ dev. numbered_alike state after dev (tables dev) (kept.numbered dev) alike
+      (λ object node there of some. subst (λ n. 0 < n) (same object) some)
+      (λ object node there of some. subst (λ n. 0 < n) (sym (same object)) some);
+}
+
+-- ---- once more
+
+module _ (state after : State) (holds : Counts) (tables : ℕ → List Slot) (object : ℕ)
     (kept : IsKept state holds tables) (sound : IsSound after)
     (alike : AreAlike state.nodes after.nodes) (within : object < length state.nodes) where
-  held_before : slice_index holds object ≡ held_by state object
-  held_before = index_is holds object (held_by state object) (kept.held object within)
+  held_before : slice_index holds.holds object ≡ held_by state object
+  held_before = index_is holds.holds object (held_by state object) (kept.held object within)
 
-  pub kept_more : 0 < held_by state object → ((o : ℕ) → held_by after o ≡ held_by state o + is o object) →
-      IsKept after (slice_set holds object (slice_index holds object + 1)) tables
-  kept_more lives more = record {
+  pub kept_more : (names : List ℕ) → AreNamed after.nodes names → 0 < held_by state object →
+      ((o : ℕ) → held_by after o ≡ held_by state o + is o object) →
+      IsKept after (record { holds = once_more object holds.holds; names = names }) tables
+  kept_more names named lives more = record {
     sound = sound;
-    long = length-set holds object (slice_index holds object + 1) ∙ kept.long ∙ sym alike.long;
+    long = length-set holds.holds object (slice_index holds.holds object + 1) ∙ kept.long ∙ sym alike.long;
+    named = named;
     held = λ o below.
-        held_value holds object (slice_index holds object
+        held_value holds.holds object (slice_index holds.holds object
         + 1) o (held_by state o) (held_by after o) (kept.held o (subst (λ n. o < n) alike.long below))
         (λ same. let a = more o in let one = is_one o object same in let e = ap (held_by state) same in
         let h = held_before in omega arith)
@@ -148,7 +196,7 @@ reserved_before (Some file) number numbers k there =
     elim (get-set_cases numbers number Free k Reserved there) [ inl both ↦ cc | inr before ↦ before ]
 
 -- the number is still open on the object, or it was closed
-still_open_at : (number k : ℕ) (numbers : List Slot) (file : OpenFile) →
+pub still_open_at : (number k : ℕ) (numbers : List Slot) (file : OpenFile) →
     open_at (closed number numbers) k ≡ Some file → (k ≢ number) × (open_at numbers k ≡ Some file)
 still_open_at number k numbers file there = elim (eqb_tells k number) [
   | inl e ↦ absurd (let a : open_at (closed number numbers) number ≡ Some file =
@@ -173,22 +221,26 @@ numbered_put state dev table tables here there other = elim (eqb_tells other dev
 
 -- ---- once less
 
-module _ (state after : State) (holds : List ℕ) (tables : ℕ → List Slot) (object : ℕ) (node : Node)
+module _ (state after : State) (holds : Counts) (tables : ℕ → List Slot) (object : ℕ) (node : Node)
     (kept : IsKept state holds tables) (sound : IsSound after)
     (alike : AreAlike state.nodes after.nodes) (here : slice_get state.nodes object ≡ Some node)
+    (names : List ℕ) (named : AreNamed after.nodes names)
     (less : (o : ℕ) → held_by after o + is o object ≡ held_by state o) where
   below : object < length state.nodes
   below = slice_get_within state.nodes object node here
 
-  count_is : slice_index holds object ≡ held_by state object
-  count_is = index_is holds object (held_by state object) (kept.held object below)
+  abbrev counted : Counts
+  counted = record { holds = released object holds.holds; names = names }
 
-  long_less : length (released object holds) ≡ length after.nodes
-  long_less = length-set holds object (slice_index holds object - 1) ∙ kept.long ∙ sym alike.long
+  count_is : slice_index holds.holds object ≡ held_by state object
+  count_is = index_is holds.holds object (held_by state object) (kept.held object below)
 
-  held_less : (o : ℕ) → o < length after.nodes → slice_get (released object holds) o ≡ Some (held_by after o)
+  long_less : length (released object holds.holds) ≡ length after.nodes
+  long_less = length-set holds.holds object (slice_index holds.holds object - 1) ∙ kept.long ∙ sym alike.long
+
+  held_less : (o : ℕ) → o < length after.nodes → slice_get (released object holds.holds) o ≡ Some (held_by after o)
   held_less o within =
-      held_value holds object (slice_index holds object
+      held_value holds.holds object (slice_index holds.holds object
       - 1) o (held_by state o) (held_by after o) (kept.held o (subst (λ n. o < n) alike.long within))
       (λ same. let a = less o in let one = is_one o object same in let e = ap (held_by state) same in
       let h = count_is in omega arith)
@@ -198,11 +250,12 @@ module _ (state after : State) (holds : List ℕ) (tables : ℕ → List Slot) (
   more_before o some = let a = less o in omega arith
 
   -- it is still held
-  kept_less : held_by state object ≢ 1 → IsKept after (released object holds) tables
+  kept_less : held_by state object ≢ 1 → IsKept after counted tables
   kept_less many = record {
     sound = sound;
     long = long_less;
     held = held_less;
+    named = named;
     numbered = λ dev. numbered_alike state after dev (tables dev) (kept.numbered dev) alike
         (λ o that there of some. more_before o some)
         (λ o that there of some. still_held o some);
@@ -266,11 +319,12 @@ module _ (state after : State) (holds : List ℕ) (tables : ℕ → List Slot) (
       other_object o some same = let a = less o in let one = is_one o object same in
           let e = ap (held_by state) same in omega arith
 
-  kept_dead : held_by state object ≡ 1 → IsKept after (released object holds) (freed node.ids.dev node.ids.ino tables)
+  kept_dead : held_by state object ≡ 1 → IsKept after counted (freed node.ids.dev node.ids.ino tables)
   kept_dead last = record {
     sound = sound;
     long = long_less;
     held = held_less;
+    named = named;
     numbered = numbered_put after node.ids.dev (closed node.ids.ino (tables node.ids.dev)) tables (numbered_dead last)
         (λ dev apart. numbered_alike state after dev (tables dev) (kept.numbered dev) alike
         (λ o that there of some. more_before o some)
@@ -279,15 +333,16 @@ module _ (state after : State) (holds : List ℕ) (tables : ℕ → List Slot) (
   }
 
   by_count : (b : Bool) → (b ≡ true → held_by state object ≡ 1) → (b ≡ false → held_by state object ≢ 1) →
-      IsKept after (released object holds) (cond b (freed node.ids.dev node.ids.ino tables) tables)
+      IsKept after counted (cond b (freed node.ids.dev node.ids.ino tables) tables)
   by_count true last many = kept_dead (last refl)
   by_count false last many = kept_less (many refl)
 
-  pub kept_released : IsKept after (released object holds) (given_up node.ids.dev node.ids.ino object holds tables)
-  kept_released = elim (eqb_tells (slice_index holds object) 1) [
-    | inl e ↦ by_count (slice_index holds object == 1) (λ _. sym count_is
+  pub kept_released : IsKept after (record { holds = released object holds.holds; names = names })
+      (given_up node.ids.dev node.ids.ino object holds.holds tables)
+  kept_released = elim (eqb_tells (slice_index holds.holds object) 1) [
+    | inl e ↦ by_count (slice_index holds.holds object == 1) (λ _. sym count_is
         ∙ e.1) (λ f. absurd (let g : true ≡ false = sym e.0 ∙ f in cc))
-    | inr apart ↦ by_count (slice_index holds object == 1) (λ f.
+    | inr apart ↦ by_count (slice_index holds.holds object == 1) (λ f.
         absurd (let g : true ≡ false = sym f ∙ apart.0 in cc)) (λ _ one. apart.1 (count_is ∙ one))
   ]
 
@@ -346,6 +401,6 @@ module _ (state : State) (dev : ℕ) (numbers : List Slot) (are : AreNumbered st
   }
 
 -- the numbers that new objects get are the least
-pub next_least : (state : State) (holds : List ℕ) (tables : ℕ → List Slot) → IsKept state holds tables →
+pub next_least : (state : State) (holds : Counts) (tables : ℕ → List Slot) → IsKept state holds tables →
     AreLeastFree state (λ dev. least_free (tables dev))
 next_least state holds tables kept dev = least_numbered state dev (tables dev) (kept.numbered dev)

@@ -1,28 +1,20 @@
 -- A store goes on knowing what lives through the calls that make, take and lead no name.
-use Rattle.std.proofs.Common.{◌≡◌, ◌+◌, ◌%◌, ◌==◌, ◌&&◌, nat_lt, inl, inr, ℕ, ℤ, Bool, true, false, not, cond, List}
-use Rattle.std.proofs.Common.{[], ◌∷◌, length, Option, Some, None, Result, Ok, Err, slice_get, unwrap_or, refl, ap}
+use Rattle.std.proofs.Common.{◌≡◌, inl, inr, ℕ, List}
+use Rattle.std.proofs.Common.{[], ◌∷◌, length, Option, Some, None, slice_get, refl, ap}
 use Rattle.std.proofs.Common.{sym, subst, arith}
 use Rattle.std.proofs.lemmas.List.Sums.{sum_by-set}
 use Rattle.std.proofs.lemmas.Option.{slice_get_within, get_or_from_slice_get}
-use Rattle.pt_host.specs.Errno.{einval, eperm}
-use Rattle.pt_host.specs.Flags.{includes}
+use Rattle.pt_node.specs.Numbers.{Counts}
 use Rattle.pt_host.specs.declared.ids.Errno.{Errno}
 use Rattle.pt_host.specs.declared.ids.Fd.{Fd}
-use Rattle.pt_host.specs.declared.ids.TimeSet.{TimeSet}
 use Rattle.pt_host.specs.declared.seat.HostSeat.{HostSeat}
 use Rattle.pt_host.specs.declared.reply.HostReply.{HostReply}
-use Rattle.pt_node.specs.Changes.{owned, timed}
-use Rattle.pt_node.specs.Attributes.{value_of, with_value, without_value}
 use Rattle.pt_rules.specs.Calls.{Answered, with_node}
 use Rattle.pt_rules.specs.ContentCalls.{after_writing, copied, copy_checks, copy_range, with_position, with_written}
-use Rattle.pt_node.specs.Changes.{refilled}
 use Rattle.pt_rules.specs.Does.{AnswersAs}
 use Rattle.pt_rules.specs.Faults.{past_plan}
-use Rattle.pt_node.specs.Entries.{changed_at, changed_where, restamped, rewritten}
+use Rattle.pt_node.specs.Entries.{changed_at, changed_where}
 use Rattle.pt_store.specs.Kept.{IsKept}
-use Rattle.pt_rules.specs.ListCalls.{list_at, list_checks, names_from, records}
-use Rattle.pt_node.specs.Node.{bytes_in, is_link, size_of}
-use Rattle.pt_node.specs.Permission.{chown}
 use Rattle.pt_node.specs.Reading.{after_reading}
 use Rattle.pt_node.specs.Slots.{open_at, placed_where}
 use Rattle.pt_rules.specs.State.{State, counted, time_of}
@@ -34,7 +26,7 @@ use Rattle.pt_rules.specs.Laws.Cases.{by_checks, by_fd}
 use Rattle.pt_rules.specs.Laws.Changed.{alike_itself}
 use Rattle.pt_rules.specs.Laws.Keeping.{Keeps, keeps_reading}
 use Rattle.pt_rules.specs.Laws.MoveFair.{sound-with_position}
-use Rattle.pt_rules.specs.Laws.PlainCalls.{keeps_refilled, keeps_rewritten}
+use Rattle.pt_rules.specs.Laws.PlainCalls.{keeps_refilled}
 use Rattle.pt_rules.specs.Laws.Soundness.{alike_set, sound-counted, sound-with_node}
 use Rattle.pt_node.specs.Laws.Updates.{open_slot}
 use Rattle.pt_store.proofs.Kept.{kept_alike}
@@ -44,12 +36,12 @@ use Rattle.pt_rules.specs.Living.{opens, opens_of}
 
 -- ---- what an answer leaves is kept where what the table leaves is
 
-pub kept_told : (told : Answered) (given : HostReply) (after : State) (holds : List ℕ) (tables : ℕ → List Slot) →
+pub kept_told : (told : Answered) (given : HostReply) (after : State) (holds : Counts) (tables : ℕ → List Slot) →
     (given, after) ≡ told → IsKept told.1 holds tables → IsKept after holds tables
 kept_told told given after holds tables is kept =
     subst (λ (s : State). IsKept s holds tables) (sym (ap (λ (both : Answered). both.1) is)) kept
 
-pub kept_answer : (told : Answered) (before : State) (given : HostReply) (after : State) (holds : List ℕ)
+pub kept_answer : (told : Answered) (before : State) (given : HostReply) (after : State) (holds : Counts)
     (tables : ℕ → List Slot) → AnswersAs told before given after →
     IsKept before holds tables → IsKept told.1 holds tables → IsKept after holds tables
 kept_answer told before given after holds tables (inl is) kept by_table =
@@ -71,7 +63,7 @@ opens_of-placed (Some file) fd position slots object is =
 
 -- ---- call by call
 
-module _ (state : State) (holds : List ℕ) (tables : ℕ → List Slot) (kept : IsKept state holds tables) where
+module _ (state : State) (holds : Counts) (tables : ℕ → List Slot) (kept : IsKept state holds tables) where
   -- one object has become another that keeps it
   pub kept_node : (object : ℕ) (node after : Node) → slice_get state.nodes object ≡ Some node → Keeps node after →
       IsKept (with_node state object after) holds tables
@@ -80,12 +72,13 @@ module _ (state : State) (holds : List ℕ) (tables : ℕ → List Slot) (kept :
       (sound-with_node state object node after kept.sound there keeps)
       (alike_set state.nodes object node after there keeps)
       (λ o. let names = names_of-set state.nodes object node after o there keeps.names in omega (arith, names))
+      (λ o. names_of-set state.nodes object node after o there keeps.names)
 
   pub kept_placed : (fd position : ℕ) → IsKept (with_position state fd position) holds tables
   kept_placed fd position =
       kept_alike state (with_position state fd position) holds tables kept
       (sound-with_position state fd position kept.sound) (alike_itself state.nodes)
-      (λ o. let opens = opens_of-placed (open_at state.slots fd) fd position state.slots o refl in omega (arith, opens))
+      (λ o. let opens = opens_of-placed (open_at state.slots fd) fd position state.slots o refl in omega (arith, opens)) (λ o. refl)
 
   kept_where : (object : ℕ) (f : Node → Node) → ((node : Node) → Keeps node (f node)) → (at : Option Node) →
       slice_get state.nodes object ≡ at → IsKept (nodes_in state (changed_where at object f state.nodes)) holds tables
@@ -99,7 +92,7 @@ module _ (state : State) (holds : List ℕ) (tables : ℕ → List Slot) (kept :
   -- what is planned, counted and told beside the tree
   pub kept_counted : IsKept (counted (past_plan state)) holds tables
   kept_counted = kept_alike state (counted (past_plan state)) holds tables kept (sound-counted state kept.sound)
-      (alike_itself state.nodes) (λ o. refl)
+      (alike_itself state.nodes) (λ o. refl) (λ o. refl)
 
   pub kept_beside : (plans : List (ℕ × Errno)) (faults : ℕ) →
       IsKept (record state { plans = plans; faults = faults }) holds tables
@@ -112,7 +105,7 @@ module _ (state : State) (holds : List ℕ) (tables : ℕ → List Slot) (kept :
         opened = kept.sound.opened;
         apart = kept.sound.apart;
       })
-      (alike_itself state.nodes) (λ o. refl)
+      (alike_itself state.nodes) (λ o. refl) (λ o. refl)
 
   pub kept_written : (seat : HostSeat) (object start : ℕ) (bytes : List ℕ) →
       IsKept (with_written state seat object start bytes) holds tables
@@ -126,7 +119,7 @@ module _ (state : State) (holds : List ℕ) (tables : ℕ → List Slot) (kept :
 
 -- ---- calls of two steps
 
-module _ (state : State) (holds : List ℕ) (tables : ℕ → List Slot) (kept : IsKept state holds tables) where
+module _ (state : State) (holds : Counts) (tables : ℕ → List Slot) (kept : IsKept state holds tables) where
   pub kept_copy_range : (seat : HostSeat) (fd : Fd) (offset : ℕ) (fd2 : Fd) (offset2 size flags : ℕ) →
       IsKept (copy_range state seat fd offset fd2 offset2 size flags).1 holds tables
   kept_copy_range seat fd offset fd2 offset2 size flags =

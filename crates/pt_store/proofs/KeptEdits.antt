@@ -1,7 +1,6 @@
 -- A store goes on knowing what lives through each call and each edit.
 use Rattle.std.proofs.Common.{◌≡◌, ◌+◌, ℕ, true, List, Option, Some, None, option_and_then, slice_get, slice_set}
 use Rattle.std.proofs.Common.{refl, ap, sym, ◌∙◌, subst, arith}
-use Rattle.std.specs.Prelude.{slice_index}
 use Rattle.std.proofs.lemmas.List.Sums.{sum_by-set}
 use Rattle.std.proofs.lemmas.Option.{slice_get_within, get_or_from_slice_get}
 use Rattle.pt_host.specs.Words.{is}
@@ -10,10 +9,10 @@ use Rattle.pt_host.specs.declared.seat.HostSeat.{HostSeat}
 use Rattle.pt_rules.specs.Calls.{begun_on, with_descriptor, with_opened, with_node}
 use Rattle.pt_rules.specs.Edits.{moved, replaced, with_moved, with_rewritten, with_unlinked}
 use Rattle.pt_host.specs.declared.ids.Time.{Time}
-use Rattle.pt_node.specs.Entries.{after_losing, changed_at, is_directory_at, is_directory_where, restamped, rewritten}
+use Rattle.pt_node.specs.Entries.{changed_at, is_directory_at, is_directory_where, restamped, rewritten}
 use Rattle.pt_node.specs.Entries.{touched, with_name, without_entry, without_name}
 use Rattle.pt_store.specs.Kept.{IsKept}
-use Rattle.pt_node.specs.Numbers.{given_up, given_up_where, released, released_where}
+use Rattle.pt_node.specs.Numbers.{Counts, given_up, given_up_where, released, released_where}
 use Rattle.pt_rules.specs.Holds.{HasHold}
 use Rattle.pt_node.specs.Names.{found}
 use Rattle.pt_node.specs.Node.{holds_names, is_directory, name_at, names_in}
@@ -39,8 +38,8 @@ use Rattle.pt_rules.specs.Laws.WellFormed.{and_then_some}
 use Rattle.pt_rules.specs.Laws.Alive.{lives_held}
 use Rattle.pt_store.proofs.Holding.{counts_where, gained_names, get_there, lost_names, names_of-changed}
 use Rattle.pt_store.proofs.Holding.{names_of-same, opens_of-closed, opens_of-put}
-use Rattle.pt_store.proofs.Kept.{kept_alike, kept_more, kept_released}
-use Rattle.pt_rules.specs.Living.{names_of, names_to}
+use Rattle.pt_store.proofs.Kept.{kept_alike, kept_more, kept_released, named_less, named_same, once_more}
+use Rattle.pt_node.specs.Links.{names_of, names_to}
 
 -- ---- calls
 
@@ -55,33 +54,39 @@ names_of-set nodes place node after object there same =
     let e = ap (names_to object) same in
     omega (arith, sums, was, e)
 
-pub kept_opened : (state : State) (holds : List ℕ) (tables : ℕ →
+pub kept_opened : (state : State) (holds : Counts) (tables : ℕ →
     List Slot) (seat : HostSeat) (flags : OpenFlags) (object : ℕ) (node : Node) →
     IsKept state holds tables → slice_get state.nodes object ≡ Some node → HasHold state object →
-    IsKept (with_opened state seat flags object node) (slice_set holds object (slice_index holds object + 1)) tables
+    IsKept (with_opened state seat flags object node)
+    (record { holds = once_more object holds.holds; names = holds.names }) tables
 kept_opened state holds tables seat flags object node kept there lives =
     let keeps = keeps_opening seat (time_of state) flags.0 node in
     let after = after_opening seat (time_of state) flags.0 node in
     kept_more state (with_opened state seat flags object node) holds tables object kept
     (sound-with_opened state seat flags object node kept.sound there lives)
     (alike_set state.nodes object node after there keeps)
-    (slice_get_within state.nodes object node there) (lives_held state object lives)
+    (slice_get_within state.nodes object node there) holds.names
+    (named_same state.nodes (slice_set state.nodes object after) holds.names kept.named
+    (alike_set state.nodes object node after there keeps).long
+    (λ o. names_of-set state.nodes object node after o there keeps.names))
+    (lives_held state object lives)
     (λ o.
     let names = names_of-set state.nodes object node after o there keeps.names in
     let opens = opens_of-put state.slots (begun_on flags object) o in
     omega (arith, names, opens))
 
-pub kept_descriptor : (state : State) (holds : List ℕ) (tables : ℕ →
+pub kept_descriptor : (state : State) (holds : Counts) (tables : ℕ →
     List Slot) (seat : HostSeat) (flags : OpenFlags) (object : ℕ) (node : Node) →
     IsKept state holds tables → slice_get state.nodes object ≡ Some node → HasHold state object →
-    IsKept (with_descriptor state flags object) (slice_set holds object (slice_index holds object + 1)) tables
+    IsKept (with_descriptor state flags object)
+    (record { holds = once_more object holds.holds; names = holds.names }) tables
 kept_descriptor state holds tables seat flags object node kept there lives =
     kept_more state (with_descriptor state flags object) holds tables object kept
     (sound-with_descriptor state seat flags object node kept.sound there lives) (alike_itself state.nodes)
-    (slice_get_within state.nodes object node there) (lives_held state object lives)
+    (slice_get_within state.nodes object node there) holds.names kept.named (lives_held state object lives)
     (λ o. let opens = opens_of-put state.slots (begun_on flags object) o in omega (arith, opens))
 
-pub kept_read : (state : State) (holds : List ℕ) (tables : ℕ → List Slot) (object : ℕ) (node : Node) →
+pub kept_read : (state : State) (holds : Counts) (tables : ℕ → List Slot) (object : ℕ) (node : Node) →
     IsKept state holds tables →
     slice_get state.nodes object ≡ Some node →
     IsKept (with_node state object (after_reading (time_of state) node)) holds tables
@@ -92,24 +97,26 @@ kept_read state holds tables object node kept there =
     (sound-with_node state object node after kept.sound there keeps)
     (alike_set state.nodes object node after there keeps)
     (λ o. let names = names_of-set state.nodes object node after o there keeps.names in omega (arith, names))
+    (λ o. names_of-set state.nodes object node after o there keeps.names)
 
-pub kept_closed : (state : State) (holds : List ℕ) (tables : ℕ → List Slot) (fd : ℕ) (file : OpenFile) →
+pub kept_closed : (state : State) (holds : Counts) (tables : ℕ → List Slot) (fd : ℕ) (file : OpenFile) →
     IsKept state holds tables → open_at state.slots fd ≡ Some file →
-    IsKept (record state { slots = closed fd state.slots }) (released file.object holds)
-    (given_up (device_at state.nodes file.object) (number_at state.nodes file.object) file.object holds tables)
+    IsKept (record state { slots = closed fd state.slots })
+    (record { holds = released file.object holds.holds; names = holds.names })
+    (given_up (device_at state.nodes file.object) (number_at state.nodes file.object) file.object holds.holds tables)
 kept_closed state holds tables fd file kept there =
     let node = get_there state.nodes file.object (kept.sound.opened fd file there) in
     subst (λ at. IsKept (record state {
       slots =
           closed fd state.slots;
-    }) (released file.object holds)
-    (given_up (device_in at) (number_in at) file.object holds tables))
+    }) (record { holds = released file.object holds.holds; names = holds.names })
+    (given_up (device_in at) (number_in at) file.object holds.holds tables))
     (sym node.1)
     (kept_released state (record state {
       slots =
           closed fd state.slots;
     }) holds tables file.object node.0 kept (sound-closed state fd kept.sound)
-    (alike_itself state.nodes) node.1
+    (alike_itself state.nodes) node.1 holds.names kept.named
     (λ o. let opens = opens_of-closed state.slots fd file o there in omega (arith, opens)))
 
 -- ---- Unlink
@@ -137,23 +144,30 @@ lives_there : (state : State) (dir : ℕ) (name : List ℕ) (object : ℕ) → I
     name_at state.nodes dir name ≡ Some object → (node : Node) × (slice_get state.nodes object ≡ Some node)
 lives_there state dir name object sound there = get_there state.nodes object (sound.named dir name object there)
 
-pub kept_unlinked : (state : State) (holds : List ℕ) (tables : ℕ → List Slot) (dir : ℕ) (name : List ℕ) (object : ℕ) →
+pub kept_unlinked : (state : State) (holds : Counts) (tables : ℕ → List Slot) (dir : ℕ) (name : List ℕ) (object : ℕ) →
     IsKept state holds tables → name_at state.nodes dir name ≡ Some object →
-    IsKept (with_unlinked state dir name object) (released object holds)
-    (given_up (device_at state.nodes object) (number_at state.nodes object) object holds tables)
+    IsKept (with_unlinked state dir name object)
+    (record { holds = released object holds.holds; names = released object holds.names })
+    (given_up (device_at state.nodes object) (number_at state.nodes object) object holds.holds tables)
 kept_unlinked state holds tables dir name object kept there =
     let node = lives_there state dir name object kept.sound there in
     let now = time_of state in
-    subst (λ at. IsKept (with_unlinked state dir name object) (released object holds)
-    (given_up (device_in at) (number_in at) object holds tables)) (sym node.1)
+    let alike = alike_unlinked now dir name object state.nodes in
+    let less : (o : ℕ) → names_of (with_unlinked state dir name object).nodes o + is o object
+    ≡ names_of state.nodes o = λ o.
+    (let same = names_of-same object (restamped now) (lost now dir name object state.nodes) o (λ n is. refl) in
+    let fewer = names_of-lost state.nodes dir name (λ at. touched now (without_entry name at)) o object
+    (λ n. refl) there in
+    omega (arith, same, fewer)) in
+    subst (λ at. IsKept (with_unlinked state dir name object)
+    (record { holds = released object holds.holds; names = released object holds.names })
+    (given_up (device_in at) (number_in at) object holds.holds tables)) (sym node.1)
     (kept_released state (with_unlinked state dir name object) holds tables object node.0 kept
     (sound_unlinked state dir name object kept.sound)
-    (alike_unlinked now dir name object state.nodes) node.1
-    (λ o.
-    let same = names_of-same object (after_losing now) (lost now dir name object state.nodes) o (λ n is. refl) in
-    let less = names_of-lost state.nodes dir name (λ at.
-    touched now (without_entry name (is_directory_at state.nodes object) at)) o object (λ n. refl) there in
-    omega (arith, same, less)))
+    alike node.1 (released object holds.names)
+    (named_less state.nodes (with_unlinked state dir name object).nodes holds.names object kept.named alike.long
+    (slice_get_within state.nodes object node.0 node.1) less)
+    (λ o. let fewer = less o in omega (arith, fewer)))
 
 -- ---- Rename
 
@@ -194,12 +208,12 @@ names_of-gained nodes dir name v f object there gains ordered into is =
 replaced_same : (now : Time) (target : Option ℕ) (nodes : List Node) (object : ℕ) →
     names_of (replaced now target nodes) object ≡ names_of nodes object
 replaced_same now None nodes object = refl
-replaced_same now (Some target) nodes object = names_of-same target (after_losing now) nodes object (λ n is. refl)
+replaced_same now (Some target) nodes object = names_of-same target (restamped now) nodes object (λ n is. refl)
 
 replaced_names : (now : Time) (target : Option ℕ) (nodes : List Node) →
     name_at (replaced now target nodes) ≡ name_at nodes
 replaced_names now None nodes = refl
-replaced_names now (Some target) nodes = names-same target (after_losing now) nodes (λ n is. refl)
+replaced_names now (Some target) nodes = names-same target (restamped now) nodes (λ n is. refl)
 
 module _ (state : State) (from to : ℕ × List ℕ) (object : ℕ) (target : Option ℕ) (sound : IsSound state)
     (there : name_at state.nodes from.0 from.1 ≡ Some object)
@@ -208,7 +222,7 @@ module _ (state : State) (from to : ℕ × List ℕ) (object : ℕ) (target : Op
   still_there =
       ap (λ names. names from.0 from.1)
       (replaced_names (time_of state) target (first (time_of state) from to object target state.nodes)
-      ∙ names-gained (time_of state) to.0 to.1 object (is_directory_at state.nodes object) _ state.nodes into)
+      ∙ names-gained (time_of state) to.0 to.1 object state.nodes into)
       ∙ led_still to.0 to.1 object (name_at state.nodes) from.0 from.1 there
 
   moved_names : (o : ℕ) →
@@ -225,30 +239,37 @@ module _ (state : State) (from to : ℕ × List ℕ) (object : ℕ) (target : Op
       refl) (all_ordered state sound) into at_target in
       omega (arith, a, b, c, d)
 
-pub kept_moved : (state : State) (holds : List ℕ) (tables : ℕ →
+pub kept_moved : (state : State) (holds : Counts) (tables : ℕ →
     List Slot) (from to : ℕ × List ℕ) (object : ℕ) (target : Option ℕ) → IsKept state holds tables →
     name_at state.nodes from.0 from.1 ≡ Some object → is_directory_at state.nodes to.0 ≡ true →
     name_at state.nodes to.0 to.1 ≡ target →
-    IsKept (with_moved state from to object target) (released_where target holds)
-    (given_up_where (device_where state.nodes target) (number_where state.nodes target) target holds tables)
+    IsKept (with_moved state from to object target)
+    (record { holds = released_where target holds.holds; names = released_where target holds.names })
+    (given_up_where (device_where state.nodes target) (number_where state.nodes target) target holds.holds tables)
 kept_moved state holds tables from to object None kept there into at_target =
     kept_alike state (with_moved state from to object None) holds tables kept
     (sound_moved state from to object None kept.sound there into)
     (alike_moved (time_of state) from to object None state.nodes)
     (λ o. let names = moved_names state from to object None kept.sound there into at_target o in omega (arith, names))
+    (λ o. let names = moved_names state from to object None kept.sound there into at_target o in omega (arith, names))
 kept_moved state holds tables from to object (Some target) kept there into at_target =
     let node = lives_there state to.0 to.1 target kept.sound at_target in
-    subst (λ at. IsKept (with_moved state from to object (Some target)) (released target holds)
-    (given_up (device_in at) (number_in at) target holds tables)) (sym node.1)
+    let alike = alike_moved (time_of state) from to object (Some target) state.nodes in
+    subst (λ at. IsKept (with_moved state from to object (Some target))
+    (record { holds = released target holds.holds; names = released target holds.names })
+    (given_up (device_in at) (number_in at) target holds.holds tables)) (sym node.1)
     (kept_released state (with_moved state from to object (Some target)) holds tables target node.0 kept
     (sound_moved state from to object (Some target) kept.sound there into)
-    (alike_moved (time_of state) from to object (Some target) state.nodes) node.1
+    alike node.1 (released target holds.names)
+    (named_less state.nodes (with_moved state from to object (Some target)).nodes holds.names target kept.named alike.long
+    (slice_get_within state.nodes target node.0 node.1)
+    (λ o. moved_names state from to object (Some target) kept.sound there into at_target o))
     (λ o. let names = moved_names state from to object (Some target) kept.sound there into at_target o in
     omega (arith, names)))
 
 -- ---- Write
 
-pub kept_rewritten : (state : State) (holds : List ℕ) (tables : ℕ → List Slot) (object : ℕ) (bytes : List ℕ) →
+pub kept_rewritten : (state : State) (holds : Counts) (tables : ℕ → List Slot) (object : ℕ) (bytes : List ℕ) →
     IsKept state holds tables → IsKept (with_rewritten state object bytes) holds tables
 kept_rewritten state holds tables object bytes kept =
     let now = time_of state in
@@ -259,3 +280,4 @@ kept_rewritten state holds tables object bytes kept =
     let names = names_of-same object (rewritten now bytes) state.nodes o
     (λ n is. names_rewritten_in bytes n.content) in
     omega (arith, names))
+    (λ o. names_of-same object (rewritten now bytes) state.nodes o (λ n is. names_rewritten_in bytes n.content))

@@ -1,6 +1,6 @@
 -- A store goes on knowing what lives where an object gets one name more, two objects change places, and a new file is
 -- opened.
-use Rattle.std.proofs.Common.{◌≡◌, ◌<◌, ◌≤◌, ◌+◌, ◌-◌, ◌^◌, inl, inr, ℕ, zero, suc, true, false, cond, List, [], ◌∷◌}
+use Rattle.std.proofs.Common.{◌≡◌, ◌<◌, ◌≤◌, ◌+◌, ◌-◌, ◌^◌, inl, inr, ℕ, zero, suc, true, cond, List, [], ◌∷◌}
 use Rattle.std.proofs.Common.{◌++◌, length, take, Option, Some, None, slice_get, slice_set, refl, ap, sym, ◌∙◌, subst}
 use Rattle.std.proofs.Common.{arith, length-set}
 use Rattle.std.specs.Option.{is_some}
@@ -14,9 +14,9 @@ use Rattle.pt_host.specs.declared.flags.OpenFlags.{OpenFlags}
 use Rattle.pt_host.specs.declared.seat.HostSeat.{HostSeat}
 use Rattle.pt_rules.specs.Calls.{with_descriptor}
 use Rattle.pt_rules.specs.Edits.{with_made}
-use Rattle.pt_node.specs.Entries.{after_gaining, is_directory_at, restamped, touched, with_entry}
+use Rattle.pt_node.specs.Entries.{is_directory_at, restamped, touched, with_entry}
 use Rattle.pt_store.specs.Kept.{IsKept}
-use Rattle.pt_node.specs.Numbers.{having}
+use Rattle.pt_node.specs.Numbers.{Counts, having}
 use Rattle.pt_rules.specs.Holds.{HasHold}
 use Rattle.pt_rules.specs.NameCalls.{with_exchanged, with_linked}
 use Rattle.pt_node.specs.Node.{name_at, names_in}
@@ -36,9 +36,11 @@ use Rattle.pt_node.specs.Laws.Updates.{get-push_here, get-set_here, put_before, 
 use Rattle.pt_rules.specs.Laws.Held.{held_lives}
 use Rattle.pt_rules.specs.Laws.Alive.{lives_held}
 use Rattle.pt_store.proofs.Holding.{get_there, names_of-same}
-use Rattle.pt_store.proofs.Kept.{kept_alike, kept_more}
+use Rattle.pt_store.proofs.Kept.{kept_alike, kept_more, named_more, once_more}
 use Rattle.pt_store.proofs.KeptEdits.{kept_descriptor, names_of-gained}
 use Rattle.pt_store.proofs.KeptMade.{given, kept_made, new_held, new_there}
+use Rattle.pt_host.specs.Words.{is}
+use Rattle.pt_node.specs.Links.{names_of}
 use Rattle.pt_rules.specs.Living.{held_by}
 
 pub lives_within : (state : State) (object : ℕ) → IsSound state → 0 < length state.nodes → HasHold state object →
@@ -52,24 +54,28 @@ pub some_node : (nodes : List Node) (dir : ℕ) → is_directory_at nodes dir �
 some_node [] dir into = cc
 some_node (node ∷ nodes) dir into = omega arith
 
-pub kept_linked : (state : State) (holds : List ℕ) (tables : ℕ → List Slot) (dir : ℕ) (name : List ℕ) (object : ℕ) →
+pub kept_linked : (state : State) (holds : Counts) (tables : ℕ → List Slot) (dir : ℕ) (name : List ℕ) (object : ℕ) →
     IsKept state holds tables →
     is_directory_at state.nodes dir ≡ true → name_at state.nodes dir name ≡ None → HasHold state object →
-    IsKept (with_linked state dir name object) (slice_set holds object (slice_index holds object + 1)) tables
+    IsKept (with_linked state dir name object)
+    (record { holds = once_more object holds.holds; names = once_more object holds.names }) tables
 kept_linked state holds tables dir name object kept into free lives =
     let now = time_of state in
     let within = lives_within state object kept.sound (some_node state.nodes dir into) lives in
+    let alike = alike_linked now dir name object state.nodes in
+    let more : (o : ℕ) → names_of (with_linked state dir name object).nodes o
+    ≡ names_of state.nodes o + is o object = λ o.
+    (let same = names_of-same object (restamped now) (with_link now dir name object state.nodes) o (λ n is. refl) in
+    let gained = names_of-gained state.nodes dir name object (λ at. touched now (with_entry name object at)) o None
+    (λ n. refl) (all_ordered state kept.sound) into free in
+    omega (arith, same, gained)) in
     kept_more state (with_linked state dir name object) holds tables object kept
-    (sound_linked state dir name object kept.sound into lives within)
-    (alike_linked now dir name object state.nodes) within (lives_held state object lives)
-    (λ o.
-    let same = names_of-same object (after_gaining now) (with_link now dir name object state.nodes) o (λ n is. refl) in
-    let gained = names_of-gained state.nodes dir name object (λ at.
-    touched now (with_entry name object false false at)) o None (λ n. refl)
-    (all_ordered state kept.sound) into free in
-    omega (arith, same, gained))
+    (sound_linked state dir name object kept.sound into lives within) alike within (once_more object holds.names)
+    (named_more state.nodes (with_linked state dir name object).nodes holds.names object kept.named alike.long within more)
+    (lives_held state object lives)
+    (λ o. let names = more o in omega (arith, names))
 
-pub kept_exchanged : (state : State) (holds : List ℕ) (tables : ℕ →
+pub kept_exchanged : (state : State) (holds : Counts) (tables : ℕ →
     List Slot) (from to : ℕ × List ℕ) (object other : ℕ) → IsKept state holds tables →
     name_at state.nodes from.0 from.1 ≡ Some object → name_at state.nodes to.0 to.1 ≡ Some other →
     IsKept (with_exchanged state from to object other) holds tables
@@ -78,11 +84,8 @@ kept_exchanged state holds tables from to object other kept there too =
     let nodes = state.nodes in
     let one = with_one now from to object other nodes in
     let still = leads_still now from to object other nodes there too in
-    kept_alike state (with_exchanged state from to object other) holds tables kept
-    (sound_exchanged state from to object other kept.sound there too)
-    (alike_exchanged now from to object other nodes)
-    (λ o.
-    let a = names_of-same other (restamped now) (with_stamp now from to object other nodes) o (λ n is. refl) in
+    let same : (o : ℕ) → names_of (with_exchanged state from to object other).nodes o ≡ names_of nodes o = λ o.
+    (let a = names_of-same other (restamped now) (with_stamp now from to object other nodes) o (λ n is. refl) in
     let b = names_of-same object (restamped now) (with_both now from to object other nodes) o (λ n is. refl) in
     let c = names_of-gained one from.0 from.1 other (put_back now from to object other nodes) o (Some object) (λ n.
     refl)
@@ -90,11 +93,15 @@ kept_exchanged state holds tables from to object other kept there too =
     (leads_from one from.0 from.1 object still) still in
     let d = names_of-gained nodes to.0 to.1 object (put_there now from to object other nodes) o (Some other) (λ n. refl)
     (all_ordered state kept.sound) (leads_from nodes to.0 to.1 other too) too in
-    omega (arith, a, b, c, d))
+    omega (arith, a, b, c, d)) in
+    kept_alike state (with_exchanged state from to object other) holds tables kept
+    (sound_exchanged state from to object other kept.sound there too)
+    (alike_exchanged now from to object other nodes)
+    (λ o. let names = same o in omega (arith, names)) same
 
 -- ---- a new file, opened
 
-pub kept_open_made : (state : State) (holds : List ℕ) (tables : ℕ →
+pub kept_open_made : (state : State) (holds : Counts) (tables : ℕ →
     List Slot) (kept : IsKept state holds tables) (dir : ℕ) (name : List ℕ) (node parent : Node)
     (into : is_directory_at state.nodes dir ≡ true) (free : name_at state.nodes dir name
     ≡ None) (empty : names_in node.content ≡ [])
@@ -104,22 +111,22 @@ pub kept_open_made : (state : State) (holds : List ℕ) (tables : ℕ →
     ≡ least_free (tables node.ids.dev)) (few : length (with_made state dir name node).nodes
     < 2 ^ 63) (seat : HostSeat) (flags : OpenFlags) →
     IsKept (with_descriptor (with_made state dir name node) flags (length state.nodes))
-    (slice_set (holds ++ 1 ∷ []) (length state.nodes) 2) (given node.ids.dev (having (length state.nodes)) tables)
+    (record { holds = slice_set (holds.holds ++ 1 ∷ []) (length state.nodes) 2; names = holds.names ++ 1 ∷ [] }) (given node.ids.dev (having (length state.nodes)) tables)
 kept_open_made state holds tables kept dir name node parent into free empty serial small at_dir number few seat flags =
     let made = kept_made state holds tables kept dir name node parent into free empty serial small at_dir number few in
     let there = new_there state holds tables kept dir name node parent into free empty serial small at_dir number few in
     let once = new_held state holds tables kept dir name node parent into free empty serial small at_dir number few in
     let some : 0 < held_by (with_made state dir name node) (length state.nodes) = omega (arith, once) in
     let lives = held_lives (with_made state dir name node) (length state.nodes) made.sound some in
-    let last = ap (slice_get (holds ++ 1 ∷ [])) (sym kept.long) ∙ get-push_here holds 1 in
-    let index : slice_index (holds ++ 1 ∷ []) (length state.nodes) ≡ 1 =
-    get_or_from_slice_get (holds ++ 1 ∷ []) (length state.nodes) 1 0 last in
-    let twice : slice_index (holds ++ 1 ∷ []) (length state.nodes) + 1 ≡ 2 = omega (arith, index) in
+    let last = ap (slice_get (holds.holds ++ 1 ∷ [])) (sym kept.long) ∙ get-push_here holds.holds 1 in
+    let index : slice_index (holds.holds ++ 1 ∷ []) (length state.nodes) ≡ 1 =
+    get_or_from_slice_get (holds.holds ++ 1 ∷ []) (length state.nodes) 1 0 last in
+    let twice : slice_index (holds.holds ++ 1 ∷ []) (length state.nodes) + 1 ≡ 2 = omega (arith, index) in
     subst (λ (n : ℕ). IsKept (with_descriptor (with_made state dir name node) flags (length state.nodes))
-    (slice_set (holds ++ 1 ∷ []) (length state.nodes) n)
+    (record { holds = slice_set (holds.holds ++ 1 ∷ []) (length state.nodes) n; names = holds.names ++ 1 ∷ [] })
     (given node.ids.dev (having (length state.nodes)) tables)) twice
-    (kept_descriptor (with_made state dir name node) (holds
-    ++ 1 ∷ []) (given node.ids.dev (having (length state.nodes)) tables) seat flags (length state.nodes) node
+    (kept_descriptor (with_made state dir name node)
+    (record { holds = holds.holds ++ 1 ∷ []; names = holds.names ++ 1 ∷ [] }) (given node.ids.dev (having (length state.nodes)) tables) seat flags (length state.nodes) node
     made there lives)
 
 -- ---- an opening taken back

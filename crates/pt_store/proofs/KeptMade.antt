@@ -1,5 +1,5 @@
 -- A store goes on knowing what lives where an object is made, or was nearly made.
-use Rattle.std.proofs.Common.{◌≡◌, ◌≢◌, ◌<◌, ◌+◌, ◌-◌, ◌^◌, inl, inr, ℕ, true, false, cond, List, [], ◌∷◌, ◌++◌}
+use Rattle.std.proofs.Common.{◌≡◌, ◌≢◌, ◌<◌, ◌+◌, ◌-◌, ◌^◌, inl, inr, ℕ, true, cond, List, [], ◌∷◌, ◌++◌}
 use Rattle.std.proofs.Common.{length, take, Some, None, slice_get, refl, ap, sym, ◌∙◌, subst, arith}
 use Rattle.std.proofs.lemmas.Bool.Decides.{eqb_tells, leb_tells}
 use Rattle.std.proofs.lemmas.List.{length_push}
@@ -7,11 +7,12 @@ use Rattle.std.proofs.lemmas.Option.{same_Some, slice_get_within}
 use Rattle.pt_host.specs.Words.{is, set_at}
 use Rattle.pt_rules.specs.Edits.{with_made}
 use Rattle.pt_node.specs.Entries.{is_directory_at, touched, with_entry}
-use Rattle.pt_store.specs.Kept.{AreNumbered, IsKept}
-use Rattle.pt_node.specs.Numbers.{freed, having}
+use Rattle.pt_store.specs.Kept.{AreNamed, AreNumbered, IsKept}
+use Rattle.pt_node.specs.Links.{names_of}
+use Rattle.pt_node.specs.Numbers.{Counts, freed, having}
 use Rattle.pt_rules.specs.Living.{IsLeastFree, held_by}
 use Rattle.pt_rules.specs.Holds.{HasHold}
-use Rattle.pt_node.specs.Node.{is_directory, name_at, names_in}
+use Rattle.pt_node.specs.Node.{name_at, names_in}
 use Rattle.pt_node.specs.Slots.{closed, file_of, least_free, open_at, put_at}
 use Rattle.pt_rules.specs.Sound.{IsSound}
 use Rattle.pt_rules.specs.State.{State, time_of}
@@ -29,8 +30,9 @@ use Rattle.pt_rules.specs.Laws.Held.{held_lives}
 use Rattle.pt_store.proofs.Holding.{get_there, is_none, is_one, names_of-pushed}
 use Rattle.pt_store.proofs.Kept.{closed_apart, least_not_0, next_least, numbered_put, reserved_before, shut}
 use Rattle.pt_store.proofs.KeptEdits.{names_of-gained}
+use Rattle.pt_store.proofs.KeptStore.{same_counts, with_counts}
 
-module _ (state : State) (holds : List ℕ) (tables : ℕ → List Slot) (kept : IsKept state holds tables) (dir : ℕ)
+module _ (state : State) (holds : Counts) (tables : ℕ → List Slot) (kept : IsKept state holds tables) (dir : ℕ)
     (name : List ℕ) (node parent : Node)
     (into : is_directory_at state.nodes dir ≡ true) (free : name_at state.nodes dir name
     ≡ None) (empty : names_in node.content ≡ [])
@@ -51,7 +53,7 @@ module _ (state : State) (holds : List ℕ) (tables : ℕ → List Slot) (kept :
   held_made o =
       let pushed = names_of-pushed (entered (time_of state) dir name node state.nodes) node o empty in
       let gained = names_of-gained state.nodes dir name (length state.nodes)
-      (λ at. touched (time_of state) (with_entry name (length state.nodes) (is_directory node) false at)) o None (λ n.
+      (λ at. touched (time_of state) (with_entry name (length state.nodes) at)) o None (λ n.
       refl) (all_ordered state kept.sound) into free in
       omega (arith, pushed, gained)
 
@@ -79,13 +81,13 @@ module _ (state : State) (holds : List ℕ) (tables : ℕ → List Slot) (kept :
       omega arith
 
   count_made : (o : ℕ) → o < length (with_made state dir name node).nodes →
-      slice_get (holds ++ 1 ∷ []) o ≡ Some (held_by (with_made state dir name node) o)
-  count_made o within = elim (eqb_tells o (length holds)) [
-    | inl e ↦ ap (slice_get (holds ++ 1 ∷ [])) e.1 ∙ get-push_here holds 1
+      slice_get (holds.holds ++ 1 ∷ []) o ≡ Some (held_by (with_made state dir name node) o)
+  count_made o within = elim (eqb_tells o (length holds.holds)) [
+    | inl e ↦ ap (slice_get (holds.holds ++ 1 ∷ [])) e.1 ∙ get-push_here holds.holds 1
         ∙ ap (λ n. Some n) (sym new_held ∙ ap (held_by (with_made state dir name node)) (sym kept.long ∙ sym e.1))
     | inr apart ↦ (let longer = long_made in let long = kept.long in
         let old : o < length state.nodes = (let a = apart.1 in omega arith) in
-        get-push_apart holds 1 o apart.1 ∙ kept.held o old ∙ ap (λ n. Some n) (sym (old_held o old)))
+        get-push_apart holds.holds 1 o apart.1 ∙ kept.held o old ∙ ap (λ n. Some n) (sym (old_held o old)))
   ]
 
   table : List Slot
@@ -212,14 +214,45 @@ module _ (state : State) (holds : List ℕ) (tables : ℕ → List Slot) (kept :
     no_other = (kept.numbered dev).no_other;
   }
 
-  pub kept_made : IsKept (with_made state dir name node) (holds ++ 1 ∷ [])
+  names_made : (o : ℕ) →
+      names_of (with_made state dir name node).nodes o ≡ names_of state.nodes o + is o (length state.nodes)
+  names_made o =
+      let pushed = names_of-pushed (entered (time_of state) dir name node state.nodes) node o empty in
+      let gained = names_of-gained state.nodes dir name (length state.nodes)
+      (λ at. touched (time_of state) (with_entry name (length state.nodes) at)) o None (λ n.
+      refl) (all_ordered state kept.sound) into free in
+      omega (arith, pushed, gained)
+
+  named_made : AreNamed (with_made state dir name node).nodes (holds.names ++ 1 ∷ [])
+  named_made = record {
+    long = (let pushed = length_push holds.names 1 in let longer = long_made in let long = kept.named.long in
+        omega (arith, pushed, longer, long));
+    each = λ o within. elim (eqb_tells o (length holds.names)) [
+      | inl e ↦ (let more = names_made o in let none = unheld in let long = kept.named.long in
+          let one = is_one o (length state.nodes) (e.1 ∙ long) in
+          let here = ap (names_of state.nodes) (e.1 ∙ long) in
+          let once : names_of (with_made state dir name node).nodes o ≡ 1 = omega (arith, more, none, one, here) in
+          ap (slice_get (holds.names ++ 1 ∷ [])) e.1 ∙ get-push_here holds.names 1 ∙ ap (λ n. Some n) (sym once))
+      | inr apart ↦ (let longer = long_made in let long = kept.named.long in let more = names_made o in
+          let other = apart.1 in
+          let old : o < length state.nodes = omega (arith, longer, long, other, within) in
+          let none = is_none o (length state.nodes) (omega (arith, old)) in
+          let same : names_of (with_made state dir name node).nodes o ≡ names_of state.nodes o =
+          omega (arith, more, none) in
+          get-push_apart holds.names 1 o apart.1 ∙ kept.named.each o old ∙ ap (λ n. Some n) (sym same))
+    ];
+  }
+
+  pub kept_made : IsKept (with_made state dir name node)
+      (record { holds = holds.holds ++ 1 ∷ []; names = holds.names ++ 1 ∷ [] })
       (set_at node.ids.dev
       (put_at (least_free (tables node.ids.dev)) (Open (having (length state.nodes))) (tables node.ids.dev)) tables)
   unfolding table
   kept_made = record {
     sound = sound;
-    long = (let pushed = length_push holds 1 in let longer = long_made in let long = kept.long in omega arith);
+    long = (let pushed = length_push holds.holds 1 in let longer = long_made in let long = kept.long in omega arith);
     held = count_made;
+    named = named_made;
     numbered = numbered_put (with_made state dir name node) node.ids.dev table tables numbered_here numbered_there;
   }
 
@@ -278,16 +311,19 @@ set_there dev table tables other apart = elim (eqb_tells other dev) [
 abbrev pub given : ℕ → OpenFile → (ℕ → List Slot) → ℕ → List Slot
 given dev file tables = set_at dev (put_at (least_free (tables dev)) (Open file) (tables dev)) tables
 
-pub kept_back : (state : State) (holds : List ℕ) (tables : ℕ → List Slot) (dev : ℕ) (file : OpenFile) →
+pub kept_back : (state : State) (holds : Counts) (tables : ℕ → List Slot) (dev : ℕ) (file : OpenFile) →
     IsKept state holds tables →
-    IsKept state (take (length (holds ++ 1 ∷ []) - 1) (holds ++ 1 ∷ []))
+    IsKept state (with_counts (take (length (holds.holds ++ 1 ∷ []) - 1) (holds.holds ++ 1 ∷ []))
+    (take (length (holds.names ++ 1 ∷ []) - 1) (holds.names ++ 1 ∷ [])))
     (freed dev (least_free (tables dev)) (given dev file tables))
 kept_back state holds tables dev file kept =
-    subst (λ (xs : List ℕ).
-    IsKept state xs (freed dev (least_free (tables dev)) (given dev file tables))) (sym (front holds)) (record {
+    subst (λ (xs : Counts).
+    IsKept state xs (freed dev (least_free (tables dev)) (given dev file tables)))
+    (sym (same_counts holds.holds _ holds.names _ (front holds.holds) (front holds.names))) (record {
       sound = kept.sound;
       long = kept.long;
       held = kept.held;
+      named = kept.named;
       numbered = numbered_put state dev (closed (least_free (tables dev)) (given dev file tables dev))
           (given dev file tables)
           (subst (λ (xs : List Slot). AreNumbered state dev (closed (least_free (tables dev)) xs))

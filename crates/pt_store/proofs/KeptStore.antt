@@ -1,16 +1,25 @@
 -- What is kept of a state is kept of the same state, as code comes to it.
-use Rattle.std.proofs.Common.{◌≡◌, ℕ, List, subst, sym}
+use Rattle.std.proofs.Common.{◌≡◌, ℕ, List, ap, ◌∙◌, subst, sym}
+use Rattle.pt_node.specs.Numbers.{Counts}
 use Rattle.pt_store.specs.Kept.{IsKept}
 use Rattle.pt_rules.specs.State.{State}
 use Rattle.pt_node.specs.declared.node.Node.{Node}
 use Rattle.pt_node.specs.declared.slots.Slot.{Slot}
 
-pub kept_as : (state after : State) (holds held : List ℕ) (tables others : ℕ → List Slot) → after ≡ state →
+abbrev pub with_counts : List ℕ → List ℕ → Counts
+with_counts holds names = record { holds = holds; names = names }
+
+pub kept_as : (state after : State) (holds held : Counts) (tables others : ℕ → List Slot) → after ≡ state →
     held ≡ holds → others ≡ tables → IsKept state holds tables → IsKept after held others
 kept_as state after holds held tables others same counts numbers kept =
     subst (λ (s : State). IsKept s held others) (sym same)
-    (subst (λ (xs : List ℕ).
+    (subst (λ (xs : Counts).
     IsKept state xs others) (sym counts) (subst (λ (xs : ℕ → List Slot). IsKept state holds xs) (sym numbers) kept))
+
+-- counts, part by part
+pub same_counts : (holds held names named : List ℕ) → held ≡ holds → named ≡ names → with_counts held named
+    ≡ with_counts holds names
+same_counts holds held names named e f = ap (λ xs. with_counts xs named) e ∙ ap (with_counts holds) f
 
 -- the state with other objects
 abbrev pub nodes_in : State → List Node → State

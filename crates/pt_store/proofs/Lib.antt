@@ -11,6 +11,7 @@ pub mod KeptEdits
 pub mod KeptLinks
 pub mod KeptMade
 pub mod KeptStore
+pub mod LivingCount
 pub mod NewPlaces
 pub mod StartKept
 pub mod OldPaths

@@ -1,8 +1,8 @@
 -- A store whose tree is described line by line goes on knowing what lives, and gives the numbers of each device
 -- without a gap.
 use Rattle.std.proofs.Common.{◌≡◌, ◌<◌, ◌+◌, ◌^◌, ◌==◌, inl, inr, ℕ, suc, Bool, true, false, cond, eqb, List, [], ◌∷◌}
-use Rattle.std.proofs.Common.{◌++◌, length, Some, None, slice_get, slice_set, refl, ap, sym, ◌∙◌, subst, arith}
-use Rattle.std.specs.Prelude.{count_by, slice_index}
+use Rattle.std.proofs.Common.{◌++◌, length, Some, None, slice_get, refl, ap, sym, ◌∙◌, subst, arith}
+use Rattle.std.specs.Prelude.{count_by}
 use Rattle.std.proofs.lemmas.Bool.{true≢false}
 use Rattle.std.proofs.lemmas.Bool.Decides.{eqb_tells}
 use Rattle.std.proofs.lemmas.List.{length_push}
@@ -13,7 +13,7 @@ use Rattle.pt_host.specs.Words.{set_at}
 use Rattle.pt_rules.specs.Edits.{with_made}
 use Rattle.pt_node.specs.Entries.{is_directory_at}
 use Rattle.pt_store.specs.Kept.{IsKept}
-use Rattle.pt_node.specs.Numbers.{having}
+use Rattle.pt_node.specs.Numbers.{Counts, having}
 use Rattle.pt_rules.specs.Holds.{HasHold}
 use Rattle.pt_node.specs.Mounts.{has_device}
 use Rattle.pt_rules.specs.NameCalls.{with_linked}
@@ -30,6 +30,7 @@ use Rattle.pt_rules.specs.Laws.Changed.{AreAlike, alike_changed}
 use Rattle.pt_rules.specs.Laws.EditShapes.{alike_entered, entered}
 use Rattle.pt_rules.specs.Laws.NamesLed.{alike_linked}
 use Rattle.pt_node.specs.Laws.Updates.{get-push_cases, put_end}
+use Rattle.pt_store.proofs.Kept.{once_more}
 use Rattle.pt_store.proofs.KeptCalls.{kept_changed}
 use Rattle.pt_store.proofs.KeptLinks.{kept_linked}
 use Rattle.pt_store.proofs.KeptMade.{given, kept_made}
@@ -40,11 +41,11 @@ weight b = cond b 1 0
 abbrev is_on : ℕ → Node → Bool
 is_on dev node = node.ids.dev == dev
 
-pub started_as : (state after : State) (holds held : List ℕ) (tables others : ℕ → List Slot) → after ≡ state →
+pub started_as : (state after : State) (holds held : Counts) (tables others : ℕ → List Slot) → after ≡ state →
     held ≡ holds → others ≡ tables → IsStarted state holds tables → IsStarted after held others
 started_as state after holds held tables others same counts numbers started =
     subst (λ (s : State). IsStarted s held others) (sym same)
-    (subst (λ (xs : List ℕ).
+    (subst (λ (xs : Counts).
     IsStarted state xs others) (sym counts)
     (subst (λ (xs : ℕ → List Slot). IsStarted state holds xs) (sym numbers) started))
 
@@ -77,8 +78,8 @@ next_alike before after dev alike = ap (λ n. 1 + n) (count_alike before after d
 
 -- ---- what leaves each object the one that it is
 
-module _ (state : State) (holds : List ℕ) (tables : ℕ → List Slot) (started : IsStarted state holds tables) where
-  pub started_alike : (after : State) (held : List ℕ) → IsKept after held tables → after.calls ≡ 0 →
+module _ (state : State) (holds : Counts) (tables : ℕ → List Slot) (started : IsStarted state holds tables) where
+  pub started_alike : (after : State) (held : Counts) → IsKept after held tables → after.calls ≡ 0 →
       after.mounts ≡ state.mounts → AreAlike state.nodes after.nodes → IsStarted after held tables
   started_alike after held kept begun same alike = record {
     kept = kept;
@@ -93,9 +94,11 @@ module _ (state : State) (holds : List ℕ) (tables : ℕ → List Slot) (starte
 
   pub started_linked : (dir : ℕ) (name : List ℕ) (object : ℕ) → is_directory_at state.nodes dir ≡ true →
       name_at state.nodes dir name ≡ None → HasHold state object →
-      IsStarted (with_linked state dir name object) (slice_set holds object (slice_index holds object + 1)) tables
+      IsStarted (with_linked state dir name object)
+      (record { holds = once_more object holds.holds; names = once_more object holds.names }) tables
   started_linked dir name object into free lives =
-      started_alike (with_linked state dir name object) (slice_set holds object (slice_index holds object + 1))
+      started_alike (with_linked state dir name object)
+      (record { holds = once_more object holds.holds; names = once_more object holds.names })
       (kept_linked state holds tables dir name object started.kept into free lives) started.begun refl
       (alike_linked (time_of state) dir name object state.nodes)
 
@@ -107,7 +110,13 @@ module _ (state : State) (holds : List ℕ) (tables : ℕ → List Slot) (starte
       (λ node. record { ids = refl; serial = refl; object = refl; names = refl; permissions = λ small. small }))
       started.begun refl
       (alike_changed object (λ node. record node { xattrs = with_value name bytes node.xattrs }) state.nodes
-      (λ node. record { ids = refl; serial = refl; permissions = λ small. small; ordered = λ ordered. ordered }))
+      (λ node. record {
+        ids = refl;
+        serial = refl;
+        kind = refl;
+        permissions = λ small. small;
+        ordered = λ ordered. ordered;
+      }))
 
 -- ---- one object more
 
@@ -131,7 +140,7 @@ pushed_free numbers object next dense =
           ∙ (let e : length numbers + 1 ≡ next + 1 = omega (arith, was) in e);
     }
 
-module _ (state : State) (holds : List ℕ) (tables : ℕ → List Slot) (started : IsStarted state holds tables) (dir : ℕ)
+module _ (state : State) (holds : Counts) (tables : ℕ → List Slot) (started : IsStarted state holds tables) (dir : ℕ)
     (name : List ℕ) (node : Node) where
   count_made : (dev : ℕ) →
       next_number (with_made state dir name node).nodes dev ≡ next_number state.nodes dev + weight (is_on dev node)
@@ -181,8 +190,8 @@ module _ (state : State) (holds : List ℕ) (tables : ℕ → List Slot) (starte
       node.serial ≡ length state.nodes + 1 → node.permissions < 4096 → slice_get state.nodes dir ≡ Some parent →
       node.ids.ino ≡ least_free (tables node.ids.dev) → length (with_made state dir name node).nodes < 2 ^ 63 →
       has_device node.ids.dev state.mounts ≡ true →
-      IsStarted (with_made state dir name node) (holds
-      ++ 1 ∷ []) (given node.ids.dev (having (length state.nodes)) tables)
+      IsStarted (with_made state dir name node)
+      (record { holds = holds.holds ++ 1 ∷ []; names = holds.names ++ 1 ∷ [] }) (given node.ids.dev (having (length state.nodes)) tables)
   started_made parent into free empty serial small at_dir number few on_device = record {
     kept = kept_made state holds tables started.kept dir name node parent into free empty serial small at_dir number few;
     begun = started.begun;
@@ -208,7 +217,7 @@ none_on (node ∷ nodes) dev apart =
     omega (arith, here, rest, sums)
 
 -- the first number of a device without a mount is 1
-pub first_number : (state : State) (holds : List ℕ) (tables : ℕ → List Slot) (dev : ℕ) →
+pub first_number : (state : State) (holds : Counts) (tables : ℕ → List Slot) (dev : ℕ) →
     IsStarted state holds tables → has_device dev state.mounts ≡ false → least_free (tables dev) ≡ 1
 first_number state holds tables dev started new =
     (started.dense dev).full

@@ -11,6 +11,7 @@ use Rattle.std.specs.declared.cmp.Ordering.TheVariants.{Less, Equal, Greater}
 use Rattle.std.proofs.lemmas.Bool.{and_parts}
 use Rattle.std.proofs.lemmas.Bool.Decides.{eqb_tells}
 use Rattle.std.proofs.lemmas.Cmp.{ranked}
+use Rattle.pt_node.specs.Numbers.{Counts}
 use Rattle.pt_node.specs.Mounts.{has_device, mount_of}
 use Rattle.pt_rules.specs.Building.{is_new_mount, is_printed, mounted}
 use Rattle.pt_rules.specs.State.{State}
@@ -92,7 +93,7 @@ first : (a b : Bool) → a ≡ true → (a || b) ≡ true
 first true b is = refl
 first false b is = cc
 
-module _ (state : State) (holds : List ℕ) (tables : ℕ → List Slot) (parent id dev : ℕ) (path : List ℕ)
+module _ (state : State) (holds : Counts) (tables : ℕ → List Slot) (parent id dev : ℕ) (path : List ℕ)
     (new : mount_of id state.mounts ≡ None) where
   -- the device of the mount has one then
   pub own_device : has_device dev (mounted state parent id dev path).mounts ≡ true
@@ -112,7 +113,7 @@ module _ (state : State) (holds : List ℕ) (tables : ℕ → List Slot) (parent
       opened = started.kept.sound.opened;
       apart = started.kept.sound.apart;
     })
-        (alike_itself state.nodes) (λ o. refl);
+        (alike_itself state.nodes) (λ o. refl) (λ o. refl);
     begun = started.begun;
     dense = started.dense;
     mounted = λ place node there.

@@ -19,6 +19,7 @@ use Rattle.pt_node.specs.declared.slots.Slot.{Slot}
 use Rattle.pt_node.specs.declared.slots.Slot.TheVariants.{Reserved, Open}
 use Rattle.pt_rules.specs.Laws.EditShapes.{no_names}
 use Rattle.pt_store.proofs.Holding.{is_one}
+use Rattle.pt_node.specs.Links.{names_of}
 use Rattle.pt_rules.specs.Living.{held_by}
 
 module _ (id dev : ℕ) (path : List ℕ) (handles : Bool) where
@@ -118,12 +119,17 @@ module _ (id dev : ℕ) (path : List ℕ) (handles : Bool) where
   held_all zero within = ap (λ (n : ℕ). Some n) (sym held_once)
   held_all (suc object) within = absurd (omega arith)
 
-  kept : IsKept state (1 ∷ []) root_tables
+  unnamed : (object : ℕ) → object < 1 → slice_get (0 ∷ []) object ≡ Some (names_of state.nodes object)
+  unnamed zero within = refl
+  unnamed (suc object) within = absurd (omega arith)
+
+  kept : IsKept state (record { holds = 1 ∷ []; names = 0 ∷ [] }) root_tables
   unfolding set_at
   kept = record {
     sound = sound;
     long = refl;
     held = held_all;
+    named = record { long = refl; each = unnamed };
     numbered = λ other. elim (eqb_tells other dev) [
       | inl e ↦ subst (λ b. AreNumbered state other (cond b (Reserved ∷ Open (having 0) ∷ []) no_numbers)) (sym e.0)
           (subst (λ d. AreNumbered state d (Reserved ∷ Open (having 0) ∷ [])) (sym e.1) numbered_here)
@@ -154,7 +160,7 @@ module _ (id dev : ℕ) (path : List ℕ) (handles : Bool) where
     ]
   ]
 
-  pub started_root : IsStarted state (1 ∷ []) root_tables
+  pub started_root : IsStarted state (record { holds = 1 ∷ []; names = 0 ∷ [] }) root_tables
   started_root = record {
     kept = kept;
     begun = refl;

@@ -1,5 +1,7 @@
 -- Inner. How a store knows what lives: what each object is held by, and who has each inode number.
 use Rattle.std.specs.Prelude.{◌≡◌, ◌<◌, ℕ, List, length, Some, slice_get}
+use Rattle.pt_node.specs.Links.{names_of}
+use Rattle.pt_node.specs.Numbers.{Counts}
 use Rattle.pt_rules.specs.Living.{held_by}
 use Rattle.pt_node.specs.Slots.{open_at}
 use Rattle.pt_rules.specs.State.{State}
@@ -20,8 +22,14 @@ pub record AreNumbered (state : State) (dev : ℕ) (numbers : List Slot) : Type 
   pub from_one : slice_get numbers 0 ≡ Some Reserved
   pub no_other : (number : ℕ) → 0 < number → slice_get numbers number ≡ Some Reserved → ⊥
 
-pub record IsKept (state : State) (holds : List ℕ) (tables : ℕ → List Slot) : Type 0 where
+-- how many names each object has
+pub record AreNamed (nodes : List Node) (names : List ℕ) : Type 0 where
+  pub long : length names ≡ length nodes
+  pub each : (object : ℕ) → object < length nodes → slice_get names object ≡ Some (names_of nodes object)
+
+pub record IsKept (state : State) (counts : Counts) (tables : ℕ → List Slot) : Type 0 where
   pub sound : IsSound state
-  pub long : length holds ≡ length state.nodes
-  pub held : (object : ℕ) → object < length state.nodes → slice_get holds object ≡ Some (held_by state object)
+  pub long : length counts.holds ≡ length state.nodes
+  pub held : (object : ℕ) → object < length state.nodes → slice_get counts.holds object ≡ Some (held_by state object)
+  pub named : AreNamed state.nodes counts.names
   pub numbered : (dev : ℕ) → AreNumbered state dev (tables dev)

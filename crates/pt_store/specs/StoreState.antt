@@ -5,7 +5,7 @@ use Rattle.pt_node.specs.Slots.{least_free}
 use Rattle.pt_rules.specs.Building.{next_number}
 use Rattle.pt_rules.specs.State.{State}
 use Rattle.pt_store.specs.Kept.{IsKept}
-use Rattle.pt_node.specs.Numbers.{table_in}
+use Rattle.pt_node.specs.Numbers.{Counts, counts_of, table_in}
 use Rattle.pt_node.specs.declared.inodes.NumberTable.{NumberTable}
 use Rattle.pt_node.specs.declared.node.Node.{Node}
 use Rattle.pt_node.specs.declared.slots.Slot.{Slot}
@@ -23,7 +23,7 @@ state_of store = record {
 
 -- the store knows what lives
 abbrev pub IsKeptBy : Store → Type 0
-IsKeptBy store = IsKept (state_of store) store.inodes.holds.items (table_in store.inodes.tables.items)
+IsKeptBy store = IsKept (state_of store) (counts_of store.inodes) (table_in store.inodes.tables.items)
 
 -- the numbers of a device are given up to this one, without a gap
 pub record IsDense (numbers : List Slot) (next : ℕ) : Type 0 where
@@ -31,15 +31,15 @@ pub record IsDense (numbers : List Slot) (next : ℕ) : Type 0 where
   pub full : least_free numbers ≡ next
 
 -- while lines are added: no call was answered, no number was free again, and each object is on the device of a mount
-pub record IsStarted (state : State) (holds : List ℕ) (tables : ℕ → List Slot) : Type 0 where
-  pub kept : IsKept state holds tables
+pub record IsStarted (state : State) (counts : Counts) (tables : ℕ → List Slot) : Type 0 where
+  pub kept : IsKept state counts tables
   pub begun : state.calls ≡ 0
   pub dense : (dev : ℕ) → IsDense (tables dev) (next_number state.nodes dev)
   pub mounted : (place : ℕ) (node : Node) → slice_get state.nodes place ≡ Some node →
       has_device node.ids.dev state.mounts ≡ true
 
 abbrev pub IsStarting : Store → Type 0
-IsStarting store = IsStarted (state_of store) store.inodes.holds.items (table_in store.inodes.tables.items)
+IsStarting store = IsStarted (state_of store) (counts_of store.inodes) (table_in store.inodes.tables.items)
 
 abbrev pub number_in : Option Node → ℕ
 number_in None = 0

@@ -53,7 +53,6 @@ fn mount_root(alloc: Global, id: u64, dev: u64, serial: u64, handles: bool) -> N
         serial,
         has_handle: handles,
         permissions: 0o755,
-        nlink: 2,
         uid: 0,
         gid: 0,
         rdev: 0,
@@ -115,7 +114,7 @@ impl Store {
             return Ok(false);
         };
         let name = name.to_vec(self.alloc)?;
-        let number = self.inodes.add(self.alloc, parent.ids.dev, object)?;
+        let number = self.inodes.add(self.alloc, parent.ids.dev, object, 1)?;
         let node = new_object(
             self.alloc,
             NEVER,
@@ -285,7 +284,7 @@ impl Store {
         };
         let object = self.nodes.len();
         let name = name.to_vec(self.alloc)?;
-        let _ = self.inodes.add(self.alloc, dev, object)?;
+        let _ = self.inodes.add(self.alloc, dev, object, 1)?;
         let root = mount_root(self.alloc, id, dev, object as u64 + 1, handles);
         add_node(&mut self.nodes, dir, name, root, NEVER)?;
         self.mounts.insert(id, mount)?;
@@ -312,7 +311,7 @@ impl Store {
         };
         mounts.insert(id, mount)?;
         let mut inodes = Inodes::new(alloc);
-        let _ = inodes.add(alloc, dev, 0)?;
+        let _ = inodes.add(alloc, dev, 0, 0)?;
         let mut nodes = Vec::new(alloc);
         nodes.push(mount_root(alloc, id, dev, 1, handles))?;
         Ok(Store {

@@ -64,6 +64,7 @@ impl Store {
         let dev = device_at(&self.nodes, object);
         let number = number_at(&self.nodes, object);
         unlink(&mut self.nodes, now, dir, name, object);
+        self.inodes.lose_name(object);
         self.inodes.release(object, dev, number);
     }
 
@@ -122,6 +123,7 @@ impl Store {
         let dev = device_where(&self.nodes, target);
         let number = number_where(&self.nodes, target);
         rename(self.alloc, &mut self.nodes, now, from, to, object, target)?;
+        self.inodes.lose_name_where(target);
         self.inodes.release_where(target, dev, number);
         Ok(())
     }
@@ -242,7 +244,7 @@ impl Store {
             return HostReply::NoMemory;
         };
         let dev = parent.ids.dev;
-        let Ok(number) = self.inodes.add(self.alloc, dev, object) else {
+        let Ok(number) = self.inodes.add(self.alloc, dev, object, 1) else {
             return HostReply::NoMemory;
         };
         let serial = object as u64 + 1;

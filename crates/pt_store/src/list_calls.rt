@@ -26,7 +26,7 @@ impl Store {
         let now = self.now();
         match records_from(self.alloc, &self.nodes, node, start, size) {
             Ok(listed) => {
-                self.nodes[file.object].atime = now;
+                self.nodes[file.object].list_to(now, listed.place as usize, listed.next);
                 self.files.go_to(fd, listed.place);
                 HostReply::Ok(HostValue::Bytes(Bytes::from_vec(listed.bytes)))
             }

@@ -21,6 +21,7 @@ use pt_change::name_checks::{
 };
 use pt_change::node_edits::link;
 use pt_host::{Bytes, Errno, Fd, HostReply, HostSeat, HostValue};
+use pt_node::links::links_of;
 use pt_node::names::Names;
 use pt_node::node::Content;
 use std::alloc::AllocError;
@@ -150,10 +151,14 @@ impl Store {
         let Some(holds) = self.inodes.one_more(object) else {
             return Err(AllocError);
         };
+        let Some(names) = self.inodes.one_name_more(object) else {
+            return Err(AllocError);
+        };
         let now = self.now();
         let name = name.to_vec(self.alloc)?;
         link(&mut self.nodes, now, dir, name, object)?;
         self.inodes.holds[object] = holds;
+        self.inodes.names[object] = names;
         Ok(())
     }
 
@@ -178,7 +183,9 @@ impl Store {
         if let Some(errno) = name_refusal(seat, dir, name) {
             return HostReply::Refused(errno);
         }
-        if let Some(errno) = link_refusal(seat, node, dir, name) {
+        let names = self.inodes.names[linked.object];
+        let links = links_of(&self.nodes, linked.object, node, names);
+        if let Some(errno) = link_refusal(seat, links, node, dir, name) {
             return HostReply::Refused(errno);
         }
         match self.link_name(file.object, name, linked.object) {

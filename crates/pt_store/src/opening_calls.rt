@@ -4,7 +4,6 @@ ghost use Rattle.pt_rules.specs.Does.{AnswersAs};
 ghost use Rattle.pt_rules.specs.Rows.{on_row};
 ghost use Rattle.pt_node.specs.Entries.{is_directory_at};
 ghost use Rattle.pt_node.specs.Node.{handle_of, name_at};
-ghost use Rattle.pt_rules.specs.Living.{lives_where, living_of};
 ghost use Rattle.pt_rules.specs.OpeningCalls.{
   handled,
   handled_where,
@@ -84,7 +83,7 @@ impl Store {
         let Ok(fd) = self.files.open(begun_on(flags, object)) else {
             return HostReply::NoMemory;
         };
-        let Ok(number) = self.inodes.add(self.alloc, dev, object) else {
+        let Ok(number) = self.inodes.add(self.alloc, dev, object, 1) else {
             self.files.take_back(fd, length);
             return HostReply::NoMemory;
         };
@@ -254,29 +253,6 @@ impl Store {
         }))
     }
 
-    /// Whether the object at this place is one of the device and lives.
-    fn lives_on(&self, dev: u64, place: usize) -> bool
-        requires { IsKeptBy self.now }
-        ensures { result ≡ lives_where (state_of self.now) dev place (slice_get self.now.nodes.items place) }
-    {
-        match self.nodes.get(place) {
-            None => false,
-            Some(node) => node.ids.dev == dev && self.inodes.is_held(place),
-        }
-    }
-
-    /// How many objects of the device live.
-    fn living_of(&self, dev: u64) -> u64
-        requires { IsKeptBy self.now }
-        ensures { result ≡ living_of (state_of self.now) dev }
-    {
-        let mut living = 0;
-        for place in 0..self.nodes.len() {
-            living += u64::from(self.lives_on(dev, place));
-        }
-        living
-    }
-
     pub fn stat_fs(&self, fd: Fd) -> HostReply
         requires { IsKeptBy self.now }
         ensures { (result, state_of self.now) ≡ on_row (state_of self.now) fd (stat_fs_row (state_of self.now)) }
@@ -291,7 +267,7 @@ impl Store {
             blocks: 0,
             bfree: 0,
             bavail: 0,
-            files: self.living_of(node.ids.dev),
+            files: self.inodes.living(node.ids.dev) as u64,
             ffree: 0,
             bsize: 4096,
             namelen: 255,

@@ -1,10 +1,11 @@
-ghost use Rattle.std.specs.Prelude.{◌≡◌, ℕ, Ok};
+ghost use Rattle.std.specs.Prelude.{◌≡◌, ℕ, Ok, Some, slice_get};
 ghost use Rattle.pt_store.specs.StoreState.{IsKeptBy, device_at, number_at, state_of};
 ghost use Rattle.pt_rules.specs.State.{time_of};
 ghost use Rattle.pt_rules.specs.Holds.{HasHold};
 ghost use Rattle.pt_rules.specs.ContentCalls.{read_row};
 ghost use Rattle.pt_rules.specs.Rows.{on_row};
 ghost use Rattle.pt_rules.specs.Does.{AnswersAs};
+ghost use Rattle.pt_node.specs.Links.{links_of};
 ghost use Rattle.pt_node.specs.Slots.{open_at};
 ghost use Rattle.pt_rules.specs.Calls.{
   begun_on,
@@ -23,6 +24,7 @@ use crate::plans::Plans;
 use pt_change::name_checks::name_refusal;
 use pt_host::{Bytes, Errno, Fd, HostReply, HostSeat, HostValue, OpenFlags, Time};
 use pt_node::inodes::Inodes;
+use pt_node::links::links_of;
 use pt_node::mounts::Mounts;
 use pt_node::node::Node;
 use pt_node::opening::{apply_opening, opening_refusal};
@@ -128,6 +130,16 @@ impl Store {
         dir.content.lookup(name).ok_or(Errno::ENOENT)
     }
 
+    /// The links of this object.
+    pub fn links_of(&self, object: usize, node: &Node) -> u32
+        requires kept { IsKeptBy self.now }
+        requires there { slice_get self.now.nodes.items object ≡ Some node.now }
+        ensures { result ≡ links_of self.now.nodes.items object node.now }
+    {
+        let names = self.inodes.names[object];
+        links_of(&self.nodes, object, node, names)
+    }
+
     pub fn stat(&self, fd: Fd) -> HostReply
         requires { IsKeptBy self.now }
         ensures { (result, state_of self.now) ≡ tell_status (state_of self.now) fd }
@@ -136,7 +148,10 @@ impl Store {
             return HostReply::Refused(Errno::EBADF);
         };
         match self.nodes.get(file.object) {
-            Some(node) => HostReply::Ok(HostValue::Stat(node.status())),
+            Some(node) => {
+                let links = self.links_of(file.object, node);
+                HostReply::Ok(HostValue::Stat(node.status(links)))
+            }
             None => HostReply::Refused(Errno::EIO),
         }
     }

@@ -1,6 +1,6 @@
 ghost use Rattle.std.specs.Prelude.{◌≡◌, ◌<◌, ◌++◌, OnOk, IfOk, IfErr, slice_get};
 ghost use Rattle.std.specs.List.{flat_map};
-ghost use Rattle.pt_rules.specs.Sound.{HavePermissions};
+ghost use Rattle.pt_store.specs.StoreState.{IsKeptBy};
 ghost use Rattle.pt_tree.specs.Listing.{
   line_at,
   lines_below,
@@ -18,6 +18,7 @@ use pt_host::Bytes;
 use pt_node::attributes::Attributes;
 use pt_node::node::Node;
 use pt_node::path::names_of;
+use pt_store::store::Store;
 use pt_text::{push_byte_word, push_decimal, push_text};
 use std::alloc::{AllocError, Global};
 
@@ -31,16 +32,16 @@ fn push_numbers(out: &mut Vec<u8>, numbers: &[u64]) -> Result<(), AllocError>
     Ok(())
 }
 
-fn push_object_numbers(out: &mut Vec<u8>, node: &Node) -> Result<(), AllocError>
+fn push_object_numbers(out: &mut Vec<u8>, links: u32, node: &Node) -> Result<(), AllocError>
     requires { node.now.permissions < 4096 }
-    ensures { OnOk result (out.new.items ≡ out.old.items ++ flat_map number_word (numbers_of node.now)) }
+    ensures { OnOk result (out.new.items ≡ out.old.items ++ flat_map number_word (numbers_of links node.now)) }
 {
     let numbers = [
         node.ids.ino,
         node.ids.dev,
         node.ids.mnt_id,
         u64::from(node.mode()),
-        u64::from(node.nlink),
+        u64::from(links),
         u64::from(node.uid),
         u64::from(node.gid),
         u64::from(node.rdev),
@@ -48,13 +49,13 @@ fn push_object_numbers(out: &mut Vec<u8>, node: &Node) -> Result<(), AllocError>
     push_numbers(out, &numbers)
 }
 
-fn push_object(out: &mut Vec<u8>, path: &[u8], node: &Node) -> Result<(), AllocError>
+fn push_object(out: &mut Vec<u8>, path: &[u8], links: u32, node: &Node) -> Result<(), AllocError>
     requires { node.now.permissions < 4096 }
-    ensures { OnOk result (out.new.items ≡ out.old.items ++ object_line path.now node.now) }
+    ensures { OnOk result (out.new.items ≡ out.old.items ++ object_line path.now links node.now) }
 {
     push_text(out, b"obj ")?;
     push_byte_word(out, path)?;
-    push_object_numbers(out, node)?;
+    push_object_numbers(out, links, node)?;
     push_text(out, b" ")?;
     push_byte_word(out, node.content.bytes())?;
     push_text(out, b"\n")
@@ -84,16 +85,18 @@ fn push_xattrs(out: &mut Vec<u8>, path: &[u8], xattrs: &Attributes) -> Result<()
 fn push_line_at(
     out: &mut Vec<u8>,
     path: &[u8],
-    nodes: &[Node],
+    store: &Store,
     object: usize,
 ) -> Result<(), AllocError>
-    requires { HavePermissions nodes.now }
-    ensures { OnOk result (out.new.items ≡ out.old.items ++ line_at path.now (slice_get nodes.now object)) }
+    requires { IsKeptBy store.now }
+    ensures { OnOk result (out.new.items
+        ≡ out.old.items ++ line_at store.now.nodes.items path.now object (slice_get store.now.nodes.items object)) }
 {
-    match nodes.get(object) {
+    match store.nodes.get(object) {
         None => Ok(()),
         Some(node) => {
-            push_object(out, path, node)?;
+            let links = store.links_of(object, node);
+            push_object(out, path, links, node)?;
             push_xattrs(out, path, &node.xattrs)?;
             Ok(())
         }
@@ -103,27 +106,28 @@ fn push_line_at(
 /// The lines of what lies below the directory at this place, down to a depth. The path is given back as it was.
 fn push_below(
     out: &mut Vec<u8>,
-    nodes: &[Node],
+    store: &Store,
     depth: usize,
     path: &mut Vec<u8>,
     dir: usize,
 ) -> Result<(), AllocError>
-    requires { HavePermissions nodes.now }
-    ensures lines { OnOk result (out.new.items ≡ out.old.items ++ lines_below depth nodes.now path.old.items dir) }
+    requires { IsKeptBy store.now }
+    ensures lines { OnOk result (out.new.items
+        ≡ out.old.items ++ lines_below depth store.now.nodes.items path.old.items dir) }
     ensures path { OnOk result (path.new.items ≡ path.old.items) }
 {
     if depth == 0 {
         return Ok(());
     }
-    let Some(names) = names_of(nodes, dir) else {
+    let Some(names) = names_of(&store.nodes, dir) else {
         return Ok(());
     };
     let length = path.len();
     for (name, object) in names.kept.iter() {
         path.push(b'/')?;
         path.extend_from_slice(name)?;
-        push_line_at(out, path, nodes, *object)?;
-        push_below(out, nodes, depth - 1, path, *object)?;
+        push_line_at(out, path, store, *object)?;
+        push_below(out, store, depth - 1, path, *object)?;
         path.truncate(length);
     }
     Ok(())
@@ -137,11 +141,10 @@ impl TreeHost {
         ensures ok { IfOk result (λ bytes. bytes ≡ listing_of self.now) }
         ensures err { IfErr result (λ error. error ≡ Memory) }
     {
-        let nodes = self.store.nodes.as_slice();
         let mut out = Vec::new(alloc);
         let mut path = Vec::new(alloc);
-        push_line_at(&mut out, b"/", nodes, 0)?;
-        push_below(&mut out, nodes, nodes.len(), &mut path, 0)?;
+        push_line_at(&mut out, b"/", &self.store, 0)?;
+        push_below(&mut out, &self.store, self.store.nodes.len(), &mut path, 0)?;
         Ok(Bytes::from_vec(out))
     }
 }

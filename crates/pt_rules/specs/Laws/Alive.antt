@@ -14,7 +14,8 @@ use Rattle.pt_node.specs.declared.slots.Slot.{Slot}
 use Rattle.pt_node.specs.declared.slots.Slot.TheVariants.{Open}
 use Rattle.pt_node.specs.Laws.Updates.{open_slot}
 use Rattle.pt_rules.specs.Holds.{HasHold, HasName, IsOpened}
-use Rattle.pt_rules.specs.Living.{Lives, names_of, names_to, opens, opens_of}
+use Rattle.pt_node.specs.Links.{names_of, names_to}
+use Rattle.pt_rules.specs.Living.{Lives, opens, opens_of}
 use Rattle.pt_rules.specs.State.{State}
 use Rattle.pt_rules.specs.Laws.Held.{is_one}
 use Rattle.pt_rules.specs.Laws.Parts.{and_then_some}

@@ -13,7 +13,7 @@ use Rattle.pt_host.specs.declared.ids.Time.{Time}
 use Rattle.pt_node.specs.Entries.{changed_at, changed_where, is_directory_at, is_directory_where, touched, with_entry}
 use Rattle.pt_node.specs.Entries.{with_name, without_entry, without_name}
 use Rattle.pt_node.specs.Names.{found}
-use Rattle.pt_node.specs.Node.{name_at, names_in, object_of, holds_names}
+use Rattle.pt_node.specs.Node.{name_at, names_in, object_of, holds_names, kind_number}
 use Rattle.pt_rules.specs.Sound.{AreOrdered}
 use Rattle.pt_node.specs.declared.node.Node.{Node}
 use Rattle.pt_node.specs.declared.node.Content.{Content}
@@ -82,11 +82,12 @@ objects-changed place f nodes same = map_where (slice_get nodes place) place f n
 pub record Stays (before after : Node) : Type 0 where
   pub ids : after.ids ≡ before.ids
   pub serial : after.serial ≡ before.serial
+  pub kind : kind_number after.content ≡ kind_number before.content
   pub permissions : before.permissions < 4096 → after.permissions < 4096
   pub ordered : AreOrdered (names_in before.content) → AreOrdered (names_in after.content)
 
 pub stays_itself : (node : Node) → Stays node node
-stays_itself node = record { ids = refl; serial = refl; permissions = λ small. small; ordered = λ o. o }
+stays_itself node = record { ids = refl; serial = refl; kind = refl; permissions = λ small. small; ordered = λ o. o }
 
 pub record AreAlike (before after : List Node) : Type 0 where
   pub long : length after ≡ length before
@@ -107,6 +108,7 @@ alike_on first next last one two = record {
         record {
           ids = later.2.ids ∙ before.2.ids;
           serial = later.2.serial ∙ before.2.serial;
+          kind = later.2.kind ∙ before.2.kind;
           permissions = λ small. later.2.permissions (before.2.permissions small);
           ordered = λ o. later.2.ordered (before.2.ordered o);
         },
@@ -185,20 +187,20 @@ lost_in : (q name : List ℕ) (content : Content) → AreOrdered (names_in conte
 lost_in q name (Directory names) ordered = found-unnamed q name names ordered
 lost_in q name content ordered = sym (none_either (bytes_eq name q))
 
-lost_from : (q name : List ℕ) (directory : Bool) (now : Time) (node : Option Node) →
+lost_from : (q name : List ℕ) (now : Time) (node : Option Node) →
     ((n : Node) → node ≡ Some n → AreOrdered (names_in n.content)) →
-    names_from q (option_map (λ at. touched now (without_entry name directory at)) node)
+    names_from q (option_map (λ at. touched now (without_entry name at)) node)
     ≡ update bytes_eq (λ k. names_from k node) name None q
-lost_from q name directory now None ordered = sym (none_either (bytes_eq name q))
-lost_from q name directory now (Some node) ordered = lost_in q name node.content (ordered node refl)
+lost_from q name now None ordered = sym (none_either (bytes_eq name q))
+lost_from q name now (Some node) ordered = lost_in q name node.content (ordered node refl)
 
-pub names-lost : (now : Time) (dir : ℕ) (name : List ℕ) (directory : Bool) (nodes : List Node) →
+pub names-lost : (now : Time) (dir : ℕ) (name : List ℕ) (nodes : List Node) →
     ((node : Node) → slice_get nodes dir ≡ Some node → AreOrdered (names_in node.content)) →
-    name_at (changed_at dir (λ at. touched now (without_entry name directory at)) nodes)
+    name_at (changed_at dir (λ at. touched now (without_entry name at)) nodes)
     ≡ led dir name None (name_at nodes)
-names-lost now dir name directory nodes ordered =
-    led_from dir name None (λ at. touched now (without_entry name directory at)) nodes
-    (λ q. lost_from q name directory now (slice_get nodes dir) ordered)
+names-lost now dir name nodes ordered =
+    led_from dir name None (λ at. touched now (without_entry name at)) nodes
+    (λ q. lost_from q name now (slice_get nodes dir) ordered)
 
 gained_in : (q name : List ℕ) (object : ℕ) (content : Content) → holds_names content ≡ true →
     found q (names_in (with_name name object content))
@@ -206,20 +208,20 @@ gained_in : (q name : List ℕ) (object : ℕ) (content : Content) → holds_nam
 gained_in q name object (Directory names) holds = found-named q name object names
 gained_in q name object content holds = cc
 
-gained_from : (q name : List ℕ) (object : ℕ) (directory replaced : Bool) (now : Time) (node : Option Node) →
+gained_from : (q name : List ℕ) (object : ℕ) (now : Time) (node : Option Node) →
     is_directory_where node ≡ true →
-    names_from q (option_map (λ at. touched now (with_entry name object directory replaced at)) node)
+    names_from q (option_map (λ at. touched now (with_entry name object at)) node)
     ≡ update bytes_eq (λ k. names_from k node) name (Some object) q
-gained_from q name object directory replaced now None is = cc
-gained_from q name object directory replaced now (Some node) is = gained_in q name object node.content is
+gained_from q name object now None is = cc
+gained_from q name object now (Some node) is = gained_in q name object node.content is
 
-pub names-gained : (now : Time) (dir : ℕ) (name : List ℕ) (object : ℕ) (directory replaced : Bool)
+pub names-gained : (now : Time) (dir : ℕ) (name : List ℕ) (object : ℕ)
     (nodes : List Node) → is_directory_at nodes dir ≡ true →
-    name_at (changed_at dir (λ at. touched now (with_entry name object directory replaced at)) nodes)
+    name_at (changed_at dir (λ at. touched now (with_entry name object at)) nodes)
     ≡ led dir name (Some object) (name_at nodes)
-names-gained now dir name object directory replaced nodes is =
-    led_from dir name (Some object) (λ at. touched now (with_entry name object directory replaced at)) nodes
-    (λ q. gained_from q name object directory replaced now (slice_get nodes dir) is)
+names-gained now dir name object nodes is =
+    led_from dir name (Some object) (λ at. touched now (with_entry name object at)) nodes
+    (λ q. gained_from q name object now (slice_get nodes dir) is)
 
 stays_from : (q : List ℕ) (f : Node → Node) (node : Option Node) →
     ((n : Node) → node ≡ Some n → names_in (f n).content ≡ names_in n.content) →

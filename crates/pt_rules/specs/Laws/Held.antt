@@ -8,7 +8,8 @@ use Rattle.std.proofs.lemmas.List.Sums.{sum_by-cons}
 use Rattle.std.proofs.lemmas.Map.Entries.{lookup_from_place}
 use Rattle.std.proofs.lemmas.Option.{slice_get-map}
 use Rattle.pt_host.specs.Words.{is}
-use Rattle.pt_rules.specs.Living.{held_by, names_of, names_to, opens, opens_of}
+use Rattle.pt_node.specs.Links.{names_of, names_to}
+use Rattle.pt_rules.specs.Living.{held_by, opens, opens_of}
 use Rattle.pt_rules.specs.Holds.{HasName, IsOpened, HasHold}
 use Rattle.pt_node.specs.Names.{found}
 use Rattle.pt_node.specs.Node.{names_in}

@@ -1,5 +1,5 @@
 -- Proof. `MakeLink`: what it leaves of the tree and beside it.
-use Rattle.std.proofs.Common.{◌≡◌, ◌==◌, inl, inr, ℕ, false, not, List, map, Some, None, is_some, slice_get}
+use Rattle.std.proofs.Common.{◌≡◌, ◌<◌, ◌==◌, inl, inr, ℕ, false, not, List, map, Some, None, is_some, slice_get}
 use Rattle.std.proofs.Common.{refl, sym, ◌∙◌, subst}
 use Rattle.pt_host.specs.Tree.{IsOpenOn}
 use Rattle.pt_host.specs.declared.ids.Errno.{Errno}
@@ -9,7 +9,8 @@ use Rattle.pt_host.specs.declared.seat.HostSeat.{HostSeat}
 use Rattle.pt_host.specs.declared.op.KeptHostOp.TheVariants as call
 use Rattle.pt_host.specs.declared.reply.HostValue.TheVariants as value
 use Rattle.pt_rules.specs.Calls.{done, name_refusal, refused}
-use Rattle.pt_node.specs.Entries.{after_gaining, changed_at, touched, with_entry}
+use Rattle.pt_node.specs.Entries.{changed_at, restamped, touched, with_entry}
+use Rattle.pt_node.specs.Links.{links_of}
 use Rattle.pt_rules.specs.NameCalls.{link_checks, linked, make_link, there_in, with_linked}
 use Rattle.pt_node.specs.Node.{is_directory, object_of}
 use Rattle.pt_node.specs.Slots.{open_at}
@@ -29,9 +30,9 @@ use Rattle.pt_rules.specs.Laws.Outcomes.{none_there, passes_first}
 module _ (now : Time) (dir : ℕ) (name : List ℕ) (object : ℕ) (nodes : List Node) where
   objects_linked : map object_of (linked now dir name object nodes) ≡ map object_of nodes
   objects_linked =
-      objects-changed object (after_gaining now) (with_link now dir name object nodes) (λ node is. refl)
-      ∙ objects-changed dir (λ at. touched now (with_entry name object false false at)) nodes (λ node is.
-      object_gained now name object false false node)
+      objects-changed object (restamped now) (with_link now dir name object nodes) (λ node is. refl)
+      ∙ objects-changed dir (λ at. touched now (with_entry name object at)) nodes (λ node is.
+      object_gained now name object node)
 
 module _ (state : State) (seat : HostSeat) (from fd : Fd) (name : List ℕ) (sound : IsSound state) where
   link_refuses : (errno : Errno) → IsFair state (call.MakeLink from fd name) (refused state errno)
@@ -80,8 +81,10 @@ module _ (state : State) (seat : HostSeat) (from fd : Fd) (name : List ℕ) (sou
       (λ file node source node_there.
       by_name state (IsFair state (call.MakeLink from fd name)) link_refuses seat fd name _
       (λ at dir is there asks.
-      by_checks state (IsFair state (call.MakeLink from fd name)) link_refuses (link_checks seat node dir name) _
+      by_checks state (IsFair state (call.MakeLink from fd name)) link_refuses
+      (link_checks seat (links_of state.nodes file.object node) node dir name) _
       (λ none. linked_fair file at dir source is there asks
       (none_there (there_in dir name) (passes_first (is_some (there_in dir name)) _ _
-      (passes_first (node.nlink == 0) _ _ (passes_first (not (node.ids.mnt_id == dir.ids.mnt_id)) _ _
+      (passes_first (links_of state.nodes file.object node == 0) _ _
+      (passes_first (not (node.ids.mnt_id == dir.ids.mnt_id)) _ _
       (passes_first (is_directory node) _ _ none).1).1).1).0))))

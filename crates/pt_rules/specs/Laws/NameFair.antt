@@ -125,7 +125,7 @@ fair_makes state numbers asked fd file after does sound least is at opens fits p
         get-push_apart (changed_at does.dir _ state.nodes) does.node o
         (λ e. let long = length-changed does.dir (λ parent.
         touched (time_of state)
-        (with_entry does.name (length state.nodes) (is_directory does.node) false parent)) state.nodes in
+        (with_entry does.name (length state.nodes) parent)) state.nodes in
         absurd (omega arith))
         ∙ changed_other does.dir _ state.nodes o apart
 

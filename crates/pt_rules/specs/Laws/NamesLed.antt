@@ -1,10 +1,10 @@
 -- Proof. One name more of an object, and an exchange of two names: what they leave of the objects and the names, and
 -- that they leave a sound state.
-use Rattle.std.proofs.Common.{◌≡◌, ◌<◌, inl, inr, ℕ, true, false, List, length, Some, slice_get, refl, ap, sym, ◌∙◌}
+use Rattle.std.proofs.Common.{◌≡◌, ◌<◌, inl, inr, ℕ, true, List, length, Some, slice_get, refl, ap, sym, ◌∙◌}
 use Rattle.std.proofs.Common.{subst}
 use Rattle.std.proofs.lemmas.Option.{same_Some}
 use Rattle.pt_host.specs.declared.ids.Time.{Time}
-use Rattle.pt_node.specs.Entries.{after_gaining, changed_at, is_directory_at, is_directory_where, restamped, touched}
+use Rattle.pt_node.specs.Entries.{changed_at, is_directory_at, is_directory_where, restamped, touched}
 use Rattle.pt_node.specs.Entries.{with_entry}
 use Rattle.pt_rules.specs.Holds.{HasHold}
 use Rattle.pt_rules.specs.NameCalls.{exchanged, linked, with_exchanged, with_linked}
@@ -15,7 +15,7 @@ use Rattle.pt_rules.specs.State.{State, time_of}
 use Rattle.pt_node.specs.declared.node.Content.{Content}
 use Rattle.pt_node.specs.declared.node.Content.TheVariants.{Directory}
 use Rattle.pt_node.specs.declared.node.Node.{Node}
-use Rattle.pt_rules.specs.Laws.Changed.{AreAlike, Stays, alike_changed, alike_on, led, led_cases, led_still}
+use Rattle.pt_rules.specs.Laws.Changed.{AreAlike, alike_changed, alike_on, led, led_cases, led_still}
 use Rattle.pt_rules.specs.Laws.Changed.{names-gained, names-same}
 use Rattle.pt_rules.specs.Laws.EditShapes.{AllOrdered, ordered_alike, stays_gained, stays_restamped}
 use Rattle.pt_rules.specs.Laws.Sounding.{NamedBefore, named_still, opened_still, sound_after}
@@ -36,27 +36,23 @@ leads_from nodes dir name object there =
 
 -- ---- one name more
 
-stays_gaining : (now : Time) (node : Node) → Stays node (after_gaining now node)
-stays_gaining now node =
-    record { ids = refl; serial = refl; permissions = λ small. small; ordered = λ ordered. ordered }
-
 module _ (now : Time) (dir : ℕ) (name : List ℕ) (object : ℕ) (nodes : List Node) where
   -- the objects after the directory got the name
   abbrev pub with_link : List Node
-  with_link = changed_at dir (λ at. touched now (with_entry name object false false at)) nodes
+  with_link = changed_at dir (λ at. touched now (with_entry name object at)) nodes
 
   pub alike_linked : AreAlike nodes (linked now dir name object nodes)
   alike_linked =
       alike_on nodes with_link (linked now dir name object nodes)
       (alike_changed dir (λ at.
-      touched now (with_entry name object false false at)) nodes (stays_gained now name object false false))
-      (alike_changed object (after_gaining now) with_link (stays_gaining now))
+      touched now (with_entry name object at)) nodes (stays_gained now name object))
+      (alike_changed object (restamped now) with_link (stays_restamped now))
 
   pub names_linked : is_directory_at nodes dir ≡ true →
       name_at (linked now dir name object nodes) ≡ led dir name (Some object) (name_at nodes)
   names_linked into =
-      names-same object (after_gaining now) with_link (λ node is. refl)
-      ∙ names-gained now dir name object false false nodes into
+      names-same object (restamped now) with_link (λ node is. refl)
+      ∙ names-gained now dir name object nodes into
 
 pub named_linked : (state : State) (dir : ℕ) (name : List ℕ) (object : ℕ) → IsSound state →
     is_directory_at state.nodes dir ≡ true → HasHold state object →
@@ -81,10 +77,10 @@ sound_linked state dir name object sound into lives within =
 
 module _ (now : Time) (from to : ℕ × List ℕ) (object other : ℕ) (nodes : List Node) where
   abbrev pub put_there : Node → Node
-  put_there dir = touched now (with_entry to.1 object (is_directory_at nodes object) (is_directory_at nodes other) dir)
+  put_there dir = touched now (with_entry to.1 object dir)
 
   abbrev pub put_back : Node → Node
-  put_back dir = touched now (with_entry from.1 other (is_directory_at nodes other) (is_directory_at nodes object) dir)
+  put_back dir = touched now (with_entry from.1 other dir)
 
   abbrev pub with_one : List Node
   with_one = changed_at to.0 put_there nodes
@@ -97,7 +93,7 @@ module _ (now : Time) (from to : ℕ × List ℕ) (object other : ℕ) (nodes : 
 
   pub alike_one : AreAlike nodes with_one
   alike_one = alike_changed to.0 put_there nodes
-      (stays_gained now to.1 object (is_directory_at nodes object) (is_directory_at nodes other))
+      (stays_gained now to.1 object)
 
   pub alike_exchanged : AreAlike nodes (exchanged now from to object other nodes)
   alike_exchanged =
@@ -105,7 +101,7 @@ module _ (now : Time) (from to : ℕ × List ℕ) (object other : ℕ) (nodes : 
       (alike_on nodes with_both with_stamp
       (alike_on nodes with_one with_both alike_one
       (alike_changed from.0 put_back with_one
-      (stays_gained now from.1 other (is_directory_at nodes other) (is_directory_at nodes object))))
+      (stays_gained now from.1 other)))
       (alike_changed object (restamped now) with_both (stays_restamped now)))
       (alike_changed other (restamped now) with_stamp (stays_restamped now))
 
@@ -114,7 +110,7 @@ module _ (now : Time) (from to : ℕ × List ℕ) (object other : ℕ) (nodes : 
     pub leads_still : name_at with_one from.0 from.1 ≡ Some object
     leads_still =
         ap (λ names. names from.0 from.1)
-        (names-gained now to.0 to.1 object (is_directory_at nodes object) (is_directory_at nodes other) nodes
+        (names-gained now to.0 to.1 object nodes
         (leads_from nodes to.0 to.1 other too))
         ∙ led_still to.0 to.1 object (name_at nodes) from.0 from.1 there
 
@@ -123,10 +119,10 @@ module _ (now : Time) (from to : ℕ × List ℕ) (object other : ℕ) (nodes : 
     names_exchanged =
         names-same other (restamped now) with_stamp (λ node is. refl)
         ∙ names-same object (restamped now) with_both (λ node is. refl)
-        ∙ names-gained now from.0 from.1 other (is_directory_at nodes other) (is_directory_at nodes object) with_one
+        ∙ names-gained now from.0 from.1 other with_one
         (leads_from with_one from.0 from.1 object leads_still)
         ∙ ap (led from.0 from.1 (Some other))
-        (names-gained now to.0 to.1 object (is_directory_at nodes object) (is_directory_at nodes other) nodes
+        (names-gained now to.0 to.1 object nodes
         (leads_from nodes to.0 to.1 other too))
 
 pub sound_exchanged : (state : State) (from to : ℕ × List ℕ) (object other : ℕ) → IsSound state →

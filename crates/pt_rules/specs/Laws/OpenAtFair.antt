@@ -25,7 +25,7 @@ use Rattle.pt_node.specs.Entries.{changed_at, is_directory_at, touched, with_ent
 use Rattle.pt_rules.specs.Living.{AreLeastFree}
 use Rattle.pt_rules.specs.Holds.{HasHold}
 use Rattle.pt_rules.specs.NameCalls.{masked, there_in}
-use Rattle.pt_node.specs.Node.{is_directory, name_at, object_of}
+use Rattle.pt_node.specs.Node.{name_at, object_of}
 use Rattle.pt_rules.specs.OpeningCalls.{open_named, create_or_open, created_checks, open_at_name, open_creating}
 use Rattle.pt_node.specs.Slots.{open_at}
 use Rattle.pt_rules.specs.Sound.{IsSound}
@@ -153,11 +153,11 @@ module _ (state : State) (numbers : ℕ → ℕ) (seat : HostSeat) (fd : Fd) (na
 
   abbrev entered : List Node
   entered = changed_at file.object (λ dir.
-      touched (time_of state) (with_entry name new_place (is_directory new_node) false dir)) state.nodes
+      touched (time_of state) (with_entry name new_place dir)) state.nodes
 
   length_entered : length entered ≡ new_place
   length_entered = length-changed file.object (λ dir.
-      touched (time_of state) (with_entry name new_place (is_directory new_node) false dir)) state.nodes
+      touched (time_of state) (with_entry name new_place dir)) state.nodes
 
   into : is_directory_at state.nodes file.object ≡ true
   into = asked_there state seat file.object parent name there asks

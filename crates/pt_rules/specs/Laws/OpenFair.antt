@@ -27,6 +27,7 @@ use Rattle.pt_rules.specs.Calls.{begun_on, checked, close_file, done, on_slot, o
 use Rattle.pt_rules.specs.Calls.{refused, reopen, tell_status, tells, unless, with_opened}
 use Rattle.pt_rules.specs.Holds.{HasName, HasHold}
 use Rattle.pt_rules.specs.OpeningCalls.{open_path}
+use Rattle.pt_node.specs.Links.{links_of}
 use Rattle.pt_node.specs.Node.{kind_number, object_of, status_of}
 use Rattle.pt_node.specs.Opening.{after_opening, emptied, opening_refusal}
 use Rattle.pt_node.specs.Slots.{closed, closed_where, file_of, least_free, open_at}
@@ -314,7 +315,8 @@ kind_from kind permissions small = omega arith
 pub fair_stat : (state : State) (fd : Fd) → IsSound state → IsFair state (call.Stat fd) (tell_status state fd)
 fair_stat state fd sound =
     by_fd state (IsFair state (call.Stat fd)) (λ errno. fair_refused state (call.Stat fd) errno sound (tt, refl)) fd _
-    (λ file node on is. fair_same state (call.Stat fd) (value.Stat (status_of node)) sound refl (
+    (λ file node on is. fair_same state (call.Stat fd)
+    (value.Stat (status_of (links_of state.nodes file.object node) node)) sound refl (
       file.object,
       object_of node,
       open_there state fd file on,

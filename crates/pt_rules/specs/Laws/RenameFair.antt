@@ -18,7 +18,7 @@ use Rattle.pt_host.specs.declared.reply.HostValue.TheVariants as value
 use Rattle.pt_rules.specs.Beside.{IsAt}
 use Rattle.pt_rules.specs.Calls.{done, refused, unless}
 use Rattle.pt_rules.specs.Edits.{moved, node_at, replace_refusal, replaced, with_moved, rename_onto}
-use Rattle.pt_node.specs.Entries.{after_losing, is_directory_at, restamped}
+use Rattle.pt_node.specs.Entries.{is_directory_at, restamped}
 use Rattle.pt_rules.specs.NameCalls.{cannot_write, exchange, exchanged, moves_into_itself, noreplace, rename}
 use Rattle.pt_rules.specs.NameCalls.{rename_found, rename_refusal, rename_refusal_of, rename_to, with_exchanged}
 use Rattle.pt_node.specs.Node.{name_at, object_of}
@@ -56,9 +56,9 @@ module _ (now : Time) (from to : ℕ × List ℕ) (object other : ℕ) (nodes : 
       objects-changed other (restamped now) stamped (λ node is. refl)
       ∙ objects-changed object (restamped now) crossed (λ node is. refl)
       ∙ objects-changed from.0 (put_back now from to object other nodes) given
-      (λ node is. object_gained now from.1 other (is_directory_at nodes other) (is_directory_at nodes object) node)
+      (λ node is. object_gained now from.1 other node)
       ∙ objects-changed to.0 (put_there now from to object other nodes) nodes
-      (λ node is. object_gained now to.1 object (is_directory_at nodes object) (is_directory_at nodes other) node)
+      (λ node is. object_gained now to.1 object node)
 
   -- none else is changed
   exchanged_other : (o : ℕ) → o ≢ from.0 → o ≢ to.0 → o ≢ object → o ≢ other →
@@ -74,7 +74,7 @@ replaced_other : (now : Time) (target : Option ℕ) (nodes : List Node) (o : ℕ
     slice_get (replaced now target nodes) o ≡ slice_get nodes o
 replaced_other now None nodes o apart = refl
 replaced_other now (Some target) nodes o apart =
-    changed_other target (after_losing now) nodes o (λ e. apart (ap (λ k. Some k) (sym e)))
+    changed_other target (restamped now) nodes o (λ e. apart (ap (λ k. Some k) (sym e)))
 
 moved_other : (now : Time) (from to : ℕ × List ℕ) (object : ℕ) (target : Option ℕ) (nodes : List Node) (o : ℕ) →
     o ≢ from.0 → o ≢ to.0 → o ≢ object →

@@ -1,5 +1,6 @@
 -- Proof. A state stays sound where its objects stay what they are and nothing comes to life.
 use Rattle.std.proofs.Common.{◌≡◌, ◌<◌, ◌^◌, inl, inr, ℕ, List, length, Some, subst, refl, ap, sym, ◌∙◌}
+use Rattle.pt_host.specs.Tree.{Object}
 use Rattle.pt_rules.specs.Holds.{HasName, HasHold}
 use Rattle.pt_node.specs.Slots.{open_at}
 use Rattle.pt_rules.specs.Sound.{AreOrdered, IsMade, IsSound}
@@ -17,6 +18,7 @@ pub stays_kept : (before after : Node) → Keeps before after → Stays before a
 stays_kept before after keeps = record {
   ids = keeps.ids;
   serial = keeps.serial;
+  kind = ap (λ (object : Object). object.kind) keeps.object;
   permissions = keeps.permissions;
   ordered = λ ordered. subst AreOrdered (sym keeps.names) ordered;
 }

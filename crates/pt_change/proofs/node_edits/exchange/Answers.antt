@@ -1,6 +1,5 @@
-use Rattle.std.proofs.Common.{Bool, List, ap, ◌∙◌}
+use Rattle.std.proofs.Common.{List, ap, ◌∙◌}
 use Rattle.std.specs.Option.{is_some}
-use Rattle.pt_node.specs.Entries.{changed_at, is_directory_at, touched, with_entry}
 use Rattle.pt_node.specs.NewPlace.{seen_place}
 use Rattle.pt_node.specs.Node.{name_at}
 use Rattle.pt_node.specs.declared.node.Node.{Node}
@@ -12,13 +11,5 @@ lead_entry-requires-2 c =
     let nodes = c.args.nodes.now in
     let from = seen_place c.args.from in
     let to = seen_place c.args.to in
-    let one = c.lead_entry.ensures
-    ∙ ap (λ (b : Bool).
-    changed_at to.0 (λ at.
-    touched c.args.now (with_entry to.1 c.args.object b c.is_directory_at-another.result at)) nodes) c.is_directory_at-directory.ensures
-    ∙ ap (λ (b : Bool).
-    changed_at to.0 (λ at.
-    touched c.args.now (with_entry to.1 c.args.object
-    (is_directory_at nodes c.args.object) b at)) nodes) c.is_directory_at-another.ensures in
-    ap (λ (ns : List Node). is_some (name_at ns from.0 from.1)) one
+    ap (λ (ns : List Node). is_some (name_at ns from.0 from.1)) c.lead_entry.ensures
     ∙ ap is_some (leads_still c.args.now from to c.args.object c.args.other nodes c.requires.there c.requires.too)

@@ -1,5 +1,5 @@
-use Rattle.pt_session.proofs.Dying.{clears}
+use Rattle.pt_session.proofs.Replies.{cleared}
 use Rattle.pt_session.proofs.laws.clearings_clear.Goals as goal
 
 pub returns : goal.returns
-returns c = λ tables after era closings h. clears tables after era closings h.1
+returns c = cleared

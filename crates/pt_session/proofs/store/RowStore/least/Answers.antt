@@ -1,14 +1,12 @@
-use Rattle.std.proofs.Common.{ap}
+use Rattle.std.proofs.Common.{ap, subst, List, ◌≡◌, true, MatchOption}
+use Rattle.pt_session.specs.Tables.{Row}
+use Rattle.pt_session.specs.Rows.{number_rows, NoneOf, IsLeast}
 use Rattle.pt_session.specs.Store.{Stored}
-use Rattle.pt_session.proofs.Stores.{least_missed, least_finds}
+use Rattle.pt_session.proofs.Storing.{least}
 use Rattle.pt_session.proofs.store.RowStore.least.Goals as goal
 
-pub returns-in-None-clause-least : goal.returns-in-None-clause-least
-returns-in-None-clause-least c =
-    least_missed _ _ _ _ _ c.self.invariant _
-    (ap (λ (stored : Stored). stored.rows) c.self.view_is) _ c.in-None.is c.next_number.ensures
-
-pub returns-in-Some-clause-least : goal.returns-in-Some-clause-least
-returns-in-Some-clause-least c =
-    least_finds _ _ _ _ _ c.self.invariant _
-    (ap (λ (stored : Stored). stored.rows) c.self.view_is) _ _ _ _ c.in-Some.is c.row_of.ensures c.next_number.ensures
+pub returns-clause-least : goal.returns-clause-least
+returns-clause-least c =
+    subst (λ (rows : List Row). MatchOption c.next.result (NoneOf (λ (row : Row). row.live ≡ true) rows)
+    (λ row. IsLeast number_rows rows row)) (ap (λ (stored : Stored). stored.rows) c.self.view_is) (least number_rows _
+    _ c.next.ensures)

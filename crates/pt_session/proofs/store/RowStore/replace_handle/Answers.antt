@@ -1,5 +1,8 @@
-use Rattle.pt_session.proofs.Stores.{room_replaced}
+use Rattle.std.proofs.Common.{ap}
+use Rattle.pt_session.specs.Store.{Stored}
+use Rattle.pt_session.proofs.Storing.{handles_replaced}
 use Rattle.pt_session.proofs.store.RowStore.replace_handle.Goals as goal
 
 pub invariant_of-self : goal.invariant_of-self
-invariant_of-self c = room_replaced _ _ _ _ _ _ _ _ _ c.replace.ensures c.self.invariant
+invariant_of-self c = handles_replaced _ _ _ _ _ c.self.invariant _ (ap (λ (stored : Stored). stored.rows)
+    c.self.view_is) _ _ _ c.replace.ensures

@@ -1,4 +1,4 @@
-use Rattle.std.proofs.Common.{arith}
+use Rattle.std.proofs.Common.{arith, refl}
 use Rattle.pt_session.proofs.Forgetting.{forgets_on, forgets_whole}
 use Rattle.pt_session.proofs.tables.SessionTables.forget.Goals as goal
 
@@ -12,4 +12,8 @@ loop-pair-preserved c = record {
 }
 
 pub returns : goal.returns
-returns c = forgets_whole _ _ _ c.loop-pair.pair-index _ c.loop-pair-test.false c.loop-pair.invariant.whole
+returns c = (
+  c.loop-pair.closings,
+  refl,
+  forgets_whole _ _ _ c.loop-pair.pair-index _ c.loop-pair-test.false c.loop-pair.invariant.whole,
+)

@@ -1,6 +1,6 @@
 use Rattle.std.proofs.Common.{◌≡◌, List, ap, sym, ◌∙◌, subst}
 use Rattle.pt_store.specs.Kept.{IsKept}
-use Rattle.pt_node.specs.Numbers.{table_in}
+use Rattle.pt_node.specs.Numbers.{counts_of, table_in}
 use Rattle.pt_rules.specs.NameCalls.{with_linked}
 use Rattle.pt_node.specs.NewPlace.{place_of}
 use Rattle.pt_node.specs.Paths.{object_named}
@@ -39,12 +39,12 @@ pub returns-clause-starting : goal.returns-clause-starting
 returns-clause-starting c = λ added.
     let state = state_of c.args.self.now in
     let after = state_of c.link_name.new.self in
-    let held = c.link_name.new.self.inodes.holds.items in
+    let held = counts_of c.link_name.new.self.inodes in
     let told = c.in_ok-link_name.ensures in
     let linked : after ≡ with_linked state c.in-Some.dir c.in-Some.name.now c.in-Some-object_named.object = told.ok in
     let same : c.link_name.new.self.inodes.tables.items ≡ c.args.self.now.inodes.tables.items = told.tables in
     subst (λ (ts : List NumberTable). IsStarted after held (table_in ts)) (sym same)
-    (started_alike state c.args.self.now.inodes.holds.items
+    (started_alike state (counts_of c.args.self.now.inodes)
     (table_in c.args.self.now.inodes.tables.items) c.requires after held
     (subst (λ (ts : List NumberTable). IsKept after held (table_in ts)) same told.kept)
     (ap (λ (s : State). s.calls) linked ∙ c.requires.begun) (ap (λ (s : State). s.mounts) linked)

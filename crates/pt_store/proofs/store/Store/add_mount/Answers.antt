@@ -3,7 +3,7 @@ use Rattle.std.proofs.Common.{ap, sym, ◌∙◌, arith, rules}
 use Rattle.std.proofs.lemmas.Option.{slice_get-get_or}
 use Rattle.pt_host.specs.Words.{set_at}
 use Rattle.pt_rules.specs.Edits.{grown, with_made}
-use Rattle.pt_node.specs.Numbers.{having, table_in}
+use Rattle.pt_node.specs.Numbers.{counts_of, having, table_in}
 use Rattle.pt_node.specs.Mounts.{with_mount}
 use Rattle.pt_node.specs.NewPlace.{place_of}
 use Rattle.pt_node.specs.Slots.{put_at}
@@ -15,6 +15,7 @@ use Rattle.pt_node.specs.declared.node.Node.{Node}
 use Rattle.pt_node.specs.declared.slots.Slot.TheVariants.{Open}
 use Rattle.pt_node.specs.Laws.Updates.{same_function}
 use Rattle.pt_store.proofs.KeptMade.{given}
+use Rattle.pt_store.proofs.KeptStore.{same_counts, with_counts}
 use Rattle.pt_store.proofs.NewPlaces.{place_free}
 use Rattle.pt_store.proofs.StartKept.{first_number, started_as, started_made}
 use Rattle.pt_store.proofs.StartMounts.{new_mount, own_device, started_mounted}
@@ -26,7 +27,7 @@ with_both state nodes mounts = record state { nodes = nodes; mounts = mounts }
 pub returns-clause-starting : goal.returns-clause-starting
 returns-clause-starting c = λ added.
     let state = state_of c.args.self.now in
-    let holds = c.args.self.now.inodes.holds.items in
+    let holds = counts_of c.args.self.now.inodes in
     let tables = table_in c.args.self.now.inodes.tables.items in
     let id = c.args.id in
     let dev = c.args.dev in
@@ -62,11 +63,11 @@ returns-clause-starting c = λ added.
     let mounts = c.in_ok-insert.ensures.ok
     ∙ ap (λ (p : List ℕ).
     with_mount id (record { parent = mnt; dev = dev; path = p }) state.mounts) c.in_ok-copy.ensures in
-    started_as (with_made with_mount_in dir name node) _ (holds
-    ++ 1 ∷ []) _ (given dev (having (length state.nodes)) tables) _
+    started_as (with_made with_mount_in dir name node) _
+    (with_counts (holds.holds ++ 1 ∷ []) (holds.names ++ 1 ∷ [])) _ (given dev (having (length state.nodes)) tables) _
     (ap (λ (ns : List Node). with_both state ns c.insert.new.self) nodes
     ∙ ap (λ (ms : List (ℕ × Mount)). with_both state (with_made with_mount_in dir name node).nodes ms) mounts)
-    c.in_ok-add.ensures.holds
+    (same_counts _ _ _ _ c.in_ok-add.ensures.holds c.in_ok-add.ensures.names)
     (same_function _ _ c.in_ok-add.ensures.tables
     ∙ ap (λ (n : ℕ). set_at dev
     (put_at n (Open (having c.len-object.result)) (tables dev)) tables) c.in_ok-add.ensures.number

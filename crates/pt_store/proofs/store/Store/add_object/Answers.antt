@@ -4,7 +4,7 @@ use Rattle.std.proofs.lemmas.Option.{slice_get-get_or}
 use Rattle.pt_host.specs.Words.{set_at}
 use Rattle.pt_rules.specs.Edits.{grown, with_made}
 use Rattle.pt_node.specs.Entries.{new_object}
-use Rattle.pt_node.specs.Numbers.{having, table_in}
+use Rattle.pt_node.specs.Numbers.{counts_of, having, table_in}
 use Rattle.pt_node.specs.NewPlace.{place_of}
 use Rattle.pt_node.specs.Slots.{put_at}
 use Rattle.pt_rules.specs.Building.{never, next_number, started}
@@ -13,7 +13,7 @@ use Rattle.pt_node.specs.declared.node.Node.{Node}
 use Rattle.pt_node.specs.declared.slots.Slot.TheVariants.{Open}
 use Rattle.pt_node.specs.Laws.Updates.{same_function}
 use Rattle.pt_store.proofs.KeptMade.{given}
-use Rattle.pt_store.proofs.KeptStore.{nodes_in}
+use Rattle.pt_store.proofs.KeptStore.{nodes_in, same_counts, with_counts}
 use Rattle.pt_store.proofs.NewPlaces.{place_free}
 use Rattle.pt_store.proofs.StartKept.{started_as, started_made}
 use Rattle.pt_store.proofs.store.Store.add_object.Goals as goal
@@ -21,7 +21,7 @@ use Rattle.pt_store.proofs.store.Store.add_object.Goals as goal
 pub returns-clause-starting : goal.returns-clause-starting
 returns-clause-starting c = λ added.
     let state = state_of c.args.self.now in
-    let holds = c.args.self.now.inodes.holds.items in
+    let holds = counts_of c.args.self.now.inodes in
     let tables = table_in c.args.self.now.inodes.tables.items in
     let starting = c.requires.starting in
     let dir = c.in-Some.dir in
@@ -52,8 +52,8 @@ returns-clause-starting c = λ added.
     let long = ap length nodes in
     let few : length (with_made state dir name node).nodes < 2 ^ 63 =
     omega (arith, long, c.add_node.new.nodes.ok.0, c.add_node.new.nodes.ok.1, c.add_node.new.nodes.small) in
-    started_as (with_made state dir name node) _ (holds ++ 1 ∷ []) _ (given dev (having (length state.nodes)) tables) _
-    (ap (nodes_in state) nodes) c.in_ok-number.ensures.holds
+    started_as (with_made state dir name node) _ (with_counts (holds.holds ++ 1 ∷ []) (holds.names ++ 1 ∷ [])) _ (given dev (having (length state.nodes)) tables) _
+    (ap (nodes_in state) nodes) (same_counts _ _ _ _ c.in_ok-number.ensures.holds c.in_ok-number.ensures.names)
     (same_function _ _ c.in_ok-number.ensures.tables
     ∙ ap (λ (n : ℕ). set_at dev
     (put_at n (Open (having c.len-object.result)) (tables dev)) tables) c.in_ok-number.ensures.number

@@ -1,7 +1,7 @@
 use Rattle.std.proofs.Common.{◌<◌, ap, sym, length, ◌∙◌, slice_set, subst, arith, List, ℕ}
 use Rattle.std.proofs.lemmas.Option.{get_or_from_slice_get}
 use Rattle.pt_node.specs.Attributes.{with_value}
-use Rattle.pt_node.specs.Numbers.{table_in}
+use Rattle.pt_node.specs.Numbers.{counts_of, table_in}
 use Rattle.pt_store.specs.StoreState.{IsStarted, state_of}
 use Rattle.pt_node.specs.declared.node.Node.{Node}
 use Rattle.pt_node.specs.Laws.ChangedThere.{changed_is}
@@ -16,7 +16,7 @@ valued name bytes node = record node { xattrs = with_value name bytes node.xattr
 pub returns-in_ok-insert-clause-starting : goal.returns-in_ok-insert-clause-starting
 returns-in_ok-insert-clause-starting c = λ added.
     let state = state_of c.args.self.now in
-    let holds = c.args.self.now.inodes.holds.items in
+    let holds = counts_of c.args.self.now.inodes in
     let tables = table_in c.args.self.now.inodes.tables.items in
     let object = c.in-Some.object in
     let name = c.in_ok-name.name.items in

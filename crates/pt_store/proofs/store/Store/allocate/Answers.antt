@@ -1,7 +1,7 @@
 use Rattle.std.proofs.Common.{ap, sym, List, ◌∙◌, refl, Some, slice_get, slice_set}
 use Rattle.std.proofs.lemmas.Option.{get_or_from_slice_get, slice_get-get_or}
 use Rattle.pt_host.specs.declared.ids.Time.{Time}
-use Rattle.pt_node.specs.Numbers.{table_in}
+use Rattle.pt_node.specs.Numbers.{counts_of, table_in}
 use Rattle.pt_rules.specs.State.{time_of}
 use Rattle.pt_store.specs.StoreState.{state_of}
 use Rattle.pt_node.specs.declared.node.Node.{Node}
@@ -15,7 +15,7 @@ use Rattle.pt_store.proofs.store.Store.allocate.Goals as goal
 pub returns-in-Ok-clause-kept : goal.returns-in-Ok-clause-kept
 returns-in-Ok-clause-kept c =
     let state = state_of c.args.self.now in
-    let holds = c.args.self.now.inodes.holds.items in
+    let holds = counts_of c.args.self.now.inodes in
     let tables = table_in c.args.self.now.inodes.tables.items in
     let object = c.in-Some.file.object in
     let node = c.in-Some-get.node.now in

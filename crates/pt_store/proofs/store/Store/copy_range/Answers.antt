@@ -4,7 +4,7 @@ use Rattle.std.proofs.lemmas.Option.{get_or_from_slice_get, slice_get-get_or}
 use Rattle.pt_host.specs.declared.ids.Time.{Time}
 use Rattle.pt_rules.specs.ContentCalls.{copy_range, written}
 use Rattle.pt_node.specs.Changes.{refilled}
-use Rattle.pt_node.specs.Numbers.{table_in}
+use Rattle.pt_node.specs.Numbers.{counts_of, table_in}
 use Rattle.pt_node.specs.Reading.{after_reading, part_of}
 use Rattle.pt_store.specs.StoreState.{state_of}
 use Rattle.pt_node.specs.declared.node.Node.{Node}
@@ -47,7 +47,7 @@ returns-in-Ok-clause-answers c =
 pub returns-in-Ok-clause-kept : goal.returns-in-Ok-clause-kept
 returns-in-Ok-clause-kept c =
     let state = state_of c.args.self.now in
-    let holds = c.args.self.now.inodes.holds.items in
+    let holds = counts_of c.args.self.now.inodes in
     let tables = table_in c.args.self.now.inodes.tables.items in
     kept_answer (copy_range state c.args.seat.now c.args.from.0 c.args.from.1 c.args.to.0 c.args.to.1 c.args.size c.args.flags) state _ _ holds tables
     (returns-in-Ok-clause-answers c) c.requires
@@ -82,7 +82,7 @@ returns-then-is_empty-clause-answers c =
 pub returns-then-is_empty-clause-kept : goal.returns-then-is_empty-clause-kept
 returns-then-is_empty-clause-kept c =
     let state = state_of c.args.self.now in
-    let holds = c.args.self.now.inodes.holds.items in
+    let holds = counts_of c.args.self.now.inodes in
     let tables = table_in c.args.self.now.inodes.tables.items in
     kept_answer (copy_range state c.args.seat.now c.args.from.0 c.args.from.1 c.args.to.0 c.args.to.1 c.args.size c.args.flags) state _ _ holds tables
     (returns-then-is_empty-clause-answers c) c.requires

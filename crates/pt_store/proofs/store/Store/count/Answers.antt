@@ -1,7 +1,7 @@
 use Rattle.std.proofs.Common.{sym, subst, arith}
 use Rattle.std.proofs.lemmas.Grind.{common_steps}
 use Rattle.pt_store.specs.Kept.{IsKept}
-use Rattle.pt_node.specs.Numbers.{table_in}
+use Rattle.pt_node.specs.Numbers.{counts_of, table_in}
 use Rattle.pt_rules.specs.State.{State}
 use Rattle.pt_store.specs.StoreState.{state_of}
 use Rattle.pt_store.proofs.KeptCalls.{kept_counted}
@@ -12,7 +12,7 @@ returns-clause-counts c = grind (arith, common_steps)
 
 pub returns-clause-kept : goal.returns-clause-kept
 returns-clause-kept c =
-    let holds = c.args.self.now.inodes.holds.items in
+    let holds = counts_of c.args.self.now.inodes in
     let tables = table_in c.args.self.now.inodes.tables.items in
     subst (λ (s : State).
     IsKept s holds tables) (sym (returns-clause-counts c))

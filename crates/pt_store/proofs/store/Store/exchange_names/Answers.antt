@@ -1,7 +1,7 @@
 use Rattle.std.proofs.Common.{ap, ◌∙◌, refl}
 use Rattle.std.proofs.lemmas.List.{with_items_is}
 use Rattle.pt_host.specs.declared.ids.Time.{Time}
-use Rattle.pt_node.specs.Numbers.{table_in}
+use Rattle.pt_node.specs.Numbers.{counts_of, table_in}
 use Rattle.pt_rules.specs.NameCalls.{exchanged, with_exchanged}
 use Rattle.pt_node.specs.NewPlace.{seen_place}
 use Rattle.pt_rules.specs.State.{time_of}
@@ -13,7 +13,7 @@ use Rattle.pt_store.proofs.store.Store.exchange_names.Goals as goal
 pub returns-clause-kept : goal.returns-clause-kept
 returns-clause-kept c =
     let state = state_of c.args.self.now in
-    let holds = c.args.self.now.inodes.holds.items in
+    let holds = counts_of c.args.self.now.inodes in
     let tables = table_in c.args.self.now.inodes.tables.items in
     let from = seen_place c.args.from in
     let to = seen_place c.args.to in

@@ -1,19 +1,19 @@
-use Rattle.std.proofs.Common.{◌≡◌, ◌+◌, ap, List, ℕ, ◌∙◌, refl, slice_set, rules}
-use Rattle.std.specs.Prelude.{slice_index}
+use Rattle.std.proofs.Common.{◌≡◌, ap, List, ℕ, ◌∙◌, refl, slice_set, rules}
 use Rattle.std.proofs.lemmas.List.{with_items_is}
 use Rattle.pt_host.specs.declared.ids.Time.{Time}
-use Rattle.pt_node.specs.Numbers.{table_in}
+use Rattle.pt_node.specs.Numbers.{counts_of, table_in}
 use Rattle.pt_rules.specs.NameCalls.{linked, with_linked}
 use Rattle.pt_rules.specs.State.{time_of}
 use Rattle.pt_store.specs.StoreState.{state_of}
+use Rattle.pt_store.proofs.Kept.{once_more}
 use Rattle.pt_store.proofs.KeptLinks.{kept_linked}
-use Rattle.pt_store.proofs.KeptStore.{kept_as, nodes_in}
+use Rattle.pt_store.proofs.KeptStore.{kept_as, nodes_in, same_counts, with_counts}
 use Rattle.pt_store.proofs.store.Store.link_name.Goals as goal
 
 pub returns-clause-kept : goal.returns-clause-kept
 returns-clause-kept c =
     let state = state_of c.args.self.now in
-    let holds = c.args.self.now.inodes.holds.items in
+    let holds = counts_of c.args.self.now.inodes in
     let tables = table_in c.args.self.now.inodes.tables.items in
     let object = c.args.object in
     let name : c.in_ok-name.name.items ≡ c.args.name.now = search rules in
@@ -23,6 +23,8 @@ returns-clause-kept c =
     ∙ ap (linked (time_of state) c.args.dir c.in_ok-name.name.items object) c.deref_mut.ensures.value
     ∙ ap (λ (q : List ℕ). linked (time_of state) c.args.dir q object state.nodes) name in
     kept_as (with_linked state c.args.dir c.args.name.now object) _
-    (slice_set holds object (slice_index holds object + 1)) _ tables _
-    (ap (nodes_in state) nodes) (ap (slice_set holds object) c.in-Some.ensures.1) refl
+    (with_counts (once_more object holds.holds) (once_more object holds.names)) _ tables _
+    (ap (nodes_in state) nodes)
+    (same_counts _ _ _ _ (ap (slice_set holds.holds object) c.in-Some.ensures.1)
+    (ap (slice_set holds.names object) c.in-Some-one_name_more.ensures.1)) refl
     (kept_linked state holds tables c.args.dir c.args.name.now object c.requires.kept c.requires.into c.requires.free c.requires.lives)

@@ -3,7 +3,7 @@ use Rattle.std.proofs.lemmas.Option.{get_or_from_slice_get, slice_get-get_or}
 use Rattle.pt_host.specs.declared.ids.Time.{Time}
 use Rattle.pt_rules.specs.Calls.{with_node}
 use Rattle.pt_rules.specs.ContentCalls.{with_position}
-use Rattle.pt_node.specs.Numbers.{table_in}
+use Rattle.pt_node.specs.Numbers.{counts_of, table_in}
 use Rattle.pt_node.specs.Reading.{after_reading}
 use Rattle.pt_rules.specs.State.{time_of}
 use Rattle.pt_store.specs.StoreState.{state_of}
@@ -17,7 +17,7 @@ use Rattle.pt_store.proofs.store.Store.list_at.Goals as goal
 pub returns-in-Ok-clause-kept : goal.returns-in-Ok-clause-kept
 returns-in-Ok-clause-kept c =
     let state = state_of c.args.self.now in
-    let holds = c.args.self.now.inodes.holds.items in
+    let holds = counts_of c.args.self.now.inodes in
     let tables = table_in c.args.self.now.inodes.tables.items in
     let object = c.in-Some.file.object in
     let node = c.in-Some-get.node.now in
@@ -26,8 +26,9 @@ returns-in-Ok-clause-kept c =
     ∙ slice_get-get_or c.deref.result.now object node lookup.3.0
     ∙ ap (λ (n : Node). Some n) (sym lookup.1) in
     let was = c.index_mut.ensures.value ∙ get_or_from_slice_get state.nodes object node _ there in
-    let nodes = ap (λ (n : Node). slice_set state.nodes object (after_reading c.now-now.result n)) was
-    ∙ ap (λ (now : Time). slice_set state.nodes object (after_reading now node)) c.now-now.ensures in
+    let listed = c.list_to.ensures ∙ ap (after_reading c.now-now.result) was
+    ∙ ap (λ (now : Time). after_reading now node) c.now-now.ensures in
+    let nodes = ap (slice_set state.nodes object) listed in
     let read = with_node state object (after_reading (time_of state) node) in
     kept_as (with_position read c.args.fd.0 c.in-Ok.listed.place) _ holds _ tables _
     (ap (λ (ns : List Node). parts_in state ns c.go_to.new.self) nodes

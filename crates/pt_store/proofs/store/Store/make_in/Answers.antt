@@ -5,7 +5,7 @@ use Rattle.pt_host.specs.Words.{set_at}
 use Rattle.pt_host.specs.declared.ids.Time.{Time}
 use Rattle.pt_rules.specs.Edits.{grown, made, with_made}
 use Rattle.pt_node.specs.Entries.{new_object}
-use Rattle.pt_node.specs.Numbers.{freed, having, table_in}
+use Rattle.pt_node.specs.Numbers.{counts_of, freed, having, table_in}
 use Rattle.pt_node.specs.Slots.{least_free, put_at}
 use Rattle.pt_rules.specs.State.{time_of}
 use Rattle.pt_store.specs.StoreState.{numbers_of, state_of}
@@ -13,13 +13,13 @@ use Rattle.pt_node.specs.declared.node.Node.{Node}
 use Rattle.pt_node.specs.declared.slots.Slot.TheVariants.{Open}
 use Rattle.pt_node.specs.Laws.Updates.{same_function}
 use Rattle.pt_store.proofs.KeptMade.{given, kept_back, kept_made}
-use Rattle.pt_store.proofs.KeptStore.{kept_as, nodes_in}
+use Rattle.pt_store.proofs.KeptStore.{kept_as, nodes_in, same_counts, with_counts}
 use Rattle.pt_store.proofs.store.Store.make_in.Goals as goal
 
 pub returns-in-Ok-add_node-clause-kept : goal.returns-in-Ok-add_node-clause-kept
 returns-in-Ok-add_node-clause-kept c =
     let state = state_of c.args.self.now in
-    let holds = c.args.self.now.inodes.holds.items in
+    let holds = counts_of c.args.self.now.inodes in
     let tables = table_in c.args.self.now.inodes.tables.items in
     let parent = c.in-Some.parent.now in
     let dev = parent.ids.dev in
@@ -46,9 +46,9 @@ returns-in-Ok-add_node-clause-kept c =
     let long = ap length nodes in
     let few : length (with_made state c.args.dir c.args.name.now node).nodes < 2 ^ 63 =
     omega (arith, long, c.add_node.new.nodes.ok.0, c.add_node.new.nodes.ok.1, c.add_node.new.nodes.small) in
-    kept_as (with_made state c.args.dir c.args.name.now node) _ (holds
-    ++ 1 ∷ []) _ (given dev (having (length state.nodes)) tables) _
-    (ap (nodes_in state) nodes) c.in-Ok-add.ensures.holds
+    kept_as (with_made state c.args.dir c.args.name.now node) _
+    (with_counts (holds.holds ++ 1 ∷ []) (holds.names ++ 1 ∷ [])) _ (given dev (having (length state.nodes)) tables) _
+    (ap (nodes_in state) nodes) (same_counts _ _ _ _ c.in-Ok-add.ensures.holds c.in-Ok-add.ensures.names)
     (same_function _ _ c.in-Ok-add.ensures.tables
     ∙ ap (λ (n : ℕ). set_at dev
     (put_at n (Open (having c.len-object.result)) (tables dev)) tables) c.in-Ok-add.ensures.number
@@ -59,14 +59,17 @@ returns-in-Ok-add_node-clause-kept c =
 pub returns-in-Err-clause-kept : goal.returns-in-Err-clause-kept
 returns-in-Err-clause-kept c =
     let state = state_of c.args.self.now in
-    let holds = c.args.self.now.inodes.holds.items in
+    let holds = counts_of c.args.self.now.inodes in
     let tables = table_in c.args.self.now.inodes.tables.items in
     let dev = c.in-Some.parent.now.ids.dev in
     let file = having c.len-object.result in
-    kept_as state _ (take (length (holds ++ 1 ∷ []) - 1) (holds ++ 1 ∷ [])) _
+    kept_as state _ (with_counts (take (length (holds.holds ++ 1 ∷ []) - 1) (holds.holds ++ 1 ∷ []))
+    (take (length (holds.names ++ 1 ∷ []) - 1) (holds.names ++ 1 ∷ []))) _
     (freed dev (least_free (tables dev)) (given dev file tables)) _
     (ap (nodes_in state) c.in-Err.ensures.err)
+    (same_counts _ _ _ _
     (c.take_back.ensures.holds ∙ ap (λ (xs : List ℕ). take (length xs - 1) xs) c.in-Ok-add.ensures.holds)
+    (c.take_back.ensures.names ∙ ap (λ (xs : List ℕ). take (length xs - 1) xs) c.in-Ok-add.ensures.names))
     (same_function _ _ c.take_back.ensures.tables
     ∙ ap (freed dev c.in-Ok-add.number)
     (same_function _ _ c.in-Ok-add.ensures.tables

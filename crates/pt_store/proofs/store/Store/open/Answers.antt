@@ -1,9 +1,8 @@
-use Rattle.std.proofs.Common.{◌+◌, ap, sym, List, ◌∙◌, refl, Some, slice_get, slice_set}
-use Rattle.std.specs.Prelude.{slice_index}
+use Rattle.std.proofs.Common.{ap, sym, List, ◌∙◌, refl, Some, slice_get, slice_set}
 use Rattle.std.proofs.lemmas.Option.{get_or_from_slice_get, slice_get-get_or}
 use Rattle.pt_host.specs.declared.ids.Time.{Time}
 use Rattle.pt_rules.specs.Calls.{begun_on, with_opened}
-use Rattle.pt_node.specs.Numbers.{table_in}
+use Rattle.pt_node.specs.Numbers.{counts_of, table_in}
 use Rattle.pt_node.specs.Opening.{after_opening}
 use Rattle.pt_node.specs.Slots.{put_at}
 use Rattle.pt_rules.specs.State.{time_of}
@@ -12,14 +11,15 @@ use Rattle.pt_node.specs.declared.node.Node.{Node}
 use Rattle.pt_node.specs.declared.slots.OpenFile.{OpenFile}
 use Rattle.pt_node.specs.declared.slots.Slot.{Slot}
 use Rattle.pt_node.specs.declared.slots.Slot.TheVariants.{Open}
+use Rattle.pt_store.proofs.Kept.{once_more}
 use Rattle.pt_store.proofs.KeptEdits.{kept_opened}
-use Rattle.pt_store.proofs.KeptStore.{kept_as, parts_in}
+use Rattle.pt_store.proofs.KeptStore.{kept_as, parts_in, same_counts, with_counts}
 use Rattle.pt_store.proofs.store.Store.open.Goals as goal
 
 pub returns-in-Ok-clause-kept : goal.returns-in-Ok-clause-kept
 returns-in-Ok-clause-kept c =
     let state = state_of c.args.self.now in
-    let holds = c.args.self.now.inodes.holds.items in
+    let holds = counts_of c.args.self.now.inodes in
     let tables = table_in c.args.self.now.inodes.tables.items in
     let object = c.args.object in
     let node = c.in-Some.node.now in
@@ -36,10 +36,10 @@ returns-in-Ok-clause-kept c =
     ∙ ap (λ n. put_at n (Open (begun_on c.args.flags object)) state.slots) c.in-Ok.ensures.fd in
     let nodes = ap (slice_set state.nodes object) opened in
     kept_as (with_opened state c.args.seat.now c.args.flags object node) _
-    (slice_set holds object (slice_index holds object + 1)) _ tables _
+    (with_counts (once_more object holds.holds) holds.names) _ tables _
     (ap (λ (ns : List Node). parts_in state ns c.open.new.self) nodes
     ∙ ap (λ (ss : List Slot).
     parts_in state (slice_set state.nodes object
     (after_opening c.args.seat.now (time_of state) c.args.flags.0 node)) ss) slots)
-    (ap (slice_set holds object) c.in-Some-one_more.ensures.1) refl
+    (same_counts _ _ _ _ (ap (slice_set holds.holds object) c.in-Some-one_more.ensures.1) refl) refl
     (kept_opened state holds tables c.args.seat.now c.args.flags object node c.requires.kept there c.requires.lives)

@@ -10,7 +10,7 @@ use Rattle.pt_host.specs.declared.reply.HostValue.TheVariants as value
 use Rattle.pt_rules.specs.Calls.{begun_on, tells, with_descriptor}
 use Rattle.pt_rules.specs.Edits.{grown, made, with_made}
 use Rattle.pt_node.specs.Entries.{new_object}
-use Rattle.pt_node.specs.Numbers.{freed, having, table_in}
+use Rattle.pt_node.specs.Numbers.{counts_of, freed, having, table_in}
 use Rattle.pt_rules.specs.OpeningCalls.{open_new}
 use Rattle.pt_node.specs.Slots.{least_free, open_at, put_at, taken_back}
 use Rattle.pt_rules.specs.State.{time_of}
@@ -23,7 +23,7 @@ use Rattle.pt_node.specs.declared.slots.Slot.TheVariants.{Open}
 use Rattle.pt_node.specs.Laws.Updates.{same_function}
 use Rattle.pt_store.proofs.KeptLinks.{kept_open_made, last_opened, taken_back-put}
 use Rattle.pt_store.proofs.KeptMade.{given, kept_back}
-use Rattle.pt_store.proofs.KeptStore.{kept_as, parts_in}
+use Rattle.pt_store.proofs.KeptStore.{kept_as, parts_in, same_counts, with_counts}
 use Rattle.pt_store.proofs.store.Store.open_made.Goals as goal
 
 abbrev at_fd : ℕ → Fd
@@ -32,7 +32,7 @@ at_fd n = record { 0 = n }
 pub returns-in-Ok-add_node-clause-kept : goal.returns-in-Ok-add_node-clause-kept
 returns-in-Ok-add_node-clause-kept c =
     let state = state_of c.args.self.now in
-    let holds = c.args.self.now.inodes.holds.items in
+    let holds = counts_of c.args.self.now.inodes in
     let tables = table_in c.args.self.now.inodes.tables.items in
     let seat = c.args.seat.now in
     let flags = c.args.flags in
@@ -69,12 +69,12 @@ returns-in-Ok-add_node-clause-kept c =
     ∙ ap (λ (file : OpenFile). put_at c.in-Ok-open.fd.0 (Open file) state.slots) c.begun_on.ensures
     ∙ ap (λ (n : ℕ). put_at n (Open (begun_on flags c.len-object.result)) state.slots) c.in-Ok-open.ensures.fd
     ∙ ap (λ (o : ℕ). put_at (least_free state.slots) (Open (begun_on flags o)) state.slots) object in
-    kept_as (with_descriptor grows flags (length state.nodes)) _ (slice_set (holds
-    ++ 1 ∷ []) (length state.nodes) 2) _ (given dev (having (length state.nodes)) tables) _
+    kept_as (with_descriptor grows flags (length state.nodes)) _
+    (with_counts (slice_set (holds.holds ++ 1 ∷ []) (length state.nodes) 2) (holds.names ++ 1 ∷ [])) _ (given dev (having (length state.nodes)) tables) _
     (ap (λ (ns : List Node). parts_in state ns c.open.new.self) nodes
     ∙ ap (λ (ss : List Slot). parts_in state grows.nodes ss) slots)
-    (ap (λ (hs : List ℕ). slice_set hs c.len-object.result 2) c.in-Ok-add.ensures.holds
-    ∙ ap (λ (o : ℕ). slice_set (holds ++ 1 ∷ []) o 2) object)
+    (same_counts _ _ _ _ (ap (λ (hs : List ℕ). slice_set hs c.len-object.result 2) c.in-Ok-add.ensures.holds
+    ∙ ap (λ (o : ℕ). slice_set (holds.holds ++ 1 ∷ []) o 2) object) c.in-Ok-add.ensures.names)
     (same_function _ _ c.in-Ok-add.ensures.tables
     ∙ ap (λ (n : ℕ). set_at dev
     (put_at n (Open (having c.len-object.result)) (tables dev)) tables) c.in-Ok-add.ensures.number
@@ -85,7 +85,7 @@ returns-in-Ok-add_node-clause-kept c =
 pub returns-in-Ok-add_node-clause-answers : goal.returns-in-Ok-add_node-clause-answers
 returns-in-Ok-add_node-clause-answers c =
     let state = state_of c.args.self.now in
-    let holds = c.args.self.now.inodes.holds.items in
+    let holds = counts_of c.args.self.now.inodes in
     let tables = table_in c.args.self.now.inodes.tables.items in
     let seat = c.args.seat.now in
     let flags = c.args.flags in
@@ -133,7 +133,7 @@ returns-in-Ok-add_node-clause-answers c =
 pub returns-in-Err-clause-kept : goal.returns-in-Err-clause-kept
 returns-in-Err-clause-kept c =
     let state = state_of c.args.self.now in
-    let holds = c.args.self.now.inodes.holds.items in
+    let holds = counts_of c.args.self.now.inodes in
     let tables = table_in c.args.self.now.inodes.tables.items in
     let dev = c.in-Some.parent.now.ids.dev in
     let file = having c.len-object.result in
@@ -143,11 +143,14 @@ returns-in-Err-clause-kept c =
     ∙ ap (λ (n : ℕ). taken_back n (length state.slots)
     (put_at n (Open c.begun_on.result) state.slots)) c.in-Ok-open.ensures.fd
     ∙ taken_back-put state.slots c.begun_on.result in
-    kept_as state _ (take (length (holds ++ 1 ∷ []) - 1) (holds ++ 1 ∷ [])) _
+    kept_as state _ (with_counts (take (length (holds.holds ++ 1 ∷ []) - 1) (holds.holds ++ 1 ∷ []))
+    (take (length (holds.names ++ 1 ∷ []) - 1) (holds.names ++ 1 ∷ []))) _
     (freed dev (least_free (tables dev)) (given dev file tables)) _
     (ap (λ (ns : List Node). parts_in state ns c.take_back-in-Err-2.new.self) c.in-Err.ensures.err
     ∙ ap (parts_in state state.nodes) slots)
+    (same_counts _ _ _ _
     (c.take_back-in-Err.ensures.holds ∙ ap (λ (xs : List ℕ). take (length xs - 1) xs) c.in-Ok-add.ensures.holds)
+    (c.take_back-in-Err.ensures.names ∙ ap (λ (xs : List ℕ). take (length xs - 1) xs) c.in-Ok-add.ensures.names))
     (same_function _ _ c.take_back-in-Err.ensures.tables
     ∙ ap (freed dev c.in-Ok-add.number)
     (same_function _ _ c.in-Ok-add.ensures.tables
@@ -182,7 +185,7 @@ take_back-requires-in-Err-2 c =
 pub returns-in_default-add-clause-kept : goal.returns-in_default-add-clause-kept
 returns-in_default-add-clause-kept c =
     let state = state_of c.args.self.now in
-    let holds = c.args.self.now.inodes.holds.items in
+    let holds = counts_of c.args.self.now.inodes in
     let tables = table_in c.args.self.now.inodes.tables.items in
     let slots = c.take_back.ensures
     ∙ ap (λ (n : ℕ). taken_back c.in-Ok-open.fd.0 n c.open.new.self) c.len-length.ensures
@@ -190,7 +193,8 @@ returns-in_default-add-clause-kept c =
     ∙ ap (λ (n : ℕ). taken_back n (length state.slots)
     (put_at n (Open c.begun_on.result) state.slots)) c.in-Ok-open.ensures.fd
     ∙ taken_back-put state.slots c.begun_on.result in
-    kept_as state _ holds _ tables _ (ap (parts_in state state.nodes) slots) c.in_default-add.ensures.same_holds
+    kept_as state _ holds _ tables _ (ap (parts_in state state.nodes) slots)
+    (same_counts _ _ _ _ c.in_default-add.ensures.same_holds c.in_default-add.ensures.same_names)
     (same_function _ _ c.in_default-add.ensures.same_tables) c.requires.kept
 
 pub returns-in_default-add-clause-answers : goal.returns-in_default-add-clause-answers

@@ -7,7 +7,7 @@ use Rattle.pt_host.specs.declared.reply.HostReply.TheVariants as reply
 use Rattle.pt_host.specs.declared.reply.HostValue.TheVariants as value
 use Rattle.pt_rules.specs.ContentCalls.{seek_checks, sought, with_position}
 use Rattle.pt_node.specs.Opening.{first_refusal}
-use Rattle.pt_node.specs.Numbers.{table_in}
+use Rattle.pt_node.specs.Numbers.{counts_of, table_in}
 use Rattle.pt_store.specs.StoreState.{state_of}
 use Rattle.pt_node.specs.declared.node.Node.{Node}
 use Rattle.pt_node.specs.declared.slots.Slot.{Slot}
@@ -19,7 +19,7 @@ use Rattle.pt_store.proofs.store.Store.seek.Goals as goal
 pub returns-in-Ok-clause-kept : goal.returns-in-Ok-clause-kept
 returns-in-Ok-clause-kept c =
     let state = state_of c.args.self.now in
-    let holds = c.args.self.now.inodes.holds.items in
+    let holds = counts_of c.args.self.now.inodes in
     let tables = table_in c.args.self.now.inodes.tables.items in
     kept_as (with_position state c.args.fd.0 c.in-Ok.position) _ holds _ tables _
     (ap (λ (slots : List Slot). parts_in state state.nodes slots) c.go_to.ensures) refl refl

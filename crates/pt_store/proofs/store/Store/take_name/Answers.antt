@@ -1,20 +1,21 @@
-use Rattle.std.proofs.Common.{ap, List, ◌∙◌}
+use Rattle.std.proofs.Common.{ap, ℕ, List, ◌∙◌}
 use Rattle.std.proofs.lemmas.List.{with_items_is}
 use Rattle.pt_host.specs.declared.ids.Time.{Time}
 use Rattle.pt_rules.specs.Edits.{unlinked, with_unlinked}
-use Rattle.pt_node.specs.Numbers.{given_up, released, table_in}
+use Rattle.pt_node.specs.Numbers.{counts_of, given_up, released, table_in}
 use Rattle.pt_rules.specs.State.{time_of}
 use Rattle.pt_store.specs.StoreState.{device_at, number_at, state_of}
+use Rattle.pt_node.specs.declared.inodes.NumberTable.{NumberTable}
 use Rattle.pt_node.specs.declared.node.Node.{Node}
 use Rattle.pt_node.specs.Laws.Updates.{same_function}
 use Rattle.pt_store.proofs.KeptEdits.{kept_unlinked}
-use Rattle.pt_store.proofs.KeptStore.{kept_as, nodes_in}
+use Rattle.pt_store.proofs.KeptStore.{kept_as, nodes_in, same_counts, with_counts}
 use Rattle.pt_store.proofs.store.Store.take_name.Goals as goal
 
 pub returns-clause-kept : goal.returns-clause-kept
 returns-clause-kept c =
     let state = state_of c.args.self.now in
-    let holds = c.args.self.now.inodes.holds.items in
+    let holds = counts_of c.args.self.now.inodes in
     let tables = table_in c.args.self.now.inodes.tables.items in
     let nodes = c.unlink.ensures
     ∙ ap (λ (now : Time).
@@ -23,11 +24,18 @@ returns-clause-kept c =
     let dev = c.device_at-dev.ensures ∙ ap (λ (ns : List Node). device_at ns c.args.object) c.deref.ensures.value in
     let number = c.number_at-number.ensures
     ∙ ap (λ (ns : List Node). number_at ns c.args.object) c.deref-2.ensures.value in
-    kept_as (with_unlinked state c.args.dir c.args.name.now c.args.object) _ (released c.args.object holds) _
-    (given_up (device_at state.nodes c.args.object) (number_at state.nodes c.args.object) c.args.object holds tables) _
+    kept_as (with_unlinked state c.args.dir c.args.name.now c.args.object) _
+    (with_counts (released c.args.object holds.holds) (released c.args.object holds.names)) _
+    (given_up (device_at state.nodes c.args.object) (number_at state.nodes c.args.object) c.args.object holds.holds tables) _
     (ap (nodes_in state) (with_items_is c.args.self.now.nodes c.unlink.new.nodes (c.unlink.auto.nodes
-    ∙ c.deref_mut.ensures.len) ∙ nodes)) c.release.ensures.holds
+    ∙ c.deref_mut.ensures.len) ∙ nodes))
+    (same_counts _ _ _ _ (c.release.ensures.holds ∙ ap (released c.args.object) c.lose_name.ensures.holds)
+    (c.release.ensures.names ∙ c.lose_name.ensures.names))
     (same_function _ _ c.release.ensures.tables
-    ∙ ap (λ n. given_up n c.number_at-number.result c.args.object holds tables) dev
-    ∙ ap (λ n. given_up (device_at state.nodes c.args.object) n c.args.object holds tables) number)
+    ∙ ap (λ (hs : List ℕ). given_up c.device_at-dev.result c.number_at-number.result c.args.object hs
+    (table_in c.lose_name.new.self.tables.items)) c.lose_name.ensures.holds
+    ∙ ap (λ (ts : List NumberTable). given_up c.device_at-dev.result c.number_at-number.result c.args.object holds.holds
+    (table_in ts)) c.lose_name.ensures.tables
+    ∙ ap (λ n. given_up n c.number_at-number.result c.args.object holds.holds tables) dev
+    ∙ ap (λ n. given_up (device_at state.nodes c.args.object) n c.args.object holds.holds tables) number)
     (kept_unlinked state holds tables c.args.dir c.args.name.now c.args.object c.requires.kept c.requires.leads)

@@ -12,6 +12,7 @@ use Rattle.pt_node.specs.declared.node.Node.{Node}
 use Rattle.pt_node.specs.declared.slots.Slot.{Slot}
 use Rattle.pt_node.specs.declared.slots.Slot.TheVariants.{Open}
 use Rattle.pt_node.specs.Laws.Updates.{same_function}
+use Rattle.pt_store.proofs.KeptStore.{same_counts, with_counts}
 use Rattle.pt_store.proofs.StartKept.{started_as}
 use Rattle.pt_store.proofs.StartRoot.{root_tables, started_root}
 use Rattle.pt_store.proofs.store.Store.with_root.Goals as goal
@@ -34,12 +35,14 @@ returns-clause-starting c =
     with_mount id (record { parent = 0; dev = dev; path = p }) c.new-mounts.result) c.in_ok-copy.ensures
     ∙ ap (with_mount id (record { parent = 0; dev = dev; path = path })) c.new-mounts.ensures in
     let state = mounted (start_with root) 0 id dev path in
-    started_as state _ (1 ∷ []) _ (root_tables id dev path c.args.handles) _
+    started_as state _ (with_counts (1 ∷ []) (0 ∷ [])) _ (root_tables id dev path c.args.handles) _
     (ap (λ (ns : List Node). in_all ns c.in_ok-new.field-0 c.insert.new.self c.new-2.result) nodes
     ∙ ap (λ (ss : List Slot). in_all (root ∷ []) ss c.insert.new.self c.new-2.result) c.in_ok-new.ensures
     ∙ ap (λ (ms : List (ℕ × Mount)). in_all (root ∷ []) no_files ms c.new-2.result) mounts
     ∙ ap (λ (ps : List (ℕ × Errno)). in_all (root ∷ []) no_files state.mounts ps) c.new-2.ensures)
+    (same_counts _ _ _ _
     (c.in_ok-add.ensures.holds ∙ ap (λ (hs : List ℕ). hs ++ 1 ∷ []) c.new-inodes.ensures.holds)
+    (c.in_ok-add.ensures.names ∙ ap (λ (ns : List ℕ). ns ++ 0 ∷ []) c.new-inodes.ensures.names))
     (same_function _ _ c.in_ok-add.ensures.tables
     ∙ ap (λ (n : ℕ). set_at dev (put_at n (Open (having 0)) (table_in c.new-inodes.result.tables.items dev))
     (table_in c.new-inodes.result.tables.items)) c.in_ok-add.ensures.number

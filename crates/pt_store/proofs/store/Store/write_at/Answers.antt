@@ -3,7 +3,7 @@ use Rattle.std.proofs.lemmas.List.{with_items_is}
 use Rattle.pt_host.specs.declared.ids.Time.{Time}
 use Rattle.pt_rules.specs.Edits.{with_rewritten}
 use Rattle.pt_node.specs.Entries.{changed_at, rewritten}
-use Rattle.pt_node.specs.Numbers.{table_in}
+use Rattle.pt_node.specs.Numbers.{counts_of, table_in}
 use Rattle.pt_rules.specs.State.{time_of}
 use Rattle.pt_store.specs.StoreState.{state_of}
 use Rattle.pt_store.proofs.KeptEdits.{kept_rewritten}
@@ -13,7 +13,7 @@ use Rattle.pt_store.proofs.store.Store.write_at.Goals as goal
 pub returns-in-Ok-clause-kept : goal.returns-in-Ok-clause-kept
 returns-in-Ok-clause-kept c =
     let state = state_of c.args.self.now in
-    let holds = c.args.self.now.inodes.holds.items in
+    let holds = counts_of c.args.self.now.inodes in
     let tables = table_in c.args.self.now.inodes.tables.items in
     let object = c.in-Some.object in
     let nodes = with_items_is c.args.self.now.nodes c.rewrite.new.nodes (c.rewrite.auto.nodes ∙ c.deref_mut.ensures.len)

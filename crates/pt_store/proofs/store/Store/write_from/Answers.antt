@@ -5,7 +5,7 @@ use Rattle.pt_host.specs.declared.ids.Time.{Time}
 use Rattle.pt_rules.specs.Calls.{with_node}
 use Rattle.pt_node.specs.Changes.{refilled}
 use Rattle.pt_rules.specs.ContentCalls.{written}
-use Rattle.pt_node.specs.Numbers.{table_in}
+use Rattle.pt_node.specs.Numbers.{counts_of, table_in}
 use Rattle.pt_rules.specs.State.{time_of}
 use Rattle.pt_store.specs.StoreState.{state_of}
 use Rattle.pt_node.specs.declared.node.Node.{Node}
@@ -37,7 +37,7 @@ returns-clause-ok c =
 pub returns-clause-kept : goal.returns-clause-kept
 returns-clause-kept c =
     let state = state_of c.args.self.now in
-    let holds = c.args.self.now.inodes.holds.items in
+    let holds = counts_of c.args.self.now.inodes in
     let tables = table_in c.args.self.now.inodes.tables.items in
     let object = c.args.object in
     let node = c.in-Some.node.now in

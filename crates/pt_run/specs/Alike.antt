@@ -1,0 +1,48 @@
+-- Believed. The bytes of a report tell the run.
+use Rattle.std.specs.Prelude.{◌≡◌, ℕ, List, Option}
+use Rattle.pt_session.specs.Tables.{Tables}
+use Rattle.pt_rules.specs.State.{State}
+use Rattle.pt_tree.specs.Listing.{listing_of}
+use Rattle.pt_iface.specs.declared.answer.Answer.{Answer}
+use Rattle.pt_fs.specs.Determined.{FoundMemory}
+use Rattle.pt_fs.specs.declared.trace.TraceStep.{TraceStep}
+use Rattle.pt_run.specs.Run.{IsReportOf, IsReportFrom, report_of}
+
+-- The runs are alike in all that is printed of them: their steps in order, answers, live numbers and handles, the slots
+-- that are left, and the listing of the host's tree.
+pub record AreAlike {bytes report bytes' report' : List ℕ} (ran : IsReportOf bytes report)
+    (again : IsReportOf bytes' report') : Type 0 where
+  pub traces : ran.trace ≡ again.trace
+  pub answers : ran.answers ≡ again.answers
+  pub lives : ran.lives ≡ again.lives
+  pub handles : ran.handles ≡ again.handles
+  pub slots : ran.tables.slots ≡ again.tables.slots
+  pub listings : listing_of ran.host ≡ listing_of again.host
+
+-- two runs with one report are alike, be they of one script or of two
+abbrev pub ReportsDetermineRuns : Type 0
+ReportsDetermineRuns =
+    (bytes bytes' report : List ℕ) (ran : IsReportOf bytes report) (again : IsReportOf bytes' report) →
+    AreAlike ran again
+
+-- these bytes are a report's, and no reply and no answer in their lines tells that memory ran out
+pub record IsFullReport (report : List ℕ) : Type 0 where
+  pub trace : List TraceStep
+  pub answers : List Answer
+  pub lives : List (ℕ × ℕ)
+  pub handles : List (ℕ × ℕ)
+  pub tables : Tables
+  pub host : State
+  pub text : report ≡ report_of trace answers lives handles tables host
+  pub memory : FoundMemory trace answers
+
+-- what the bytes of its report tell of a run
+pub record IsToldBy {bytes report : List ℕ} (ran : IsReportOf bytes report) : Type 0 where
+  -- each run with this report is this run, as far as is printed
+  pub run : (bytes' : List ℕ) (again : IsReportOf bytes' report) → AreAlike ran again
+  -- where both say of no want of memory, the script has no other report
+  pub only : IsFullReport report → (other : List ℕ) → IsReportOf bytes other → IsFullReport other → other ≡ report
+
+-- so it is with each run of what was read from here
+unfoldable pub TellsRun : Option (List ℕ) → Type 0
+TellsRun left = (report : List ℕ) (from : IsReportFrom left report) → IsToldBy from.3

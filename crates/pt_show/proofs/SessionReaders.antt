@@ -1,0 +1,264 @@
+-- The texts of the events of the tables and of their replies are read back.
+use Rattle.std.proofs.Common.{◌≡◌, ℕ, Bool, List, [], ◌∷◌, ◌++◌, Option, Some, refl}
+use Rattle.std.specs.Prelude.{codes}
+use Rattle.pt_host.specs.declared.ids.Fd.{Fd}
+use Rattle.pt_host.specs.declared.ids.ObjIds.{ObjIds}
+use Rattle.pt_host.specs.declared.handle.FileHandle.{FileHandle}
+use Rattle.pt_session.specs.declared.form.RowForm.{RowForm}
+use Rattle.pt_session.specs.declared.form.RowForm.TheVariants as form
+use Rattle.pt_session.specs.declared.form.Negotiated.{Negotiated}
+use Rattle.pt_session.specs.declared.event.KeptEvent.{KeptEvent}
+use Rattle.pt_session.specs.declared.event.KeptEvent.TheVariants as event
+use Rattle.pt_session.specs.declared.reply.EventRefusal.{EventRefusal}
+use Rattle.pt_session.specs.declared.reply.EventRefusal.TheVariants as refusal
+use Rattle.pt_session.specs.declared.reply.EventReply.{EventReply}
+use Rattle.pt_session.specs.declared.reply.EventReply.TheVariants as reply
+use Rattle.pt_show.specs.SessionTexts.{form_text, row_text, negotiated_text, pair_text, event_text, refusal_text}
+use Rattle.pt_show.specs.SessionTexts.{event_reply_text}
+use Rattle.pt_show.specs.Laws.{IsParted}
+use Rattle.pt_show.proofs.Readers.{Reads, nothing, both, along, options, lists, Kind, kind, read_kinds, named}
+use Rattle.pt_show.proofs.PlainTexts.{numbers, switches}
+use Rattle.pt_show.proofs.HostReaders.{fds, obj_ids, handles}
+
+-- forms of rows
+abbrev pub form_kinds : List (Kind RowForm)
+form_kinds =
+    kind (codes "File") fds (λ (a : Fd). form.File a)
+    ∷ []
+
+pub form-back : (value : RowForm) (rest : List ℕ) → IsParted rest →
+    read_kinds form_kinds (form_text value ++ rest) ≡ Some (value, rest)
+form-back (form.File fd) rest p =
+    named form_kinds (codes "File") fds (λ (a : Fd). form.File a) refl (λ _. refl) fd rest p
+
+form-parted : (value : RowForm) (rest : List ℕ) → IsParted (form_text value ++ rest)
+form-parted (form.File fd) rest = refl
+
+pub forms : Reads form_text
+forms = record {
+  read = read_kinds form_kinds;
+  back = form-back;
+  parted = λ value rest p. form-parted value rest;
+}
+
+pub agreements : Reads negotiated_text
+agreements =
+    along (both (both (both switches switches) switches) switches)
+    (λ (f : ((Bool × Bool) × Bool) × Bool). record {
+      writeback = f.0.0.0;
+      announce_submounts = f.0.0.1;
+      posix_acl =
+          f.0.1;
+      sup_group = f.1;
+    })
+    (λ (value : Negotiated). (((value.writeback, value.announce_submounts), value.posix_acl), value.sup_group))
+    (λ value. refl)
+
+pub pairs : Reads pair_text
+pairs = both numbers numbers
+
+-- what a row keeps
+pub rows : Reads (λ (row : (RowForm × ObjIds) × ℕ). row_text row.0.0 row.0.1 row.1)
+rows = both (both forms obj_ids) numbers
+
+-- events
+abbrev pub event_kinds : List (Kind KeptEvent)
+event_kinds =
+    kind (codes "Begin") nothing (λ (none : Unit {0}). event.Begin)
+    ∷ kind (codes "Resolve") numbers (λ (a : ℕ). event.Resolve a)
+    ∷ kind (codes "Unpin") numbers (λ (a : ℕ). event.Unpin a)
+    ∷ kind (codes "Claim") (both (both numbers (options handles)) obj_ids)
+    (λ (f : (ℕ × Option FileHandle) × ObjIds). event.Claim f.0.0 f.0.1 f.1)
+    ∷ kind (codes "TakeFd") nothing (λ (none : Unit {0}). event.TakeFd)
+    ∷ kind (codes "GiveFd") nothing (λ (none : Unit {0}). event.GiveFd)
+    ∷ kind (codes "DrawNode") nothing (λ (none : Unit {0}). event.DrawNode)
+    ∷ kind (codes "Insert") (both (both numbers numbers) rows) (λ (f : (ℕ × ℕ) × ((RowForm × ObjIds) × ℕ)).
+    event.Insert f.0.0 f.0.1 f.1.0.0 f.1.0.1 f.1.1)
+    ∷ kind (codes "InsertRoot") (both (both numbers rows) (options agreements))
+    (λ (f : (ℕ × ((RowForm × ObjIds) × ℕ)) × Option Negotiated). event.InsertRoot f.0.0 f.0.1.0.0 f.0.1.0.1 f.0.1.1
+    f.1)
+    ∷ kind (codes "Forget") (lists numbers pairs) (λ (a : List (ℕ × ℕ)). event.Forget a)
+    ∷ kind (codes "GiveBack") (both numbers numbers) (λ (f : ℕ × ℕ). event.GiveBack f.0 f.1)
+    ∷ kind (codes "DrawHandle") nothing (λ (none : Unit {0}). event.DrawHandle)
+    ∷ kind (codes "InsertHandle") (both (both (both numbers numbers) numbers) fds)
+    (λ (f : ((ℕ × ℕ) × ℕ) × Fd). event.InsertHandle f.0.0.0 f.0.0.1 f.0.1 f.1)
+    ∷ kind (codes "PinHandle") (both numbers numbers) (λ (f : ℕ × ℕ). event.PinHandle f.0 f.1)
+    ∷ kind (codes "UnpinHandle") numbers (λ (a : ℕ). event.UnpinHandle a)
+    ∷ kind (codes "Release") (both numbers numbers) (λ (f : ℕ × ℕ). event.Release f.0 f.1)
+    ∷ kind (codes "Clear") nothing (λ (none : Unit {0}). event.Clear)
+    ∷ kind (codes "TakeClosing") nothing (λ (none : Unit {0}). event.TakeClosing)
+    ∷ []
+
+pub event-back : (value : KeptEvent) (rest : List ℕ) → IsParted rest →
+    read_kinds event_kinds (event_text value ++ rest) ≡ Some (value, rest)
+event-back event.Begin rest p =
+    named event_kinds (codes "Begin") nothing (λ (none : Unit {0}). event.Begin) refl (λ _. refl) tt rest p
+event-back (event.Resolve number) rest p =
+    named event_kinds (codes "Resolve") numbers (λ (a : ℕ). event.Resolve a) refl (λ _. refl) number rest p
+event-back (event.Unpin row) rest p =
+    named event_kinds (codes "Unpin") numbers (λ (a : ℕ). event.Unpin a) refl (λ _. refl) row rest p
+event-back (event.Claim era handle ids) rest p =
+    named event_kinds (codes "Claim") (both (both numbers (options handles)) obj_ids)
+    (λ (f : (ℕ × Option FileHandle) × ObjIds). event.Claim f.0.0 f.0.1 f.1) refl (λ _. refl) ((era, handle), ids)
+    rest p
+event-back event.TakeFd rest p =
+    named event_kinds (codes "TakeFd") nothing (λ (none : Unit {0}). event.TakeFd) refl (λ _. refl) tt rest p
+event-back event.GiveFd rest p =
+    named event_kinds (codes "GiveFd") nothing (λ (none : Unit {0}). event.GiveFd) refl (λ _. refl) tt rest p
+event-back event.DrawNode rest p =
+    named event_kinds (codes "DrawNode") nothing (λ (none : Unit {0}). event.DrawNode) refl (λ _. refl) tt rest p
+event-back (event.Insert era number form ids mode) rest p =
+    named event_kinds (codes "Insert") (both (both numbers numbers) rows)
+    (λ (f : (ℕ × ℕ) × ((RowForm × ObjIds) × ℕ)). event.Insert f.0.0 f.0.1 f.1.0.0 f.1.0.1 f.1.1) refl (λ _. refl)
+    ((era, number), ((form, ids), mode)) rest p
+event-back (event.InsertRoot era form ids mode negotiated) rest p =
+    named event_kinds (codes "InsertRoot") (both (both numbers rows) (options agreements))
+    (λ (f : (ℕ × ((RowForm × ObjIds) × ℕ)) × Option Negotiated). event.InsertRoot f.0.0 f.0.1.0.0 f.0.1.0.1 f.0.1.1
+    f.1) refl (λ _. refl) ((era, ((form, ids), mode)), negotiated) rest p
+event-back (event.Forget list) rest p =
+    named event_kinds (codes "Forget") (lists numbers pairs) (λ (a : List (ℕ × ℕ)). event.Forget a) refl (λ _. refl)
+    list rest p
+event-back (event.GiveBack era number) rest p =
+    named event_kinds (codes "GiveBack") (both numbers numbers) (λ (f : ℕ × ℕ). event.GiveBack f.0 f.1) refl
+    (λ _. refl) (era, number) rest p
+event-back event.DrawHandle rest p =
+    named event_kinds (codes "DrawHandle") nothing (λ (none : Unit {0}). event.DrawHandle) refl (λ _. refl) tt rest p
+event-back (event.InsertHandle era handle number fd) rest p =
+    named event_kinds (codes "InsertHandle") (both (both (both numbers numbers) numbers) fds)
+    (λ (f : ((ℕ × ℕ) × ℕ) × Fd). event.InsertHandle f.0.0.0 f.0.0.1 f.0.1 f.1) refl (λ _. refl)
+    (((era, handle), number), fd) rest p
+event-back (event.PinHandle handle number) rest p =
+    named event_kinds (codes "PinHandle") (both numbers numbers) (λ (f : ℕ × ℕ). event.PinHandle f.0 f.1) refl
+    (λ _. refl) (handle, number) rest p
+event-back (event.UnpinHandle row) rest p =
+    named event_kinds (codes "UnpinHandle") numbers (λ (a : ℕ). event.UnpinHandle a) refl (λ _. refl) row rest p
+event-back (event.Release handle number) rest p =
+    named event_kinds (codes "Release") (both numbers numbers) (λ (f : ℕ × ℕ). event.Release f.0 f.1) refl
+    (λ _. refl) (handle, number) rest p
+event-back event.Clear rest p =
+    named event_kinds (codes "Clear") nothing (λ (none : Unit {0}). event.Clear) refl (λ _. refl) tt rest p
+event-back event.TakeClosing rest p =
+    named event_kinds (codes "TakeClosing") nothing (λ (none : Unit {0}). event.TakeClosing) refl (λ _. refl) tt rest
+    p
+
+event-parted : (value : KeptEvent) (rest : List ℕ) → IsParted (event_text value ++ rest)
+event-parted event.Begin rest = refl
+event-parted other rest = refl
+
+pub events : Reads event_text
+events = record {
+  read = read_kinds event_kinds;
+  back = event-back;
+  parted = λ value rest p. event-parted value rest;
+}
+
+-- why an event is refused
+abbrev pub refusal_kinds : List (Kind EventRefusal)
+refusal_kinds =
+    kind (codes "NotLive") nothing (λ (none : Unit {0}). refusal.NotLive)
+    ∷ kind (codes "Overtaken") nothing (λ (none : Unit {0}). refusal.Overtaken)
+    ∷ kind (codes "NoSlot") nothing (λ (none : Unit {0}). refusal.NoSlot)
+    ∷ kind (codes "Last") nothing (λ (none : Unit {0}). refusal.Last)
+    ∷ kind (codes "Live") nothing (λ (none : Unit {0}). refusal.Live)
+    ∷ kind (codes "Memory") nothing (λ (none : Unit {0}). refusal.Memory)
+    ∷ []
+
+pub refusal-back : (value : EventRefusal) (rest : List ℕ) → IsParted rest →
+    read_kinds refusal_kinds (refusal_text value ++ rest) ≡ Some (value, rest)
+refusal-back refusal.NotLive rest p =
+    named refusal_kinds (codes "NotLive") nothing (λ (none : Unit {0}). refusal.NotLive) refl (λ _. refl) tt rest p
+refusal-back refusal.Overtaken rest p =
+    named refusal_kinds (codes "Overtaken") nothing (λ (none : Unit {0}). refusal.Overtaken) refl (λ _. refl) tt rest
+    p
+refusal-back refusal.NoSlot rest p =
+    named refusal_kinds (codes "NoSlot") nothing (λ (none : Unit {0}). refusal.NoSlot) refl (λ _. refl) tt rest p
+refusal-back refusal.Last rest p =
+    named refusal_kinds (codes "Last") nothing (λ (none : Unit {0}). refusal.Last) refl (λ _. refl) tt rest p
+refusal-back refusal.Live rest p =
+    named refusal_kinds (codes "Live") nothing (λ (none : Unit {0}). refusal.Live) refl (λ _. refl) tt rest p
+refusal-back refusal.Memory rest p =
+    named refusal_kinds (codes "Memory") nothing (λ (none : Unit {0}). refusal.Memory) refl (λ _. refl) tt rest p
+
+refusal-parted : (value : EventRefusal) (rest : List ℕ) → IsParted (refusal_text value ++ rest)
+refusal-parted refusal.NotLive rest = refl
+refusal-parted other rest = refl
+
+pub refusals : Reads refusal_text
+refusals = record {
+  read = read_kinds refusal_kinds;
+  back = refusal-back;
+  parted = λ value rest p. refusal-parted value rest;
+}
+
+pub refusals-read : (text : List ℕ) → refusals.read text ≡ read_kinds refusal_kinds text
+unfolding refusals
+refusals-read text = refl
+
+-- replies
+abbrev pub event_reply_kinds : List (Kind EventReply)
+event_reply_kinds =
+    kind (codes "Began") (both numbers agreements) (λ (f : ℕ × Negotiated). reply.Began f.0 f.1)
+    ∷ kind (codes "Resolved") (both numbers rows) (λ (f : ℕ × ((RowForm × ObjIds) × ℕ)). reply.Resolved f.0 f.1.0.0
+    f.1.0.1 f.1.1)
+    ∷ kind (codes "Done") numbers (λ (a : ℕ). reply.Done a)
+    ∷ kind (codes "Claimed") numbers (λ (a : ℕ). reply.Claimed a)
+    ∷ kind (codes "Absent") nothing (λ (none : Unit {0}). reply.Absent)
+    ∷ kind (codes "Taken") nothing (λ (none : Unit {0}). reply.Taken)
+    ∷ kind (codes "Given") nothing (λ (none : Unit {0}). reply.Given)
+    ∷ kind (codes "Drawn") numbers (λ (a : ℕ). reply.Drawn a)
+    ∷ kind (codes "Inserted") numbers (λ (a : ℕ). reply.Inserted a)
+    ∷ kind (codes "Found") numbers (λ (a : ℕ). reply.Found a)
+    ∷ kind (codes "Closing") (both fds switches) (λ (f : Fd × Bool). reply.Closing f.0 f.1)
+    ∷ kind (codes "Pinned") (both numbers fds) (λ (f : ℕ × Fd). reply.Pinned f.0 f.1)
+    ∷ kind (codes "Cleared") (both numbers numbers) (λ (f : ℕ × ℕ). reply.Cleared f.0 f.1)
+    ∷ kind (codes "Refused") refusals (λ (a : EventRefusal). reply.Refused a)
+    ∷ []
+
+pub event_reply-back : (value : EventReply) (rest : List ℕ) → IsParted rest →
+    read_kinds event_reply_kinds (event_reply_text value ++ rest) ≡ Some (value, rest)
+event_reply-back (reply.Began era negotiated) rest p =
+    named event_reply_kinds (codes "Began") (both numbers agreements) (λ (f : ℕ × Negotiated). reply.Began f.0 f.1)
+    refl (λ _. refl) (era, negotiated) rest p
+event_reply-back (reply.Resolved row form ids mode) rest p =
+    named event_reply_kinds (codes "Resolved") (both numbers rows)
+    (λ (f : ℕ × ((RowForm × ObjIds) × ℕ)). reply.Resolved f.0 f.1.0.0 f.1.0.1 f.1.1) refl (λ _. refl)
+    (row, ((form, ids), mode)) rest p
+event_reply-back (reply.Done closings) rest p =
+    named event_reply_kinds (codes "Done") numbers (λ (a : ℕ). reply.Done a) refl (λ _. refl) closings rest p
+event_reply-back (reply.Claimed number) rest p =
+    named event_reply_kinds (codes "Claimed") numbers (λ (a : ℕ). reply.Claimed a) refl (λ _. refl) number rest p
+event_reply-back reply.Absent rest p =
+    named event_reply_kinds (codes "Absent") nothing (λ (none : Unit {0}). reply.Absent) refl (λ _. refl) tt rest p
+event_reply-back reply.Taken rest p =
+    named event_reply_kinds (codes "Taken") nothing (λ (none : Unit {0}). reply.Taken) refl (λ _. refl) tt rest p
+event_reply-back reply.Given rest p =
+    named event_reply_kinds (codes "Given") nothing (λ (none : Unit {0}). reply.Given) refl (λ _. refl) tt rest p
+event_reply-back (reply.Drawn number) rest p =
+    named event_reply_kinds (codes "Drawn") numbers (λ (a : ℕ). reply.Drawn a) refl (λ _. refl) number rest p
+event_reply-back (reply.Inserted number) rest p =
+    named event_reply_kinds (codes "Inserted") numbers (λ (a : ℕ). reply.Inserted a) refl (λ _. refl) number rest p
+event_reply-back (reply.Found number) rest p =
+    named event_reply_kinds (codes "Found") numbers (λ (a : ℕ). reply.Found a) refl (λ _. refl) number rest p
+event_reply-back (reply.Closing fd slot) rest p =
+    named event_reply_kinds (codes "Closing") (both fds switches) (λ (f : Fd × Bool). reply.Closing f.0 f.1) refl
+    (λ _. refl) (fd, slot) rest p
+event_reply-back (reply.Pinned row fd) rest p =
+    named event_reply_kinds (codes "Pinned") (both numbers fds) (λ (f : ℕ × Fd). reply.Pinned f.0 f.1) refl
+    (λ _. refl) (row, fd) rest p
+event_reply-back (reply.Cleared era closings) rest p =
+    named event_reply_kinds (codes "Cleared") (both numbers numbers) (λ (f : ℕ × ℕ). reply.Cleared f.0 f.1) refl
+    (λ _. refl) (era, closings) rest p
+event_reply-back (reply.Refused why) rest p =
+    named event_reply_kinds (codes "Refused") refusals (λ (a : EventRefusal). reply.Refused a) refl (λ _. refl) why
+    rest p
+
+event_reply-parted : (value : EventReply) (rest : List ℕ) → IsParted (event_reply_text value ++ rest)
+event_reply-parted (reply.Began era negotiated) rest = refl
+event_reply-parted other rest = refl
+
+pub event_replies : Reads event_reply_text
+event_replies = record {
+  read = read_kinds event_reply_kinds;
+  back = event_reply-back;
+  parted = λ value rest p. event_reply-parted value rest;
+}

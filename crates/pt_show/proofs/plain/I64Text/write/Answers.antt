@@ -1,0 +1,9 @@
+use Rattle.std.proofs.Common.{◌≡◌, ℕ, List, ◌∷◌, ◌++◌, OnOk, subst, sym, arith}
+use Rattle.std.proofs.lemmas.Grind.{common_steps}
+use Rattle.pt_show.proofs.PlainTexts.{signed_digits_are_decimal}
+use Rattle.pt_show.proofs.plain.I64Text.write.Goals as goal
+
+pub returns : goal.returns
+returns c =
+    subst (λ (text : List ℕ). OnOk c.push_signed.result (c.push_signed.new.out.items ≡ c.args.out.now.items ++ (32 ∷ text)))
+    (sym (signed_digits_are_decimal c.args.self.now (omega arith))) (grind (arith, common_steps))
