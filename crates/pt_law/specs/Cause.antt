@@ -14,7 +14,7 @@ use Rattle.pt_iface.specs.declared.request.Request.{Request}
 use Rattle.pt_iface.specs.declared.request.Request.TheVariants as request
 use Rattle.pt_req.specs.Deed.{Deed, Calls, Changes, Step}
 use Rattle.pt_req.specs.Pattern.{Asked, Requests, Edits}
-use Rattle.pt_req.specs.Requests.{is_bad_name, is_bad_offset, can_open, IsHeld}
+use Rattle.pt_req.specs.Requests.{is_bad_name, is_bad_offset, can_open, IsServed}
 use Rattle.pt_req.specs.declared.act.ActReply.{ActReply}
 use Rattle.pt_req.specs.declared.act.ActReply.TheVariants.{Event, Host}
 use Rattle.pt_req.specs.declared.finish.Finish.{Finish}
@@ -80,7 +80,7 @@ SomeCauses asked (step ∷ steps) cause = StepCauses asked step.deed step.reply 
 abbrev pub OwnCause : Request → Errno → Type 0
 OwnCause (request.Lookup parent name) cause = (is_bad_name name ≡ true) × (cause ≡ einval)
 OwnCause (request.Read inode handle size offset) cause = (is_bad_offset offset ≡ true) × (cause ≡ einval)
-OwnCause asked cause = (IsHeld asked → ⊥) × (cause ≡ errno_of 38)
+OwnCause asked cause = (IsServed asked → ⊥) × (cause ≡ errno_of 38)
 
 abbrev pub HasCause : Request → List Step → Errno → Type 0
 HasCause asked steps cause = OwnCause asked cause ⊎ SomeCauses asked steps cause

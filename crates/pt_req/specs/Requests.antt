@@ -273,19 +273,19 @@ abbrev pub unheld : Tree
 unheld = begun (λ session. Gives (answer.Refused (errno_of 38)))
 
 -- The requests that are held today. Whether an opening clears set-id bits comes with a switch of its own.
-abbrev pub IsHeld : Request → Type 0
-IsHeld (request.Init capable) = Unit {0}
-IsHeld request.Destroy = Unit {0}
-IsHeld request.Root = Unit {0}
-IsHeld (request.Lookup parent name) = Unit {0}
-IsHeld (request.Forget inode count) = Unit {0}
-IsHeld (request.BatchForget list) = Unit {0}
-IsHeld (request.Open inode kill flags) = Unit {0}
-IsHeld (request.OpenDir inode flags) = Unit {0}
-IsHeld (request.Release inode handle) = Unit {0}
-IsHeld (request.ReleaseDir inode handle) = Unit {0}
-IsHeld (request.Read inode handle size offset) = Unit {0}
-IsHeld _ = ⊥
+abbrev pub IsServed : Request → Type 0
+IsServed (request.Init capable) = Unit {0}
+IsServed request.Destroy = Unit {0}
+IsServed request.Root = Unit {0}
+IsServed (request.Lookup parent name) = Unit {0}
+IsServed (request.Forget inode count) = Unit {0}
+IsServed (request.BatchForget list) = Unit {0}
+IsServed (request.Open inode kill flags) = Unit {0}
+IsServed (request.OpenDir inode flags) = Unit {0}
+IsServed (request.Release inode handle) = Unit {0}
+IsServed (request.ReleaseDir inode handle) = Unit {0}
+IsServed (request.Read inode handle size offset) = Unit {0}
+IsServed _ = ⊥
 
 -- what a request does, its frame aside
 abbrev pub tree_of : Plan → Request → Tree
