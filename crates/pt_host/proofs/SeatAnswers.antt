@@ -8,7 +8,7 @@ use Rattle.pt_host.specs.Flags.{includes, cap_setgid, cap_setuid}
 use Rattle.pt_host.specs.Call.{Call}
 use Rattle.pt_host.specs.Seat.{kept_id}
 use Rattle.pt_host.specs.SeatCalls.{SeatRow, seat_row}
-use Rattle.pt_host.specs.SeatStep.{SeatStep, RowAnswers, left_by, seat_left}
+use Rattle.pt_host.specs.SeatStep.{SeatStep, RowAnswers, row_left, seat_left}
 use Rattle.pt_host.specs.SeatAnswer.{answered_by, seat_answer}
 use Rattle.pt_host.specs.Promises.{FitsCall, IsPromised}
 use Rattle.pt_host.specs.declared.ids.Errno.{Errno}
@@ -75,7 +75,7 @@ module _ (faults : ℕ) (seat : HostSeat) (asked : Call) where
         fails = tt;
         seats = record {
           answers = subst (λ (r : Option SeatRow). RowAnswers r (reply.Ok row.tells)) (sym is) (may, refl);
-          leaves = sym (ap (left_by seat) is);
+          leaves = sym (ap (row_left seat) is);
         };
       }
   row_kept row false may is =
@@ -127,7 +127,7 @@ no_row seat (Some row) e = absurd (cc)
 
 left_other : (seat : HostSeat) (asked : Call) (told : HostReply) → seat_row seat asked ≡ None →
     seat ≡ seat_left seat asked told
-left_other seat asked (reply.Ok told) none = sym (ap (left_by seat) none)
+left_other seat asked (reply.Ok told) none = sym (ap (row_left seat) none)
 left_other seat asked (reply.Refused errno) none = refl
 left_other seat asked (reply.Fault errno) none = refl
 left_other seat asked reply.NoMemory none = refl

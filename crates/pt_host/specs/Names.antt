@@ -34,8 +34,8 @@ pub record LinksName (tree : Tree) (object dir : ℕ) (name : List ℕ) (after :
   pub links : after ≡ led_to tree dir name (Some object)
 
 -- the new name leads to the object, and the old one nowhere; where both led to one object nothing changes
-abbrev pub Moves : Tree → ℕ → List ℕ → ℕ → List ℕ → ℕ → Tree → Type 0
-Moves tree dir name to new object after =
+abbrev pub NameMoves : Tree → ℕ → List ℕ → ℕ → List ℕ → ℕ → Tree → Type 0
+NameMoves tree dir name to new object after =
     ((tree.names to new ≡ Some object) × (after ≡ tree))
     ⊎ ((tree.names to new ≢ Some object) × (after ≡ led_to (led_to tree to new (Some object)) dir name None))
 
@@ -43,7 +43,7 @@ Moves tree dir name to new object after =
 pub record MovesName (tree : Tree) (dir : ℕ) (name : List ℕ) (to : ℕ) (new : List ℕ) (after : Tree) : Type 0 where
   pub object : ℕ
   pub there : tree.names dir name ≡ Some object
-  pub moves : Moves tree dir name to new object after
+  pub moves : NameMoves tree dir name to new object after
 
 -- both names were there, and each leads to the other's object
 pub record ExchangesNames (tree : Tree) (dir : ℕ) (name : List ℕ) (to : ℕ) (new : List ℕ) (after : Tree) : Type 0 where

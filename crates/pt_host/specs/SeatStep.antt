@@ -7,13 +7,13 @@ use Rattle.pt_host.specs.declared.reply.HostReply.{HostReply}
 use Rattle.pt_host.specs.declared.reply.HostReply.TheVariants as reply
 
 -- where a call that is Ok leaves the seat
-abbrev pub left_by : HostSeat → Option SeatRow → HostSeat
-left_by seat None = seat
-left_by seat (Some row) = row.leaves
+abbrev pub row_left : HostSeat → Option SeatRow → HostSeat
+row_left seat None = seat
+row_left seat (Some row) = row.leaves
 
 -- the seat after a call
 abbrev pub seat_left : HostSeat → Call → HostReply → HostSeat
-seat_left seat asked (reply.Ok told) = left_by seat (seat_row seat asked)
+seat_left seat asked (reply.Ok told) = row_left seat (seat_row seat asked)
 seat_left seat asked (reply.Refused errno) = seat
 seat_left seat asked (reply.Fault errno) = seat
 seat_left seat asked reply.NoMemory = seat

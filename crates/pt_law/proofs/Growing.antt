@@ -6,7 +6,7 @@ use Rattle.pt_host.specs.Words.{Each}
 use Rattle.pt_host.specs.Tree.{Tree, Object, IsObject, IsOpenOn}
 use Rattle.pt_host.specs.Call.{Call}
 use Rattle.pt_host.specs.LawfulTree.{TreeChanges, Opens, OpensFound, OpensMade, closed_at}
-use Rattle.pt_host.specs.Names.{TakesName, MakesObject, Moves, LinksName, ExchangesNames, Renames}
+use Rattle.pt_host.specs.Names.{TakesName, MakesObject, NameMoves, LinksName, ExchangesNames, Renames}
 use Rattle.pt_host.specs.Edits.{Edits}
 use Rattle.pt_host.specs.Sorts.{Sort, OpensWith, EndsFd, OfSeat, Plain, sort_of}
 use Rattle.pt_host.specs.declared.flags.OpenFlags.{OpenFlags}
@@ -58,7 +58,7 @@ makes_object tree dir name after h =
     })
 
 moves_name : (tree : Tree) (dir : ℕ) (name : List ℕ) (to : ℕ) (new : List ℕ) (object : ℕ) (after : Tree) →
-    Moves tree dir name to new object after → Grows tree after
+    NameMoves tree dir name to new object after → Grows tree after
 moves_name tree dir name to new object after (inl m) = grows_same tree after m.1
 moves_name tree dir name to new object after (inr m) =
     subst (λ (t : Tree). Grows tree t) (sym m.1) (record { same_open = refl; stays = λ object what is. is })

@@ -21,7 +21,7 @@ use Rattle.pt_node.specs.declared.node.Node.{Node}
 use Rattle.pt_node.specs.declared.slots.OpenFile.{OpenFile}
 use Rattle.pt_node.specs.Changes.{refilled}
 use Rattle.pt_node.specs.Limits.{file_max}
-use Rattle.pt_rules.specs.Rows.{Effect, Row, Stays, row, Becomes}
+use Rattle.pt_rules.specs.Rows.{RowEffect, Row, Stays, row, Becomes}
 
 abbrev pub is_path_only : OpenFile → Bool
 is_path_only file = includes file.flags.0 o_path
@@ -58,7 +58,7 @@ with_written state seat object start [] = state
 with_written state seat object start (byte ∷ bytes) =
     record state { nodes = changed_at object (after_writing seat (time_of state) start (byte ∷ bytes)) state.nodes }
 
-abbrev pub becomes_written : State → HostSeat → ℕ → List ℕ → Node → Effect
+abbrev pub becomes_written : State → HostSeat → ℕ → List ℕ → Node → RowEffect
 becomes_written state seat start [] node = Stays
 becomes_written state seat start (byte ∷ bytes) node =
     Becomes (after_writing seat (time_of state) start (byte ∷ bytes) node)

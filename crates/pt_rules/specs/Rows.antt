@@ -10,20 +10,20 @@ use Rattle.pt_node.specs.declared.node.Node.{Node}
 use Rattle.pt_node.specs.declared.slots.OpenFile.{OpenFile}
 
 -- what becomes of the object
-pub data Effect : Type 0 where
-  Stays : Effect
-  Becomes : Node → Effect
+pub data RowEffect : Type 0 where
+  Stays : RowEffect
+  Becomes : Node → RowEffect
 
 pub record Row : Type 0 where
   -- refused for the first of these that holds
   pub refusals : List (Bool × Errno)
   pub told : HostValue
-  pub leaves : Effect
+  pub leaves : RowEffect
 
-abbrev pub row : List (Bool × Errno) → HostValue → Effect → Row
+abbrev pub row : List (Bool × Errno) → HostValue → RowEffect → Row
 row refusals told leaves = record { refusals = refusals; told = told; leaves = leaves }
 
-abbrev pub left_by : State → ℕ → Effect → State
+abbrev pub left_by : State → ℕ → RowEffect → State
 left_by state object Stays = state
 left_by state object (Becomes after) = with_node state object after
 

@@ -24,7 +24,7 @@ use Rattle.pt_node.specs.declared.slots.Slot.{Slot}
 use Rattle.pt_node.specs.declared.slots.Slot.TheVariants.{Open}
 use Rattle.pt_rules.specs.Laws.Cases.{by_checks, by_fd}
 use Rattle.pt_rules.specs.Laws.Changed.{alike_itself}
-use Rattle.pt_rules.specs.Laws.Keeping.{Keeps, keeps_reading}
+use Rattle.pt_rules.specs.Laws.Keeping.{KeepsNode, keeps_reading}
 use Rattle.pt_rules.specs.Laws.MoveFair.{sound-with_position}
 use Rattle.pt_rules.specs.Laws.PlainCalls.{keeps_refilled}
 use Rattle.pt_rules.specs.Laws.Soundness.{alike_set, sound-counted, sound-with_node}
@@ -65,7 +65,7 @@ opens_of-placed (Some file) fd position slots object is =
 
 module _ (state : State) (holds : Counts) (tables : ℕ → List Slot) (kept : IsKept state holds tables) where
   -- one object has become another that keeps it
-  pub kept_node : (object : ℕ) (node after : Node) → slice_get state.nodes object ≡ Some node → Keeps node after →
+  pub kept_node : (object : ℕ) (node after : Node) → slice_get state.nodes object ≡ Some node → KeepsNode node after →
       IsKept (with_node state object after) holds tables
   kept_node object node after there keeps =
       kept_alike state (with_node state object after) holds tables kept
@@ -80,12 +80,12 @@ module _ (state : State) (holds : Counts) (tables : ℕ → List Slot) (kept : I
       (sound-with_position state fd position kept.sound) (alike_itself state.nodes)
       (λ o. let opens = opens_of-placed (open_at state.slots fd) fd position state.slots o refl in omega (arith, opens)) (λ o. refl)
 
-  kept_where : (object : ℕ) (f : Node → Node) → ((node : Node) → Keeps node (f node)) → (at : Option Node) →
+  kept_where : (object : ℕ) (f : Node → Node) → ((node : Node) → KeepsNode node (f node)) → (at : Option Node) →
       slice_get state.nodes object ≡ at → IsKept (nodes_in state (changed_where at object f state.nodes)) holds tables
   kept_where object f keeps None is = kept
   kept_where object f keeps (Some node) is = kept_node object node (f node) is (keeps node)
 
-  pub kept_changed : (object : ℕ) (f : Node → Node) → ((node : Node) → Keeps node (f node)) →
+  pub kept_changed : (object : ℕ) (f : Node → Node) → ((node : Node) → KeepsNode node (f node)) →
       IsKept (nodes_in state (changed_at object f state.nodes)) holds tables
   kept_changed object f keeps = kept_where object f keeps (slice_get state.nodes object) refl
 

@@ -12,7 +12,7 @@ use Rattle.pt_node.specs.declared.slots.Slot.{Slot}
 use Rattle.pt_rules.specs.Laws.EditLaws.{outcome_changes}
 use Rattle.pt_rules.specs.Laws.EditSound.{sound_effect}
 use Rattle.pt_rules.specs.Laws.Fair.{IsFair, fair_refused, no_flags}
-use Rattle.pt_rules.specs.Laws.Outcomes.{Effect, MovesTo, edit_outcome}
+use Rattle.pt_rules.specs.Laws.Outcomes.{EditEffect, MovesTo, edit_outcome}
 
 -- an edit opens and closes nothing, and is no planned failure
 pub record StaysBeside (state after : State) : Type 0 where
@@ -29,7 +29,7 @@ moves_beside state after from to object target (inl same) =
 moves_beside state after from to object target (inr other) =
     stays_as state after _ other.1 (record { slots = refl; faults = refl })
 
-effect_beside : (state : State) (numbers : ℕ → ℕ) (asked : Edit) (after : State) → Effect state numbers asked after →
+effect_beside : (state : State) (numbers : ℕ → ℕ) (asked : Edit) (after : State) → EditEffect state numbers asked after →
     StaysBeside state after
 effect_beside state numbers (edit.Unlink path) after does =
     stays_as state after _ does.leaves (record { slots = refl; faults = refl })

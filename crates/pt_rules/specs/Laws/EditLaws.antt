@@ -3,7 +3,7 @@ use Rattle.std.proofs.Common.{◌≡◌, ◌<◌, inl, inr, ℕ, Some, refl, ap,
 use Rattle.std.proofs.lemmas.List.{length-map}
 use Rattle.std.proofs.lemmas.Option.{slice_get_within}
 use Rattle.pt_host.specs.Edits.{Edits}
-use Rattle.pt_host.specs.Names.{MakesObject, Moves, MovesName, TakesName}
+use Rattle.pt_host.specs.Names.{MakesObject, NameMoves, MovesName, TakesName}
 use Rattle.pt_host.specs.LawfulTree.{TreeChanges}
 use Rattle.pt_host.specs.declared.edit.Edit.{Edit}
 use Rattle.pt_host.specs.declared.edit.Edit.TheVariants as edit
@@ -19,7 +19,7 @@ use Rattle.pt_rules.specs.Laws.Changed.{led, same_tree}
 use Rattle.pt_rules.specs.Laws.EditShapes.{names_grown, names_moved, names_rewritten, names_unlinked, objects_grown}
 use Rattle.pt_rules.specs.Laws.EditShapes.{objects_moved, objects_rewritten, objects_unlinked}
 use Rattle.pt_rules.specs.Laws.EditSound.{all_ordered}
-use Rattle.pt_rules.specs.Laws.Outcomes.{Effect, Makes, MovesTo, Outcome, Renames, Rewrites, Unlinks, edit_outcome}
+use Rattle.pt_rules.specs.Laws.Outcomes.{EditEffect, Makes, MovesTo, Outcome, RenamesEntry, Rewrites, Unlinks, edit_outcome}
 
 abbrev pub takes_name : (state after : State) → IsSound state → (does : Unlinks state after) →
     TakesName (tree_of state) does.dir does.name (tree_of after)
@@ -31,9 +31,9 @@ takes_name state after sound does = record {
       (names_unlinked (time_of state) does.dir does.name does.object state.nodes (all_ordered state sound)) refl;
 }
 
-pub moves : (state after : State) (does : Renames state after) → IsSound state →
+pub moves : (state after : State) (does : RenamesEntry state after) → IsSound state →
     MovesTo state does.from does.to does.object does.target after →
-    Moves (tree_of state) does.from.0 does.from.1 does.to.0 does.to.1 does.object (tree_of after)
+    NameMoves (tree_of state) does.from.0 does.from.1 does.to.0 does.to.1 does.object (tree_of after)
 moves state after does sound (inl same) = inl (does.at_target ∙ same.0, ap tree_of same.1)
 moves state after does sound (inr other) =
     inr (
@@ -44,7 +44,7 @@ moves state after does sound (inr other) =
           (all_ordered state sound) does.into) refl,
     )
 
-abbrev pub moves_name : (state after : State) → IsSound state → (does : Renames state after) →
+abbrev pub moves_name : (state after : State) → IsSound state → (does : RenamesEntry state after) →
     MovesName (tree_of state) does.from.0 does.from.1 does.to.0 does.to.1 (tree_of after)
 moves_name state after sound does = record {
   object = does.object;
@@ -75,7 +75,7 @@ rewrites state after does =
     (names_rewritten (time_of state) does.bytes does.object state.nodes) refl
 
 effect_edits : (state : State) (numbers : ℕ → ℕ) (asked : Edit) (after : State) → IsSound state →
-    Effect state numbers asked after → Edits (tree_of state) asked (tree_of after)
+    EditEffect state numbers asked after → Edits (tree_of state) asked (tree_of after)
 effect_edits state numbers (edit.Unlink path) after sound does =
     (does.dir, does.name, takes_name state after sound does)
 effect_edits state numbers (edit.Rename old new) after sound does =
@@ -87,7 +87,7 @@ effect_edits state numbers (edit.Dir path mode uid gid) after sound does =
 effect_edits state numbers (edit.Write path bytes) after sound does = rewrites state after does
 
 pub outcome_changes : (state : State) (numbers : ℕ → ℕ) (asked : Edit) (told : Answered) → IsSound state →
-    Outcome state told (Effect state numbers asked) →
+    Outcome state told (EditEffect state numbers asked) →
     TreeChanges (tree_of state) (call.Edit asked) told.0 (tree_of told.1)
 outcome_changes state numbers asked told sound (inl refused) =
     subst (λ (both : Answered).

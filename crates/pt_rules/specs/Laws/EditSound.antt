@@ -17,7 +17,7 @@ use Rattle.pt_rules.specs.Laws.Changed.{led, led_cases}
 use Rattle.pt_rules.specs.Laws.EditShapes.{alike_entered, alike_moved, alike_rewritten, alike_unlinked, entered}
 use Rattle.pt_rules.specs.Laws.EditShapes.{names_grown, names_moved, names_rewritten, names_unlinked, no_names}
 use Rattle.pt_rules.specs.Laws.EditShapes.{AllOrdered}
-use Rattle.pt_rules.specs.Laws.Outcomes.{Effect, Makes, MovesTo, edit_outcome}
+use Rattle.pt_rules.specs.Laws.Outcomes.{EditEffect, Makes, MovesTo, edit_outcome}
 use Rattle.pt_rules.specs.Laws.Sounding.{NamedBefore, made_stays, named_still, opened_still, sound_after}
 use Rattle.pt_node.specs.Laws.Updates.{get-push_cases}
 use Rattle.pt_rules.specs.Laws.Alive.{lives_held}
@@ -199,7 +199,7 @@ sound_makes state numbers after sound least few does =
     (subst (λ (s : State). length s.nodes < 2 ^ 63) does.leaves few))
 
 pub sound_effect : (state : State) (numbers : ℕ → ℕ) (asked : Edit) (after : State) → IsSound state →
-    AreLeastFree state numbers → length after.nodes < 2 ^ 63 → Effect state numbers asked after → IsSound after
+    AreLeastFree state numbers → length after.nodes < 2 ^ 63 → EditEffect state numbers asked after → IsSound after
 sound_effect state numbers (edit.Unlink path) after sound least few does =
     subst IsSound (sym does.leaves) (sound_unlinked state does.dir does.name does.object sound)
 sound_effect state numbers (edit.Rename old new) after sound least few does =

@@ -26,7 +26,7 @@ use Rattle.pt_node.specs.declared.slots.Slot.{Slot}
 use Rattle.pt_node.specs.declared.slots.Slot.TheVariants.{Open}
 use Rattle.pt_node.specs.Laws.Updates.{same_function, open_slot, get-set_apart, get-set_here}
 use Rattle.pt_rules.specs.Laws.Changed.{same_tree}
-use Rattle.pt_rules.specs.Laws.Keeping.{Keeps}
+use Rattle.pt_rules.specs.Laws.Keeping.{KeepsNode}
 use Rattle.pt_rules.specs.Laws.Opens.{tree-with_node}
 use Rattle.pt_rules.specs.Laws.Soundness.{sound-with_node}
 
@@ -89,7 +89,7 @@ fair_told state asked told sound plain fits =
 
 -- one object is changed, which the call may change or of which the access time alone changes
 module _ (state : State) (asked : Call) (told : HostValue) (object : ℕ) (node after : Node) (sound : IsSound state)
-    (there : slice_get state.nodes object ≡ Some node) (keeps : Keeps node after) where
+    (there : slice_get state.nodes object ≡ Some node) (keeps : KeepsNode node after) where
   objects_but : (MayTouch (tree_of state) asked told (tree_of state) object)
       ⊎ StaysButAccess (contents_where (Some node)) (contents_where (Some after)) →
       (o : ℕ) → (MayTouch (tree_of state) asked told (tree_of state) o → ⊥) →

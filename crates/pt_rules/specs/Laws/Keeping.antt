@@ -11,14 +11,14 @@ use Rattle.pt_node.specs.declared.node.Node.{Node}
 use Rattle.pt_node.specs.declared.node.Content.{Content}
 use Rattle.pt_node.specs.declared.node.Content.TheVariants.{Directory, Regular, Link, Special}
 
-pub record Keeps (before after : Node) : Type 0 where
+pub record KeepsNode (before after : Node) : Type 0 where
   pub ids : after.ids ≡ before.ids
   pub serial : after.serial ≡ before.serial
   pub object : object_of after ≡ object_of before
   pub names : names_in after.content ≡ names_in before.content
   pub permissions : before.permissions < 4096 → after.permissions < 4096
 
-pub keeps_itself : (node : Node) → Keeps node node
+pub keeps_itself : (node : Node) → KeepsNode node node
 keeps_itself node = record { ids = refl; serial = refl; object = refl; names = refl; permissions = λ small. small }
 
 le-less_where : (b : Bool) (m n : ℕ) → cond b (m - n) m ≤ m
@@ -37,7 +37,7 @@ permissions-le seat permissions =
     (without_set_group (without_set_user permissions)) (omega arith)
 
 pub keeps_emptied : (seat : HostSeat) (now : Time) (node : Node) (content : Content) → node.content ≡ content →
-    Keeps node (emptied seat now node content)
+    KeepsNode node (emptied seat now node content)
 keeps_emptied seat now node (Directory names) held = keeps_itself node
 keeps_emptied seat now node (Link target) held = keeps_itself node
 keeps_emptied seat now node (Special kind) held = keeps_itself node
@@ -49,16 +49,16 @@ keeps_emptied seat now node (Regular bytes) held = record {
   permissions = λ small. let less = permissions-le seat node.permissions in omega arith;
 }
 
-keeps_where : (b : Bool) (before after : Node) → Keeps before after → Keeps before (cond b after before)
+keeps_where : (b : Bool) (before after : Node) → KeepsNode before after → KeepsNode before (cond b after before)
 keeps_where b before after keeps =
-    elim b as (λ v. Keeps before (cond v after before)) [ true ↦ keeps | false ↦ keeps_itself before ]
+    elim b as (λ v. KeepsNode before (cond v after before)) [ true ↦ keeps | false ↦ keeps_itself before ]
 
 pub keeps_opening : (seat : HostSeat) (now : Time) (flags : ℕ) (node : Node) →
-    Keeps node (after_opening seat now flags node)
+    KeepsNode node (after_opening seat now flags node)
 keeps_opening seat now flags node =
     keeps_where (includes flags o_trunc
     && not (includes flags o_path)) node (emptied seat now node node.content)
     (keeps_emptied seat now node node.content refl)
 
-pub keeps_reading : (now : Time) (node : Node) → Keeps node (after_reading now node)
+pub keeps_reading : (now : Time) (node : Node) → KeepsNode node (after_reading now node)
 keeps_reading now node = record { ids = refl; serial = refl; object = refl; names = refl; permissions = λ small. small }

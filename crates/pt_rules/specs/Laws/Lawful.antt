@@ -320,7 +320,7 @@ memory_changes tree (call.Close fd) takes = absurd takes
 memory_changes tree asked takes = refl
 
 -- what is to be shown of a step, before it is counted
-pub record IsLawful (state : State) (seat : HostSeat) (asked : Call) (told : Outcome) : Type 0 where
+pub record IsLawfulOutcome (state : State) (seat : HostSeat) (asked : Call) (told : Outcome) : Type 0 where
   pub changes : TreeChanges (tree_of state) asked told.0 (tree_of told.1)
   pub seats : SeatStep seat asked told.0 told.2
   pub path_only : AsksPathOnly (tree_of state) asked → IsBadFd told.0
@@ -330,7 +330,7 @@ pub record IsLawful (state : State) (seat : HostSeat) (asked : Call) (told : Out
 module _ (state : State) (seat : HostSeat) (asked : Call) (numbers : ℕ → ℕ) (sound : IsSound state)
     (least : AreLeastFree state numbers) where
   lawful_outcome : (own : Option Seated) → seat_answer seat asked ≡ own →
-      IsLawful state seat asked (outcome_where state numbers seat asked own)
+      IsLawfulOutcome state seat asked (outcome_where state numbers seat asked own)
   lawful_outcome (Some told) is = record {
     changes = own_changes (tree_of state) seat asked told is;
     seats = own_seat asked seat told is;
@@ -348,7 +348,7 @@ module _ (state : State) (seat : HostSeat) (asked : Call) (numbers : ℕ → ℕ
         sound = fair.sound;
       }
 
-  lawful_failing : (errno : Errno) → IsLawful state seat asked (failing_outcome state seat asked errno)
+  lawful_failing : (errno : Errno) → IsLawfulOutcome state seat asked (failing_outcome state seat asked errno)
   lawful_failing errno = record {
     changes = failing_changes state asked errno;
     seats = faulted_seat seat asked errno;
@@ -357,7 +357,7 @@ module _ (state : State) (seat : HostSeat) (asked : Call) (numbers : ℕ → ℕ
     sound = λ few. faulted_sound (after_failing state asked) (failing_sound state asked sound);
   }
 
-  lawful_without_memory : TakesMemory asked → IsLawful state seat asked (without_memory state seat)
+  lawful_without_memory : TakesMemory asked → IsLawfulOutcome state seat asked (without_memory state seat)
   lawful_without_memory takes = record {
     changes = memory_changes (tree_of state) asked takes;
     seats = lacking_seat seat asked;
@@ -368,18 +368,18 @@ module _ (state : State) (seat : HostSeat) (asked : Call) (numbers : ℕ → ℕ
 
   lawful_by : (failing : Option Errno) (given : HostReply) (after : State) (seat_after : HostSeat) →
       AnswersCall failing state numbers seat asked given after seat_after →
-      IsLawful state seat asked (made_outcome given after seat_after)
+      IsLawfulOutcome state seat asked (made_outcome given after seat_after)
   lawful_by (Some errno) given after seat_after told =
-      subst (IsLawful state seat asked) (sym told) (lawful_failing errno)
+      subst (IsLawfulOutcome state seat asked) (sym told) (lawful_failing errno)
   lawful_by None given after seat_after (inl told) =
-      subst (IsLawful state seat asked) (sym told) (lawful_outcome (seat_answer seat asked) refl)
+      subst (IsLawfulOutcome state seat asked) (sym told) (lawful_outcome (seat_answer seat asked) refl)
   lawful_by None given after seat_after (inr (takes, told)) =
-      subst (IsLawful state seat asked) (sym told) (lawful_without_memory takes)
+      subst (IsLawfulOutcome state seat asked) (sym told) (lawful_without_memory takes)
 
 module _ (host : State) (seat : HostSeat) (asked : Call) (given : HostReply) (after : State) (seat_after : HostSeat)
     (does : Does host seat asked given after seat_after) where
   -- of the answer before it is counted
-  lawful_answer : IsLawful host seat asked (made_outcome given does.answers.state seat_after)
+  lawful_answer : IsLawfulOutcome host seat asked (made_outcome given does.answers.state seat_after)
   lawful_answer =
       let answers = does.answers in
       lawful_by host seat asked answers.numbers does.sound answers.least

@@ -34,7 +34,7 @@ use Rattle.pt_rules.specs.Laws.Cases.{NoneTells, refused_otherwise}
 use Rattle.pt_rules.specs.Laws.SlotTable.{least_free-le-length}
 use Rattle.pt_node.specs.Laws.Updates.{map-set_same, get-put_here, get-put_apart, get-set_here, get-set_apart}
 use Rattle.pt_node.specs.Laws.Updates.{same_function, open_slot}
-use Rattle.pt_rules.specs.Laws.Keeping.{Keeps, keeps_opening}
+use Rattle.pt_rules.specs.Laws.Keeping.{KeepsNode, keeps_opening}
 use Rattle.pt_rules.specs.Laws.Changed.{same_tree}
 use Rattle.pt_rules.specs.Laws.Soundness.{same_names}
 use Rattle.pt_rules.specs.Laws.WellFormed.{file_of_open}
@@ -66,7 +66,7 @@ opened-put file slots fd = elim (eqb_tells fd (least_free slots)) [
 ]
 
 leads_kept : (nodes : List Node) (object : ℕ) (node after : Node) → slice_get nodes object ≡ Some node →
-    Keeps node after → name_at (slice_set nodes object after) ≡ name_at nodes
+    KeepsNode node after → name_at (slice_set nodes object after) ≡ name_at nodes
 leads_kept nodes object node after is keeps =
     same_function (name_at (slice_set nodes object after)) (name_at nodes)
     (λ dir. same_function (name_at (slice_set nodes object after) dir) (name_at nodes dir) (λ name.
@@ -74,7 +74,7 @@ leads_kept nodes object node after is keeps =
 
 -- the tree does not tell the object from what it has become
 pub tree-with_node : (state : State) (object : ℕ) (node after : Node) → slice_get state.nodes object ≡ Some node →
-    Keeps node after → tree_of (record state { nodes = slice_set state.nodes object after }) ≡ tree_of state
+    KeepsNode node after → tree_of (record state { nodes = slice_set state.nodes object after }) ≡ tree_of state
 tree-with_node state object node after is keeps =
     same_tree _ _ _ _ _ _ (map-set_same object_of state.nodes object node after is keeps.object)
     (leads_kept state.nodes object node after is keeps) refl

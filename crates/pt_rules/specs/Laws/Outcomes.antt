@@ -34,7 +34,7 @@ MovesTo state from to object target after =
     ((target ≡ Some object) × (after ≡ state))
     ⊎ ((target ≢ Some object) × (after ≡ with_moved state from to object target))
 
-pub record Renames (state after : State) : Type 0 where
+pub record RenamesEntry (state after : State) : Type 0 where
   pub from : ℕ × List ℕ
   pub to : ℕ × List ℕ
   pub object : ℕ
@@ -64,12 +64,12 @@ pub record Rewrites (state after : State) : Type 0 where
   pub leaves : after ≡ with_rewritten state object bytes
 
 -- what the edit has done where it is made
-abbrev pub Effect : State → (ℕ → ℕ) → Edit → State → Type 0
-Effect state numbers (edit.Unlink path) after = Unlinks state after
-Effect state numbers (edit.Rename old new) after = Renames state after
-Effect state numbers (edit.File path mode uid gid bytes) after = Makes state numbers after
-Effect state numbers (edit.Dir path mode uid gid) after = Makes state numbers after
-Effect state numbers (edit.Write path bytes) after = Rewrites state after
+abbrev pub EditEffect : State → (ℕ → ℕ) → Edit → State → Type 0
+EditEffect state numbers (edit.Unlink path) after = Unlinks state after
+EditEffect state numbers (edit.Rename old new) after = RenamesEntry state after
+EditEffect state numbers (edit.File path mode uid gid bytes) after = Makes state numbers after
+EditEffect state numbers (edit.Dir path mode uid gid) after = Makes state numbers after
+EditEffect state numbers (edit.Write path bytes) after = Rewrites state after
 
 abbrev pub Outcome : State → Answered → (State → Type 0) → Type 0
 Outcome state told effect =
@@ -171,7 +171,7 @@ unlink_outcome state dir name (Some object) is =
 module _ (state : State) (from to : ℕ × List ℕ) (object : ℕ) (there : name_at state.nodes from.0 from.1 ≡ Some object)
     (into : is_directory_at state.nodes to.0 ≡ true) where
   renames : (target : Option ℕ) (after : State) → name_at state.nodes to.0 to.1 ≡ target →
-      MovesTo state from to object target after → Renames state after
+      MovesTo state from to object target after → RenamesEntry state after
   renames target after is moves =
       record {
         from = from;
@@ -188,12 +188,12 @@ module _ (state : State) (from to : ℕ × List ℕ) (object : ℕ) (there : nam
       (b ≡ true → target ≡ object) → (b ≡ false → target ≢ object) →
       Outcome state (cond b (done state)
       (unless state (replace_refusal (slice_get state.nodes object) (slice_get state.nodes target))
-      (done (with_moved state from to object (Some target))))) (Renames state)
+      (done (with_moved state from to object (Some target))))) (RenamesEntry state)
   onto_another target is true same apart =
       inr (state, refl, renames (Some target) state is (inl (ap (λ t. Some t) (same refl), refl)))
   onto_another target is false same apart =
       unless_refused state (replace_refusal (slice_get state.nodes object) (slice_get state.nodes target))
-      (done (with_moved state from to object (Some target))) (Renames state)
+      (done (with_moved state from to object (Some target))) (RenamesEntry state)
       (λ _. inr (
         with_moved state from to object (Some target),
         refl,
@@ -202,7 +202,7 @@ module _ (state : State) (from to : ℕ × List ℕ) (object : ℕ) (there : nam
       ))
 
   onto_outcome : (target : Option ℕ) → name_at state.nodes to.0 to.1 ≡ target →
-      Outcome state (rename_onto state from to object target) (Renames state)
+      Outcome state (rename_onto state from to object target) (RenamesEntry state)
   onto_outcome None is =
       inr (
         with_moved state from to object None,
@@ -218,24 +218,24 @@ module _ (state : State) (from to : ℕ × List ℕ) (object : ℕ) (there : nam
 
 rename_outcome : (state : State) (new : List ℕ) (from to : ℕ × List ℕ) (object : Option ℕ) →
     name_at state.nodes from.0 from.1 ≡ object →
-    is_directory_at state.nodes to.0 ≡ true → Outcome state (rename_found state new from to object) (Renames state)
+    is_directory_at state.nodes to.0 ≡ true → Outcome state (rename_found state new from to object) (RenamesEntry state)
 rename_outcome state new from to None is into = inl (enoent, refl)
 rename_outcome state new from to (Some object) is into =
     unless_refused state
     (move_refusal (path_goes_through object state.nodes new) (slice_get state.nodes from.0)
     (slice_get state.nodes to.0) (slice_get state.nodes object)
     (node_at state.nodes (name_at state.nodes to.0 to.1)))
-    (rename_onto state from to object (name_at state.nodes to.0 to.1)) (Renames state)
+    (rename_onto state from to object (name_at state.nodes to.0 to.1)) (RenamesEntry state)
     (λ _. onto_outcome state from to object is into (name_at state.nodes to.0 to.1) refl)
 
 renamed_outcome : (state : State) (new : List ℕ) (from to : Result (ℕ × List ℕ) Errno) →
     ((place : ℕ × List ℕ) → to ≡ Ok place → is_directory_at state.nodes place.0 ≡ true) →
-    Outcome state (rename_judged state new from to) (Renames state)
+    Outcome state (rename_judged state new from to) (RenamesEntry state)
 renamed_outcome state new (Err errno) to into = inl (errno, refl)
 renamed_outcome state new (Ok from) (Err errno) into = inl (errno, refl)
 renamed_outcome state new (Ok from) (Ok to) into =
     if_not state ((length from.1 == 0)
-    || (length to.1 == 0)) _ (rename_found state new from to (name_at state.nodes from.0 from.1)) (Renames state)
+    || (length to.1 == 0)) _ (rename_found state new from to (name_at state.nodes from.0 from.1)) (RenamesEntry state)
     (rename_outcome state new from to (name_at state.nodes from.0 from.1) refl (into to refl))
 
 pub none_there : (there : Option ℕ) → is_some there ≡ false → there ≡ None
@@ -296,7 +296,7 @@ write_outcome state bytes (Some object) =
     ))
 
 pub edit_outcome : (state : State) (numbers : ℕ → ℕ) (asked : Edit) →
-    Outcome state (edited state numbers asked) (Effect state numbers asked)
+    Outcome state (edited state numbers asked) (EditEffect state numbers asked)
 edit_outcome state numbers (edit.Unlink path) =
     judged_place state _ (judged state.nodes path) (unlink_at state) (Unlinks state)
     (λ at is. unlink_outcome state at.0 at.1 (name_at state.nodes at.0 at.1) refl)

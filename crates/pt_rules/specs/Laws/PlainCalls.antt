@@ -19,13 +19,13 @@ use Rattle.pt_node.specs.declared.slots.OpenFile.{OpenFile}
 use Rattle.pt_rules.specs.ContentCalls.{becomes_written}
 use Rattle.pt_node.specs.Entries.{rewritten}
 use Rattle.pt_node.specs.Node.{object_of}
-use Rattle.pt_rules.specs.Rows.{Effect, Stays, Becomes, Row, left_by, on_row}
+use Rattle.pt_rules.specs.Rows.{RowEffect, Stays, Becomes, Row, left_by, on_row}
 use Rattle.pt_rules.specs.Sound.{IsSound}
 use Rattle.pt_rules.specs.State.{State, contents_where, time_of, tree_of}
 use Rattle.pt_rules.specs.Laws.Cases.{by_checks, by_fd}
 use Rattle.pt_rules.specs.Laws.Fair.{IsFair, IsPlain, fair_refused, fair_told}
 use Rattle.pt_rules.specs.Laws.Fair.{fair_node}
-use Rattle.pt_rules.specs.Laws.Keeping.{Keeps, permissions-le}
+use Rattle.pt_rules.specs.Laws.Keeping.{KeepsNode, permissions-le}
 use Rattle.pt_rules.specs.Laws.Opens.{open_there}
 use Rattle.pt_host.specs.declared.ids.Time.{Time}
 use Rattle.pt_rules.specs.AttributeCalls.{sized}
@@ -38,7 +38,7 @@ use Rattle.pt_host.specs.declared.reply.HostReply.TheVariants.{Refused}
 use Rattle.pt_rules.specs.Beside.{MayTouch}
 use Rattle.pt_rules.specs.Calls.{refused, tells}
 
-pub keeps_rewritten : (now : Time) (bytes : List ℕ) (node : Node) → Keeps node (rewritten now bytes node)
+pub keeps_rewritten : (now : Time) (bytes : List ℕ) (node : Node) → KeepsNode node (rewritten now bytes node)
 keeps_rewritten now bytes node = record {
   ids = refl;
   serial = refl;
@@ -48,7 +48,7 @@ keeps_rewritten now bytes node = record {
 }
 
 pub keeps_refilled : (seat : HostSeat) (now : Time) (bytes : List ℕ) (node : Node) →
-    Keeps node (refilled seat now bytes node)
+    KeepsNode node (refilled seat now bytes node)
 keeps_refilled seat now bytes node = record {
   ids = refl;
   serial = refl;
@@ -58,10 +58,10 @@ keeps_refilled seat now bytes node = record {
 }
 
 -- the call may do this to the object: it changes no more than the access time, or what the call may change
-abbrev pub IsFairEffect : State → Call → HostValue → OpenFile → Node → Effect → Type 0
+abbrev pub IsFairEffect : State → Call → HostValue → OpenFile → Node → RowEffect → Type 0
 IsFairEffect state asked told file node Stays = Unit {0}
 IsFairEffect state asked told file node (Becomes after) =
-    Keeps node after × (MayTouch (tree_of state) asked told (tree_of state) file.object
+    KeepsNode node after × (MayTouch (tree_of state) asked told (tree_of state) file.object
     ⊎ StaysButAccess (contents_where (Some node)) (contents_where (Some after)))
 
 pub record IsFairRow (state : State) (asked : Call) (file : OpenFile) (node : Node) (made : Row) : Type 0 where
@@ -78,7 +78,7 @@ module _ (state : State) (asked : Call) (sound : IsSound state)
   refused_fair : (errno : Errno) → IsFair state asked (refused state errno)
   refused_fair errno = fair_refused state asked errno sound (refuses (tree_of state) errno)
 
-  effect_fair : (file : OpenFile) (node : Node) (told : HostValue) (leaves : Effect) →
+  effect_fair : (file : OpenFile) (node : Node) (told : HostValue) (leaves : RowEffect) →
       slice_get state.nodes file.object ≡ Some node → FitsCall asked told →
       IsFairEffect state asked told file node leaves →
       IsFair state asked (tells (left_by state file.object leaves) told)
@@ -116,7 +116,7 @@ written_effect state seat fd offset start bytes (byte ∷ more) append told file
 
 pub lengthened_effect : (b : Bool) (state : State) (fd : Fd) (mode offset size : ℕ) (told : HostValue)
     (file : OpenFile) (node after : Node) →
-    IsOpenOn (tree_of state) fd file.object → Keeps node after →
+    IsOpenOn (tree_of state) fd file.object → KeepsNode node after →
     IsFairEffect state (call.Allocate fd mode offset size) told file node (cond b (Becomes after) Stays)
 lengthened_effect true state fd mode offset size told file node after on keeps = (keeps, inl on)
 lengthened_effect false state fd mode offset size told file node after on keeps = tt

@@ -37,7 +37,7 @@ use Rattle.pt_rules.specs.Laws.NameFair.{asked_there, changed_other, keeps_other
 use Rattle.pt_rules.specs.Laws.NamesLed.{names_exchanged, put_back, put_there, sound_exchanged, with_both, with_one}
 use Rattle.pt_rules.specs.Laws.NamesLed.{with_stamp}
 use Rattle.pt_rules.specs.Laws.Opens.{open_there}
-use Rattle.pt_rules.specs.Laws.Outcomes.{MovesTo, Renames as Moved, none_there, passes_first}
+use Rattle.pt_rules.specs.Laws.Outcomes.{MovesTo, RenamesEntry as Moved, none_there, passes_first}
 
 -- ---- two names exchanged
 

@@ -9,12 +9,12 @@ use Rattle.pt_node.specs.declared.node.Node.{Node}
 use Rattle.pt_node.specs.declared.slots.OpenFile.{OpenFile}
 use Rattle.pt_node.specs.declared.slots.Slot.{Slot}
 use Rattle.pt_rules.specs.Laws.Changed.{AreAlike, Stays}
-use Rattle.pt_rules.specs.Laws.Keeping.{Keeps}
+use Rattle.pt_rules.specs.Laws.Keeping.{KeepsNode}
 use Rattle.pt_rules.specs.Laws.Alive.{lives_held}
 use Rattle.pt_rules.specs.Laws.Held.{held_has}
 use Rattle.pt_rules.specs.Living.{Lives}
 
-pub stays_kept : (before after : Node) → Keeps before after → Stays before after
+pub stays_kept : (before after : Node) → KeepsNode before after → Stays before after
 stays_kept before after keeps = record {
   ids = keeps.ids;
   serial = keeps.serial;

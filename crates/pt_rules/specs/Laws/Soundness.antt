@@ -19,12 +19,12 @@ use Rattle.pt_node.specs.declared.slots.OpenFile.{OpenFile}
 use Rattle.pt_node.specs.declared.slots.Slot.{Slot}
 use Rattle.pt_node.specs.declared.slots.Slot.TheVariants.{Free, Open}
 use Rattle.pt_node.specs.Laws.Updates.{and_then-set_same, get-set_cases, get-put_cases, open_slot}
-use Rattle.pt_rules.specs.Laws.Keeping.{Keeps, keeps_opening}
+use Rattle.pt_rules.specs.Laws.Keeping.{KeepsNode, keeps_opening}
 use Rattle.pt_rules.specs.Laws.Changed.{AreAlike, Stays, alike_itself, stays_itself}
 use Rattle.pt_rules.specs.Laws.Sounding.{NamedBefore, OpenedBefore, named_still, opened_still, sound_after, stays_kept}
 
 pub same_names : (nodes : List Node) (object : ℕ) (before after : Node) → slice_get nodes object ≡ Some before →
-    Keeps before after →
+    KeepsNode before after →
     (dir : ℕ) (name : List ℕ) → name_at (slice_set nodes object after) dir name ≡ name_at nodes dir name
 same_names nodes object before after is keeps dir name =
     and_then-set_same (λ node.
@@ -32,7 +32,7 @@ same_names nodes object before after is keeps dir name =
 
 -- one object has become another that keeps it
 pub alike_set : (nodes : List Node) (object : ℕ) (node after : Node) → slice_get nodes object ≡ Some node →
-    Keeps node after → AreAlike nodes (slice_set nodes object after)
+    KeepsNode node after → AreAlike nodes (slice_set nodes object after)
 alike_set nodes object node after is keeps = record {
   long = length-set nodes object after;
   each = λ place that there. elim (get-set_cases nodes object after place that there) [
@@ -42,7 +42,7 @@ alike_set nodes object node after is keeps = record {
 }
 
 named_set : (state : State) (object : ℕ) (node after : Node) → IsSound state →
-    slice_get state.nodes object ≡ Some node → Keeps node after →
+    slice_get state.nodes object ≡ Some node → KeepsNode node after →
     NamedBefore state (slice_set state.nodes object after)
 named_set state object node after sound is keeps o has =
     named_still state sound o (
@@ -53,7 +53,7 @@ named_set state object node after sound is keeps o has =
     )
 
 pub sound-with_node : (state : State) (object : ℕ) (node after : Node) → IsSound state →
-    slice_get state.nodes object ≡ Some node → Keeps node after →
+    slice_get state.nodes object ≡ Some node → KeepsNode node after →
     IsSound (record state { nodes = slice_set state.nodes object after })
 sound-with_node state object node after sound is keeps =
     sound_after state (slice_set state.nodes object after) state.slots sound
