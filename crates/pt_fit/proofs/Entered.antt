@@ -19,7 +19,7 @@ use Rattle.pt_frame.specs.Grammar.{Belongs}
 use Rattle.pt_frame.specs.declared.act.ActReply.{ActReply}
 use Rattle.pt_frame.specs.declared.act.ActReply.TheVariants.{Event, Host}
 use Rattle.pt_frame.specs.declared.finish.Finish.TheVariants as finish
-use Rattle.pt_req.specs.Parts.{path}
+use Rattle.pt_req.specs.Parts.{by_path}
 use Rattle.pt_req.specs.declared.plan.Plan.{Plan}
 use Rattle.pt_attr.specs.Pattern.{grammar_of}
 use Rattle.pt_law.specs.Discipline.{fd_of}
@@ -93,7 +93,7 @@ entry_places plan seat who turns j parent name entry b =
     let g = giving_of plan parent name entry e.0 l in
     let begin : Step = made (Changes change.Begin) (Event (event.Began l.era l.agreed)) in
     let a = resolving parent l.row l.form l.ids l.mode in
-    let o = opening (fd_of l.form) name path 0 l.fd in
+    let o = opening (fd_of l.form) name by_path 0 l.fd in
     let all : steps_of j turns ≡ (begin ∷ []) ++ a ∷ ([] ++ o ∷ (g.middle ++ g.give ∷ e.1)) =
     e.2 ∙ ap (λ z. z ++ e.1) (l.in_turn ∙ ap (λ z. begin ∷ a ∷ o ∷ z) g.are)
     ∙ ap (λ z. begin ∷ a ∷ o ∷ z) (append_assoc g.middle (g.give ∷ []) e.1) in
@@ -102,7 +102,7 @@ entry_places plan seat who turns j parent name entry b =
       back = e.1;
       all = e.2;
       looked_up = l;
-      given = places_of j parent name entry.inode l.stat.ids turns l.row l.mode 0 l.form l.ids (fd_of l.form) l.fd path
+      given = places_of j parent name entry.inode l.stat.ids turns l.row l.mode 0 l.form l.ids (fd_of l.form) l.fd by_path
           (begin ∷ []) [] g.middle e.1 g.give all tt g.quiet g.gives;
       same_row = refl;
       same_dir = refl;

@@ -21,7 +21,7 @@ use Rattle.pt_iface.specs.declared.request.Request.TheVariants as request
 use Rattle.pt_frame.specs.Deed.{Calls, Changes, Step}
 use Rattle.pt_frame.specs.Grammar.{Belongs}
 use Rattle.pt_req.specs.Entries.{entry_of}
-use Rattle.pt_req.specs.Parts.{path}
+use Rattle.pt_req.specs.Parts.{by_path}
 use Rattle.pt_attr.specs.Pattern.{grammar_of}
 use Rattle.pt_frame.specs.declared.act.ActReply.TheVariants.{Event, Host}
 use Rattle.pt_frame.specs.declared.finish.Finish.TheVariants as finish
@@ -43,7 +43,7 @@ abbrev steps : Stat → List Step
 steps stat =
     made (Changes change.Begin) (Event (event.Began 0 nothing_agreed))
     ∷ made (Changes (change.Resolve 1)) (Event (event.Resolved 0 (File (fd 3)) root_ids 16877))
-    ∷ made (Calls (call.OpenAt (fd 3) name path 0)) (Host (host.Ok (value.Fd (fd 4))))
+    ∷ made (Calls (call.OpenAt (fd 3) name by_path 0)) (Host (host.Ok (value.Fd (fd 4))))
     ∷ made (Calls (call.Stat (fd 4))) (Host (host.Ok (value.Stat stat)))
     ∷ made (Changes (change.Claim 0 None stat.ids)) (Event event.Absent)
     ∷ made (Changes change.TakeFd) (Event event.Taken)

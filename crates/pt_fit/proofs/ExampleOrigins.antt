@@ -13,7 +13,7 @@ use Rattle.pt_host.specs.declared.reply.HostReply.TheVariants as host
 use Rattle.pt_host.specs.declared.reply.HostValue.TheVariants as value
 use Rattle.pt_session.specs.Tables.{empty_tables}
 use Rattle.pt_frame.specs.Deed.{Calls}
-use Rattle.pt_req.specs.Parts.{path}
+use Rattle.pt_req.specs.Parts.{by_path}
 use Rattle.pt_frame.specs.declared.act.ActReply.TheVariants.{Host}
 use Rattle.pt_law.specs.World.{World, Turn, turn_by, Goes, Runs, settled_by, no_past}
 use Rattle.pt_law.specs.Origins.{opening_root, RootPath, WasRoot}
@@ -25,14 +25,14 @@ abbrev slash : List ℕ
 slash = 47 ∷ []
 
 abbrev turn : Turn
-turn = turn_by 0 (opening_root slash path (fd 3))
+turn = turn_by 0 (opening_root slash by_path (fd 3))
 
 -- the world in which the step has opened this object
 abbrev opened : Stat → Stat → ℕ → World
 opened root file object = record {
   tree = tree root file (set_at 3 (opened_by object) none);
   tables = empty_tables 5;
-  past = settled_by no_past 0 (Calls (call.OpenRoot slash path)) (Host (host.Ok (value.Fd (fd 3)))) 0
+  past = settled_by no_past 0 (Calls (call.OpenRoot slash by_path)) (Host (host.Ok (value.Fd (fd 3)))) 0
       (tree root file (set_at 3 (opened_by object) none));
 }
 
@@ -48,11 +48,11 @@ may_open root file seat apart kind object listed = record {
         trees = record {
           formed_before = well root file apart kind none small_none;
           formed_after = well root file apart kind (set_at 3 (opened_by object) none)
-              (small_open none 3 (record { object = object; path_only = includes path.0 o_path }) listed small_none);
+              (small_open none 3 (record { object = object; path_only = includes by_path.0 o_path }) listed small_none);
           changes = (object, record { listed = omega (arith, listed); fresh = refl; allowed = refl; adds = refl });
           path_only = λ asks. absurd asks;
         };
-        seats = unanswered seat (call.OpenRoot slash path) (host.Ok (value.Fd (fd 3))) refl;
+        seats = unanswered seat (call.OpenRoot slash by_path) (host.Ok (value.Fd (fd 3))) refl;
       },
       0,
       0,
@@ -60,7 +60,7 @@ may_open root file seat apart kind object listed = record {
         never_falls = omega arith;
         allowed = tt;
         fails = tt;
-        seats = unanswered seat (call.OpenRoot slash path) (host.Ok (value.Fd (fd 3))) refl;
+        seats = unanswered seat (call.OpenRoot slash by_path) (host.Ok (value.Fd (fd 3))) refl;
       },
     ),
     refl,
@@ -81,9 +81,9 @@ only x (b ∷ before) later e = let k : [] ≡ before ++ x ∷ later = cc in abs
 pub came_from_it : (root file : Stat) → WasRoot (start root file) (turn ∷ []) (opened root file 0) 0
 came_from_it root file = (
   0,
-  record { before = []; later = []; path = slash; flags = path; fd = fd 3; in_turn = refl },
+  record { before = []; later = []; path = slash; flags = by_path; fd = fd 3; in_turn = refl },
   (λ at way. subst (λ (z : World). IsOpenOn z.tree (fd 3) 0) way.to_now
-      (record { object = 0; path_only = includes path.0 o_path }, set_at_same none 3 (opened_by 0), refl)),
+      (record { object = 0; path_only = includes by_path.0 o_path }, set_at_same none 3 (opened_by 0), refl)),
 )
 
 same_fd : (a b : Fd) → Host (host.Ok (value.Fd a)) ≡ Host (host.Ok (value.Fd b)) → a ≡ b

@@ -32,7 +32,7 @@ use Rattle.pt_iface.specs.declared.request.Request.TheVariants as request
 use Rattle.pt_frame.specs.Deed.{Calls, Changes}
 use Rattle.pt_frame.specs.Grammar.{Belongs}
 use Rattle.pt_req.specs.Entries.{entry_of}
-use Rattle.pt_req.specs.Parts.{path}
+use Rattle.pt_req.specs.Parts.{by_path}
 use Rattle.pt_attr.specs.Pattern.{Asked, Requests, grammar_for}
 use Rattle.pt_iface.specs.declared.request.Context.{Context}
 use Rattle.pt_frame.specs.declared.act.ActReply.TheVariants.{Event, Host}
@@ -265,7 +265,7 @@ call_of job asked told = turn_by job (made (Calls asked) (Host told))
 abbrev turns : Plan → Stat → Stat → List Turn
 turns plan root file =
     event_of 0 change.Begin (event.Began 0 nothing_agreed)
-    ∷ call_of 0 (call.OpenRoot plan.config.root_dir path) (host.Ok (value.Fd (fd 3)))
+    ∷ call_of 0 (call.OpenRoot plan.config.root_dir by_path) (host.Ok (value.Fd (fd 3)))
     ∷ call_of 0 (call.Stat (fd 3)) (host.Ok (value.Stat root))
     ∷ event_of 0 change.TakeFd event.Taken
     ∷ event_of 0 (change.InsertRoot 0 (File (fd 3)) root.ids root.mode None) (event.Inserted 1)
@@ -273,8 +273,8 @@ turns plan root file =
     ∷ event_of 2 change.Begin (event.Began 0 nothing_agreed)
     ∷ event_of 1 (change.Resolve 1) (event.Resolved 0 (File (fd 3)) root.ids root.mode)
     ∷ event_of 2 (change.Resolve 1) (event.Resolved 0 (File (fd 3)) root.ids root.mode)
-    ∷ call_of 1 (call.OpenAt (fd 3) name path 0) (host.Ok (value.Fd (fd 4)))
-    ∷ call_of 2 (call.OpenAt (fd 3) name path 0) (host.Ok (value.Fd (fd 5)))
+    ∷ call_of 1 (call.OpenAt (fd 3) name by_path 0) (host.Ok (value.Fd (fd 4)))
+    ∷ call_of 2 (call.OpenAt (fd 3) name by_path 0) (host.Ok (value.Fd (fd 5)))
     ∷ call_of 1 (call.Stat (fd 4)) (host.Ok (value.Stat file))
     ∷ call_of 2 (call.Stat (fd 5)) (host.Ok (value.Stat file))
     ∷ event_of 1 (change.Claim 0 None file.ids) event.Absent
@@ -290,9 +290,9 @@ turns plan root file =
     ∷ event_of 2 change.GiveFd event.Given
     ∷ event_of 2 (change.Unpin 0) (event.Done 0) ∷ []
 
--- an entry of what is opened by `path`
+-- an entry of what is opened by `by_path`
 abbrev pub opened_by : ℕ → Option Opened
-opened_by object = Some (record { object = object; path_only = includes path.0 o_path })
+opened_by object = Some (record { object = object; path_only = includes by_path.0 o_path })
 
 abbrev pub none : ℕ → Option Opened
 none = λ fd. None
@@ -318,13 +318,13 @@ starts root file apart kind =
     record { tables = refl; well_formed = well root file apart kind none small_none; past = refl }
 
 small_three : IsSmall three
-small_three = small_open none 3 (record { object = 0; path_only = includes path.0 o_path }) (omega arith) small_none
+small_three = small_open none 3 (record { object = 0; path_only = includes by_path.0 o_path }) (omega arith) small_none
 
 small_four : IsSmall four
-small_four = small_open three 4 (record { object = 1; path_only = includes path.0 o_path }) (omega arith) small_three
+small_four = small_open three 4 (record { object = 1; path_only = includes by_path.0 o_path }) (omega arith) small_three
 
 small_five : IsSmall five
-small_five = small_open four 5 (record { object = 1; path_only = includes path.0 o_path }) (omega arith) small_four
+small_five = small_open four 5 (record { object = 1; path_only = includes by_path.0 o_path }) (omega arith) small_four
 
 pub runs : (plan : Plan) (root file : Stat) (seat : HostSeat) → root.ids ≢ file.ids →
     kind_of root.mode ≡ directory_kind → Leads (start root file) (turns plan root file)
@@ -337,7 +337,7 @@ runs plan root file seat apart kind =
     let at_end = well root file apart kind closed (small_close five 5 small_five) in
     let slot : 2 < 5 = omega arith in
     event_then seat _ 0 change.Begin (event.Began 0 nothing_agreed) (empty_tables 5) _ (refl, refl) (
-    call_then seat _ 0 (call.OpenRoot plan.config.root_dir path) (value.Fd (fd 3)) (tree root file three) _ (
+    call_then seat _ 0 (call.OpenRoot plan.config.root_dir by_path) (value.Fd (fd 3)) (tree root file three) _ (
       0,
       record { listed = omega arith; fresh = refl; allowed = refl; adds = refl },
     ) tt refl (λ asks. asks) at_none at_three (
@@ -360,7 +360,7 @@ runs plan root file seat apart kind =
     event_then seat _ 2 (change.Resolve 1) (event.Resolved 0 (File (fd 3)) root.ids root.mode)
     (tables 2 1 4 (row root 2 ∷ [])) _
     (inr (row root 1, ([], here), (refl, refl), inl (omega arith, (refl, (row root 2 ∷ [], at, refl))))) (
-    call_then seat _ 1 (call.OpenAt (fd 3) name path 0) (value.Fd (fd 4)) (tree root file four) _
+    call_then seat _ 1 (call.OpenAt (fd 3) name by_path 0) (value.Fd (fd 4)) (tree root file four) _
     (inl (
       1,
       refl,
@@ -373,7 +373,7 @@ runs plan root file seat apart kind =
             refl;
       },
     )) tt refl (λ asks. asks) at_three at_four (
-    call_then seat _ 2 (call.OpenAt (fd 3) name path 0) (value.Fd (fd 5)) (tree root file five) _
+    call_then seat _ 2 (call.OpenAt (fd 3) name by_path 0) (value.Fd (fd 5)) (tree root file five) _
     (inl (
       1,
       refl,

@@ -23,13 +23,12 @@ use Rattle.pt_frame.specs.Tree.{Tree, Gives, Shuts}
 use Rattle.pt_frame.specs.declared.act.ActReply.TheVariants.{Event}
 use Rattle.pt_frame.specs.declared.hold.Hold.{Hold}
 use Rattle.pt_frame.specs.declared.hold.Hold.TheVariants as hold
+use Rattle.pt_session.specs.Tables.{nothing_agreed}
 use Rattle.pt_req.specs.Entries.{is_bad_name, is_bad_offset, can_open}
-use Rattle.pt_req.specs.Options.{with_bits, cleaned, inode_flags, without_nofollow, open_options, agreed_with}
-use Rattle.pt_req.specs.Options.{nothing_agreed}
-use Rattle.pt_req.specs.Parts.{path, file_of, numbered, looked_of, look_up, open_form, open_row, root_open}
+use Rattle.pt_req.specs.Parts.{by_path, file_of, numbered, looked_of, look_up, open_form, open_row, root_open}
 use Rattle.pt_req.specs.Requests.{init, destroy, root, lookup, batch_forget, open_file, release, read, unserved, tree_of}
 use Rattle.pt_req.specs.Steps.{session_of, open_at, stat, draw_handle, take_fd, insert_handle}
-use Rattle.pt_req.specs.declared.begun.Session.{Session}
+use Rattle.pt_req.specs.declared.begun.Begun.{Begun}
 use Rattle.pt_req.specs.declared.parts.looked.Looked.{Looked}
 use Rattle.pt_req.specs.declared.plan.Plan.{Plan}
 use Rattle.pt_law.specs.Discipline.{Notes, blank, with_root}
@@ -54,7 +53,7 @@ Numbered asked era next holds marks notes =
     (number : ℕ) (front : List Hold) (later : Notes) → Lasts notes later →
     Goes asked (next number) (hold.Count era number ∷ (front ++ holds)) marks later
 
-fit_numbered : (asked : Request) (session : Session) (fd : Fd) (told : Stat) (next : ℕ → Tree) (row : ℕ) (dir : Fd)
+fit_numbered : (asked : Request) (session : Begun) (fd : Fd) (told : Stat) (next : ℕ → Tree) (row : ℕ) (dir : Fd)
     (holds : List Hold) (marks : List ℕ) (notes : Notes) → notes.era ≡ Some session.era → notes.latest ≡ Some fd →
     Numbered asked session.era next holds marks notes →
     Goes asked (numbered session (File fd) told next)
@@ -71,32 +70,32 @@ fit_numbered asked session fd told next row dir holds marks notes e l f =
     (λ number. f number (top ∷ hold.Slot ∷ pin ∷ []) _ (refl, refl)))))
 
 -- A lookup gives an entry, whose count is the last hold.
-abbrev pub Looks : Request → Session → (Looked → Tree) → List Hold → List ℕ → Notes → Type 0
+abbrev pub Looks : Request → Begun → (Looked → Tree) → List Hold → List ℕ → Notes → Type 0
 Looks asked session next holds marks notes =
     (looked : Looked) (later : Notes) → Lasts notes later →
     Goes asked (next looked) (hold.Count session.era looked.entry.inode ∷ holds) marks later
 
 -- what follows the opening of the name
-abbrev stated : Plan → Session → ObjIds → (Looked → Tree) → Fd → Tree
+abbrev stated : Plan → Begun → ObjIds → (Looked → Tree) → Fd → Tree
 stated plan session ids next fd =
     stat fd (λ told. numbered session (File fd) told (λ number.
     Shuts true (next (looked_of plan session ids told (File fd) number))))
 
-fit_directory : (asked : Request) (plan : Plan) (session : Session) (parent : ℕ) (name : List ℕ) (next : Looked → Tree)
+fit_directory : (asked : Request) (plan : Plan) (session : Begun) (parent : ℕ) (name : List ℕ) (next : Looked → Tree)
     (holds : List Hold) (marks : List ℕ) (notes : Notes) → notes.era ≡ Some session.era →
     Looks asked session next holds marks notes → (row : ℕ) (form : RowForm) (ids : ObjIds) (mode : ℕ)
     (steps : List Step) →
-    Fit asked (file_of form (λ dir. open_at dir name path (stated plan session ids next)))
+    Fit asked (file_of form (λ dir. open_at dir name by_path (stated plan session ids next)))
     (hold.Pin row (row_fd form) ∷ holds) (length holds ∷ marks) (noting parent row notes) steps
 fit_directory asked plan session parent name next holds marks notes e f row (File dir) ids mode steps =
-    (fit_open_at asked dir name path row parent (stated plan session ids next) holds (length holds ∷ marks)
+    (fit_open_at asked dir name by_path row parent (stated plan session ids next) holds (length holds ∷ marks)
     (noting parent row notes) refl refl
     (λ fd. fit_stat asked fd None _ (hold.Pin row (Some dir) ∷ holds) (length holds ∷ marks) _ (λ told.
     fit_numbered asked session fd told _ row dir holds (length holds ∷ marks) _ e refl (λ number front later l.
     fit_shuts_passing asked _ (hold.Count session.era number) front holds marks later (λ last m.
     f (looked_of plan session ids told (File fd) number) last (m.0 ∙ l.0, m.1 ∙ l.1)))))).on steps
 
-pub fit_look_up : (asked : Request) (plan : Plan) (session : Session) (parent : ℕ) (name : List ℕ)
+pub fit_look_up : (asked : Request) (plan : Plan) (session : Begun) (parent : ℕ) (name : List ℕ)
     (next : Looked → Tree) (holds : List Hold) (marks : List ℕ) (notes : Notes) → IsBare holds →
     notes.era ≡ Some session.era → Looks asked session next holds marks notes →
     Goes asked (look_up plan session parent name next) holds marks notes
@@ -114,12 +113,12 @@ root_lasts : (rooted : Bool) (fd : Fd) (notes : Notes) →
 root_lasts true fd notes = refl
 root_lasts false fd notes = refl
 
-pub fit_root_open : (asked : Request) (plan : Plan) (session : Session) (agreed : Option Negotiated) (next : Tree)
+pub fit_root_open : (asked : Request) (plan : Plan) (session : Begun) (agreed : Option Negotiated) (next : Tree)
     (holds : List Hold) (marks : List ℕ) (notes : Notes) → IsBare holds → notes.era ≡ Some session.era →
     notes.rooted ≡ false → ((later : Notes) → Goes asked next holds marks later) →
     Goes asked (root_open plan session agreed next) holds marks notes
 fit_root_open asked plan session agreed next holds marks notes b e r f =
-    fit_open_root asked plan.config.root_dir path _ holds marks notes b (λ fd.
+    fit_open_root asked plan.config.root_dir by_path _ holds marks notes b (λ fd.
     fit_stat asked fd None _ holds marks (with_root fd notes) (λ told.
     fit_take_fd asked fd (Some told.ids) _ holds marks (with_root fd notes)
     (fit_insert_root asked session fd told agreed next holds marks (with_root fd notes)
@@ -172,7 +171,7 @@ fit_opened asked flags number row (File dir) ids mode next marks notes steps o f
     kind false e = (tt, inr (inl (o, e, refl)), tt)
 
 -- what follows the opening of a number
-abbrev handled : Plan → Session → ℕ → ℕ → Fd → Tree
+abbrev handled : Plan → Begun → ℕ → ℕ → Fd → Tree
 handled plan session inode flags fd =
     draw_handle (λ handle. take_fd (insert_handle session handle inode fd (
     Shuts false (Gives (answer.Opened handle (open_options plan.config flags))))))

@@ -16,7 +16,7 @@ use Rattle.pt_frame.specs.Deed.{Calls, Changes, Step}
 use Rattle.pt_law.specs.Discipline.{fd_of}
 use Rattle.pt_law.specs.Discipline.{made}
 use Rattle.pt_req.specs.Entries.{entry_of}
-use Rattle.pt_req.specs.Parts.{path}
+use Rattle.pt_req.specs.Parts.{by_path}
 use Rattle.pt_frame.specs.declared.act.ActReply.{ActReply}
 use Rattle.pt_frame.specs.declared.act.ActReply.TheVariants.{Event, Host}
 use Rattle.pt_req.specs.declared.plan.Plan.{Plan}
@@ -54,7 +54,7 @@ pub record IsLookedUp (plan : Plan) (parent : ℕ) (name : List ℕ) (entry : En
   pub in_turn : steps ≡
       made (Changes change.Begin) (Event (event.Began era agreed))
       ∷ made (Changes (change.Resolve parent)) (Event (event.Resolved row form ids mode))
-      ∷ made (Calls (call.OpenAt (fd_of form) name path 0)) (Host (host.Ok (value.Fd fd)))
+      ∷ made (Calls (call.OpenAt (fd_of form) name by_path 0)) (Host (host.Ok (value.Fd fd)))
       ∷ made (Calls (call.Stat fd)) (Host (host.Ok (value.Stat stat)))
       ∷ giving
   pub numbered : Numbers era fd stat entry.inode giving

@@ -27,19 +27,20 @@ use Rattle.pt_frame.specs.Replies.{is_cut}
 use Rattle.pt_frame.specs.Tended.{is_of_seat}
 use Rattle.pt_frame.specs.Tree.{Tree, Gives, Refuses, Asks, Brackets, Shuts}
 use Rattle.pt_frame.specs.declared.act.ActReply.{ActReply}
-use Rattle.pt_req.specs.Options.{cleaned, inode_flags, with_bits, agreed_with, nothing_agreed}
+use Rattle.pt_session.specs.Tables.{nothing_agreed}
+use Rattle.pt_req.specs.Options.{cleaned, inode_flags, with_bits, agreed_with}
 use Rattle.pt_req.specs.Steps.{session_of, Resolved, on_began, on_cleared, on_resolved, on_fd, on_stat, on_bytes}
 use Rattle.pt_req.specs.Steps.{on_claim, on_taken, on_drawn, on_inserted, on_root, on_handle, on_pinned, on_done}
 use Rattle.pt_req.specs.Steps.{begin, clear, resolve, open_root, open_at, reopen, stat, read_at, claim, take_fd}
 use Rattle.pt_req.specs.Steps.{draw_node, draw_handle, insert, insert_root, insert_handle, pin_handle, forget_all}
 use Rattle.pt_req.specs.Steps.{release_handle}
 use Rattle.pt_req.specs.Entries.{is_bad_name, is_bad_offset, can_open}
-use Rattle.pt_req.specs.Parts.{path, named, placed, file_of, open_form, open_row, open_inode, numbered, looked_of}
+use Rattle.pt_req.specs.Parts.{by_path, named, placed, file_of, open_form, open_row, open_inode, numbered, looked_of}
 use Rattle.pt_req.specs.Parts.{look_up, open_num, root_open}
 use Rattle.pt_req.specs.Requests.{init, destroy, root, lookup, batch_forget, open_file, release, read, unserved}
 use Rattle.pt_req.specs.Requests.{tree_of}
 use Rattle.pt_req.specs.Laws.{IsNoMemory}
-use Rattle.pt_req.specs.declared.begun.Session.{Session}
+use Rattle.pt_req.specs.declared.begun.Begun.{Begun}
 use Rattle.pt_req.specs.declared.parts.looked.Looked.{Looked}
 use Rattle.pt_req.specs.declared.plan.Plan.{Plan}
 use Rattle.pt_req.proofs.Replying.{if_began, if_cleared, if_resolved, if_fd, if_stat, if_bytes, if_claimed, if_taken}
@@ -60,7 +61,7 @@ pub record Walk (Q : Tree → Type 0) (R : ActReply → Tree → Type 0) : Type 
   pub shuts : (passes : Bool) (rest : Tree) → Q rest → Q (Shuts passes rest)
 
 module _ {Q : Tree → Type 0} {R : ActReply → Tree → Type 0} (w : Walk Q R) where
-  begins : (next : Session → Tree) → ((session : Session) → Q (next session)) → Q (begin next)
+  begins : (next : Begun → Tree) → ((session : Begun) → Q (next session)) → Q (begin next)
   begins next so = w.asks (Changes change.Begin) (on_began next) refl
       (if_began R next w.refuses (λ era agreed. w.had _ _ refl (so (session_of era agreed))))
 
@@ -96,7 +97,7 @@ module _ {Q : Tree → Type 0} {R : ActReply → Tree → Type 0} (w : Walk Q R)
   reads_at fd offset size next so = w.asks (Calls (call.ReadAt fd offset size)) (on_bytes next) refl
       (if_bytes R next w.refuses (λ bytes. w.had _ _ refl (so bytes)))
 
-  claims : (session : Session) (handle : Option FileHandle) (ids : ObjIds) (next : ℕ → Tree) (absent : Tree) →
+  claims : (session : Begun) (handle : Option FileHandle) (ids : ObjIds) (next : ℕ → Tree) (absent : Tree) →
       ((number : ℕ) → Q (next number)) → Q absent → Q (claim session handle ids next absent)
   claims session handle ids next absent so other =
       w.asks (Changes (change.Claim session.era handle ids)) (on_claim next absent) refl
@@ -114,19 +115,19 @@ module _ {Q : Tree → Type 0} {R : ActReply → Tree → Type 0} (w : Walk Q R)
   draws_handle next so = w.asks (Changes change.DrawHandle) (on_drawn next) refl
       (if_drawn R next w.refuses (λ number. w.had _ _ refl (so number)))
 
-  inserts : (session : Session) (fresh : ℕ) (form : RowForm) (told : Stat) (next : ℕ → Tree) →
+  inserts : (session : Begun) (fresh : ℕ) (form : RowForm) (told : Stat) (next : ℕ → Tree) →
       ((number : ℕ) → Q (next number)) → Q (insert session fresh form told next)
   inserts session fresh form told next so =
       w.asks (Changes (change.Insert session.era fresh form told.ids told.mode)) (on_inserted next) refl
       (if_inserted R next w.refuses (λ number. w.had _ _ refl (so number)) (λ number. w.had _ _ refl (so number)))
 
-  inserts_root : (session : Session) (form : RowForm) (told : Stat) (agreed : Option Negotiated) (next : Tree) →
+  inserts_root : (session : Begun) (form : RowForm) (told : Stat) (agreed : Option Negotiated) (next : Tree) →
       Q next → Q (insert_root session form told agreed next)
   inserts_root session form told agreed next so =
       w.asks (Changes (change.InsertRoot session.era form told.ids told.mode agreed)) (on_root next) refl
       (if_root R next w.refuses (λ number. w.had _ _ refl so))
 
-  inserts_handle : (session : Session) (handle number : ℕ) (fd : Fd) (next : Tree) → Q next →
+  inserts_handle : (session : Begun) (handle number : ℕ) (fd : Fd) (next : Tree) → Q next →
       Q (insert_handle session handle number fd next)
   inserts_handle session handle number fd next so =
       w.asks (Changes (change.InsertHandle session.era handle number fd)) (on_handle next) refl
@@ -156,7 +157,7 @@ module _ {Q : Tree → Type 0} {R : ActReply → Tree → Type 0} (w : Walk Q R)
       Q (open_form form flags next)
   opens_form (File fd) flags next so = reopens fd _ next so
 
-  numbers : (session : Session) (form : RowForm) (told : Stat) (next : ℕ → Tree) →
+  numbers : (session : Begun) (form : RowForm) (told : Stat) (next : ℕ → Tree) →
       ((number : ℕ) → Q (next number)) → Q (numbered session form told next)
   numbers session form told next so =
       claims session None told.ids next _ so (
@@ -164,13 +165,13 @@ module _ {Q : Tree → Type 0} {R : ActReply → Tree → Type 0} (w : Walk Q R)
       draws_node _ (λ fresh.
       inserts session fresh form told next so)))
 
-  looks_up : (plan : Plan) (session : Session) (parent : ℕ) (name : List ℕ) (next : Looked → Tree) →
+  looks_up : (plan : Plan) (session : Begun) (parent : ℕ) (name : List ℕ) (next : Looked → Tree) →
       ((looked : Looked) → Q (next looked)) → Q (look_up plan session parent name next)
   looks_up plan session parent name next so =
       w.brackets _ (
       resolves parent _ (λ directory.
       files directory.form _ (λ dir.
-      opens_at dir name path _ (λ fd.
+      opens_at dir name by_path _ (λ fd.
       stats fd _ (λ told.
       numbers session (File fd) told _ (λ number.
       w.shuts true _ (so (looked_of plan session directory.ids told (File fd) number))))))))
@@ -178,7 +179,7 @@ module _ {Q : Tree → Type 0} {R : ActReply → Tree → Type 0} (w : Walk Q R)
   refuses_so : (errno : Errno) → Q (Gives (answer.Refused errno))
   refuses_so errno = w.gives (answer.Refused errno) (refl, λ no. no)
 
-  opens_num : (plan : Plan) (session : Session) (number flags : ℕ) (next : ℕ → Tree) →
+  opens_num : (plan : Plan) (session : Begun) (number flags : ℕ) (next : ℕ → Tree) →
       ((handle : ℕ) → Q (next handle)) → Q (open_num plan session number flags next)
   opens_num plan session number flags next so =
       w.brackets _ (
@@ -194,10 +195,10 @@ module _ {Q : Tree → Type 0} {R : ActReply → Tree → Type 0} (w : Walk Q R)
       checked true one other so no = so
       checked false one other so no = no
 
-  opens_shared : (plan : Plan) (session : Session) (agreed : Option Negotiated) (next : Tree) → Q next →
+  opens_shared : (plan : Plan) (session : Begun) (agreed : Option Negotiated) (next : Tree) → Q next →
       Q (root_open plan session agreed next)
   opens_shared plan session agreed next so =
-      opens_root plan.config.root_dir path _ (λ fd.
+      opens_root plan.config.root_dir by_path _ (λ fd.
       stats fd _ (λ told.
       takes _ (
       inserts_root session (File fd) told agreed next so)))

@@ -10,7 +10,8 @@ use Rattle.pt_iface.specs.declared.request.Context.{Context}
 use Rattle.pt_iface.specs.declared.request.Request.{Request}
 use Rattle.pt_iface.specs.declared.request.Request.TheVariants as request
 use Rattle.pt_frame.specs.Tree.{Tree, Gives}
-use Rattle.pt_req.specs.Options.{with_bits, agreed_with, nothing_agreed, init_options, open_options}
+use Rattle.pt_session.specs.Tables.{nothing_agreed}
+use Rattle.pt_req.specs.Options.{with_bits, agreed_with, init_options, open_options}
 use Rattle.pt_req.specs.Steps.{session_of, begin, clear, read_at, pin_handle, forget_all, release_handle}
 use Rattle.pt_req.specs.Parts.{named, placed, look_up, open_num, root_open}
 use Rattle.pt_req.specs.declared.plan.Plan.{Plan}

@@ -26,8 +26,8 @@ use Rattle.pt_req.specs.declared.requests.init.Init.{Init}
 use Rattle.pt_req.specs.declared.requests.init.Init.TheVariants as at_init
 use Rattle.pt_req.specs.declared.requests.destroy.Destroy.{Destroy}
 use Rattle.pt_req.specs.declared.requests.open.Open.{Open}
-use Rattle.pt_req.specs.declared.requests.open.OpenAt.{OpenAt}
-use Rattle.pt_req.specs.declared.requests.open.OpenAt.TheVariants as at_open
+use Rattle.pt_req.specs.declared.requests.open.OpeningAt.{OpeningAt}
+use Rattle.pt_req.specs.declared.requests.open.OpeningAt.TheVariants as at_open
 use Rattle.pt_req.specs.declared.requests.release.Release.{Release}
 use Rattle.pt_req.specs.declared.requests.release.ReleaseAt.{ReleaseAt}
 use Rattle.pt_req.specs.declared.requests.release.ReleaseAt.TheVariants as at_release
@@ -163,14 +163,14 @@ destroy_asks it plan seat = tt
 abbrev pub answers_opened : Plan → ℕ → ℕ → Tree
 answers_opened plan flags handle = Gives (answer.Opened handle (open_options plan.config flags))
 
-abbrev pub open_at_left : OpenAt → ℕ → Plan → Tree
+abbrev pub open_at_left : OpeningAt → ℕ → Plan → Tree
 open_at_left (at_open.Begin inode) flags plan = open_file plan inode flags
 open_at_left (at_open.Open it) flags plan = handle_open_left it plan (answers_opened plan flags)
 
 abbrev pub open_left : Open → Plan → HostSeat → Tree
 open_left it plan seat = open_at_left it.at it.flags plan
 
-abbrev pub open_at_acts : OpenAt → ℕ
+abbrev pub open_at_acts : OpeningAt → ℕ
 open_at_acts (at_open.Begin inode) = 9
 open_at_acts (at_open.Open it) = handle_open_acts it
 
@@ -178,7 +178,7 @@ abbrev pub open_acts : Open → ℕ
 open_acts it = open_at_acts it.at
 
 -- its bracket takes room as a hold does
-abbrev pub open_at_room : OpenAt → ℕ
+abbrev pub open_at_room : OpeningAt → ℕ
 open_at_room (at_open.Begin inode) = 4
 open_at_room (at_open.Open it) = handle_open_room it
 
@@ -188,7 +188,7 @@ open_room it = open_at_room it.at
 abbrev pub open_inserts : Open → ℕ
 open_inserts it = 1
 
-open_at_asks : (at : OpenAt) (flags : ℕ) (plan : Plan) → IsAsks (open_at_left at flags plan)
+open_at_asks : (at : OpeningAt) (flags : ℕ) (plan : Plan) → IsAsks (open_at_left at flags plan)
 open_at_asks (at_open.Begin inode) flags plan = tt
 open_at_asks (at_open.Open it) flags plan = handle_open_asks it plan (answers_opened plan flags)
 

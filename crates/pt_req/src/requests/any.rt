@@ -9,7 +9,7 @@ ghost use Rattle.pt_req.specs.declared.plan.Plan.{Plan};
 
 use crate::plan::Plan;
 use crate::requests::{
-    Destroy, Forget, ForgetAt, Forgotten, Init, Lookup, LookupAt, Open, OpenAt, Read, Reading,
+    Destroy, Forget, ForgetAt, Forgotten, Init, Lookup, LookupAt, Open, OpeningAt, Read, Reading,
     Release, ReleaseAt, Root, Unknown,
 };
 use pt_frame::{ActReply, Body, Next, Wanted};
@@ -59,11 +59,11 @@ impl RequestBody {
             }
             // Whether set-id bits are cleared is decided by a switch that is not there yet.
             Request::Open { inode, flags, .. } => {
-                let at = OpenAt::Begin { inode };
+                let at = OpeningAt::Begin { inode };
                 RequestBody::Open(Open { flags, at })
             }
             Request::OpenDir { inode, flags } => {
-                let at = OpenAt::Begin { inode };
+                let at = OpeningAt::Begin { inode };
                 let flags = flags | OpenFlags::O_DIRECTORY.0;
                 RequestBody::Open(Open { flags, at })
             }

@@ -1,4 +1,4 @@
-use crate::begun::Session;
+use crate::begun::Begun;
 use crate::parts::{HandleOpen, HandleOpenAt, open_options};
 use crate::plan::Plan;
 use pt_frame::{Act, ActReply, Body, Edges, Next, Then, Wanted};
@@ -8,7 +8,7 @@ use pt_session::{Event, EventReply};
 
 /// Where the request `open` stands.
 #[derive(Drop)]
-pub enum OpenAt {
+pub enum OpeningAt {
     Begin { inode: u64 },
     Open(HandleOpen),
 }
@@ -17,7 +17,7 @@ pub enum OpenAt {
 #[derive(Drop)]
 pub struct Open {
     pub flags: u32,
-    pub at: OpenAt,
+    pub at: OpeningAt,
 }
 
 impl Body for Open {
@@ -35,19 +35,19 @@ impl Body for Open {
 
     fn want<'a>(&'a self, plan: &'a Plan, _seat: &'a HostSeat) -> Wanted<'a> {
         let act = match &self.at {
-            OpenAt::Begin { .. } => Act::Event(Event::Begin),
-            OpenAt::Open(part) => part.want(plan),
+            OpeningAt::Begin { .. } => Act::Event(Event::Begin),
+            OpeningAt::Open(part) => part.want(plan),
         };
         Wanted { act, opens: None }
     }
 
     fn take(&mut self, plan: &Plan, _seat: &HostSeat, reply: ActReply) -> Next {
         match &mut self.at {
-            OpenAt::Begin { inode } => match reply {
+            OpeningAt::Begin { inode } => match reply {
                 ActReply::Event(EventReply::Began { era, negotiated }) => {
                     let agreed = negotiated;
-                    self.at = OpenAt::Open(HandleOpen {
-                        session: Session { era, agreed },
+                    self.at = OpeningAt::Open(HandleOpen {
+                        session: Begun { era, agreed },
                         inode: *inode,
                         flags: self.flags,
                         at: HandleOpenAt::Resolve,
@@ -59,7 +59,7 @@ impl Body for Open {
                 }
                 _ => Next::At(Then::Refuses),
             },
-            OpenAt::Open(part) => match part.take(reply).handed() {
+            OpeningAt::Open(part) => match part.take(reply).handed() {
                 Ok(handle) => {
                     let options = open_options(&plan.config, self.flags);
                     Next::Over {
