@@ -18,7 +18,7 @@ use Rattle.pt_frame.specs.declared.finish.Finish.{Finish}
 use Rattle.pt_frame.specs.declared.finish.Finish.TheVariants as finish
 use Rattle.pt_req.specs.Requests.{tree_of}
 use Rattle.pt_req.specs.Steps.{begin, clear}
-use Rattle.pt_req.specs.declared.begun.Begun.{Begun}
+use Rattle.pt_req.specs.declared.begun.BegunSession.{BegunSession}
 use Rattle.pt_req.specs.declared.plan.Plan.{Plan}
 use Rattle.pt_attr.specs.Pattern.{Asked, Requests, Edits, grammar_for}
 use Rattle.pt_law.specs.Laws.{IsBeginning, BeginsFirst}
@@ -45,7 +45,7 @@ refused_now seat true last step steps end (inr b) = b
 refused_now seat false last step steps end b = b
 
 -- where a job goes on it has begun
-begun_first : (seat : HostSeat) (next : Begun → Tree) (steps : List Step) (end : Finish) →
+begun_first : (seat : HostSeat) (next : BegunSession → Tree) (steps : List Step) (end : Finish) →
     Belongs (grammar_of_tree seat (begin next)) steps end → BeginsFirst steps
 begun_first seat next [] end b = tt
 begun_first seat next (step ∷ []) end b = tt
@@ -73,7 +73,7 @@ cleared_first seat next (step ∷ other ∷ steps) end b = go step.deed step.rep
 
 -- each request's tree goes on with the session, or begins it anew
 data Starts : Tree → Type 0 where
-  goes_on : {next : Begun → Tree} → Starts (begin next)
+  goes_on : {next : BegunSession → Tree} → Starts (begin next)
   anew : {next : ℕ → Tree} → Starts (clear next)
 
 starts : (plan : Plan) (seat : HostSeat) (who : Context) (asked : Request) → Starts (tree_of plan seat who asked)

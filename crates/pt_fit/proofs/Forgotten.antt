@@ -32,7 +32,7 @@ use Rattle.pt_req.specs.Parts.{by_path, file_of, numbered, looked_of, look_up, o
 use Rattle.pt_req.specs.Requests.{lookup, open_file, tree_of}
 use Rattle.pt_req.specs.Steps.{session_of, begin, on_began, Resolved, resolve, on_resolved, open_at, stat, draw_handle}
 use Rattle.pt_req.specs.Steps.{take_fd, insert_handle}
-use Rattle.pt_req.specs.declared.begun.Begun.{Begun}
+use Rattle.pt_req.specs.declared.begun.BegunSession.{BegunSession}
 use Rattle.pt_req.specs.declared.plan.Plan.{Plan}
 use Rattle.pt_attr.specs.Pattern.{grammar_of}
 use Rattle.pt_law.specs.World.{Turn, turn_by, TablesGo, TablesRun, steps_of}
@@ -102,7 +102,7 @@ resolved seat marks number next t t' step steps end none refuses go b =
 -- the tree begins and, in a bracket, resolves the number, and passes the refusal on
 abbrev Resolves : ℕ → Tree → Type 0
 Resolves number tree =
-    (next : Begun → Resolved → Tree)
+    (next : BegunSession → Resolved → Tree)
     × (tree ≡ begin (λ session. Brackets (resolve number (next session))))
 
 good_name : (bad : Bool) (next : Tree) → bad ≡ false → (if bad then Gives (answer.Refused einval) else next) ≡ next
@@ -175,7 +175,7 @@ gone_answered_law limit job plan seat who what turns later was now number end r 
     second one (step ∷ steps) next e b = let g = at one step steps e in
         resolved seat (0 ∷ []) number (on_resolved next) g.t g.t' step steps end g.none refl g.go b
 
-    first : (steps : List Step) → steps_of job later ≡ steps → (next : Begun → Resolved → Tree) →
+    first : (steps : List Step) → steps_of job later ≡ steps → (next : BegunSession → Resolved → Tree) →
         Belongs (grammar_of_tree seat (begin (λ session. Brackets (resolve number (next session))))) steps end →
         Answers end
     first [] e next b = absurd b
@@ -184,7 +184,7 @@ gone_answered_law limit job plan seat who what turns later was now number end r 
         let h = happened change.Begin step.deed step.reply g.t g.t' (λ no. no) b.0 g.go in
         let n = began g.t g.t' h.0 h.2 in
         let told : step.reply ≡ Event (event.Began n.0 n.1) = h.1 ∙ ap Event n.2 in
-        let asks : Begun → Tree = λ session. Brackets (resolve number (next session)) in
+        let asks : BegunSession → Tree = λ session. Brackets (resolve number (next session)) in
         elim (follows seat (Changes change.Begin) (on_began asks) [] step steps end
         (ap (closings_in (Changes change.Begin)) told) (ap (λ r. held (Changes change.Begin) r []) told) b) [
           | inl up ↦ inr up

@@ -29,7 +29,7 @@ use Rattle.pt_req.specs.Parts.{by_path, file_of, numbered, look_up}
 use Rattle.pt_req.specs.Requests.{lookup}
 use Rattle.pt_req.specs.Steps.{session_of, on_began, Resolved, on_resolved, on_fd, on_stat, on_claim, on_taken, on_drawn}
 use Rattle.pt_req.specs.Steps.{on_inserted, open_at, stat, take_fd, draw_node, insert}
-use Rattle.pt_req.specs.declared.begun.Begun.{Begun}
+use Rattle.pt_req.specs.declared.begun.BegunSession.{BegunSession}
 use Rattle.pt_req.specs.declared.plan.Plan.{Plan}
 use Rattle.pt_law.specs.Branch.{Along}
 use Rattle.pt_law.specs.Discipline.{made}
@@ -62,7 +62,7 @@ was_host : (deed : Deed) (step : Option Deed) (told : HostReply) → IsStepOf de
 was_host deed (Some same) told i = λ j. made (i j) (Host told)
 was_host deed None told i = absurd i
 
-after_began : (deed : Deed) (step : Option Deed) (told : ActReply) (next : Begun → Tree) (entry : Entry)
+after_began : (deed : Deed) (step : Option Deed) (told : ActReply) (next : BegunSession → Tree) (entry : Entry)
     (steps : List Step) → IsStepOf deed step told → Along (on_began next told) steps (answer.Entry entry) →
     (era : ℕ) × (agreed : Negotiated)
     × Was deed (record { deed = step; reply = told }) (Event (event.Began era agreed))
@@ -140,7 +140,7 @@ gives_entry : (given entry : Entry) (steps : List Step) → Along (Gives (answer
 gives_entry given entry [] a = (refl, cc)
 gives_entry given entry (step ∷ steps) a = absurd a
 
-after_insertion : (session : Begun) (fd : Fd) (told : Stat) (entry_for : ℕ → Entry) (fresh : ℕ) (entry : Entry)
+after_insertion : (session : BegunSession) (fd : Fd) (told : Stat) (entry_for : ℕ → Entry) (fresh : ℕ) (entry : Entry)
     (steps : List Step) →
     Along (insert session fresh (File fd) told (entered entry_for)) steps (answer.Entry entry) →
     (number : ℕ) × (reply : ActReply) × InsertionGives number reply
@@ -153,7 +153,7 @@ after_insertion session fd told entry_for fresh entry (step ∷ steps) a =
     let g = gives_entry (entry_for k.0) entry steps k.4 in
     (k.0, k.1, k.2, (λ i. k.3 i ∷ g.0 i), g.1)
 
-after_draw : (session : Begun) (fd : Fd) (told : Stat) (entry_for : ℕ → Entry) (entry : Entry) (steps : List Step) →
+after_draw : (session : BegunSession) (fd : Fd) (told : Stat) (entry_for : ℕ → Entry) (entry : Entry) (steps : List Step) →
     Along (draw_node (λ fresh. insert session fresh (File fd) told (entered entry_for))) steps (answer.Entry entry) →
     (fresh : ℕ) × (number : ℕ) × (reply : ActReply) × InsertionGives number reply
     × (steps ≡ made (Changes change.DrawNode) (Event (event.Drawn fresh))
@@ -166,7 +166,7 @@ after_draw session fd told entry_for entry (step ∷ steps) a =
     let n = after_insertion session fd told entry_for k.0 entry steps k.2 in
     (k.0, n.0, n.1, n.2, (λ i. k.1 i ∷ n.3 i), n.4)
 
-after_slot : (session : Begun) (fd : Fd) (told : Stat) (entry_for : ℕ → Entry) (entry : Entry) (steps : List Step) →
+after_slot : (session : BegunSession) (fd : Fd) (told : Stat) (entry_for : ℕ → Entry) (entry : Entry) (steps : List Step) →
     Along (take_fd (draw_node (λ fresh. insert session fresh (File fd) told (entered entry_for)))) steps
     (answer.Entry entry) →
     (fresh : ℕ) × (number : ℕ) × (reply : ActReply) × InsertionGives number reply
@@ -190,7 +190,7 @@ own_number : (entry_for : ℕ → Entry) (entry : Entry) (number : ℕ) → ((n 
     entry ≡ entry_for number → number ≡ entry.inode
 own_number entry_for entry number own e = sym (ap (λ (x : Entry). x.inode) e ∙ own number)
 
-after_numbered : (session : Begun) (fd : Fd) (told : Stat) (entry_for : ℕ → Entry) (entry : Entry)
+after_numbered : (session : BegunSession) (fd : Fd) (told : Stat) (entry_for : ℕ → Entry) (entry : Entry)
     (steps : List Step) → ((n : ℕ) → (entry_for n).inode ≡ n) →
     Along (numbered session (File fd) told (entered entry_for)) steps (answer.Entry entry) →
     Numbers session.era fd told entry.inode steps × (entry ≡ entry_for entry.inode)
@@ -222,11 +222,11 @@ good_name true next entry (step ∷ steps) a = absurd a
 good_name false next entry steps a = a
 
 -- what a lookup in this directory gives
-abbrev entry_in : Plan → Begun → ObjIds → Stat → ℕ → Entry
+abbrev entry_in : Plan → BegunSession → ObjIds → Stat → ℕ → Entry
 entry_in plan session ids told number = entry_of plan session.agreed ids told number
 
 -- what follows the parent
-abbrev in_directory : Plan → Begun → ObjIds → RowForm → List ℕ → Tree
+abbrev in_directory : Plan → BegunSession → ObjIds → RowForm → List ℕ → Tree
 in_directory plan session ids form name =
     file_of form (λ dir. open_at dir name by_path (λ fd. stat fd (λ told.
     numbered session (File fd) told (entered (entry_in plan session ids told)))))
@@ -240,14 +240,14 @@ looked_up plan parent name entry (begin ∷ []) a =
     Gives (answer.Entry looked.entry))) entry [] b.3)
 looked_up plan parent name entry (begin ∷ resolve ∷ steps) a =
     let b = after_began (Changes change.Begin) begin.deed begin.reply _ entry (resolve ∷ steps) a.0 a.1 in
-    let session : Begun = session_of b.0 b.1 in
+    let session : BegunSession = session_of b.0 b.1 in
     let g = good_name (is_bad_name name) (look_up plan session parent name (λ looked.
     Gives (answer.Entry looked.entry))) entry (resolve ∷ steps) b.3 in
     let r = after_resolved (Changes (change.Resolve parent)) resolve.deed resolve.reply (λ directory.
     in_directory plan session directory.ids directory.form name) entry steps g.0 g.1 in
     go session b.2 r.0 r.1 r.2 r.3 r.4 steps r.5
   where
-    go : (session : Begun) → Was (Changes change.Begin) begin (Event (event.Began session.era session.agreed)) →
+    go : (session : BegunSession) → Was (Changes change.Begin) begin (Event (event.Began session.era session.agreed)) →
         (row : ℕ) (form : RowForm) (ids : ObjIds) (mode : ℕ) →
         Was (Changes (change.Resolve parent)) resolve (Event (event.Resolved row form ids mode)) →
         (steps : List Step) → Along (in_directory plan session ids form name) steps (answer.Entry entry) →

@@ -27,7 +27,7 @@ use Rattle.pt_frame.specs.declared.hold.Hold.TheVariants as hold
 use Rattle.pt_req.specs.Steps.{session_of, begin, clear, Resolved, resolve, open_root, open_at, reopen, stat, read_at, claim}
 use Rattle.pt_req.specs.Steps.{take_fd, draw_node, draw_handle, insert, insert_root, insert_handle, pin_handle}
 use Rattle.pt_req.specs.Steps.{forget_all, release_handle}
-use Rattle.pt_req.specs.declared.begun.Begun.{Begun}
+use Rattle.pt_req.specs.declared.begun.BegunSession.{BegunSession}
 use Rattle.pt_law.specs.Discipline.{Notes, with_root, unnoted}
 use Rattle.pt_law.specs.Keeps.{Lasts, LiesOnSlot.{here as lies}, down_to}
 use Rattle.pt_law.specs.Discipline.{made}
@@ -45,9 +45,9 @@ on_holds : (asked : Request) (tree : Tree) (these those : List Hold) (marks : Li
 on_holds asked tree these those marks notes path e f =
     subst (λ (z : List Hold). Fit asked tree z marks notes path) (sym e) f
 
-pub fit_begin : (asked : Request) (next : Begun → Tree) (holds : List Hold) (marks : List ℕ) (notes : Notes) →
+pub fit_begin : (asked : Request) (next : BegunSession → Tree) (holds : List Hold) (marks : List ℕ) (notes : Notes) →
     notes.era ≡ None →
-    ((session : Begun) → Goes asked (next session) holds marks (record notes { era = Some session.era })) →
+    ((session : BegunSession) → Goes asked (next session) holds marks (record notes { era = Some session.era })) →
     Goes asked (begin next) holds marks notes
 fit_begin asked next holds marks notes none f = record {
   on = λ path. (
@@ -210,7 +210,7 @@ fit_read_at asked fd offset size row next holds marks notes f = record {
   );
 }
 
-pub fit_claim : (asked : Request) (session : Begun) (fd : Fd) (ids : ObjIds) (next : ℕ → Tree) (absent : Tree)
+pub fit_claim : (asked : Request) (session : BegunSession) (fd : Fd) (ids : ObjIds) (next : ℕ → Tree) (absent : Tree)
     (holds : List Hold) (marks : List ℕ) (notes : Notes) → notes.era ≡ Some session.era → notes.latest ≡ Some fd →
     ((number : ℕ) → Goes asked (next number) (hold.Count session.era number ∷ hold.Fd fd (Some ids) ∷ holds) marks
     notes) →
@@ -280,7 +280,7 @@ fit_draw_handle asked next holds marks notes f = record {
 }
 
 -- a new row takes the descriptor on top and its slot; or the object has a number
-pub fit_insert : (asked : Request) (session : Begun) (fresh : ℕ) (fd : Fd) (told : Stat) (next : ℕ → Tree)
+pub fit_insert : (asked : Request) (session : BegunSession) (fresh : ℕ) (fd : Fd) (told : Stat) (next : ℕ → Tree)
     (holds : List Hold) (marks : List ℕ) (notes : Notes) → IsBare holds → notes.era ≡ Some session.era →
     notes.latest ≡ Some fd → notes.drawn ≡ Some fresh →
     ((number : ℕ) → Goes asked (next number) (hold.Count session.era number ∷ holds) marks
@@ -309,7 +309,7 @@ fit_insert asked session fresh fd told next holds marks notes b e l d f g = reco
   );
 }
 
-pub fit_insert_root : (asked : Request) (session : Begun) (fd : Fd) (told : Stat) (agreed : Option Negotiated)
+pub fit_insert_root : (asked : Request) (session : BegunSession) (fd : Fd) (told : Stat) (agreed : Option Negotiated)
     (next : Tree) (holds : List Hold) (marks : List ℕ) (notes : Notes) → notes.era ≡ Some session.era →
     notes.root ≡ Some fd → Goes asked next holds marks (unnoted fd notes) →
     Goes asked (insert_root session (File fd) told agreed next) (hold.Fd fd (Some told.ids) ∷ hold.Slot ∷ holds) marks
@@ -331,7 +331,7 @@ fit_insert_root asked session fd told agreed next holds marks notes e r f = reco
   );
 }
 
-pub fit_insert_handle : (asked : Request) (session : Begun) (handle number row : ℕ) (fd : Fd) (was : Option ObjIds)
+pub fit_insert_handle : (asked : Request) (session : BegunSession) (handle number row : ℕ) (fd : Fd) (was : Option ObjIds)
     (next : Tree) (holds : List Hold) (marks : List ℕ) (notes : Notes) → notes.era ≡ Some session.era →
     notes.handle ≡ Some handle → notes.resolved ≡ Some (record { number = number; row = row }) →
     notes.reopened ≡ Some fd → Goes asked next holds marks (record (unnoted fd notes) { handle = None }) →

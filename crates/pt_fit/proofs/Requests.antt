@@ -28,7 +28,7 @@ use Rattle.pt_req.specs.Entries.{is_bad_name, is_bad_offset, can_open}
 use Rattle.pt_req.specs.Parts.{by_path, file_of, numbered, looked_of, look_up, open_form, open_row, root_open}
 use Rattle.pt_req.specs.Requests.{init, destroy, root, lookup, batch_forget, open_file, release, read, unserved, tree_of}
 use Rattle.pt_req.specs.Steps.{session_of, open_at, stat, draw_handle, take_fd, insert_handle}
-use Rattle.pt_req.specs.declared.begun.Begun.{Begun}
+use Rattle.pt_req.specs.declared.begun.BegunSession.{BegunSession}
 use Rattle.pt_req.specs.declared.parts.looked.Looked.{Looked}
 use Rattle.pt_req.specs.declared.plan.Plan.{Plan}
 use Rattle.pt_law.specs.Discipline.{Notes, blank, with_root}
@@ -53,7 +53,7 @@ Numbered asked era next holds marks notes =
     (number : ℕ) (front : List Hold) (later : Notes) → Lasts notes later →
     Goes asked (next number) (hold.Count era number ∷ (front ++ holds)) marks later
 
-fit_numbered : (asked : Request) (session : Begun) (fd : Fd) (told : Stat) (next : ℕ → Tree) (row : ℕ) (dir : Fd)
+fit_numbered : (asked : Request) (session : BegunSession) (fd : Fd) (told : Stat) (next : ℕ → Tree) (row : ℕ) (dir : Fd)
     (holds : List Hold) (marks : List ℕ) (notes : Notes) → notes.era ≡ Some session.era → notes.latest ≡ Some fd →
     Numbered asked session.era next holds marks notes →
     Goes asked (numbered session (File fd) told next)
@@ -70,18 +70,18 @@ fit_numbered asked session fd told next row dir holds marks notes e l f =
     (λ number. f number (top ∷ hold.Slot ∷ pin ∷ []) _ (refl, refl)))))
 
 -- A lookup gives an entry, whose count is the last hold.
-abbrev pub Looks : Request → Begun → (Looked → Tree) → List Hold → List ℕ → Notes → Type 0
+abbrev pub Looks : Request → BegunSession → (Looked → Tree) → List Hold → List ℕ → Notes → Type 0
 Looks asked session next holds marks notes =
     (looked : Looked) (later : Notes) → Lasts notes later →
     Goes asked (next looked) (hold.Count session.era looked.entry.inode ∷ holds) marks later
 
 -- what follows the opening of the name
-abbrev stated : Plan → Begun → ObjIds → (Looked → Tree) → Fd → Tree
+abbrev stated : Plan → BegunSession → ObjIds → (Looked → Tree) → Fd → Tree
 stated plan session ids next fd =
     stat fd (λ told. numbered session (File fd) told (λ number.
     Shuts true (next (looked_of plan session ids told (File fd) number))))
 
-fit_directory : (asked : Request) (plan : Plan) (session : Begun) (parent : ℕ) (name : List ℕ) (next : Looked → Tree)
+fit_directory : (asked : Request) (plan : Plan) (session : BegunSession) (parent : ℕ) (name : List ℕ) (next : Looked → Tree)
     (holds : List Hold) (marks : List ℕ) (notes : Notes) → notes.era ≡ Some session.era →
     Looks asked session next holds marks notes → (row : ℕ) (form : RowForm) (ids : ObjIds) (mode : ℕ)
     (steps : List Step) →
@@ -95,7 +95,7 @@ fit_directory asked plan session parent name next holds marks notes e f row (Fil
     fit_shuts_passing asked _ (hold.Count session.era number) front holds marks later (λ last m.
     f (looked_of plan session ids told (File fd) number) last (m.0 ∙ l.0, m.1 ∙ l.1)))))).on steps
 
-pub fit_look_up : (asked : Request) (plan : Plan) (session : Begun) (parent : ℕ) (name : List ℕ)
+pub fit_look_up : (asked : Request) (plan : Plan) (session : BegunSession) (parent : ℕ) (name : List ℕ)
     (next : Looked → Tree) (holds : List Hold) (marks : List ℕ) (notes : Notes) → IsBare holds →
     notes.era ≡ Some session.era → Looks asked session next holds marks notes →
     Goes asked (look_up plan session parent name next) holds marks notes
@@ -113,7 +113,7 @@ root_lasts : (rooted : Bool) (fd : Fd) (notes : Notes) →
 root_lasts true fd notes = refl
 root_lasts false fd notes = refl
 
-pub fit_root_open : (asked : Request) (plan : Plan) (session : Begun) (agreed : Option Negotiated) (next : Tree)
+pub fit_root_open : (asked : Request) (plan : Plan) (session : BegunSession) (agreed : Option Negotiated) (next : Tree)
     (holds : List Hold) (marks : List ℕ) (notes : Notes) → IsBare holds → notes.era ≡ Some session.era →
     notes.rooted ≡ false → ((later : Notes) → Goes asked next holds marks later) →
     Goes asked (root_open plan session agreed next) holds marks notes
@@ -171,7 +171,7 @@ fit_opened asked flags number row (File dir) ids mode next marks notes steps o f
     kind false e = (tt, inr (inl (o, e, refl)), tt)
 
 -- what follows the opening of a number
-abbrev handled : Plan → Begun → ℕ → ℕ → Fd → Tree
+abbrev handled : Plan → BegunSession → ℕ → ℕ → Fd → Tree
 handled plan session inode flags fd =
     draw_handle (λ handle. take_fd (insert_handle session handle inode fd (
     Shuts false (Gives (answer.Opened handle (open_options plan.config flags))))))

@@ -35,7 +35,7 @@ use Rattle.pt_req.specs.Parts.{by_path, named, file_of, numbered, looked_of, loo
 use Rattle.pt_req.specs.Requests.{lookup}
 use Rattle.pt_req.specs.Steps.{session_of, on_began, Resolved, on_resolved, on_fd, on_stat, on_claim, on_taken, on_drawn}
 use Rattle.pt_req.specs.Steps.{on_inserted, open_at, stat, take_fd, draw_node, insert}
-use Rattle.pt_req.specs.declared.begun.Begun.{Begun}
+use Rattle.pt_req.specs.declared.begun.BegunSession.{BegunSession}
 use Rattle.pt_req.specs.declared.plan.Plan.{Plan}
 use Rattle.pt_attr.specs.Pattern.{grammar_of}
 use Rattle.pt_law.specs.Branch.{Along, IsLost, IsGivenUp}
@@ -145,7 +145,7 @@ good : (bad : Bool) (next : Tree) → IsStraight next → IsStraight (if bad the
 good true next s = tt
 good false next s = s
 
-straight_numbered : (session : Begun) (fd : Fd) (told : Stat) (next : ℕ → Tree) → ((n : ℕ) → IsStraight (next n)) →
+straight_numbered : (session : BegunSession) (fd : Fd) (told : Stat) (next : ℕ → Tree) → ((n : ℕ) → IsStraight (next n)) →
     IsStraight (numbered session (File fd) told next)
 straight_numbered session fd told next s = (none_told (change.Claim session.era None told.ids) (λ t. refl), claim)
   where
@@ -173,25 +173,25 @@ straight_numbered session fd told next s = (none_told (change.Claim session.era 
 straight_lookup : (plan : Plan) (parent : ℕ) (name : List ℕ) → IsStraight (lookup plan parent name)
 straight_lookup plan parent name = (none_told change.Begin (λ t. refl), begun)
   where
-    states : (session : Begun) (ids : ObjIds) (fd : Fd) (t : ActReply) →
+    states : (session : BegunSession) (ids : ObjIds) (fd : Fd) (t : ActReply) →
         IsStraight (on_stat (λ told. numbered session (File fd) told (λ number.
         Shuts true (Gives (answer.Entry (looked_of plan session ids told (File fd) number).entry)))) t)
     states session ids fd (Host (host.Ok (value.Stat told))) = straight_numbered session fd told _ (λ n. tt)
     states session ids fd t = tt
 
-    opens : (session : Begun) (ids : ObjIds) (t : ActReply) →
+    opens : (session : BegunSession) (ids : ObjIds) (t : ActReply) →
         IsStraight (on_fd (λ fd. stat fd (λ told. numbered session (File fd) told (λ number.
         Shuts true (Gives (answer.Entry (looked_of plan session ids told (File fd) number).entry))))) t)
     opens session ids (Host (host.Ok (value.Fd fd))) = ((λ t. refl), states session ids fd)
     opens session ids t = tt
 
-    in_form : (session : Begun) (ids : ObjIds) (form : RowForm) →
+    in_form : (session : BegunSession) (ids : ObjIds) (form : RowForm) →
         IsStraight (file_of form (λ dir. open_at dir name by_path (λ fd. stat fd (λ told.
         numbered session (File fd) told (λ number.
         Shuts true (Gives (answer.Entry (looked_of plan session ids told (File fd) number).entry)))))))
     in_form session ids (File dir) = ((λ t. refl), opens session ids)
 
-    resolves : (session : Begun) (t : ActReply) →
+    resolves : (session : BegunSession) (t : ActReply) →
         IsStraight (on_resolved (λ directory. file_of directory.form (λ dir. open_at dir name by_path (λ fd.
         stat fd (λ told. numbered session (File fd) told (λ number.
         Shuts true (Gives (answer.Entry (looked_of plan session directory.ids told (File fd) number).entry))))))) t)

@@ -13,13 +13,13 @@ use Rattle.pt_frame.specs.declared.act.ActReply.{ActReply}
 use Rattle.pt_frame.specs.declared.act.ActReply.TheVariants.{Event, Host}
 use Rattle.pt_req.specs.Steps.{session_of, Resolved, on_began, on_cleared, on_resolved, on_fd, on_stat, on_bytes}
 use Rattle.pt_req.specs.Steps.{on_claim, on_taken, on_drawn, on_inserted, on_root, on_handle, on_pinned, on_done}
-use Rattle.pt_req.specs.declared.begun.Begun.{Begun}
+use Rattle.pt_req.specs.declared.begun.BegunSession.{BegunSession}
 
 -- a fact of a reply and of what follows it, which holds of every refusal
 abbrev pub OfRefusals : (ActReply → Tree → Type 0) → Type 0
 OfRefusals P = (told : ActReply) → P told (Refuses told)
 
-pub if_began : (P : ActReply → Tree → Type 0) (next : Begun → Tree) → OfRefusals P →
+pub if_began : (P : ActReply → Tree → Type 0) (next : BegunSession → Tree) → OfRefusals P →
     ((era : ℕ) (agreed : Negotiated) → P (Event (event.Began era agreed)) (next (session_of era agreed))) →
     (told : ActReply) → P told (on_began next told)
 if_began P next refused so (Event (event.Began era agreed)) = so era agreed

@@ -40,7 +40,7 @@ use Rattle.pt_req.specs.Parts.{look_up, open_num, root_open}
 use Rattle.pt_req.specs.Requests.{init, destroy, root, lookup, batch_forget, open_file, release, read, unserved}
 use Rattle.pt_req.specs.Requests.{tree_of}
 use Rattle.pt_req.specs.Laws.{IsNoMemory}
-use Rattle.pt_req.specs.declared.begun.Begun.{Begun}
+use Rattle.pt_req.specs.declared.begun.BegunSession.{BegunSession}
 use Rattle.pt_req.specs.declared.parts.looked.Looked.{Looked}
 use Rattle.pt_req.specs.declared.plan.Plan.{Plan}
 use Rattle.pt_req.proofs.Replying.{if_began, if_cleared, if_resolved, if_fd, if_stat, if_bytes, if_claimed, if_taken}
@@ -61,7 +61,7 @@ pub record Walk (Q : Tree → Type 0) (R : ActReply → Tree → Type 0) : Type 
   pub shuts : (passes : Bool) (rest : Tree) → Q rest → Q (Shuts passes rest)
 
 module _ {Q : Tree → Type 0} {R : ActReply → Tree → Type 0} (w : Walk Q R) where
-  begins : (next : Begun → Tree) → ((session : Begun) → Q (next session)) → Q (begin next)
+  begins : (next : BegunSession → Tree) → ((session : BegunSession) → Q (next session)) → Q (begin next)
   begins next so = w.asks (Changes change.Begin) (on_began next) refl
       (if_began R next w.refuses (λ era agreed. w.had _ _ refl (so (session_of era agreed))))
 
@@ -97,7 +97,7 @@ module _ {Q : Tree → Type 0} {R : ActReply → Tree → Type 0} (w : Walk Q R)
   reads_at fd offset size next so = w.asks (Calls (call.ReadAt fd offset size)) (on_bytes next) refl
       (if_bytes R next w.refuses (λ bytes. w.had _ _ refl (so bytes)))
 
-  claims : (session : Begun) (handle : Option FileHandle) (ids : ObjIds) (next : ℕ → Tree) (absent : Tree) →
+  claims : (session : BegunSession) (handle : Option FileHandle) (ids : ObjIds) (next : ℕ → Tree) (absent : Tree) →
       ((number : ℕ) → Q (next number)) → Q absent → Q (claim session handle ids next absent)
   claims session handle ids next absent so other =
       w.asks (Changes (change.Claim session.era handle ids)) (on_claim next absent) refl
@@ -115,19 +115,19 @@ module _ {Q : Tree → Type 0} {R : ActReply → Tree → Type 0} (w : Walk Q R)
   draws_handle next so = w.asks (Changes change.DrawHandle) (on_drawn next) refl
       (if_drawn R next w.refuses (λ number. w.had _ _ refl (so number)))
 
-  inserts : (session : Begun) (fresh : ℕ) (form : RowForm) (told : Stat) (next : ℕ → Tree) →
+  inserts : (session : BegunSession) (fresh : ℕ) (form : RowForm) (told : Stat) (next : ℕ → Tree) →
       ((number : ℕ) → Q (next number)) → Q (insert session fresh form told next)
   inserts session fresh form told next so =
       w.asks (Changes (change.Insert session.era fresh form told.ids told.mode)) (on_inserted next) refl
       (if_inserted R next w.refuses (λ number. w.had _ _ refl (so number)) (λ number. w.had _ _ refl (so number)))
 
-  inserts_root : (session : Begun) (form : RowForm) (told : Stat) (agreed : Option Negotiated) (next : Tree) →
+  inserts_root : (session : BegunSession) (form : RowForm) (told : Stat) (agreed : Option Negotiated) (next : Tree) →
       Q next → Q (insert_root session form told agreed next)
   inserts_root session form told agreed next so =
       w.asks (Changes (change.InsertRoot session.era form told.ids told.mode agreed)) (on_root next) refl
       (if_root R next w.refuses (λ number. w.had _ _ refl so))
 
-  inserts_handle : (session : Begun) (handle number : ℕ) (fd : Fd) (next : Tree) → Q next →
+  inserts_handle : (session : BegunSession) (handle number : ℕ) (fd : Fd) (next : Tree) → Q next →
       Q (insert_handle session handle number fd next)
   inserts_handle session handle number fd next so =
       w.asks (Changes (change.InsertHandle session.era handle number fd)) (on_handle next) refl
@@ -157,7 +157,7 @@ module _ {Q : Tree → Type 0} {R : ActReply → Tree → Type 0} (w : Walk Q R)
       Q (open_form form flags next)
   opens_form (File fd) flags next so = reopens fd _ next so
 
-  numbers : (session : Begun) (form : RowForm) (told : Stat) (next : ℕ → Tree) →
+  numbers : (session : BegunSession) (form : RowForm) (told : Stat) (next : ℕ → Tree) →
       ((number : ℕ) → Q (next number)) → Q (numbered session form told next)
   numbers session form told next so =
       claims session None told.ids next _ so (
@@ -165,7 +165,7 @@ module _ {Q : Tree → Type 0} {R : ActReply → Tree → Type 0} (w : Walk Q R)
       draws_node _ (λ fresh.
       inserts session fresh form told next so)))
 
-  looks_up : (plan : Plan) (session : Begun) (parent : ℕ) (name : List ℕ) (next : Looked → Tree) →
+  looks_up : (plan : Plan) (session : BegunSession) (parent : ℕ) (name : List ℕ) (next : Looked → Tree) →
       ((looked : Looked) → Q (next looked)) → Q (look_up plan session parent name next)
   looks_up plan session parent name next so =
       w.brackets _ (
@@ -179,7 +179,7 @@ module _ {Q : Tree → Type 0} {R : ActReply → Tree → Type 0} (w : Walk Q R)
   refuses_so : (errno : Errno) → Q (Gives (answer.Refused errno))
   refuses_so errno = w.gives (answer.Refused errno) (refl, λ no. no)
 
-  opens_num : (plan : Plan) (session : Begun) (number flags : ℕ) (next : ℕ → Tree) →
+  opens_num : (plan : Plan) (session : BegunSession) (number flags : ℕ) (next : ℕ → Tree) →
       ((handle : ℕ) → Q (next handle)) → Q (open_num plan session number flags next)
   opens_num plan session number flags next so =
       w.brackets _ (
@@ -195,7 +195,7 @@ module _ {Q : Tree → Type 0} {R : ActReply → Tree → Type 0} (w : Walk Q R)
       checked true one other so no = so
       checked false one other so no = no
 
-  opens_shared : (plan : Plan) (session : Begun) (agreed : Option Negotiated) (next : Tree) → Q next →
+  opens_shared : (plan : Plan) (session : BegunSession) (agreed : Option Negotiated) (next : Tree) → Q next →
       Q (root_open plan session agreed next)
   opens_shared plan session agreed next so =
       opens_root plan.config.root_dir by_path _ (λ fd.

@@ -16,7 +16,7 @@ use Rattle.pt_req.specs.Options.{cleaned, inode_flags, without_nofollow}
 use Rattle.pt_req.specs.Steps.{Resolved, resolve, open_root, open_at, reopen, stat, claim, take_fd, draw_node}
 use Rattle.pt_req.specs.Steps.{draw_handle, insert, insert_root, insert_handle}
 use Rattle.pt_req.specs.Entries.{is_bad_name, is_bad_offset, can_open, entry_of}
-use Rattle.pt_req.specs.declared.begun.Begun.{Begun}
+use Rattle.pt_req.specs.declared.begun.BegunSession.{BegunSession}
 use Rattle.pt_req.specs.declared.parts.looked.Looked.{Looked}
 use Rattle.pt_req.specs.declared.plan.Plan.{Plan}
 
@@ -49,7 +49,7 @@ open_inode plan number flags next =
     resolve number (λ row. open_row row (inode_flags plan.config flags) next)
 
 -- what was opened gets the number of its object, where it has one, or a new one
-abbrev pub numbered : Begun → RowForm → Stat → (ℕ → Tree) → Tree
+abbrev pub numbered : BegunSession → RowForm → Stat → (ℕ → Tree) → Tree
 numbered session form told next =
     claim session None told.ids next (
     take_fd (
@@ -57,7 +57,7 @@ numbered session form told next =
     insert session fresh form told next)))
 
 -- what a lookup hands on, in a directory of these ids
-abbrev pub looked_of : Plan → Begun → ObjIds → Stat → RowForm → ℕ → Looked
+abbrev pub looked_of : Plan → BegunSession → ObjIds → Stat → RowForm → ℕ → Looked
 looked_of plan session parent told form number = record {
   entry = entry_of plan session.agreed parent told number;
   ids = told.ids;
@@ -65,7 +65,7 @@ looked_of plan session parent told form number = record {
 }
 
 -- A lookup: a name in a numbered directory becomes an entry, whose count passes the end of the bracket.
-abbrev pub look_up : Plan → Begun → ℕ → List ℕ → (Looked → Tree) → Tree
+abbrev pub look_up : Plan → BegunSession → ℕ → List ℕ → (Looked → Tree) → Tree
 look_up plan session parent name next = Brackets (
     resolve parent (λ directory.
     file_of directory.form (λ dir.
@@ -75,7 +75,7 @@ look_up plan session parent name next = Brackets (
     Shuts true (next (looked_of plan session directory.ids told (File fd) number))))))))
 
 -- a number is opened by a handle
-abbrev pub open_num : Plan → Begun → ℕ → ℕ → (ℕ → Tree) → Tree
+abbrev pub open_num : Plan → BegunSession → ℕ → ℕ → (ℕ → Tree) → Tree
 open_num plan session number flags next = Brackets (
     open_inode plan number (cleaned plan.config flags) (λ fd.
     draw_handle (λ handle.
@@ -84,7 +84,7 @@ open_num plan session number flags next = Brackets (
     Shuts false (next handle))))))
 
 -- the shared directory is opened and numbered 1; what is agreed on is said, or left
-abbrev pub root_open : Plan → Begun → Option Negotiated → Tree → Tree
+abbrev pub root_open : Plan → BegunSession → Option Negotiated → Tree → Tree
 root_open plan session agreed next =
     open_root plan.config.root_dir by_path (λ fd.
     stat fd (λ told.

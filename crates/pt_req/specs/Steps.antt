@@ -17,17 +17,17 @@ use Rattle.pt_frame.specs.Deed.{Calls, Changes}
 use Rattle.pt_frame.specs.Tree.{Tree, Refuses, Asks}
 use Rattle.pt_frame.specs.declared.act.ActReply.{ActReply}
 use Rattle.pt_frame.specs.declared.act.ActReply.TheVariants.{Event, Host}
-use Rattle.pt_req.specs.declared.begun.Begun.{Begun}
+use Rattle.pt_req.specs.declared.begun.BegunSession.{BegunSession}
 
-abbrev pub session_of : ℕ → Negotiated → Begun
+abbrev pub session_of : ℕ → Negotiated → BegunSession
 session_of era agreed = record { era = era; agreed = agreed }
 
-abbrev pub on_began : (Begun → Tree) → ActReply → Tree
+abbrev pub on_began : (BegunSession → Tree) → ActReply → Tree
 on_began next (Event (event.Began era agreed)) = next (session_of era agreed)
 on_began next told = Refuses told
 
 -- the session goes on, as it stands
-abbrev pub begin : (Begun → Tree) → Tree
+abbrev pub begin : (BegunSession → Tree) → Tree
 begin next = Asks (Changes change.Begin) (on_began next)
 
 abbrev pub on_cleared : (ℕ → Tree) → ActReply → Tree
@@ -87,7 +87,7 @@ on_claim next absent (Event (event.Claimed number)) = next number
 on_claim next absent (Event event.Absent) = absent
 on_claim next absent told = Refuses told
 
-abbrev pub claim : Begun → Option FileHandle → ObjIds → (ℕ → Tree) → Tree → Tree
+abbrev pub claim : BegunSession → Option FileHandle → ObjIds → (ℕ → Tree) → Tree → Tree
 claim session handle ids next absent = Asks (Changes (change.Claim session.era handle ids)) (on_claim next absent)
 
 abbrev pub on_taken : Tree → ActReply → Tree
@@ -114,7 +114,7 @@ on_inserted next (Event (event.Inserted number)) = next number
 on_inserted next (Event (event.Found number)) = next number
 on_inserted next told = Refuses told
 
-abbrev pub insert : Begun → ℕ → RowForm → Stat → (ℕ → Tree) → Tree
+abbrev pub insert : BegunSession → ℕ → RowForm → Stat → (ℕ → Tree) → Tree
 insert session fresh form told next =
     Asks (Changes (change.Insert session.era fresh form told.ids told.mode)) (on_inserted next)
 
@@ -123,7 +123,7 @@ on_root next (Event (event.Inserted number)) = next
 on_root next told = Refuses told
 
 -- what is agreed on is said with the root, or left
-abbrev pub insert_root : Begun → RowForm → Stat → Option Negotiated → Tree → Tree
+abbrev pub insert_root : BegunSession → RowForm → Stat → Option Negotiated → Tree → Tree
 insert_root session form told agreed next =
     Asks (Changes (change.InsertRoot session.era form told.ids told.mode agreed)) (on_root next)
 
@@ -131,7 +131,7 @@ abbrev pub on_handle : Tree → ActReply → Tree
 on_handle next (Event (event.Inserted handle)) = next
 on_handle next told = Refuses told
 
-abbrev pub insert_handle : Begun → ℕ → ℕ → Fd → Tree → Tree
+abbrev pub insert_handle : BegunSession → ℕ → ℕ → Fd → Tree → Tree
 insert_handle session handle number fd next =
     Asks (Changes (change.InsertHandle session.era handle number fd)) (on_handle next)
 

@@ -10,7 +10,7 @@ use Rattle.pt_frame.specs.Machine.Next.{IsAsks}
 use Rattle.pt_frame.specs.declared.act.ActReply.{ActReply}
 use Rattle.pt_req.specs.Steps.{resolve, open_root, open_at, stat, take_fd, draw_node, insert, insert_root}
 use Rattle.pt_req.specs.Parts.{by_path, file_of, numbered, looked_of, root_open}
-use Rattle.pt_req.specs.declared.begun.Begun.{Begun}
+use Rattle.pt_req.specs.declared.begun.BegunSession.{BegunSession}
 use Rattle.pt_req.specs.declared.plan.Plan.{Plan}
 use Rattle.pt_req.specs.declared.parts.part.Part.{Part}
 use Rattle.pt_req.specs.declared.parts.part.Part.TheVariants as part
@@ -39,7 +39,7 @@ part_counts (part.Gives last) count = 0
 part_counts (part.Has value) count = 0
 
 -- what was opened and looked at, on its way to a number
-abbrev pub numbering_left : NumberAt → RowForm → Stat → Begun → (ℕ → Tree) → Tree
+abbrev pub numbering_left : NumberAt → RowForm → Stat → BegunSession → (ℕ → Tree) → Tree
 numbering_left number_at.Claim form told session next = numbered session form told next
 numbering_left number_at.Take form told session next =
     take_fd (draw_node (λ fresh. insert session fresh form told next))
@@ -59,7 +59,7 @@ numbering_room number_at.Take = 2
 numbering_room number_at.Draw = 1
 numbering_room (number_at.Insert fresh) = 1
 
-pub numbering_asks : (at : NumberAt) (form : RowForm) (told : Stat) (session : Begun) (next : ℕ → Tree) →
+pub numbering_asks : (at : NumberAt) (form : RowForm) (told : Stat) (session : BegunSession) (next : ℕ → Tree) →
     IsAsks (numbering_left at form told session next)
 numbering_asks number_at.Claim form told session next = tt
 numbering_asks number_at.Take form told session next = tt
@@ -67,21 +67,21 @@ numbering_asks number_at.Draw form told session next = tt
 numbering_asks (number_at.Insert fresh) form told session next = tt
 
 -- the bracket of a lookup ends, and the count passes
-abbrev pub with_number : Plan → Begun → ObjIds → Stat → RowForm → (Looked → Tree) → ℕ → Tree
+abbrev pub with_number : Plan → BegunSession → ObjIds → Stat → RowForm → (Looked → Tree) → ℕ → Tree
 with_number plan session parent told form next number =
     Shuts true (next (looked_of plan session parent told form number))
 
 -- what is opened in the directory, and looked at, becomes the entry
-abbrev pub stat_in : Plan → Begun → ObjIds → Fd → (Looked → Tree) → Tree
+abbrev pub stat_in : Plan → BegunSession → ObjIds → Fd → (Looked → Tree) → Tree
 stat_in plan session parent fd next =
     stat fd (λ told. numbered session (File fd) told (with_number plan session parent told (File fd) next))
 
-abbrev pub opened_in : Plan → Begun → ObjIds → Fd → List ℕ → (Looked → Tree) → Tree
+abbrev pub opened_in : Plan → BegunSession → ObjIds → Fd → List ℕ → (Looked → Tree) → Tree
 opened_in plan session parent dir name next =
     open_at dir name by_path (λ fd. stat_in plan session parent fd next)
 
 -- inside its bracket
-abbrev pub look_up_at_left : LookUpAt → List ℕ → Plan → Begun → (Looked → Tree) → Tree
+abbrev pub look_up_at_left : LookUpAt → List ℕ → Plan → BegunSession → (Looked → Tree) → Tree
 look_up_at_left (look_at.Resolve parent) name plan session next =
     resolve parent (λ directory. file_of directory.form (λ dir. opened_in plan session directory.ids dir name next))
 look_up_at_left (look_at.Open parent dir) name plan session next = opened_in plan session parent dir name next
@@ -110,7 +110,7 @@ look_up_at_room (look_at.Number parent form told at) = numbering_room at
 abbrev pub look_up_room : LookUp → ℕ
 look_up_room it = look_up_at_room it.at
 
-look_up_at_asks : (at : LookUpAt) (name : List ℕ) (plan : Plan) (session : Begun) (next : Looked → Tree) →
+look_up_at_asks : (at : LookUpAt) (name : List ℕ) (plan : Plan) (session : BegunSession) (next : Looked → Tree) →
     IsAsks (look_up_at_left at name plan session next)
 look_up_at_asks (look_at.Resolve parent) name plan session next = tt
 look_up_at_asks (look_at.Open parent dir) name plan session next = tt

@@ -8,7 +8,7 @@ ghost use Rattle.pt_req.specs.Parts.{looked_of};
 ghost use Rattle.pt_req.specs.declared.parts.looked.Looked.{Looked};
 ghost use Rattle.pt_req.specs.declared.plan.Plan.{Plan};
 
-use crate::begun::Begun;
+use crate::begun::BegunSession;
 use crate::parts::entry::entry_of;
 use crate::parts::looked::Looked;
 use crate::parts::numbering::NumberAt;
@@ -43,14 +43,14 @@ pub enum LookUpAt {
 /// A lookup on its way, in its bracket.
 #[derive(Drop)]
 pub struct LookUp {
-    pub session: Begun,
+    pub session: BegunSession,
     pub at: LookUpAt,
 }
 
 /// What a lookup hands on, in a directory of these ids.
 fn looked_of(
     plan: &Plan,
-    session: &Begun,
+    session: &BegunSession,
     parent: ObjIds,
     stat: &Stat,
     form: &RowForm,

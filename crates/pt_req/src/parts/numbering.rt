@@ -5,10 +5,10 @@ ghost use Rattle.pt_frame.specs.Replies.{inserted_by};
 ghost use Rattle.pt_frame.specs.Tree.{Tree};
 ghost use Rattle.pt_host.specs.declared.stat.Stat.{Stat};
 ghost use Rattle.pt_req.specs.Machine.Parts.{numbering_left, numbering_acts, numbering_room, part_tree, part_counts};
-ghost use Rattle.pt_req.specs.declared.begun.Begun.{Begun};
+ghost use Rattle.pt_req.specs.declared.begun.BegunSession.{BegunSession};
 ghost use Rattle.pt_session.specs.declared.form.RowForm.{RowForm};
 
-use crate::begun::Begun;
+use crate::begun::BegunSession;
 use crate::parts::part::Part;
 use pt_frame::{Act, ActReply};
 use pt_host::Stat;
@@ -25,7 +25,7 @@ pub enum NumberAt {
 }
 
 impl NumberAt {
-    pub fn want<'a>(&self, session: &Begun, form: &'a RowForm, stat: &Stat) -> Act<'a>
+    pub fn want<'a>(&self, session: &BegunSession, form: &'a RowForm, stat: &Stat) -> Act<'a>
         ensures asks { (next : ℕ → Tree) →
             AsksFor (numbering_left self.now form.now stat.now session.now next) result None }
         ensures fits { (next : ℕ → Tree) →
@@ -51,16 +51,16 @@ impl NumberAt {
 
     /// Goes on from the reply of the act that was wanted.
     pub fn take(&mut self, reply: ActReply) -> Part<u64>
-        ensures left { (form : RowForm) (stat : Stat) (session : Begun) (next : ℕ → Tree) →
+        ensures left { (form : RowForm) (stat : Stat) (session : BegunSession) (next : ℕ → Tree) →
             with_memory (asked (numbering_left self.old form stat session next) reply)
             ≡ part_tree result reply (numbering_left self.new form stat session next) next }
-        ensures fewer { (form : RowForm) (stat : Stat) (session : Begun) (next : ℕ → Tree) →
+        ensures fewer { (form : RowForm) (stat : Stat) (session : BegunSession) (next : ℕ → Tree) →
             brings (numbering_left self.old form stat session next) + part_counts result (numbering_acts self.new)
             < numbering_acts self.old }
-        ensures room { (form : RowForm) (stat : Stat) (session : Begun) (next : ℕ → Tree) →
+        ensures room { (form : RowForm) (stat : Stat) (session : BegunSession) (next : ℕ → Tree) →
             brings (numbering_left self.old form stat session next) + part_counts result (numbering_room self.new)
             ≤ numbering_room self.old }
-        ensures inserts { (form : RowForm) (stat : Stat) (session : Begun) (next : ℕ → Tree) →
+        ensures inserts { (form : RowForm) (stat : Stat) (session : BegunSession) (next : ℕ → Tree) →
             inserted_by (deed_in (numbering_left self.old form stat session next)) reply + part_counts result 1 ≤ 1 }
     {
         match (*self, reply) {

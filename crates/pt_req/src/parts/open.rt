@@ -8,7 +8,7 @@ ghost use Rattle.pt_req.specs.Machine.Opening.{handle_open_left, handle_open_act
 ghost use Rattle.pt_req.specs.Machine.Parts.{part_tree, part_counts};
 ghost use Rattle.pt_req.specs.declared.plan.Plan.{Plan};
 
-use crate::begun::Begun;
+use crate::begun::BegunSession;
 use crate::parts::options::reopen_flags;
 use crate::parts::part::Part;
 use crate::plan::Plan;
@@ -35,7 +35,7 @@ pub enum HandleOpenAt {
 /// The opening of a number by a handle, with the guest's flags.
 #[derive(Drop)]
 pub struct HandleOpen {
-    pub session: Begun,
+    pub session: BegunSession,
     pub inode: u64,
     pub flags: u32,
     pub at: HandleOpenAt,

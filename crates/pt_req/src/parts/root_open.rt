@@ -5,7 +5,7 @@ ghost use Rattle.pt_frame.specs.Replies.{inserted_by};
 ghost use Rattle.pt_frame.specs.Tree.{Tree};
 ghost use Rattle.pt_req.specs.Machine.Parts.{root_open_left, root_open_acts, root_open_room, part_tree, part_counts};
 
-use crate::begun::Begun;
+use crate::begun::BegunSession;
 use crate::parts::part::Part;
 use crate::plan::Plan;
 use pt_frame::{Act, ActReply};
@@ -30,7 +30,7 @@ pub enum RootOpenAt {
 /// The opening of the shared directory, and what is agreed on with it, if anything is.
 #[derive(Drop)]
 pub struct RootOpen {
-    pub session: Begun,
+    pub session: BegunSession,
     pub agreed: Option<Negotiated>,
     pub at: RootOpenAt,
 }

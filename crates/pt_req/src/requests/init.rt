@@ -1,4 +1,4 @@
-use crate::begun::Begun;
+use crate::begun::BegunSession;
 use crate::parts::{RootOpen, RootOpenAt, agreed_with, init_options};
 use crate::plan::Plan;
 use pt_frame::{Act, ActReply, Body, Next, Then, Wanted};
@@ -39,7 +39,7 @@ impl Body for Init {
             Init::Clear { capable } => match reply {
                 ActReply::Event(EventReply::Cleared { era, .. }) => {
                     let agreed = Negotiated::NONE;
-                    let session = Begun { era, agreed };
+                    let session = BegunSession { era, agreed };
                     *self = Init::Open(RootOpen {
                         session,
                         agreed: Some(agreed_with(*capable)),

@@ -1,4 +1,4 @@
-use crate::begun::Begun;
+use crate::begun::BegunSession;
 use crate::parts::{LookUp, LookUpAt, is_bad_name};
 use crate::plan::Plan;
 use pt_frame::{Act, ActReply, Body, Edges, Next, Then, Wanted};
@@ -49,7 +49,7 @@ impl Body for Lookup {
                         return Next::At(Then::Gives(Answer::Refused(Errno::EINVAL)));
                     }
                     let agreed = negotiated;
-                    let session = Begun { era, agreed };
+                    let session = BegunSession { era, agreed };
                     let at = LookUpAt::Resolve { parent: *parent };
                     self.at = LookupAt::LookUp(LookUp { session, at });
                     Next::Over {

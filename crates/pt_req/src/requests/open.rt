@@ -1,4 +1,4 @@
-use crate::begun::Begun;
+use crate::begun::BegunSession;
 use crate::parts::{HandleOpen, HandleOpenAt, open_options};
 use crate::plan::Plan;
 use pt_frame::{Act, ActReply, Body, Edges, Next, Then, Wanted};
@@ -47,7 +47,7 @@ impl Body for Open {
                 ActReply::Event(EventReply::Began { era, negotiated }) => {
                     let agreed = negotiated;
                     self.at = OpeningAt::Open(HandleOpen {
-                        session: Begun { era, agreed },
+                        session: BegunSession { era, agreed },
                         inode: *inode,
                         flags: self.flags,
                         at: HandleOpenAt::Resolve,

@@ -1,4 +1,4 @@
-use crate::begun::Begun;
+use crate::begun::BegunSession;
 use crate::parts::{RootOpen, RootOpenAt};
 use crate::plan::Plan;
 use pt_frame::{Act, ActReply, Body, Next, Then, Wanted};
@@ -40,7 +40,7 @@ impl Body for Root {
                 ActReply::Event(EventReply::Began { era, negotiated }) => {
                     let agreed = negotiated;
                     *self = Root::Open(RootOpen {
-                        session: Begun { era, agreed },
+                        session: BegunSession { era, agreed },
                         agreed: None,
                         at: RootOpenAt::Open,
                     });
