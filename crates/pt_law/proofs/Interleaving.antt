@@ -112,7 +112,8 @@ pub tables_run : (turns : List Turn) (w last : World) → Runs w turns last → 
 tables_run [] w last r = ap (λ (z : World). z.tables) r
 tables_run (s ∷ ss) w last r =
     let g = r.1 in
-    (r.0.tables, turned IsLawful s.step.deed s.step.reply w.tree g.seat w.tables r.0.tree g.seat_after r.0.tables g.made, tables_run ss r.0 last r.2)
+    (r.0.tables, turned IsLawful s.step.deed s.step.reply w.tree g.seat w.tables r.0.tree g.seat_after r.0.tables
+        g.made, tables_run ss r.0 last r.2)
 
 pub tables_split : (turns more : List Turn) (t last : Tables) → TablesRun t (turns ++ more) last →
     (mid : Tables) × TablesRun t turns mid × TablesRun mid more last
