@@ -367,7 +367,7 @@ closes bound tree next past rows handles js j after f told lt h t n z y none = r
         resolved = k.resolved;
         reopened = λ was u.
             noted_closed tree f.0 (js i).notes.reopened (past.resolved i was.number) (js i).holds y
-                (k.reopened was u);
+            (k.reopened was u);
       })
       (none i less);
 }

@@ -143,10 +143,10 @@ keeps_books bound t js j (Changes e) (Event r) t' after lt agree b g m =
     record {
       slots = let x = b.slots in let y = f.slots in let u = v.slots in
           let z = sum_to_set (λ (k : Job). total slot_held k.holds) js j after bound lt in
-              omega (arith, x, y, z, u, l);
+          omega (arith, x, y, z, u, l);
       pins = λ s. let x = b.pins s in let y = f.pins s in let u = v.pins s in
           let z = sum_to_set (λ (k : Job). total (pin_held s) k.holds) js j after bound lt in
-              omega (arith, x, y, z, u);
+          omega (arith, x, y, z, u);
       handle_pins = λ s. let x = b.handle_pins s in let y = f.handle_pins s in let u = v.handle_pins s in
           let z = sum_to_set (λ (k : Job). total (handle_pin_held s) k.holds) js j after bound lt in
           omega (arith, x, y, z, u);

@@ -55,7 +55,7 @@ again w j job fd ids number t' well k rows l t g =
     let r = each_replaced (RowOpen w.tree w.past) g.4.1 rows in
     let same : r.object ≡ a.0 =
     well.apart (fd_of g.0.form) fd r.object a.0 r.shows.what a.1.what r.shows.open_on a.1.open_on r.shows.is_object
-        a.1.is_object (r.shows.same_ids ∙ g.1.1 ∙ sym a.1.same_ids) in
+    a.1.is_object (r.shows.same_ids ∙ g.1.1 ∙ sym a.1.same_ids) in
     (a.0, ap w.past.numbers (sym g.2) ∙ r.numbered g.1.0 ∙ ap Some same, a.2, a.1.what, a.1.is_object, a.1.same_ids)
 
 moved_on : (w next : World) (j number : ℕ) (ids : ObjIds) → next.tree ≡ w.tree → next.past ≡ w.past →
@@ -161,7 +161,7 @@ giving_law {j = j} {parent = parent} {name = name} {number = number} {ids = ids}
     let own = v.2 j lt in
     let move = next_move give (p.behind ++ more) (v.0 j) own.1 own.2 in
     let last = gives_latest bound _ _ path.at_give v.0 give given move.0 number ids lt v.1 path.gives move.1 p.gives
-        in
+    in
     let still = latest_stays j p.until path.opened path.at_give path.to_give p.opened_last in
     let names = names_opened path.at_give given j number ids (path.opened.past.latest j) led.0 last still led.2 in
     record {
@@ -304,7 +304,7 @@ branch_places turns j parent name number ids path first between middle rest row 
     let b = opening dir name flags how new in
     let x = own_same path (steps_of j turns) first (between ++ b ∷ (middle ++ give ∷ rest)) a o e in
     let y = own_same (between ++ b ∷ (middle ++ give ∷ rest)) x.back between (middle ++ give ∷ rest) b x.own_back
-        refl in
+    refl in
     let z = own_same (middle ++ give ∷ rest) y.back middle rest give y.own_back refl in
     places_of j parent name number ids turns row mode how form its dir new flags x.front y.front z.front z.back give
     (x.are ∙ ap (λ t. x.front ++ a ∷ t) (y.are ∙ ap (λ t. y.front ++ b ∷ t) z.are))

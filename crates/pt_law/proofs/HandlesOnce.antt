@@ -107,7 +107,7 @@ keeps_handles : (bound : ℕ) (had : ℕ → ℕ) (t : Tables) (js : ℕ →
     Job) (j : ℕ) (deed : Option Deed) (told : ActReply) (t' : Tables) (after : Job) → j < bound →
     Handles bound had t js → TablesGo t deed told t' →
     MovesIf (js j) deed told after →
-        Handles bound (λ n. had n + handle_inserted_if n deed told) t' (set_at j after js)
+    Handles bound (λ n. had n + handle_inserted_if n deed told) t' (set_at j after js)
 keeps_handles bound had t js j None told t' after lt v g m =
     let s = step_stays t None told t' g in
     singly_kept t.next_handle t'.next_handle _ _ s.handles (λ n.

@@ -53,7 +53,7 @@ keeps : (deed : Deed) (told : ActReply) (holds after : List Hold) → after ≡ 
     ((fd : ℕ) → fd_handed fd deed told + fd_ended fd deed told ≡ fd_received fd deed told + fd_made fd deed told) →
     slot_in deed told ≡ slot_out deed told → ((serial : ℕ) → pin_ended serial deed told ≡ pin_made serial deed told) →
     ((serial : ℕ) → handle_pin_ended serial deed told ≡ handle_pin_made serial deed told) →
-        Handed holds deed told after
+    Handed holds deed told after
 keeps deed told holds after e f s p q = rw e (record {
   fds = λ fd. let a = f fd in omega (arith, a);
   slots = omega (arith, s);
@@ -288,7 +288,7 @@ closes tree f after e one fd = rw e (
 pub in_tree : (tree : Tree) (a : Call) (r : HostReply) (after : Tree) → TreeChanges tree a r after →
     ((f : ℕ) → 0 < fd_ended f (Calls a) (Host r) → open_count f tree ≡ 1) →
     (fd : ℕ) → open_count fd after + fd_ended fd (Calls a) (Host r) ≡ open_count fd tree
-        + fd_made fd (Calls a) (Host r)
+    + fd_made fd (Calls a) (Host r)
 in_tree tree a r after l c fd = go (sort_of a) r refl l c
   where
     quiet : (r : HostReply) → TreeChanges tree a r after → IsQuiet (sort_of a) r →

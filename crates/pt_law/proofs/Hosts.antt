@@ -89,7 +89,7 @@ pub hosts_world : {H : Type 0} (does : Does H) (tree : H → Option Tree) (fault
 hosts_world does tree faults p l [] start from to t' is r = (start, ap tree r.0 ∙ is, sym r.1, refl)
 hosts_world does tree faults p l (s ∷ ss) start from to t' is r =
     let k = made_lawful does tree faults p l s.step.deed s.step.reply from r.2 start.tables r.0 r.3 r.1 start.tree is
-        r.4 in
+    r.4 in
     let next : World = record {
       tree = k.0;
       tables = r.1;

@@ -202,7 +202,7 @@ held_apart f fd holds z h e = let a = ap (λ g. total (fd_held g) holds) e in ab
 
 pub noted_closed : (tree : Tree) (f : ℕ) (noted : Option Fd) (was : Option ℕ) (holds : List Hold) →
     total (fd_held f) holds ≡ 0 → NotedRight tree noted was holds →
-        NotedRight (with_entry tree f None) noted was holds
+    NotedRight (with_entry tree f None) noted was holds
 noted_closed tree f noted was holds z h fd e =
     let a = h fd e in
     record {

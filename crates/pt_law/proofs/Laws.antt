@@ -172,12 +172,12 @@ flows_of j (s ∷ ss) h = go (eqb s.job j) (flows_of j ss h.1)
 
 carries_step : (job after : Job) (step : Step) → HasFlows step.deed step.reply → JobMoves job step after →
     total slot_held after.holds + slot_given_by step.deed step.reply ≡ total slot_held job.holds
-        + slot_taken step.reply
+    + slot_taken step.reply
 carries_step job after step f m = go step.deed f m
   where
     go : (deed : Option Deed) → HasFlows deed step.reply → JobMoves job (record step { deed = deed }) after →
         total slot_held after.holds + slot_given_by deed step.reply ≡ total slot_held job.holds
-            + slot_taken step.reply
+        + slot_taken step.reply
     go None f m = let a = ap (λ (z : Job). total slot_held z.holds) m in omega (arith, a, f)
     go (Some deed) f m = let a = (handed job.holds deed step.reply after.holds m.0).slots in let b = f.0 in
         let c = f.1 in omega (arith, a, b, c)

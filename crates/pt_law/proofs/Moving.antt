@@ -272,7 +272,7 @@ may_step deed (Some same) told holds notes i m =
     let after = owing_job (unscoped (held deed told holds)) (closings_in deed told) (notes_after notes deed told) in
     subst (λ (d : Deed).
     MovesBy (at_job (unscoped holds) notes) d told after) (sym (same_deed deed same told i))
-        (may_move deed told holds notes m)
+    (may_move deed told holds notes m)
 may_step deed None NoCopy holds notes i m = not_made deed holds notes i
 may_step deed None told holds notes i m = absurd i
 

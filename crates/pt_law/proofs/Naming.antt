@@ -66,7 +66,7 @@ objects_step : (w : World) (s : Turn) (next : World) (row : ℕ) → Agree w.tab
     × Agree next.tables
 objects_step w s next row a g l =
     let t = turned IsLawful s.step.deed s.step.reply w.tree g.seat w.tables next.tree g.seat_after next.tables g.made
-        in
+    in
     let later = (step_stays w.tables s.step.deed s.step.reply next.tables t).rows in (
       ap (λ (p : Past). p.objects row) g.past
           ∙ settled_objects w.past s.job s.step.deed s.step.reply w.tables.next_row next.tree row l,
@@ -274,7 +274,7 @@ led_law {j = j} {number = number} {name = name} limit bound turns more start ope
     let move = next_move b (p.later ++ more) (v1.0 j) between.1 between.2 in
     let fit = move.1.1 in
     let resolved = last_resolved (steps_of j p.before) (steps_of j p.between) number p.row p.mode p.form p.ids
-        (v1.0 j)
+    (v1.0 j)
     p.resolved_last (subst (λ z. Disciplined idle z (v1.0 j)) (own_to j p.before p.between
     (resolving number p.row p.form p.ids p.mode)) between.0) in
     let same : fit.0.0 ≡ record { number = number; row = p.row } = some_same (sym fit.0.2 ∙ resolved) in
@@ -283,7 +283,7 @@ led_law {j = j} {number = number} {name = name} limit bound turns more start ope
     let kept = row_stays path.at_resolve a path.resolved p.between path.at_open p.row directory.0
     v0.1.tabled.agree path.resolves path.to_open directory.3 directory.2 in
     let o = open_at bound _ _ path.at_open v1.0 j p.row p.made_mode p.dir name p.flags p.fd opened directory.0 fit.1
-        lt
+    lt
     v1.1 pin kept path.opens in (
       o.0,
       record { directory = directory.0; number_is = directory.1; dir_open = o.3; named = o.1; fd_open = o.4 },

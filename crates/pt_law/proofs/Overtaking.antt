@@ -203,8 +203,10 @@ other_step : (j : ℕ) (t t' : Tables) (turns : List Turn) (owner : ℕ) (deed :
 other_step j t t' turns owner (Some (Changes change.Clear)) (Event (event.Cleared was closings)) g n b era e =
     inr (record {
       before = turns;
-      clearing = record { job = owner;
-          step = made (Some (Changes change.Clear)) (Event (event.Cleared was closings)) };
+      clearing = record {
+        job = owner;
+        step = made (Some (Changes change.Clear)) (Event (event.Cleared was closings));
+      };
       later = [];
       in_turn = refl;
       begun = b;
@@ -355,7 +357,7 @@ cleared_later : (t t' : Tables) (step : Step) (era closings : ℕ) →
     TablesGo t step.deed step.reply t' → t'.era ≡ t.era + 1
 cleared_later t t' step era closings e g =
     let h = cases t t' change.Clear (event.Cleared era closings)
-        (subst (λ (s : Step). TablesGo t s.deed s.reply t') e g) in
+    (subst (λ (s : Step). TablesGo t s.deed s.reply t') e g) in
     ap (λ (z : Tables). z.era) h.1.7
 
 begins_where : (first : Step) (rest more : List Step) (last : Step) → BeginsFirst (first ∷ (rest ++ last ∷ more)) →
@@ -381,7 +383,7 @@ shut_out limit bound turns turn more now next first rest o e begins a r g given 
     steps_append j turns (turn ∷ more) ∙ ap (λ z. steps_of j turns ++ z) (steps_same turn more)
     ∙ ap (λ z. z ++ turn.step ∷ steps_of j more) own_steps in
     let begun = begins_where first (rest ++ own_later) (steps_of j more) turn.step
-        (subst BeginsFirst all_steps begins) in
+    (subst BeginsFirst all_steps begins) in
     let d = subst (λ z. Disciplined idle z own.0) own_steps own.1.0 in
     let l = located j o.before [] first rest e in
     let run : TablesRun (empty_tables limit) (l.0 ++ turn_by j first ∷ (l.1 ++ o.clearing ∷ o.later)) now =

@@ -47,7 +47,7 @@ pinned_row bound tree t past js j row fd lt b v k =
     let z = total_takes (pin_held row) k in
     let s = is_same row in
     let r = some_pinned (λ (row : Row). row.serial) (λ (row : Row). row.pins) row t.rows (omega (arith, x, y, z, s))
-        in
+    in
     let o = each_taken (RowOpen tree past) r.2 v.shown in
     let p = each_taken (PinRight t.next_row past.fds) k (v.knows j lt).pins in
     let same : fd_of r.0.form ≡ fd = (let a = ap past.fds (sym r.3) ∙ o.kept_by in let b = p.1 in cc) in

@@ -68,7 +68,7 @@ object_stays [] start now n o live r at = ap (λ (w : World). w.past.numbers n) 
 object_stays (s ∷ ss) start now n o live r at =
     let g = r.1 in
     let t = turned IsLawful s.step.deed s.step.reply start.tree g.seat start.tables r.0.tree g.seat_after r.0.tables
-        g.made in
+    g.made in
     let same = ap (λ (p : Past). p.numbers n) g.past
     ∙ settled_number start.past start.tables r.0.tables s.job s.step.deed s.step.reply r.0.tree n
     (live [] (s ∷ ss) start refl refl) t in
@@ -115,7 +115,7 @@ at_most n most (row ∷ rows) a h = ⊎_elim
 pub gone_law : (before after : Tables) (list : List (ℕ × ℕ)) (closings number : ℕ) → Agree before →
     Happens before (change.Forget list) (event.Done closings) after →
     Each (λ row. HasNumber number row → row.count ≤ amount_asked number list) before.rows →
-        NoRow after (HasNumber number)
+    NoRow after (HasNumber number)
 gone_law before after list closings n a h most =
     let c = counts_event n before (change.Forget list) (event.Done closings) after a h in
     let l = forgotten_less n (live_count n before) list in

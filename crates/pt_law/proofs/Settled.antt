@@ -37,7 +37,7 @@ one_given : (n : ℕ) (deed : Deed) (told : ActReply) (holds after : List Hold) 
     total (count_of n) after + job_returned n (Some deed) ≡ total (count_of n) holds + job_given n (Some deed) told
 one_given n (Calls asked) told holds after s =
     let k = others_called (count_of n) (λ fd was. refl) (sort_of asked) (fds_of asked) (statted asked) told holds
-        after s
+    after s
     in omega (arith, k)
 one_given n (Changes (change.Resolve number)) (Event (event.Resolved row form ids mode)) holds after s =
     let k = total_takes (count_of n) s in omega (arith, k)

@@ -232,7 +232,7 @@ sound_shut seat passing mark (one ∷ holds) next notes k =
         Goes (next (under passing (if b then down_to mark holds else one ∷ holds)))
         (under passing (if b then down_to mark holds else one ∷ holds)) 0 notes →
         ((later : Notes) → Goes (next (under passing (down_to mark holds))) (under passing (down_to mark holds)) 0
-            later →
+        later →
         Sound (shut seat passing mark holds next) (at_job (unscoped (under passing holds)) later)) →
         Sound (if b then give seat one (under passing (one ∷ holds)) (under passing holds) (λ fault.
         or_lost seat fault (under passing holds) (shut seat passing mark holds next))
@@ -242,7 +242,7 @@ sound_shut seat passing mark (one ∷ holds) next notes k =
         (takes_under passing one holds) (λ fault later l.
         sound_or_lost seat fault (under passing holds) (shut seat passing mark holds next) later
         (f later (goes_on (next (under passing (down_to mark holds))) (under passing (down_to mark holds)) 0 notes
-            later
+        later
         l k)))
     go false k f = k notes (refl, refl)
 
@@ -268,7 +268,7 @@ sound_answered seat (answer.Entry entry) (hold.Count era number ∷ holds) notes
 sound_answered seat (answer.Entry entry) holds notes h = absurd h
 sound_answered seat (answer.Created entry handle options) (hold.Count era number ∷ holds) notes h =
     sound_entry seat entry.inode (finish.Answer (answer.Created entry handle options)) holds notes (λ e. refl) era
-        number h
+    number h
 sound_answered seat (answer.Created entry handle options) holds notes h = absurd h
 sound_answered seat last holds notes h = sound_leave seat holds (finish.Answer last) notes refl
 

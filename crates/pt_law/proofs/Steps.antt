@@ -155,7 +155,7 @@ bytes_notes a bytes notes = refl
 
 bytes_settled : (past : Past) (j : ℕ) (a : Call) (bytes : List ℕ) (row : ℕ) (tree : Tree) →
     settled_by past j (Calls a) NoCopy row tree
-        ≡ settled_by past j (Calls a) (Host (host.Ok (value.Bytes bytes))) row tree
+    ≡ settled_by past j (Calls a) (Host (host.Ok (value.Bytes bytes))) row tree
 bytes_settled past j (call.OpenAt dir name flags mode) bytes row tree = refl
 bytes_settled past j (call.OpenRoot path flags) bytes row tree = refl
 bytes_settled past j a bytes row tree = refl
@@ -348,4 +348,4 @@ pub keeps : (bound : ℕ) (base had : ℕ → ℕ) (w : World) (js : ℕ → Job
     Inv bound base (λ n. had n + inserted_if n turn.step.deed turn.step.reply) next (set_at turn.job after js)
 keeps bound base had w js turn next after lt v g m =
     keeps_by bound base had w js turn.job turn.step.deed turn.step.reply g.seat g.seat_after next after lt v g.made
-        g.past m
+    g.past m

@@ -91,7 +91,7 @@ Does j P turn = (step : Step) × P step × (turn ≡ turn_by j step)
 
 sorted : (j : ℕ) (P : Step → Type 0) (N : Option Deed → ActReply → Type 0) →
     ((deed : Option Deed) (told : ActReply) → P (record { deed = deed; reply = told }) ⊎ N deed told) →
-        (turn : Turn) →
+    (turn : Turn) →
     Does j P turn ⊎ Spares j N turn
 sorted j P N sort turn = ⊎_elim
     (λ (e : turn.job ≡ j). ⊎_elim

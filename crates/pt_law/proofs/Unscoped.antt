@@ -19,7 +19,7 @@ takes_plain {one = one} (there {y = top} {xs = holds} {ys = left} t) e = go (is_
   where
     go : (b : Bool) → Takes one (unscoped holds) (unscoped left) →
         Takes one (if b then unscoped holds else top ∷ unscoped holds)
-            (if b then unscoped left else top ∷ unscoped left)
+        (if b then unscoped left else top ∷ unscoped left)
     go true k = k
     go false k = there k
 
