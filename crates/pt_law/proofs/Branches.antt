@@ -14,7 +14,7 @@ use Rattle.pt_frame.specs.Replies.{closings_in, taken_in, restored, refusal, pas
 use Rattle.pt_frame.specs.Grammar.{Grammar, End, Belongs}
 use Rattle.pt_frame.specs.Frame.{giving, closings, give_taken, give, leave, or_lost, bare_one, bare, shut, front}
 use Rattle.pt_frame.specs.Frame.{behind}
-use Rattle.pt_frame.specs.Frame.{under, mark_in, outer, answered_by, answered}
+use Rattle.pt_frame.specs.Frame.{under, mark_in, outer, answered_by}
 use Rattle.pt_frame.specs.Tree.{Tree, Gives, Refuses, Asks, Opens, Bares, Brackets, Shuts, Allocates, framed, follows}
 use Rattle.pt_frame.specs.Tree.{may_give_up, allocates}
 use Rattle.pt_frame.specs.declared.act.ActReply.{ActReply}
