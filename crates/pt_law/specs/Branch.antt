@@ -1,4 +1,5 @@
--- Inner. A branch of a tree: the steps of the request's own part, from the first to the answer.
+-- Believed. A branch of a tree: the steps of the request's own part, from the first to the answer. And how a job came
+-- to its end: by a branch, as memory ran out, or as its seat was lost.
 use Rattle.std.specs.Prelude.{◌≡◌, ◌⊎◌, List, [], ◌∷◌, Option, None, Some}
 use Rattle.pt_host.specs.Sorts.{Sort, OpensWith, EndsFd, OfSeat, Plain, sort_of}
 use Rattle.pt_session.specs.Change.{Change}
