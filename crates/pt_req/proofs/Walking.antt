@@ -24,6 +24,7 @@ use Rattle.pt_iface.specs.declared.request.Request.{Request}
 use Rattle.pt_iface.specs.declared.request.Request.TheVariants as request
 use Rattle.pt_frame.specs.Deed.{Deed, Calls, Changes, lacks_memory}
 use Rattle.pt_frame.specs.Replies.{is_cut}
+use Rattle.pt_frame.specs.Sparing.{IsNoMemory}
 use Rattle.pt_frame.specs.Tended.{is_of_seat}
 use Rattle.pt_frame.specs.Tree.{Tree, Gives, Refuses, Asks, Brackets, Shuts}
 use Rattle.pt_frame.specs.declared.act.ActReply.{ActReply}
@@ -39,7 +40,6 @@ use Rattle.pt_req.specs.Parts.{by_path, named, placed, file_of, open_form, open_
 use Rattle.pt_req.specs.Parts.{look_up, open_num, root_open}
 use Rattle.pt_req.specs.Requests.{init, destroy, root, lookup, batch_forget, open_file, release, read, unserved}
 use Rattle.pt_req.specs.Requests.{tree_of}
-use Rattle.pt_req.specs.Laws.{IsNoMemory}
 use Rattle.pt_req.specs.declared.begun.BegunSession.{BegunSession}
 use Rattle.pt_req.specs.declared.parts.looked.Looked.{Looked}
 use Rattle.pt_req.specs.declared.plan.Plan.{Plan}
