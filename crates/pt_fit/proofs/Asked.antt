@@ -1,6 +1,6 @@
 -- Whatever a job asks, a request or an edit: it keeps the discipline to its end, whole or cut, and an answer that
 -- refuses or that memory ran out has its cause.
-use Rattle.std.proofs.Common.{◌≡◌, ◌⊎◌, inl, inr, ℕ, List, [], ◌∷◌, ◌++◌, refl, sym, ap, subst, ◌∙◌}
+use Rattle.std.proofs.Common.{◌≡◌, ◌⊎◌, inl, inr, ℕ, List, [], ◌∷◌, ◌++◌, refl, sym, ap, subst}
 use Rattle.pt_host.specs.declared.seat.HostSeat.{HostSeat}
 use Rattle.pt_iface.specs.declared.answer.Answer.{Answer}
 use Rattle.pt_iface.specs.declared.answer.Answer.TheVariants as answer
@@ -30,12 +30,13 @@ use Rattle.pt_fit.specs.Cause.{IsCausedBy, MayAllocate}
 use Rattle.pt_fit.specs.Fit.{MayAnswer}
 use Rattle.pt_fit.specs.Answered.{ComesTo}
 use Rattle.pt_fit.proofs.Edits.{edit_ended, edit_caused, edit_cut}
-use Rattle.pt_fit.proofs.Fitting.{fit_keeps, fit_along, fit_allocates, fit_takes_none, IsRight, own_within, own_told, first_told}
-use Rattle.pt_fit.proofs.Fitting.{nothing_within}
+use Rattle.pt_fit.proofs.Fitting.{fit_keeps, fit_along, fit_allocates, fit_takes_none, IsRight, own_within}
+use Rattle.pt_fit.proofs.Fitting.{own_told, first_told, nothing_within}
 use Rattle.pt_fit.proofs.Requests.{fit_request}
 
 pub request_ends : (plan : Plan) (seat : HostSeat) (who : Context) (asked : Request) (steps : List Step)
-    (end : Finish) → AllMayBeTold steps → Belongs (grammar_of plan seat who asked) steps end → ComesToEnd idle steps end
+    (end : Finish) → AllMayBeTold steps → Belongs (grammar_of plan seat who asked) steps end →
+    ComesToEnd idle steps end
 request_ends plan seat who asked steps end t b =
     keeps_ends seat (tree_of plan seat who asked) steps end
     (fit_keeps asked (tree_of plan seat who asked) [] [] blank [] (fit_request plan seat who asked)) t b
@@ -94,7 +95,8 @@ pub job_full : (plan : Plan) (seat : HostSeat) (asked : Asked) (so_far steps : L
     CutInFull seat (grammar_for plan seat asked) so_far steps end
 job_full plan seat (Requests who asked) so_far steps end t n b =
     cut_in_full seat (tree_of plan seat who asked) so_far steps end
-    (fit_takes_none asked (tree_of plan seat who asked) [] [] blank [] (λ no. no) (fit_request plan seat who asked)) t n b
+    (fit_takes_none asked (tree_of plan seat who asked) [] [] blank [] (λ no. no)
+    (fit_request plan seat who asked)) t n b
 job_full plan seat (Edits edit) [] steps end t n b = b
 job_full plan seat (Edits edit) (step ∷ so_far) steps end t n b = absurd b.1
 
@@ -111,7 +113,8 @@ comes_ends plan seat asked steps end t (inr c) =
     (job_ends_cut plan seat asked c.0 c.1 end k.0 k.1 c.3)
 
 pub job_caused : (plan : Plan) (seat : HostSeat) (asked : Asked) (steps : List Step) (last : Answer) →
-    AllMayBeTold steps → Belongs (grammar_for plan seat asked) steps (finish.Answer last) → IsCausedBy asked steps last
+    AllMayBeTold steps → Belongs (grammar_for plan seat asked) steps (finish.Answer last) →
+    IsCausedBy asked steps last
 job_caused plan seat (Requests who asked) steps last t b = (request_right plan seat who asked steps last t b).0
 job_caused plan seat (Edits edit) steps last t b = edit_caused edit steps last b
 

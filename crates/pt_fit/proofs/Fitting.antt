@@ -1,5 +1,6 @@
 -- What is fit keeps the discipline, and on each branch a refusal has its cause and an entry is a lookup's.
-use Rattle.std.proofs.Common.{◌≡◌, ◌⊎◌, inl, inr, ℕ, zero, suc, List, [], ◌∷◌, Option, None, Some, refl, sym, subst, length}
+use Rattle.std.proofs.Common.{◌≡◌, inl, inr, ℕ, zero, suc, List, [], ◌∷◌, Option, None, Some, refl, sym, subst}
+use Rattle.std.proofs.Common.{length}
 use Rattle.pt_host.specs.Sorts.{Sort, OpensWith, EndsFd, OfSeat, Plain, sort_of}
 use Rattle.pt_host.specs.declared.ids.Errno.{Errno}
 use Rattle.pt_host.specs.declared.reply.HostReply.TheVariants as host
@@ -24,7 +25,7 @@ use Rattle.pt_frame.specs.Frame.{front, behind, under, mark_in, outer}
 use Rattle.pt_law.specs.Keeps.{uncovered, down_to, After, Keeps}
 use Rattle.pt_law.specs.Branch.{Along, AllocatesAfter, TakesNone, AreOwn, AreOwn.{none, keep, skip}, AreFirst}
 use Rattle.pt_law.specs.Branch.{AreFirst.{stop, next as first_next, pass}, SomeLacks}
-use Rattle.pt_law.specs.Discipline.{made}
+use Rattle.pt_law.specs.Naming.{made}
 use Rattle.pt_law.proofs.Moving.{told_of}
 use Rattle.pt_fit.specs.Cause.{CallCauses, StepCauses, EventCauses, SomeCauses, IsCaused, MayAllocate}
 use Rattle.pt_fit.specs.Fit.{Fit, MayAnswer}
@@ -160,8 +161,8 @@ fit_along asked (Bares rest) holds marks notes path own all last f t w v a =
 fit_along asked (Brackets rest) holds marks notes path own all last f t w v a =
     fit_along asked rest holds (length holds ∷ marks) notes path own all last f t w v a
 fit_along asked (Shuts passes rest) holds marks notes path own all last f t w v a =
-    fit_along asked rest (under (front passes holds) (down_to (mark_in marks) (behind passes holds))) (outer marks) notes
-    path own all last (f notes (refl, refl)) t w v a
+    fit_along asked rest (under (front passes holds) (down_to (mark_in marks) (behind passes holds)))
+    (outer marks) notes path own all last (f notes (refl, refl)) t w v a
 fit_along asked (Allocates rest) holds marks notes path own all last f t w v a =
     fit_along asked rest holds marks notes path own all last f.1 t w v a
 
@@ -187,8 +188,8 @@ fit_allocates asked (Bares rest) holds marks notes path own f t a =
 fit_allocates asked (Brackets rest) holds marks notes path own f t a =
     fit_allocates asked rest holds (length holds ∷ marks) notes path own f t a
 fit_allocates asked (Shuts passes rest) holds marks notes path own f t a =
-    fit_allocates asked rest (under (front passes holds) (down_to (mark_in marks) (behind passes holds))) (outer marks)
-    notes path own (f notes (refl, refl)) t a
+    fit_allocates asked rest (under (front passes holds) (down_to (mark_in marks) (behind passes holds)))
+    (outer marks) notes path own (f notes (refl, refl)) t a
 fit_allocates asked (Allocates rest) holds marks notes path own f t a = f.0
 
 -- and one of a request that may not, takes none
@@ -197,31 +198,37 @@ pub fit_takes_none : (asked : Request) (tree : Tree) (holds : List Hold) (marks 
 fit_takes_none asked (Gives given) holds marks notes path n f = tt
 fit_takes_none asked (Refuses told) holds marks notes path n f = tt
 fit_takes_none asked (Asks deed next) holds marks notes path n f = λ told t.
-    fit_takes_none asked (next told) (held deed told holds) marks (notes_after notes deed told) (made deed told ∷ path) n
-    (after_at (closings_in deed told) _ (notes_after notes deed told) (f.1 told t))
+    fit_takes_none asked (next told) (held deed told holds) marks (notes_after notes deed told)
+    (made deed told ∷ path) n (after_at (closings_in deed told) _ (notes_after notes deed told) (f.1 told t))
 fit_takes_none asked (Opens call scope next) holds marks notes path n f = λ told t.
-    fit_takes_none asked (next told) (opened scope told holds) marks notes (made (Calls call) told ∷ path) n (f.1 told t)
+    fit_takes_none asked (next told) (opened scope told holds) marks notes (made (Calls call) told ∷ path) n
+    (f.1 told t)
 fit_takes_none asked (Bares rest) holds marks notes path n f =
     fit_takes_none asked rest (uncovered holds) marks notes path n f
 fit_takes_none asked (Brackets rest) holds marks notes path n f =
     fit_takes_none asked rest holds (length holds ∷ marks) notes path n f
 fit_takes_none asked (Shuts passes rest) holds marks notes path n f =
-    fit_takes_none asked rest (under (front passes holds) (down_to (mark_in marks) (behind passes holds))) (outer marks)
-    notes path n (f notes (refl, refl))
+    fit_takes_none asked rest (under (front passes holds) (down_to (mark_in marks) (behind passes holds)))
+    (outer marks) notes path n (f notes (refl, refl))
 fit_takes_none asked (Allocates rest) holds marks notes path n f = absurd (n f.0)
 
 -- the steps of a branch are among all
-pub own_within : (asked : Request) (own all : List Step) → AreOwn own all → Within asked own all
-own_within asked _ _ none = record { causes = λ errno s. s; lacks = λ s. s }
-own_within asked _ _ (keep {step = step} {own = own} {all = all} o) = record { causes = causes; lacks = lacks }
+kept_within : (asked : Request) (step : Step) (own all : List Step) → Within asked own all →
+    Within asked (step ∷ own) (step ∷ all)
+kept_within asked step own all w = record { causes = causes; lacks = lacks }
   where
     causes : (errno : Errno) → SomeCauses asked (step ∷ own) errno → SomeCauses asked (step ∷ all) errno
     causes errno (inl s) = inl s
-    causes errno (inr s) = inr ((own_within asked own all o).causes errno s)
+    causes errno (inr s) = inr (w.causes errno s)
 
     lacks : SomeLacks (step ∷ own) → SomeLacks (step ∷ all)
     lacks (inl s) = inl s
-    lacks (inr s) = inr ((own_within asked own all o).lacks s)
+    lacks (inr s) = inr (w.lacks s)
+
+pub own_within : (asked : Request) (own all : List Step) → AreOwn own all → Within asked own all
+own_within asked _ _ none = record { causes = λ errno s. s; lacks = λ s. s }
+own_within asked _ _ (keep {step = step} {own = own} {all = all} o) =
+    kept_within asked step own all (own_within asked own all o)
 own_within asked own _ (skip {step = step} {all = all} g o) =
     let w = own_within asked own all o in
     record { causes = λ errno s. inr (w.causes errno s); lacks = λ s. inr (w.lacks s) }

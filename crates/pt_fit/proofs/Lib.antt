@@ -1,4 +1,5 @@
 pub mod Holds
+pub mod Refused
 pub mod Parts
 pub mod Requests
 pub mod Fitting

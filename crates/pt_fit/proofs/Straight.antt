@@ -1,16 +1,16 @@
 -- A lookup's own steps stand first, and what is given back behind them.
-use Rattle.std.proofs.Common.{◌≡◌, ◌⊎◌, inl, inr, ℕ, List, [], ◌∷◌, ◌++◌, Bool, true, false, refl, sym, ap, subst, ◌∙◌}
+use Rattle.std.proofs.Common.{◌≡◌, ◌⊎◌, inl, inr, ℕ, List, [], ◌∷◌, ◌++◌, Bool, true, false, refl, sym, ap, subst}
+use Rattle.std.proofs.Common.{◌∙◌}
 use Rattle.std.proofs.Common.{if◌then◌else◌, None, length}
 use Rattle.pt_host.specs.Errno.{einval}
 use Rattle.pt_host.specs.declared.ids.Fd.{Fd}
-use Rattle.pt_host.specs.declared.ids.ObjIds.{ObjIds}
 use Rattle.pt_host.specs.declared.seat.HostSeat.{HostSeat}
 use Rattle.pt_host.specs.declared.stat.Stat.{Stat}
 use Rattle.pt_host.specs.declared.reply.HostReply.TheVariants as host
 use Rattle.pt_host.specs.declared.reply.HostValue.TheVariants as value
 use Rattle.pt_session.specs.Change.{Change}
-use Rattle.pt_session.specs.declared.form.RowForm.{RowForm}
 use Rattle.pt_session.specs.declared.form.RowForm.TheVariants.{File}
+use Rattle.pt_session.specs.declared.form.Negotiated.{Negotiated}
 use Rattle.pt_session.specs.declared.event.KeptEvent.TheVariants as change
 use Rattle.pt_session.specs.declared.reply.EventReply.{EventReply}
 use Rattle.pt_session.specs.declared.reply.EventReply.TheVariants as event
@@ -31,14 +31,15 @@ use Rattle.pt_frame.specs.declared.finish.Finish.{Finish}
 use Rattle.pt_frame.specs.declared.finish.Finish.TheVariants as finish
 use Rattle.pt_frame.specs.declared.hold.Hold.{Hold}
 use Rattle.pt_req.specs.Entries.{is_bad_name}
-use Rattle.pt_req.specs.Parts.{by_path, named, file_of, numbered, looked_of, look_up}
+use Rattle.pt_req.specs.Parts.{numbered, looked_of, look_up}
 use Rattle.pt_req.specs.Requests.{lookup}
-use Rattle.pt_req.specs.Steps.{session_of, on_began, Resolved, on_resolved, on_fd, on_stat, on_claim, on_taken, on_drawn}
-use Rattle.pt_req.specs.Steps.{on_inserted, open_at, stat, take_fd, draw_node, insert}
+use Rattle.pt_req.specs.Steps.{session_of}
 use Rattle.pt_req.specs.declared.begun.BegunSession.{BegunSession}
+use Rattle.pt_req.specs.declared.parts.looked.Looked.{Looked}
 use Rattle.pt_req.specs.declared.plan.Plan.{Plan}
 use Rattle.pt_attr.specs.Pattern.{grammar_of}
 use Rattle.pt_law.specs.Branch.{Along, IsLost, IsGivenUp}
+use Rattle.pt_law.specs.Naming.{made}
 use Rattle.pt_law.proofs.Branches.{branch, end_leave, Ended}
 use Rattle.pt_fit.specs.Opened.{IsLookedUp}
 use Rattle.pt_fit.proofs.Looking.{looked_up}
@@ -145,85 +146,81 @@ good : (bad : Bool) (next : Tree) → IsStraight next → IsStraight (if bad the
 good true next s = tt
 good false next s = s
 
-straight_numbered : (session : BegunSession) (fd : Fd) (told : Stat) (next : ℕ → Tree) → ((n : ℕ) → IsStraight (next n)) →
-    IsStraight (numbered session (File fd) told next)
-straight_numbered session fd told next s = (none_told (change.Claim session.era None told.ids) (λ t. refl), claim)
-  where
-    insertion : (fresh : ℕ) (t : ActReply) → IsStraight (on_inserted next t)
-    insertion fresh (Event (event.Inserted given)) = s given
-    insertion fresh (Event (event.Found given)) = s given
-    insertion fresh t = tt
+straight_numbered : (session : BegunSession) (fd : Fd) (told : Stat) (next : ℕ → Tree) →
+    ((n : ℕ) → IsStraight (next n)) → IsStraight (numbered session (File fd) told next)
+straight_numbered session fd told next s = (
+  none_told (change.Claim session.era None told.ids) (λ t. refl),
+  elim [
+    | Event (event.Claimed number) ↦ s number
+    | Event event.Absent ↦ (
+      none_told change.TakeFd (λ t. refl),
+      elim [
+        | Event event.Taken ↦ (
+          none_told change.DrawNode (λ t. refl),
+          elim [
+            | Event (event.Drawn fresh) ↦ (
+              none_told (change.Insert session.era fresh (File fd) told.ids told.mode) (λ t. refl),
+              elim [ Event (event.Inserted given) ↦ s given | Event (event.Found given) ↦ s given | t ↦ tt ],
+            )
+            | t ↦ tt
+          ],
+        )
+        | t ↦ tt
+      ],
+    )
+    | t ↦ tt
+  ],
+)
 
-    draw : (t : ActReply) → IsStraight (on_drawn (λ fresh. insert session fresh (File fd) told next) t)
-    draw (Event (event.Drawn fresh)) =
-        (none_told (change.Insert session.era fresh (File fd) told.ids told.mode) (λ t. refl), insertion fresh)
-    draw t = tt
-
-    slot : (t : ActReply) →
-        IsStraight (on_taken (draw_node (λ fresh. insert session fresh (File fd) told next)) t)
-    slot (Event event.Taken) = (none_told change.DrawNode (λ t. refl), draw)
-    slot t = tt
-
-    claim : (t : ActReply) →
-        IsStraight (on_claim next (take_fd (draw_node (λ fresh. insert session fresh (File fd) told next))) t)
-    claim (Event (event.Claimed number)) = s number
-    claim (Event event.Absent) = (none_told change.TakeFd (λ t. refl), slot)
-    claim t = tt
+straight_look_up : (plan : Plan) (session : BegunSession) (parent : ℕ) (name : List ℕ) (next : Looked → Tree) →
+    ((looked : Looked) → IsBare (next looked)) → IsStraight (look_up plan session parent name next)
+straight_look_up plan session parent name next s = (
+  none_told (change.Resolve parent) (λ t. refl),
+  elim [
+    | Event (event.Resolved row (File dir) ids mode) ↦ (
+      (λ t. refl),
+      elim [
+        | Host (host.Ok (value.Fd fd)) ↦ (
+          (λ t. refl),
+          elim [
+            | Host (host.Ok (value.Stat told)) ↦
+                straight_numbered session fd told _ (λ n. s (looked_of plan session ids told (File fd) n))
+            | t ↦ tt
+          ],
+        )
+        | t ↦ tt
+      ],
+    )
+    | t ↦ tt
+  ],
+)
 
 straight_lookup : (plan : Plan) (parent : ℕ) (name : List ℕ) → IsStraight (lookup plan parent name)
-straight_lookup plan parent name = (none_told change.Begin (λ t. refl), begun)
-  where
-    states : (session : BegunSession) (ids : ObjIds) (fd : Fd) (t : ActReply) →
-        IsStraight (on_stat (λ told. numbered session (File fd) told (λ number.
-        Shuts true (Gives (answer.Entry (looked_of plan session ids told (File fd) number).entry)))) t)
-    states session ids fd (Host (host.Ok (value.Stat told))) = straight_numbered session fd told _ (λ n. tt)
-    states session ids fd t = tt
+straight_lookup plan parent name = (
+  none_told change.Begin (λ t. refl),
+  elim [
+    | Event (event.Began era agreed) ↦
+        let next : Looked → Tree = λ looked. Gives (answer.Entry looked.entry) in
+        good (is_bad_name name) (look_up plan (session_of era agreed) parent name next)
+        (straight_look_up plan (session_of era agreed) parent name next (λ looked. tt))
+    | t ↦ tt
+  ],
+)
 
-    opens : (session : BegunSession) (ids : ObjIds) (t : ActReply) →
-        IsStraight (on_fd (λ fd. stat fd (λ told. numbered session (File fd) told (λ number.
-        Shuts true (Gives (answer.Entry (looked_of plan session ids told (File fd) number).entry))))) t)
-    opens session ids (Host (host.Ok (value.Fd fd))) = ((λ t. refl), states session ids fd)
-    opens session ids t = tt
-
-    in_form : (session : BegunSession) (ids : ObjIds) (form : RowForm) →
-        IsStraight (file_of form (λ dir. open_at dir name by_path (λ fd. stat fd (λ told.
-        numbered session (File fd) told (λ number.
-        Shuts true (Gives (answer.Entry (looked_of plan session ids told (File fd) number).entry)))))))
-    in_form session ids (File dir) = ((λ t. refl), opens session ids)
-
-    resolves : (session : BegunSession) (t : ActReply) →
-        IsStraight (on_resolved (λ directory. file_of directory.form (λ dir. open_at dir name by_path (λ fd.
-        stat fd (λ told. numbered session (File fd) told (λ number.
-        Shuts true (Gives (answer.Entry (looked_of plan session directory.ids told (File fd) number).entry))))))) t)
-    resolves session (Event (event.Resolved row form ids mode)) = in_form session ids form
-    resolves session t = tt
-
-    begun : (t : ActReply) →
-        IsStraight (on_began (λ session. named name (look_up plan session parent name (λ looked.
-        Gives (answer.Entry looked.entry)))) t)
-    begun (Event (event.Began era agreed)) =
-        good (is_bad_name name) (look_up plan (session_of era agreed) parent name (λ looked.
-        Gives (answer.Entry looked.entry))) (
-          none_told (change.Resolve parent) (λ t. refl),
-          resolves (session_of era agreed),
-        )
-    begun t = tt
-
--- an entry's steps, and then others
+-- a lookup that is answered with an entry begins, looks up, and then gives back
 pub entry_steps : (plan : Plan) (seat : HostSeat) (who : Context) (parent : ℕ) (name : List ℕ) (entry : Entry)
     (steps : List Step) →
     Belongs (grammar_of plan seat who (request.Lookup parent name)) steps (finish.Answer (answer.Entry entry)) →
-    (own : List Step) × (back : List Step) × (steps ≡ own ++ back) × IsLookedUp plan parent name entry own
+    (era : ℕ) × (agreed : Negotiated) × (own : List Step) × (back : List Step)
+    × (steps ≡ made (Changes change.Begin) (Event (event.Began era agreed)) ∷ (own ++ back))
+    × IsLookedUp plan era agreed parent name entry own
 entry_steps plan seat who parent name entry steps b =
     elim (straight seat (lookup plan parent name) [] [] steps (finish.Answer (answer.Entry entry))
     (straight_lookup plan parent name) b) [
       | inl g ↦ absurd g
       | inr r ↦
-          let same : r.2 ≡ answer.Entry entry = cc in (
-            r.0,
-            r.1,
-            r.3,
-            looked_up plan parent name entry r.0
-                (subst (λ (last : Answer). Along (lookup plan parent name) r.0 last) same r.5),
-          )
+          let same : r.2 ≡ answer.Entry entry = cc in
+          let l = looked_up plan parent name entry r.0
+          (subst (λ (last : Answer). Along (lookup plan parent name) r.0 last) same r.5) in
+          (l.0, l.1, l.2, r.1, r.3 ∙ ap (λ z. z ++ r.1) l.3, l.4)
     ]

@@ -16,7 +16,7 @@ use Rattle.pt_frame.specs.declared.hold.Hold.{Hold}
 use Rattle.pt_law.specs.Discipline.{Notes, notes_after, blank}
 use Rattle.pt_law.specs.Told.{MayBeTold}
 use Rattle.pt_law.specs.Keeps.{uncovered, down_to, MayMake, MayOpen, Lasts, After, HoldsEntry}
-use Rattle.pt_law.specs.Discipline.{made}
+use Rattle.pt_law.specs.Naming.{made}
 use Rattle.pt_fit.specs.Cause.{IsCaused, MayAllocate}
 
 -- an entry is the answer of a lookup, and no request of today makes what it answers
