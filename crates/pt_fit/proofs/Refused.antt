@@ -20,7 +20,8 @@ use Rattle.pt_frame.specs.declared.hold.Hold.{Hold}
 use Rattle.pt_law.specs.Keeps.{MayChange}
 use Rattle.pt_law.specs.Told.{MayBeTold}
 use Rattle.pt_law.specs.Naming.{made}
-use Rattle.pt_fit.specs.Cause.{CallCauses, IsCaused}
+use Rattle.pt_fit.specs.Cause.{CallCauses}
+use Rattle.pt_fit.specs.Fit.{IsCausedLeaf}
 
 -- such a reply is awaited
 abbrev pub IsAwaited : Deed → ActReply → Type 0
@@ -52,7 +53,7 @@ call_failed Plain errno h = refl
 
 event_refused : (asked : Request) (this : Change) (why : EventRefusal) (holds : List Hold) (path : List Step) →
     MayChange this holds → IsOneOf why (refusals this) →
-    IsCaused asked (made (Changes this) (Event (event.Refused why)) ∷ path) (event_refusal why)
+    IsCausedLeaf asked (made (Changes this) (Event (event.Refused why)) ∷ path) (event_refusal why)
 event_refused asked (change.Resolve number) refused.NotLive holds path m o = inr (inl refl)
 event_refused asked (change.Resolve number) refused.Last holds path m o = inr (inl refl)
 event_refused asked (change.Claim era handle ids) refused.Overtaken holds path m o = inr (inl refl)
@@ -62,16 +63,16 @@ event_refused asked change.DrawNode refused.Last holds path m o = inr (inl refl)
 event_refused asked (change.Insert era number form ids mode) refused.Overtaken holds path m o = inr (inl refl)
 event_refused asked (change.Insert era number form ids mode) refused.Live holds path m o = inr (inl refl)
 event_refused asked (change.Insert era number form ids mode) refused.Last holds path m o = inr (inl refl)
-event_refused asked (change.Insert era number form ids mode) refused.Memory holds path m o = inl (inl refl)
+event_refused asked (change.Insert era number form ids mode) refused.Memory holds path m o = tt
 event_refused asked (change.InsertRoot era form ids mode agreed) refused.Overtaken holds path m o = inr (inl refl)
 event_refused asked (change.InsertRoot era form ids mode agreed) refused.Live holds path m o = inr (inl refl)
 event_refused asked (change.InsertRoot era form ids mode agreed) refused.Last holds path m o = inr (inl refl)
-event_refused asked (change.InsertRoot era form ids mode agreed) refused.Memory holds path m o = inl (inl refl)
+event_refused asked (change.InsertRoot era form ids mode agreed) refused.Memory holds path m o = tt
 event_refused asked change.DrawHandle refused.Last holds path m o = inr (inl refl)
 event_refused asked (change.InsertHandle era handle number fd) refused.Overtaken holds path m o = inr (inl refl)
 event_refused asked (change.InsertHandle era handle number fd) refused.Live holds path m o = inr (inl refl)
 event_refused asked (change.InsertHandle era handle number fd) refused.Last holds path m o = inr (inl refl)
-event_refused asked (change.InsertHandle era handle number fd) refused.Memory holds path m o = inl (inl refl)
+event_refused asked (change.InsertHandle era handle number fd) refused.Memory holds path m o = tt
 event_refused asked (change.PinHandle handle number) refused.NotLive holds path m o = inr (inl refl)
 event_refused asked (change.PinHandle handle number) refused.Last holds path m o = inr (inl refl)
 event_refused asked (change.Release handle number) refused.NotLive holds path m o = inr (inl refl)
@@ -85,17 +86,17 @@ event_refused asked this why holds path m o = absurd o
 
 pub refused_by : (asked : Request) (deed : Deed) (told : ActReply) (holds : List Hold) (path : List Step) →
     IsHeeded deed holds → MayBeTold deed told → (IsAwaited deed told → ⊥) →
-    IsCaused asked (made deed told ∷ path) (refusal told)
+    IsCausedLeaf asked (made deed told ∷ path) (refusal told)
 refused_by asked (Calls call) (Host (host.Ok value)) holds path h m n = absurd (n m)
 refused_by asked (Calls call) (Host (host.Refused errno)) holds path h m n =
     inr (inl (call_refused (sort_of call) errno h))
 refused_by asked (Calls call) (Host (host.Fault errno)) holds path h m n =
     inr (inl (call_failed (sort_of call) errno h))
-refused_by asked (Calls call) (Host host.NoMemory) holds path h m n = inl (inl refl)
+refused_by asked (Calls call) (Host host.NoMemory) holds path h m n = tt
 refused_by asked (Calls call) (Event told) holds path h m n = absurd m
-refused_by asked (Calls call) NoCopy holds path h m n = inl (inl refl)
+refused_by asked (Calls call) NoCopy holds path h m n = tt
 refused_by asked (Changes this) (Event (event.Refused why)) holds path h m n =
     event_refused asked this why holds path h (answered m.0 m.1 this (event.Refused why) m.2)
 refused_by asked (Changes this) (Event told) holds path h m n = absurd (n (answered m.0 m.1 this told m.2))
 refused_by asked (Changes this) (Host told) holds path h m n = absurd m
-refused_by asked (Changes this) NoCopy holds path h m n = inl (inl refl)
+refused_by asked (Changes this) NoCopy holds path h m n = tt
