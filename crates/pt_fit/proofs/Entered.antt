@@ -31,7 +31,7 @@ use Rattle.pt_law.specs.Discipline.{AreDisciplined}
 use Rattle.pt_law.proofs.Giving.{places_of, giving_law}
 use Rattle.pt_fit.specs.Opened.{inserting, InsertionGives, IsLookedUp}
 use Rattle.pt_fit.specs.Entered.{EntryPlaces, IsEntered}
-use Rattle.pt_fit.proofs.Straight.{entry_steps}
+use Rattle.pt_fit.proofs.Looking.{looked_up}
 
 -- the steps of an entry behind its opening: the last one gives the number, and none before it opens a name
 record Giving (number : ℕ) (ids : ObjIds) (steps : List Step) : Type 0 where
@@ -131,5 +131,5 @@ pub entered_law : (limit bound : ℕ) (plan : Plan) (seat : HostSeat) (who : Con
     (finish.Answer (answer.Entry entry)) →
     IsEntered plan start turns j parent name entry
 entered_law limit bound plan seat who turns start j parent name entry s d b =
-    let e = entry_steps plan seat who parent name entry (steps_of j turns) b in
+    let e = looked_up plan seat who parent name entry (steps_of j turns) b in
     placed_law limit bound plan turns start j parent name entry e.0 e.1 [] e.2 e.3 s d e.4 e.5

@@ -46,7 +46,7 @@ use Rattle.pt_law.proofs.Interleaving.{tables_split}
 use Rattle.pt_law.proofs.Laws.{agree_law}
 use Rattle.pt_law.proofs.Reliance.{stays_gone, inserted_append, refused_law}
 use Rattle.pt_fit.specs.Uses.{IsOn}
-use Rattle.pt_fit.proofs.Straight.{follows_plain}
+use Rattle.pt_fit.proofs.Leading.{follows_plain}
 
 abbrev gone : ActReply
 gone = Event (event.Refused NotLive)

@@ -7,8 +7,8 @@ pub mod Edits
 pub mod Asked
 pub mod Answered
 pub mod Beginning
+pub mod Leading
 pub mod Looking
-pub mod Straight
 pub mod Entered
 pub mod Forgotten
 pub mod ExampleJob

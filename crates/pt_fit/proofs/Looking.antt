@@ -1,9 +1,10 @@
--- A lookup that led to an entry, whatever a request does with it: the steps of the branch.
-use Rattle.std.proofs.Common.{◌≡◌, ◌⊎◌, inl, inr, ℕ, List, [], ◌∷◌, ◌++◌, Bool, true, false, Option, Some, None, refl}
-use Rattle.std.proofs.Common.{sym, ap, subst, ◌∙◌, if◌then◌else◌, append-nil}
+-- A lookup that led to an entry, whatever request it is a part of and whatever follows it: its steps.
+use Rattle.std.proofs.Common.{◌≡◌, ◌⊎◌, inl, inr, ℕ, List, [], ◌∷◌, ◌++◌, Bool, true, false, None, refl, sym, ap}
+use Rattle.std.proofs.Common.{subst, ◌∙◌, if◌then◌else◌}
 use Rattle.pt_host.specs.Errno.{einval}
 use Rattle.pt_host.specs.declared.ids.Fd.{Fd}
 use Rattle.pt_host.specs.declared.ids.ObjIds.{ObjIds}
+use Rattle.pt_host.specs.declared.seat.HostSeat.{HostSeat}
 use Rattle.pt_host.specs.declared.stat.Stat.{Stat}
 use Rattle.pt_host.specs.declared.op.KeptHostOp.TheVariants as call
 use Rattle.pt_host.specs.declared.reply.HostReply.TheVariants as host
@@ -13,154 +14,134 @@ use Rattle.pt_session.specs.declared.form.RowForm.TheVariants.{File}
 use Rattle.pt_session.specs.declared.form.Negotiated.{Negotiated}
 use Rattle.pt_session.specs.declared.event.KeptEvent.TheVariants as change
 use Rattle.pt_session.specs.declared.reply.EventReply.TheVariants as event
-use Rattle.pt_session.specs.declared.reply.EventRefusal.{EventRefusal}
-use Rattle.pt_session.specs.declared.reply.EventRefusal.TheVariants as refused
 use Rattle.pt_iface.specs.declared.answer.Answer.{Answer}
 use Rattle.pt_iface.specs.declared.answer.Answer.TheVariants as answer
 use Rattle.pt_iface.specs.declared.entry.Entry.{Entry}
-use Rattle.pt_frame.specs.Deed.{Deed, Calls, Changes, Step, IsStepOf}
-use Rattle.pt_frame.specs.Replies.{refusal, event_refusal, passes_with}
-use Rattle.pt_frame.specs.Tree.{Tree, Gives, Refuses, Asks, Shuts}
+use Rattle.pt_iface.specs.declared.request.Context.{Context}
+use Rattle.pt_iface.specs.declared.request.Request.TheVariants as request
+use Rattle.pt_frame.specs.Deed.{Deed, Calls, Changes, Step}
+use Rattle.pt_frame.specs.Grammar.{Belongs}
+use Rattle.pt_frame.specs.Replies.{passes_with}
+use Rattle.pt_frame.specs.Tree.{Tree, Gives, Shuts, framed}
 use Rattle.pt_frame.specs.declared.act.ActReply.{ActReply}
-use Rattle.pt_frame.specs.declared.act.ActReply.TheVariants.{Event, Host, NoCopy}
+use Rattle.pt_frame.specs.declared.act.ActReply.TheVariants.{Event, Host}
+use Rattle.pt_frame.specs.declared.finish.Finish.TheVariants as finish
+use Rattle.pt_frame.specs.declared.hold.Hold.{Hold}
 use Rattle.pt_req.specs.Entries.{is_bad_name}
 use Rattle.pt_req.specs.Parts.{by_path, named, file_of, numbered, looked_of, look_up}
-use Rattle.pt_req.specs.Requests.{lookup}
 use Rattle.pt_req.specs.Steps.{session_of, on_began, Resolved, on_resolved, on_fd, on_stat, on_claim, on_taken}
-use Rattle.pt_req.specs.Steps.{on_drawn, on_inserted, open_at, stat, take_fd, draw_node, insert}
+use Rattle.pt_req.specs.Steps.{on_drawn, on_inserted, resolve, open_at, stat, take_fd, draw_node, insert}
 use Rattle.pt_req.specs.declared.begun.BegunSession.{BegunSession}
 use Rattle.pt_req.specs.declared.parts.looked.Looked.{Looked}
 use Rattle.pt_req.specs.declared.plan.Plan.{Plan}
-use Rattle.pt_law.specs.Branch.{Along}
+use Rattle.pt_attr.specs.Pattern.{grammar_of}
 use Rattle.pt_law.specs.Naming.{made}
 use Rattle.pt_fit.specs.Opened.{inserting, InsertionGives, Numbers, IsLookedUp}
-
--- what refuses has no entry
-event_no_entry : (why : EventRefusal) → passes_with (event_refusal why) ≡ true → ⊥
-event_no_entry refused.Memory e = cc
-event_no_entry why e = cc
-
-no_refusal : (told : ActReply) → passes_with (refusal told) ≡ true → ⊥
-no_refusal (Event (event.Refused why)) e = event_no_entry why e
-no_refusal (Host host.NoMemory) e = cc
-no_refusal told e = cc
-
-refused_none : (told : ActReply) (steps : List Step) (last : Answer) → passes_with last ≡ true →
-    Along (Refuses told) steps last → ⊥
-refused_none told [] last p e = no_refusal told (ap passes_with (sym e) ∙ p)
-refused_none told (step ∷ steps) last p e = e
-
--- the branch goes on by this reply to the deed
-record GoesOn (deed : Deed) (next : ActReply → Tree) (steps : List Step) (last : Answer) : Type 0 where
-  told : ActReply
-  rest : List Step
-  are : steps ≡ made deed told ∷ rest
-  on : Along (next told) rest last
-
-goes_on : (deed : Deed) (next : ActReply → Tree) (steps : List Step) (last : Answer) →
-    next NoCopy ≡ Refuses NoCopy → passes_with last ≡ true → Along (Asks deed next) steps last →
-    GoesOn deed next steps last
-goes_on deed next [] last n p a = absurd a
-goes_on deed next (step ∷ steps) last n p a = go step.deed step.reply a.0 a.1
-  where
-    go : (did : Option Deed) (told : ActReply) → IsStepOf deed did told → Along (next told) steps last →
-        GoesOn deed next (record { deed = did; reply = told } ∷ steps) last
-    go did NoCopy i on = absurd (refused_none NoCopy steps last p (subst (λ tree. Along tree steps last) n on))
-    go (Some same) told i on =
-        record { told = told; rest = steps; are = ap (λ (d : Deed). made d told ∷ steps) i; on = on }
-    go None told i on = absurd i
+use Rattle.pt_fit.proofs.Leading.{HasEntry, Leads, refused_none, given_none, shut_none, goes_on, none_told}
+use Rattle.pt_fit.proofs.Leading.{in_bracket}
 
 -- one step further
 then_step : {deed : Deed} {told one : ActReply} {steps rest more : List Step} → steps ≡ made deed told ∷ rest →
     told ≡ one → rest ≡ more → steps ≡ made deed one ∷ more
 then_step {deed = deed} e t r = e ∙ (λ i. made deed (t i) ∷ r i)
 
-began : (next : BegunSession → Tree) (told : ActReply) (rest : List Step) (last : Answer) →
-    passes_with last ≡ true → Along (on_began next told) rest last →
+began : (seat : HostSeat) (next : BegunSession → Tree) (told : ActReply) (rest : List Step) (last : Answer) →
+    HasEntry last → Leads seat (on_began next told) rest last →
     (era : ℕ) × (agreed : Negotiated) × (told ≡ Event (event.Began era agreed))
-    × Along (next (session_of era agreed)) rest last
-began next (Event (event.Began era agreed)) rest last p a = (era, agreed, refl, a)
-began next told rest last p a = absurd (refused_none told rest last p a)
+    × Leads seat (next (session_of era agreed)) rest last
+began seat next (Event (event.Began era agreed)) rest last p a = (era, agreed, refl, a)
+began seat next told rest last p a = absurd (refused_none seat told rest last p a)
 
-resolved : (next : Resolved → Tree) (told : ActReply) (rest : List Step) (last : Answer) →
-    passes_with last ≡ true → Along (on_resolved next told) rest last →
+resolved : (seat : HostSeat) (next : Resolved → Tree) (told : ActReply) (rest : List Step) (last : Answer) →
+    HasEntry last → Leads seat (on_resolved next told) rest last →
     (row : ℕ) × (form : RowForm) × (ids : ObjIds) × (mode : ℕ) × (told ≡ Event (event.Resolved row form ids mode))
-    × Along (next (record { row = row; form = form; ids = ids; mode = mode })) rest last
-resolved next (Event (event.Resolved row form ids mode)) rest last p a = (row, form, ids, mode, refl, a)
-resolved next told rest last p a = absurd (refused_none told rest last p a)
+    × Leads seat (next (record { row = row; form = form; ids = ids; mode = mode })) rest last
+resolved seat next (Event (event.Resolved row form ids mode)) rest last p a = (row, form, ids, mode, refl, a)
+resolved seat next told rest last p a = absurd (refused_none seat told rest last p a)
 
-opened : (next : Fd → Tree) (told : ActReply) (rest : List Step) (last : Answer) → passes_with last ≡ true →
-    Along (on_fd next told) rest last →
-    (fd : Fd) × (told ≡ Host (host.Ok (value.Fd fd))) × Along (next fd) rest last
-opened next (Host (host.Ok (value.Fd fd))) rest last p a = (fd, refl, a)
-opened next told rest last p a = absurd (refused_none told rest last p a)
+opened : (seat : HostSeat) (next : Fd → Tree) (told : ActReply) (rest : List Step) (last : Answer) → HasEntry last →
+    Leads seat (on_fd next told) rest last →
+    (fd : Fd) × (told ≡ Host (host.Ok (value.Fd fd))) × Leads seat (next fd) rest last
+opened seat next (Host (host.Ok (value.Fd fd))) rest last p a = (fd, refl, a)
+opened seat next told rest last p a = absurd (refused_none seat told rest last p a)
 
-stated : (next : Stat → Tree) (told : ActReply) (rest : List Step) (last : Answer) → passes_with last ≡ true →
-    Along (on_stat next told) rest last →
-    (was : Stat) × (told ≡ Host (host.Ok (value.Stat was))) × Along (next was) rest last
-stated next (Host (host.Ok (value.Stat was))) rest last p a = (was, refl, a)
-stated next told rest last p a = absurd (refused_none told rest last p a)
+stated : (seat : HostSeat) (next : Stat → Tree) (told : ActReply) (rest : List Step) (last : Answer) → HasEntry last →
+    Leads seat (on_stat next told) rest last →
+    (was : Stat) × (told ≡ Host (host.Ok (value.Stat was))) × Leads seat (next was) rest last
+stated seat next (Host (host.Ok (value.Stat was))) rest last p a = (was, refl, a)
+stated seat next told rest last p a = absurd (refused_none seat told rest last p a)
 
-claimed : (next : ℕ → Tree) (absent : Tree) (told : ActReply) (rest : List Step) (last : Answer) →
-    passes_with last ≡ true → Along (on_claim next absent told) rest last →
-    ((number : ℕ) × (told ≡ Event (event.Claimed number)) × Along (next number) rest last)
-    ⊎ ((told ≡ Event event.Absent) × Along absent rest last)
-claimed next absent (Event (event.Claimed number)) rest last p a = inl (number, refl, a)
-claimed next absent (Event event.Absent) rest last p a = inr (refl, a)
-claimed next absent told rest last p a = absurd (refused_none told rest last p a)
+claimed : (seat : HostSeat) (next : ℕ → Tree) (absent : Tree) (told : ActReply) (rest : List Step) (last : Answer) →
+    HasEntry last → Leads seat (on_claim next absent told) rest last →
+    ((number : ℕ) × (told ≡ Event (event.Claimed number)) × Leads seat (next number) rest last)
+    ⊎ ((told ≡ Event event.Absent) × Leads seat absent rest last)
+claimed seat next absent (Event (event.Claimed number)) rest last p a = inl (number, refl, a)
+claimed seat next absent (Event event.Absent) rest last p a = inr (refl, a)
+claimed seat next absent told rest last p a = absurd (refused_none seat told rest last p a)
 
-taken : (next : Tree) (told : ActReply) (rest : List Step) (last : Answer) → passes_with last ≡ true →
-    Along (on_taken next told) rest last → (told ≡ Event event.Taken) × Along next rest last
-taken next (Event event.Taken) rest last p a = (refl, a)
-taken next told rest last p a = absurd (refused_none told rest last p a)
+taken : (seat : HostSeat) (next : Tree) (told : ActReply) (rest : List Step) (last : Answer) → HasEntry last →
+    Leads seat (on_taken next told) rest last → (told ≡ Event event.Taken) × Leads seat next rest last
+taken seat next (Event event.Taken) rest last p a = (refl, a)
+taken seat next told rest last p a = absurd (refused_none seat told rest last p a)
 
-drawn : (next : ℕ → Tree) (told : ActReply) (rest : List Step) (last : Answer) → passes_with last ≡ true →
-    Along (on_drawn next told) rest last →
-    (number : ℕ) × (told ≡ Event (event.Drawn number)) × Along (next number) rest last
-drawn next (Event (event.Drawn number)) rest last p a = (number, refl, a)
-drawn next told rest last p a = absurd (refused_none told rest last p a)
+drawn : (seat : HostSeat) (next : ℕ → Tree) (told : ActReply) (rest : List Step) (last : Answer) → HasEntry last →
+    Leads seat (on_drawn next told) rest last →
+    (number : ℕ) × (told ≡ Event (event.Drawn number)) × Leads seat (next number) rest last
+drawn seat next (Event (event.Drawn number)) rest last p a = (number, refl, a)
+drawn seat next told rest last p a = absurd (refused_none seat told rest last p a)
 
-inserted : (next : ℕ → Tree) (told : ActReply) (rest : List Step) (last : Answer) → passes_with last ≡ true →
-    Along (on_inserted next told) rest last →
-    (number : ℕ) × InsertionGives number told × Along (next number) rest last
-inserted next (Event (event.Inserted number)) rest last p a = (number, inl refl, a)
-inserted next (Event (event.Found number)) rest last p a = (number, inr refl, a)
-inserted next told rest last p a = absurd (refused_none told rest last p a)
+inserted : (seat : HostSeat) (next : ℕ → Tree) (told : ActReply) (rest : List Step) (last : Answer) → HasEntry last →
+    Leads seat (on_inserted next told) rest last →
+    (number : ℕ) × InsertionGives number told × Leads seat (next number) rest last
+inserted seat next (Event (event.Inserted number)) rest last p a = (number, inl refl, a)
+inserted seat next (Event (event.Found number)) rest last p a = (number, inr refl, a)
+inserted seat next told rest last p a = absurd (refused_none seat told rest last p a)
 
 -- the number of what is open there was had by the first of these steps
-record Gave (session : BegunSession) (fd : Fd) (told : Stat) (next : ℕ → Tree) (steps : List Step) (last : Answer) :
-    Type 0 where
+record Gave
+    (seat : HostSeat)
+    (session : BegunSession)
+    (fd : Fd)
+    (told : Stat)
+    (next : ℕ → Tree)
+    (steps : List Step)
+    (last : Answer)
+    : Type 0 where
   number : ℕ
   own : List Step
   rest : List Step
   are : steps ≡ own ++ rest
   gives : Numbers session.era fd told number own
-  on : Along (next number) rest last
+  on : Leads seat (next number) rest last
 
-gave : (session : BegunSession) (fd : Fd) (told : Stat) (next : ℕ → Tree) (steps : List Step) (last : Answer) →
-    passes_with last ≡ true → Along (numbered session (File fd) told next) steps last →
-    Gave session fd told next steps last
-gave session fd told next steps last p a =
+gave : (seat : HostSeat) (session : BegunSession) (fd : Fd) (told : Stat) (next : ℕ → Tree) (steps : List Step)
+    (last : Answer) → HasEntry last → Leads seat (numbered session (File fd) told next) steps last →
+    Gave seat session fd told next steps last
+gave seat session fd told next steps last p a =
     let inserts : ℕ → Tree = λ fresh. insert session fresh (File fd) told next in
-    let c = goes_on (Changes (change.Claim session.era None told.ids))
-    (on_claim next (take_fd (draw_node inserts))) steps last refl p a in
-    elim (claimed next (take_fd (draw_node inserts)) c.told c.rest last p c.on) [
+    let asks = change.Claim session.era None told.ids in
+    let c = goes_on seat (Changes asks) (on_claim next (take_fd (draw_node inserts))) steps last refl
+    (none_told asks (λ t. refl)) p a in
+    elim (claimed seat next (take_fd (draw_node inserts)) c.told c.rest last p c.on) [
       | inl k ↦ record {
         number = k.0;
-        own = made (Changes (change.Claim session.era None told.ids)) (Event (event.Claimed k.0)) ∷ [];
+        own = made (Changes asks) (Event (event.Claimed k.0)) ∷ [];
         rest = c.rest;
         are = then_step c.are k.1 refl;
         gives = inl refl;
         on = k.2;
       }
       | inr k ↦
-          let t = goes_on (Changes change.TakeFd) (on_taken (draw_node inserts)) c.rest last refl p k.1 in
-          let slot = taken (draw_node inserts) t.told t.rest last p t.on in
-          let d = goes_on (Changes change.DrawNode) (on_drawn inserts) t.rest last refl p slot.1 in
-          let fresh = drawn inserts d.told d.rest last p d.on in
-          let i = goes_on (Changes (change.Insert session.era fresh.0 (File fd) told.ids told.mode))
-          (on_inserted next) d.rest last refl p fresh.2 in
-          let given = inserted next i.told i.rest last p i.on in record {
+          let t = goes_on seat (Changes change.TakeFd) (on_taken (draw_node inserts)) c.rest last refl
+          (none_told change.TakeFd (λ t. refl)) p k.1 in
+          let slot = taken seat (draw_node inserts) t.told t.rest last p t.on in
+          let d = goes_on seat (Changes change.DrawNode) (on_drawn inserts) t.rest last refl
+          (none_told change.DrawNode (λ t. refl)) p slot.1 in
+          let fresh = drawn seat inserts d.told d.rest last p d.on in
+          let adds = change.Insert session.era fresh.0 (File fd) told.ids told.mode in
+          let i = goes_on seat (Changes adds) (on_inserted next) d.rest last refl (none_told adds (λ t. refl)) p
+          fresh.2 in
+          let given = inserted seat next i.told i.rest last p i.on in record {
             number = given.0;
             own = inserting session.era fd told fresh.0 i.told;
             rest = i.rest;
@@ -189,6 +170,7 @@ resolving plan session name next directory =
 
 -- a lookup came to an entry by the first of these steps, and handed it on
 pub record Looks
+    (seat : HostSeat)
     (plan : Plan)
     (session : BegunSession)
     (parent : ℕ)
@@ -202,29 +184,33 @@ pub record Looks
   pub rest : List Step
   pub are : steps ≡ own ++ rest
   pub by : IsLookedUp plan session.era session.agreed parent name looked.entry own
-  pub on : Along (next looked) rest last
+  pub on : Leads seat (Shuts true (next looked)) rest last
 
-pub looks : (plan : Plan) (session : BegunSession) (parent : ℕ) (name : List ℕ) (next : Looked → Tree)
-    (steps : List Step) (last : Answer) → passes_with last ≡ true →
-    Along (look_up plan session parent name next) steps last → Looks plan session parent name next steps last
-looks plan session parent name next steps last p a =
-    let r = goes_on (Changes (change.Resolve parent)) (on_resolved (resolving plan session name next)) steps last
-    refl p a in
-    let k = resolved (resolving plan session name next) r.told r.rest last p r.on in
+pub looks : (seat : HostSeat) (plan : Plan) (session : BegunSession) (parent : ℕ) (name : List ℕ)
+    (next : Looked → Tree) (steps : List Step) (last : Answer) → HasEntry last →
+    Leads seat (look_up plan session parent name next) steps last →
+    Looks seat plan session parent name next steps last
+looks seat plan session parent name next steps last p a =
+    let asks = change.Resolve parent in
+    let r = goes_on seat (Changes asks) (on_resolved (resolving plan session name next)) steps last refl
+    (none_told asks (λ t. refl)) p
+    (in_bracket seat (resolve parent (resolving plan session name next)) steps last a) in
+    let k = resolved seat (resolving plan session name next) r.told r.rest last p r.on in
     go k.0 k.1 k.2 k.3 r.rest (then_step r.are k.4 refl) k.5
   where
     go : (row : ℕ) (form : RowForm) (ids : ObjIds) (mode : ℕ) (rest : List Step) →
         steps ≡ made (Changes (change.Resolve parent)) (Event (event.Resolved row form ids mode)) ∷ rest →
-        Along (file_of form (opening plan session ids name next)) rest last →
-        Looks plan session parent name next steps last
+        Leads seat (file_of form (opening plan session ids name next)) rest last →
+        Looks seat plan session parent name next steps last
     go row (File dir) ids mode rest e a =
-        let o = goes_on (Calls (call.OpenAt dir name by_path 0)) (on_fd (stating plan session ids next)) rest last
-        refl p a in
-        let fd = opened (stating plan session ids next) o.told o.rest last p o.on in
-        let s = goes_on (Calls (call.Stat fd.0)) (on_stat (numbering plan session ids next fd.0)) o.rest last
-        refl p fd.2 in
-        let was = stated (numbering plan session ids next fd.0) s.told s.rest last p s.on in
-        let given = gave session fd.0 was.0 (handing plan session ids next fd.0 was.0) s.rest last p was.2 in record {
+        let o = goes_on seat (Calls (call.OpenAt dir name by_path 0)) (on_fd (stating plan session ids next)) rest
+        last refl (λ t. refl) p a in
+        let fd = opened seat (stating plan session ids next) o.told o.rest last p o.on in
+        let s = goes_on seat (Calls (call.Stat fd.0)) (on_stat (numbering plan session ids next fd.0)) o.rest last
+        refl (λ t. refl) p fd.2 in
+        let was = stated seat (numbering plan session ids next fd.0) s.told s.rest last p s.on in
+        let given = gave seat session fd.0 was.0 (handing plan session ids next fd.0 was.0) s.rest last p was.2 in
+        record {
           looked = looked_of plan session ids was.0 (File fd.0) given.number;
           own = made (Changes (change.Resolve parent)) (Event (event.Resolved row (File dir) ids mode))
               ∷ made (Calls (call.OpenAt dir name by_path 0)) (Host (host.Ok (value.Fd fd.0)))
@@ -246,48 +232,52 @@ looks plan session parent name next steps last p a =
           on = given.on;
         }
 
+-- in any request, whatever follows
 pub looks_law : (plan : Plan) (session : BegunSession) (parent : ℕ) (name : List ℕ) (next : Looked → Tree)
-    (steps : List Step) (last : Answer) → passes_with last ≡ true →
-    Along (look_up plan session parent name next) steps last →
+    (seat : HostSeat) (holds : List Hold) (marks : List ℕ) (steps : List Step) (last : Answer) →
+    passes_with last ≡ true →
+    Belongs (framed seat (look_up plan session parent name next) holds marks) steps (finish.Answer last) →
     (looked : Looked) × (own : List Step) × (rest : List Step) × (steps ≡ own ++ rest)
-    × IsLookedUp plan session.era session.agreed parent name looked.entry own × Along (next looked) rest last
-looks_law plan session parent name next steps last p a =
-    let l = looks plan session parent name next steps last p a in (l.looked, l.own, l.rest, l.are, l.by, l.on)
+    × IsLookedUp plan session.era session.agreed parent name looked.entry own
+    × ((held : List Hold) × (outer : List ℕ)
+    × Belongs (framed seat (Shuts true (next looked)) held outer) rest (finish.Answer last))
+looks_law plan session parent name next seat holds marks steps last p b =
+    let l = looks seat plan session parent name next steps last p
+    (record { holds = holds; marks = marks; belongs = b }) in
+    (l.looked, l.own, l.rest, l.are, l.by, (l.on.holds, l.on.marks, l.on.belongs))
 
-good_name : (bad : Bool) (next : Tree) (steps : List Step) (last : Answer) → passes_with last ≡ true →
-    Along (if bad then Gives (answer.Refused einval) else next) steps last → Along next steps last
-good_name true next [] last p a = let no : passes_with (answer.Refused einval) ≡ true = ap passes_with (sym a) ∙ p in
-    absurd (cc)
-good_name true next (step ∷ steps) last p a = absurd a
-good_name false next steps last p a = a
+good_name : (seat : HostSeat) (bad : Bool) (next : Tree) (steps : List Step) (last : Answer) → HasEntry last →
+    Leads seat (if bad then Gives (answer.Refused einval) else next) steps last → Leads seat next steps last
+good_name seat true next steps last p a =
+    let no : passes_with (answer.Refused einval) ≡ true =
+    ap passes_with (sym (given_none seat (answer.Refused einval) last steps p a)) ∙ p in absurd (cc)
+good_name seat false next steps last p a = a
 
-gives_entry : (given entry : Entry) (steps : List Step) →
-    Along (Gives (answer.Entry given)) steps (answer.Entry entry) →
-    (steps ≡ []) × (given ≡ entry)
-gives_entry given entry [] a = (refl, cc)
-gives_entry given entry (step ∷ steps) a = absurd a
-
--- a request that is a lookup
-pub looked_up : (plan : Plan) (parent : ℕ) (name : List ℕ) (entry : Entry) (steps : List Step) →
-    Along (lookup plan parent name) steps (answer.Entry entry) →
-    (era : ℕ) × (agreed : Negotiated) × (own : List Step)
-    × (steps ≡ made (Changes change.Begin) (Event (event.Began era agreed)) ∷ own)
+-- a lookup that is answered with an entry begins, looks up, and then gives back
+pub looked_up : (plan : Plan) (seat : HostSeat) (who : Context) (parent : ℕ) (name : List ℕ) (entry : Entry)
+    (steps : List Step) →
+    Belongs (grammar_of plan seat who (request.Lookup parent name)) steps (finish.Answer (answer.Entry entry)) →
+    (era : ℕ) × (agreed : Negotiated) × (own : List Step) × (back : List Step)
+    × (steps ≡ made (Changes change.Begin) (Event (event.Began era agreed)) ∷ (own ++ back))
     × IsLookedUp plan era agreed parent name entry own
-looked_up plan parent name entry steps a =
-    let looks_up : BegunSession → Tree = λ session.
-    look_up plan session parent name (λ looked. Gives (answer.Entry looked.entry)) in
-    let begins : BegunSession → Tree = λ session. named name (looks_up session) in
-    let b = goes_on (Changes change.Begin) (on_began begins) steps (answer.Entry entry) refl refl a in
-    let session = began begins b.told b.rest (answer.Entry entry) refl b.on in
-    let this = session_of session.0 session.1 in
-    let l = looks plan this parent name (λ looked. Gives (answer.Entry looked.entry)) b.rest (answer.Entry entry) refl
-    (good_name (is_bad_name name) (looks_up this) b.rest (answer.Entry entry) refl session.3) in
-    let g = gives_entry l.looked.entry entry l.rest l.on in (
-      session.0,
-      session.1,
-      l.own ++ l.rest,
-      then_step b.are session.2 l.are,
-      subst (λ (own : List Step). IsLookedUp plan session.0 session.1 parent name entry own)
-          (sym (append-nil l.own) ∙ (λ i. l.own ++ sym g.0 i))
-          (subst (λ (e : Entry). IsLookedUp plan session.0 session.1 parent name e l.own) g.1 l.by),
+looked_up plan seat who parent name entry steps b =
+    let next : Looked → Tree = λ looked. Gives (answer.Entry looked.entry) in
+    let begins : BegunSession → Tree = λ session. named name (look_up plan session parent name next) in
+    let g = goes_on seat (Changes change.Begin) (on_began begins) steps (answer.Entry entry) refl
+    (none_told change.Begin (λ t. refl)) refl (record { holds = []; marks = []; belongs = b }) in
+    let k = began seat begins g.told g.rest (answer.Entry entry) refl g.on in
+    let this = session_of k.0 k.1 in
+    let l = looks seat plan this parent name next g.rest (answer.Entry entry) refl
+    (good_name seat (is_bad_name name) (look_up plan this parent name next) g.rest (answer.Entry entry) refl k.3) in
+    let same : l.looked.entry ≡ entry =
+    same_entry (shut_none seat (answer.Entry l.looked.entry) (answer.Entry entry) l.rest refl l.on) in (
+      k.0,
+      k.1,
+      l.own,
+      l.rest,
+      then_step g.are k.2 l.are,
+      subst (λ (e : Entry). IsLookedUp plan k.0 k.1 parent name e l.own) same l.by,
     )
+  where
+    same_entry : {given : Entry} → answer.Entry entry ≡ answer.Entry given → given ≡ entry
+    same_entry e = cc

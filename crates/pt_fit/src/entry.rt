@@ -11,9 +11,10 @@ ghost use Rattle.pt_iface.specs.declared.request.Request.TheVariants as request;
 ghost use Rattle.pt_frame.specs.Deed.{Changes, Step};
 ghost use Rattle.pt_frame.specs.Grammar.{Belongs};
 ghost use Rattle.pt_frame.specs.Replies.{passes_with};
-ghost use Rattle.pt_frame.specs.Tree.{Tree};
+ghost use Rattle.pt_frame.specs.Tree.{Tree, Shuts, framed};
 ghost use Rattle.pt_frame.specs.declared.act.ActReply.TheVariants.{Event};
 ghost use Rattle.pt_frame.specs.declared.finish.Finish.TheVariants as finish;
+ghost use Rattle.pt_frame.specs.declared.hold.Hold.{Hold};
 ghost use Rattle.pt_req.specs.Parts.{look_up};
 ghost use Rattle.pt_req.specs.declared.begun.BegunSession.{BegunSession};
 ghost use Rattle.pt_req.specs.declared.parts.looked.Looked.{Looked};
@@ -22,7 +23,6 @@ ghost use Rattle.pt_attr.specs.Pattern.{grammar_of};
 ghost use Rattle.pt_law.specs.World.{World, Turn, steps_of};
 ghost use Rattle.pt_law.specs.Laws.{Starts};
 ghost use Rattle.pt_law.specs.Discipline.{AreDisciplined};
-ghost use Rattle.pt_law.specs.Branch.{Along};
 ghost use Rattle.pt_law.specs.Naming.{made};
 ghost use Rattle.pt_fit.specs.Opened.{IsLookedUp};
 ghost use Rattle.pt_fit.specs.Entered.{IsEntered};
@@ -43,15 +43,17 @@ pub fn lookup_opens()
         (finish.Answer (answer.Entry entry)) → IsEntered plan start turns job parent name entry }
 {}
 
-/// A part that looks up, in a request that is answered with an entry, whatever follows it: its steps stand first, and
-/// hand on the entry.
+/// A part that looks up, in a request that is answered with an entry, whatever the request did before and does then:
+/// the lookup's steps stand first, by which it came to an entry, and the request goes on with that.
 pub fn part_looks_up()
     ensures { (plan : Plan) (session : BegunSession) (parent : ℕ) (name : List ℕ) (next : Looked → Tree)
-        (steps : List Step) (last : Answer) → passes_with last ≡ true →
-        Along (look_up plan session parent name next) steps last →
+        (seat : HostSeat) (holds : List Hold) (marks : List ℕ) (steps : List Step) (last : Answer) →
+        passes_with last ≡ true →
+        Belongs (framed seat (look_up plan session parent name next) holds marks) steps (finish.Answer last) →
         ((looked : Looked) × (own : List Step) × (rest : List Step) × (steps ≡ own ++ rest)
         × IsLookedUp plan session.era session.agreed parent name looked.entry own
-        × Along (next looked) rest last) }
+        × ((held : List Hold) × (outer : List ℕ)
+        × Belongs (framed seat (Shuts true (next looked)) held outer) rest (finish.Answer last))) }
 {}
 
 /// The places of a lookup's entry, whatever its job did before it and does behind it: on every path through them the
