@@ -27,8 +27,8 @@ ghost use Rattle.pt_law.specs.Naming.{made};
 ghost use Rattle.pt_fit.specs.Opened.{IsLookedUp};
 ghost use Rattle.pt_fit.specs.Entered.{IsEntered};
 
-/// A lookup that is answered with an entry begins, then comes to the entry, and then gives back; so does a lookup
-/// within any request, whatever follows it. In every run the number stands for what the name led to.
+/// A lookup that is answered with an entry begins, then makes the steps by which it came to the entry, and then gives
+/// back. In every run its number stands for what its name led to, in the directory that its parent stood for.
 pub fn lookup_opens()
     ensures opened { (plan : Plan) (seat : HostSeat) (who : Context) (parent : ℕ) (name : List ℕ) (entry : Entry)
         (steps : List Step) →
