@@ -217,7 +217,8 @@ module _ {Q : Tree → Type 0} {R : ActReply → Tree → Type 0} (w : Walk Q R)
   unserves : Q unserved
   unserves = begins _ (λ session. refuses_so (errno_of 38))
 
-  pub each_request : (plan : Plan) (seat : HostSeat) (who : Context) (asked : Request) → Q (tree_of plan seat who asked)
+  pub each_request : (plan : Plan) (seat : HostSeat) (who : Context) (asked : Request) →
+      Q (tree_of plan seat who asked)
   each_request plan seat who (request.Init capable) =
       clears _ (λ era.
       opens_shared plan (session_of era nothing_agreed) (Some (agreed_with capable)) _ (
