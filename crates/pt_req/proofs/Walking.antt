@@ -1,6 +1,6 @@
 -- What holds of plain answers and refusals, and passes through each step that is no call on the seat, holds of every
 -- request: today none calls on its seat, and none takes memory of its own.
-use Rattle.std.proofs.Common.{◌≡◌, ℕ, zero, suc, Bool, true, false, List, [], ◌∷◌, Option, Some, None, refl}
+use Rattle.std.proofs.Common.{◌≡◌, ℕ, Bool, true, false, List, [], ◌∷◌, Option, Some, None, refl}
 use Rattle.std.proofs.Common.{if◌then◌else◌}
 use Rattle.pt_host.specs.Errno.{ebadf, einval, errno_of}
 use Rattle.pt_host.specs.declared.ids.Errno.{Errno}
@@ -18,7 +18,6 @@ use Rattle.pt_session.specs.declared.form.Negotiated.{Negotiated}
 use Rattle.pt_session.specs.declared.event.KeptEvent.TheVariants as change
 use Rattle.pt_iface.specs.declared.answer.Answer.{Answer}
 use Rattle.pt_iface.specs.declared.answer.Answer.TheVariants as answer
-use Rattle.pt_iface.specs.declared.flags.FsOptions.{FsOptions}
 use Rattle.pt_iface.specs.declared.request.Context.{Context}
 use Rattle.pt_iface.specs.declared.request.Request.{Request}
 use Rattle.pt_iface.specs.declared.request.Request.TheVariants as request
@@ -36,9 +35,9 @@ use Rattle.pt_req.specs.Steps.{begin, clear, resolve, open_root, open_at, reopen
 use Rattle.pt_req.specs.Steps.{draw_node, draw_handle, insert, insert_root, insert_handle, pin_handle, forget_all}
 use Rattle.pt_req.specs.Steps.{release_handle}
 use Rattle.pt_req.specs.Entries.{is_bad_name, is_bad_offset, can_open}
-use Rattle.pt_req.specs.Parts.{by_path, named, placed, file_of, open_form, open_row, open_inode, numbered, looked_of}
+use Rattle.pt_req.specs.Parts.{by_path, file_of, open_form, numbered, looked_of}
 use Rattle.pt_req.specs.Parts.{look_up, open_num, root_open}
-use Rattle.pt_req.specs.Requests.{init, destroy, root, lookup, batch_forget, open_file, release, read, unserved}
+use Rattle.pt_req.specs.Requests.{batch_forget, open_file, release, unserved}
 use Rattle.pt_req.specs.Requests.{tree_of}
 use Rattle.pt_req.specs.declared.begun.BegunSession.{BegunSession}
 use Rattle.pt_req.specs.declared.parts.looked.Looked.{Looked}
@@ -218,7 +217,8 @@ module _ {Q : Tree → Type 0} {R : ActReply → Tree → Type 0} (w : Walk Q R)
   unserves : Q unserved
   unserves = begins _ (λ session. refuses_so (errno_of 38))
 
-  pub each_request : (plan : Plan) (seat : HostSeat) (who : Context) (asked : Request) → Q (tree_of plan seat who asked)
+  pub each_request : (plan : Plan) (seat : HostSeat) (who : Context) (asked : Request) →
+      Q (tree_of plan seat who asked)
   each_request plan seat who (request.Init capable) =
       clears _ (λ era.
       opens_shared plan (session_of era nothing_agreed) (Some (agreed_with capable)) _ (

@@ -8,7 +8,7 @@ use Rattle.pt_session.specs.declared.form.RowForm.TheVariants.{File}
 use Rattle.pt_frame.specs.Tree.{Tree, Gives, Refuses, Shuts}
 use Rattle.pt_frame.specs.Machine.Next.{IsAsks}
 use Rattle.pt_frame.specs.declared.act.ActReply.{ActReply}
-use Rattle.pt_req.specs.Steps.{resolve, open_root, open_at, stat, take_fd, draw_node, insert, insert_root}
+use Rattle.pt_req.specs.Steps.{resolve, open_at, stat, take_fd, draw_node, insert, insert_root}
 use Rattle.pt_req.specs.Parts.{by_path, file_of, numbered, looked_of, root_open}
 use Rattle.pt_req.specs.declared.begun.BegunSession.{BegunSession}
 use Rattle.pt_req.specs.declared.plan.Plan.{Plan}
@@ -17,9 +17,9 @@ use Rattle.pt_req.specs.declared.parts.part.Part.TheVariants as part
 use Rattle.pt_req.specs.declared.parts.looked.Looked.{Looked}
 use Rattle.pt_req.specs.declared.parts.numbering.NumberAt.{NumberAt}
 use Rattle.pt_req.specs.declared.parts.numbering.NumberAt.TheVariants as number_at
-use Rattle.pt_req.specs.declared.parts.look_up.LookUp.{LookUp}
-use Rattle.pt_req.specs.declared.parts.look_up.LookUpAt.{LookUpAt}
-use Rattle.pt_req.specs.declared.parts.look_up.LookUpAt.TheVariants as look_at
+use Rattle.pt_req.specs.declared.parts.look_up.EntryLookup.{EntryLookup}
+use Rattle.pt_req.specs.declared.parts.look_up.EntryLookupAt.{EntryLookupAt}
+use Rattle.pt_req.specs.declared.parts.look_up.EntryLookupAt.TheVariants as look_at
 use Rattle.pt_req.specs.declared.parts.root_open.RootOpen.{RootOpen}
 use Rattle.pt_req.specs.declared.parts.root_open.RootOpenAt.{RootOpenAt}
 use Rattle.pt_req.specs.declared.parts.root_open.RootOpenAt.TheVariants as root_at
@@ -81,7 +81,7 @@ opened_in plan session parent dir name next =
     open_at dir name by_path (λ fd. stat_in plan session parent fd next)
 
 -- inside its bracket
-abbrev pub look_up_at_left : LookUpAt → List ℕ → Plan → BegunSession → (Looked → Tree) → Tree
+abbrev pub look_up_at_left : EntryLookupAt → List ℕ → Plan → BegunSession → (Looked → Tree) → Tree
 look_up_at_left (look_at.Resolve parent) name plan session next =
     resolve parent (λ directory. file_of directory.form (λ dir. opened_in plan session directory.ids dir name next))
 look_up_at_left (look_at.Open parent dir) name plan session next = opened_in plan session parent dir name next
@@ -89,28 +89,28 @@ look_up_at_left (look_at.Stat parent fd) name plan session next = stat_in plan s
 look_up_at_left (look_at.Number parent form told at) name plan session next =
     numbering_left at form told session (with_number plan session parent told form next)
 
-abbrev pub look_up_left : LookUp → List ℕ → Plan → (Looked → Tree) → Tree
+abbrev pub look_up_left : EntryLookup → List ℕ → Plan → (Looked → Tree) → Tree
 look_up_left it name plan next = look_up_at_left it.at name plan it.session next
 
-abbrev pub look_up_at_acts : LookUpAt → ℕ
+abbrev pub look_up_at_acts : EntryLookupAt → ℕ
 look_up_at_acts (look_at.Resolve parent) = 12
 look_up_at_acts (look_at.Open parent dir) = 10
 look_up_at_acts (look_at.Stat parent fd) = 8
 look_up_at_acts (look_at.Number parent form told at) = numbering_acts at
 
-abbrev pub look_up_acts : LookUp → ℕ
+abbrev pub look_up_acts : EntryLookup → ℕ
 look_up_acts it = look_up_at_acts it.at
 
-abbrev pub look_up_at_room : LookUpAt → ℕ
+abbrev pub look_up_at_room : EntryLookupAt → ℕ
 look_up_at_room (look_at.Resolve parent) = 5
 look_up_at_room (look_at.Open parent dir) = 4
 look_up_at_room (look_at.Stat parent fd) = 3
 look_up_at_room (look_at.Number parent form told at) = numbering_room at
 
-abbrev pub look_up_room : LookUp → ℕ
+abbrev pub look_up_room : EntryLookup → ℕ
 look_up_room it = look_up_at_room it.at
 
-look_up_at_asks : (at : LookUpAt) (name : List ℕ) (plan : Plan) (session : BegunSession) (next : Looked → Tree) →
+look_up_at_asks : (at : EntryLookupAt) (name : List ℕ) (plan : Plan) (session : BegunSession) (next : Looked → Tree) →
     IsAsks (look_up_at_left at name plan session next)
 look_up_at_asks (look_at.Resolve parent) name plan session next = tt
 look_up_at_asks (look_at.Open parent dir) name plan session next = tt
@@ -118,7 +118,7 @@ look_up_at_asks (look_at.Stat parent fd) name plan session next = tt
 look_up_at_asks (look_at.Number parent form told at) name plan session next =
     numbering_asks at form told session (with_number plan session parent told form next)
 
-pub look_up_asks : (it : LookUp) (name : List ℕ) (plan : Plan) (next : Looked → Tree) →
+pub look_up_asks : (it : EntryLookup) (name : List ℕ) (plan : Plan) (next : Looked → Tree) →
     IsAsks (look_up_left it name plan next)
 look_up_asks it name plan next = look_up_at_asks it.at name plan it.session next
 

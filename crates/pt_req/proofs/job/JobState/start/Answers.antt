@@ -1,4 +1,4 @@
-use Rattle.std.proofs.Common.{◌≡◌, ◌∙◌, ap}
+use Rattle.std.proofs.Common.{◌∙◌, ap}
 use Rattle.pt_frame.specs.Tree.{Tree, grammar_of_tree}
 use Rattle.pt_req.specs.Machine.Bodies.{request_left}
 use Rattle.pt_req.specs.declared.requests.any.RequestBody.{RequestBody}
