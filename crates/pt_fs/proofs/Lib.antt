@@ -4,10 +4,13 @@ pub mod Orders
 pub mod Pending
 pub mod Works
 pub mod Going
+pub mod Unlost
 pub mod Ended
 pub mod Advancing
 pub mod Whole
+pub mod Memory
 pub mod Laws
+pub mod Leads
 pub mod Lockstep
 pub mod Determined
 pub mod SeatsAt

@@ -10,19 +10,20 @@ use Rattle.pt_host.specs.declared.op.KeptHostOp.{KeptHostOp}
 use Rattle.pt_host.specs.declared.seat.HostSeat.{HostSeat}
 use Rattle.pt_session.specs.Tables.{Tables, Agree}
 use Rattle.pt_session.specs.declared.event.KeptEvent.{KeptEvent}
-use Rattle.pt_req.specs.Deed.{Deed, Calls, Changes, Step, IsStepOf, kept_deed_of}
-use Rattle.pt_req.specs.Determined.{LacksMemory, IsAnsweredInFull, IsDetermined, IsDeterminedHost}
-use Rattle.pt_req.specs.Grammar.{Grammar, End, Do, May, Belongs}
-use Rattle.pt_req.specs.Made.{Does}
-use Rattle.pt_req.specs.declared.act.ActReply.{ActReply}
-use Rattle.pt_req.specs.declared.act.KeptAct.{KeptAct}
-use Rattle.pt_req.specs.declared.act.KeptAct.TheVariants as kept
-use Rattle.pt_req.specs.declared.finish.Finish.{Finish}
-use Rattle.pt_req.proofs.Determined.{whole_step, leads}
+use Rattle.pt_frame.specs.Deed.{Deed, Calls, Changes, Step, IsStepOf, kept_deed_of, LacksMemory}
+use Rattle.pt_frame.specs.Determined.{IsAnsweredInFull, IsDetermined, IsDeterminedHost}
+use Rattle.pt_frame.specs.Grammar.{Grammar, End, Do, May, Belongs}
+use Rattle.pt_frame.specs.Made.{Does}
+use Rattle.pt_frame.specs.declared.act.ActReply.{ActReply}
+use Rattle.pt_frame.specs.declared.act.KeptAct.{KeptAct}
+use Rattle.pt_frame.specs.declared.act.KeptAct.TheVariants as kept
+use Rattle.pt_frame.specs.declared.finish.Finish.{Finish}
 use Rattle.pt_fs.specs.Order.{lowered, rest_of, order, owner, count_of, with_left}
-use Rattle.pt_fs.specs.Trace.{no_seat, MadeFrom, TraceRuns, MadeAt, step_of, steps_by}
+use Rattle.pt_fs.specs.Jobs.{no_seat}
+use Rattle.pt_fs.specs.Trace.{MadeFrom, TraceRuns, MadeAt, step_of, steps_by}
 use Rattle.pt_fs.specs.declared.trace.TraceStep.{TraceStep}
 use Rattle.pt_fs.proofs.Orders.{same_function, count_of-append, with_left_same, lowered-with_left, rest_other}
+use Rattle.pt_fs.proofs.Leads.{whole_step, leads}
 use Rattle.pt_fs.proofs.Traces.{length-steps_by}
 
 -- no step lacked memory

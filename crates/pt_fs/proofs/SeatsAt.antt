@@ -4,10 +4,10 @@ use Rattle.std.proofs.lemmas.Bool.Decides.{eqb_tells}
 use Rattle.std.proofs.lemmas.Option.{same_Some}
 use Rattle.pt_host.specs.declared.seat.HostSeat.{HostSeat}
 use Rattle.pt_session.specs.Tables.{Tables}
-use Rattle.pt_req.specs.Deed.{Deed, kept_deed_of}
-use Rattle.pt_req.specs.Made.{Does}
-use Rattle.pt_req.specs.Seats.{seat_at, seat_by}
-use Rattle.pt_req.specs.declared.act.ActReply.{ActReply}
+use Rattle.pt_frame.specs.Deed.{Deed, kept_deed_of}
+use Rattle.pt_frame.specs.Made.{Does}
+use Rattle.pt_frame.specs.Seats.{seat_at, seat_by}
+use Rattle.pt_frame.specs.declared.act.ActReply.{ActReply}
 use Rattle.pt_law.proofs.Seats.{made_seat}
 use Rattle.pt_law.proofs.Told.{Promises}
 use Rattle.pt_fs.proofs.Places.{get-set_other, get-set_same}

@@ -5,11 +5,12 @@ use Rattle.std.proofs.lemmas.Bool.{ne_eqb}
 use Rattle.std.proofs.lemmas.Option.{same_Some}
 use Rattle.pt_host.specs.declared.seat.HostSeat.{HostSeat}
 use Rattle.pt_session.specs.Tables.{Tables}
-use Rattle.pt_req.specs.Deed.{Deed, Step}
-use Rattle.pt_req.specs.Made.{Does, Made}
-use Rattle.pt_req.specs.declared.act.ActReply.{ActReply}
+use Rattle.pt_frame.specs.Deed.{Deed, Step}
+use Rattle.pt_frame.specs.Made.{Does, Made}
+use Rattle.pt_frame.specs.declared.act.ActReply.{ActReply}
 use Rattle.pt_fs.specs.Order.{count_of}
-use Rattle.pt_fs.specs.Trace.{no_seat, MadeFrom, TraceRuns, seated, steps_by, step_of, closings_told}
+use Rattle.pt_fs.specs.Jobs.{no_seat}
+use Rattle.pt_fs.specs.Trace.{MadeFrom, TraceRuns, seated, steps_by, step_of, closings_told}
 use Rattle.pt_fs.specs.declared.trace.TraceStep.{TraceStep}
 
 -- two traces that meet are one

@@ -80,8 +80,16 @@ pub record IsOpened (settings : Settings) (before : State) (fs : FileSystem) (af
 
 -- The jobs of a script run over this host: from the new file system, and from its tree, which is well formed, the run
 -- leads to these tables and that host, and all that is said of a run holds of it.
-pub record IsRunFrom (settings : Settings) (start : State) (lines : List ScriptJob) (schedule : List ℕ)
-    (trace : List TraceStep) (answers : List Answer) (tables : Tables) (host : State) : Type 0 where
+pub record IsRunFrom
+    (settings : Settings)
+    (start : State)
+    (lines : List ScriptJob)
+    (schedule : List ℕ)
+    (trace : List TraceStep)
+    (answers : List Answer)
+    (tables : Tables)
+    (host : State)
+    : Type 0 where
   pub fs : FileSystem
   pub opened_host : State
   pub opened : IsOpened settings start fs opened_host

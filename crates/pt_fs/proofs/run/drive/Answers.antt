@@ -64,6 +64,7 @@ returns g c =
         bounded = bounded_whole whole;
         room = omega (arith, bounds, none, spent);
         causes = kept.causes;
+        memory = kept.memory;
         gives_back = kept.gives_back;
         honoured = kept.honoured;
         reached = kept.reached;

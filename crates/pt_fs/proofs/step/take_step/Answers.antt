@@ -1,15 +1,16 @@
 use Rattle.std.proofs.Common.{◌∷◌, [], refl, get_or, length, ap, arith}
 use Rattle.std.proofs.lemmas.Option.{slice_get-get_or}
 use Rattle.std.proofs.lemmas.List.{length-append}
-use Rattle.pt_req.specs.Deed.{kept_deed_of}
+use Rattle.pt_frame.specs.Deed.{kept_deed_of}
 use Rattle.pt_fs.specs.declared.trace.TraceStep.{TraceStep}
 use Rattle.pt_fs.proofs.Works.{advance_falls}
 use Rattle.pt_fs.proofs.step.take_step.Goals as goal
 
 pub advance-act-requires : goal.advance-act-requires
 advance-act-requires g c =
-    (c.requires.unfinished _
-    (slice_get-get_or c.args.running.now c.args.place c.index-running-place.result c.requires.named)).1
+    let there = slice_get-get_or c.args.running.now c.args.place c.index-running-place.result c.requires.named in
+    let goes = c.requires.unfinished _ there in
+    record { unfinished = goes.0; going = goes.1 }
 
 pub returns-clause-took : goal.returns-clause-took
 returns-clause-took g c =
