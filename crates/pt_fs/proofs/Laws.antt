@@ -8,7 +8,6 @@ use Rattle.std.proofs.lemmas.Option.{slice_get_within}
 use Rattle.std.specs.Prelude.{slice_get}
 use Rattle.pt_host.specs.Words.{Each}
 use Rattle.pt_host.specs.declared.seat.HostSeat.{HostSeat}
-use Rattle.pt_host.specs.Tree.{Tree, IsWellFormed}
 use Rattle.pt_session.specs.Tables.{Tables, Agree, empty_tables}
 use Rattle.pt_iface.specs.declared.answer.Answer.{Answer}
 use Rattle.pt_iface.specs.declared.answer.Answer.TheVariants as answer
@@ -21,34 +20,26 @@ use Rattle.pt_frame.specs.declared.finish.Finish.{Finish}
 use Rattle.pt_frame.specs.declared.finish.Finish.TheVariants as finish
 use Rattle.pt_req.specs.declared.plan.Plan.{Plan}
 use Rattle.pt_law.specs.Told.{AllMayBeTold}
-use Rattle.pt_law.specs.Laws.{AreKept, AreEnded, AreDisciplined, Starts, SlotsAddUp, IsAtRest, BeginsFirst}
+use Rattle.pt_law.specs.Laws.{AreEnded, AreDisciplined, SlotsAddUp, IsAtRest, BeginsFirst}
 use Rattle.pt_fit.specs.Answered.{AreAnswered}
 use Rattle.pt_law.specs.Ledger.{slots_taken, slots_given}
-use Rattle.pt_fit.specs.Entered.{name_asked}
-use Rattle.pt_law.specs.World.{Turn, TablesRun, HostRuns, Runs as WorldRuns, steps_of}
+use Rattle.pt_law.specs.World.{Turn, TablesRun, HostRuns, steps_of}
 use Rattle.pt_law.proofs.Told.{Promises}
-use Rattle.pt_law.proofs.Hosts.{Tells, hosts_tables, hosts_told, hosts_world}
+use Rattle.pt_law.proofs.Hosts.{hosts_tables, hosts_told}
 use Rattle.pt_fit.proofs.Answered.{hosts_ended}
-use Rattle.pt_law.proofs.Laws.{agree_law, counts_law, once_law, slots_law, rest_law, ended_jobs, distinct_law, object_law}
-use Rattle.pt_law.proofs.Laws.{handles_law, kept_law, leaves_law}
+use Rattle.pt_law.proofs.Laws.{agree_law, counts_law, once_law, slots_law, rest_law, ended_jobs}
 use Rattle.pt_law.proofs.Standing.{standing_law}
 use Rattle.pt_law.proofs.HandlesOnce.{handles_once_law}
 use Rattle.pt_law.proofs.Overtaking.{overtaken_law, shut_out_law}
 use Rattle.pt_law.proofs.Interleaving.{tables_split}
-use Rattle.pt_law.proofs.Next.{named_law, honoured_law, owner_of}
-use Rattle.pt_law.proofs.Giving.{two_lookups_law}
-use Rattle.pt_fit.proofs.Entered.{entered_law}
-use Rattle.pt_law.proofs.Tracing.{origins_law}
-use Rattle.pt_law.proofs.Cuts.{runs_split}
+use Rattle.pt_law.proofs.Next.{honoured_law, owner_of}
 use Rattle.pt_fit.proofs.Beginning.{job_first}
-use Rattle.pt_fit.proofs.Asked.{entry_asked, job_ends, job_caused}
+use Rattle.pt_fit.proofs.Asked.{job_ends, job_caused}
 use Rattle.pt_law.proofs.Returned.{all_settled}
 use Rattle.pt_fs.specs.Jobs.{no_seat, daemon, job_seat, job_start, job_grammar, asked_of}
 use Rattle.pt_fs.specs.Trace.{TraceRuns, AnswersEach, steps_by, step_of}
-use Rattle.pt_fs.specs.Keeps.{turn_of, turns_of, AfterEach, AfterEachTold, LeadsOn, begins_in, KeepsObjects}
-use Rattle.pt_fs.specs.Keeps.{KeepsCounts, KeepsHandles, ServesEach, InsertsOnce, OvertakenAsTold, ShutsOut, OfEachJob}
-use Rattle.pt_fs.specs.Keeps.{GivesAllBack, IsCausedIn, IsNamedIn, NamesOpenOnes, LeavesOpen, ReachesEach}
-use Rattle.pt_fs.specs.Keeps.{AgreeOnNumbers, ComeFromNames, HonoursEach, RanOutIn}
+use Rattle.pt_fs.specs.Keeps.{turn_of, turns_of, AfterEach, KeepsCounts, KeepsHandles, InsertsOnce, OvertakenAsTold}
+use Rattle.pt_fs.specs.Keeps.{ShutsOut, OfEachJob, GivesAllBack, IsCausedIn, RanOutIn, ReachesEach, HonoursEach}
 use Rattle.pt_fs.specs.declared.job.Job.{Job}
 use Rattle.pt_fs.specs.declared.trace.TraceStep.{TraceStep}
 use Rattle.pt_fs.proofs.Ended.{one_for_each, at_below, belongs_by}
@@ -140,7 +131,7 @@ answered_in plan jobs trace answers each owners = record {
   jobs = λ j below. inl (belongs_in plan jobs trace answers each j below);
 }
 
-ended_of : {H : Type 0} (does : Does H) (faults : H → ℕ) → Promises does faults →
+pub ended_of : {H : Type 0} (does : Does H) (faults : H → ℕ) → Promises does faults →
     (plan : Plan) (limit : ℕ) (jobs : List Job) (host : H) (tables : Tables) (trace : List TraceStep)
     (answers : List Answer) (host' : H) (tables' : Tables) →
     Ran does plan limit jobs host tables trace answers host' tables' → AreEnded (length jobs) (turns_of trace)
@@ -151,10 +142,10 @@ ended_of does faults p plan limit jobs host tables trace answers host' tables' r
     hosts_ended does faults p plan (length jobs) (start_at jobs) (asked_at jobs) (end_at answers)
     (turns_of trace) host tables host' tables' runs (answered_in plan jobs trace answers ran.answered owners)
 
-turns-append : (trace more : List TraceStep) → turns_of (trace ++ more) ≡ turns_of trace ++ turns_of more
+pub turns-append : (trace more : List TraceStep) → turns_of (trace ++ more) ≡ turns_of trace ++ turns_of more
 turns-append trace more = grind (arith, common_steps)
 
-cut_at : (bound : ℕ) (trace so_far rest : List TraceStep) → trace ≡ so_far ++ rest →
+pub cut_at : (bound : ℕ) (trace so_far rest : List TraceStep) → trace ≡ so_far ++ rest →
     AreDisciplined bound (turns_of trace) → AreDisciplined bound (turns_of so_far ++ turns_of rest)
 cut_at bound trace so_far rest e d =
     subst (λ (turns : List Turn). AreDisciplined bound turns) (ap turns_of e ∙ turns-append so_far rest) d
@@ -181,7 +172,6 @@ first_of : (plan : Plan) (jobs : List Job) (trace : List TraceStep) (answers : L
 first_of plan jobs trace answers each j below =
     job_first plan (start_at jobs j) (asked_at jobs j) (steps_of j (turns_of trace)) (end_at answers j)
     (belongs_in plan jobs trace answers each j below)
-
 
 pub keeps : {H : Type 0} (does : Does H) (faults : H → ℕ) → Promises does faults →
     (plan : Plan) (limit : ℕ) (jobs : List Job) (host : H) (tables : Tables) (trace : List TraceStep)
@@ -264,94 +254,6 @@ keeps does faults p plan limit jobs host tables trace answers host' tables' ran 
           ran_out plan (job_start job) (asked_of job) (steps_by j trace) (told j)
           (subst (λ (last : Answer). Belongs (job_grammar plan job) (steps_by j trace) (finish.Answer last)) is
           (belongs_by plan job (steps_by j trace) answer (ran.answered.in_pattern j job answer at told_at)));
-    }
-
--- those that speak of objects, over a host that tells its tree
-pub record KeepsTold (plan : Plan) (jobs : List Job) (told : Option Tree) (tables : Tables) (trace : List TraceStep)
-    (answers : List Answer) (told' : Option Tree) (tables' : Tables) : Type 0 where
-  pub leads_on : LeadsOn told tables trace told' tables'
-  pub distinct : AfterEachTold told tables trace (λ start so_far now. KeepsObjects now)
-  pub serves : AfterEachTold told tables trace (λ start so_far now. ServesEach now)
-  pub descriptors : AfterEachTold told tables trace (λ start so_far now. AreKept start (length jobs) so_far now)
-  pub named : NamesOpenOnes told tables trace
-  pub leaves : LeavesOpen told tables trace
-  pub entries : OfEachJob jobs answers (IsNamedIn plan told tables trace)
-  pub two_lookups : AgreeOnNumbers plan told tables trace
-  pub origins : AfterEachTold told tables trace ComeFromNames
-
-entered_by : (limit : ℕ) (plan : Plan) (jobs : List Job) (told : Option Tree) (tables : Tables)
-    (trace : List TraceStep) → tables ≡ empty_tables limit → AreDisciplined (length jobs) (turns_of trace) →
-    (j : ℕ) (job : Job) (given : Answer) → AllMayBeTold (steps_of j (turns_of trace)) →
-    Belongs (job_grammar plan job) (steps_of j (turns_of trace)) (finish.Answer given) →
-    IsNamedIn plan told tables trace j job given
-entered_by limit plan jobs told tables trace begins disciplined j job (answer.Entry entry) may b =
-    let named = entry_asked plan (job_start job) (asked_of job) (steps_of j (turns_of trace)) entry may b in (
-      named.1,
-      named.2,
-      ap name_asked named.3,
-      (λ tree is well.
-          entered_law limit (length jobs) plan (job_start job) named.0 (turns_of trace) (begins_in tree tables) j
-          named.1 named.2 entry (record { tables = begins; well_formed = well; past = refl }) disciplined
-          (subst (λ (r : Asked). Belongs (grammar_for plan (job_start job) r) (steps_of j (turns_of trace))
-          (finish.Answer (answer.Entry entry))) named.3 b)),
-    )
-entered_by limit plan jobs told tables trace begins disciplined j job given may b = tt
-
-pub keeps_told : {H : Type 0} (does : Does H) (tree : H → Option Tree) (faults : H → ℕ) → Promises does faults →
-    Tells does tree → (plan : Plan) (limit : ℕ) (jobs : List Job) (host : H) (tables : Tables)
-    (trace : List TraceStep) (answers : List Answer) (host' : H) (tables' : Tables) →
-    Ran does plan limit jobs host tables trace answers host' tables' →
-    KeepsTold plan jobs (tree host) tables trace answers (tree host') tables'
-keeps_told does tree faults p tells plan limit jobs host tables trace answers host' tables' ran =
-    let runs = host_runs does trace host ran.seats tables host' ran.seats' tables' ran.runs in
-    let ended = ended_of does faults p plan limit jobs host tables trace answers host' tables' ran in
-    let disciplined = ended_jobs (length jobs) (turns_of trace) ended in
-    let starts = λ (t : Tree) (well : IsWellFormed t). let s : Starts limit (begins_in t tables) =
-    record { tables = ran.begins; well_formed = well; past = refl } in s in
-    record {
-      leads_on = λ t is well.
-          let w = hosts_world does tree faults p tells (turns_of trace) (begins_in t tables) host host' tables' is runs in (
-            w.0,
-            w.1,
-            w.2,
-            w.3,
-            (λ so_far rest e.
-                runs_split (turns_of so_far) (turns_of rest) (begins_in t tables) w.0
-                (subst (λ (turns : List Turn). WorldRuns (begins_in t tables) turns w.0)
-                (ap turns_of e ∙ turns-append so_far rest) w.3)),
-          );
-      two_lookups = λ t is well job other parent folder name child entry another one two between first second object.
-          two_lookups_law limit (length jobs) (turns_of trace) [] (begins_in t tables) first second job other parent
-          folder name child entry.inode another.inode one.looked_up.stat.ids two.looked_up.stat.ids between object
-          one.given two.given (starts t well) (rw append-nil disciplined);
-      origins = λ t is well so_far rest now e r number object.
-          origins_law limit (length jobs) (turns_of so_far) (turns_of rest) (begins_in t tables) now number object
-          (starts t well) (cut_at (length jobs) trace so_far rest e disciplined) r;
-      distinct = λ t is well so_far rest now e r.
-          let d = cut_at (length jobs) trace so_far rest e disciplined in
-          record {
-            distinct = distinct_law limit (length jobs) (turns_of so_far) (turns_of rest) (begins_in t tables) now
-                (starts t well) d r;
-            open_on = λ row at live.
-                object_law limit (length jobs) (turns_of so_far) (turns_of rest) (begins_in t tables) now row
-                (starts t well) d r at live;
-          };
-      serves = λ t is well so_far rest now e r row at.
-          handles_law limit (length jobs) (turns_of so_far) (turns_of rest) (begins_in t tables) now row
-          (starts t well) (cut_at (length jobs) trace so_far rest e disciplined) r at;
-      descriptors = λ t is well so_far rest now e r.
-          kept_law limit (length jobs) (turns_of so_far) (turns_of rest) (begins_in t tables) now (starts t well)
-          (cut_at (length jobs) trace so_far rest e disciplined) r;
-      named = λ t is well so_far rest step now e r.
-          named_law limit (length jobs) (turns_of so_far) (turn_of step) (turns_of rest) (begins_in t tables) now
-          (starts t well) (cut_at (length jobs) trace so_far (step ∷ rest) e disciplined) r;
-      leaves = λ t is well end r.
-          leaves_law limit (length jobs) (turns_of trace) (begins_in t tables) end (starts t well) ended r;
-      entries = λ j job given at told_at.
-          entered_by limit plan jobs (tree host) tables trace ran.begins disciplined j job given
-          (hosts_told does faults p j (turns_of trace) host tables host' tables' runs)
-          (rw (steps_same j trace)
-          (belongs_by plan job (steps_by j trace) given (ran.answered.in_pattern j job given at told_at)));
     }
 
 -- what is known of a whole run

@@ -9,7 +9,9 @@ pub mod Ended
 pub mod Advancing
 pub mod Whole
 pub mod Memory
+pub mod Uncalled
 pub mod Laws
+pub mod Objects
 pub mod Leads
 pub mod Lockstep
 pub mod Determined

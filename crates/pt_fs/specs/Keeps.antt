@@ -1,6 +1,6 @@
 -- Believed. What a run keeps after every step and at its end, in whatever order its jobs took their steps.
 use Rattle.std.specs.Prelude.{◌≡◌, ◌≢◌, ◌≤◌, ◌⊎◌, ℕ, true, List, ◌∷◌, ◌++◌, Option, Some, map, slice_get}
-use Rattle.pt_host.specs.Tree.{Tree, IsWellFormed}
+use Rattle.pt_host.specs.Tree.{Tree}
 use Rattle.pt_session.specs.Tables.{Tables}
 use Rattle.pt_session.specs.Rows.{IsRow, IsHandleRow}
 use Rattle.pt_session.specs.declared.row.Row.{Row}
@@ -43,9 +43,9 @@ AfterEach tables trace P =
 abbrev pub begins_in : Tree → Tables → World
 begins_in tree tables = record { tree = tree; tables = tables; past = no_past }
 
--- where the host told a tree that is well formed
+-- where the host told its tree
 abbrev pub WhereTold : Option Tree → Tables → (World → Type 0) → Type 0
-WhereTold told tables P = (tree : Tree) → told ≡ Some tree → IsWellFormed tree → P (begins_in tree tables)
+WhereTold told tables P = (tree : Tree) → told ≡ Some tree → P (begins_in tree tables)
 
 -- after every step: of the steps so far and the world to which they led
 abbrev pub AfterEachTold : Option Tree → Tables → List TraceStep → (World → List Turn → World → Type 0) → Type 0

@@ -1,8 +1,8 @@
 -- Believed. The lines of a report that say what the jobs did.
 use Rattle.std.specs.Prelude.{ℕ, ◌+◌, List, [], ◌∷◌, ◌++◌, codes}
 use Rattle.pt_iface.specs.declared.answer.Answer.{Answer}
-use Rattle.pt_req.specs.declared.act.KeptAct.{KeptAct}
-use Rattle.pt_req.specs.declared.act.ActReply.{ActReply}
+use Rattle.pt_frame.specs.declared.act.KeptAct.{KeptAct}
+use Rattle.pt_frame.specs.declared.act.ActReply.{ActReply}
 use Rattle.pt_fs.specs.declared.trace.TraceStep.{TraceStep}
 use Rattle.pt_show.specs.Texts.{number_text, ended}
 use Rattle.pt_show.specs.ActTexts.{act_text, act_reply_text}

@@ -5,7 +5,8 @@ use Rattle.pt_fs.specs.Trace.{room_of}
 use Rattle.pt_fs.proofs.Ended.{started_length}
 use Rattle.pt_fs.proofs.Works.{started_bounds}
 use Rattle.pt_fs.proofs.Whole.{Whole, jobs_whole, order_whole, answers_whole, bounded_whole, spent_whole}
-use Rattle.pt_fs.proofs.Laws.{ran_whole, keeps, keeps_told}
+use Rattle.pt_fs.proofs.Laws.{ran_whole, keeps}
+use Rattle.pt_fs.proofs.Objects.{keeps_told}
 use Rattle.pt_fs.proofs.run.drive.Goals as goal
 
 pub run_all-requires : goal.run_all-requires
