@@ -1,5 +1,6 @@
 -- Each answer is that of a branch of the tree, or the job gave up or lost its seat.
-use Rattle.std.proofs.Common.{◌≡◌, ◌⊎◌, inl, inr, ℕ, zero, suc, List, [], ◌∷◌, length, Bool, true, false, Option, ◌||◌}
+use Rattle.std.proofs.Common.{◌≡◌, ◌⊎◌, inl, inr, ℕ, zero, suc, List, [], ◌∷◌, length, Bool, true, false, Option}
+use Rattle.std.proofs.Common.{◌||◌}
 use Rattle.std.proofs.Common.{Some, None, refl, sym, subst, ◌∙◌, if◌then◌else◌, nat_lt}
 use Rattle.pt_host.specs.declared.ids.Errno.{Errno}
 use Rattle.pt_host.specs.declared.seat.HostSeat.{HostSeat}
@@ -11,8 +12,9 @@ use Rattle.pt_frame.specs.Deed.{Deed, Calls, Changes, Step, IsStepOf, lacks_memo
 use Rattle.pt_frame.specs.Held.{is_scope, held, opened}
 use Rattle.pt_frame.specs.Replies.{closings_in, taken_in, restored, refusal, passes_with, is_cut, fault_if}
 use Rattle.pt_frame.specs.Grammar.{Grammar, End, Belongs}
-use Rattle.pt_frame.specs.Frame.{giving, closings, give_taken, give, leave, or_lost, bare_one, bare, shut, front, behind}
-use Rattle.pt_frame.specs.Frame.{under, mark_in, outer, answered_by, answered}
+use Rattle.pt_frame.specs.Frame.{giving, closings, give_taken, give, leave, or_lost, bare_one, bare, shut, front}
+use Rattle.pt_frame.specs.Frame.{behind}
+use Rattle.pt_frame.specs.Frame.{under, mark_in, outer, answered_by}
 use Rattle.pt_frame.specs.Tree.{Tree, Gives, Refuses, Asks, Opens, Bares, Brackets, Shuts, Allocates, framed, follows}
 use Rattle.pt_frame.specs.Tree.{may_give_up, allocates}
 use Rattle.pt_frame.specs.declared.act.ActReply.{ActReply}
@@ -23,7 +25,8 @@ use Rattle.pt_frame.specs.declared.hold.Hold.{Hold}
 use Rattle.pt_frame.specs.declared.hold.Hold.TheVariants as hold
 use Rattle.pt_frame.specs.declared.hold.Taken.{Taken}
 use Rattle.pt_frame.specs.declared.hold.Taken.TheVariants as taken
-use Rattle.pt_law.specs.Branch.{Along, AllocatesAfter, ReturnsHold, AreOwn, AreOwn.{none, keep, skip}, SomeLacks, IsLost}
+use Rattle.pt_law.specs.Branch.{Along, AllocatesAfter, ReturnsHold, AreOwn, AreOwn.{none, keep, skip}, SomeLacks}
+use Rattle.pt_law.specs.Branch.{IsLost}
 use Rattle.pt_law.specs.Branch.{AreFirst, AreFirst.{stop, next as first_next, pass}, GaveUp, IsOfBranch}
 
 -- a step of a deed that gives back
@@ -81,7 +84,8 @@ reached_on : (rest more : Grammar) (steps : List Step) (end : Finish) (r : Reach
 reached_on rest more steps end r s =
     record { later = s.later; backs = backs_on s.later r.later steps s.backs r.backs; belongs = s.belongs }
 
-pub pass_taken : (brings : Taken) (count : ℕ) (holds : List Hold) (rest : Grammar) (steps : List Step) (end : Finish) →
+pub pass_taken : (brings : Taken) (count : ℕ) (holds : List Hold) (rest : Grammar) (steps : List Step)
+    (end : Finish) →
     Belongs (give_taken brings count holds rest) steps end → Reached rest steps end
 pass_taken taken.Nothing count holds rest steps end b =
     record { later = steps; backs = backs_none steps; belongs = b }
@@ -289,7 +293,8 @@ why_gave_up : (told : ActReply) (next : Tree) → may_give_up told next ≡ true
     LacksMemory told ⊎ (allocates next ≡ true)
 why_gave_up told next e = go (lacks_memory told) refl e
   where
-    go : (b : Bool) → lacks_memory told ≡ b → (b || allocates next) ≡ true → LacksMemory told ⊎ (allocates next ≡ true)
+    go : (b : Bool) → lacks_memory told ≡ b → (b || allocates next) ≡ true →
+        LacksMemory told ⊎ (allocates next ≡ true)
     go true s f = inl s
     go false s f = inr f
 

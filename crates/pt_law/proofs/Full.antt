@@ -1,13 +1,15 @@
 -- A job that takes no memory of its own, and none of whose steps lacked any, had not given up before it was cut.
-use Rattle.std.proofs.Common.{◌≡◌, ◌⊎◌, inl, inr, ℕ, zero, suc, List, [], ◌∷◌, length, Bool, true, false, Option, ◌||◌}
+use Rattle.std.proofs.Common.{◌≡◌, inl, inr, ℕ, zero, suc, List, [], ◌∷◌, length, Bool, true, false, Option}
+use Rattle.std.proofs.Common.{◌||◌}
 use Rattle.std.proofs.Common.{Some, None, refl, sym, subst, if◌then◌else◌, nat_lt}
 use Rattle.pt_host.specs.declared.ids.Errno.{Errno}
 use Rattle.pt_host.specs.declared.seat.HostSeat.{HostSeat}
-use Rattle.pt_frame.specs.Deed.{Calls, Step, lacks_memory, LacksMemory}
+use Rattle.pt_frame.specs.Deed.{Step, lacks_memory, LacksMemory}
 use Rattle.pt_frame.specs.Held.{is_scope, held, opened}
 use Rattle.pt_frame.specs.Replies.{closings_in, taken_in, restored, refusal, passes_with, fault_if}
 use Rattle.pt_frame.specs.Grammar.{Grammar, End, Do, May}
-use Rattle.pt_frame.specs.Frame.{giving, closings, give_taken, give, leave, or_lost, bare_one, bare, shut, front, behind}
+use Rattle.pt_frame.specs.Frame.{giving, closings, give_taken, give, leave, or_lost, bare_one, bare, shut, front}
+use Rattle.pt_frame.specs.Frame.{behind}
 use Rattle.pt_frame.specs.Frame.{under, mark_in, outer, answered_by, CutAfter, CutInFull}
 use Rattle.pt_frame.specs.Tree.{Tree, Gives, Refuses, Asks, Opens, Bares, Brackets, Shuts, Allocates, framed, follows}
 use Rattle.pt_frame.specs.Tree.{may_give_up, allocates, grammar_of_tree}

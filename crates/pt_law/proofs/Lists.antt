@@ -47,7 +47,8 @@ pub each_map : {X : Type 0} (P Q : X → Type 0) (xs : List X) → ((x : X) → 
 each_map P Q [] f h = h
 each_map P Q (x ∷ xs) f h = (f x h.0, each_map P Q xs f h.1)
 
-pub two_takes : {X : Type 0} (R : X → X → Type 0) {x : X} {xs ys : List X} → Takes x xs ys → EachTwo R xs → EachTwo R ys
+pub two_takes : {X : Type 0} (R : X → X → Type 0) {x : X} {xs ys : List X} → Takes x xs ys → EachTwo R xs →
+    EachTwo R ys
 two_takes R here h = h.1
 two_takes R (there {y = y} t) h = (each_takes (R y) t h.0, two_takes R t h.1)
 

@@ -1,6 +1,6 @@
 -- A tree that keeps the discipline is sound in its frame.
 use Rattle.std.proofs.Common.{◌≡◌, ℕ, zero, suc, List, [], ◌∷◌, ◌++◌, length, Bool, true, false, Option, nat_lt}
-use Rattle.std.proofs.Common.{Some, None, refl, sym, ap, subst, ◌∙◌, arith, if◌then◌else◌, ◌||◌}
+use Rattle.std.proofs.Common.{Some, None, refl, sym, ap, subst, ◌∙◌, arith, if◌then◌else◌}
 use Rattle.pt_host.specs.Words.{Takes, Takes.{here, there}}
 use Rattle.pt_host.specs.Sorts.{sort_of}
 use Rattle.pt_host.specs.declared.ids.Errno.{Errno}
@@ -231,7 +231,8 @@ sound_shut seat passing mark (one ∷ holds) next notes k =
     go : (b : Bool) →
         Goes (next (under passing (if b then down_to mark holds else one ∷ holds)))
         (under passing (if b then down_to mark holds else one ∷ holds)) 0 notes →
-        ((later : Notes) → Goes (next (under passing (down_to mark holds))) (under passing (down_to mark holds)) 0 later →
+        ((later : Notes) → Goes (next (under passing (down_to mark holds))) (under passing (down_to mark holds)) 0
+        later →
         Sound (shut seat passing mark holds next) (at_job (unscoped (under passing holds)) later)) →
         Sound (if b then give seat one (under passing (one ∷ holds)) (under passing holds) (λ fault.
         or_lost seat fault (under passing holds) (shut seat passing mark holds next))
@@ -240,7 +241,8 @@ sound_shut seat passing mark (one ∷ holds) next notes k =
         or_lost seat fault (under passing holds) (shut seat passing mark holds next)) notes
         (takes_under passing one holds) (λ fault later l.
         sound_or_lost seat fault (under passing holds) (shut seat passing mark holds next) later
-        (f later (goes_on (next (under passing (down_to mark holds))) (under passing (down_to mark holds)) 0 notes later
+        (f later (goes_on (next (under passing (down_to mark holds))) (under passing (down_to mark holds)) 0 notes
+        later
         l k)))
     go false k f = k notes (refl, refl)
 
@@ -265,7 +267,8 @@ sound_answered seat (answer.Entry entry) (hold.Count era number ∷ holds) notes
     sound_entry seat entry.inode (finish.Answer (answer.Entry entry)) holds notes (λ e. refl) era number h
 sound_answered seat (answer.Entry entry) holds notes h = absurd h
 sound_answered seat (answer.Created entry handle options) (hold.Count era number ∷ holds) notes h =
-    sound_entry seat entry.inode (finish.Answer (answer.Created entry handle options)) holds notes (λ e. refl) era number h
+    sound_entry seat entry.inode (finish.Answer (answer.Created entry handle options)) holds notes (λ e. refl) era
+    number h
 sound_answered seat (answer.Created entry handle options) holds notes h = absurd h
 sound_answered seat last holds notes h = sound_leave seat holds (finish.Answer last) notes refl
 

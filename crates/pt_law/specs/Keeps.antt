@@ -17,7 +17,8 @@ use Rattle.pt_frame.specs.Tree.{Tree, Gives, Refuses, Asks, Opens, Bares, Bracke
 use Rattle.pt_frame.specs.declared.act.ActReply.{ActReply}
 use Rattle.pt_frame.specs.declared.hold.Hold.{Hold}
 use Rattle.pt_frame.specs.declared.hold.Hold.TheVariants as hold
-use Rattle.pt_law.specs.Discipline.{fd_of, KnowsAll, Notes, notes_after, Fits, at_job}
+use Rattle.pt_law.specs.World.{fd_of}
+use Rattle.pt_law.specs.Discipline.{KnowsAll, Notes, notes_after, Fits, at_job}
 use Rattle.pt_law.specs.Told.{MayBeTold}
 
 -- without the scopes that lie on top, and without any scope

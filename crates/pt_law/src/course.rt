@@ -51,7 +51,8 @@ pub fn steps_told<H: Host>()
 pub fn steps_seated<H: Host>()
     ensures made { (deed : Option Deed) (told : ActReply) (host : H) (seat : HostSeat) (tables : Tables)
         (host_after : H) (seat_after : HostSeat) (tables_after : Tables) →
-        Made H.does deed told host seat tables host_after seat_after tables_after → seat_after ≡ seat_by seat deed told }
+        Made H.does deed told host seat tables host_after seat_after tables_after →
+        seat_after ≡ seat_by seat deed told }
     ensures alone { (steps : List Step) (host : H) (seat : HostSeat) (tables : Tables) (host_after : H)
         (seat_after : HostSeat) (tables_after : Tables) →
         RunsAlone H.does steps host seat tables host_after seat_after tables_after → seat_after ≡ seat_at seat steps }
