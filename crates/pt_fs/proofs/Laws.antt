@@ -20,7 +20,8 @@ use Rattle.pt_frame.specs.declared.finish.Finish.{Finish}
 use Rattle.pt_frame.specs.declared.finish.Finish.TheVariants as finish
 use Rattle.pt_req.specs.declared.plan.Plan.{Plan}
 use Rattle.pt_law.specs.Told.{AllMayBeTold}
-use Rattle.pt_law.specs.Laws.{AreEnded, AreDisciplined, SlotsAddUp, IsAtRest, BeginsFirst}
+use Rattle.pt_law.specs.Discipline.{AreEnded, AreDisciplined}
+use Rattle.pt_law.specs.Laws.{SlotsAddUp, IsAtRest, BeginsFirst}
 use Rattle.pt_fit.specs.Answered.{AreAnswered}
 use Rattle.pt_law.specs.Ledger.{slots_taken, slots_given}
 use Rattle.pt_law.specs.World.{Turn, TablesRun, HostRuns, steps_of}

@@ -16,7 +16,8 @@ use Rattle.pt_frame.specs.declared.finish.Finish.TheVariants as finish
 use Rattle.pt_req.specs.declared.plan.Plan.{Plan}
 use Rattle.pt_attr.specs.Pattern.{Asked, Requests, grammar_of, grammar_for}
 use Rattle.pt_law.specs.Giving.{GivingPlaces, up_to}
-use Rattle.pt_law.specs.Laws.{AreKept, AreDisciplined, NamesOpen, ObjectOf, Starts}
+use Rattle.pt_law.specs.Discipline.{AreDisciplined}
+use Rattle.pt_law.specs.Laws.{AreKept, NamesOpen, ObjectOf, Starts}
 use Rattle.pt_law.specs.Told.{AllMayBeTold}
 use Rattle.pt_law.specs.Uses.{StaysLive}
 use Rattle.pt_law.specs.World.{Turn, World, no_past, Runs as WorldRuns, steps_of}

@@ -18,7 +18,8 @@ use Rattle.pt_frame.specs.Made.{Made}
 use Rattle.pt_frame.specs.declared.act.ActReply.{ActReply}
 use Rattle.pt_frame.specs.declared.act.ActReply.TheVariants.{Event, Host, NoCopy}
 use Rattle.pt_law.specs.Giving.{GivingPlaces}
-use Rattle.pt_law.specs.Laws.{AreDisciplined, AreEnded, AreKept, LeavesRows, NamesOpen, Starts}
+use Rattle.pt_law.specs.Discipline.{AreDisciplined, AreEnded}
+use Rattle.pt_law.specs.Laws.{AreKept, LeavesRows, NamesOpen, Starts}
 use Rattle.pt_law.specs.Ledger.{kept_fds, open_count, row_has, handle_has}
 use Rattle.pt_law.specs.Naming.{NamePlaces, resolving, opening}
 use Rattle.pt_law.specs.World.{Turn, turn_by, World, Past, no_past, settled_if, IsLawful, Goes, Runs}
