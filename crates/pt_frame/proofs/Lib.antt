@@ -4,3 +4,4 @@ pub mod Second
 pub mod Tending
 pub mod Losing
 pub mod Ending
+pub mod Sparing

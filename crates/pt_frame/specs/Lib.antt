@@ -11,4 +11,6 @@ pub mod Seats
 pub mod Past
 pub mod Tended
 pub mod Determined
+pub mod Memory
+pub mod Sparing
 pub mod Machine

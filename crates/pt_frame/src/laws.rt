@@ -2,12 +2,14 @@
 
 ghost use Rattle.std.specs.Prelude.{◌≡◌, Bool, false, true, List, [], None};
 ghost use Rattle.pt_host.specs.declared.seat.HostSeat.{HostSeat};
-ghost use Rattle.pt_iface.specs.declared.answer.Answer.TheVariants.{Cut};
+ghost use Rattle.pt_iface.specs.declared.answer.Answer.TheVariants.{Cut, NoMemory};
 ghost use Rattle.pt_frame.specs.Deed.{Deed, Step};
 ghost use Rattle.pt_frame.specs.Determined.{IsDetermined};
 ghost use Rattle.pt_frame.specs.Frame.{cut, CutAfter, CutInFull};
 ghost use Rattle.pt_frame.specs.Grammar.{Grammar, Do, Owed, Belongs, IsChosen, IsDo, owed_by};
+ghost use Rattle.pt_frame.specs.Memory.{RanOut};
 ghost use Rattle.pt_frame.specs.Past.{Past, no_past, past_from, is_restoring, KeepsGroups};
+ghost use Rattle.pt_frame.specs.Sparing.{IsSparing};
 ghost use Rattle.pt_frame.specs.Tended.{Tended, Tends, IsBack, IsFinish};
 ghost use Rattle.pt_frame.specs.Tree.{Tree, grammar_of_tree};
 ghost use Rattle.pt_frame.specs.declared.act.ActReply.{ActReply};
@@ -33,6 +35,12 @@ pub fn cut_says_no_more()
 /// A job has one outcome unless memory runs out.
 pub fn jobs_are_determined()
     ensures { (seat : HostSeat) (tree : Tree) → IsDetermined (grammar_of_tree seat tree) }
+{}
+
+/// A job whose tree takes no memory of its own is answered `NoMemory` only where memory ran out at one of its steps.
+pub fn memory_ran_out_at_a_step()
+    ensures { (seat : HostSeat) (tree : Tree) (steps : List Step) → IsSparing false tree →
+        Belongs (grammar_of_tree seat tree) steps (Answer NoMemory) → RanOut steps }
 {}
 
 /// A step is marked just where it restores the seat, and what is marked gives a scope back. At its end a job that

@@ -15,6 +15,7 @@ pub use edit::Editing;
 pub use finish::Finish;
 pub use hold::{Hold, Holds, Taken};
 pub use laws::{
-    choices_are_kept, cut_says_no_more, jobs_are_determined, losses_are_told, seats_are_tended,
+    choices_are_kept, cut_says_no_more, jobs_are_determined, losses_are_told,
+    memory_ran_out_at_a_step, seats_are_tended,
 };
 pub use machine::{Body, Edges, Framed, Next, Shut, Then, Wanted, row_fd};

@@ -3,22 +3,19 @@ use Rattle.std.proofs.Common.{◌≡◌, ℕ, zero, suc, Bool, true, false, ◌|
 use Rattle.pt_host.specs.Call.{Call}
 use Rattle.pt_host.specs.Sorts.{Sort, OpensWith, EndsFd, OfSeat, Plain, sort_of}
 use Rattle.pt_host.specs.declared.seat.HostSeat.{HostSeat}
-use Rattle.pt_iface.specs.declared.answer.Answer.TheVariants.{NoMemory}
 use Rattle.pt_iface.specs.declared.request.Context.{Context}
 use Rattle.pt_iface.specs.declared.request.Request.{Request}
-use Rattle.pt_frame.specs.Deed.{Deed, Calls, Changes, Step, lacks_memory, LacksMemory}
+use Rattle.pt_frame.specs.Deed.{Deed, Calls, Changes, lacks_memory}
 use Rattle.pt_frame.specs.Past.{worn_after}
 use Rattle.pt_frame.specs.Replies.{closings_in, passes_with}
+use Rattle.pt_frame.specs.Sparing.{IsSparing}
 use Rattle.pt_frame.specs.Tended.{is_seats_sort, is_of_seat, Tends, IsAskedOf, IsAsked, ClosesBare, PassesBare}
 use Rattle.pt_frame.specs.Tree.{Tree, Gives, Asks}
 use Rattle.pt_frame.specs.declared.act.ActReply.{ActReply}
 use Rattle.pt_frame.specs.declared.hold.Taken.TheVariants.{Nothing}
 use Rattle.pt_frame.proofs.Tending.{wears_same}
-use Rattle.pt_req.specs.Laws.{RanOut, RunsOutBy}
-use Rattle.pt_req.specs.Pattern.{Pattern}
 use Rattle.pt_req.specs.Requests.{tree_of}
 use Rattle.pt_req.specs.declared.plan.Plan.{Plan}
-use Rattle.pt_req.proofs.Running.{out_at_step}
 use Rattle.pt_req.proofs.Walking.{Walk, each_request}
 
 closes_bare : (count : ℕ) → ClosesBare Nothing count []
@@ -64,7 +61,7 @@ lacks_so true e = refl
 lacks_so false e = absurd (cc)
 
 -- no memory ran out so far
-in_full : Walk (λ tree. RunsOutBy false tree) (λ told tree. RunsOutBy (lacks_memory told || false) tree)
+in_full : Walk (λ tree. IsSparing false tree) (λ told tree. IsSparing (lacks_memory told || false) tree)
 in_full = record {
   gives = λ last is. λ out. absurd (is.1 out);
   refuses = λ told. λ lacks. lacks_so (lacks_memory told) lacks;
@@ -74,11 +71,10 @@ in_full = record {
   shuts = λ passes rest so. so;
 }
   where
-    found_so : (lacks : Bool) (tree : Tree) → lacks ≡ false → RunsOutBy false tree → RunsOutBy (lacks || false) tree
+    found_so : (lacks : Bool) (tree : Tree) → lacks ≡ false → IsSparing false tree → IsSparing (lacks || false) tree
     found_so true tree e so = absurd (cc)
     found_so false tree e so = so
 
-pub no_memory : (plan : Plan) (seat : HostSeat) (who : Context) (asked : Request) (steps : List Step) →
-    Pattern plan seat who asked steps NoMemory → RanOut steps
-no_memory plan seat who asked steps b =
-    out_at_step seat (tree_of plan seat who asked) steps (each_request in_full plan seat who asked) b
+pub requests_spare : (plan : Plan) (seat : HostSeat) (who : Context) (asked : Request) →
+    IsSparing false (tree_of plan seat who asked)
+requests_spare plan seat who asked = each_request in_full plan seat who asked

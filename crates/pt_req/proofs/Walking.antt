@@ -2,7 +2,7 @@
 -- request: today none calls on its seat, and none takes memory of its own.
 use Rattle.std.proofs.Common.{◌≡◌, ℕ, zero, suc, Bool, true, false, List, [], ◌∷◌, Option, Some, None, refl}
 use Rattle.std.proofs.Common.{if◌then◌else◌}
-use Rattle.pt_host.specs.Errno.{ebadf, einval}
+use Rattle.pt_host.specs.Errno.{ebadf, einval, errno_of}
 use Rattle.pt_host.specs.declared.ids.Errno.{Errno}
 use Rattle.pt_host.specs.Flags.{o_directory}
 use Rattle.pt_host.specs.declared.ids.Fd.{Fd}
@@ -24,11 +24,12 @@ use Rattle.pt_iface.specs.declared.request.Request.{Request}
 use Rattle.pt_iface.specs.declared.request.Request.TheVariants as request
 use Rattle.pt_frame.specs.Deed.{Deed, Calls, Changes, lacks_memory}
 use Rattle.pt_frame.specs.Replies.{is_cut}
+use Rattle.pt_frame.specs.Sparing.{IsNoMemory}
 use Rattle.pt_frame.specs.Tended.{is_of_seat}
 use Rattle.pt_frame.specs.Tree.{Tree, Gives, Refuses, Asks, Brackets, Shuts}
 use Rattle.pt_frame.specs.declared.act.ActReply.{ActReply}
 use Rattle.pt_session.specs.Tables.{nothing_agreed}
-use Rattle.pt_req.specs.Options.{cleaned, inode_flags, with_bits, agreed_with}
+use Rattle.pt_req.specs.Options.{cleaned, inode_flags, with_bits, agreed_with, init_options, open_options}
 use Rattle.pt_req.specs.Steps.{session_of, Resolved, on_began, on_cleared, on_resolved, on_fd, on_stat, on_bytes}
 use Rattle.pt_req.specs.Steps.{on_claim, on_taken, on_drawn, on_inserted, on_root, on_handle, on_pinned, on_done}
 use Rattle.pt_req.specs.Steps.{begin, clear, resolve, open_root, open_at, reopen, stat, read_at, claim, take_fd}
@@ -39,7 +40,6 @@ use Rattle.pt_req.specs.Parts.{by_path, named, placed, file_of, open_form, open_
 use Rattle.pt_req.specs.Parts.{look_up, open_num, root_open}
 use Rattle.pt_req.specs.Requests.{init, destroy, root, lookup, batch_forget, open_file, release, read, unserved}
 use Rattle.pt_req.specs.Requests.{tree_of}
-use Rattle.pt_req.specs.Laws.{IsNoMemory}
 use Rattle.pt_req.specs.declared.begun.BegunSession.{BegunSession}
 use Rattle.pt_req.specs.declared.parts.looked.Looked.{Looked}
 use Rattle.pt_req.specs.declared.plan.Plan.{Plan}
@@ -146,9 +146,9 @@ module _ {Q : Tree → Type 0} {R : ActReply → Tree → Type 0} (w : Walk Q R)
       (if_done R next w.refuses (λ closings. w.had _ _ refl so))
 
   -- a check refuses at once
-  checks : (bad : Bool) (refused next : Tree) → Q refused → Q next → Q (if bad then refused else next)
-  checks true refused next no so = no
-  checks false refused next no so = so
+  checks : (is_bad : Bool) (refused next : Tree) → Q refused → Q next → Q (if is_bad then refused else next)
+  checks true refused next bad so = bad
+  checks false refused next bad so = so
 
   files : (form : RowForm) (next : Fd → Tree) → ((fd : Fd) → Q (next fd)) → Q (file_of form next)
   files (File fd) next so = so fd
@@ -177,7 +177,7 @@ module _ {Q : Tree → Type 0} {R : ActReply → Tree → Type 0} (w : Walk Q R)
       w.shuts true _ (so (looked_of plan session directory.ids told (File fd) number))))))))
 
   refuses_so : (errno : Errno) → Q (Gives (answer.Refused errno))
-  refuses_so errno = w.gives (answer.Refused errno) (refl, λ no. no)
+  refuses_so errno = w.gives (answer.Refused errno) (refl, λ out. out)
 
   opens_num : (plan : Plan) (session : BegunSession) (number flags : ℕ) (next : ℕ → Tree) →
       ((handle : ℕ) → Q (next handle)) → Q (open_num plan session number flags next)
@@ -185,15 +185,15 @@ module _ {Q : Tree → Type 0} {R : ActReply → Tree → Type 0} (w : Walk Q R)
       w.brackets _ (
       resolves number _ (λ row.
       checked (can_open row.mode) _ _ (
-      opens_form row.form _ _ (λ fd.
+      opens_form row.form (inode_flags plan.config (cleaned plan.config flags)) _ (λ fd.
       draws_handle _ (λ handle.
       takes _ (
       inserts_handle session handle number fd _ (
       w.shuts false _ (so handle)))))) (refuses_so ebadf)))
     where
       checked : (can : Bool) (one other : Tree) → Q one → Q other → Q (if can then one else other)
-      checked true one other so no = so
-      checked false one other so no = no
+      checked true one other so bad = so
+      checked false one other so bad = bad
 
   opens_shared : (plan : Plan) (session : BegunSession) (agreed : Option Negotiated) (next : Tree) → Q next →
       Q (root_open plan session agreed next)
@@ -205,28 +205,31 @@ module _ {Q : Tree → Type 0} {R : ActReply → Tree → Type 0} (w : Walk Q R)
 
   opens : (plan : Plan) (inode flags : ℕ) → Q (open_file plan inode flags)
   opens plan inode flags =
-      begins _ (λ session. opens_num plan session inode flags _ (λ handle. w.gives _ (refl, λ no. no)))
+      begins _ (λ session.
+      opens_num plan session inode flags _ (λ handle.
+      w.gives (answer.Opened handle (open_options plan.config flags)) (refl, λ out. out)))
 
   forgets_all : (list : List (ℕ × ℕ)) → Q (batch_forget list)
-  forgets_all list = begins _ (λ session. forgets list _ (w.gives _ (refl, λ no. no)))
+  forgets_all list = begins _ (λ session. forgets list _ (w.gives answer.NoReply (refl, λ out. out)))
 
   releases_it : (inode handle : ℕ) → Q (release inode handle)
-  releases_it inode handle = begins _ (λ session. releases handle inode _ (w.gives _ (refl, λ no. no)))
+  releases_it inode handle = begins _ (λ session. releases handle inode _ (w.gives answer.Done (refl, λ out. out)))
 
   unserves : Q unserved
-  unserves = begins _ (λ session. refuses_so _)
+  unserves = begins _ (λ session. refuses_so (errno_of 38))
 
   pub each_request : (plan : Plan) (seat : HostSeat) (who : Context) (asked : Request) → Q (tree_of plan seat who asked)
   each_request plan seat who (request.Init capable) =
       clears _ (λ era.
-      opens_shared plan (session_of era nothing_agreed) (Some (agreed_with capable)) _ (w.gives _ (refl, λ no. no)))
-  each_request plan seat who request.Destroy = clears _ (λ era. w.gives _ (refl, λ no. no))
+      opens_shared plan (session_of era nothing_agreed) (Some (agreed_with capable)) _ (
+      w.gives (answer.Inited (init_options plan.config)) (refl, λ out. out)))
+  each_request plan seat who request.Destroy = clears _ (λ era. w.gives answer.NoReply (refl, λ out. out))
   each_request plan seat who request.Root =
-      begins _ (λ session. opens_shared plan session None _ (w.gives _ (refl, λ no. no)))
+      begins _ (λ session. opens_shared plan session None _ (w.gives answer.Done (refl, λ out. out)))
   each_request plan seat who (request.Lookup parent name) =
       begins _ (λ session.
       checks (is_bad_name name) _ _ (refuses_so einval) (
-      looks_up plan session parent name _ (λ looked. w.gives _ (refl, λ no. no))))
+      looks_up plan session parent name _ (λ looked. w.gives (answer.Entry looked.entry) (refl, λ out. out))))
   each_request plan seat who (request.Forget inode count) = forgets_all ((inode, count) ∷ [])
   each_request plan seat who (request.BatchForget list) = forgets_all list
   each_request plan seat who (request.Open inode kill flags) = opens plan inode flags
@@ -237,5 +240,5 @@ module _ {Q : Tree → Type 0} {R : ActReply → Tree → Type 0} (w : Walk Q R)
       begins _ (λ session.
       checks (is_bad_offset offset) _ _ (refuses_so einval) (
       pins handle inode _ (λ fd.
-      reads_at fd offset size _ (λ bytes. w.gives _ (refl, λ no. no)))))
+      reads_at fd offset size _ (λ bytes. w.gives (answer.Read bytes) (refl, λ out. out)))))
   each_request plan seat who asked = unserves

@@ -23,12 +23,15 @@ init plan capable =
     root_open plan (session_of era nothing_agreed) (Some (agreed_with capable)) (
     Gives (answer.Inited (init_options plan.config))))
 
+-- the session ends, and one without a root begins
 abbrev pub destroy : Tree
 destroy = clear (λ era. Gives answer.NoReply)
 
+-- the root is numbered in the session as it stands
 abbrev pub root : Plan → Tree
 root plan = begin (λ session. root_open plan session None (Gives answer.Done))
 
+-- a name in a directory becomes an entry
 abbrev pub lookup : Plan → ℕ → List ℕ → Tree
 lookup plan parent name =
     begin (λ session.
@@ -36,12 +39,14 @@ lookup plan parent name =
     look_up plan session parent name (λ looked.
     Gives (answer.Entry looked.entry))))
 
+-- the guest forgets numbers, or so much of them
 abbrev pub batch_forget : List (ℕ × ℕ) → Tree
 batch_forget list = begin (λ session. forget_all list (Gives answer.NoReply))
 
 abbrev pub forget : ℕ → ℕ → Tree
 forget inode count = batch_forget ((inode, count) ∷ [])
 
+-- what a number stands for is opened by a handle, a directory or not
 abbrev pub open_file : Plan → ℕ → ℕ → Tree
 open_file plan inode flags =
     begin (λ session.
@@ -51,9 +56,11 @@ open_file plan inode flags =
 abbrev pub open_dir : Plan → ℕ → ℕ → Tree
 open_dir plan inode flags = open_file plan inode (with_bits flags o_directory)
 
+-- the guest gives a handle back
 abbrev pub release : ℕ → ℕ → Tree
 release inode handle = begin (λ session. release_handle handle inode (Gives answer.Done))
 
+-- bytes by a handle
 abbrev pub read : ℕ → ℕ → ℕ → ℕ → Tree
 read inode handle size offset =
     begin (λ session.

@@ -50,6 +50,7 @@ on_resolved next (Event (event.Resolved row form ids mode)) =
     next (record { row = row; form = form; ids = ids; mode = mode })
 on_resolved next told = Refuses told
 
+-- a number is looked up in the tables
 abbrev pub resolve : ℕ → (Resolved → Tree) → Tree
 resolve number next = Asks (Changes (change.Resolve number)) (on_resolved next)
 
@@ -57,13 +58,15 @@ abbrev pub on_fd : (Fd → Tree) → ActReply → Tree
 on_fd next (Host (host.Ok (value.Fd fd))) = next fd
 on_fd next told = Refuses told
 
+-- a path of the host is opened
 abbrev pub open_root : List ℕ → OpenFlags → (Fd → Tree) → Tree
 open_root dir flags next = Asks (Calls (call.OpenRoot dir flags)) (on_fd next)
 
--- no mode is needed where nothing is made
+-- a name in a directory is opened; no mode is needed, since nothing is made
 abbrev pub open_at : Fd → List ℕ → OpenFlags → (Fd → Tree) → Tree
 open_at dir name flags next = Asks (Calls (call.OpenAt dir name flags 0)) (on_fd next)
 
+-- what a descriptor is open on is opened anew
 abbrev pub reopen : Fd → OpenFlags → (Fd → Tree) → Tree
 reopen fd flags next = Asks (Calls (call.Reopen fd flags)) (on_fd next)
 
@@ -71,6 +74,7 @@ abbrev pub on_stat : (Stat → Tree) → ActReply → Tree
 on_stat next (Host (host.Ok (value.Stat told))) = next told
 on_stat next told = Refuses told
 
+-- what a descriptor is open on is looked at
 abbrev pub stat : Fd → (Stat → Tree) → Tree
 stat fd next = Asks (Calls (call.Stat fd)) (on_stat next)
 
@@ -78,10 +82,11 @@ abbrev pub on_bytes : (List ℕ → Tree) → ActReply → Tree
 on_bytes next (Host (host.Ok (value.Bytes bytes))) = next bytes
 on_bytes next told = Refuses told
 
+-- bytes from an offset on
 abbrev pub read_at : Fd → ℕ → ℕ → (List ℕ → Tree) → Tree
 read_at fd offset size next = Asks (Calls (call.ReadAt fd offset size)) (on_bytes next)
 
--- an object's number is given once more, or it has none
+-- an object's number is given once more; or it has none, and is absent
 abbrev pub on_claim : (ℕ → Tree) → Tree → ActReply → Tree
 on_claim next absent (Event (event.Claimed number)) = next number
 on_claim next absent (Event event.Absent) = absent
@@ -102,18 +107,20 @@ abbrev pub on_drawn : (ℕ → Tree) → ActReply → Tree
 on_drawn next (Event (event.Drawn number)) = next number
 on_drawn next told = Refuses told
 
+-- a number is drawn that was never given, and likewise a handle
 abbrev pub draw_node : (ℕ → Tree) → Tree
 draw_node next = Asks (Changes change.DrawNode) (on_drawn next)
 
 abbrev pub draw_handle : (ℕ → Tree) → Tree
 draw_handle next = Asks (Changes change.DrawHandle) (on_drawn next)
 
--- the number is the new one, or that of another request, which was faster
+-- the number that was inserted: the new one, or that of another request, which was faster
 abbrev pub on_inserted : (ℕ → Tree) → ActReply → Tree
 on_inserted next (Event (event.Inserted number)) = next number
 on_inserted next (Event (event.Found number)) = next number
 on_inserted next told = Refuses told
 
+-- what was opened is numbered
 abbrev pub insert : BegunSession → ℕ → RowForm → Stat → (ℕ → Tree) → Tree
 insert session fresh form told next =
     Asks (Changes (change.Insert session.era fresh form told.ids told.mode)) (on_inserted next)
@@ -131,6 +138,7 @@ abbrev pub on_handle : Tree → ActReply → Tree
 on_handle next (Event (event.Inserted handle)) = next
 on_handle next told = Refuses told
 
+-- what was opened gets its handle
 abbrev pub insert_handle : BegunSession → ℕ → ℕ → Fd → Tree → Tree
 insert_handle session handle number fd next =
     Asks (Changes (change.InsertHandle session.era handle number fd)) (on_handle next)
@@ -139,6 +147,7 @@ abbrev pub on_pinned : (Fd → Tree) → ActReply → Tree
 on_pinned next (Event (event.Pinned row fd)) = next fd
 on_pinned next told = Refuses told
 
+-- a handle is looked up in the tables: its descriptor, whose row is pinned now
 abbrev pub pin_handle : ℕ → ℕ → (Fd → Tree) → Tree
 pin_handle handle number next = Asks (Changes (change.PinHandle handle number)) (on_pinned next)
 
@@ -146,8 +155,10 @@ abbrev pub on_done : Tree → ActReply → Tree
 on_done next (Event (event.Done closings)) = next
 on_done next told = Refuses told
 
+-- of these numbers so much is taken back
 abbrev pub forget_all : List (ℕ × ℕ) → Tree → Tree
 forget_all list next = Asks (Changes (change.Forget list)) (on_done next)
 
+-- a handle ends
 abbrev pub release_handle : ℕ → ℕ → Tree → Tree
 release_handle handle number next = Asks (Changes (change.Release handle number)) (on_done next)

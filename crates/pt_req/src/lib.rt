@@ -9,6 +9,6 @@ mod plan;
 mod requests;
 
 pub use job::JobState;
-pub use laws::{no_memory_has_its_cause, requests_tend};
+pub use laws::{requests_spare, requests_tend};
 pub use plan::{CachePolicy, Config, Plan};
 pub use requests::RequestBody;

@@ -53,7 +53,8 @@ impl NumberAt {
     pub fn take(&mut self, reply: ActReply) -> Part<u64>
         ensures left { (form : RowForm) (stat : Stat) (session : BegunSession) (next : ℕ → Tree) →
             with_memory (asked (numbering_left self.old form stat session next) reply)
-            ≡ part_tree result reply (numbering_left self.new form stat session next) next }
+            ≡ part_tree result reply (numbering_left self.new form stat session next)
+            (λ number. with_memory (next number)) }
         ensures fewer { (form : RowForm) (stat : Stat) (session : BegunSession) (next : ℕ → Tree) →
             brings (numbering_left self.old form stat session next) + part_counts result (numbering_acts self.new)
             < numbering_acts self.old }

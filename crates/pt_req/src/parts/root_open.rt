@@ -70,7 +70,7 @@ impl RootOpen {
     pub fn take(&mut self, reply: ActReply) -> Part<()>
         ensures left { (plan : Plan) (next : Tree) →
             with_memory (asked (root_open_left self.old plan next) reply)
-            ≡ part_tree result reply (root_open_left self.new plan next) (λ done. next) }
+            ≡ part_tree result reply (root_open_left self.new plan next) (λ done. with_memory next) }
         ensures fewer { (plan : Plan) (next : Tree) →
             brings (root_open_left self.old plan next) + part_counts result (root_open_acts self.new)
             < root_open_acts self.old }
