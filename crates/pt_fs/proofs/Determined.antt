@@ -10,11 +10,9 @@ use Rattle.pt_session.specs.Tables.{Tables}
 use Rattle.pt_iface.specs.declared.answer.Answer.{Answer}
 use Rattle.pt_iface.specs.declared.answer.Answer.TheVariants as answer
 use Rattle.pt_frame.specs.Determined.{IsAnsweredInFull, IsDetermined, IsDeterminedHost}
-use Rattle.pt_frame.proofs.Ending.{det_framed}
-use Rattle.pt_req.specs.Requests.{tree_of}
 use Rattle.pt_frame.specs.Grammar.{Grammar, End, Belongs}
 use Rattle.pt_frame.specs.Made.{Does}
-use Rattle.pt_attr.specs.Pattern.{Asked, Requests, Edits, grammar_for}
+use Rattle.pt_attr.proofs.Answering.{is_determined}
 use Rattle.pt_frame.specs.declared.finish.Finish.{Finish}
 use Rattle.pt_frame.specs.declared.finish.Finish.TheVariants as finish
 use Rattle.pt_req.specs.declared.plan.Plan.{Plan}
@@ -40,12 +38,8 @@ abbrev end_at : Option Answer → Finish
 end_at (Some told) = finish.Answer told
 end_at None = idle
 
-jobs_determined : (plan : Plan) (seat : HostSeat) (asked : Asked) → IsDetermined (grammar_for plan seat asked)
-jobs_determined plan seat (Requests who asked) = det_framed seat (tree_of plan seat who asked) [] []
-jobs_determined plan seat (Edits edit) = λ reply. tt
-
 det_at : (plan : Plan) (job : Option Job) → IsDetermined (grammar_at plan job)
-det_at plan (Some job) = jobs_determined plan (job_start job) (asked_of job)
+det_at plan (Some job) = is_determined plan (job_start job) (asked_of job)
 det_at plan None = tt
 
 in_full : (told : Answer) → told ≢ answer.NoMemory → IsAnsweredInFull (finish.Answer told)

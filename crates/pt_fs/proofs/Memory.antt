@@ -9,13 +9,13 @@ use Rattle.pt_iface.specs.declared.answer.Answer.TheVariants as answer
 use Rattle.pt_frame.specs.Deed.{Deed, Calls, Step, IsStepOf, LacksMemory}
 use Rattle.pt_frame.specs.Edit.{edit_answer}
 use Rattle.pt_frame.specs.Grammar.{Belongs}
+use Rattle.pt_frame.specs.Memory.{RanOut}
 use Rattle.pt_frame.specs.declared.act.ActReply.{ActReply}
 use Rattle.pt_frame.specs.declared.act.ActReply.TheVariants.{Event, Host, NoCopy}
 use Rattle.pt_frame.specs.declared.finish.Finish.TheVariants as finish
-use Rattle.pt_req.specs.Laws.{RanOut}
 use Rattle.pt_req.specs.declared.plan.Plan.{Plan}
-use Rattle.pt_req.proofs.Tending.{no_memory}
 use Rattle.pt_attr.specs.Pattern.{Asked, Requests, Edits, grammar_for}
+use Rattle.pt_attr.proofs.Answering.{has_cause}
 use Rattle.pt_law.specs.Told.{MayBeTold, StepMayBeTold, AllMayBeTold}
 
 same_answer : (one other : Answer) → finish.Answer one ≡ finish.Answer other → one ≡ other
@@ -34,7 +34,7 @@ edit_lacks edit None (Event told) may is e = absurd is
 
 pub ran_out : (plan : Plan) (seat : HostSeat) (asked : Asked) (steps : List Step) → AllMayBeTold steps →
     Belongs (grammar_for plan seat asked) steps (finish.Answer answer.NoMemory) → RanOut steps
-ran_out plan seat (Requests who asked) steps may b = no_memory plan seat who asked steps b
+ran_out plan seat (Requests who asked) steps may b = has_cause plan seat who asked steps b
 ran_out plan seat (Edits edit) [] may b = absurd b
 ran_out plan seat (Edits edit) (step ∷ []) may b =
     inl (edit_lacks edit step.deed step.reply may.0 b.0 (same_answer answer.NoMemory (edit_answer step.reply) b.1))

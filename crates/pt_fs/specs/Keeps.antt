@@ -10,7 +10,7 @@ use Rattle.pt_iface.specs.declared.answer.Answer.TheVariants as answer
 use Rattle.pt_iface.specs.declared.entry.Entry.{Entry}
 use Rattle.pt_frame.specs.Deed.{kept_deed_of}
 use Rattle.pt_frame.specs.declared.finish.Finish.TheVariants as finish
-use Rattle.pt_req.specs.Laws.{RanOut}
+use Rattle.pt_frame.specs.Memory.{RanOut}
 use Rattle.pt_req.specs.declared.plan.Plan.{Plan}
 use Rattle.pt_fit.specs.Cause.{IsCausedBy}
 use Rattle.pt_fit.specs.Entered.{EntryPlaces, IsEntered, name_asked}
