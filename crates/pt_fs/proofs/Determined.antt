@@ -119,16 +119,19 @@ same_answers (told ∷ answers) (other ∷ others) l h =
     ap (λ (a : Answer). a ∷ answers) same ∙ ap (λ (l : List Answer). other ∷ l) more
 
 pub turns_determined : {H : Type 0} (does : Does H) → IsDeterminedHost does → TurnsAreDetermined does
-turns_determined {H} does one plan schedule jobs host tables trace trace' answers answers' after after' seats seats' left left' agree ran ran' =
+turns_determined {H} does one plan schedule jobs host tables trace trace' answers answers' after after' seats seats'
+    left left' agree ran ran' =
     let alike = only_order does one schedule (length jobs) trace (λ j. grammar_at plan (slice_get jobs j)) (λ j.
     end_at (slice_get answers j)) (λ j. end_at (slice_get answers' j)) trace'
     (starts jobs host tables) (stops ran.steps.seats after left) (stops ran'.steps.seats after' left')
     (λ j. det_at plan (slice_get jobs j)) agree
     (whole_rest does plan schedule jobs host after tables left trace answers seats ran)
-    (whole_rest does plan schedule jobs host after' tables left' trace' answers' seats' ran') ran.order.owners ran'.order.owners in
+    (whole_rest does plan schedule jobs host after' tables left' trace' answers' seats' ran') ran.order.owners
+    ran'.order.owners in
     record {
       traces = alike.traces;
-      answered = same_answers answers answers' (ran.answers_each.one_each ∙ sym ran'.answers_each.one_each) alike.ended;
+      answered = same_answers answers answers' (ran.answers_each.one_each ∙ sym ran'.answers_each.one_each)
+          alike.ended;
       hosts = ap (λ (p : Place H). p.host) alike.places;
       sat = ran.steps.are_left ∙ ap (λ (p : Place H). seated p.seats) alike.places ∙ sym ran'.steps.are_left;
       left = ap (λ (p : Place H). p.tables) alike.places;

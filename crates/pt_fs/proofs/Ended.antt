@@ -35,7 +35,8 @@ pub started_more : (plan : Plan) (all rest : List Job) (job : Job) (run : Runnin
     IsStarted plan job run →
     ((later : List Running) → EachStarted plan (job ∷ rest) later → EachStarted plan all (running ++ later)) →
     (later : List Running) → EachStarted plan rest later → EachStarted plan all ((running ++ run ∷ []) ++ later)
-started_more plan all rest job run running started so_far later h = rw append_assoc (so_far (run ∷ later) (started, h))
+started_more plan all rest job run running started so_far later h =
+    rw append_assoc (so_far (run ∷ later) (started, h))
 
 -- the answers so far, and those of the rest
 pub answered_more : (all rest : List Running) (run : Running) (told : Answer) (answers : List Answer) →
@@ -158,8 +159,8 @@ bounded_each plan jobs running trace owing j job at =
     omega arith
 
 -- no request ends without a step, nor does an edit
-begins : (plan : Plan) (seat : HostSeat) (asked : Asked) (end : Finish) → Belongs (grammar_for plan seat asked) [] end →
-    ⊥
+begins : (plan : Plan) (seat : HostSeat) (asked : Asked) (end : Finish) →
+    Belongs (grammar_for plan seat asked) [] end → ⊥
 begins plan seat (Requests who (request.Init capable)) end b = b
 begins plan seat (Requests who request.Destroy) end b = b
 begins plan seat (Requests who request.Root) end b = b

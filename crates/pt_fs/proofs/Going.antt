@@ -128,7 +128,8 @@ goes_on does plan plan1 o0 o1 o2 h0 h1 h2 s0 s1 s2 r0 r1 r2 t0 t1 t2 same first 
 
 -- a step that was taken, where the orders before and after it agree with it
 pub goes_took : {H : Type 0} (does : Does H) (plan : Plan) (place : ℕ) (o o' : (ℕ → ℕ) →
-    List ℕ) (host host' : H) (running running' : List Running) (tables tables' : Tables) (trace trace' : List TraceStep)
+    List ℕ) (host host' : H) (running running' : List Running) (tables tables' : Tables)
+    (trace trace' : List TraceStep)
     (took : Took does plan place host running tables trace host' running' tables' trace') →
     Owns o running (took.step ∷ []) o' (slice_set running place took.run') →
     GoesOn does plan o host running tables trace o' host' running' tables' trace'

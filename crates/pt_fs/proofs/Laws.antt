@@ -53,7 +53,8 @@ use Rattle.pt_fs.specs.declared.running.Running.{Running}
 -- the seats aside, a trace is a run of its host
 pub host_runs : {H : Type 0} (does : Does H) (trace : List TraceStep) (host : H) (seats : List (Option HostSeat))
     (tables : Tables) (host' : H) (seats' : List (Option HostSeat)) (tables' : Tables) →
-    TraceRuns does trace host seats tables host' seats' tables' → HostRuns does (turns_of trace) host tables host' tables'
+    TraceRuns does trace host seats tables host' seats' tables' →
+    HostRuns does (turns_of trace) host tables host' tables'
 host_runs does [] host seats tables host' seats' tables' r = (r.0, r.2)
 host_runs does (step ∷ trace) host seats tables host' seats' tables' r =
     let at = r.3 in
@@ -238,7 +239,8 @@ keeps does faults p plan limit jobs host tables trace answers host' tables' ran 
       agree = λ so_far rest now e r. agree_law limit (turns_of so_far) now (from_empty (turns_of so_far) now r);
       gives_back = λ j job answer at told_at.
           let b = belongs_by plan job (steps_by j trace) answer (ran.answered.in_pattern j job answer at told_at) in
-          let ends = job_ends plan (job_start job) (asked_of job) (steps_by j trace) (finish.Answer answer) (told j) b in
+          let ends = job_ends plan (job_start job) (asked_of job) (steps_by j trace) (finish.Answer answer)
+          (told j) b in
           let below = slice_get_within jobs j job at in
           record {
             settled = all_settled (steps_by j trace) (finish.Answer answer) ends;
@@ -258,7 +260,8 @@ keeps does faults p plan limit jobs host tables trace answers host' tables' ran 
     }
 
 -- what is known of a whole run
-pub ran_whole : {H : Type 0} {does : Does H} {plan : Plan} {schedule : List ℕ} {h h' : H} {jobs : List Job} {running running' : List Running} {tables tables' : Tables} {trace : List TraceStep} {answers : List Answer}
+pub ran_whole : {H : Type 0} {does : Does H} {plan : Plan} {schedule : List ℕ} {h h' : H} {jobs : List Job}
+    {running running' : List Running} {tables tables' : Tables} {trace : List TraceStep} {answers : List Answer}
     → Whole does plan schedule h jobs running tables h' running' tables' trace answers →
     ((limit : ℕ) × (tables ≡ empty_tables limit)) →
     Ran does plan tables.limit jobs h tables trace answers h' tables'

@@ -32,8 +32,8 @@ use Rattle.pt_fit.specs.Entered.{IsEntered, name_asked}
 use Rattle.pt_fit.proofs.Asked.{entry_asked}
 use Rattle.pt_fit.proofs.Entered.{entry_places, entered_law}
 use Rattle.pt_fs.specs.Jobs.{job_start, job_grammar, asked_of}
-use Rattle.pt_fs.specs.Keeps.{turn_of, turns_of, AfterEachTold, LeadsOn, begins_in, KeepsObjects, ServesEach, OfEachJob}
-use Rattle.pt_fs.specs.Keeps.{IsNamedIn, NamesOpenOnes, LeavesOpen, AgreeOnNumbers, ComeFromNames}
+use Rattle.pt_fs.specs.Keeps.{turn_of, turns_of, AfterEachTold, LeadsOn, begins_in, KeepsObjects, ServesEach}
+use Rattle.pt_fs.specs.Keeps.{OfEachJob, IsNamedIn, NamesOpenOnes, LeavesOpen, AgreeOnNumbers, ComeFromNames}
 use Rattle.pt_fs.specs.Trace.{steps_by}
 use Rattle.pt_fs.specs.declared.job.Job.{Job}
 use Rattle.pt_fs.specs.declared.trace.TraceStep.{TraceStep}
@@ -161,10 +161,10 @@ agree_from : (limit bound : ℕ) (turns : List Turn) (start first second : World
     AreDisciplined bound turns → up_to two ≡ up_to one ++ between → WorldRuns start (up_to one) first →
     WorldRuns first between second → StaysLive first between number → ObjectOf first number object →
     ObjectOf second another object → another ≡ number
-agree_from limit bound turns start first second job other parent folder name child number another ids its between object
-    one two begins past (inl u) d = absurd (no_places u one)
-agree_from limit bound turns start first second job other parent folder name child number another ids its between object
-    one two begins past (inr well) d =
+agree_from limit bound turns start first second job other parent folder name child number another ids its between
+    object one two begins past (inl u) d = absurd (no_places u one)
+agree_from limit bound turns start first second job other parent folder name child number another ids its between
+    object one two begins past (inr well) d =
     two_lookups_law limit bound turns [] start first second job other parent folder name child number another ids its
     between object one two (record { tables = begins; well_formed = well; past = past }) (rw append-nil d)
 

@@ -50,5 +50,6 @@ module _ {H : Type 0} (does : Does H) (faults : H → ℕ) (p : Promises does fa
             ap (λ (s : List (Option HostSeat)). slice_get s job) at.3
             ∙ get-set_other s0 x.job job at.1 (λ q. apart.1 (sym q)) ∙ is in
             seats_at xs runs.0 h1 runs.1 s1 runs.2 r1 runs.4 job seat next
-            ∙ ap (λ b. has_seat (seat_at seat (cond b (step_of x ∷ steps_by job xs) (steps_by job xs)))) (sym apart.0))
+            ∙ ap (λ b. has_seat (seat_at seat (cond b (step_of x ∷ steps_by job xs) (steps_by job xs))))
+            (sym apart.0))
       ]

@@ -113,8 +113,8 @@ count_none : (tree : Tree) (fd : ℕ) → tree ≡ no_tree → open_count fd tre
 unfolding no_tree
 count_none tree fd e = ap (open_count fd) e
 
-made_anywhere : (deed : Option Deed) (told : ActReply) (tree : Tree) (seat : HostSeat) (tables : Tables) (later : Tree)
-    (seat' : HostSeat) (tables' : Tables) (other : Tree) → IsUncalled deed →
+made_anywhere : (deed : Option Deed) (told : ActReply) (tree : Tree) (seat : HostSeat) (tables : Tables)
+    (later : Tree) (seat' : HostSeat) (tables' : Tables) (other : Tree) → IsUncalled deed →
     Made IsLawful deed told tree seat tables later seat' tables' →
     Made IsLawful deed told other seat tables other seat' tables'
 made_anywhere (Some (Changes asked)) (Event reply) tree seat tables later seat' tables' other u m = (m.0, refl, m.2)
@@ -237,21 +237,25 @@ none_set key value f is all n = either (eqb n key)
 
 blank_by : (deed : Option Deed) (told : ActReply) (job row : ℕ) (tree : Tree) (past : Past) → IsUncalled deed →
     Blank past → Blank (settled_if past job deed told row tree)
-blank_by (Some (Changes (change.Insert era number form ids mode))) (Event (event.Inserted given)) job row tree past u b =
+blank_by (Some (Changes (change.Insert era number form ids mode)))
+    (Event (event.Inserted given)) job row tree past u b =
     record {
       numbers = none_set given (past.latest job) past.numbers (b.latest job) b.numbers;
       latest = b.latest;
       roots = b.roots;
     }
-blank_by (Some (Changes (change.InsertRoot era form ids mode agreed))) (Event (event.Inserted given)) job row tree past u b =
+blank_by (Some (Changes (change.InsertRoot era form ids mode agreed)))
+    (Event (event.Inserted given)) job row tree past u b =
     record {
       numbers = none_set given (past.roots job) past.numbers (b.roots job) b.numbers;
       latest = b.latest;
       roots = b.roots;
     }
-blank_by (Some (Changes (change.InsertHandle era handle number fd))) (Event (event.Inserted given)) job row tree past u b =
+blank_by (Some (Changes (change.InsertHandle era handle number fd)))
+    (Event (event.Inserted given)) job row tree past u b =
     record { numbers = b.numbers; latest = b.latest; roots = b.roots }
-blank_by (Some (Changes (change.Resolve number))) (Event (event.Resolved serial form ids mode)) job row tree past u b =
+blank_by (Some (Changes (change.Resolve number)))
+    (Event (event.Resolved serial form ids mode)) job row tree past u b =
     record { numbers = b.numbers; latest = b.latest; roots = b.roots }
 blank_by (Some (Changes asked)) told job row tree past u b = b
 blank_by (Some (Calls asked)) told job row tree past u b = absurd u

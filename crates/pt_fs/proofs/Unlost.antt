@@ -44,7 +44,8 @@ ends_give : (seat : HostSeat) (one : Hold) (all left : List Hold) (next : Option
     is_scope one ≡ false → EndsAnswered (next None) → EndsAnswered (give seat one all left next)
 ends_give seat one all left next e so [] end b = absurd b
 ends_give seat one all left next e so (step ∷ steps) end b =
-    ends_closings HasAnswer (closings_in (giving seat one) step.reply) left (next (fault_if (is_scope one) step.reply))
+    ends_closings HasAnswer (closings_in (giving seat one) step.reply) left
+    (next (fault_if (is_scope one) step.reply))
     (subst (λ (scope : Bool). EndsAnswered (next (fault_if scope step.reply))) (sym e) so) steps end b.1
 
 ends_leave : (seat : HostSeat) (holds : List Hold) (told : Answer) → Clear holds →

@@ -28,7 +28,8 @@ pub bounds-set : (running : List Running) (place : ℕ) (run run' : Running) →
 bounds-set [] place run run' there = cc
 bounds-set (first ∷ running) zero run run' there =
     let e : weight first ≡ weight run = ap (λ (r : Running). weight r) (same_Some first run there) in omega arith
-bounds-set (first ∷ running) (suc place) run run' there = let e = bounds-set running place run run' there in omega arith
+bounds-set (first ∷ running) (suc place) run run' there =
+    let e = bounds-set running place run run' there in omega arith
 
 -- a step that was made tells no more closings than rows went
 pub made_puts : {H : Type 0} (does : Does H) (kept : Option Deed) (told : ActReply) (host host' : H)

@@ -33,7 +33,8 @@ answer_of (finish.Lost errno) = answer.Cut
 
 -- the job owes its end alone
 abbrev pub EndsAs : Running → Answer → Type 0
-EndsAs run told = (last : Finish) × ((plan : Plan) → owes plan run.start run.state ≡ End last) × (told ≡ answer_of last)
+EndsAs run told =
+    (last : Finish) × ((plan : Plan) → owes plan run.start run.state ≡ End last) × (told ≡ answer_of last)
 
 abbrev pub EachAnswered : List Running → List Answer → Type 0
 EachAnswered [] [] = Unit {0}

@@ -119,7 +119,7 @@ pub record GivesAllBack (trace : List TraceStep) (j : ℕ) (job : Job) (told : A
   pub settled : IsSettled (steps_by j trace) (finish.Answer told)
   pub slots : slots_taken (steps_by j trace) ≡ slots_given (steps_by j trace)
 
--- a refusal has its cause, in what was asked or at a step of the job; and an edit is refused exactly where its step was
+-- a refusal has its cause, in what was asked or at a step of the job; an edit is refused exactly where its step was
 abbrev pub IsCausedIn : List TraceStep → ℕ → Job → Answer → Type 0
 IsCausedIn trace j job told = IsCausedBy (asked_of job) (steps_by j trace) told
 

@@ -204,7 +204,8 @@ report_same : (trace trace' : List TraceStep) (answers answers' : List Answer)
     handles ≡ handles' →
     report_of trace answers lives handles tables host ≡ report_of trace' answers' lives' handles' tables' host'
 report_same trace trace' answers answers' lives lives' handles handles' seats seats' tables tables' host host' one l
-    h = λ i. report_of (one.traces i) (one.answered i) (l i) (h i) (one.left i) (one.hosts i)
+    h =
+    λ i. report_of (one.traces i) (one.answered i) (l i) (h i) (one.left i) (one.hosts i)
 
 determined : (bytes report other : List ℕ) (ran : IsReportOf bytes report) (again : IsReportOf bytes other) →
     IsFull ran → IsFull again → report ≡ other

@@ -9,8 +9,7 @@ use Rattle.pt_fs.specs.declared.trace.TraceStep.{TraceStep}
 use Rattle.pt_run.specs.Run.{IsReportOf, IsReportFrom, report_of}
 
 -- The runs are alike in all that is printed of them: their steps in order, answers, live numbers and handles, the
--- slots
--- that are left, and the listing of the host's tree.
+-- slots that are left, and the listing of the host's tree.
 pub record AreAlike
     {bytes report bytes' report' : List ℕ}
     (ran : IsReportOf bytes report)

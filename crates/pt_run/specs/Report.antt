@@ -10,8 +10,8 @@ use Rattle.pt_show.specs.AnswerTexts.{answer_text}
 
 -- `step JOB ACT = REPLY`
 abbrev pub step_line : ℕ → KeptAct → ActReply → List ℕ
-step_line job act reply = ended
-    (codes "step" ++ number_text job ++ act_text act ++ codes " =" ++ act_reply_text reply)
+step_line job act reply =
+    ended (codes "step" ++ number_text job ++ act_text act ++ codes " =" ++ act_reply_text reply)
 
 abbrev pub step_lines : List TraceStep → List ℕ
 step_lines [] = []

@@ -9,8 +9,7 @@ abbrev pub word : List ℕ → List ℕ
 word bytes = 32 ∷ bytes
 
 -- A number in decimal, whatever its size: it has no more digits than it has units and one. std's `decimal` is the
--- same
--- of a number of up to 64 digits.
+-- same of a number of up to 64 digits.
 unfoldable pub all_digits : ℕ → List ℕ
 all_digits n = digits_onto (suc n) 10 false n []
 

@@ -1,4 +1,5 @@
-use Rattle.std.proofs.Common.{◌≡◌, suc, List, ◌∷◌, ◌++◌, ◌∙◌, length, map, [], append-nil, append_assoc, sym, ap, arith}
+use Rattle.std.proofs.Common.{◌≡◌, suc, List, ◌∷◌, ◌++◌, ◌∙◌, length, map, [], append-nil, append_assoc, sym, ap}
+use Rattle.std.proofs.Common.{arith}
 use Rattle.std.proofs.lemmas.List.{length-append}
 use Rattle.std.specs.Vec.Iter.{into_iter_items}
 use Rattle.pt_host.specs.declared.seat.HostSeat.{HostSeat}

@@ -50,7 +50,8 @@ returns g c =
     let lawful : Tells g.H.Host.does g.H.Host.tree =
     λ from seat asked reply to seat_after made before at. let l =
     g.met.H.Host.lawful from seat asked reply to seat_after made before at in (l.0, l.1, l.2) in
-    let told = keeps_told g.H.Host.does g.H.Host.tree g.H.Host.faults g.met.H.Host.promised lawful _ _ _ _ _ trace _ _ _ ran in
+    let told = keeps_told g.H.Host.does g.H.Host.tree g.H.Host.faults g.met.H.Host.promised lawful _ _ _ _ _ trace _
+    _ _ ran in
     let running = c.in-Ok.started.0.items in
     let bounds = started_bounds _ jobs running c.in-Ok.ensures.started in
     let none = ap pending_in c.requires.new.1 in

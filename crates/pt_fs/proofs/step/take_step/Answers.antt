@@ -31,14 +31,22 @@ returns-clause-took g c =
       fewer = c.advance-act.ensures.fewer;
       within = c.advance-act.ensures.within;
       spent = advance_falls g.H.Host.does c.args.place
-          (kept_deed_of c.advance-act.result.0) c.advance-act.result.1 c.args.host.now c.advance-act.new.host c.args.running.now (get_or c.args.running.now c.args.place c.index-running-place.result) c.advance-act.new.running (g.F.SteppedFs.tables c.args.fs.now) (g.F.SteppedFs.tables c.advance-act.new.fs) c.advance-act.new.running.seat there c.advance-act.ensures.made c.advance-act.ensures.within c.advance-act.ensures.inserts;
+          (kept_deed_of c.advance-act.result.0) c.advance-act.result.1 c.args.host.now c.advance-act.new.host
+          c.args.running.now (get_or c.args.running.now c.args.place c.index-running-place.result)
+          c.advance-act.new.running (g.F.SteppedFs.tables c.args.fs.now)
+          (g.F.SteppedFs.tables c.advance-act.new.fs) c.advance-act.new.running.seat there c.advance-act.ensures.made
+          c.advance-act.ensures.within c.advance-act.ensures.inserts;
     }
 
 pub push_within-requires : goal.push_within-requires
 push_within-requires g c =
     let there = slice_get-get_or c.args.running.now c.args.place c.index-running-place.result c.requires.named in
     let falls = advance_falls g.H.Host.does c.args.place
-    (kept_deed_of c.advance-act.result.0) c.advance-act.result.1 c.args.host.now c.advance-act.new.host c.args.running.now (get_or c.args.running.now c.args.place c.index-running-place.result) c.advance-act.new.running (g.F.SteppedFs.tables c.args.fs.now) (g.F.SteppedFs.tables c.advance-act.new.fs) c.advance-act.new.running.seat there c.advance-act.ensures.made c.advance-act.ensures.within c.advance-act.ensures.inserts in
+    (kept_deed_of c.advance-act.result.0) c.advance-act.result.1 c.args.host.now c.advance-act.new.host
+    c.args.running.now (get_or c.args.running.now c.args.place c.index-running-place.result)
+    c.advance-act.new.running (g.F.SteppedFs.tables c.args.fs.now)
+    (g.F.SteppedFs.tables c.advance-act.new.fs) c.advance-act.new.running.seat there c.advance-act.ensures.made
+    c.advance-act.ensures.within c.advance-act.ensures.inserts in
     let room = c.requires.room in
     omega arith
 
@@ -46,7 +54,11 @@ pub returns-clause-room : goal.returns-clause-room
 returns-clause-room g c =
     let there = slice_get-get_or c.args.running.now c.args.place c.index-running-place.result c.requires.named in
     let falls = advance_falls g.H.Host.does c.args.place
-    (kept_deed_of c.advance-act.result.0) c.advance-act.result.1 c.args.host.now c.advance-act.new.host c.args.running.now (get_or c.args.running.now c.args.place c.index-running-place.result) c.advance-act.new.running (g.F.SteppedFs.tables c.args.fs.now) (g.F.SteppedFs.tables c.advance-act.new.fs) c.advance-act.new.running.seat there c.advance-act.ensures.made c.advance-act.ensures.within c.advance-act.ensures.inserts in
+    (kept_deed_of c.advance-act.result.0) c.advance-act.result.1 c.args.host.now c.advance-act.new.host
+    c.args.running.now (get_or c.args.running.now c.args.place c.index-running-place.result)
+    c.advance-act.new.running (g.F.SteppedFs.tables c.args.fs.now)
+    (g.F.SteppedFs.tables c.advance-act.new.fs) c.advance-act.new.running.seat there c.advance-act.ensures.made
+    c.advance-act.ensures.within c.advance-act.ensures.inserts in
     let room = c.requires.room in
     let grown = c.push_within.ensures.capacity in
     let long = ap length c.push_within.ensures.items in
