@@ -21,7 +21,8 @@ loop-run-preserved c =
     let rest_seats = seated (map run_seat (into_iter_items c.next.new.self)) in
     record {
       answers = rw c.push_within.ensures.items
-          (answered_more _ _ run c.answered.result _ (c.finish.result, c.finish.ensures, c.answered.ensures)
+          (answered_more _ _ run c.answered.result _
+          (c.finish.result, (λ plan. c.finish.ensures.left plan run.start), c.answered.ensures)
           (rw is at c.loop-run.invariant.answers));
       seats = rw c.push_seat.ensures.items (
           append_assoc c.loop-run.seats.items (seated (run.seat ∷ [])) rest_seats
