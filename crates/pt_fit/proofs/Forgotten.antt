@@ -6,13 +6,15 @@ use Rattle.pt_host.specs.Flags.{o_directory}
 use Rattle.pt_host.specs.declared.seat.HostSeat.{HostSeat}
 use Rattle.pt_session.specs.Change.{Change, HoldsList}
 use Rattle.pt_session.specs.Tables.{Tables, HasNumber, Agree, empty_tables}
-use Rattle.pt_session.specs.Happens.{Happens, NoRow}
+use Rattle.pt_session.specs.Happens.{Happens}
+use Rattle.pt_session.specs.Rows.{NoRow}
 use Rattle.pt_session.specs.declared.form.Negotiated.{Negotiated}
 use Rattle.pt_session.specs.declared.form.RowForm.TheVariants.{File}
 use Rattle.pt_session.specs.declared.event.KeptEvent.TheVariants as change
 use Rattle.pt_session.specs.declared.reply.EventReply.{EventReply}
 use Rattle.pt_session.specs.declared.reply.EventReply.TheVariants as event
 use Rattle.pt_session.specs.declared.reply.EventRefusal.TheVariants.{NotLive}
+use Rattle.pt_session.proofs.Cases.{Case, cases}
 use Rattle.pt_iface.specs.declared.answer.Answer.TheVariants as answer
 use Rattle.pt_iface.specs.declared.request.Context.{Context}
 use Rattle.pt_iface.specs.declared.request.Request.{Request}
@@ -30,8 +32,8 @@ use Rattle.pt_req.specs.Entries.{is_bad_name}
 use Rattle.pt_req.specs.Options.{with_bits, cleaned, inode_flags, open_options}
 use Rattle.pt_req.specs.Parts.{by_path, file_of, numbered, looked_of, look_up, open_row}
 use Rattle.pt_req.specs.Requests.{lookup, open_file, tree_of}
-use Rattle.pt_req.specs.Steps.{session_of, begin, on_began, Resolved, resolve, on_resolved, open_at, stat, draw_handle}
-use Rattle.pt_req.specs.Steps.{take_fd, insert_handle}
+use Rattle.pt_req.specs.Steps.{session_of, begin, on_began, Resolved, resolve, on_resolved, open_at, stat}
+use Rattle.pt_req.specs.Steps.{draw_handle, take_fd, insert_handle}
 use Rattle.pt_req.specs.declared.begun.BegunSession.{BegunSession}
 use Rattle.pt_req.specs.declared.plan.Plan.{Plan}
 use Rattle.pt_attr.specs.Pattern.{grammar_of}
@@ -44,7 +46,7 @@ use Rattle.pt_law.proofs.Interleaving.{tables_split}
 use Rattle.pt_law.proofs.Laws.{agree_law}
 use Rattle.pt_law.proofs.Reliance.{stays_gone, inserted_append, refused_law}
 use Rattle.pt_fit.specs.Uses.{IsOn}
-use Rattle.pt_fit.proofs.Straight.{follows_plain}
+use Rattle.pt_fit.proofs.Leading.{follows_plain}
 
 abbrev gone : ActReply
 gone = Event (event.Refused NotLive)
@@ -59,10 +61,15 @@ happened e (Some same) (Event r) t t' bare is go = (r, refl, subst (λ d. Tables
 happened e (Some same) (Host r) t t' bare is go = absurd (subst (λ d. TablesGo t (Some d) (Host r) t') is go)
 happened e (Some same) NoCopy t t' bare is go = absurd (subst (λ d. TablesGo t (Some d) NoCopy t') is.0 go)
 
+begun_as : (t t' : Tables) (r : EventReply) → Case t change.Begin r t' →
+    (era : ℕ) × (agreed : Negotiated) × (r ≡ event.Began era agreed)
+begun_as t t' (event.Began era agreed) h = (era, agreed, refl)
+begun_as t t' (event.Refused why) h = absurd h.0
+begun_as t t' r h = absurd h
+
 began : (t t' : Tables) (r : EventReply) → Happens t change.Begin r t' →
     (era : ℕ) × (agreed : Negotiated) × (r ≡ event.Began era agreed)
-began t t' (event.Began era agreed) h = (era, agreed, refl)
-began t t' r h = absurd h
+began t t' r h = begun_as t t' r (cases t t' change.Begin r h)
 
 -- what follows an act of a job that holds nothing and is told no closings
 follows : (seat : HostSeat) (deed : Deed) (next : ActReply → Tree) (marks : List ℕ) (step : Step) (steps : List Step)

@@ -10,6 +10,7 @@ use Rattle.pt_iface.specs.declared.answer.Answer.{Answer}
 use Rattle.pt_iface.specs.declared.answer.Answer.TheVariants as answer
 use Rattle.pt_frame.specs.Deed.{Deed, Calls, Changes, Step, IsStepOf, lacks_memory, LacksMemory}
 use Rattle.pt_frame.specs.Held.{is_scope, held, opened}
+use Rattle.pt_frame.specs.Memory.{RanOut}
 use Rattle.pt_frame.specs.Replies.{closings_in, taken_in, restored, refusal, passes_with, is_cut, fault_if}
 use Rattle.pt_frame.specs.Grammar.{Grammar, End, Belongs}
 use Rattle.pt_frame.specs.Frame.{giving, closings, give_taken, give, leave, or_lost, bare_one, bare, shut, front}
@@ -25,7 +26,7 @@ use Rattle.pt_frame.specs.declared.hold.Hold.{Hold}
 use Rattle.pt_frame.specs.declared.hold.Hold.TheVariants as hold
 use Rattle.pt_frame.specs.declared.hold.Taken.{Taken}
 use Rattle.pt_frame.specs.declared.hold.Taken.TheVariants as taken
-use Rattle.pt_law.specs.Branch.{Along, AllocatesAfter, ReturnsHold, AreOwn, AreOwn.{none, keep, skip}, SomeLacks}
+use Rattle.pt_law.specs.Branch.{Along, AllocatesAfter, ReturnsHold, AreOwn, AreOwn.{none, keep, skip}}
 use Rattle.pt_law.specs.Branch.{IsLost}
 use Rattle.pt_law.specs.Branch.{AreFirst, AreFirst.{stop, next as first_next, pass}, GaveUp, IsOfBranch}
 
@@ -52,7 +53,7 @@ giving_gives seat hold.Umask = tt
 pub record Backs (later steps : List Step) : Type 0 where
   pub own : (path : List Step) → AreOwn path later → AreOwn path steps
   pub first : (path : List Step) → AreFirst path later → AreFirst path steps
-  pub lacks : SomeLacks later → SomeLacks steps
+  pub lacks : RanOut later → RanOut steps
 
 backs_none : (steps : List Step) → Backs steps steps
 backs_none steps = record { own = λ path s. s; first = λ path s. s; lacks = λ l. l }
@@ -317,8 +318,8 @@ comes_after tree next step later steps end f g b (inl lost) = inl lost
 comes_after tree next step later steps end f g b (inr (inl up)) =
     inr (inl (record { answered = up.answered; why = why up.why }))
   where
-    why : SomeLacks later ⊎ ((path : List Step) × AreFirst path later × AllocatesAfter next path) →
-        SomeLacks (step ∷ steps) ⊎ ((path : List Step) × AreFirst path (step ∷ steps) × AllocatesAfter tree path)
+    why : RanOut later ⊎ ((path : List Step) × AreFirst path later × AllocatesAfter next path) →
+        RanOut (step ∷ steps) ⊎ ((path : List Step) × AreFirst path (step ∷ steps) × AllocatesAfter tree path)
     why (inl l) = inl (inr (b.lacks l))
     why (inr a) = inr (step ∷ a.0, first_next (b.first a.0 a.1), g a.0 a.2)
 comes_after tree next step later steps end f g b (inr (inr r)) =
@@ -333,8 +334,8 @@ comes_still tree next later steps end f g b (inl lost) = inl lost
 comes_still tree next later steps end f g b (inr (inl up)) =
     inr (inl (record { answered = up.answered; why = why up.why }))
   where
-    why : SomeLacks later ⊎ ((path : List Step) × AreFirst path later × AllocatesAfter next path) →
-        SomeLacks steps ⊎ ((path : List Step) × AreFirst path steps × AllocatesAfter tree path)
+    why : RanOut later ⊎ ((path : List Step) × AreFirst path later × AllocatesAfter next path) →
+        RanOut steps ⊎ ((path : List Step) × AreFirst path steps × AllocatesAfter tree path)
     why (inl l) = inl (b.lacks l)
     why (inr a) = inr (a.0, b.first a.0 a.1, g a.0 a.2)
 comes_still tree next later steps end f g b (inr (inr r)) =
@@ -346,7 +347,7 @@ gives_up : (tree next : Tree) (step : Step) (steps : List Step) (end : Finish) �
     may_give_up step.reply next ≡ true → Ended (finish.Answer answer.NoMemory) end → Comes tree (step ∷ steps) end
 gives_up tree next step steps end g m (inl e) = inr (inl (record { answered = e; why = why }))
   where
-    why : SomeLacks (step ∷ steps) ⊎ ((path : List Step) × AreFirst path (step ∷ steps) × AllocatesAfter tree path)
+    why : RanOut (step ∷ steps) ⊎ ((path : List Step) × AreFirst path (step ∷ steps) × AllocatesAfter tree path)
     why = elim (why_gave_up step.reply next m) [
       | inl l ↦ inl (inl l)
       | inr a ↦ inr (step ∷ [], first_next stop, g [] (allocates_now next a))

@@ -6,6 +6,7 @@ use Rattle.pt_host.specs.declared.ids.Errno.{Errno}
 use Rattle.pt_host.specs.declared.seat.HostSeat.{HostSeat}
 use Rattle.pt_frame.specs.Deed.{Step, lacks_memory, LacksMemory}
 use Rattle.pt_frame.specs.Held.{is_scope, held, opened}
+use Rattle.pt_frame.specs.Memory.{RanOut}
 use Rattle.pt_frame.specs.Replies.{closings_in, taken_in, restored, refusal, passes_with, fault_if}
 use Rattle.pt_frame.specs.Grammar.{Grammar, End, Do, May}
 use Rattle.pt_frame.specs.Frame.{giving, closings, give_taken, give, leave, or_lost, bare_one, bare, shut, front}
@@ -20,7 +21,7 @@ use Rattle.pt_frame.specs.declared.hold.Hold.{Hold}
 use Rattle.pt_frame.specs.declared.hold.Taken.{Taken}
 use Rattle.pt_frame.specs.declared.hold.Taken.TheVariants as taken
 use Rattle.pt_law.specs.Told.{MayBeTold, AllMayBeTold}
-use Rattle.pt_law.specs.Branch.{TakesNone, SomeLacks}
+use Rattle.pt_law.specs.Branch.{TakesNone}
 use Rattle.pt_law.proofs.Moving.{told_of}
 
 -- by replies that may come it gives up only where one lacks memory
@@ -30,7 +31,7 @@ Lasting (Do deed owed next) = (told : ActReply) → MayBeTold deed told → (Lac
 Lasting (May one other) = ⊥
 
 in_full : (seat : HostSeat) (grammar : Grammar) (so_far steps : List Step) (end : Finish) → Lasting grammar →
-    AllMayBeTold so_far → (SomeLacks so_far → ⊥) → CutAfter seat grammar so_far steps end →
+    AllMayBeTold so_far → (RanOut so_far → ⊥) → CutAfter seat grammar so_far steps end →
     CutInFull seat grammar so_far steps end
 in_full seat (End last) so_far steps end g t n b = absurd b
 in_full seat (Do deed owed next) [] steps end g t n b = b
@@ -145,7 +146,7 @@ framed_lasts seat (Shuts passes rest) holds marks s =
 framed_lasts seat (Allocates rest) holds marks s = absurd s
 
 pub cut_in_full : (seat : HostSeat) (tree : Tree) (so_far steps : List Step) (end : Finish) → TakesNone tree →
-    AllMayBeTold so_far → (SomeLacks so_far → ⊥) → CutAfter seat (grammar_of_tree seat tree) so_far steps end →
+    AllMayBeTold so_far → (RanOut so_far → ⊥) → CutAfter seat (grammar_of_tree seat tree) so_far steps end →
     CutInFull seat (grammar_of_tree seat tree) so_far steps end
 cut_in_full seat tree so_far steps end s t n b =
     in_full seat (grammar_of_tree seat tree) so_far steps end (framed_lasts seat tree [] [] s) t n b

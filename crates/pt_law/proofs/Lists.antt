@@ -63,10 +63,6 @@ pub none_weighs : {X : Type 0} (w : X → ℕ) (xs : List X) → total w xs ≡ 
 none_weighs w [] h = tt
 none_weighs w (x ∷ xs) h = (omega arith, none_weighs w xs (omega arith))
 
-pub weighs_none : {X : Type 0} (w : X → ℕ) (xs : List X) → Each (λ x. w x ≡ 0) xs → total w xs ≡ 0
-weighs_none w [] h = refl
-weighs_none w (x ∷ xs) h = let k = weighs_none w xs h.1 in omega (arith, k, h.0)
-
 pub is_same : (a : ℕ) → is a a ≡ 1
 unfolding is
 is_same a = grind arith

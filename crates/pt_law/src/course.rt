@@ -5,6 +5,7 @@ ghost use Rattle.pt_frame.specs.Deed.{Deed, Step};
 ghost use Rattle.pt_frame.specs.Frame.{CutAfter, CutInFull};
 ghost use Rattle.pt_frame.specs.Grammar.{Belongs};
 ghost use Rattle.pt_frame.specs.Made.{Made, RunsAlone};
+ghost use Rattle.pt_frame.specs.Memory.{RanOut};
 ghost use Rattle.pt_frame.specs.Seats.{seat_at, seat_by};
 ghost use Rattle.pt_frame.specs.Tree.{Tree, grammar_of_tree};
 ghost use Rattle.pt_frame.specs.declared.act.ActReply.{ActReply};
@@ -12,7 +13,7 @@ ghost use Rattle.pt_frame.specs.declared.finish.Finish.{Finish};
 ghost use Rattle.pt_law.specs.Discipline.{idle, blank, ComesToEnd};
 ghost use Rattle.pt_law.specs.Told.{StepMayBeTold, AllMayBeTold};
 ghost use Rattle.pt_law.specs.Keeps.{Keeps};
-ghost use Rattle.pt_law.specs.Branch.{TakesNone, SomeLacks, IsLost, GaveUp, IsOfBranch};
+ghost use Rattle.pt_law.specs.Branch.{TakesNone, IsLost, GaveUp, IsOfBranch};
 ghost use Rattle.pt_law.specs.Settled.{IsSettled};
 
 use pt_host::Host;
@@ -28,7 +29,7 @@ pub fn any_course()
         Keeps tree [] [] blank → AllMayBeTold so_far → AllMayBeTold steps →
         CutAfter seat (grammar_of_tree seat tree) so_far steps end → ComesToEnd idle (so_far ++ steps) end }
     ensures full { (seat : HostSeat) (tree : Tree) (so_far steps : List Step) (end : Finish) → TakesNone tree →
-        AllMayBeTold so_far → (SomeLacks so_far → ⊥) →
+        AllMayBeTold so_far → (RanOut so_far → ⊥) →
         CutAfter seat (grammar_of_tree seat tree) so_far steps end →
         CutInFull seat (grammar_of_tree seat tree) so_far steps end }
     ensures branch { (seat : HostSeat) (tree : Tree) (steps : List Step) (end : Finish) →
