@@ -1,5 +1,5 @@
 -- The laws of whole runs that speak of objects, read for a trace over a host that tells its tree.
-use Rattle.std.proofs.Common.{◌≡◌, ◌⊎◌, inl, inr, ◌++◌, ◌∙◌, ℕ, List, [], ◌∷◌, Option, Some, ap, sym, subst, refl}
+use Rattle.std.proofs.Common.{◌≡◌, ◌⊎◌, inl, inr, ◌++◌, ◌∙◌, ℕ, List, [], ◌∷◌, Option, Some, ap, subst, refl}
 use Rattle.std.proofs.Common.{length, append-nil}
 use Rattle.pt_host.specs.declared.ids.ObjIds.{ObjIds}
 use Rattle.pt_host.specs.Tree.{Tree, IsWellFormed}
@@ -30,7 +30,8 @@ use Rattle.pt_law.proofs.Told.{Promises}
 use Rattle.pt_law.proofs.Tracing.{origins_law}
 use Rattle.pt_fit.specs.Entered.{IsEntered, name_asked}
 use Rattle.pt_fit.proofs.Asked.{entry_asked}
-use Rattle.pt_fit.proofs.Entered.{entry_places, entered_law}
+use Rattle.pt_fit.proofs.Entered.{look_places, entered_law}
+use Rattle.pt_fit.proofs.Looking.{looked_up}
 use Rattle.pt_fs.specs.Jobs.{job_start, job_grammar, asked_of}
 use Rattle.pt_fs.specs.Keeps.{turn_of, turns_of, AfterEachTold, LeadsOn, begins_in, KeepsObjects, ServesEach}
 use Rattle.pt_fs.specs.Keeps.{OfEachJob, IsNamedIn, NamesOpenOnes, LeavesOpen, AgreeOnNumbers, ComeFromNames}
@@ -69,7 +70,8 @@ entered_from limit plan jobs start turns j job who parent name entry begins past
     (finish.Answer (answer.Entry entry))) asked b in
     elim known [
       | inl u ↦
-          let places = entry_places plan (job_start job) who turns j parent name entry looked in
+          let e = looked_up plan (job_start job) who parent name entry (steps_of j turns) looked in
+          let places = look_places plan turns j parent name entry e.0 e.1 [] e.2 e.3 e.4 e.5 in
           absurd (no_places u places.given)
       | inr well ↦ entered_law limit (length jobs) plan (job_start job) who turns start j parent name entry
           (record { tables = begins; well_formed = well; past = past }) disciplined looked

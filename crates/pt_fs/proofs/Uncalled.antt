@@ -1,6 +1,6 @@
 -- A host's call that is made tells that its tree was well formed from the start on. Where none is made, no descriptor
 -- is opened, so no row is inserted, and nothing is said of objects.
-use Rattle.std.proofs.Common.{◌≡◌, ◌⊎◌, inl, inr, ◌∙◌, ℕ, ◌+◌, Bool, true, false, cond, eqb, List, [], ◌∷◌, ◌++◌}
+use Rattle.std.proofs.Common.{◌≡◌, ◌⊎◌, inl, inr, ◌∙◌, ℕ, Bool, true, false, cond, eqb, List, [], ◌∷◌, ◌++◌}
 use Rattle.std.proofs.Common.{Option, Some, None, refl, ap, sym, subst, arith}
 use Rattle.pt_host.specs.Words.{Each, set_at, total}
 use Rattle.pt_host.specs.Tree.{Tree, IsOpenOn, IsWellFormed}
@@ -21,8 +21,8 @@ use Rattle.pt_law.specs.Giving.{GivingPlaces}
 use Rattle.pt_law.specs.Discipline.{AreDisciplined, AreEnded}
 use Rattle.pt_law.specs.Laws.{AreKept, LeavesRows, NamesOpen, Starts}
 use Rattle.pt_law.specs.Ledger.{kept_fds, open_count, row_has, handle_has}
-use Rattle.pt_law.specs.Naming.{NamePlaces, resolving, opening}
-use Rattle.pt_law.specs.World.{Turn, turn_by, World, Past, no_past, settled_if, IsLawful, Goes, Runs}
+use Rattle.pt_law.specs.Naming.{resolving, opening}
+use Rattle.pt_law.specs.World.{Turn, turn_by, World, Past, no_past, settled_if, IsLawful, Runs}
 use Rattle.pt_law.proofs.Laws.{object_law, handles_law, kept_law, leaves_law}
 use Rattle.pt_law.proofs.Lists.{each_front}
 use Rattle.pt_fs.specs.Keeps.{KeepsObjects}

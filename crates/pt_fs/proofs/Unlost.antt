@@ -7,14 +7,12 @@ use Rattle.pt_host.specs.declared.ids.Errno.{Errno}
 use Rattle.pt_host.specs.declared.seat.HostSeat.{HostSeat}
 use Rattle.pt_iface.specs.declared.answer.Answer.{Answer}
 use Rattle.pt_iface.specs.declared.answer.Answer.TheVariants as answer
-use Rattle.pt_iface.specs.declared.request.Context.{Context}
-use Rattle.pt_iface.specs.declared.request.Request.{Request}
 use Rattle.pt_frame.specs.Deed.{Deed, Calls, Changes, Step}
 use Rattle.pt_frame.specs.Determined.{EndsSo}
 use Rattle.pt_frame.specs.Edit.{edit_answer}
-use Rattle.pt_frame.specs.Frame.{giving, closings, give, leave, or_lost, shut, front, behind, under, mark_in, outer}
+use Rattle.pt_frame.specs.Frame.{giving, give, leave, or_lost, shut, front, behind, under, mark_in, outer}
 use Rattle.pt_frame.specs.Frame.{answered_by}
-use Rattle.pt_frame.specs.Grammar.{Grammar, End, Belongs}
+use Rattle.pt_frame.specs.Grammar.{Grammar, End, Do, Belongs, Owed, owing}
 use Rattle.pt_frame.specs.Held.{is_scope, held}
 use Rattle.pt_frame.specs.Replies.{closings_in, fault_if, restored, refusal, passes_with}
 use Rattle.pt_frame.specs.Tended.{Wears, WearsTop}
@@ -24,6 +22,7 @@ use Rattle.pt_frame.specs.declared.act.ActReply.{ActReply}
 use Rattle.pt_frame.specs.declared.finish.Finish.{Finish}
 use Rattle.pt_frame.specs.declared.finish.Finish.TheVariants as finish
 use Rattle.pt_frame.specs.declared.hold.Hold.{Hold}
+use Rattle.pt_frame.specs.declared.hold.Taken.TheVariants.{Nothing}
 use Rattle.pt_frame.proofs.Ending.{ends_closings}
 use Rattle.pt_frame.proofs.Tending.{wears_held}
 use Rattle.pt_req.specs.declared.plan.Plan.{Plan}
@@ -78,6 +77,11 @@ ends_shut seat passing mark (one ∷ holds) next c so =
     (ends_give seat one (under passing (one ∷ holds)) (under passing holds) (λ fault.
     or_lost seat fault (under passing holds) (shut seat passing mark holds next)) rest.0
     (ends_shut seat passing mark holds next rest.1 so)) (so (under passing (one ∷ holds)) c)
+
+ends_do : (deed : Deed) (owed : Owed) (next : ActReply → Grammar) → ((told : ActReply) → EndsAnswered (next told)) →
+    EndsAnswered (Do deed owed next)
+ends_do deed owed next so [] end b = absurd b
+ends_do deed owed next so (step ∷ steps) end b = so step.reply steps end b.1
 
 ends_last : (last : Answer) → EndsAnswered (End (finish.Answer last))
 ends_last last [] end b = (last, b)
@@ -144,13 +148,14 @@ ends_framed : (seat : HostSeat) (tree : Tree) (holds : List Hold) (marks : List 
     EndsAnswered (framed seat tree holds marks)
 ends_framed seat (Gives last) holds marks q c = ends_answered seat (passes_with last) holds last c
 ends_framed seat (Refuses told) holds marks q c = ends_leave seat holds (refusal told) c
-ends_framed seat (Asks deed next) holds marks q c [] end b = absurd b
-ends_framed seat (Asks deed next) holds marks q c (step ∷ steps) end b =
-    let told = step.reply in
+ends_framed seat (Asks deed next) holds marks q c =
+    ends_do deed (owing false Nothing 0 holds) (λ told.
+    follows seat (may_give_up told (next told)) (closings_in deed told) (held deed told holds)
+    (framed seat (next told) (held deed told holds) marks)) (λ told.
     let left = clear_held deed told seat holds c in
     ends_follows seat (may_give_up told (next told)) (closings_in deed told) (held deed told holds)
     (framed seat (next told) (held deed told holds) marks) left
-    (ends_framed seat (next told) (held deed told holds) marks (q told) left) steps end b.1
+    (ends_framed seat (next told) (held deed told holds) marks (q told) left))
 ends_framed seat (Opens asked scope next) holds marks q c = absurd q
 ends_framed seat (Bares rest) holds marks q c = absurd q
 ends_framed seat (Brackets rest) holds marks q c = ends_framed seat rest holds (length holds ∷ marks) q c

@@ -1,5 +1,8 @@
 use crate::one_directory::OneDirectory;
-use pt_fit::{all_answered, asked_ends, each_request, edit_ends, gone_number, lookup_opens};
+use pt_fit::{
+    all_answered, asked_ends, each_request, edit_ends, gone_number, lookup_opens, part_looks_up,
+    places_of_entry,
+};
 use pt_fs::{seats_follow, turns_are_determined};
 use pt_law::{
     any_course, every_host, every_run, every_told_run, forgotten_nothing, forgotten_number,
@@ -26,6 +29,8 @@ fn the_laws_hold_with_no_premise() {
     asked_ends();
     edit_ends();
     lookup_opens();
+    part_looks_up();
+    places_of_entry();
     any_course();
     steps_told::<OneDirectory>();
     steps_seated::<OneDirectory>();
