@@ -88,8 +88,14 @@ StaysOpen tree after fd = (opened : Opened) × (tree.opened fd ≡ Some opened) 
 abbrev pub begun : OpenFlags → Description
 begun flags = record { position = 0; access = bit_and flags.0 3 }
 
-pub record LawfulContents (tree : Tree) (before : Contents) (asked : Call) (told : HostReply) (tree_after : Tree)
-    (after : Contents) : Type 0 where
+pub record LawfulContents
+    (tree : Tree)
+    (before : Contents)
+    (asked : Call)
+    (told : HostReply)
+    (tree_after : Tree)
+    (after : Contents)
+    : Type 0 where
   pub objects : (object : ℕ) → object < length tree.objects →
       ObjectLeft asked told (before.objects object) (after.objects object)
   pub positions : (fd : ℕ) → StaysOpen tree tree_after fd →
