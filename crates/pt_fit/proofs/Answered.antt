@@ -8,7 +8,7 @@ use Rattle.pt_req.specs.declared.plan.Plan.{Plan}
 use Rattle.pt_attr.specs.Pattern.{Asked}
 use Rattle.pt_law.specs.Told.{AllMayBeTold}
 use Rattle.pt_law.specs.World.{World, Turn, Runs, HostRuns, steps_of}
-use Rattle.pt_law.specs.Laws.{AreEnded}
+use Rattle.pt_law.specs.Discipline.{AreEnded}
 use Rattle.pt_law.proofs.Told.{Promises}
 use Rattle.pt_law.proofs.Hosts.{hosts_told, run_told}
 use Rattle.pt_fit.specs.Answered.{AreAnswered}

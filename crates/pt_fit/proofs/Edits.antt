@@ -1,6 +1,6 @@
 -- An edit's job: one step, which moves nothing that a job holds, and an answer that is its reply's.
-use Rattle.std.proofs.Common.{◌≡◌, ◌⊎◌, ◌↔◌, inl, inr, List, [], ◌∷◌, ◌++◌, refl, sym, ap, subst, ◌∙◌, length, Option, Some}
-use Rattle.std.proofs.Common.{None}
+use Rattle.std.proofs.Common.{◌≡◌, ◌⊎◌, ◌↔◌, inl, inr, List, [], ◌∷◌, ◌++◌, refl, sym, ap, subst, ◌∙◌, length}
+use Rattle.std.proofs.Common.{Option, Some, None}
 use Rattle.pt_host.specs.declared.edit.Edit.{Edit}
 use Rattle.pt_host.specs.declared.ids.Errno.{Errno}
 use Rattle.pt_host.specs.declared.op.KeptHostOp.TheVariants as call
@@ -34,7 +34,8 @@ holds_none told = refl
 
 moves_none : (edit : Edit) (made : Option Deed) (told : ActReply) → IsStepOf (Calls (call.Edit edit)) made told →
     MovesIf idle made told idle
-moves_none edit (Some same) NoCopy i = subst (λ (d : Deed). MovesBy idle d NoCopy idle) (sym i.0) ((tt, refl), tt, refl, refl)
+moves_none edit (Some same) NoCopy i =
+    subst (λ (d : Deed). MovesBy idle d NoCopy idle) (sym i.0) ((tt, refl), tt, refl, refl)
 moves_none edit (Some same) (Host told) i =
     subst (λ (d : Deed). MovesBy idle d (Host told) idle) (sym i) ((tt, refl), tt, refl, refl)
 moves_none edit (Some same) (Event told) i =
@@ -85,7 +86,8 @@ pub edit_caused : (edit : Edit) (steps : List Step) (last : Answer) →
 edit_caused edit [] last b errno = absurd b
 edit_caused edit (step ∷ []) last b errno =
     let is : last ≡ edit_answer step.reply = answered_as last (edit_answer step.reply) b.1 in (
-      (λ e. let by = refused_by step.reply errno (sym is ∙ e) in (made_by edit step.deed step.reply errno b.0 by, by)),
+      (λ e. let by = refused_by step.reply errno (sym is ∙ e) in
+          (made_by edit step.deed step.reply errno b.0 by, by)),
       (λ c. is ∙ refuses step.reply errno c.1),
     )
 edit_caused edit (step ∷ more ∷ steps) last b errno = absurd b.1

@@ -26,8 +26,8 @@ use Rattle.pt_attr.specs.Pattern.{grammar_of}
 use Rattle.pt_frame.specs.declared.act.ActReply.TheVariants.{Event, Host}
 use Rattle.pt_frame.specs.declared.finish.Finish.TheVariants as finish
 use Rattle.pt_req.specs.declared.plan.Plan.{Plan}
-use Rattle.pt_law.specs.Discipline.{made}
 use Rattle.pt_law.specs.Told.{AllMayBeTold}
+use Rattle.pt_law.specs.Naming.{made}
 
 abbrev fd : ℕ → Fd
 fd number = record { 0 = number }

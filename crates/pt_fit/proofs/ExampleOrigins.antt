@@ -1,5 +1,5 @@
--- A run of one step, which opens the shared directory as a root. That step might have opened either object of the host;
--- in the world to which it led here it opened object 0, which so comes from it, and object 1 does not.
+-- A run of one step, which opens the shared directory as a root. That step might have opened either object of the
+-- host; in the world to which it led here it opened object 0, which so comes from it, and object 1 does not.
 use Rattle.std.proofs.Common.{◌≡◌, ◌≢◌, ℕ, ◌<◌, List, [], ◌∷◌, ◌++◌, refl, sym, ap, subst, ◌∙◌, arith, Some}
 use Rattle.pt_host.specs.Words.{set_at}
 use Rattle.pt_host.specs.Flags.{includes, o_path}
@@ -48,7 +48,8 @@ may_open root file seat apart kind object listed = record {
         trees = record {
           formed_before = well root file apart kind none small_none;
           formed_after = well root file apart kind (set_at 3 (opened_by object) none)
-              (small_open none 3 (record { object = object; path_only = includes by_path.0 o_path }) listed small_none);
+              (small_open none 3 (record { object = object; path_only = includes by_path.0 o_path }) listed
+              small_none);
           changes = (object, record { listed = omega (arith, listed); fresh = refl; allowed = refl; adds = refl });
           path_only = λ asks. absurd asks;
         };
@@ -73,7 +74,8 @@ never x [] later e = cc
 never x (b ∷ before) later e = cc
 
 -- the one place of the run
-only : (x : Turn) (before later : List Turn) → turn ∷ [] ≡ before ++ x ∷ later → (before ≡ []) × (turn ≡ x) × (later ≡ [])
+only : (x : Turn) (before later : List Turn) → turn ∷ [] ≡ before ++ x ∷ later →
+    (before ≡ []) × (turn ≡ x) × (later ≡ [])
 only x [] later e = (refl, cc, cc)
 only x (b ∷ before) later e = let k : [] ≡ before ++ x ∷ later = cc in absurd (never x before later k)
 

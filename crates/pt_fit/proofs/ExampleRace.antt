@@ -40,9 +40,10 @@ use Rattle.pt_frame.specs.declared.finish.Finish.{Finish}
 use Rattle.pt_frame.specs.declared.finish.Finish.TheVariants as finish
 use Rattle.pt_req.specs.declared.plan.Plan.{Plan}
 use Rattle.pt_law.specs.World.{World, Turn, turn_by, Runs, steps_of, settled_by, no_past}
-use Rattle.pt_law.specs.Discipline.{made}
+use Rattle.pt_law.specs.Naming.{made}
+use Rattle.pt_law.specs.Discipline.{AreEnded}
 use Rattle.pt_fit.specs.Entered.{IsEntered}
-use Rattle.pt_law.specs.Laws.{Starts, AreEnded}
+use Rattle.pt_law.specs.Laws.{Starts}
 use Rattle.pt_fit.specs.Answered.{AreAnswered}
 use Rattle.pt_law.proofs.Lists.{set_at_same, set_at_other}
 use Rattle.pt_law.proofs.Laws.{ended_jobs}
@@ -318,10 +319,12 @@ starts root file apart kind =
     record { tables = refl; well_formed = well root file apart kind none small_none; past = refl }
 
 small_three : IsSmall three
-small_three = small_open none 3 (record { object = 0; path_only = includes by_path.0 o_path }) (omega arith) small_none
+small_three =
+    small_open none 3 (record { object = 0; path_only = includes by_path.0 o_path }) (omega arith) small_none
 
 small_four : IsSmall four
-small_four = small_open three 4 (record { object = 1; path_only = includes by_path.0 o_path }) (omega arith) small_three
+small_four =
+    small_open three 4 (record { object = 1; path_only = includes by_path.0 o_path }) (omega arith) small_three
 
 small_five : IsSmall five
 small_five = small_open four 5 (record { object = 1; path_only = includes by_path.0 o_path }) (omega arith) small_four
@@ -454,7 +457,8 @@ runs plan root file seat apart kind =
       (refl, λ e. omega (arith, e)),
       (0, refl, inr (inl refl, refl, (added file 2 ∷ row root 1 ∷ [], past at, refl))),
     )) (
-    call_then seat _ 2 (call.Close (fd 5)) value.Unit (tree root file closed) _ refl tt refl (λ asks. asks) at_five at_end (
+    call_then seat _ 2 (call.Close (fd 5)) value.Unit (tree root file closed) _ refl tt refl (λ asks. asks) at_five
+    at_end (
     event_then seat _ 2 change.GiveFd event.Given (tables 4 2 3 (added file 2 ∷ row root 1 ∷ [])) _ (inl (
       slot,
       (
@@ -535,7 +539,8 @@ pub ended : (plan : Plan) (root file : Stat) (seat : HostSeat) (who : Context) �
     kind_of root.mode ≡ directory_kind → AreEnded 3 (turns plan root file)
 ended plan root file seat who apart kind =
     let r = runs plan root file seat apart kind in
-    run_ended plan 3 (λ job. seat) (asked who) (ends plan root file) (turns plan root file) (start root file) r.last r.run
+    run_ended plan 3 (λ job. seat) (asked who) (ends plan root file) (turns plan root file)
+    (start root file) r.last r.run
     (answered plan seat who root file)
 
 -- so the laws say of it what they say: the second lookup's number names object 1, which the name led to

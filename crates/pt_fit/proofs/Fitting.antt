@@ -1,5 +1,6 @@
 -- What is fit keeps the discipline, and on each branch a refusal has its cause and an entry is a lookup's.
-use Rattle.std.proofs.Common.{◌≡◌, ◌⊎◌, inl, inr, ℕ, zero, suc, List, [], ◌∷◌, Option, None, Some, refl, sym, subst, length}
+use Rattle.std.proofs.Common.{◌≡◌, inl, inr, ℕ, zero, suc, List, [], ◌∷◌, Option, None, Some, refl, sym, subst}
+use Rattle.std.proofs.Common.{length}
 use Rattle.pt_host.specs.Sorts.{Sort, OpensWith, EndsFd, OfSeat, Plain, sort_of}
 use Rattle.pt_host.specs.declared.ids.Errno.{Errno}
 use Rattle.pt_host.specs.declared.reply.HostReply.TheVariants as host
@@ -14,7 +15,7 @@ use Rattle.pt_iface.specs.declared.request.Request.{Request}
 use Rattle.pt_frame.specs.Deed.{Deed, Calls, Changes, Step, IsStepOf}
 use Rattle.pt_frame.specs.Held.{held, opened}
 use Rattle.pt_frame.specs.Replies.{closings_in, refusal, event_refusal}
-use Rattle.pt_frame.specs.Tree.{Tree, Gives, Refuses, Asks, Opens, Bares, Brackets, Shuts, Allocates}
+use Rattle.pt_frame.specs.Tree.{RequestTree, Gives, Refuses, Asks, Opens, Bares, Brackets, Shuts, Allocates}
 use Rattle.pt_frame.specs.declared.act.ActReply.{ActReply}
 use Rattle.pt_frame.specs.declared.act.ActReply.TheVariants.{Event, Host, NoCopy}
 use Rattle.pt_frame.specs.declared.hold.Hold.{Hold}
@@ -22,12 +23,11 @@ use Rattle.pt_law.specs.Discipline.{Notes, notes_after}
 use Rattle.pt_law.specs.Told.{AllMayBeTold}
 use Rattle.pt_frame.specs.Frame.{front, behind, under, mark_in, outer}
 use Rattle.pt_law.specs.Keeps.{uncovered, down_to, After, Keeps}
-use Rattle.pt_law.specs.Branch.{Along, AllocatesAfter, TakesNone, AreOwn, AreOwn.{none, keep, skip}, AreFirst}
-use Rattle.pt_law.specs.Branch.{AreFirst.{stop, next as first_next, pass}, SomeLacks}
-use Rattle.pt_law.specs.Discipline.{made}
+use Rattle.pt_law.specs.Branch.{Along, AreOwn, AreOwn.{none, keep, skip}}
+use Rattle.pt_law.specs.Naming.{made}
 use Rattle.pt_law.proofs.Moving.{told_of}
-use Rattle.pt_fit.specs.Cause.{CallCauses, StepCauses, EventCauses, SomeCauses, IsCaused, MayAllocate}
-use Rattle.pt_fit.specs.Fit.{Fit, MayAnswer}
+use Rattle.pt_fit.specs.Cause.{CallCauses, StepCauses, EventCauses, SomeCauses}
+use Rattle.pt_fit.specs.Fit.{Fit, IsCausedLeaf, MayAnswer}
 
 after_map : (count : ℕ) (P Q : Notes → Type 0) (notes : Notes) → ((later : Notes) → P later → Q later) →
     After count P notes → After count Q notes
@@ -39,7 +39,7 @@ after_at : (count : ℕ) (P : Notes → Type 0) (notes : Notes) → After count 
 after_at zero P notes k = k
 after_at (suc count) P notes k = k notes (refl, refl)
 
-pub fit_keeps : (asked : Request) (tree : Tree) (holds : List Hold) (marks : List ℕ) (notes : Notes)
+pub fit_keeps : (asked : Request) (tree : RequestTree) (holds : List Hold) (marks : List ℕ) (notes : Notes)
     (path : List Step) → Fit asked tree holds marks notes path → Keeps tree holds marks notes
 fit_keeps asked (Gives last) holds marks notes path f = f.0
 fit_keeps asked (Refuses told) holds marks notes path f = tt
@@ -59,12 +59,11 @@ fit_keeps asked (Brackets rest) holds marks notes path f =
 fit_keeps asked (Shuts passes rest) holds marks notes path f =
     λ later l. fit_keeps asked rest (under (front passes holds) (down_to (mark_in marks) (behind passes holds)))
     (outer marks) later path (f later l)
-fit_keeps asked (Allocates rest) holds marks notes path f = fit_keeps asked rest holds marks notes path f.1
+fit_keeps asked (Allocates rest) holds marks notes path f = fit_keeps asked rest holds marks notes path f
 
 -- what the one causes, the other causes too
-pub record Within (asked : Request) (some all : List Step) : Type 0 where
-  pub causes : (errno : Errno) → SomeCauses asked some errno → SomeCauses asked all errno
-  pub lacks : SomeLacks some → SomeLacks all
+abbrev pub Within : Request → List Step → List Step → Type 0
+Within asked some all = (errno : Errno) → SomeCauses asked some errno → SomeCauses asked all errno
 
 none_called : (sort : Sort) (errno : Errno) → CallCauses sort NoCopy errno → ⊥
 none_called (OpensWith flags) errno s = s
@@ -93,25 +92,14 @@ causes_of asked deed None told errno i s = absurd i
 further : (asked : Request) (deed : Deed) (step : Step) (path own all : List Step) →
     IsStepOf deed step.deed step.reply → Within asked path all → Within asked (step ∷ own) all →
     Within asked (made deed step.reply ∷ path) all
-further asked deed step path own all i w v = record { causes = causes; lacks = lacks }
-  where
-    causes : (errno : Errno) → SomeCauses asked (made deed step.reply ∷ path) errno → SomeCauses asked all errno
-    causes errno (inl s) = v.causes errno (inl (causes_of asked deed step.deed step.reply errno i s))
-    causes errno (inr s) = w.causes errno s
-
-    lacks : SomeLacks (made deed step.reply ∷ path) → SomeLacks all
-    lacks (inl s) = v.lacks (inl s)
-    lacks (inr s) = w.lacks s
-
-rest_of : (asked : Request) (step : Step) (own all : List Step) → Within asked (step ∷ own) all → Within asked own all
-rest_of asked step own all v = record { causes = λ errno s. v.causes errno (inr s); lacks = λ s. v.lacks (inr s) }
+further asked deed step path own all i w v errno (inl s) =
+    v errno (inl (causes_of asked deed step.deed step.reply errno i s))
+further asked deed step path own all i w v errno (inr s) = w errno s
 
 caused_within : (asked : Request) (last : Answer) (path all : List Step) → Within asked path all →
-    IsCaused asked path last → IsCaused asked all last
+    IsCausedLeaf asked path last → IsCausedLeaf asked all last
 caused_within asked (answer.Refused errno) path all w (inl own) = inl own
-caused_within asked (answer.Refused errno) path all w (inr made) = inr (w.causes errno made)
-caused_within asked answer.NoMemory path all w (inl l) = inl (w.lacks l)
-caused_within asked answer.NoMemory path all w (inr own) = inr own
+caused_within asked (answer.Refused errno) path all w (inr made) = inr (w errno made)
 caused_within asked last path all w c = tt
 
 -- what a refusal answers is no entry
@@ -126,14 +114,14 @@ refusal_answers asked told = tt
 
 -- an answer on a branch has its cause, and is such as may be given
 abbrev pub IsRight : Request → List Step → Answer → Type 0
-IsRight asked steps last = IsCaused asked steps last × MayAnswer last asked
+IsRight asked steps last = IsCausedLeaf asked steps last × MayAnswer last asked
 
 at_leaf : (asked : Request) (given last : Answer) (path all : List Step) → last ≡ given → Within asked path all →
-    IsCaused asked path given → MayAnswer given asked → IsRight asked all last
+    IsCausedLeaf asked path given → MayAnswer given asked → IsRight asked all last
 at_leaf asked given last path all e w c m =
     subst (IsRight asked all) (sym e) (caused_within asked given path all w c, m)
 
-pub fit_along : (asked : Request) (tree : Tree) (holds : List Hold) (marks : List ℕ) (notes : Notes)
+pub fit_along : (asked : Request) (tree : RequestTree) (holds : List Hold) (marks : List ℕ) (notes : Notes)
     (path own all : List Step) (last : Answer) → Fit asked tree holds marks notes path → AllMayBeTold own →
     Within asked path all → Within asked own all → Along tree own last → IsRight asked all last
 fit_along asked (Gives given) holds marks notes path [] all last f t w v a =
@@ -148,93 +136,31 @@ fit_along asked (Asks deed next) holds marks notes path (step ∷ own) all last 
     (made deed step.reply ∷ path) own all last
     (after_at (closings_in deed step.reply) _ (notes_after notes deed step.reply)
     (f.1 step.reply (told_of deed step.deed step.reply a.0 t.0))) t.1
-    (further asked deed step path own all a.0 w v) (rest_of asked step own all v) a.1
+    (further asked deed step path own all a.0 w v) (λ errno s. v errno (inr s)) a.1
 fit_along asked (Opens call scope next) holds marks notes path [] all last f t w v a = absurd a
 fit_along asked (Opens call scope next) holds marks notes path (step ∷ own) all last f t w v a =
     fit_along asked (next step.reply) (opened scope step.reply holds) marks notes
     (made (Calls call) step.reply ∷ path) own all last
     (f.1 step.reply (told_of (Calls call) step.deed step.reply a.0 t.0)) t.1
-    (further asked (Calls call) step path own all a.0 w v) (rest_of asked step own all v) a.1
+    (further asked (Calls call) step path own all a.0 w v) (λ errno s. v errno (inr s)) a.1
 fit_along asked (Bares rest) holds marks notes path own all last f t w v a =
     fit_along asked rest (uncovered holds) marks notes path own all last f t w v a
 fit_along asked (Brackets rest) holds marks notes path own all last f t w v a =
     fit_along asked rest holds (length holds ∷ marks) notes path own all last f t w v a
 fit_along asked (Shuts passes rest) holds marks notes path own all last f t w v a =
-    fit_along asked rest (under (front passes holds) (down_to (mark_in marks) (behind passes holds))) (outer marks) notes
-    path own all last (f notes (refl, refl)) t w v a
+    fit_along asked rest (under (front passes holds) (down_to (mark_in marks) (behind passes holds)))
+    (outer marks) notes path own all last (f notes (refl, refl)) t w v a
 fit_along asked (Allocates rest) holds marks notes path own all last f t w v a =
-    fit_along asked rest holds marks notes path own all last f.1 t w v a
-
--- a tree that takes memory of its own is of a request that may
-pub fit_allocates : (asked : Request) (tree : Tree) (holds : List Hold) (marks : List ℕ) (notes : Notes)
-    (path own : List Step) → Fit asked tree holds marks notes path → AllMayBeTold own → AllocatesAfter tree own →
-    MayAllocate asked
-fit_allocates asked (Gives given) holds marks notes path own f t a = absurd a
-fit_allocates asked (Refuses told) holds marks notes path own f t a = absurd a
-fit_allocates asked (Asks deed next) holds marks notes path [] f t a = absurd a
-fit_allocates asked (Asks deed next) holds marks notes path (step ∷ own) f t a =
-    fit_allocates asked (next step.reply) (held deed step.reply holds) marks (notes_after notes deed step.reply)
-    (made deed step.reply ∷ path) own
-    (after_at (closings_in deed step.reply) _ (notes_after notes deed step.reply)
-    (f.1 step.reply (told_of deed step.deed step.reply a.0 t.0))) t.1 a.1
-fit_allocates asked (Opens call scope next) holds marks notes path [] f t a = absurd a
-fit_allocates asked (Opens call scope next) holds marks notes path (step ∷ own) f t a =
-    fit_allocates asked (next step.reply) (opened scope step.reply holds) marks notes
-    (made (Calls call) step.reply ∷ path) own
-    (f.1 step.reply (told_of (Calls call) step.deed step.reply a.0 t.0)) t.1 a.1
-fit_allocates asked (Bares rest) holds marks notes path own f t a =
-    fit_allocates asked rest (uncovered holds) marks notes path own f t a
-fit_allocates asked (Brackets rest) holds marks notes path own f t a =
-    fit_allocates asked rest holds (length holds ∷ marks) notes path own f t a
-fit_allocates asked (Shuts passes rest) holds marks notes path own f t a =
-    fit_allocates asked rest (under (front passes holds) (down_to (mark_in marks) (behind passes holds))) (outer marks)
-    notes path own (f notes (refl, refl)) t a
-fit_allocates asked (Allocates rest) holds marks notes path own f t a = f.0
-
--- and one of a request that may not, takes none
-pub fit_takes_none : (asked : Request) (tree : Tree) (holds : List Hold) (marks : List ℕ) (notes : Notes)
-    (path : List Step) → (MayAllocate asked → ⊥) → Fit asked tree holds marks notes path → TakesNone tree
-fit_takes_none asked (Gives given) holds marks notes path n f = tt
-fit_takes_none asked (Refuses told) holds marks notes path n f = tt
-fit_takes_none asked (Asks deed next) holds marks notes path n f = λ told t.
-    fit_takes_none asked (next told) (held deed told holds) marks (notes_after notes deed told) (made deed told ∷ path) n
-    (after_at (closings_in deed told) _ (notes_after notes deed told) (f.1 told t))
-fit_takes_none asked (Opens call scope next) holds marks notes path n f = λ told t.
-    fit_takes_none asked (next told) (opened scope told holds) marks notes (made (Calls call) told ∷ path) n (f.1 told t)
-fit_takes_none asked (Bares rest) holds marks notes path n f =
-    fit_takes_none asked rest (uncovered holds) marks notes path n f
-fit_takes_none asked (Brackets rest) holds marks notes path n f =
-    fit_takes_none asked rest holds (length holds ∷ marks) notes path n f
-fit_takes_none asked (Shuts passes rest) holds marks notes path n f =
-    fit_takes_none asked rest (under (front passes holds) (down_to (mark_in marks) (behind passes holds))) (outer marks)
-    notes path n (f notes (refl, refl))
-fit_takes_none asked (Allocates rest) holds marks notes path n f = absurd (n f.0)
+    fit_along asked rest holds marks notes path own all last f t w v a
 
 -- the steps of a branch are among all
 pub own_within : (asked : Request) (own all : List Step) → AreOwn own all → Within asked own all
-own_within asked _ _ none = record { causes = λ errno s. s; lacks = λ s. s }
-own_within asked _ _ (keep {step = step} {own = own} {all = all} o) = record { causes = causes; lacks = lacks }
-  where
-    causes : (errno : Errno) → SomeCauses asked (step ∷ own) errno → SomeCauses asked (step ∷ all) errno
-    causes errno (inl s) = inl s
-    causes errno (inr s) = inr ((own_within asked own all o).causes errno s)
-
-    lacks : SomeLacks (step ∷ own) → SomeLacks (step ∷ all)
-    lacks (inl s) = inl s
-    lacks (inr s) = inr ((own_within asked own all o).lacks s)
-own_within asked own _ (skip {step = step} {all = all} g o) =
-    let w = own_within asked own all o in
-    record { causes = λ errno s. inr (w.causes errno s); lacks = λ s. inr (w.lacks s) }
+own_within asked _ _ none errno s = s
+own_within asked _ _ (keep o) errno (inl s) = inl s
+own_within asked _ _ (keep {own = own} {all = all} o) errno (inr s) = inr (own_within asked own all o errno s)
+own_within asked own _ (skip {all = all} g o) errno s = inr (own_within asked own all o errno s)
 
 pub own_told : (own all : List Step) → AreOwn own all → AllMayBeTold all → AllMayBeTold own
 own_told _ _ none t = tt
 own_told _ _ (keep {own = own} {all = all} o) t = (t.0, own_told own all o t.1)
 own_told own _ (skip {all = all} g o) t = own_told own all o t.1
-
-pub first_told : (own all : List Step) → AreFirst own all → AllMayBeTold all → AllMayBeTold own
-first_told _ all stop t = tt
-first_told _ _ (first_next {own = own} {all = all} o) t = (t.0, first_told own all o t.1)
-first_told own _ (pass {all = all} g o) t = first_told own all o t.1
-
-pub nothing_within : (asked : Request) (all : List Step) → Within asked [] all
-nothing_within asked all = record { causes = λ errno s. absurd s; lacks = λ s. absurd s }

@@ -6,13 +6,15 @@ use Rattle.pt_host.specs.Flags.{o_directory}
 use Rattle.pt_host.specs.declared.seat.HostSeat.{HostSeat}
 use Rattle.pt_session.specs.Change.{Change, HoldsList}
 use Rattle.pt_session.specs.Tables.{Tables, HasNumber, Agree, empty_tables}
-use Rattle.pt_session.specs.Happens.{Happens, NoRow}
+use Rattle.pt_session.specs.Happens.{Happens}
+use Rattle.pt_session.specs.Rows.{NoRow}
 use Rattle.pt_session.specs.declared.form.Negotiated.{Negotiated}
 use Rattle.pt_session.specs.declared.form.RowForm.TheVariants.{File}
 use Rattle.pt_session.specs.declared.event.KeptEvent.TheVariants as change
 use Rattle.pt_session.specs.declared.reply.EventReply.{EventReply}
 use Rattle.pt_session.specs.declared.reply.EventReply.TheVariants as event
 use Rattle.pt_session.specs.declared.reply.EventRefusal.TheVariants.{NotLive}
+use Rattle.pt_session.proofs.Cases.{Case, cases}
 use Rattle.pt_iface.specs.declared.answer.Answer.TheVariants as answer
 use Rattle.pt_iface.specs.declared.request.Context.{Context}
 use Rattle.pt_iface.specs.declared.request.Request.{Request}
@@ -21,7 +23,8 @@ use Rattle.pt_frame.specs.Deed.{Deed, Changes, Step, IsStepOf}
 use Rattle.pt_frame.specs.Held.{held}
 use Rattle.pt_frame.specs.Replies.{closings_in}
 use Rattle.pt_frame.specs.Grammar.{Belongs, End}
-use Rattle.pt_frame.specs.Tree.{Tree, Gives, Refuses, Asks, Brackets, Shuts, framed, may_give_up, grammar_of_tree}
+use Rattle.pt_frame.specs.Tree.{RequestTree, Gives, Refuses, Asks, Brackets, Shuts, framed, may_give_up}
+use Rattle.pt_frame.specs.Tree.{grammar_of_tree}
 use Rattle.pt_frame.specs.declared.act.ActReply.{ActReply}
 use Rattle.pt_frame.specs.declared.act.ActReply.TheVariants.{Event, Host, NoCopy}
 use Rattle.pt_frame.specs.declared.finish.Finish.{Finish}
@@ -30,8 +33,8 @@ use Rattle.pt_req.specs.Entries.{is_bad_name}
 use Rattle.pt_req.specs.Options.{with_bits, cleaned, inode_flags, open_options}
 use Rattle.pt_req.specs.Parts.{by_path, file_of, numbered, looked_of, look_up, open_row}
 use Rattle.pt_req.specs.Requests.{lookup, open_file, tree_of}
-use Rattle.pt_req.specs.Steps.{session_of, begin, on_began, Resolved, resolve, on_resolved, open_at, stat, draw_handle}
-use Rattle.pt_req.specs.Steps.{take_fd, insert_handle}
+use Rattle.pt_req.specs.Steps.{session_of, begin, on_began, Resolved, resolve, on_resolved, open_at, stat}
+use Rattle.pt_req.specs.Steps.{draw_handle, take_fd, insert_handle}
 use Rattle.pt_req.specs.declared.begun.BegunSession.{BegunSession}
 use Rattle.pt_req.specs.declared.plan.Plan.{Plan}
 use Rattle.pt_attr.specs.Pattern.{grammar_of}
@@ -44,7 +47,7 @@ use Rattle.pt_law.proofs.Interleaving.{tables_split}
 use Rattle.pt_law.proofs.Laws.{agree_law}
 use Rattle.pt_law.proofs.Reliance.{stays_gone, inserted_append, refused_law}
 use Rattle.pt_fit.specs.Uses.{IsOn}
-use Rattle.pt_fit.proofs.Straight.{follows_plain}
+use Rattle.pt_fit.proofs.Leading.{follows_plain}
 
 abbrev gone : ActReply
 gone = Event (event.Refused NotLive)
@@ -59,13 +62,19 @@ happened e (Some same) (Event r) t t' bare is go = (r, refl, subst (λ d. Tables
 happened e (Some same) (Host r) t t' bare is go = absurd (subst (λ d. TablesGo t (Some d) (Host r) t') is go)
 happened e (Some same) NoCopy t t' bare is go = absurd (subst (λ d. TablesGo t (Some d) NoCopy t') is.0 go)
 
+begun_as : (t t' : Tables) (r : EventReply) → Case t change.Begin r t' →
+    (era : ℕ) × (agreed : Negotiated) × (r ≡ event.Began era agreed)
+begun_as t t' (event.Began era agreed) h = (era, agreed, refl)
+begun_as t t' (event.Refused why) h = absurd h.0
+begun_as t t' r h = absurd h
+
 began : (t t' : Tables) (r : EventReply) → Happens t change.Begin r t' →
     (era : ℕ) × (agreed : Negotiated) × (r ≡ event.Began era agreed)
-began t t' (event.Began era agreed) h = (era, agreed, refl)
-began t t' r h = absurd h
+began t t' r h = begun_as t t' r (cases t t' change.Begin r h)
 
 -- what follows an act of a job that holds nothing and is told no closings
-follows : (seat : HostSeat) (deed : Deed) (next : ActReply → Tree) (marks : List ℕ) (step : Step) (steps : List Step)
+follows : (seat : HostSeat) (deed : Deed)
+    (next : ActReply → RequestTree) (marks : List ℕ) (step : Step) (steps : List Step)
     (end : Finish) → closings_in deed step.reply ≡ 0 → held deed step.reply [] ≡ [] →
     Belongs (framed seat (Asks deed next) [] marks) (step ∷ steps) end →
     IsGivenUp end ⊎ Belongs (framed seat (next step.reply) [] marks) steps end
@@ -84,7 +93,7 @@ abbrev Answers : Finish → Type 0
 Answers end = (end ≡ finish.Answer (answer.Refused ebadf)) ⊎ IsGivenUp end
 
 -- the number is resolved where it is not live
-resolved : (seat : HostSeat) (marks : List ℕ) (number : ℕ) (next : ActReply → Tree) (t t' : Tables) (step : Step)
+resolved : (seat : HostSeat) (marks : List ℕ) (number : ℕ) (next : ActReply → RequestTree) (t t' : Tables) (step : Step)
     (steps : List Step) (end : Finish) → NoRow t (HasNumber number) → next gone ≡ Refuses gone →
     TablesGo t step.deed step.reply t' →
     Belongs (framed seat (Asks (Changes (change.Resolve number)) next) [] marks) (step ∷ steps) end → Answers end
@@ -100,12 +109,13 @@ resolved seat marks number next t t' step steps end none refuses go b =
     ]
 
 -- the tree begins and, in a bracket, resolves the number, and passes the refusal on
-abbrev Resolves : ℕ → Tree → Type 0
+abbrev Resolves : ℕ → RequestTree → Type 0
 Resolves number tree =
-    (next : BegunSession → Resolved → Tree)
+    (next : BegunSession → Resolved → RequestTree)
     × (tree ≡ begin (λ session. Brackets (resolve number (next session))))
 
-good_name : (bad : Bool) (next : Tree) → bad ≡ false → (if bad then Gives (answer.Refused einval) else next) ≡ next
+good_name : (bad : Bool) (next : RequestTree) → bad ≡ false →
+    (if bad then Gives (answer.Refused einval) else next) ≡ next
 good_name true next e = absurd (cc)
 good_name false next e = refl
 
@@ -169,13 +179,13 @@ gone_answered_law limit job plan seat who what turns later was now number end r 
         gone_at number job later was now one step two (agree_law limit turns was r)
         (none_other number was.rows none) k i e
 
-    second : (one : List Step) (steps : List Step) (next : Resolved → Tree) → steps_of job later ≡ one ++ steps →
+    second : (one : List Step) (steps : List Step) (next : Resolved → RequestTree) → steps_of job later ≡ one ++ steps →
         Belongs (framed seat (resolve number next) [] (0 ∷ [])) steps end → Answers end
     second one [] next e b = absurd b
     second one (step ∷ steps) next e b = let g = at one step steps e in
         resolved seat (0 ∷ []) number (on_resolved next) g.t g.t' step steps end g.none refl g.go b
 
-    first : (steps : List Step) → steps_of job later ≡ steps → (next : BegunSession → Resolved → Tree) →
+    first : (steps : List Step) → steps_of job later ≡ steps → (next : BegunSession → Resolved → RequestTree) →
         Belongs (grammar_of_tree seat (begin (λ session. Brackets (resolve number (next session))))) steps end →
         Answers end
     first [] e next b = absurd b
@@ -184,7 +194,7 @@ gone_answered_law limit job plan seat who what turns later was now number end r 
         let h = happened change.Begin step.deed step.reply g.t g.t' (λ no. no) b.0 g.go in
         let n = began g.t g.t' h.0 h.2 in
         let told : step.reply ≡ Event (event.Began n.0 n.1) = h.1 ∙ ap Event n.2 in
-        let asks : BegunSession → Tree = λ session. Brackets (resolve number (next session)) in
+        let asks : BegunSession → RequestTree = λ session. Brackets (resolve number (next session)) in
         elim (follows seat (Changes change.Begin) (on_began asks) [] step steps end
         (ap (closings_in (Changes change.Begin)) told) (ap (λ r. held (Changes change.Begin) r []) told) b) [
           | inl up ↦ inr up

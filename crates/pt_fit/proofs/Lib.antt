@@ -1,4 +1,5 @@
 pub mod Holds
+pub mod Refused
 pub mod Parts
 pub mod Requests
 pub mod Fitting
@@ -6,8 +7,8 @@ pub mod Edits
 pub mod Asked
 pub mod Answered
 pub mod Beginning
+pub mod Leading
 pub mod Looking
-pub mod Straight
 pub mod Entered
 pub mod Forgotten
 pub mod ExampleJob

@@ -1,278 +1,284 @@
--- An entry that a lookup is answered with: the steps of the branch that leads to it.
-use Rattle.std.proofs.Common.{◌≡◌, ◌⊎◌, inl, inr, ℕ, List, [], ◌∷◌, Bool, true, false, Option, Some, None, refl, sym, ap}
+-- A lookup that led to an entry, whatever request it is a part of and whatever follows it: its steps.
+use Rattle.std.proofs.Common.{◌≡◌, ◌⊎◌, inl, inr, ℕ, List, [], ◌∷◌, ◌++◌, Bool, true, false, None, refl, sym, ap}
 use Rattle.std.proofs.Common.{subst, ◌∙◌, if◌then◌else◌}
 use Rattle.pt_host.specs.Errno.{einval}
 use Rattle.pt_host.specs.declared.ids.Fd.{Fd}
 use Rattle.pt_host.specs.declared.ids.ObjIds.{ObjIds}
+use Rattle.pt_host.specs.declared.seat.HostSeat.{HostSeat}
 use Rattle.pt_host.specs.declared.stat.Stat.{Stat}
 use Rattle.pt_host.specs.declared.op.KeptHostOp.TheVariants as call
-use Rattle.pt_host.specs.declared.reply.HostReply.{HostReply}
 use Rattle.pt_host.specs.declared.reply.HostReply.TheVariants as host
 use Rattle.pt_host.specs.declared.reply.HostValue.TheVariants as value
 use Rattle.pt_session.specs.declared.form.RowForm.{RowForm}
 use Rattle.pt_session.specs.declared.form.RowForm.TheVariants.{File}
 use Rattle.pt_session.specs.declared.form.Negotiated.{Negotiated}
 use Rattle.pt_session.specs.declared.event.KeptEvent.TheVariants as change
-use Rattle.pt_session.specs.declared.reply.EventReply.{EventReply}
 use Rattle.pt_session.specs.declared.reply.EventReply.TheVariants as event
-use Rattle.pt_session.specs.declared.reply.EventRefusal.{EventRefusal}
-use Rattle.pt_session.specs.declared.reply.EventRefusal.TheVariants as refused
+use Rattle.pt_iface.specs.declared.answer.Answer.{Answer}
 use Rattle.pt_iface.specs.declared.answer.Answer.TheVariants as answer
 use Rattle.pt_iface.specs.declared.entry.Entry.{Entry}
-use Rattle.pt_frame.specs.Deed.{Deed, Calls, Changes, Step, IsStepOf}
-use Rattle.pt_frame.specs.Replies.{refusal, event_refusal}
-use Rattle.pt_frame.specs.Tree.{Tree, Gives, Refuses, Shuts}
+use Rattle.pt_iface.specs.declared.request.Context.{Context}
+use Rattle.pt_iface.specs.declared.request.Request.TheVariants as request
+use Rattle.pt_frame.specs.Deed.{Deed, Calls, Changes, Step}
+use Rattle.pt_frame.specs.Grammar.{Belongs}
+use Rattle.pt_frame.specs.Replies.{passes_with}
+use Rattle.pt_frame.specs.Tree.{RequestTree, Gives, Shuts, framed}
 use Rattle.pt_frame.specs.declared.act.ActReply.{ActReply}
 use Rattle.pt_frame.specs.declared.act.ActReply.TheVariants.{Event, Host}
-use Rattle.pt_req.specs.Entries.{is_bad_name, entry_of}
-use Rattle.pt_req.specs.Parts.{by_path, file_of, numbered, look_up}
-use Rattle.pt_req.specs.Requests.{lookup}
-use Rattle.pt_req.specs.Steps.{session_of, on_began, Resolved, on_resolved, on_fd, on_stat, on_claim, on_taken, on_drawn}
-use Rattle.pt_req.specs.Steps.{on_inserted, open_at, stat, take_fd, draw_node, insert}
+use Rattle.pt_frame.specs.declared.finish.Finish.TheVariants as finish
+use Rattle.pt_frame.specs.declared.hold.Hold.{Hold}
+use Rattle.pt_req.specs.Entries.{is_bad_name}
+use Rattle.pt_req.specs.Parts.{by_path, named, file_of, numbered, looked_of, look_up}
+use Rattle.pt_req.specs.Steps.{session_of, on_began, Resolved, on_resolved, on_fd, on_stat, on_claim, on_taken}
+use Rattle.pt_req.specs.Steps.{on_drawn, on_inserted, resolve, open_at, stat, take_fd, draw_node, insert}
 use Rattle.pt_req.specs.declared.begun.BegunSession.{BegunSession}
+use Rattle.pt_req.specs.declared.parts.looked.Looked.{Looked}
 use Rattle.pt_req.specs.declared.plan.Plan.{Plan}
-use Rattle.pt_law.specs.Branch.{Along}
-use Rattle.pt_law.specs.Discipline.{made}
+use Rattle.pt_attr.specs.Pattern.{grammar_of}
+use Rattle.pt_law.specs.Naming.{made}
 use Rattle.pt_fit.specs.Opened.{inserting, InsertionGives, Numbers, IsLookedUp}
+use Rattle.pt_fit.proofs.Leading.{HasEntry, Leads, refused_none, given_none, shut_none, goes_on, none_told}
+use Rattle.pt_fit.proofs.Leading.{in_bracket}
 
-event_no_entry : (why : EventRefusal) (entry : Entry) → answer.Entry entry ≡ event_refusal why → ⊥
-event_no_entry refused.Memory entry e = cc
-event_no_entry why entry e = cc
+-- one step further
+then_step : {deed : Deed} {told one : ActReply} {steps rest more : List Step} → steps ≡ made deed told ∷ rest →
+    told ≡ one → rest ≡ more → steps ≡ made deed one ∷ more
+then_step {deed = deed} e t r = e ∙ (λ i. made deed (t i) ∷ r i)
 
-no_refusal : (told : ActReply) (entry : Entry) → answer.Entry entry ≡ refusal told → ⊥
-no_refusal (Event (event.Refused why)) entry e = event_no_entry why entry e
-no_refusal (Host host.NoMemory) entry e = cc
-no_refusal told entry e = cc
+began : (seat : HostSeat) (next : BegunSession → RequestTree) (told : ActReply) (rest : List Step) (last : Answer) →
+    HasEntry last → Leads seat (on_began next told) rest last →
+    (era : ℕ) × (agreed : Negotiated) × (told ≡ Event (event.Began era agreed))
+    × Leads seat (next (session_of era agreed)) rest last
+began seat next (Event (event.Began era agreed)) rest last p a = (era, agreed, refl, a)
+began seat next told rest last p a = absurd (refused_none seat told rest last p a)
 
-pub no_entry : (told : ActReply) (entry : Entry) (steps : List Step) → Along (Refuses told) steps (answer.Entry entry) → ⊥
-no_entry told entry [] e = no_refusal told entry e
-no_entry told entry (step ∷ steps) e = e
+resolved : (seat : HostSeat) (next : Resolved → RequestTree) (told : ActReply) (rest : List Step) (last : Answer) →
+    HasEntry last → Leads seat (on_resolved next told) rest last →
+    (row : ℕ) × (form : RowForm) × (ids : ObjIds) × (mode : ℕ) × (told ≡ Event (event.Resolved row form ids mode))
+    × Leads seat (next (record { row = row; form = form; ids = ids; mode = mode })) rest last
+resolved seat next (Event (event.Resolved row form ids mode)) rest last p a = (row, form, ids, mode, refl, a)
+resolved seat next told rest last p a = absurd (refused_none seat told rest last p a)
 
--- a step of this deed that was answered so
-abbrev Was : Deed → Step → ActReply → Type 0
-Was deed step told = step ≡ made deed told
+opened : (seat : HostSeat) (next : Fd → RequestTree) (told : ActReply) (rest : List Step) (last : Answer) →
+    HasEntry last → Leads seat (on_fd next told) rest last →
+    (fd : Fd) × (told ≡ Host (host.Ok (value.Fd fd))) × Leads seat (next fd) rest last
+opened seat next (Host (host.Ok (value.Fd fd))) rest last p a = (fd, refl, a)
+opened seat next told rest last p a = absurd (refused_none seat told rest last p a)
 
-was_event : (deed : Deed) (step : Option Deed) (told : EventReply) → IsStepOf deed step (Event told) →
-    record { deed = step; reply = Event told } ≡ made deed (Event told)
-was_event deed (Some same) told i = λ j. made (i j) (Event told)
-was_event deed None told i = absurd i
+stated : (seat : HostSeat) (next : Stat → RequestTree) (told : ActReply) (rest : List Step) (last : Answer) →
+    HasEntry last → Leads seat (on_stat next told) rest last →
+    (was : Stat) × (told ≡ Host (host.Ok (value.Stat was))) × Leads seat (next was) rest last
+stated seat next (Host (host.Ok (value.Stat was))) rest last p a = (was, refl, a)
+stated seat next told rest last p a = absurd (refused_none seat told rest last p a)
 
-was_host : (deed : Deed) (step : Option Deed) (told : HostReply) → IsStepOf deed step (Host told) →
-    record { deed = step; reply = Host told } ≡ made deed (Host told)
-was_host deed (Some same) told i = λ j. made (i j) (Host told)
-was_host deed None told i = absurd i
+claimed : (seat : HostSeat)
+    (next : ℕ → RequestTree) (absent : RequestTree) (told : ActReply) (rest : List Step) (last : Answer) →
+    HasEntry last → Leads seat (on_claim next absent told) rest last →
+    ((number : ℕ) × (told ≡ Event (event.Claimed number)) × Leads seat (next number) rest last)
+    ⊎ ((told ≡ Event event.Absent) × Leads seat absent rest last)
+claimed seat next absent (Event (event.Claimed number)) rest last p a = inl (number, refl, a)
+claimed seat next absent (Event event.Absent) rest last p a = inr (refl, a)
+claimed seat next absent told rest last p a = absurd (refused_none seat told rest last p a)
 
-after_began : (deed : Deed) (step : Option Deed) (told : ActReply) (next : BegunSession → Tree) (entry : Entry)
-    (steps : List Step) → IsStepOf deed step told → Along (on_began next told) steps (answer.Entry entry) →
-    (era : ℕ) × (agreed : Negotiated)
-    × Was deed (record { deed = step; reply = told }) (Event (event.Began era agreed))
-    × Along (next (session_of era agreed)) steps (answer.Entry entry)
-after_began deed step (Event (event.Began era agreed)) next entry steps i a =
-    (era, agreed, was_event deed step (event.Began era agreed) i, a)
-after_began deed step told next entry steps i a = absurd (no_entry told entry steps a)
+taken : (seat : HostSeat) (next : RequestTree) (told : ActReply) (rest : List Step) (last : Answer) → HasEntry last →
+    Leads seat (on_taken next told) rest last → (told ≡ Event event.Taken) × Leads seat next rest last
+taken seat next (Event event.Taken) rest last p a = (refl, a)
+taken seat next told rest last p a = absurd (refused_none seat told rest last p a)
 
-after_resolved : (deed : Deed) (step : Option Deed) (told : ActReply) (next : Resolved → Tree) (entry : Entry)
-    (steps : List Step) → IsStepOf deed step told → Along (on_resolved next told) steps (answer.Entry entry) →
-    (row : ℕ) × (form : RowForm) × (ids : ObjIds) × (mode : ℕ)
-    × Was deed (record { deed = step; reply = told }) (Event (event.Resolved row form ids mode))
-    × Along (next (record { row = row; form = form; ids = ids; mode = mode })) steps (answer.Entry entry)
-after_resolved deed step (Event (event.Resolved row form ids mode)) next entry steps i a =
-    (row, form, ids, mode, was_event deed step (event.Resolved row form ids mode) i, a)
-after_resolved deed step told next entry steps i a = absurd (no_entry told entry steps a)
+drawn : (seat : HostSeat) (next : ℕ → RequestTree) (told : ActReply) (rest : List Step) (last : Answer) →
+    HasEntry last → Leads seat (on_drawn next told) rest last →
+    (number : ℕ) × (told ≡ Event (event.Drawn number)) × Leads seat (next number) rest last
+drawn seat next (Event (event.Drawn number)) rest last p a = (number, refl, a)
+drawn seat next told rest last p a = absurd (refused_none seat told rest last p a)
 
-after_fd : (deed : Deed) (step : Option Deed) (told : ActReply) (next : Fd → Tree) (entry : Entry) (steps : List Step) → IsStepOf deed step told →
-    Along (on_fd next told) steps (answer.Entry entry) →
-    (fd : Fd) × Was deed (record { deed = step; reply = told }) (Host (host.Ok (value.Fd fd)))
-    × Along (next fd) steps (answer.Entry entry)
-after_fd deed step (Host (host.Ok (value.Fd fd))) next entry steps i a =
-    (fd, was_host deed step (host.Ok (value.Fd fd)) i, a)
-after_fd deed step told next entry steps i a = absurd (no_entry told entry steps a)
+inserted : (seat : HostSeat) (next : ℕ → RequestTree) (told : ActReply) (rest : List Step) (last : Answer) →
+    HasEntry last → Leads seat (on_inserted next told) rest last →
+    (number : ℕ) × InsertionGives number told × Leads seat (next number) rest last
+inserted seat next (Event (event.Inserted number)) rest last p a = (number, inl refl, a)
+inserted seat next (Event (event.Found number)) rest last p a = (number, inr refl, a)
+inserted seat next told rest last p a = absurd (refused_none seat told rest last p a)
 
-after_stat : (deed : Deed) (step : Option Deed) (told : ActReply) (next : Stat → Tree) (entry : Entry) (steps : List Step) → IsStepOf deed step told →
-    Along (on_stat next told) steps (answer.Entry entry) →
-    (was : Stat) × Was deed (record { deed = step; reply = told }) (Host (host.Ok (value.Stat was)))
-    × Along (next was) steps (answer.Entry entry)
-after_stat deed step (Host (host.Ok (value.Stat was))) next entry steps i a =
-    (was, was_host deed step (host.Ok (value.Stat was)) i, a)
-after_stat deed step told next entry steps i a = absurd (no_entry told entry steps a)
+-- the number of what is open there was had by the first of these steps
+record Gave
+    (seat : HostSeat)
+    (session : BegunSession)
+    (fd : Fd)
+    (told : Stat)
+    (next : ℕ → RequestTree)
+    (steps : List Step)
+    (last : Answer)
+    : Type 0 where
+  number : ℕ
+  own : List Step
+  rest : List Step
+  are : steps ≡ own ++ rest
+  gives : Numbers session.era fd told number own
+  on : Leads seat (next number) rest last
 
-after_taken : (deed : Deed) (step : Option Deed) (told : ActReply) (next : Tree) (entry : Entry) (steps : List Step) →
-    IsStepOf deed step told →
-    Along (on_taken next told) steps (answer.Entry entry) →
-    Was deed (record { deed = step; reply = told }) (Event event.Taken) × Along next steps (answer.Entry entry)
-after_taken deed step (Event event.Taken) next entry steps i a = (was_event deed step event.Taken i, a)
-after_taken deed step told next entry steps i a = absurd (no_entry told entry steps a)
-
-after_drawn : (deed : Deed) (step : Option Deed) (told : ActReply) (next : ℕ → Tree) (entry : Entry) (steps : List Step) → IsStepOf deed step told →
-    Along (on_drawn next told) steps (answer.Entry entry) →
-    (number : ℕ) × Was deed (record { deed = step; reply = told }) (Event (event.Drawn number))
-    × Along (next number) steps (answer.Entry entry)
-after_drawn deed step (Event (event.Drawn number)) next entry steps i a =
-    (number, was_event deed step (event.Drawn number) i, a)
-after_drawn deed step told next entry steps i a = absurd (no_entry told entry steps a)
-
-after_claim : (deed : Deed) (step : Option Deed) (told : ActReply) (next : ℕ → Tree) (absent : Tree) (entry : Entry) (steps : List Step) → IsStepOf deed step told →
-    Along (on_claim next absent told) steps (answer.Entry entry) →
-    ((number : ℕ) × Was deed (record { deed = step; reply = told }) (Event (event.Claimed number))
-    × Along (next number) steps (answer.Entry entry))
-    ⊎ (Was deed (record { deed = step; reply = told }) (Event event.Absent) × Along absent steps (answer.Entry entry))
-after_claim deed step (Event (event.Claimed number)) next absent entry steps i a =
-    inl (number, was_event deed step (event.Claimed number) i, a)
-after_claim deed step (Event event.Absent) next absent entry steps i a = inr (was_event deed step event.Absent i, a)
-after_claim deed step told next absent entry steps i a = absurd (no_entry told entry steps a)
-
-after_inserted : (deed : Deed) (step : Option Deed) (told : ActReply) (next : ℕ → Tree) (entry : Entry)
-    (steps : List Step) → IsStepOf deed step told → Along (on_inserted next told) steps (answer.Entry entry) →
-    (number : ℕ) × (reply : ActReply) × InsertionGives number reply
-    × Was deed (record { deed = step; reply = told }) reply × Along (next number) steps (answer.Entry entry)
-after_inserted deed step (Event (event.Inserted number)) next entry steps i a =
-    (number, Event (event.Inserted number), inl refl, was_event deed step (event.Inserted number) i, a)
-after_inserted deed step (Event (event.Found number)) next entry steps i a =
-    (number, Event (event.Found number), inr refl, was_event deed step (event.Found number) i, a)
-after_inserted deed step told next entry steps i a = absurd (no_entry told entry steps a)
-
--- the answer with the entry of a number
-abbrev entered : (ℕ → Entry) → ℕ → Tree
-entered entry_for number = Shuts true (Gives (answer.Entry (entry_for number)))
-
-gives_entry : (given entry : Entry) (steps : List Step) → Along (Gives (answer.Entry given)) steps (answer.Entry entry) →
-    (steps ≡ []) × (entry ≡ given)
-gives_entry given entry [] a = (refl, cc)
-gives_entry given entry (step ∷ steps) a = absurd a
-
-after_insertion : (session : BegunSession) (fd : Fd) (told : Stat) (entry_for : ℕ → Entry) (fresh : ℕ) (entry : Entry)
-    (steps : List Step) →
-    Along (insert session fresh (File fd) told (entered entry_for)) steps (answer.Entry entry) →
-    (number : ℕ) × (reply : ActReply) × InsertionGives number reply
-    × (steps ≡ made (Changes (change.Insert session.era fresh (File fd) told.ids told.mode)) reply ∷ [])
-    × (entry ≡ entry_for number)
-after_insertion session fd told entry_for fresh entry [] a = absurd a
-after_insertion session fd told entry_for fresh entry (step ∷ steps) a =
-    let k = after_inserted (Changes (change.Insert session.era fresh (File fd) told.ids told.mode)) step.deed step.reply
-    (entered entry_for) entry steps a.0 a.1 in
-    let g = gives_entry (entry_for k.0) entry steps k.4 in
-    (k.0, k.1, k.2, (λ i. k.3 i ∷ g.0 i), g.1)
-
-after_draw : (session : BegunSession) (fd : Fd) (told : Stat) (entry_for : ℕ → Entry) (entry : Entry) (steps : List Step) →
-    Along (draw_node (λ fresh. insert session fresh (File fd) told (entered entry_for))) steps (answer.Entry entry) →
-    (fresh : ℕ) × (number : ℕ) × (reply : ActReply) × InsertionGives number reply
-    × (steps ≡ made (Changes change.DrawNode) (Event (event.Drawn fresh))
-    ∷ made (Changes (change.Insert session.era fresh (File fd) told.ids told.mode)) reply ∷ [])
-    × (entry ≡ entry_for number)
-after_draw session fd told entry_for entry [] a = absurd a
-after_draw session fd told entry_for entry (step ∷ steps) a =
-    let k = after_drawn (Changes change.DrawNode) step.deed step.reply
-    (λ fresh. insert session fresh (File fd) told (entered entry_for)) entry steps a.0 a.1 in
-    let n = after_insertion session fd told entry_for k.0 entry steps k.2 in
-    (k.0, n.0, n.1, n.2, (λ i. k.1 i ∷ n.3 i), n.4)
-
-after_slot : (session : BegunSession) (fd : Fd) (told : Stat) (entry_for : ℕ → Entry) (entry : Entry) (steps : List Step) →
-    Along (take_fd (draw_node (λ fresh. insert session fresh (File fd) told (entered entry_for)))) steps
-    (answer.Entry entry) →
-    (fresh : ℕ) × (number : ℕ) × (reply : ActReply) × InsertionGives number reply
-    × (made (Changes (change.Claim session.era None told.ids)) (Event event.Absent) ∷ steps
-    ≡ inserting session.era fd told fresh reply) × (entry ≡ entry_for number)
-after_slot session fd told entry_for entry [] a = absurd a
-after_slot session fd told entry_for entry (step ∷ steps) a =
-    let k = after_taken (Changes change.TakeFd) step.deed step.reply
-    (draw_node (λ fresh. insert session fresh (File fd) told (entered entry_for))) entry steps a.0 a.1 in
-    let n = after_draw session fd told entry_for entry steps k.1 in (
-      n.0,
-      n.1,
-      n.2,
-      n.3,
-      (λ i. made (Changes (change.Claim session.era None told.ids)) (Event event.Absent) ∷ k.0 i ∷ n.4 i),
-      n.5,
-    )
-
--- the entry's own number
-own_number : (entry_for : ℕ → Entry) (entry : Entry) (number : ℕ) → ((n : ℕ) → (entry_for n).inode ≡ n) →
-    entry ≡ entry_for number → number ≡ entry.inode
-own_number entry_for entry number own e = sym (ap (λ (x : Entry). x.inode) e ∙ own number)
-
-after_numbered : (session : BegunSession) (fd : Fd) (told : Stat) (entry_for : ℕ → Entry) (entry : Entry)
-    (steps : List Step) → ((n : ℕ) → (entry_for n).inode ≡ n) →
-    Along (numbered session (File fd) told (entered entry_for)) steps (answer.Entry entry) →
-    Numbers session.era fd told entry.inode steps × (entry ≡ entry_for entry.inode)
-after_numbered session fd told entry_for entry [] own a = absurd a
-after_numbered session fd told entry_for entry (step ∷ steps) own a =
-    elim (after_claim (Changes (change.Claim session.era None told.ids)) step.deed step.reply (entered entry_for)
-    (take_fd (draw_node (λ fresh. insert session fresh (File fd) told (entered entry_for)))) entry steps a.0 a.1) [
-      | inl k ↦
-          let g = gives_entry (entry_for k.0) entry steps k.2 in
-          let n = own_number entry_for entry k.0 own g.1 in (
-            inl (subst (λ (z : ℕ). step ∷ steps
-                ≡ made (Changes (change.Claim session.era None told.ids)) (Event (event.Claimed z)) ∷ []) n (λ i. k.1 i
-                ∷ g.0 i)),
-            subst (λ (z : ℕ). entry ≡ entry_for z) n g.1,
-          )
+gave : (seat : HostSeat) (session : BegunSession) (fd : Fd) (told : Stat) (next : ℕ → RequestTree) (steps : List Step)
+    (last : Answer) → HasEntry last → Leads seat (numbered session (File fd) told next) steps last →
+    Gave seat session fd told next steps last
+gave seat session fd told next steps last p a =
+    let inserts : ℕ → RequestTree = λ fresh. insert session fresh (File fd) told next in
+    let asks = change.Claim session.era None told.ids in
+    let c = goes_on seat (Changes asks) (on_claim next (take_fd (draw_node inserts))) steps last refl
+    (none_told asks (λ t. refl)) p a in
+    elim (claimed seat next (take_fd (draw_node inserts)) c.told c.rest last p c.on) [
+      | inl k ↦ record {
+        number = k.0;
+        own = made (Changes asks) (Event (event.Claimed k.0)) ∷ [];
+        rest = c.rest;
+        are = then_step c.are k.1 refl;
+        gives = inl refl;
+        on = k.2;
+      }
       | inr k ↦
-          let m = after_slot session fd told entry_for entry steps k.1 in
-          let n = own_number entry_for entry m.1 own m.5 in (
-            inr (m.0, m.2, subst (λ (z : ℕ). InsertionGives z m.2) n m.3, (λ i. k.0 i ∷ steps) ∙ m.4),
-            subst (λ (z : ℕ). entry ≡ entry_for z) n m.5,
-          )
+          let t = goes_on seat (Changes change.TakeFd) (on_taken (draw_node inserts)) c.rest last refl
+          (none_told change.TakeFd (λ t. refl)) p k.1 in
+          let slot = taken seat (draw_node inserts) t.told t.rest last p t.on in
+          let d = goes_on seat (Changes change.DrawNode) (on_drawn inserts) t.rest last refl
+          (none_told change.DrawNode (λ t. refl)) p slot.1 in
+          let fresh = drawn seat inserts d.told d.rest last p d.on in
+          let adds = change.Insert session.era fresh.0 (File fd) told.ids told.mode in
+          let i = goes_on seat (Changes adds) (on_inserted next) d.rest last refl (none_told adds (λ t. refl)) p
+          fresh.2 in
+          let given = inserted seat next i.told i.rest last p i.on in record {
+            number = given.0;
+            own = inserting session.era fd told fresh.0 i.told;
+            rest = i.rest;
+            are = then_step c.are k.0 (then_step t.are slot.0 (then_step d.are fresh.1 i.are));
+            gives = inr (fresh.0, i.told, given.1, refl);
+            on = given.2;
+          }
     ]
 
-good_name : (bad : Bool) (next : Tree) (entry : Entry) (steps : List Step) →
-    Along (if bad then Gives (answer.Refused einval) else next) steps (answer.Entry entry) →
-    Along next steps (answer.Entry entry)
-good_name true next entry [] a = absurd cc
-good_name true next entry (step ∷ steps) a = absurd a
-good_name false next entry steps a = a
+-- what follows the number, the status, the opening and the parent
+abbrev handing : Plan → BegunSession → ObjIds → (Looked → RequestTree) → Fd → Stat → ℕ → RequestTree
+handing plan session ids next fd told number = Shuts true (next (looked_of plan session ids told (File fd) number))
 
--- what a lookup in this directory gives
-abbrev entry_in : Plan → BegunSession → ObjIds → Stat → ℕ → Entry
-entry_in plan session ids told number = entry_of plan session.agreed ids told number
+abbrev numbering : Plan → BegunSession → ObjIds → (Looked → RequestTree) → Fd → Stat → RequestTree
+numbering plan session ids next fd told = numbered session (File fd) told (handing plan session ids next fd told)
 
--- what follows the parent
-abbrev in_directory : Plan → BegunSession → ObjIds → RowForm → List ℕ → Tree
-in_directory plan session ids form name =
-    file_of form (λ dir. open_at dir name by_path (λ fd. stat fd (λ told.
-    numbered session (File fd) told (entered (entry_in plan session ids told)))))
+abbrev stating : Plan → BegunSession → ObjIds → (Looked → RequestTree) → Fd → RequestTree
+stating plan session ids next fd = stat fd (numbering plan session ids next fd)
 
-pub looked_up : (plan : Plan) (parent : ℕ) (name : List ℕ) (entry : Entry) (steps : List Step) →
-    Along (lookup plan parent name) steps (answer.Entry entry) → IsLookedUp plan parent name entry steps
-looked_up plan parent name entry [] a = absurd a
-looked_up plan parent name entry (begin ∷ []) a =
-    let b = after_began (Changes change.Begin) begin.deed begin.reply _ entry [] a.0 a.1 in
-    absurd (good_name (is_bad_name name) (look_up plan (session_of b.0 b.1) parent name (λ looked.
-    Gives (answer.Entry looked.entry))) entry [] b.3)
-looked_up plan parent name entry (begin ∷ resolve ∷ steps) a =
-    let b = after_began (Changes change.Begin) begin.deed begin.reply _ entry (resolve ∷ steps) a.0 a.1 in
-    let session : BegunSession = session_of b.0 b.1 in
-    let g = good_name (is_bad_name name) (look_up plan session parent name (λ looked.
-    Gives (answer.Entry looked.entry))) entry (resolve ∷ steps) b.3 in
-    let r = after_resolved (Changes (change.Resolve parent)) resolve.deed resolve.reply (λ directory.
-    in_directory plan session directory.ids directory.form name) entry steps g.0 g.1 in
-    go session b.2 r.0 r.1 r.2 r.3 r.4 steps r.5
+abbrev opening : Plan → BegunSession → ObjIds → List ℕ → (Looked → RequestTree) → Fd → RequestTree
+opening plan session ids name next dir = open_at dir name by_path (stating plan session ids next)
+
+abbrev resolving : Plan → BegunSession → List ℕ → (Looked → RequestTree) → Resolved → RequestTree
+resolving plan session name next directory =
+    file_of directory.form (opening plan session directory.ids name next)
+
+-- a lookup came to an entry by the first of these steps, and handed it on
+pub record Looks
+    (seat : HostSeat)
+    (plan : Plan)
+    (session : BegunSession)
+    (parent : ℕ)
+    (name : List ℕ)
+    (next : Looked → RequestTree)
+    (steps : List Step)
+    (last : Answer)
+    : Type 0 where
+  pub looked : Looked
+  pub own : List Step
+  pub rest : List Step
+  pub are : steps ≡ own ++ rest
+  pub by : IsLookedUp plan session.era session.agreed parent name looked.entry own
+  pub on : Leads seat (Shuts true (next looked)) rest last
+
+pub looks : (seat : HostSeat) (plan : Plan) (session : BegunSession) (parent : ℕ) (name : List ℕ)
+    (next : Looked → RequestTree) (steps : List Step) (last : Answer) → HasEntry last →
+    Leads seat (look_up plan session parent name next) steps last →
+    Looks seat plan session parent name next steps last
+looks seat plan session parent name next steps last p a =
+    let asks = change.Resolve parent in
+    let r = goes_on seat (Changes asks) (on_resolved (resolving plan session name next)) steps last refl
+    (none_told asks (λ t. refl)) p
+    (in_bracket seat (resolve parent (resolving plan session name next)) steps last a) in
+    let k = resolved seat (resolving plan session name next) r.told r.rest last p r.on in
+    go k.0 k.1 k.2 k.3 r.rest (then_step r.are k.4 refl) k.5
   where
-    go : (session : BegunSession) → Was (Changes change.Begin) begin (Event (event.Began session.era session.agreed)) →
-        (row : ℕ) (form : RowForm) (ids : ObjIds) (mode : ℕ) →
-        Was (Changes (change.Resolve parent)) resolve (Event (event.Resolved row form ids mode)) →
-        (steps : List Step) → Along (in_directory plan session ids form name) steps (answer.Entry entry) →
-        IsLookedUp plan parent name entry (begin ∷ resolve ∷ steps)
-    go session b row (File dir) ids mode r [] a = absurd a
-    go session b row (File dir) ids mode r (opening ∷ []) a =
-        let o = after_fd (Calls (call.OpenAt dir name by_path 0)) opening.deed opening.reply (λ fd. stat fd (λ told.
-        numbered session (File fd) told (entered (entry_in plan session ids told)))) entry [] a.0 a.1 in absurd o.2
-    go session b row (File dir) ids mode r (opening ∷ state ∷ steps) a =
-        let o = after_fd (Calls (call.OpenAt dir name by_path 0)) opening.deed opening.reply (λ fd. stat fd (λ told.
-        numbered session (File fd) told (entered (entry_in plan session ids told)))) entry (state ∷ steps) a.0 a.1 in
-        let s = after_stat (Calls (call.Stat o.0)) state.deed state.reply (λ told.
-        numbered session (File o.0) told (entered (entry_in plan session ids told))) entry steps o.2.0 o.2.1 in
-        let n = after_numbered session o.0 s.0 (entry_in plan session ids s.0) entry steps (λ number. refl) s.2 in
+    go : (row : ℕ) (form : RowForm) (ids : ObjIds) (mode : ℕ) (rest : List Step) →
+        steps ≡ made (Changes (change.Resolve parent)) (Event (event.Resolved row form ids mode)) ∷ rest →
+        Leads seat (file_of form (opening plan session ids name next)) rest last →
+        Looks seat plan session parent name next steps last
+    go row (File dir) ids mode rest e a =
+        let o = goes_on seat (Calls (call.OpenAt dir name by_path 0)) (on_fd (stating plan session ids next)) rest
+        last refl (λ t. refl) p a in
+        let fd = opened seat (stating plan session ids next) o.told o.rest last p o.on in
+        let s = goes_on seat (Calls (call.Stat fd.0)) (on_stat (numbering plan session ids next fd.0)) o.rest last
+        refl (λ t. refl) p fd.2 in
+        let was = stated seat (numbering plan session ids next fd.0) s.told s.rest last p s.on in
+        let given = gave seat session fd.0 was.0 (handing plan session ids next fd.0 was.0) s.rest last p was.2 in
         record {
-          era = session.era;
-          agreed = session.agreed;
-          row = row;
-          form = File dir;
-          ids = ids;
-          mode = mode;
-          fd = o.0;
-          stat = s.0;
-          giving = steps;
-          in_turn = λ i. b i ∷ r i ∷ o.1 i ∷ s.1 i ∷ steps;
-          numbered = n.0;
-          told = n.1;
+          looked = looked_of plan session ids was.0 (File fd.0) given.number;
+          own = made (Changes (change.Resolve parent)) (Event (event.Resolved row (File dir) ids mode))
+              ∷ made (Calls (call.OpenAt dir name by_path 0)) (Host (host.Ok (value.Fd fd.0)))
+              ∷ made (Calls (call.Stat fd.0)) (Host (host.Ok (value.Stat was.0))) ∷ given.own;
+          rest = given.rest;
+          are = then_step e refl (then_step o.are fd.1 (then_step s.are was.1 given.are));
+          by = record {
+            row = row;
+            form = File dir;
+            ids = ids;
+            mode = mode;
+            fd = fd.0;
+            stat = was.0;
+            giving = given.own;
+            in_turn = refl;
+            numbered = given.gives;
+            told = refl;
+          };
+          on = given.on;
         }
+
+-- in any request, whatever follows
+pub looks_law : (plan : Plan) (session : BegunSession) (parent : ℕ) (name : List ℕ) (next : Looked → RequestTree)
+    (seat : HostSeat) (holds : List Hold) (marks : List ℕ) (steps : List Step) (last : Answer) →
+    passes_with last ≡ true →
+    Belongs (framed seat (look_up plan session parent name next) holds marks) steps (finish.Answer last) →
+    (looked : Looked) × (own : List Step) × (rest : List Step) × (steps ≡ own ++ rest)
+    × IsLookedUp plan session.era session.agreed parent name looked.entry own
+    × ((held : List Hold) × (outer : List ℕ)
+    × Belongs (framed seat (Shuts true (next looked)) held outer) rest (finish.Answer last))
+looks_law plan session parent name next seat holds marks steps last p b =
+    let l = looks seat plan session parent name next steps last p
+    (record { holds = holds; marks = marks; belongs = b }) in
+    (l.looked, l.own, l.rest, l.are, l.by, (l.on.holds, l.on.marks, l.on.belongs))
+
+good_name : (seat : HostSeat) (bad : Bool) (next : RequestTree) (steps : List Step) (last : Answer) → HasEntry last →
+    Leads seat (if bad then Gives (answer.Refused einval) else next) steps last → Leads seat next steps last
+good_name seat true next steps last p a =
+    let no : passes_with (answer.Refused einval) ≡ true =
+    ap passes_with (sym (given_none seat (answer.Refused einval) last steps p a)) ∙ p in absurd (cc)
+good_name seat false next steps last p a = a
+
+-- a lookup that is answered with an entry begins, looks up, and then gives back
+pub looked_up : (plan : Plan) (seat : HostSeat) (who : Context) (parent : ℕ) (name : List ℕ) (entry : Entry)
+    (steps : List Step) →
+    Belongs (grammar_of plan seat who (request.Lookup parent name)) steps (finish.Answer (answer.Entry entry)) →
+    (era : ℕ) × (agreed : Negotiated) × (own : List Step) × (back : List Step)
+    × (steps ≡ made (Changes change.Begin) (Event (event.Began era agreed)) ∷ (own ++ back))
+    × IsLookedUp plan era agreed parent name entry own
+looked_up plan seat who parent name entry steps b =
+    let next : Looked → RequestTree = λ looked. Gives (answer.Entry looked.entry) in
+    let begins : BegunSession → RequestTree = λ session. named name (look_up plan session parent name next) in
+    let g = goes_on seat (Changes change.Begin) (on_began begins) steps (answer.Entry entry) refl
+    (none_told change.Begin (λ t. refl)) refl (record { holds = []; marks = []; belongs = b }) in
+    let k = began seat begins g.told g.rest (answer.Entry entry) refl g.on in
+    let this = session_of k.0 k.1 in
+    let l = looks seat plan this parent name next g.rest (answer.Entry entry) refl
+    (good_name seat (is_bad_name name) (look_up plan this parent name next) g.rest (answer.Entry entry) refl k.3) in
+    let same : l.looked.entry ≡ entry =
+    same_entry (shut_none seat (answer.Entry l.looked.entry) (answer.Entry entry) l.rest refl l.on) in (
+      k.0,
+      k.1,
+      l.own,
+      l.rest,
+      then_step g.are k.2 l.are,
+      subst (λ (e : Entry). IsLookedUp plan k.0 k.1 parent name e l.own) same l.by,
+    )
+  where
+    same_entry : {given : Entry} → answer.Entry entry ≡ answer.Entry given → given ≡ entry
+    same_entry e = cc

@@ -20,7 +20,13 @@ ComesTo plan seat asked steps end =
 
 -- each step is one of the jobs' below the bound, and each of these comes to its end by what was asked of it, a
 -- request or an edit
-pub record AreAnswered (plan : Plan) (bound : ℕ) (seats : ℕ → HostSeat) (asked : ℕ → Asked) (ends : ℕ → Finish)
-    (turns : List Turn) : Type 0 where
+pub record AreAnswered
+    (plan : Plan)
+    (bound : ℕ)
+    (seats : ℕ → HostSeat)
+    (asked : ℕ → Asked)
+    (ends : ℕ → Finish)
+    (turns : List Turn)
+    : Type 0 where
   pub owners : Each (λ turn. turn.job < bound) turns
   pub jobs : (job : ℕ) → job < bound → ComesTo plan (seats job) (asked job) (steps_of job turns) (ends job)

@@ -16,14 +16,12 @@ use Rattle.pt_iface.specs.declared.answer.Answer.TheVariants as answer
 use Rattle.pt_iface.specs.declared.request.Request.{Request}
 use Rattle.pt_iface.specs.declared.request.Request.TheVariants as request
 use Rattle.pt_frame.specs.Deed.{Deed, Calls, Changes, Step}
+use Rattle.pt_frame.specs.Memory.{RanOut}
 use Rattle.pt_frame.specs.declared.act.ActReply.{ActReply}
 use Rattle.pt_frame.specs.declared.act.ActReply.TheVariants.{Event, Host}
-use Rattle.pt_frame.specs.declared.finish.Finish.{Finish}
-use Rattle.pt_frame.specs.declared.finish.Finish.TheVariants as finish
 use Rattle.pt_req.specs.Entries.{is_bad_name, is_bad_offset, can_open}
 use Rattle.pt_req.specs.Requests.{IsServed}
 use Rattle.pt_attr.specs.Pattern.{Asked, Requests, Edits}
-use Rattle.pt_law.specs.Branch.{SomeLacks}
 
 -- it opens a number
 abbrev pub IsOpening : Request → Type 0
@@ -91,23 +89,11 @@ OwnCause asked cause = (IsServed asked → ⊥) × (cause ≡ errno_of 38)
 abbrev pub HasCause : Request → List Step → Errno → Type 0
 HasCause asked steps cause = OwnCause asked cause ⊎ SomeCauses asked steps cause
 
--- a part of it says that it takes memory of its own: none of today does
-abbrev pub MayAllocate : Request → Type 0
-MayAllocate asked = ⊥
-
--- memory ran out at one of the steps, or may have run out in a part of its own
-abbrev pub RanOut : Request → List Step → Type 0
-RanOut asked steps = SomeLacks steps ⊎ MayAllocate asked
-
 -- an answer that refuses, or that memory ran out, has its cause
 abbrev pub IsCaused : Request → List Step → Answer → Type 0
 IsCaused asked steps (answer.Refused errno) = HasCause asked steps errno
-IsCaused asked steps answer.NoMemory = RanOut asked steps
+IsCaused asked steps answer.NoMemory = RanOut steps
 IsCaused asked steps last = Unit {0}
-
-abbrev pub IsCausedEnd : Request → List Step → Finish → Type 0
-IsCausedEnd asked steps (finish.Answer last) = IsCaused asked steps last
-IsCausedEnd asked steps (finish.Lost errno) = Unit {0}
 
 -- the edit's one step was refused, or failed, with this error number
 abbrev pub EditCauses : Edit → List Step → Errno → Type 0

@@ -10,14 +10,14 @@ use Rattle.pt_frame.specs.Deed.{Calls, Step}
 use Rattle.pt_frame.specs.Held.{held, opened}
 use Rattle.pt_frame.specs.Replies.{closings_in, refusal}
 use Rattle.pt_frame.specs.Frame.{front, behind, under, mark_in, outer}
-use Rattle.pt_frame.specs.Tree.{Tree, Gives, Refuses, Asks, Opens, Bares, Brackets, Shuts, Allocates}
+use Rattle.pt_frame.specs.Tree.{RequestTree, Gives, Refuses, Asks, Opens, Bares, Brackets, Shuts, Allocates}
 use Rattle.pt_frame.specs.declared.act.ActReply.{ActReply}
 use Rattle.pt_frame.specs.declared.hold.Hold.{Hold}
 use Rattle.pt_law.specs.Discipline.{Notes, notes_after, blank}
 use Rattle.pt_law.specs.Told.{MayBeTold}
 use Rattle.pt_law.specs.Keeps.{uncovered, down_to, MayMake, MayOpen, Lasts, After, HoldsEntry}
-use Rattle.pt_law.specs.Discipline.{made}
-use Rattle.pt_fit.specs.Cause.{IsCaused, MayAllocate}
+use Rattle.pt_law.specs.Naming.{made}
+use Rattle.pt_fit.specs.Cause.{HasCause}
 
 -- an entry is the answer of a lookup, and no request of today makes what it answers
 abbrev pub MayAnswer : Answer → Request → Type 0
@@ -26,11 +26,16 @@ MayAnswer (answer.Entry entry) asked = ⊥
 MayAnswer (answer.Created entry handle options) asked = ⊥
 MayAnswer last asked = Unit {0}
 
+-- A refusal has its cause on the path to it; that memory ran out has one in every tree that takes none of its own.
+abbrev pub IsCausedLeaf : Request → List Step → Answer → Type 0
+IsCausedLeaf asked path (answer.Refused errno) = HasCause asked path errno
+IsCausedLeaf asked path last = Unit {0}
+
 -- On each path through the tree of what was asked, by replies that may come; the path's latest step stands first.
-abbrev pub Fit : Request → Tree → List Hold → List ℕ → Notes → List Step → Type 0
+abbrev pub Fit : Request → RequestTree → List Hold → List ℕ → Notes → List Step → Type 0
 Fit asked (Gives last) holds marks notes path =
-    HoldsEntry last holds × IsCaused asked path last × MayAnswer last asked
-Fit asked (Refuses told) holds marks notes path = IsCaused asked path (refusal told)
+    HoldsEntry last holds × IsCausedLeaf asked path last × MayAnswer last asked
+Fit asked (Refuses told) holds marks notes path = IsCausedLeaf asked path (refusal told)
 Fit asked (Asks deed next) holds marks notes path =
     MayMake deed holds notes
     × ((told : ActReply) → MayBeTold deed told →
@@ -47,8 +52,8 @@ Fit asked (Shuts passes rest) holds marks notes path =
     (later : Notes) → Lasts notes later →
     Fit asked rest (under (front passes holds) (down_to (mark_in marks) (behind passes holds))) (outer marks) later
     path
-Fit asked (Allocates rest) holds marks notes path = MayAllocate asked × Fit asked rest holds marks notes path
+Fit asked (Allocates rest) holds marks notes path = Fit asked rest holds marks notes path
 
 -- from its start on
-abbrev pub IsFit : Request → Tree → Type 0
+abbrev pub IsFit : Request → RequestTree → Type 0
 IsFit asked tree = Fit asked tree [] [] blank []

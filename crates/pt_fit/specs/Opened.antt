@@ -13,13 +13,13 @@ use Rattle.pt_session.specs.declared.event.KeptEvent.TheVariants as change
 use Rattle.pt_session.specs.declared.reply.EventReply.TheVariants as event
 use Rattle.pt_iface.specs.declared.entry.Entry.{Entry}
 use Rattle.pt_frame.specs.Deed.{Calls, Changes, Step}
-use Rattle.pt_law.specs.Discipline.{fd_of}
-use Rattle.pt_law.specs.Discipline.{made}
 use Rattle.pt_req.specs.Entries.{entry_of}
 use Rattle.pt_req.specs.Parts.{by_path}
 use Rattle.pt_frame.specs.declared.act.ActReply.{ActReply}
 use Rattle.pt_frame.specs.declared.act.ActReply.TheVariants.{Event, Host}
 use Rattle.pt_req.specs.declared.plan.Plan.{Plan}
+use Rattle.pt_law.specs.World.{fd_of}
+use Rattle.pt_law.specs.Naming.{made}
 
 -- no number was found at first: a slot was taken and a number drawn, and this is what the insertion was answered
 abbrev pub inserting : ℕ → Fd → Stat → ℕ → ActReply → List Step
@@ -39,11 +39,17 @@ Numbers era fd stat number steps =
     (steps ≡ made (Changes (change.Claim era None stat.ids)) (Event (event.Claimed number)) ∷ [])
     ⊎ ((fresh : ℕ) × (told : ActReply) × InsertionGives number told × (steps ≡ inserting era fd stat fresh told))
 
--- The parent was resolved, the name was opened in the directory of its row, the status of what was opened was told,
--- and the number was had; the entry is that number and that status.
-pub record IsLookedUp (plan : Plan) (parent : ℕ) (name : List ℕ) (entry : Entry) (steps : List Step) : Type 0 where
-  pub era : ℕ
-  pub agreed : Negotiated
+-- In a session that began so the parent was resolved, the name was opened in the directory of its row, the status of
+-- what was opened was told, and the number was had; the entry is that number and that status.
+pub record IsLookedUp
+    (plan : Plan)
+    (era : ℕ)
+    (agreed : Negotiated)
+    (parent : ℕ)
+    (name : List ℕ)
+    (entry : Entry)
+    (steps : List Step)
+    : Type 0 where
   pub row : ℕ
   pub form : RowForm
   pub ids : ObjIds
@@ -52,8 +58,7 @@ pub record IsLookedUp (plan : Plan) (parent : ℕ) (name : List ℕ) (entry : En
   pub stat : Stat
   pub giving : List Step
   pub in_turn : steps ≡
-      made (Changes change.Begin) (Event (event.Began era agreed))
-      ∷ made (Changes (change.Resolve parent)) (Event (event.Resolved row form ids mode))
+      made (Changes (change.Resolve parent)) (Event (event.Resolved row form ids mode))
       ∷ made (Calls (call.OpenAt (fd_of form) name by_path 0)) (Host (host.Ok (value.Fd fd)))
       ∷ made (Calls (call.Stat fd)) (Host (host.Ok (value.Stat stat)))
       ∷ giving

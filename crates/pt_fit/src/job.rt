@@ -1,4 +1,4 @@
-ghost use Rattle.std.specs.Prelude.{◌≡◌, ◌⊎◌, ℕ, List, [], length};
+ghost use Rattle.std.specs.Prelude.{◌≡◌, ℕ, List, [], length};
 ghost use Rattle.pt_host.specs.declared.edit.Edit.{Edit};
 ghost use Rattle.pt_host.specs.declared.seat.HostSeat.{HostSeat};
 ghost use Rattle.pt_iface.specs.declared.answer.Answer.{Answer};
@@ -11,16 +11,16 @@ ghost use Rattle.pt_frame.specs.Deed.{Step};
 ghost use Rattle.pt_frame.specs.Edit.{edit_grammar};
 ghost use Rattle.pt_frame.specs.Frame.{CutAfter, CutInFull};
 ghost use Rattle.pt_frame.specs.Grammar.{Belongs};
+ghost use Rattle.pt_frame.specs.Memory.{RanOut};
 ghost use Rattle.pt_frame.specs.declared.finish.Finish.{Finish};
 ghost use Rattle.pt_frame.specs.declared.finish.Finish.TheVariants as finish;
 ghost use Rattle.pt_req.specs.Requests.{tree_of};
 ghost use Rattle.pt_req.specs.declared.plan.Plan.{Plan};
-ghost use Rattle.pt_attr.specs.Pattern.{Asked, Requests, Edits, grammar_of, grammar_for};
+ghost use Rattle.pt_attr.specs.Pattern.{Asked, Requests, Edits, grammar_for};
 ghost use Rattle.pt_law.specs.Discipline.{idle, ComesToEnd};
 ghost use Rattle.pt_law.specs.Told.{AllMayBeTold};
-ghost use Rattle.pt_law.specs.Branch.{SomeLacks};
 ghost use Rattle.pt_law.specs.Laws.{BeginsFirst};
-ghost use Rattle.pt_fit.specs.Cause.{IsCausedBy, RanOut};
+ghost use Rattle.pt_fit.specs.Cause.{IsCausedBy};
 ghost use Rattle.pt_fit.specs.Fit.{IsFit};
 ghost use Rattle.pt_fit.specs.Answered.{ComesTo};
 
@@ -37,7 +37,7 @@ pub fn asked_ends()
     ensures ends { (plan : Plan) (seat : HostSeat) (asked : Asked) (steps : List Step) (end : Finish) →
         AllMayBeTold steps → ComesTo plan seat asked steps end → ComesToEnd idle steps end }
     ensures full { (plan : Plan) (seat : HostSeat) (asked : Asked) (so_far steps : List Step) (end : Finish) →
-        AllMayBeTold so_far → (SomeLacks so_far → ⊥) →
+        AllMayBeTold so_far → (RanOut so_far → ⊥) →
         CutAfter seat (grammar_for plan seat asked) so_far steps end →
         CutInFull seat (grammar_for plan seat asked) so_far steps end }
     ensures causes { (plan : Plan) (seat : HostSeat) (asked : Asked) (steps : List Step) (last : Answer) →
@@ -49,14 +49,6 @@ pub fn asked_ends()
         AllMayBeTold steps → Belongs (grammar_for plan seat asked) steps (finish.Answer (answer.Entry entry)) →
         ((who : Context) × (parent : ℕ) × (name : List ℕ)
         × (asked ≡ Requests who (request.Lookup parent name))) }
-{}
-
-/// A request is answered `NoMemory` only where one of its steps was told so or could not be copied, or where a part
-/// of it says that it allocates.
-pub fn no_memory_has_its_cause()
-    ensures { (plan : Plan) (seat : HostSeat) (who : Context) (asked : Request) (steps : List Step) →
-        AllMayBeTold steps → Belongs (grammar_of plan seat who asked) steps (finish.Answer answer.NoMemory) →
-        RanOut asked steps }
 {}
 
 /// An edit is one step. It keeps the discipline; it is refused exactly where its step was refused or failed; and one

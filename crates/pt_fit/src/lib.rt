@@ -7,7 +7,7 @@ mod job;
 mod run;
 mod uses;
 
-pub use entry::lookup_opens;
-pub use job::{asked_ends, each_request, edit_ends, no_memory_has_its_cause};
+pub use entry::{lookup_opens, part_looks_up, places_of_entry};
+pub use job::{asked_ends, each_request, edit_ends};
 pub use run::all_answered;
 pub use uses::gone_number;

@@ -5,7 +5,7 @@ ghost use Rattle.pt_frame.specs.declared.finish.Finish.{Finish};
 ghost use Rattle.pt_req.specs.declared.plan.Plan.{Plan};
 ghost use Rattle.pt_attr.specs.Pattern.{Asked};
 ghost use Rattle.pt_law.specs.World.{World, Turn, Runs, HostRuns};
-ghost use Rattle.pt_law.specs.Laws.{AreEnded};
+ghost use Rattle.pt_law.specs.Discipline.{AreEnded};
 ghost use Rattle.pt_fit.specs.Answered.{AreAnswered};
 
 use pt_host::Host;

@@ -20,7 +20,8 @@ use Rattle.pt_frame.specs.Deed.{Deed, Changes as Asks}
 use Rattle.pt_frame.specs.Replies.{closings_in}
 use Rattle.pt_frame.specs.declared.act.ActReply.{ActReply}
 use Rattle.pt_frame.specs.declared.act.ActReply.TheVariants.{Event}
-use Rattle.pt_law.specs.Ledger.{row_slot, closing_slot, form_slot, kept_slots, row_has, handle_has, closing_has, kept_fds}
+use Rattle.pt_law.specs.Ledger.{row_slot, closing_slot, form_slot, kept_slots, row_has, handle_has, closing_has}
+use Rattle.pt_law.specs.Ledger.{kept_fds}
 use Rattle.pt_law.specs.Ledger.{fd_handed, fd_received, pin_made, pin_ended, handle_pin_made}
 use Rattle.pt_law.specs.Ledger.{handle_pin_ended, closing_ended}
 use Rattle.pt_law.proofs.Flows.{slot_in, slot_out}
@@ -95,7 +96,8 @@ record Shut (t after : Tables) (row : Row) : Type 0 where
 
 shuts : (t : Tables) (row : Row) (after : Tables) → EndsRow number_rows t row after → Shut t after row
 shuts t row after h = rw h.2 (record {
-  fds = λ fd. let a = total_takes (row_has fd) h.1 in let b = total_push (closing_has fd) t.closing (closing_of row) in
+  fds = λ fd. let a = total_takes (row_has fd) h.1 in
+      let b = total_push (closing_has fd) t.closing (closing_of row) in
       let c = closing_fd_of fd row in omega (arith, a, b, c);
   slots = let a = total_takes row_slot h.1 in let b = total_push closing_slot t.closing (closing_of row) in
       let c = closing_slot_of row in omega (arith, a, b, c);

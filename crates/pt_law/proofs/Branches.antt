@@ -1,5 +1,6 @@
 -- Each answer is that of a branch of the tree, or the job gave up or lost its seat.
-use Rattle.std.proofs.Common.{◌≡◌, ◌⊎◌, inl, inr, ℕ, zero, suc, List, [], ◌∷◌, length, Bool, true, false, Option, ◌||◌}
+use Rattle.std.proofs.Common.{◌≡◌, ◌⊎◌, inl, inr, ℕ, zero, suc, List, [], ◌∷◌, length, Bool, true, false, Option}
+use Rattle.std.proofs.Common.{◌||◌}
 use Rattle.std.proofs.Common.{Some, None, refl, sym, subst, ◌∙◌, if◌then◌else◌, nat_lt}
 use Rattle.pt_host.specs.declared.ids.Errno.{Errno}
 use Rattle.pt_host.specs.declared.seat.HostSeat.{HostSeat}
@@ -9,11 +10,14 @@ use Rattle.pt_iface.specs.declared.answer.Answer.{Answer}
 use Rattle.pt_iface.specs.declared.answer.Answer.TheVariants as answer
 use Rattle.pt_frame.specs.Deed.{Deed, Calls, Changes, Step, IsStepOf, lacks_memory, LacksMemory}
 use Rattle.pt_frame.specs.Held.{is_scope, held, opened}
+use Rattle.pt_frame.specs.Memory.{RanOut}
 use Rattle.pt_frame.specs.Replies.{closings_in, taken_in, restored, refusal, passes_with, is_cut, fault_if}
 use Rattle.pt_frame.specs.Grammar.{Grammar, End, Belongs}
-use Rattle.pt_frame.specs.Frame.{giving, closings, give_taken, give, leave, or_lost, bare_one, bare, shut, front, behind}
-use Rattle.pt_frame.specs.Frame.{under, mark_in, outer, answered_by, answered}
-use Rattle.pt_frame.specs.Tree.{Tree, Gives, Refuses, Asks, Opens, Bares, Brackets, Shuts, Allocates, framed, follows}
+use Rattle.pt_frame.specs.Frame.{giving, closings, give_taken, give, leave, or_lost, bare_one, bare, shut, front}
+use Rattle.pt_frame.specs.Frame.{behind}
+use Rattle.pt_frame.specs.Frame.{under, mark_in, outer, answered_by}
+use Rattle.pt_frame.specs.Tree.{RequestTree, Gives, Refuses, Asks, Opens, Bares, Brackets, Shuts, Allocates, framed}
+use Rattle.pt_frame.specs.Tree.{follows}
 use Rattle.pt_frame.specs.Tree.{may_give_up, allocates}
 use Rattle.pt_frame.specs.declared.act.ActReply.{ActReply}
 use Rattle.pt_frame.specs.declared.act.ActReply.TheVariants.{NoCopy}
@@ -23,7 +27,8 @@ use Rattle.pt_frame.specs.declared.hold.Hold.{Hold}
 use Rattle.pt_frame.specs.declared.hold.Hold.TheVariants as hold
 use Rattle.pt_frame.specs.declared.hold.Taken.{Taken}
 use Rattle.pt_frame.specs.declared.hold.Taken.TheVariants as taken
-use Rattle.pt_law.specs.Branch.{Along, AllocatesAfter, ReturnsHold, AreOwn, AreOwn.{none, keep, skip}, SomeLacks, IsLost}
+use Rattle.pt_law.specs.Branch.{Along, AllocatesAfter, ReturnsHold, AreOwn, AreOwn.{none, keep, skip}}
+use Rattle.pt_law.specs.Branch.{IsLost}
 use Rattle.pt_law.specs.Branch.{AreFirst, AreFirst.{stop, next as first_next, pass}, GaveUp, IsOfBranch}
 
 -- a step of a deed that gives back
@@ -49,7 +54,7 @@ giving_gives seat hold.Umask = tt
 pub record Backs (later steps : List Step) : Type 0 where
   pub own : (path : List Step) → AreOwn path later → AreOwn path steps
   pub first : (path : List Step) → AreFirst path later → AreFirst path steps
-  pub lacks : SomeLacks later → SomeLacks steps
+  pub lacks : RanOut later → RanOut steps
 
 backs_none : (steps : List Step) → Backs steps steps
 backs_none steps = record { own = λ path s. s; first = λ path s. s; lacks = λ l. l }
@@ -81,7 +86,8 @@ reached_on : (rest more : Grammar) (steps : List Step) (end : Finish) (r : Reach
 reached_on rest more steps end r s =
     record { later = s.later; backs = backs_on s.later r.later steps s.backs r.backs; belongs = s.belongs }
 
-pub pass_taken : (brings : Taken) (count : ℕ) (holds : List Hold) (rest : Grammar) (steps : List Step) (end : Finish) →
+pub pass_taken : (brings : Taken) (count : ℕ) (holds : List Hold) (rest : Grammar) (steps : List Step)
+    (end : Finish) →
     Belongs (give_taken brings count holds rest) steps end → Reached rest steps end
 pass_taken taken.Nothing count holds rest steps end b =
     record { later = steps; backs = backs_none steps; belongs = b }
@@ -250,16 +256,17 @@ at_end last [] end b = (b, none)
 at_end last (step ∷ steps) end b = absurd b
 
 -- how a job with this tree may come to its end
-abbrev pub Comes : Tree → List Step → Finish → Type 0
+abbrev pub Comes : RequestTree → List Step → Finish → Type 0
 Comes tree steps end = IsLost end ⊎ (GaveUp tree steps end ⊎ IsOfBranch tree end steps)
 
 -- an end is the answer of a leaf, or a lost seat
-at_leaf : (tree : Tree) (last : Answer) (steps : List Step) (end : Finish) → Along tree [] last →
+at_leaf : (tree : RequestTree) (last : Answer) (steps : List Step) (end : Finish) → Along tree [] last →
     Ended (finish.Answer last) end → AreOwn [] steps → Comes tree steps end
 at_leaf tree last steps end a (inl e) own = inr (inr ([], last, own, e, a))
 at_leaf tree last steps end a (inr g) own = inl g
 
-at_answer : (seat : HostSeat) (passes : Bool) (holds : List Hold) (tree : Tree) (last : Answer) (steps : List Step)
+at_answer : (seat : HostSeat) (passes : Bool) (holds : List Hold) (tree : RequestTree) (last : Answer)
+    (steps : List Step)
     (end : Finish) → Along tree [] last → Belongs (answered_by seat passes holds (finish.Answer last)) steps end →
     Comes tree steps end
 at_answer seat true [] tree last steps end a b = let l = end_leave seat [] (finish.Answer last) steps end b in
@@ -275,7 +282,7 @@ at_answer seat false holds tree last steps end a b =
     at_leaf tree last steps end a l.0 l.1
 
 -- the tree allocates at once
-allocates_now : (tree : Tree) → allocates tree ≡ true → AllocatesAfter tree []
+allocates_now : (tree : RequestTree) → allocates tree ≡ true → AllocatesAfter tree []
 allocates_now (Allocates rest) e = inl refl
 allocates_now (Gives last) e = absurd (cc)
 allocates_now (Refuses told) e = absurd (cc)
@@ -285,11 +292,12 @@ allocates_now (Bares rest) e = absurd (cc)
 allocates_now (Brackets rest) e = absurd (cc)
 allocates_now (Shuts passes rest) e = absurd (cc)
 
-why_gave_up : (told : ActReply) (next : Tree) → may_give_up told next ≡ true →
+why_gave_up : (told : ActReply) (next : RequestTree) → may_give_up told next ≡ true →
     LacksMemory told ⊎ (allocates next ≡ true)
 why_gave_up told next e = go (lacks_memory told) refl e
   where
-    go : (b : Bool) → lacks_memory told ≡ b → (b || allocates next) ≡ true → LacksMemory told ⊎ (allocates next ≡ true)
+    go : (b : Bool) → lacks_memory told ≡ b → (b || allocates next) ≡ true →
+        LacksMemory told ⊎ (allocates next ≡ true)
     go true s f = inl s
     go false s f = inr f
 
@@ -304,7 +312,7 @@ end_follows seat true count holds rest steps end (inl b) =
 end_follows seat true count holds rest steps end (inr b) = inr (pass_closings count holds rest steps end b)
 
 -- a step of the tree's own comes before
-comes_after : (tree next : Tree) (step : Step) (later steps : List Step) (end : Finish) →
+comes_after : (tree next : RequestTree) (step : Step) (later steps : List Step) (end : Finish) →
     ((path : List Step) (last : Answer) → Along next path last → Along tree (step ∷ path) last) →
     ((path : List Step) → AllocatesAfter next path → AllocatesAfter tree (step ∷ path)) → Backs later steps →
     Comes next later end → Comes tree (step ∷ steps) end
@@ -312,15 +320,15 @@ comes_after tree next step later steps end f g b (inl lost) = inl lost
 comes_after tree next step later steps end f g b (inr (inl up)) =
     inr (inl (record { answered = up.answered; why = why up.why }))
   where
-    why : SomeLacks later ⊎ ((path : List Step) × AreFirst path later × AllocatesAfter next path) →
-        SomeLacks (step ∷ steps) ⊎ ((path : List Step) × AreFirst path (step ∷ steps) × AllocatesAfter tree path)
+    why : RanOut later ⊎ ((path : List Step) × AreFirst path later × AllocatesAfter next path) →
+        RanOut (step ∷ steps) ⊎ ((path : List Step) × AreFirst path (step ∷ steps) × AllocatesAfter tree path)
     why (inl l) = inl (inr (b.lacks l))
     why (inr a) = inr (step ∷ a.0, first_next (b.first a.0 a.1), g a.0 a.2)
 comes_after tree next step later steps end f g b (inr (inr r)) =
     inr (inr (step ∷ r.0, r.1, keep (b.own r.0 r.2), r.3, f r.0 r.1 r.4))
 
 -- nothing of the tree's own comes before
-comes_still : (tree next : Tree) (later steps : List Step) (end : Finish) →
+comes_still : (tree next : RequestTree) (later steps : List Step) (end : Finish) →
     ((path : List Step) (last : Answer) → Along next path last → Along tree path last) →
     ((path : List Step) → AllocatesAfter next path → AllocatesAfter tree path) → Backs later steps →
     Comes next later end → Comes tree steps end
@@ -328,28 +336,28 @@ comes_still tree next later steps end f g b (inl lost) = inl lost
 comes_still tree next later steps end f g b (inr (inl up)) =
     inr (inl (record { answered = up.answered; why = why up.why }))
   where
-    why : SomeLacks later ⊎ ((path : List Step) × AreFirst path later × AllocatesAfter next path) →
-        SomeLacks steps ⊎ ((path : List Step) × AreFirst path steps × AllocatesAfter tree path)
+    why : RanOut later ⊎ ((path : List Step) × AreFirst path later × AllocatesAfter next path) →
+        RanOut steps ⊎ ((path : List Step) × AreFirst path steps × AllocatesAfter tree path)
     why (inl l) = inl (b.lacks l)
     why (inr a) = inr (a.0, b.first a.0 a.1, g a.0 a.2)
 comes_still tree next later steps end f g b (inr (inr r)) =
     inr (inr (r.0, r.1, b.own r.0 r.2, r.3, f r.0 r.1 r.4))
 
 -- the job gave up after a step
-gives_up : (tree next : Tree) (step : Step) (steps : List Step) (end : Finish) →
+gives_up : (tree next : RequestTree) (step : Step) (steps : List Step) (end : Finish) →
     ((path : List Step) → AllocatesAfter next path → AllocatesAfter tree (step ∷ path)) →
     may_give_up step.reply next ≡ true → Ended (finish.Answer answer.NoMemory) end → Comes tree (step ∷ steps) end
 gives_up tree next step steps end g m (inl e) = inr (inl (record { answered = e; why = why }))
   where
-    why : SomeLacks (step ∷ steps) ⊎ ((path : List Step) × AreFirst path (step ∷ steps) × AllocatesAfter tree path)
+    why : RanOut (step ∷ steps) ⊎ ((path : List Step) × AreFirst path (step ∷ steps) × AllocatesAfter tree path)
     why = elim (why_gave_up step.reply next m) [
       | inl l ↦ inl (inl l)
       | inr a ↦ inr (step ∷ [], first_next stop, g [] (allocates_now next a))
     ]
 gives_up tree next step steps end g m (inr lost) = inl lost
 
-pub branch : (seat : HostSeat) (tree : Tree) (holds : List Hold) (marks : List ℕ) (steps : List Step) (end : Finish) →
-    Belongs (framed seat tree holds marks) steps end → Comes tree steps end
+pub branch : (seat : HostSeat) (tree : RequestTree) (holds : List Hold) (marks : List ℕ) (steps : List Step)
+    (end : Finish) → Belongs (framed seat tree holds marks) steps end → Comes tree steps end
 branch seat (Gives last) holds marks steps end b =
     at_answer seat (passes_with last) holds (Gives last) last steps end refl b
 branch seat (Refuses told) holds marks steps end b =

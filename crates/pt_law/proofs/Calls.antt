@@ -1,5 +1,6 @@
 -- Calls of the host keep what is known of open descriptors.
-use Rattle.std.proofs.Common.{◌≡◌, inl, inr, ℕ, ◌<◌, ◌≤◌, List, Bool, true, false, refl, sym, ap, subst, ◌∙◌, arith, Option}
+use Rattle.std.proofs.Common.{◌≡◌, inl, inr, ℕ, ◌<◌, ◌≤◌, List, Bool, true, false, refl, sym, ap, subst, ◌∙◌, arith}
+use Rattle.std.proofs.Common.{Option}
 use Rattle.std.proofs.Common.{Some, None}
 use Rattle.pt_host.specs.Words.{total, Each, Takes, set_at}
 use Rattle.pt_host.specs.Call.{Call}
@@ -21,7 +22,8 @@ use Rattle.pt_frame.specs.declared.hold.Hold.{Hold}
 use Rattle.pt_frame.specs.declared.hold.Hold.TheVariants as hold
 use Rattle.pt_law.specs.Discipline.{Job, Notes, with_root, unnoted, unless, MovesBy, Resolution, IsNoted}
 use Rattle.pt_law.specs.World.{Past, settled_by, object_of, first_of}
-use Rattle.pt_law.specs.Ledger.{fd_held, row_has, handle_has}
+use Rattle.pt_law.specs.Ledger.{row_has, handle_has}
+use Rattle.pt_law.proofs.Flows.{fd_held}
 use Rattle.pt_law.proofs.Lists.{total_takes, total_replaces, is_same, is_apart, set_at_same, set_at_other, at_each}
 use Rattle.pt_law.proofs.Lists.{each_replaces, each_takes, each_put}
 use Rattle.pt_law.proofs.Growing.{Grows, call_grows, rows_on, handles_on, knows_on}
@@ -364,7 +366,8 @@ closes bound tree next past rows handles js j after f told lt h t n z y none = r
         unrooted = k.unrooted;
         resolved = k.resolved;
         reopened = λ was u.
-            noted_closed tree f.0 (js i).notes.reopened (past.resolved i was.number) (js i).holds y (k.reopened was u);
+            noted_closed tree f.0 (js i).notes.reopened (past.resolved i was.number) (js i).holds y
+            (k.reopened was u);
       })
       (none i less);
 }

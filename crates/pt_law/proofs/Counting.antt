@@ -19,7 +19,8 @@ use Rattle.pt_frame.specs.declared.act.ActReply.TheVariants.{Event, Host, NoCopy
 use Rattle.pt_frame.specs.declared.hold.Hold.{Hold}
 use Rattle.pt_law.specs.Discipline.{Job, MovesBy}
 use Rattle.pt_law.specs.World.{TablesGo}
-use Rattle.pt_law.specs.Ledger.{all_hold, kept_slots}
+use Rattle.pt_law.specs.Ledger.{kept_slots}
+use Rattle.pt_law.proofs.Flows.{all_hold}
 use Rattle.pt_law.specs.Ledger.{closing_ended}
 use Rattle.pt_law.proofs.Flows.{slot_held, pin_held, handle_pin_held, row_pins, handle_pins, IsHonest}
 use Rattle.pt_law.proofs.Flows.{called}
@@ -141,9 +142,11 @@ keeps_books bound t js j (Changes e) (Event r) t' after lt agree b g m =
     let l = (stays t e r t' g).limit in
     record {
       slots = let x = b.slots in let y = f.slots in let u = v.slots in
-          let z = sum_to_set (λ (k : Job). total slot_held k.holds) js j after bound lt in omega (arith, x, y, z, u, l);
+          let z = sum_to_set (λ (k : Job). total slot_held k.holds) js j after bound lt in
+          omega (arith, x, y, z, u, l);
       pins = λ s. let x = b.pins s in let y = f.pins s in let u = v.pins s in
-          let z = sum_to_set (λ (k : Job). total (pin_held s) k.holds) js j after bound lt in omega (arith, x, y, z, u);
+          let z = sum_to_set (λ (k : Job). total (pin_held s) k.holds) js j after bound lt in
+          omega (arith, x, y, z, u);
       handle_pins = λ s. let x = b.handle_pins s in let y = f.handle_pins s in let u = v.handle_pins s in
           let z = sum_to_set (λ (k : Job). total (handle_pin_held s) k.holds) js j after bound lt in
           omega (arith, x, y, z, u);

@@ -21,7 +21,7 @@ use Rattle.pt_session.specs.declared.event.KeptEvent.TheVariants as change
 use Rattle.pt_session.specs.declared.reply.EventReply.{EventReply}
 use Rattle.pt_session.specs.declared.reply.EventReply.TheVariants as event
 use Rattle.pt_frame.specs.Deed.{Changes}
-use Rattle.pt_law.specs.Discipline.{fd_of}
+use Rattle.pt_law.specs.World.{fd_of}
 use Rattle.pt_frame.specs.Replies.{taken_in, brought}
 use Rattle.pt_frame.specs.declared.act.ActReply.TheVariants.{Event}
 use Rattle.pt_frame.specs.declared.hold.Hold.{Hold}
@@ -143,7 +143,8 @@ pub handles_event : (tree : Tree) (past : Past) (t : Tables) (j : ℕ) (job afte
     (t' : Tables) → Agree t → Case t e r t' → MovesBy job (Changes e) (Event r) after →
     Knowing tree t.next_row past j job → Each (HandleOpen tree past) t.handles →
     Each (HandleOpen tree (settled_by past j (Changes e) (Event r) t.next_row tree)) t'.handles
-handles_event tree past t j job after (change.Insert era number form ids mode) (event.Inserted given) t' a h m k rows =
+handles_event tree past t j job after (change.Insert era number form ids mode) (event.Inserted given) t' a h m k
+    rows =
     rw h.4 (handles_place tree past (settled past given t.next_row (fd_of form) (past.latest j)) t.next_row
     (fd_of form) (past.latest j) t.handles refl refl a.sound_handles rows)
 handles_event tree past t j job after (change.InsertRoot era form ids mode negotiated)
@@ -527,7 +528,8 @@ knows_event tree past t j job after e r t' a h m rows handles k =
     record {
       told = holds_event (ToldRight tree) job.holds e r after.holds m.0 tt (λ era n own. tt) (λ fd.
           tt) (λ number row mode form ids x y. tt) (λ handle number row fd x y. tt) k.told;
-      pins = holds_event (PinRight t'.next_row later.fds) job.holds e r after.holds m.0 tt (λ era n own. tt) (λ fd. tt)
+      pins = holds_event (PinRight t'.next_row later.fds) job.holds e r after.holds m.0 tt (λ era n own. tt)
+          (λ fd. tt)
           (λ number row mode form ids x y.
           pin_grows past later t.next_row t'.next_row (hold.Pin row (row_fd form)) g
           (resolved_pin tree past t number row mode form ids t' a (rw (x, y) at h) rows))

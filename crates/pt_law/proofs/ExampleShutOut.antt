@@ -1,6 +1,7 @@
--- A job begins, and then another clears the session. What the first asks for in its era is refused as overtaken, and no
+-- A job begins, and then another clears the session. What the first asks for in its era is refused as overtaken, and
+-- no
 -- number is given to it.
-use Rattle.std.proofs.Common.{◌≡◌, ◌≢◌, inl, inr, ℕ, List, [], ◌∷◌, refl, ◌∙◌, arith, None, Some}
+use Rattle.std.proofs.Common.{inl, inr, ℕ, List, [], ◌∷◌, refl, arith, None, Some}
 use Rattle.pt_host.specs.declared.ids.ObjIds.{ObjIds}
 use Rattle.pt_session.specs.Rows.{AllDie.{none as none_dies}}
 use Rattle.pt_session.proofs.Cases.{cases}
@@ -11,7 +12,7 @@ use Rattle.pt_session.specs.declared.reply.EventReply.TheVariants as event
 use Rattle.pt_frame.specs.Deed.{Changes}
 use Rattle.pt_frame.specs.declared.act.ActReply.TheVariants.{Event}
 use Rattle.pt_law.specs.World.{Turn, turn_by, TablesGo, TablesRun}
-use Rattle.pt_law.specs.Discipline.{made}
+use Rattle.pt_law.specs.Naming.{made}
 use Rattle.pt_law.specs.Laws.{IsOvertaken}
 
 abbrev cleared : Tables

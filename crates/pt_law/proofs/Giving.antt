@@ -1,6 +1,6 @@
 -- A number that is given names what its name led to.
-use Rattle.std.proofs.Common.{◌≡◌, ◌⊎◌, ⊎_elim, inl, inr, ℕ, ◌+◌, ◌<◌, List, [], ◌∷◌, ◌++◌, refl, sym, ap, subst, ◌∙◌}
-use Rattle.std.proofs.Common.{append_assoc, append-nil, Option, Some, None}
+use Rattle.std.proofs.Common.{◌≡◌, ℕ, ◌+◌, ◌<◌, List, [], ◌∷◌, ◌++◌, refl, sym, ap, subst, ◌∙◌}
+use Rattle.std.proofs.Common.{append_assoc, Option, Some, None}
 use Rattle.pt_host.specs.Words.{Each, Replaces, Replaces.{at, past}, Takes, Takes.{here, there}}
 use Rattle.pt_host.specs.Call.{Call}
 use Rattle.pt_session.specs.Change.{Change}
@@ -18,14 +18,14 @@ use Rattle.pt_session.specs.declared.form.RowForm.{RowForm}
 use Rattle.pt_session.specs.declared.event.KeptEvent.TheVariants as change
 use Rattle.pt_session.specs.declared.reply.EventReply.TheVariants as event
 use Rattle.pt_frame.specs.Deed.{Deed, Calls, Changes, Step}
-use Rattle.pt_law.specs.Discipline.{fd_of}
+use Rattle.pt_law.specs.World.{fd_of}
 use Rattle.pt_frame.specs.declared.act.ActReply.{ActReply}
 use Rattle.pt_frame.specs.declared.act.ActReply.TheVariants.{Event}
 use Rattle.pt_law.specs.Branch.{ReturnsHold, AreOwn, AreOwn.{none, keep, skip}}
 use Rattle.pt_law.specs.Discipline.{Job, HoldsTold, JobMoves, MovesIf}
 use Rattle.pt_law.specs.World.{World, Past, Turn, turn_by, Goes, IsLawful, Runs, TablesGo, steps_of}
-use Rattle.pt_law.specs.Discipline.{made}
-use Rattle.pt_law.specs.Laws.{AreDisciplined, Starts, IsLive, ObjectOf}
+use Rattle.pt_law.specs.Laws.{Starts, IsLive, ObjectOf}
+use Rattle.pt_law.specs.Discipline.{AreDisciplined}
 use Rattle.pt_law.specs.Naming.{resolving, opening, ResolvesNone, OpensNone}
 use Rattle.pt_law.specs.Giving.{GivesBy, GivingPlaces, GivingPath, IsGiven, up_to}
 use Rattle.pt_law.specs.Uses.{StaysLive}
@@ -54,7 +54,8 @@ again w j job fd ids number t' well k rows l t g =
     let a = told_noted w.tree fd ids (w.past.latest j) job.holds k.told t (k.latest fd l) in
     let r = each_replaced (RowOpen w.tree w.past) g.4.1 rows in
     let same : r.object ≡ a.0 =
-    well.apart (fd_of g.0.form) fd r.object a.0 r.shows.what a.1.what r.shows.open_on a.1.open_on r.shows.is_object a.1.is_object (r.shows.same_ids ∙ g.1.1 ∙ sym a.1.same_ids) in
+    well.apart (fd_of g.0.form) fd r.object a.0 r.shows.what a.1.what r.shows.open_on a.1.open_on r.shows.is_object
+    a.1.is_object (r.shows.same_ids ∙ g.1.1 ∙ sym a.1.same_ids) in
     (a.0, ap w.past.numbers (sym g.2) ∙ r.numbered g.1.0 ∙ ap Some same, a.2, a.1.what, a.1.is_object, a.1.same_ids)
 
 moved_on : (w next : World) (j number : ℕ) (ids : ObjIds) → next.tree ≡ w.tree → next.past ≡ w.past →
@@ -147,7 +148,8 @@ to_give {j = j} {parent = parent} {name = name} {start = start} {p = p} path =
 pub giving_law : {j parent : ℕ} {name : List ℕ} {number : ℕ} {ids : ObjIds} (limit bound : ℕ) (turns more : List Turn)
     (start given : World) (p : GivingPlaces turns j parent name number ids) → Starts limit start →
     AreDisciplined bound (turns ++ more) → (path : GivingPath start p given) → IsGiven path
-giving_law {j = j} {parent = parent} {name = name} {number = number} {ids = ids} limit bound turns more start given p s d path =
+giving_law {j = j} {parent = parent} {name = name} {number = number} {ids = ids} limit bound turns more start given p
+    s d path =
     let led = led_law limit bound turns more start path.opened p.opened s d path.named in
     let q = p.opened in
     let front = (q.before ++ turn_by j (resolving parent q.row q.form q.ids q.mode) ∷ q.between)
@@ -158,7 +160,8 @@ giving_law {j = j} {parent = parent} {name = name} {number = number} {ids = ids}
     let lt = owner_of bound front give (p.behind ++ more) d2.owners in
     let own = v.2 j lt in
     let move = next_move give (p.behind ++ more) (v.0 j) own.1 own.2 in
-    let last = gives_latest bound _ _ path.at_give v.0 give given move.0 number ids lt v.1 path.gives move.1 p.gives in
+    let last = gives_latest bound _ _ path.at_give v.0 give given move.0 number ids lt v.1 path.gives move.1 p.gives
+    in
     let still = latest_stays j p.until path.opened path.at_give path.to_give p.opened_last in
     let names = names_opened path.at_give given j number ids (path.opened.past.latest j) led.0 last still led.2 in
     record {
@@ -170,7 +173,8 @@ giving_law {j = j} {parent = parent} {name = name} {number = number} {ids = ids}
       same_ids = names.3;
     }
 
--- the places of a job's steps: the parent is resolved, the name opened, and the number given, with other steps between
+-- the places of a job's steps: the parent is resolved, the name opened, and the number given, with other steps
+-- between
 unfoldable pub places_of : (j parent : ℕ) (name : List ℕ) (number : ℕ) (ids : ObjIds) (turns : List Turn)
     (row mode how : ℕ) (form : RowForm) (its : ObjIds) (dir new : Fd) (flags : OpenFlags)
     (first between middle rest : List Step) (give : Step) →
@@ -179,7 +183,8 @@ unfoldable pub places_of : (j parent : ℕ) (name : List ℕ) (number : ℕ) (id
     Each (λ (step : Step). ResolvesNone step.deed step.reply) between →
     Each (λ (step : Step). OpensNone step.deed step.reply) middle → GivesBy number ids give.deed give.reply →
     GivingPlaces turns j parent name number ids
-places_of j parent name number ids turns row mode how form its dir new flags first between middle rest give e q r gave =
+places_of j parent name number ids turns row mode how form its dir new flags first between middle rest give e q r
+    gave =
     let a = resolving parent row form its mode in
     let b = opening dir name flags how new in
     let x = located j turns first a (between ++ b ∷ (middle ++ give ∷ rest)) e in
@@ -268,7 +273,8 @@ returns_changed : (e : Change) (told : ActReply) → ReturnsHold (Some (Changes 
 returns_changed (change.Resolve number) told h = absurd h
 returns_changed e told h = (tt, tt)
 
-returns_none : (deed : Option Deed) (told : ActReply) → ReturnsHold deed → ResolvesNone deed told × OpensNone deed told
+returns_none : (deed : Option Deed) (told : ActReply) → ReturnsHold deed →
+    ResolvesNone deed told × OpensNone deed told
 returns_none (Some (Calls a)) told h = returns_called a told h
 returns_none (Some (Changes e)) told h = returns_changed e told h
 returns_none None told h = (tt, tt)
@@ -292,11 +298,13 @@ pub branch_places : (turns : List Turn) (j parent : ℕ) (name : List ℕ) (numb
     Each (λ (step : Step). ResolvesNone step.deed step.reply) between →
     Each (λ (step : Step). OpensNone step.deed step.reply) middle → GivesBy number ids give.deed give.reply →
     GivingPlaces turns j parent name number ids
-branch_places turns j parent name number ids path first between middle rest row mode how form its dir new flags give o e q r gave =
+branch_places turns j parent name number ids path first between middle rest row mode how form its dir new flags give
+    o e q r gave =
     let a = resolving parent row form its mode in
     let b = opening dir name flags how new in
     let x = own_same path (steps_of j turns) first (between ++ b ∷ (middle ++ give ∷ rest)) a o e in
-    let y = own_same (between ++ b ∷ (middle ++ give ∷ rest)) x.back between (middle ++ give ∷ rest) b x.own_back refl in
+    let y = own_same (between ++ b ∷ (middle ++ give ∷ rest)) x.back between (middle ++ give ∷ rest) b x.own_back
+    refl in
     let z = own_same (middle ++ give ∷ rest) y.back middle rest give y.own_back refl in
     places_of j parent name number ids turns row mode how form its dir new flags x.front y.front z.front z.back give
     (x.are ∙ ap (λ t. x.front ++ a ∷ t) (y.are ∙ ap (λ t. y.front ++ b ∷ t) z.are))
@@ -319,7 +327,8 @@ gives_live : (t t' : Tables) (number : ℕ) (ids : ObjIds) (deed : Option Deed) 
 gives_live t t' number ids (Some (Changes (change.Claim era handle asked))) (Event (event.Claimed given)) b g =
     let h = cases t t' (change.Claim era handle asked) (event.Claimed given) g in
     subst (IsLive t') b.0 (again_live t asked given t' h.1)
-gives_live t t' number ids (Some (Changes (change.Insert era drawn form asked mode))) (Event (event.Found given)) b g =
+gives_live t t' number ids (Some (Changes (change.Insert era drawn form asked mode))) (Event (event.Found given)) b
+    g =
     let h = cases t t' (change.Insert era drawn form asked mode) (event.Found given) g in
     subst (IsLive t') b.0 (again_live t asked given t' h.1)
 gives_live t t' number ids (Some (Changes (change.Insert era drawn form asked mode)))
@@ -337,7 +346,8 @@ pub two_lookups_law : (limit bound : ℕ) (turns more : List Turn) (start first 
     AreDisciplined bound (turns ++ more) → up_to two ≡ up_to one ++ between → Runs start (up_to one) first →
     Runs first between second → StaysLive first between number → ObjectOf first number object →
     ObjectOf second another object → another ≡ number
-two_lookups_law limit bound turns more start first second job other parent folder name child number another ids its between object one two s d e r k live stands has =
+two_lookups_law limit bound turns more start first second job other parent folder name child number another ids its
+    between object one two s d e r k live stands has =
     let q = two.opened in
     let front = (q.before ++ turn_by other (resolving folder q.row q.form q.ids q.mode) ∷ q.between)
     ++ turn_by other (opening q.dir child q.flags q.made_mode q.fd) ∷ two.until in

@@ -1,6 +1,7 @@
 -- What a call does to a tree by its sort: one that opens and closes nothing leaves open descriptors and all objects
 -- that there were.
-use Rattle.std.proofs.Common.{◌≡◌, ◌⊎◌, inl, inr, ℕ, zero, suc, List, [], ◌∷◌, ◌++◌, refl, sym, ap, subst, ◌∙◌, Option}
+use Rattle.std.proofs.Common.{◌≡◌, ◌⊎◌, inl, inr, ℕ, zero, suc, List, [], ◌∷◌, ◌++◌, refl, sym, ap, subst, ◌∙◌}
+use Rattle.std.proofs.Common.{Option}
 use Rattle.std.proofs.Common.{Some, slice_get, length}
 use Rattle.pt_host.specs.Words.{Each}
 use Rattle.pt_host.specs.Tree.{Tree, Object, IsObject, IsOpenOn}
@@ -20,7 +21,7 @@ use Rattle.pt_host.specs.declared.ids.Fd.{Fd}
 use Rattle.pt_host.specs.declared.ids.ObjIds.{ObjIds}
 use Rattle.pt_session.specs.declared.row.Row.{Row}
 use Rattle.pt_session.specs.declared.row.HandleRow.{HandleRow}
-use Rattle.pt_law.specs.Discipline.{fd_of}
+use Rattle.pt_law.specs.World.{fd_of}
 use Rattle.pt_frame.specs.declared.hold.Hold.{Hold}
 use Rattle.pt_frame.specs.declared.hold.Hold.TheVariants as hold
 use Rattle.pt_law.specs.Discipline.{Job}

@@ -1,5 +1,6 @@
 -- What each deed moves in a job's holds and in the host.
-use Rattle.std.proofs.Common.{◌≡◌, ◌≢◌, ⊎_elim, inl, inr, ℕ, ◌+◌, ◌*◌, ◌<◌, List, ◌++◌, Bool, true, false, refl, sym, ap, subst}
+use Rattle.std.proofs.Common.{◌≡◌, ◌≢◌, ⊎_elim, inl, inr, ℕ, ◌+◌, ◌*◌, ◌<◌, List, ◌++◌, Bool, true, false, refl, sym}
+use Rattle.std.proofs.Common.{ap, subst}
 use Rattle.std.proofs.Common.{arith, ◌∙◌, Option, Some, None}
 use Rattle.std.proofs.lemmas.Bool.{cases_eq}
 use Rattle.pt_host.specs.Words.{is, total, Takes, set_at}
@@ -26,7 +27,8 @@ use Rattle.pt_frame.specs.Held.{statted}
 use Rattle.pt_frame.specs.declared.hold.Hold.{Hold}
 use Rattle.pt_frame.specs.declared.hold.Hold.TheVariants as hold
 use Rattle.pt_law.specs.Discipline.{IsNoted, ShiftsCalled, Shifts}
-use Rattle.pt_law.specs.Ledger.{form_slot, fd_held, open_count, some_count}
+use Rattle.pt_law.specs.Ledger.{form_slot, open_count, some_count}
+use Rattle.pt_law.proofs.Flows.{fd_held}
 use Rattle.pt_law.specs.Ledger.{fd_handed, fd_received, fd_opened, fd_made, fd_closed, fd_ended, pin_made}
 use Rattle.pt_law.specs.Ledger.{pin_ended, handle_pin_made, handle_pin_ended}
 use Rattle.pt_law.proofs.Growing.{IsQuiet, call_grows, opening_does, closing_does}
@@ -50,7 +52,8 @@ pub record Handed (holds : List Hold) (deed : Deed) (told : ActReply) (after : L
 keeps : (deed : Deed) (told : ActReply) (holds after : List Hold) → after ≡ holds →
     ((fd : ℕ) → fd_handed fd deed told + fd_ended fd deed told ≡ fd_received fd deed told + fd_made fd deed told) →
     slot_in deed told ≡ slot_out deed told → ((serial : ℕ) → pin_ended serial deed told ≡ pin_made serial deed told) →
-    ((serial : ℕ) → handle_pin_ended serial deed told ≡ handle_pin_made serial deed told) → Handed holds deed told after
+    ((serial : ℕ) → handle_pin_ended serial deed told ≡ handle_pin_made serial deed told) →
+    Handed holds deed told after
 keeps deed told holds after e f s p q = rw e (record {
   fds = λ fd. let a = f fd in omega (arith, a);
   slots = omega (arith, s);
@@ -111,12 +114,14 @@ noted_weighs w fd ids f holds after (inl r) =
     let a = total_replaces w r.1 in let b = f r.0 in omega (arith, a, b)
 noted_weighs w fd ids f holds after (inr e) = ap (total w) e
 
-fds_called : (f : ℕ) (sort : Sort) (names : List Fd) (stat_of : Option Fd) (told : ActReply) (holds after : List Hold) →
+fds_called : (f : ℕ) (sort : Sort) (names : List Fd) (stat_of : Option Fd) (told : ActReply)
+    (holds after : List Hold) →
     ShiftsCalled sort names stat_of holds told after →
     total (fd_held f) after + fd_closed f sort ≡ total (fd_held f) holds + fd_opened f sort told
 fds_called f (OpensWith flags) names stat_of (Host (host.Ok (value.Fd fd))) holds after m =
     let a = total_takes (fd_held f) m.1 in omega (arith, a)
-fds_called f (OpensWith flags) names stat_of told holds after m = let a = ap (total (fd_held f)) m.1 in omega (arith, a)
+fds_called f (OpensWith flags) names stat_of told holds after m = let a = ap (total (fd_held f)) m.1 in
+    omega (arith, a)
 fds_called f (EndsFd fd) names stat_of told holds after m = let a = total_takes (fd_held f) m.1 in omega (arith, a)
 fds_called f OfSeat names stat_of told holds after m = let a = ap (total (fd_held f)) m.1 in omega (arith, a)
 fds_called f Plain names (Some fd) (Host (host.Ok (value.Stat stat))) holds after m =
@@ -154,7 +159,8 @@ handed_called asked sort e names stat_of told holds after m = record {
   slots = let a = others_called slot_held (λ fd was. refl) sort names stat_of told holds after m in omega (arith, a);
   pins = λ k. let a = others_called (pin_held k) (λ fd was. refl) sort names stat_of told holds after m in
       omega (arith, a);
-  handle_pins = λ k. let a = others_called (handle_pin_held k) (λ fd was. refl) sort names stat_of told holds after m in
+  handle_pins = λ k. let a = others_called (handle_pin_held k) (λ fd was. refl) sort names stat_of told holds after m
+      in
       omega (arith, a);
 }
 
@@ -212,7 +218,8 @@ handed holds (Changes (change.Forget list)) told after m =
 handed holds (Changes (change.GiveBack era number)) told after m =
     loses (Changes (change.GiveBack era number)) told m (λ _. omega arith) (omega arith) (λ _. omega arith) (λ _.
     omega arith)
-handed holds (Changes change.DrawHandle) told after m = keeps _ _ holds after m (λ _. refl) refl (λ _. refl) (λ _. refl)
+handed holds (Changes change.DrawHandle) told after m =
+    keeps _ _ holds after m (λ _. refl) refl (λ _. refl) (λ _. refl)
 handed holds (Changes (change.InsertHandle era handle number fd)) (Event (event.Inserted given)) after m = record {
   fds = λ f. let a = total_takes (fd_held f) m.2 in let b = total_takes (fd_held f) m.3 in omega (arith, a, b);
   slots = let a = total_takes slot_held m.2 in let b = total_takes slot_held m.3 in omega (arith, a, b);
@@ -280,10 +287,12 @@ closes tree f after e one fd = rw e (
 -- what a call opens and closes; what is closed was open
 pub in_tree : (tree : Tree) (a : Call) (r : HostReply) (after : Tree) → TreeChanges tree a r after →
     ((f : ℕ) → 0 < fd_ended f (Calls a) (Host r) → open_count f tree ≡ 1) →
-    (fd : ℕ) → open_count fd after + fd_ended fd (Calls a) (Host r) ≡ open_count fd tree + fd_made fd (Calls a) (Host r)
+    (fd : ℕ) → open_count fd after + fd_ended fd (Calls a) (Host r) ≡ open_count fd tree
+    + fd_made fd (Calls a) (Host r)
 in_tree tree a r after l c fd = go (sort_of a) r refl l c
   where
-    quiet : (r : HostReply) → TreeChanges tree a r after → IsQuiet (sort_of a) r → open_count fd after ≡ open_count fd tree
+    quiet : (r : HostReply) → TreeChanges tree a r after → IsQuiet (sort_of a) r →
+        open_count fd after ≡ open_count fd tree
     quiet r l q = ap (λ (o : ℕ → Option Opened). some_count (o fd)) (call_grows tree a r after l q).same_open
 
     go : (s : Sort) (r : HostReply) → sort_of a ≡ s → TreeChanges tree a r after →

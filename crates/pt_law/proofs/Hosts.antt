@@ -49,7 +49,8 @@ lawful_told (Some (Calls asked)) NoCopy from seat t to seat' t' m = let p = m.0.
 lawful_told (Some (Calls asked)) told from seat t to seat' t' m = absurd m
 lawful_told None told from seat t to seat' t' m = tt
 
-pub run_told : (job : ℕ) (turns : List Turn) (start end : World) → Runs start turns end → AllMayBeTold (steps_of job turns)
+pub run_told : (job : ℕ) (turns : List Turn) (start end : World) → Runs start turns end →
+    AllMayBeTold (steps_of job turns)
 run_told job [] start end r = tt
 run_told job (s ∷ ss) start end r =
     let g = r.1 in
@@ -87,7 +88,8 @@ pub hosts_world : {H : Type 0} (does : Does H) (tree : H → Option Tree) (fault
     (end : World) × (tree to ≡ Some end.tree) × (end.tables ≡ t') × Runs start turns end
 hosts_world does tree faults p l [] start from to t' is r = (start, ap tree r.0 ∙ is, sym r.1, refl)
 hosts_world does tree faults p l (s ∷ ss) start from to t' is r =
-    let k = made_lawful does tree faults p l s.step.deed s.step.reply from r.2 start.tables r.0 r.3 r.1 start.tree is r.4 in
+    let k = made_lawful does tree faults p l s.step.deed s.step.reply from r.2 start.tables r.0 r.3 r.1 start.tree is
+    r.4 in
     let next : World = record {
       tree = k.0;
       tables = r.1;

@@ -1,6 +1,7 @@
 -- Steps of the frame and of a request's own part move the job as the holds say.
-use Rattle.std.proofs.Common.{◌≡◌, ◌⊎◌, inl, inr, ℕ, List, [], ◌∷◌, ◌++◌, Bool, true, false, Option, Some, None, refl, sym}
-use Rattle.std.proofs.Common.{ap, subst, ◌∙◌, arith, if◌then◌else◌, ◌==◌}
+use Rattle.std.proofs.Common.{◌≡◌, inl, inr, ℕ, List, [], ◌∷◌, Bool, true, false, Option, Some, None, refl}
+use Rattle.std.proofs.Common.{sym}
+use Rattle.std.proofs.Common.{ap, subst, arith, if◌then◌else◌, ◌==◌}
 use Rattle.pt_host.specs.Words.{Takes, Takes.{here, there}, Replaces, Replaces.{at, past}}
 use Rattle.pt_host.specs.Call.{Call}
 use Rattle.pt_host.specs.Sorts.{Sort, OpensWith, EndsFd, OfSeat, Plain, sort_of, fds_of}
@@ -270,7 +271,8 @@ pub may_step : (deed : Deed) (made : Option Deed) (told : ActReply) (holds : Lis
 may_step deed (Some same) told holds notes i m =
     let after = owing_job (unscoped (held deed told holds)) (closings_in deed told) (notes_after notes deed told) in
     subst (λ (d : Deed).
-    MovesBy (at_job (unscoped holds) notes) d told after) (sym (same_deed deed same told i)) (may_move deed told holds notes m)
+    MovesBy (at_job (unscoped holds) notes) d told after) (sym (same_deed deed same told i))
+    (may_move deed told holds notes m)
 may_step deed None NoCopy holds notes i m = not_made deed holds notes i
 may_step deed None told holds notes i m = absurd i
 

@@ -13,7 +13,8 @@ use Rattle.pt_frame.specs.declared.act.ActReply.TheVariants.{Event, Host, NoCopy
 use Rattle.pt_law.specs.Discipline.{Job, JobMoves, MovesIf, Disciplined}
 use Rattle.pt_law.specs.World.{World, Turn, TablesGo, Runs, TablesRun, steps_of}
 use Rattle.pt_law.specs.Ledger.{open_count, inserted}
-use Rattle.pt_law.specs.Laws.{AreDisciplined, Starts, NamesOpen, IsHonoured}
+use Rattle.pt_law.specs.Laws.{Starts, NamesOpen, IsHonoured}
+use Rattle.pt_law.specs.Discipline.{AreDisciplined}
 use Rattle.pt_law.proofs.Flows.{IsHonest}
 use Rattle.pt_law.proofs.Counting.{honest}
 use Rattle.pt_law.proofs.Steps.{Tabled}

@@ -18,7 +18,8 @@ use Rattle.pt_frame.specs.declared.hold.Hold.{Hold}
 use Rattle.pt_frame.specs.declared.hold.Hold.TheVariants as hold
 use Rattle.pt_law.specs.Discipline.{Job, Names, Knows, KnowsAll, ShiftsCalled, MovesIf}
 use Rattle.pt_law.specs.World.{World}
-use Rattle.pt_law.specs.Ledger.{fd_held, some_count}
+use Rattle.pt_law.specs.Ledger.{some_count}
+use Rattle.pt_law.proofs.Flows.{fd_held}
 use Rattle.pt_law.specs.Laws.{IsOpen, NamesOpen}
 use Rattle.pt_law.proofs.Lists.{total_takes, is_same}
 use Rattle.pt_law.proofs.Counting.{part}

@@ -10,7 +10,8 @@ use Rattle.pt_frame.specs.declared.finish.Finish.TheVariants as finish
 use Rattle.pt_frame.specs.declared.hold.Hold.{Hold}
 use Rattle.pt_frame.specs.declared.hold.Hold.TheVariants as hold
 use Rattle.pt_law.specs.Discipline.{Shifts, Job, idle, MovesIf, Disciplined, ComesToEnd, entry_holds}
-use Rattle.pt_law.specs.Ledger.{weighed, summed, fd_taken, fd_given, fds_carried, fd_held, pin_made, pin_ended}
+use Rattle.pt_law.specs.Ledger.{weighed, summed, fd_taken, fd_given, fds_carried, pin_made, pin_ended}
+use Rattle.pt_law.proofs.Flows.{fd_held}
 use Rattle.pt_law.specs.Ledger.{handle_pin_made, handle_pin_ended, closing_ended}
 use Rattle.pt_law.specs.Settled.{IsSettled}
 use Rattle.pt_law.proofs.Flows.{pin_held, handle_pin_held}
@@ -66,7 +67,8 @@ owed_steps job (step ∷ steps) last d =
 pub entry_weighs : (w : Hold → ℕ) → ((era n : ℕ) → w (hold.Count era n) ≡ 0) → (era : ℕ) (end : Finish) →
     total w (entry_holds era end) ≡ 0
 entry_weighs w z era (finish.Answer (answer.Entry entry)) = let a = z era entry.inode in omega (arith, a)
-entry_weighs w z era (finish.Answer (answer.Created entry handle options)) = let a = z era entry.inode in omega (arith, a)
+entry_weighs w z era (finish.Answer (answer.Created entry handle options)) = let a = z era entry.inode in
+    omega (arith, a)
 entry_weighs w z era _ = refl
 
 pub all_settled : (steps : List Step) (end : Finish) → ComesToEnd idle steps end → IsSettled steps end

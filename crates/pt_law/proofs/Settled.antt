@@ -36,7 +36,8 @@ brings_none n (taken.Fd fd false) holds = omega arith
 one_given : (n : ℕ) (deed : Deed) (told : ActReply) (holds after : List Hold) → Shifts holds deed told after →
     total (count_of n) after + job_returned n (Some deed) ≡ total (count_of n) holds + job_given n (Some deed) told
 one_given n (Calls asked) told holds after s =
-    let k = others_called (count_of n) (λ fd was. refl) (sort_of asked) (fds_of asked) (statted asked) told holds after s
+    let k = others_called (count_of n) (λ fd was. refl) (sort_of asked) (fds_of asked) (statted asked) told holds
+    after s
     in omega (arith, k)
 one_given n (Changes (change.Resolve number)) (Event (event.Resolved row form ids mode)) holds after s =
     let k = total_takes (count_of n) s in omega (arith, k)

@@ -1,6 +1,6 @@
 -- A tree that keeps the discipline is sound in its frame.
 use Rattle.std.proofs.Common.{◌≡◌, ℕ, zero, suc, List, [], ◌∷◌, ◌++◌, length, Bool, true, false, Option, nat_lt}
-use Rattle.std.proofs.Common.{Some, None, refl, sym, ap, subst, ◌∙◌, arith, if◌then◌else◌, ◌||◌}
+use Rattle.std.proofs.Common.{Some, None, refl, sym, ap, subst, ◌∙◌, arith, if◌then◌else◌}
 use Rattle.pt_host.specs.Words.{Takes, Takes.{here, there}}
 use Rattle.pt_host.specs.Sorts.{sort_of}
 use Rattle.pt_host.specs.declared.ids.Errno.{Errno}
@@ -19,7 +19,8 @@ use Rattle.pt_frame.specs.Replies.{closings_in, taken_in, brought, restored, ref
 use Rattle.pt_frame.specs.Grammar.{Grammar, End, Owed}
 use Rattle.pt_frame.specs.Frame.{giving, give_slot, give_taken, closings, give, leave, or_lost, bare_one, bare, front}
 use Rattle.pt_frame.specs.Frame.{behind, under, mark_in, outer, shut, answered, cut}
-use Rattle.pt_frame.specs.Tree.{Tree, Gives, Refuses, Asks, Opens, Bares, Brackets, Shuts, Allocates, framed, follows}
+use Rattle.pt_frame.specs.Tree.{RequestTree, Gives, Refuses, Asks, Opens, Bares, Brackets, Shuts, Allocates, framed}
+use Rattle.pt_frame.specs.Tree.{follows}
 use Rattle.pt_frame.specs.Tree.{may_give_up}
 use Rattle.pt_frame.specs.declared.act.ActReply.{ActReply}
 use Rattle.pt_frame.specs.declared.act.ActReply.TheVariants.{Event, Host, NoCopy}
@@ -231,7 +232,8 @@ sound_shut seat passing mark (one ∷ holds) next notes k =
     go : (b : Bool) →
         Goes (next (under passing (if b then down_to mark holds else one ∷ holds)))
         (under passing (if b then down_to mark holds else one ∷ holds)) 0 notes →
-        ((later : Notes) → Goes (next (under passing (down_to mark holds))) (under passing (down_to mark holds)) 0 later →
+        ((later : Notes) → Goes (next (under passing (down_to mark holds))) (under passing (down_to mark holds)) 0
+        later →
         Sound (shut seat passing mark holds next) (at_job (unscoped (under passing holds)) later)) →
         Sound (if b then give seat one (under passing (one ∷ holds)) (under passing holds) (λ fault.
         or_lost seat fault (under passing holds) (shut seat passing mark holds next))
@@ -240,7 +242,8 @@ sound_shut seat passing mark (one ∷ holds) next notes k =
         or_lost seat fault (under passing holds) (shut seat passing mark holds next)) notes
         (takes_under passing one holds) (λ fault later l.
         sound_or_lost seat fault (under passing holds) (shut seat passing mark holds next) later
-        (f later (goes_on (next (under passing (down_to mark holds))) (under passing (down_to mark holds)) 0 notes later
+        (f later (goes_on (next (under passing (down_to mark holds))) (under passing (down_to mark holds)) 0 notes
+        later
         l k)))
     go false k f = k notes (refl, refl)
 
@@ -265,7 +268,8 @@ sound_answered seat (answer.Entry entry) (hold.Count era number ∷ holds) notes
     sound_entry seat entry.inode (finish.Answer (answer.Entry entry)) holds notes (λ e. refl) era number h
 sound_answered seat (answer.Entry entry) holds notes h = absurd h
 sound_answered seat (answer.Created entry handle options) (hold.Count era number ∷ holds) notes h =
-    sound_entry seat entry.inode (finish.Answer (answer.Created entry handle options)) holds notes (λ e. refl) era number h
+    sound_entry seat entry.inode (finish.Answer (answer.Created entry handle options)) holds notes (λ e. refl) era
+    number h
 sound_answered seat (answer.Created entry handle options) holds notes h = absurd h
 sound_answered seat last holds notes h = sound_leave seat holds (finish.Answer last) notes refl
 
@@ -294,7 +298,7 @@ sound_follows seat true count holds rest notes k = (
   sound_closings count holds rest notes k,
 )
 
-pub sound_framed : (seat : HostSeat) (tree : Tree) (holds : List Hold) (marks : List ℕ) (notes : Notes) →
+pub sound_framed : (seat : HostSeat) (tree : RequestTree) (holds : List Hold) (marks : List ℕ) (notes : Notes) →
     Keeps tree holds marks notes → Sound (framed seat tree holds marks) (at_job (unscoped holds) notes)
 sound_framed seat (Gives last) holds marks notes f = sound_answered seat last holds notes f
 sound_framed seat (Refuses told) holds marks notes f =

@@ -32,7 +32,8 @@ use Rattle.pt_frame.specs.Held.{statted}
 use Rattle.pt_frame.specs.declared.hold.Hold.{Hold}
 use Rattle.pt_law.specs.Discipline.{Job, Notes, Resolution, ShiftsCalled, JobMoves, MovesIf, MovesBy, notes_after}
 use Rattle.pt_law.specs.World.{World, Past, Turn, TablesGo, Goes, IsLawful, settled_if, settled_by}
-use Rattle.pt_law.specs.Ledger.{open_count, kept_fds, all_hold, fd_held, some_count, slot_taken, slot_given}
+use Rattle.pt_law.specs.Ledger.{open_count, kept_fds, some_count, slot_taken, slot_given}
+use Rattle.pt_law.proofs.Flows.{all_hold, fd_held}
 use Rattle.pt_law.specs.Ledger.{inserted_if, inserted_as}
 use Rattle.pt_law.specs.Ledger.{fd_ended, fd_closed}
 use Rattle.pt_law.proofs.Flows.{slot_in, slot_out, IsHonest, unmade}
@@ -42,7 +43,8 @@ use Rattle.pt_law.proofs.Holding.{handed, in_tree}
 use Rattle.pt_law.proofs.Counting.{Books, keeps_books, honest, part}
 use Rattle.pt_law.proofs.Numbers.{Numbers, keeps_numbers}
 use Rattle.pt_law.proofs.Knowing.{Knowing, one_object}
-use Rattle.pt_law.proofs.Events.{number_of, grows, rows_event, handles_event, knows_event, knows_other, resolved_other}
+use Rattle.pt_law.proofs.Events.{number_of, grows, rows_event, handles_event, knows_event, knows_other}
+use Rattle.pt_law.proofs.Events.{resolved_other}
 use Rattle.pt_law.proofs.Calls.{Right, keeps_call}
 use Rattle.pt_law.proofs.PinnedRows.{pinned_row}
 use Rattle.pt_law.proofs.Givings.{agree_step}
@@ -152,7 +154,8 @@ bytes_notes (call.Close fd) bytes notes = refl
 bytes_notes a bytes notes = refl
 
 bytes_settled : (past : Past) (j : ℕ) (a : Call) (bytes : List ℕ) (row : ℕ) (tree : Tree) →
-    settled_by past j (Calls a) NoCopy row tree ≡ settled_by past j (Calls a) (Host (host.Ok (value.Bytes bytes))) row tree
+    settled_by past j (Calls a) NoCopy row tree
+    ≡ settled_by past j (Calls a) (Host (host.Ok (value.Bytes bytes))) row tree
 bytes_settled past j (call.OpenAt dir name flags mode) bytes row tree = refl
 bytes_settled past j (call.OpenRoot path flags) bytes row tree = refl
 bytes_settled past j a bytes row tree = refl
@@ -245,7 +248,8 @@ keeps_host bound base had w js j a r seat seat' tree' after lt v l m =
       tabled = keeps_tabled bound had w.tables js j (Some (Calls a)) (Host r) w.tables after lt v.tabled refl m;
       well = l.trees.formed_after;
       fds = fds;
-      right = keeps_call bound w.tree w.tables.next_row w.past w.tables.rows w.tables.handles js j after a r tree' lt v.right l.trees.changes m
+      right = keeps_call bound w.tree w.tables.next_row w.past w.tables.rows w.tables.handles js j after a r tree' lt
+          v.right l.trees.changes m
           (λ f flags object e on. judged f flags object on (subst (λ c. MovesBy (js j) (Calls c) (Host r) after) e m))
           (λ f e.
           let n : open_count f.0 tree' ≡ 0 = closed_none w.tree tree' a f r e l.trees.changes in
@@ -285,7 +289,8 @@ keeps_bytes : (bound : ℕ) (base had : ℕ → ℕ) (w : World) (js : ℕ →
     next.tables ≡ w.tables → next.past ≡ settled_by w.past j (Calls a) NoCopy w.tables.next_row next.tree →
     MovesBy (js j) (Calls a) NoCopy after →
     Inv bound base (λ n. had n + inserted_as n (Calls a) NoCopy) next (set_at j after js)
-keeps_bytes bound base had w js j a (host.Ok (value.Bytes bytes)) seat seat' next after faults later lt v h f l t p m =
+keeps_bytes bound base had w js j a (host.Ok (value.Bytes bytes)) seat seat' next after faults later lt v h f l t p
+    m =
     let told = Host (host.Ok (value.Bytes bytes)) in
     let same : next ≡ record {
       tree = next.tree;
@@ -342,4 +347,5 @@ pub keeps : (bound : ℕ) (base had : ℕ → ℕ) (w : World) (js : ℕ → Job
     JobMoves (js turn.job) turn.step after →
     Inv bound base (λ n. had n + inserted_if n turn.step.deed turn.step.reply) next (set_at turn.job after js)
 keeps bound base had w js turn next after lt v g m =
-    keeps_by bound base had w js turn.job turn.step.deed turn.step.reply g.seat g.seat_after next after lt v g.made g.past m
+    keeps_by bound base had w js turn.job turn.step.deed turn.step.reply g.seat g.seat_after next after lt v g.made
+    g.past m

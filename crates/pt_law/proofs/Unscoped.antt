@@ -1,5 +1,6 @@
 -- What is held without the scopes: a new hold is laid on it, and what is taken of it is taken.
-use Rattle.std.proofs.Common.{◌≡◌, ℕ, suc, List, [], ◌∷◌, length, Bool, true, false, nat_lt, refl, sym, ap, subst, ◌∙◌}
+use Rattle.std.proofs.Common.{◌≡◌, ℕ, suc, List, [], ◌∷◌, length, Bool, true, false, nat_lt, refl, sym, ap, subst}
+use Rattle.std.proofs.Common.{◌∙◌}
 use Rattle.std.proofs.Common.{if◌then◌else◌, arith}
 use Rattle.pt_host.specs.Words.{Takes, Takes.{here, there}, Replaces, Replaces.{at, past}}
 use Rattle.pt_host.specs.declared.reply.HostReply.TheVariants as host
@@ -17,7 +18,8 @@ takes_plain {one = one} (here {xs = holds}) e =
 takes_plain {one = one} (there {y = top} {xs = holds} {ys = left} t) e = go (is_scope top) (takes_plain t e)
   where
     go : (b : Bool) → Takes one (unscoped holds) (unscoped left) →
-        Takes one (if b then unscoped holds else top ∷ unscoped holds) (if b then unscoped left else top ∷ unscoped left)
+        Takes one (if b then unscoped holds else top ∷ unscoped holds)
+        (if b then unscoped left else top ∷ unscoped left)
     go true k = k
     go false k = there k
 

@@ -1,20 +1,22 @@
--- Inner. A branch of a tree: the steps of the request's own part, from the first to the answer.
+-- Believed. A branch of a tree: the steps of the request's own part, from the first to the answer. And how a job came
+-- to its end: by a branch, as memory ran out, or as its seat was lost.
 use Rattle.std.specs.Prelude.{◌≡◌, ◌⊎◌, List, [], ◌∷◌, Option, None, Some}
 use Rattle.pt_host.specs.Sorts.{Sort, OpensWith, EndsFd, OfSeat, Plain, sort_of}
 use Rattle.pt_session.specs.Change.{Change}
 use Rattle.pt_session.specs.declared.event.KeptEvent.TheVariants as change
 use Rattle.pt_iface.specs.declared.answer.Answer.{Answer}
 use Rattle.pt_iface.specs.declared.answer.Answer.TheVariants as answer
-use Rattle.pt_frame.specs.Deed.{Deed, Calls, Changes, Step, IsStepOf, LacksMemory}
+use Rattle.pt_frame.specs.Deed.{Deed, Calls, Changes, Step, IsStepOf}
+use Rattle.pt_frame.specs.Memory.{RanOut}
 use Rattle.pt_frame.specs.Replies.{refusal}
-use Rattle.pt_frame.specs.Tree.{Tree, Gives, Refuses, Asks, Opens, Bares, Brackets, Shuts, Allocates}
+use Rattle.pt_frame.specs.Tree.{RequestTree, Gives, Refuses, Asks, Opens, Bares, Brackets, Shuts, Allocates}
 use Rattle.pt_frame.specs.declared.act.ActReply.{ActReply}
 use Rattle.pt_frame.specs.declared.finish.Finish.{Finish}
 use Rattle.pt_frame.specs.declared.finish.Finish.TheVariants as finish
 use Rattle.pt_law.specs.Told.{MayBeTold}
 
 -- by these steps the tree comes to this answer
-abbrev pub Along : Tree → List Step → Answer → Type 0
+abbrev pub Along : RequestTree → List Step → Answer → Type 0
 Along (Gives given) [] last = last ≡ given
 Along (Refuses told) [] last = last ≡ refusal told
 Along (Asks deed next) (step ∷ steps) last = IsStepOf deed step.deed step.reply × Along (next step.reply) steps last
@@ -27,7 +29,7 @@ Along (Allocates rest) steps last = Along rest steps last
 Along tree steps last = ⊥
 
 -- after these steps the tree allocates
-abbrev pub AllocatesAfter : Tree → List Step → Type 0
+abbrev pub AllocatesAfter : RequestTree → List Step → Type 0
 AllocatesAfter (Asks deed next) (step ∷ steps) =
     IsStepOf deed step.deed step.reply × AllocatesAfter (next step.reply) steps
 AllocatesAfter (Opens asked scope next) (step ∷ steps) =
@@ -39,7 +41,7 @@ AllocatesAfter (Allocates rest) steps = (steps ≡ []) ⊎ AllocatesAfter rest s
 AllocatesAfter tree steps = ⊥
 
 -- by replies that may come no part of the tree takes memory of its own
-abbrev pub TakesNone : Tree → Type 0
+abbrev pub TakesNone : RequestTree → Type 0
 TakesNone (Gives last) = Unit {0}
 TakesNone (Refuses told) = Unit {0}
 TakesNone (Asks deed next) = (told : ActReply) → MayBeTold deed told → TakesNone (next told)
@@ -81,23 +83,18 @@ pub data AreFirst : List Step → List Step → Type 0 where
   next : {step : Step} {own all : List Step} → AreFirst own all → AreFirst (step ∷ own) (step ∷ all)
   pass : {step : Step} {own all : List Step} → ReturnsHold step.deed → AreFirst own all → AreFirst own (step ∷ all)
 
--- one of the steps was told that memory ran out, or could not be copied
-abbrev pub SomeLacks : List Step → Type 0
-SomeLacks [] = ⊥
-SomeLacks (step ∷ steps) = LacksMemory step.reply ⊎ SomeLacks steps
-
 -- a lost seat
 abbrev pub IsLost : Finish → Type 0
 IsLost (finish.Lost errno) = Unit {0}
 IsLost (finish.Answer last) = ⊥
 
 -- the job gave up for memory that ran out: one of its steps lacked it, or the tree took some of its own
-pub record GaveUp (tree : Tree) (steps : List Step) (end : Finish) : Type 0 where
+pub record GaveUp (tree : RequestTree) (steps : List Step) (end : Finish) : Type 0 where
   pub answered : end ≡ finish.Answer answer.NoMemory
-  pub why : SomeLacks steps ⊎ ((path : List Step) × AreFirst path steps × AllocatesAfter tree path)
+  pub why : RanOut steps ⊎ ((path : List Step) × AreFirst path steps × AllocatesAfter tree path)
 
 -- the answer is that of a branch, whose steps are these but for some that give back
-abbrev pub IsOfBranch : Tree → Finish → List Step → Type 0
+abbrev pub IsOfBranch : RequestTree → Finish → List Step → Type 0
 IsOfBranch tree end steps =
     (path : List Step) × (last : Answer) × AreOwn path steps × (end ≡ finish.Answer last) × Along tree path last
 

@@ -1,4 +1,5 @@
--- Believed. What a job holds, owes and knows between its steps, whichever request it serves.
+-- Inner. What a job holds, owes and knows between its steps, whichever request it serves. What it comes to is said
+-- by sums over steps, in which no hold is named.
 use Rattle.std.specs.Prelude.{◌≡◌, ◌⊎◌, ℕ, ◌+◌, ◌-◌, ◌<◌, ◌==◌, Bool, true, false, if◌then◌else◌, List, [], ◌∷◌, ◌++◌}
 use Rattle.std.specs.Prelude.{Option, None, Some}
 use Rattle.pt_host.specs.Words.{Takes, Replaces, Each}
@@ -10,8 +11,6 @@ use Rattle.pt_host.specs.declared.op.KeptHostOp.TheVariants as call
 use Rattle.pt_host.specs.declared.reply.HostReply.TheVariants as host
 use Rattle.pt_host.specs.declared.reply.HostValue.TheVariants as value
 use Rattle.pt_session.specs.Change.{Change}
-use Rattle.pt_session.specs.declared.form.RowForm.{RowForm}
-use Rattle.pt_session.specs.declared.form.RowForm.TheVariants.{File}
 use Rattle.pt_session.specs.declared.event.KeptEvent.TheVariants as change
 use Rattle.pt_session.specs.declared.reply.EventReply.TheVariants as event
 use Rattle.pt_iface.specs.declared.answer.Answer.TheVariants as answer
@@ -24,10 +23,9 @@ use Rattle.pt_frame.specs.declared.finish.Finish.{Finish}
 use Rattle.pt_frame.specs.declared.finish.Finish.TheVariants as finish
 use Rattle.pt_frame.specs.declared.hold.Hold.{Hold}
 use Rattle.pt_frame.specs.declared.hold.Hold.TheVariants as hold
+use Rattle.pt_law.specs.World.{Turn, steps_of, fd_of}
 
--- the descriptor by which a row's object is kept
-abbrev pub fd_of : RowForm → Fd
-fd_of (File fd) = fd
+-- What is held.
 
 abbrev pub IsFd : Option Fd → Fd → Type 0
 IsFd None fd = ⊥
@@ -110,6 +108,8 @@ Shifts holds (Calls asked) told after =
     ShiftsCalled (sort_of asked) (fds_of asked) (statted asked) holds told after
 Shifts holds (Changes asked) told after = ShiftsChanged asked holds told after
 
+-- What is known.
+
 -- a number that was resolved, and the row that is pinned for it
 pub record Resolution : Type 0 where
   pub number : ℕ
@@ -182,6 +182,8 @@ notes_after notes (Changes (change.InsertRoot era form ids mode agreed)) (Event 
     unnoted (fd_of form) notes
 notes_after notes _ _ = notes
 
+-- A job, and when it may make a deed.
+
 pub record Job : Type 0 where
   pub holds : List Hold
   -- so many closings are still to be made
@@ -233,14 +235,12 @@ Fits job (Changes (change.InsertRoot era form ids mode agreed)) =
 Fits job (Changes change.TakeClosing) = 0 < job.owed
 Fits job deed = Unit {0}
 
+-- Its steps, to their end.
+
 abbrev pub MovesBy : Job → Deed → ActReply → Job → Type 0
 MovesBy job deed told after =
     Shifts job.holds deed told after.holds × Fits job deed × (after.owed ≡ owed_after job.owed deed told)
     × (after.notes ≡ notes_after job.notes deed told)
-
--- a step that was made
-abbrev pub made : Deed → ActReply → Step
-made deed told = record { deed = Some deed; reply = told }
 
 -- one that was not made moves nothing
 abbrev pub MovesIf : Job → Option Deed → ActReply → Job → Type 0
@@ -263,3 +263,15 @@ entry_holds era end = []
 -- by these steps the job comes to its end: it holds what passes with the answer, and owes nothing
 abbrev pub ComesToEnd : Job → List Step → Finish → Type 0
 ComesToEnd job steps end = (era : ℕ) × (last : Notes) × Disciplined job steps (at_job (entry_holds era end) last)
+
+-- All jobs of a run.
+
+-- each step is one of the jobs' below the bound, and each of these keeps the discipline
+pub record AreDisciplined (bound : ℕ) (turns : List Turn) : Type 0 where
+  pub owners : Each (λ turn. turn.job < bound) turns
+  pub jobs : (job : ℕ) → job < bound → (last : Job) × Disciplined idle (steps_of job turns) last
+
+-- and has come to its end
+pub record AreEnded (bound : ℕ) (turns : List Turn) : Type 0 where
+  pub owners : Each (λ turn. turn.job < bound) turns
+  pub jobs : (job : ℕ) → job < bound → (end : Finish) × ComesToEnd idle (steps_of job turns) end

@@ -25,8 +25,13 @@ GivesBy number ids deed told = ⊥
 
 -- the places of the run where a job opened a name, and where it was given a number for what it had opened; other
 -- steps of the job may stand between them
-pub record GivingPlaces (turns : List Turn) (job parent : ℕ) (name : List ℕ) (number : ℕ) (ids : ObjIds) :
-    Type 0 where
+pub record GivingPlaces
+    (turns : List Turn)
+    (job parent : ℕ)
+    (name : List ℕ)
+    (number : ℕ)
+    (ids : ObjIds)
+    : Type 0 where
   pub opened : NamePlaces turns job parent name
   pub until : List Turn
   pub give : Step
@@ -49,8 +54,16 @@ up_to {job = job} {parent = parent} {name = name} places =
     ∷ (places.until ++ turn_by job places.give ∷ []))
 
 -- the worlds of a path through these places, up to the one in which the number has been given
-pub record GivingPath {turns : List Turn} {job parent : ℕ} {name : List ℕ} {number : ℕ} {ids : ObjIds} (start : World)
-    (places : GivingPlaces turns job parent name number ids) (given : World) : Type 0 where
+pub record GivingPath
+    {turns : List Turn}
+    {job parent : ℕ}
+    {name : List ℕ}
+    {number : ℕ}
+    {ids : ObjIds}
+    (start : World)
+    (places : GivingPlaces turns job parent name number ids)
+    (given : World)
+    : Type 0 where
   pub opened : World
   pub named : NamePath start places.opened opened
   pub at_give : World
@@ -58,9 +71,17 @@ pub record GivingPath {turns : List Turn} {job parent : ℕ} {name : List ℕ} {
   pub gives : Goes at_give (turn_by job places.give) given
 
 -- on this path the number stands for the object that the name led to, which has the ids that it was asked for by
-pub record IsGiven {turns : List Turn} {job parent : ℕ} {name : List ℕ} {number : ℕ} {ids : ObjIds} {start : World}
-    {places : GivingPlaces turns job parent name number ids} {given : World} (path : GivingPath start places given) :
-    Type 0 where
+pub record IsGiven
+    {turns : List Turn}
+    {job parent : ℕ}
+    {name : List ℕ}
+    {number : ℕ}
+    {ids : ObjIds}
+    {start : World}
+    {places : GivingPlaces turns job parent name number ids}
+    {given : World}
+    (path : GivingPath start places given)
+    : Type 0 where
   pub object : ℕ
   pub led : LedTo path.named object
   pub number_is : ObjectOf given number object

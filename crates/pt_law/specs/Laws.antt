@@ -1,4 +1,4 @@
--- Believed. What holds of every run whose jobs keep the discipline, after every step and at the end.
+-- Believed. What holds of every run, after every step and at the end.
 use Rattle.std.specs.Prelude.{◌≡◌, ◌≢◌, ◌<◌, ◌≤◌, ℕ, ◌+◌, true, List, [], ◌∷◌, ◌++◌, length, Option, None, Some}
 use Rattle.pt_host.specs.Words.{total, sum_to, Each}
 use Rattle.pt_host.specs.Sorts.{fds_of}
@@ -12,25 +12,14 @@ use Rattle.pt_session.specs.declared.event.KeptEvent.TheVariants as change
 use Rattle.pt_session.specs.declared.reply.EventRefusal.TheVariants.{Overtaken}
 use Rattle.pt_session.specs.declared.reply.EventReply.TheVariants as event
 use Rattle.pt_frame.specs.Deed.{Deed, Calls, Changes, Step}
-use Rattle.pt_law.specs.Discipline.{fd_of}
 use Rattle.pt_frame.specs.declared.act.ActReply.{ActReply}
 use Rattle.pt_frame.specs.declared.act.ActReply.TheVariants.{Event}
-use Rattle.pt_frame.specs.declared.finish.Finish.{Finish}
-use Rattle.pt_law.specs.Discipline.{Job, idle, Disciplined, ComesToEnd}
-use Rattle.pt_law.specs.World.{Turn, World, steps_of, no_past}
+use Rattle.pt_law.specs.World.{Turn, World, steps_of, no_past, fd_of}
 use Rattle.pt_law.specs.Ledger.{kept_slots, row_slot, handle_has, slots_taken, slots_given, carried, kept_fds}
 use Rattle.pt_law.specs.Ledger.{row_has}
 use Rattle.pt_law.specs.Ledger.{fd_taken, fd_given, fds_carried, summed, open_count}
 
--- each step is one of the jobs' below the bound, and each of these keeps the discipline
-pub record AreDisciplined (bound : ℕ) (turns : List Turn) : Type 0 where
-  pub owners : Each (λ turn. turn.job < bound) turns
-  pub jobs : (job : ℕ) → job < bound → (last : Job) × Disciplined idle (steps_of job turns) last
-
--- and has come to its end
-pub record AreEnded (bound : ℕ) (turns : List Turn) : Type 0 where
-  pub owners : Each (λ turn. turn.job < bound) turns
-  pub jobs : (job : ℕ) → job < bound → (end : Finish) × ComesToEnd idle (steps_of job turns) end
+-- Numbers, handles and their objects.
 
 -- a new session on a host that may have descriptors open
 pub record Starts (limit : ℕ) (world : World) : Type 0 where
@@ -76,6 +65,8 @@ pub record HasEnded (tables : Tables) (serial : ℕ) : Type 0 where
 abbrev pub Serves : World → HandleRow → Type 0
 Serves world row = (object : ℕ) × (world.past.objects row.serial ≡ Some object) × IsOpenOn world.tree row.fd object
 
+-- Jobs of an earlier session.
+
 -- a job that was overtaken: after its first step another job began the session anew
 pub record IsOvertaken (job : ℕ) (turns : List Turn) : Type 0 where
   pub before : List Turn
@@ -119,6 +110,8 @@ abbrev pub BeginsFirst : List Step → Type 0
 BeginsFirst [] = Unit {0}
 BeginsFirst (step ∷ []) = Unit {0}
 BeginsFirst (step ∷ other ∷ steps) = IsBeginning step.deed step.reply
+
+-- Slots and descriptors.
 
 -- slots left, those of rows and of the closing list, and those that jobs carry, are the limit
 pub record SlotsAddUp (limit bound : ℕ) (turns : List Turn) (tables : Tables) : Type 0 where

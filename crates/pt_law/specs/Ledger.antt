@@ -1,6 +1,6 @@
 -- Believed. Who has what: tables, jobs and host; and what was given of each number.
 use Rattle.std.specs.Prelude.{ℕ, ◌+◌, ◌-◌, ◌*◌, Bool, true, false, List, [], ◌∷◌, length, Option, None, Some}
-use Rattle.pt_host.specs.Words.{is, total, sum_to}
+use Rattle.pt_host.specs.Words.{is, total}
 use Rattle.pt_host.specs.Sorts.{Sort, OpensWith, EndsFd, OfSeat, Plain, sort_of}
 use Rattle.pt_host.specs.Tree.{Tree}
 use Rattle.pt_host.specs.declared.reply.HostReply.TheVariants as host
@@ -14,13 +14,9 @@ use Rattle.pt_session.specs.declared.form.RowForm.TheVariants.{File}
 use Rattle.pt_session.specs.declared.event.KeptEvent.TheVariants as change
 use Rattle.pt_session.specs.declared.reply.EventReply.TheVariants as event
 use Rattle.pt_frame.specs.Deed.{Deed, Calls, Changes, Step}
-use Rattle.pt_law.specs.Discipline.{fd_of}
 use Rattle.pt_frame.specs.declared.act.ActReply.{ActReply}
 use Rattle.pt_frame.specs.declared.act.ActReply.TheVariants.{Event, Host}
-use Rattle.pt_frame.specs.declared.hold.Hold.{Hold}
-use Rattle.pt_frame.specs.declared.hold.Hold.TheVariants as hold
-use Rattle.pt_law.specs.Discipline.{Job}
-use Rattle.pt_law.specs.World.{Turn}
+use Rattle.pt_law.specs.World.{Turn, fd_of}
 
 abbrev pub one_if : Bool → ℕ
 one_if true = 1
@@ -86,14 +82,6 @@ closing_has fd closing = is closing.fd.0 fd
 abbrev pub kept_fds : ℕ → Tables → ℕ
 kept_fds fd tables =
     total (row_has fd) tables.rows + total (handle_has fd) tables.handles + total (closing_has fd) tables.closing
-
-abbrev pub fd_held : ℕ → Hold → ℕ
-fd_held fd (hold.Fd same told) = is same.0 fd
-fd_held fd _ = 0
-
--- what the jobs below a bound hold together
-abbrev pub all_hold : ℕ → (Hold → ℕ) → (ℕ → Job) → ℕ
-all_hold bound weight jobs = sum_to bound (λ job. total weight (jobs job).holds)
 
 abbrev pub some_count : {A : Type 0} → Option A → ℕ
 some_count None = 0

@@ -1,8 +1,5 @@
 -- Inner. The files of definitions, lowest first.
-pub mod Discipline
 pub mod Told
-pub mod Keeps
-pub mod Branch
 pub mod World
 pub mod Ledger
 pub mod Settled
@@ -11,3 +8,6 @@ pub mod Naming
 pub mod Origins
 pub mod Giving
 pub mod Uses
+pub mod Discipline
+pub mod Keeps
+pub mod Branch

@@ -12,7 +12,8 @@ ghost use Rattle.pt_session.specs.declared.reply.EventReply.TheVariants as event
 ghost use Rattle.pt_session.specs.declared.reply.EventRefusal.TheVariants.{NotLive};
 ghost use Rattle.pt_law.specs.World.{World, Turn, Runs, TablesRun};
 ghost use Rattle.pt_law.specs.Ledger.{inserted};
-ghost use Rattle.pt_law.specs.Laws.{AreDisciplined, Starts, IsLive, ObjectOf};
+ghost use Rattle.pt_law.specs.Laws.{Starts, IsLive, ObjectOf};
+ghost use Rattle.pt_law.specs.Discipline.{AreDisciplined};
 ghost use Rattle.pt_law.specs.Giving.{GivingPlaces, up_to};
 ghost use Rattle.pt_law.specs.Uses.{StaysLive, amount_asked};
 

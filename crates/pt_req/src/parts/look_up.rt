@@ -2,7 +2,7 @@ ghost use Rattle.std.specs.Prelude.{◌≡◌, ◌+◌, ◌<◌, ◌≤◌, ℕ,
 ghost use Rattle.pt_frame.specs.Machine.Next.{asked, deed_in, with_memory, AsksFor};
 ghost use Rattle.pt_frame.specs.Machine.Room.{brings};
 ghost use Rattle.pt_frame.specs.Replies.{inserted_by};
-ghost use Rattle.pt_frame.specs.Tree.{Tree, Shuts};
+ghost use Rattle.pt_frame.specs.Tree.{RequestTree, Shuts};
 ghost use Rattle.pt_req.specs.Machine.Parts.{look_up_left, look_up_acts, look_up_room, part_tree, part_counts};
 ghost use Rattle.pt_req.specs.Parts.{looked_of};
 ghost use Rattle.pt_req.specs.declared.parts.looked.Looked.{Looked};
@@ -67,9 +67,9 @@ fn looked_of(
 
 impl EntryLookup {
     pub fn want<'a>(&'a self, name: &'a [u8]) -> Act<'a>
-        ensures asks { (plan : Plan) (next : Looked → Tree) →
+        ensures asks { (plan : Plan) (next : Looked → RequestTree) →
             AsksFor (look_up_left self.now name.now plan next) result None }
-        ensures fits { (plan : Plan) (next : Looked → Tree) →
+        ensures fits { (plan : Plan) (next : Looked → RequestTree) →
             brings (look_up_left self.now name.now plan next) ≤ look_up_room self.now }
     {
         match &self.at {
@@ -87,16 +87,16 @@ impl EntryLookup {
 
     /// Goes on from the reply of the act that was wanted.
     pub fn take(&mut self, plan: &Plan, reply: ActReply) -> Part<Looked>
-        ensures left { (name : List ℕ) (next : Looked → Tree) →
+        ensures left { (name : List ℕ) (next : Looked → RequestTree) →
             with_memory (asked (look_up_left self.old name plan.now next) reply)
             ≡ part_tree result reply (look_up_left self.new name plan.now next) (λ looked. Shuts true (next looked)) }
-        ensures fewer { (name : List ℕ) (next : Looked → Tree) →
+        ensures fewer { (name : List ℕ) (next : Looked → RequestTree) →
             brings (look_up_left self.old name plan.now next) + part_counts result (look_up_acts self.new)
             < look_up_acts self.old }
-        ensures room { (name : List ℕ) (next : Looked → Tree) →
+        ensures room { (name : List ℕ) (next : Looked → RequestTree) →
             brings (look_up_left self.old name plan.now next) + part_counts result (look_up_room self.new)
             ≤ look_up_room self.old }
-        ensures inserts { (name : List ℕ) (next : Looked → Tree) →
+        ensures inserts { (name : List ℕ) (next : Looked → RequestTree) →
             inserted_by (deed_in (look_up_left self.old name plan.now next)) reply + part_counts result 1 ≤ 1 }
     {
         match &mut self.at {

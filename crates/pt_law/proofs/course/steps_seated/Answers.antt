@@ -1,4 +1,4 @@
-use Rattle.pt_law.proofs.job.steps_seated.Goals as goal
+use Rattle.pt_law.proofs.course.steps_seated.Goals as goal
 use Rattle.pt_law.proofs.Seats.{alone_seat, made_seat}
 
 pub returns-clause-made : goal.returns-clause-made
