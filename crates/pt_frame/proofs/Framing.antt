@@ -221,8 +221,8 @@ up_chosen true up rest chosen w e = inr (inr e)
 up_chosen false up rest chosen w e = absurd (cc)
 
 -- the body says what follows, or gives up
-follows_so : (seat : HostSeat) (tree left : RequestTree) (told : ActReply) (what : Next) (count : ℕ) (holds : List Hold)
-    (marks : List ℕ) (rest : Grammar) → IsNext tree told what left →
+follows_so : (seat : HostSeat) (tree left : RequestTree) (told : ActReply) (what : Next) (count : ℕ)
+    (holds : List Hold) (marks : List ℕ) (rest : Grammar) → IsNext tree told what left →
     rest ≡ next_left seat what (refusal told) left holds marks →
     IsChosen (or_gives_up (may_give_up told tree)
     (closings count holds (leave seat holds (finish.Answer answer.NoMemory)))
@@ -564,8 +564,8 @@ told_end taken.Nothing zero (mode.Out last) holds lost e t = none_unless (is_cut
 told_end taken.Nothing zero (mode.Leave last) holds lost e t = t
 
 -- what is wanted is what gives the next one back
-pub gives_wanted : (seat : HostSeat) (at : Mode) (tree : RequestTree) (holds : List Hold) (marks : List ℕ) (one : Hold)
-    (rest : List Hold) (act : Act) → at ≢ mode.Body → is_ready at holds marks ≡ true →
+pub gives_wanted : (seat : HostSeat) (at : Mode) (tree : RequestTree) (holds : List Hold) (marks : List ℕ)
+    (one : Hold) (rest : List Hold) (act : Act) → at ≢ mode.Body → is_ready at holds marks ≡ true →
     behind (passes_at at) holds ≡ one ∷ rest → deed_of act ≡ giving seat one →
     Wants (mode_left seat at tree holds marks) (want.Step act)
 gives_wanted seat at tree holds marks one rest act other ready b d = by_over (is_over at holds) refl

@@ -56,15 +56,15 @@ pub if_bytes : (P : ActReply → RequestTree → Type 0) (next : List ℕ → Re
 if_bytes P next refused so (Host (host.Ok (value.Bytes bytes))) = so bytes
 if_bytes P next refused so told = refused told
 
-pub if_claimed : (P : ActReply → RequestTree → Type 0) (next : ℕ → RequestTree) (absent : RequestTree) → OfRefusals P →
-    ((number : ℕ) → P (Event (event.Claimed number)) (next number)) → P (Event event.Absent) absent →
+pub if_claimed : (P : ActReply → RequestTree → Type 0) (next : ℕ → RequestTree) (absent : RequestTree) →
+    OfRefusals P → ((number : ℕ) → P (Event (event.Claimed number)) (next number)) → P (Event event.Absent) absent →
     (told : ActReply) → P told (on_claim next absent told)
 if_claimed P next absent refused so other (Event (event.Claimed number)) = so number
 if_claimed P next absent refused so other (Event event.Absent) = other
 if_claimed P next absent refused so other told = refused told
 
-pub if_taken : (P : ActReply → RequestTree → Type 0) (next : RequestTree) → OfRefusals P → P (Event event.Taken) next →
-    (told : ActReply) → P told (on_taken next told)
+pub if_taken : (P : ActReply → RequestTree → Type 0) (next : RequestTree) → OfRefusals P →
+    P (Event event.Taken) next → (told : ActReply) → P told (on_taken next told)
 if_taken P next refused so (Event event.Taken) = so
 if_taken P next refused so told = refused told
 

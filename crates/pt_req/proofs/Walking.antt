@@ -68,7 +68,8 @@ module _ {Q : RequestTree → Type 0} {R : ActReply → RequestTree → Type 0} 
   clears next so = w.asks (Changes change.Clear) (on_cleared next) refl
       (if_cleared R next w.refuses (λ era closings. w.had _ _ refl (so era)))
 
-  resolves : (number : ℕ) (next : Resolved → RequestTree) → ((row : Resolved) → Q (next row)) → Q (resolve number next)
+  resolves : (number : ℕ) (next : Resolved → RequestTree) → ((row : Resolved) → Q (next row)) →
+      Q (resolve number next)
   resolves number next so = w.asks (Changes (change.Resolve number)) (on_resolved next) refl
       (if_resolved R next w.refuses (λ row form ids mode.
       w.had _ _ refl (so (record { row = row; form = form; ids = ids; mode = mode }))))

@@ -58,5 +58,6 @@ handle_open_at_asks (at.Draw fd) it plan next = tt
 handle_open_at_asks (at.Take fd handle) it plan next = tt
 handle_open_at_asks (at.Insert fd handle) it plan next = tt
 
-pub handle_open_asks : (it : HandleOpen) (plan : Plan) (next : ℕ → RequestTree) → IsAsks (handle_open_left it plan next)
+pub handle_open_asks : (it : HandleOpen) (plan : Plan) (next : ℕ → RequestTree) →
+    IsAsks (handle_open_left it plan next)
 handle_open_asks it plan next = handle_open_at_asks it.at it plan next

@@ -59,8 +59,8 @@ numbering_room number_at.Take = 2
 numbering_room number_at.Draw = 1
 numbering_room (number_at.Insert fresh) = 1
 
-pub numbering_asks : (at : NumberAt) (form : RowForm) (told : Stat) (session : BegunSession) (next : ℕ → RequestTree) →
-    IsAsks (numbering_left at form told session next)
+pub numbering_asks : (at : NumberAt) (form : RowForm) (told : Stat) (session : BegunSession)
+    (next : ℕ → RequestTree) → IsAsks (numbering_left at form told session next)
 numbering_asks number_at.Claim form told session next = tt
 numbering_asks number_at.Take form told session next = tt
 numbering_asks number_at.Draw form told session next = tt

@@ -38,7 +38,8 @@ pub struct RootOpen {
 impl RootOpen {
     pub fn want<'a>(&'a self, plan: &'a Plan) -> Act<'a>
         ensures asks { (next : RequestTree) → AsksFor (root_open_left self.now plan.now next) result None }
-        ensures fits { (next : RequestTree) → brings (root_open_left self.now plan.now next) ≤ root_open_room self.now }
+        ensures fits { (next : RequestTree) →
+            brings (root_open_left self.now plan.now next) ≤ root_open_room self.now }
     {
         match &self.at {
             RootOpenAt::Open => Act::Host(HostOp::OpenRoot {
