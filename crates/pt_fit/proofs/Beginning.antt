@@ -20,7 +20,7 @@ use Rattle.pt_frame.specs.declared.act.ActReply.TheVariants.{Event, NoCopy}
 use Rattle.pt_frame.specs.declared.finish.Finish.{Finish}
 use Rattle.pt_frame.specs.declared.finish.Finish.TheVariants as finish
 use Rattle.pt_frame.specs.declared.hold.Hold.{Hold}
-use Rattle.pt_req.specs.Requests.{tree_of}
+use Rattle.pt_attr.specs.Pattern.{tree_of}
 use Rattle.pt_req.specs.declared.plan.Plan.{Plan}
 use Rattle.pt_attr.specs.Pattern.{Asked, Requests, Edits, grammar_for}
 use Rattle.pt_law.specs.Laws.{IsBeginning, BeginsFirst}

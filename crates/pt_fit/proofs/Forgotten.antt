@@ -32,7 +32,8 @@ use Rattle.pt_frame.specs.declared.finish.Finish.TheVariants as finish
 use Rattle.pt_req.specs.Entries.{is_bad_name}
 use Rattle.pt_req.specs.Options.{with_bits, cleaned, inode_flags, open_options}
 use Rattle.pt_req.specs.Parts.{by_path, file_of, numbered, looked_of, look_up, open_row}
-use Rattle.pt_req.specs.Requests.{lookup, open_file, tree_of}
+use Rattle.pt_attr.specs.Pattern.{tree_of}
+use Rattle.pt_req.specs.Requests.{lookup, open_file}
 use Rattle.pt_req.specs.Steps.{session_of, begin, on_began, Resolved, resolve, on_resolved, open_at, stat}
 use Rattle.pt_req.specs.Steps.{draw_handle, take_fd, insert_handle}
 use Rattle.pt_req.specs.declared.begun.BegunSession.{BegunSession}

@@ -26,7 +26,7 @@ use Rattle.pt_req.specs.Options.{agreed_with, init_options, with_bits, cleaned, 
 use Rattle.pt_req.specs.Options.{without_nofollow}
 use Rattle.pt_req.specs.Parts.{by_path, numbered, looked_of, look_up, open_form, open_row, root_open}
 use Rattle.pt_req.specs.Requests.{init, destroy, root, lookup, batch_forget, open_file, release, read, unserved}
-use Rattle.pt_req.specs.Requests.{tree_of}
+use Rattle.pt_attr.specs.Pattern.{tree_of}
 use Rattle.pt_req.specs.Steps.{session_of, Resolved}
 use Rattle.pt_req.specs.declared.begun.BegunSession.{BegunSession}
 use Rattle.pt_req.specs.declared.parts.looked.Looked.{Looked}

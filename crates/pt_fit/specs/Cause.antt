@@ -20,7 +20,7 @@ use Rattle.pt_frame.specs.Memory.{RanOut}
 use Rattle.pt_frame.specs.declared.act.ActReply.{ActReply}
 use Rattle.pt_frame.specs.declared.act.ActReply.TheVariants.{Event, Host}
 use Rattle.pt_req.specs.Entries.{is_bad_name, is_bad_offset, can_open}
-use Rattle.pt_req.specs.Requests.{IsServed}
+use Rattle.pt_attr.specs.Pattern.{IsServed}
 use Rattle.pt_attr.specs.Pattern.{Asked, Requests, Edits}
 
 -- it opens a number

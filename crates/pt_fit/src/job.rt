@@ -14,7 +14,7 @@ ghost use Rattle.pt_frame.specs.Grammar.{Belongs};
 ghost use Rattle.pt_frame.specs.Memory.{RanOut};
 ghost use Rattle.pt_frame.specs.declared.finish.Finish.{Finish};
 ghost use Rattle.pt_frame.specs.declared.finish.Finish.TheVariants as finish;
-ghost use Rattle.pt_req.specs.Requests.{tree_of};
+ghost use Rattle.pt_attr.specs.Pattern.{tree_of};
 ghost use Rattle.pt_req.specs.declared.plan.Plan.{Plan};
 ghost use Rattle.pt_attr.specs.Pattern.{Asked, Requests, Edits, grammar_for};
 ghost use Rattle.pt_law.specs.Discipline.{idle, ComesToEnd};
