@@ -1,16 +1,17 @@
 -- One step of a job belongs to what it has to do.
-use Rattle.std.proofs.Common.{◌≡◌, inl, inr, ℕ, List, Option, Some, None, refl, sym, subst}
+use Rattle.std.proofs.Common.{◌≡◌, inl, inr, ℕ, List, Option, Some, None, sym, subst}
 use Rattle.pt_host.specs.declared.seat.HostSeat.{HostSeat}
 use Rattle.pt_session.specs.Tables.{Tables}
-use Rattle.pt_req.specs.Deed.{Deed, Calls, Changes, Step, IsStepOf, MayTellBytes, HoldsReplyBytes}
-use Rattle.pt_req.specs.Grammar.{Grammar, End, Do, May, Belongs, after, Owed}
-use Rattle.pt_req.specs.Made.{Does, Made}
-use Rattle.pt_req.specs.declared.act.ActReply.{ActReply}
-use Rattle.pt_req.specs.declared.act.ActReply.TheVariants.{Event, Host, NoCopy}
-use Rattle.pt_req.specs.declared.finish.Finish.{Finish}
+use Rattle.pt_frame.specs.Deed.{Deed, Calls, Changes, Step, IsStepOf, MayTellBytes, HoldsReplyBytes}
+use Rattle.pt_frame.specs.Grammar.{Grammar, End, Do, May, Belongs, after, Owed}
+use Rattle.pt_frame.specs.Made.{Does, Made}
+use Rattle.pt_frame.specs.declared.act.ActReply.{ActReply}
+use Rattle.pt_frame.specs.declared.act.ActReply.TheVariants.{Event, Host, NoCopy}
+use Rattle.pt_frame.specs.declared.finish.Finish.{Finish}
 use Rattle.pt_law.proofs.Told.{Promises, bytes_told}
 use Rattle.pt_fs.specs.Advances.{IsWanted, IsShown, Advances}
-use Rattle.pt_fs.specs.Trace.{no_seat, MadeFrom}
+use Rattle.pt_fs.specs.Jobs.{no_seat}
+use Rattle.pt_fs.specs.Trace.{MadeFrom}
 
 module _ {H : Type 0} (does : Does H) (faults : H → ℕ) (promises : Promises does faults) where
   -- a reply that held bytes came to a call that may tell some

@@ -9,16 +9,15 @@ use Rattle.pt_host.specs.declared.seat.HostSeat.{HostSeat}
 use Rattle.pt_session.specs.Tables.{Tables}
 use Rattle.pt_iface.specs.declared.answer.Answer.{Answer}
 use Rattle.pt_iface.specs.declared.answer.Answer.TheVariants as answer
-use Rattle.pt_req.specs.Determined.{IsAnsweredInFull, IsDetermined, IsDeterminedHost}
-use Rattle.pt_req.specs.Grammar.{Grammar, End, Belongs}
-use Rattle.pt_req.specs.Made.{Does}
-use Rattle.pt_req.specs.Pattern.{grammar_for}
-use Rattle.pt_req.specs.declared.finish.Finish.{Finish}
-use Rattle.pt_req.specs.declared.finish.Finish.TheVariants as finish
+use Rattle.pt_frame.specs.Determined.{IsAnsweredInFull, IsDetermined, IsDeterminedHost}
+use Rattle.pt_frame.specs.Grammar.{Grammar, End, Belongs}
+use Rattle.pt_frame.specs.Made.{Does}
+use Rattle.pt_attr.proofs.Answering.{is_determined}
+use Rattle.pt_frame.specs.declared.finish.Finish.{Finish}
+use Rattle.pt_frame.specs.declared.finish.Finish.TheVariants as finish
 use Rattle.pt_req.specs.declared.plan.Plan.{Plan}
-use Rattle.pt_req.proofs.Determined.{jobs_determined}
 use Rattle.pt_fs.specs.Determined.{RanInOrder, TurnsAreDetermined}
-use Rattle.pt_fs.specs.Jobs.{job_seat, asked_of}
+use Rattle.pt_fs.specs.Jobs.{job_seat, job_start, job_grammar, asked_of}
 use Rattle.pt_fs.specs.Trace.{TraceRuns, AnswersEach, seated, steps_by}
 use Rattle.pt_fs.specs.declared.job.Job.{Job}
 use Rattle.pt_fs.specs.declared.trace.TraceStep.{TraceStep}
@@ -31,7 +30,7 @@ idle = finish.Answer answer.NoReply
 
 -- what a place of the jobs may do
 abbrev grammar_at : Plan → Option Job → Grammar
-grammar_at plan (Some job) = grammar_for plan (asked_of job)
+grammar_at plan (Some job) = job_grammar plan job
 grammar_at plan None = End idle
 
 -- and how it ends
@@ -40,7 +39,7 @@ end_at (Some told) = finish.Answer told
 end_at None = idle
 
 det_at : (plan : Plan) (job : Option Job) → IsDetermined (grammar_at plan job)
-det_at plan (Some job) = jobs_determined plan (asked_of job)
+det_at plan (Some job) = is_determined plan (job_start job) (asked_of job)
 det_at plan None = tt
 
 in_full : (told : Answer) → told ≢ answer.NoMemory → IsAnsweredInFull (finish.Answer told)
@@ -120,16 +119,19 @@ same_answers (told ∷ answers) (other ∷ others) l h =
     ap (λ (a : Answer). a ∷ answers) same ∙ ap (λ (l : List Answer). other ∷ l) more
 
 pub turns_determined : {H : Type 0} (does : Does H) → IsDeterminedHost does → TurnsAreDetermined does
-turns_determined {H} does one plan schedule jobs host tables trace trace' answers answers' after after' seats seats' left left' agree ran ran' =
+turns_determined {H} does one plan schedule jobs host tables trace trace' answers answers' after after' seats seats'
+    left left' agree ran ran' =
     let alike = only_order does one schedule (length jobs) trace (λ j. grammar_at plan (slice_get jobs j)) (λ j.
     end_at (slice_get answers j)) (λ j. end_at (slice_get answers' j)) trace'
     (starts jobs host tables) (stops ran.steps.seats after left) (stops ran'.steps.seats after' left')
     (λ j. det_at plan (slice_get jobs j)) agree
     (whole_rest does plan schedule jobs host after tables left trace answers seats ran)
-    (whole_rest does plan schedule jobs host after' tables left' trace' answers' seats' ran') ran.order.owners ran'.order.owners in
+    (whole_rest does plan schedule jobs host after' tables left' trace' answers' seats' ran') ran.order.owners
+    ran'.order.owners in
     record {
       traces = alike.traces;
-      answered = same_answers answers answers' (ran.answers_each.one_each ∙ sym ran'.answers_each.one_each) alike.ended;
+      answered = same_answers answers answers' (ran.answers_each.one_each ∙ sym ran'.answers_each.one_each)
+          alike.ended;
       hosts = ap (λ (p : Place H). p.host) alike.places;
       sat = ran.steps.are_left ∙ ap (λ (p : Place H). seated p.seats) alike.places ∙ sym ran'.steps.are_left;
       left = ap (λ (p : Place H). p.tables) alike.places;

@@ -2,18 +2,18 @@
 use Rattle.std.proofs.Common.{◌≡◌, ℕ, zero, suc, ◌<◌, List, [], ◌∷◌, ◌++◌, ◌∙◌, Some, refl, ap, sym, subst, map}
 use Rattle.std.proofs.Common.{length, slice_get, append_assoc, append-nil, true, false, arith}
 use Rattle.std.proofs.lemmas.Option.{same_Some}
+use Rattle.pt_host.specs.declared.seat.HostSeat.{HostSeat}
 use Rattle.pt_iface.specs.declared.answer.Answer.{Answer}
 use Rattle.pt_iface.specs.declared.request.Request.TheVariants as request
-use Rattle.pt_req.specs.Deed.{Step}
-use Rattle.pt_req.specs.Grammar.{Grammar, Belongs}
-use Rattle.pt_req.specs.Job.{owes}
-use Rattle.pt_req.specs.Pattern.{Asked, Requests, Edits, grammar_for}
-use Rattle.pt_req.specs.declared.finish.Finish.{Finish}
-use Rattle.pt_req.specs.declared.finish.Finish.TheVariants as finish
+use Rattle.pt_frame.specs.Deed.{Step}
+use Rattle.pt_frame.specs.Grammar.{Grammar, Belongs}
+use Rattle.pt_attr.specs.Machine.Job.{owes}
+use Rattle.pt_attr.specs.Pattern.{Asked, Requests, Edits, grammar_for}
+use Rattle.pt_frame.specs.declared.finish.Finish.{Finish}
+use Rattle.pt_frame.specs.declared.finish.Finish.TheVariants as finish
 use Rattle.pt_req.specs.declared.plan.Plan.{Plan}
-use Rattle.pt_req.proofs.Ending.{calm}
 use Rattle.pt_fs.specs.Each.{IsStarted, EachStarted, EachAnswered, EndsAs, answer_of}
-use Rattle.pt_fs.specs.Jobs.{job_seat, asked_of, IsAnsweredBy}
+use Rattle.pt_fs.specs.Jobs.{job_seat, job_start, job_grammar, asked_of, IsAnsweredBy}
 use Rattle.pt_fs.specs.Order.{rest_of, owner, count_of, with_left, MayBeLeft, Owns}
 use Rattle.pt_fs.specs.Owing.{Owing, run_seat}
 use Rattle.pt_fs.specs.Took.{IsFinishedAt}
@@ -24,6 +24,7 @@ use Rattle.pt_fs.specs.declared.running.Running.{Running}
 use Rattle.pt_fs.specs.declared.trace.TraceStep.{TraceStep}
 use Rattle.pt_fs.proofs.Orders.{same_function}
 use Rattle.pt_fs.proofs.Traces.{length-steps_by}
+use Rattle.pt_fs.proofs.Unlost.{answered_so}
 
 pub nothing_left : {X : Type 0} (xs : List X) → length xs ≡ 0 → xs ≡ []
 nothing_left [] e = refl
@@ -34,7 +35,8 @@ pub started_more : (plan : Plan) (all rest : List Job) (job : Job) (run : Runnin
     IsStarted plan job run →
     ((later : List Running) → EachStarted plan (job ∷ rest) later → EachStarted plan all (running ++ later)) →
     (later : List Running) → EachStarted plan rest later → EachStarted plan all ((running ++ run ∷ []) ++ later)
-started_more plan all rest job run running started so_far later h = rw append_assoc (so_far (run ∷ later) (started, h))
+started_more plan all rest job run running started so_far later h =
+    rw append_assoc (so_far (run ∷ later) (started, h))
 
 -- the answers so far, and those of the rest
 pub answered_more : (all rest : List Running) (run : Running) (told : Answer) (answers : List Answer) →
@@ -104,23 +106,23 @@ answered_at (run ∷ running) (first ∷ answers) h (suc j) told at = answered_a
 answered_at [] (first ∷ answers) h j told at = absurd h
 
 -- the answer of steps that belong to what is asked is their end
-pub told_end : (plan : Plan) (asked : Asked) (steps : List Step) (last : Finish) (told : Answer) →
-    told ≡ answer_of last → Belongs (grammar_for plan asked) steps last →
-    Belongs (grammar_for plan asked) steps (finish.Answer told)
-told_end plan asked steps last told is belongs =
-    let c = calm plan asked steps last belongs in
-    let same : last ≡ finish.Answer told = c.1 ∙ ap finish.Answer (sym (is ∙ ap answer_of c.1)) in
-    subst (λ (f : Finish). Belongs (grammar_for plan asked) steps f) same belongs
+told_end : (plan : Plan) (job : Job) (steps : List Step) (last : Finish) (told : Answer) →
+    told ≡ answer_of last → Belongs (job_grammar plan job) steps last →
+    Belongs (job_grammar plan job) steps (finish.Answer told)
+told_end plan job steps last told is belongs =
+    let given = answered_so plan (job_start job) (asked_of job) steps last belongs in
+    let same : last ≡ finish.Answer told = given.1 ∙ ap finish.Answer (sym (is ∙ ap answer_of given.1)) in
+    subst (λ (f : Finish). Belongs (job_grammar plan job) steps f) same belongs
 
 -- the pattern of a job is the grammar of what it asks
 answered_by : (plan : Plan) (job : Job) (steps : List Step) (told : Answer) →
-    Belongs (grammar_for plan (asked_of job)) steps (finish.Answer told) → IsAnsweredBy plan job steps told
+    Belongs (job_grammar plan job) steps (finish.Answer told) → IsAnsweredBy plan job steps told
 answered_by plan (job.Request who seat asked) steps told b = b
 answered_by plan (job.OpenRoot seat) steps told b = b
 answered_by plan (job.Edit edit) steps told b = b
 
 pub belongs_by : (plan : Plan) (job : Job) (steps : List Step) (told : Answer) → IsAnsweredBy plan job steps told →
-    Belongs (grammar_for plan (asked_of job)) steps (finish.Answer told)
+    Belongs (job_grammar plan job) steps (finish.Answer told)
 belongs_by plan (job.Request who seat asked) steps told b = b
 belongs_by plan (job.OpenRoot seat) steps told b = b
 belongs_by plan (job.Edit edit) steps told b = b
@@ -133,10 +135,10 @@ answers_each plan jobs running trace answers owing answered = record {
   in_pattern = λ j job told at_job at_told.
       let there = answered_at running answers answered j told at_told in
       let last = there.2.0 in
-      let nothing : Belongs (owes plan there.0.state) [] last =
+      let nothing : Belongs (owes plan there.0.start there.0.state) [] last =
       subst (λ (g : Grammar). Belongs g [] last) (sym (there.2.1 plan)) refl in
       answered_by plan job (steps_by j trace) told
-      (told_end plan (asked_of job) (steps_by j trace) last told there.2.2
+      (told_end plan job (steps_by j trace) last told there.2.2
       (rw append-nil at (owing.owed j job there.0 at_job there.1 [] last nothing)));
 }
 
@@ -157,15 +159,18 @@ bounded_each plan jobs running trace owing j job at =
     omega arith
 
 -- no request ends without a step, nor does an edit
-pub begins : (plan : Plan) (asked : Asked) (end : Finish) → Belongs (grammar_for plan asked) [] end → ⊥
-begins plan (Requests request.Root) end b = b
-begins plan (Requests asked) end b = b
-begins plan (Edits edit) end b = b
+begins : (plan : Plan) (seat : HostSeat) (asked : Asked) (end : Finish) →
+    Belongs (grammar_for plan seat asked) [] end → ⊥
+begins plan seat (Requests who (request.Init capable)) end b = b
+begins plan seat (Requests who request.Destroy) end b = b
+begins plan seat (Requests who request.Root) end b = b
+begins plan seat (Requests who asked) end b = b
+begins plan seat (Edits edit) end b = b
 
-pub some_steps : (plan : Plan) (asked : Asked) (steps : List Step) (end : Finish) →
-    Belongs (grammar_for plan asked) steps end → 0 < length steps
-some_steps plan asked [] end b = absurd (begins plan asked end b)
-some_steps plan asked (step ∷ steps) end b = omega arith
+some_steps : (plan : Plan) (seat : HostSeat) (asked : Asked) (steps : List Step) (end : Finish) →
+    Belongs (grammar_for plan seat asked) steps end → 0 < length steps
+some_steps plan seat asked [] end b = absurd (begins plan seat asked end b)
+some_steps plan seat asked (step ∷ steps) end b = omega arith
 
 pub at_below : {X : Type 0} (xs : List X) (j : ℕ) → j < length xs → (x : X) × (slice_get xs j ≡ Some x)
 at_below [] j below = absurd (omega arith)
@@ -177,7 +182,7 @@ pub steps_each : (plan : Plan) (jobs : List Job) (trace : List TraceStep) (answe
 steps_each plan jobs trace answers each j below =
     let job = at_below jobs j below in
     let told = one_for_each jobs answers j job.0 each.one_each job.1 in
-    let some = some_steps plan (asked_of job.0) (steps_by j trace) (finish.Answer told.0)
+    let some = some_steps plan (job_start job.0) (asked_of job.0) (steps_by j trace) (finish.Answer told.0)
     (belongs_by plan job.0 (steps_by j trace) told.0 (each.in_pattern j job.0 told.0 job.1 told.1)) in
     let long = length-steps_by j trace in
     omega arith

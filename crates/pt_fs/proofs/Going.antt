@@ -5,14 +5,15 @@ use Rattle.std.proofs.Common.{option_map, true, false, ◌<◌, length-append, a
 use Rattle.std.proofs.lemmas.Bool.{cases_eq}
 use Rattle.std.proofs.lemmas.List.{length-set, map-set}
 use Rattle.std.proofs.lemmas.Option.{same_Some, slice_get-map, get_or_from_slice_get}
+use Rattle.pt_host.specs.declared.seat.HostSeat.{HostSeat}
 use Rattle.pt_session.specs.Tables.{Tables}
-use Rattle.pt_req.specs.Deed.{Step}
-use Rattle.pt_req.specs.Grammar.{Belongs, is_end}
-use Rattle.pt_req.specs.Job.{owes, is_finished, steps_bound}
-use Rattle.pt_req.specs.Made.{Does}
-use Rattle.pt_req.specs.Pattern.{grammar_for, bound_for}
+use Rattle.pt_frame.specs.Deed.{Step}
+use Rattle.pt_frame.specs.Grammar.{Belongs, is_end}
+use Rattle.pt_attr.specs.Machine.Job.{owes, is_finished, steps_bound}
+use Rattle.pt_frame.specs.Made.{Does}
+use Rattle.pt_attr.specs.Pattern.{bound_for}
 use Rattle.pt_req.specs.declared.plan.Plan.{Plan}
-use Rattle.pt_fs.specs.Jobs.{asked_of}
+use Rattle.pt_fs.specs.Jobs.{asked_of, job_grammar}
 use Rattle.pt_fs.specs.GoesOn.{GoesOn}
 use Rattle.pt_fs.specs.Order.{order, rest_of, Owns}
 use Rattle.pt_fs.specs.Owing.{Owing, run_seat}
@@ -61,14 +62,14 @@ owing_took does plan place host host' running running' tables tables' trace trac
             | inl same ↦
                 let all = took.advances steps end
                 (subst (λ (r : Running).
-                Belongs (owes plan r.state) steps end) (is_run j run same at_run) belongs) in
+                Belongs (owes plan r.start r.state) steps end) (is_run j run same at_run) belongs) in
                 let whole = owing.owed j job took.run at_job (was_run j same) (step_of took.step ∷ steps) end all in
                 subst (λ (s : List Step).
-                Belongs (grammar_for plan (asked_of job)) s end)
+                Belongs (job_grammar plan job) s end)
                 (sym (append_assoc (steps_by j trace) (step_of took.step ∷ []) steps)
                 ∙ ap (λ s. s ++ steps) (sym (same_steps j same))) whole
             | inr other ↦ subst (λ (s : List Step).
-                Belongs (grammar_for plan (asked_of job)) (s ++ steps) end) (sym (other_steps j other))
+                Belongs (job_grammar plan job) (s ++ steps) end) (sym (other_steps j other))
                 (owing.owed j job run at_job (other_run j run other at_run) steps end belongs)
           ];
       bounded = λ j job run at_job at_run.
@@ -127,7 +128,8 @@ goes_on does plan plan1 o0 o1 o2 h0 h1 h2 s0 s1 s2 r0 r1 r2 t0 t1 t2 same first 
 
 -- a step that was taken, where the orders before and after it agree with it
 pub goes_took : {H : Type 0} (does : Does H) (plan : Plan) (place : ℕ) (o o' : (ℕ → ℕ) →
-    List ℕ) (host host' : H) (running running' : List Running) (tables tables' : Tables) (trace trace' : List TraceStep)
+    List ℕ) (host host' : H) (running running' : List Running) (tables tables' : Tables)
+    (trace trace' : List TraceStep)
     (took : Took does plan place host running tables trace host' running' tables' trace') →
     Owns o running (took.step ∷ []) o' (slice_set running place took.run') →
     GoesOn does plan o host running tables trace o' host' running' tables' trace'
@@ -236,8 +238,8 @@ finished_at running place d run ends at e = rw (get_or_from_slice_get running pl
 
 pub unfinished_at : (running : List Running) (place : ℕ) (d : Running) (plan : Plan) (ends : Bool) →
     ends ≡ is_finished (get_or running place d).state →
-    ((p : Plan) → is_end (owes p (get_or running place d).state) ≡ ends) → ends ≡ false →
+    ((p : Plan) (seat : HostSeat) → is_end (owes p seat (get_or running place d).state) ≡ ends) → ends ≡ false →
     IsUnfinished plan running place
 unfinished_at running place d plan ends finished end not run at =
     let same = get_or_from_slice_get running place run d at in
-    (rw same at (sym finished ∙ not), rw same at (end plan ∙ not))
+    (rw same at (sym finished ∙ not), rw same at (end plan run.start ∙ not))

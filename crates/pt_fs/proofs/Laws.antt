@@ -1,6 +1,6 @@
 -- The laws of whole runs, read for a trace.
 use Rattle.std.proofs.Common.{◌≡◌, ◌<◌, ◌++◌, ◌∙◌, ℕ, List, [], ◌∷◌, Option, Some, None, ap, sym, subst, refl, length}
-use Rattle.std.proofs.Common.{map, arith, cond, eqb, append-nil}
+use Rattle.std.proofs.Common.{inl, map, arith, cond, eqb, append-nil}
 use Rattle.std.proofs.lemmas.Grind.{common_steps}
 use Rattle.std.proofs.Math.ListN.{length-set}
 use Rattle.std.proofs.lemmas.List.{length-map}
@@ -8,49 +8,44 @@ use Rattle.std.proofs.lemmas.Option.{slice_get_within}
 use Rattle.std.specs.Prelude.{slice_get}
 use Rattle.pt_host.specs.Words.{Each}
 use Rattle.pt_host.specs.declared.seat.HostSeat.{HostSeat}
-use Rattle.pt_host.specs.Tree.{Tree, IsWellFormed}
 use Rattle.pt_session.specs.Tables.{Tables, Agree, empty_tables}
 use Rattle.pt_iface.specs.declared.answer.Answer.{Answer}
 use Rattle.pt_iface.specs.declared.answer.Answer.TheVariants as answer
 use Rattle.pt_iface.specs.declared.request.Request.TheVariants as request
-use Rattle.pt_req.specs.Deed.{Step, kept_deed_of}
-use Rattle.pt_req.specs.Grammar.{Belongs}
-use Rattle.pt_req.specs.Made.{Does}
-use Rattle.pt_req.specs.Pattern.{Asked, Requests, grammar_for}
-use Rattle.pt_req.specs.declared.finish.Finish.{Finish}
-use Rattle.pt_req.specs.declared.finish.Finish.TheVariants as finish
+use Rattle.pt_frame.specs.Deed.{Step, kept_deed_of}
+use Rattle.pt_frame.specs.Grammar.{Belongs}
+use Rattle.pt_frame.specs.Made.{Does}
+use Rattle.pt_attr.specs.Pattern.{Asked, Requests, grammar_for}
+use Rattle.pt_frame.specs.declared.finish.Finish.{Finish}
+use Rattle.pt_frame.specs.declared.finish.Finish.TheVariants as finish
 use Rattle.pt_req.specs.declared.plan.Plan.{Plan}
 use Rattle.pt_law.specs.Told.{AllMayBeTold}
-use Rattle.pt_law.specs.Laws.{AreKept, AreAnswered, AreEnded, AreDisciplined, Starts, SlotsAddUp, IsAtRest, BeginsFirst}
+use Rattle.pt_law.specs.Discipline.{AreEnded, AreDisciplined}
+use Rattle.pt_law.specs.Laws.{SlotsAddUp, IsAtRest, BeginsFirst}
+use Rattle.pt_fit.specs.Answered.{AreAnswered}
 use Rattle.pt_law.specs.Ledger.{slots_taken, slots_given}
-use Rattle.pt_law.specs.Entered.{name_asked}
-use Rattle.pt_law.specs.World.{Turn, TablesRun, HostRuns, Runs as WorldRuns, steps_of}
+use Rattle.pt_law.specs.World.{Turn, TablesRun, HostRuns, steps_of}
 use Rattle.pt_law.proofs.Told.{Promises}
-use Rattle.pt_law.proofs.Hosts.{Tells, hosts_tables, hosts_told, hosts_ended, hosts_world}
-use Rattle.pt_law.proofs.Laws.{agree_law, counts_law, once_law, slots_law, rest_law, ended_jobs, distinct_law, object_law}
-use Rattle.pt_law.proofs.Laws.{handles_law, kept_law, leaves_law}
+use Rattle.pt_law.proofs.Hosts.{hosts_tables, hosts_told}
+use Rattle.pt_fit.proofs.Answered.{hosts_ended}
+use Rattle.pt_law.proofs.Laws.{agree_law, counts_law, once_law, slots_law, rest_law, ended_jobs}
 use Rattle.pt_law.proofs.Standing.{standing_law}
 use Rattle.pt_law.proofs.HandlesOnce.{handles_once_law}
 use Rattle.pt_law.proofs.Overtaking.{overtaken_law, shut_out_law}
 use Rattle.pt_law.proofs.Interleaving.{tables_split}
-use Rattle.pt_law.proofs.Next.{named_law, honoured_law, owner_of}
-use Rattle.pt_law.proofs.Entries.{entered_law, two_lookups_law}
-use Rattle.pt_law.proofs.Tracing.{origins_law}
-use Rattle.pt_law.proofs.Cuts.{runs_split}
-use Rattle.pt_law.proofs.Beginning.{job_first}
-use Rattle.pt_law.proofs.OnlyLookups.{entry_asked}
-use Rattle.pt_law.proofs.Asked.{job_ends, job_caused}
+use Rattle.pt_law.proofs.Next.{honoured_law, owner_of}
+use Rattle.pt_fit.proofs.Beginning.{job_first}
+use Rattle.pt_fit.proofs.Asked.{job_ends, job_caused}
 use Rattle.pt_law.proofs.Returned.{all_settled}
-use Rattle.pt_fs.specs.Jobs.{asked_of, job_seat}
+use Rattle.pt_fs.specs.Jobs.{no_seat, daemon, job_seat, job_start, job_grammar, asked_of}
 use Rattle.pt_fs.specs.Trace.{TraceRuns, AnswersEach, steps_by, step_of}
-use Rattle.pt_fs.specs.Keeps.{turn_of, turns_of, AfterEach, AfterEachTold, LeadsOn, begins_in, KeepsObjects}
-use Rattle.pt_fs.specs.Keeps.{KeepsCounts, KeepsHandles, ServesEach, InsertsOnce, OvertakenAsTold, ShutsOut, OfEachJob}
-use Rattle.pt_fs.specs.Keeps.{GivesAllBack, IsCausedIn, IsNamedIn, NamesOpenOnes, LeavesOpen, ReachesEach}
-use Rattle.pt_fs.specs.Keeps.{AgreeOnNumbers, ComeFromNames, HonoursEach}
+use Rattle.pt_fs.specs.Keeps.{turn_of, turns_of, AfterEach, KeepsCounts, KeepsHandles, InsertsOnce, OvertakenAsTold}
+use Rattle.pt_fs.specs.Keeps.{ShutsOut, OfEachJob, GivesAllBack, IsCausedIn, RanOutIn, ReachesEach, HonoursEach}
 use Rattle.pt_fs.specs.declared.job.Job.{Job}
 use Rattle.pt_fs.specs.declared.trace.TraceStep.{TraceStep}
 use Rattle.pt_fs.proofs.Ended.{one_for_each, at_below, belongs_by}
 use Rattle.pt_fs.proofs.Traces.{made_from}
+use Rattle.pt_fs.proofs.Memory.{ran_out}
 use Rattle.pt_fs.proofs.Whole.{Whole, runs_whole, answers_whole}
 use Rattle.pt_fs.specs.Owing.{run_seat}
 use Rattle.pt_fs.specs.declared.running.Running.{Running}
@@ -58,7 +53,8 @@ use Rattle.pt_fs.specs.declared.running.Running.{Running}
 -- the seats aside, a trace is a run of its host
 pub host_runs : {H : Type 0} (does : Does H) (trace : List TraceStep) (host : H) (seats : List (Option HostSeat))
     (tables : Tables) (host' : H) (seats' : List (Option HostSeat)) (tables' : Tables) →
-    TraceRuns does trace host seats tables host' seats' tables' → HostRuns does (turns_of trace) host tables host' tables'
+    TraceRuns does trace host seats tables host' seats' tables' →
+    HostRuns does (turns_of trace) host tables host' tables'
 host_runs does [] host seats tables host' seats' tables' r = (r.0, r.2)
 host_runs does (step ∷ trace) host seats tables host' seats' tables' r =
     let at = r.3 in
@@ -84,8 +80,12 @@ steps_same job (step ∷ trace) =
     ap (λ (steps : List Step). cond (eqb step.job job) (step_of step ∷ steps) steps) (steps_same job trace)
 
 asked_by : Option Job → Asked
-asked_by None = Requests request.Root
+asked_by None = Requests daemon request.Root
 asked_by (Some job) = asked_of job
+
+seat_by : Option Job → HostSeat
+seat_by None = no_seat
+seat_by (Some job) = job_start job
 
 end_by : Option Answer → Finish
 end_by None = finish.Answer answer.Done
@@ -106,24 +106,34 @@ asked_at : List Job → ℕ → Asked
 unfolding asked_by
 asked_at jobs j = asked_by (slice_get jobs j)
 
+-- and from which seat
+start_at : List Job → ℕ → HostSeat
+unfolding seat_by
+start_at jobs j = seat_by (slice_get jobs j)
+
 end_at : List Answer → ℕ → Finish
 unfolding end_by
 end_at answers j = end_by (slice_get answers j)
 
+belongs_in : (plan : Plan) (jobs : List Job) (trace : List TraceStep) (answers : List Answer) →
+    AnswersEach plan jobs trace answers → (j : ℕ) → j < length jobs →
+    Belongs (grammar_for plan (start_at jobs j) (asked_at jobs j)) (steps_of j (turns_of trace)) (end_at answers j)
+unfolding asked_at asked_by start_at seat_by end_at end_by
+belongs_in plan jobs trace answers each j below =
+    let job = at_below jobs j below in
+    let told = one_for_each jobs answers j job.0 each.one_each job.1 in
+    let in_pattern = belongs_by plan job.0 (steps_by j trace) told.0 (each.in_pattern j job.0 told.0 job.1 told.1) in
+    rw (steps_same j trace, job.1, told.1) in_pattern
+
 answered_in : (plan : Plan) (jobs : List Job) (trace : List TraceStep) (answers : List Answer) →
     AnswersEach plan jobs trace answers → Each (λ turn. turn.job < length jobs) (turns_of trace) →
-    AreAnswered plan (length jobs) (asked_at jobs) (end_at answers) (turns_of trace)
-unfolding asked_at asked_by end_at end_by
+    AreAnswered plan (length jobs) (start_at jobs) (asked_at jobs) (end_at answers) (turns_of trace)
 answered_in plan jobs trace answers each owners = record {
   owners = owners;
-  jobs = λ j below.
-      let job = at_below jobs j below in
-      let told = one_for_each jobs answers j job.0 each.one_each job.1 in
-      let in_pattern = belongs_by plan job.0 (steps_by j trace) told.0 (each.in_pattern j job.0 told.0 job.1 told.1) in
-      rw (steps_same j trace, job.1, told.1) in_pattern;
+  jobs = λ j below. inl (belongs_in plan jobs trace answers each j below);
 }
 
-ended_of : {H : Type 0} (does : Does H) (faults : H → ℕ) → Promises does faults →
+pub ended_of : {H : Type 0} (does : Does H) (faults : H → ℕ) → Promises does faults →
     (plan : Plan) (limit : ℕ) (jobs : List Job) (host : H) (tables : Tables) (trace : List TraceStep)
     (answers : List Answer) (host' : H) (tables' : Tables) →
     Ran does plan limit jobs host tables trace answers host' tables' → AreEnded (length jobs) (turns_of trace)
@@ -131,13 +141,13 @@ ended_of does faults p plan limit jobs host tables trace answers host' tables' r
     let runs = host_runs does trace host ran.seats tables host' ran.seats' tables' ran.runs in
     let owners = owners_below does
     (length jobs) trace host ran.seats tables host' ran.seats' tables' ran.one_each ran.runs in
-    hosts_ended does faults p plan (length jobs) (asked_at jobs) (end_at answers)
+    hosts_ended does faults p plan (length jobs) (start_at jobs) (asked_at jobs) (end_at answers)
     (turns_of trace) host tables host' tables' runs (answered_in plan jobs trace answers ran.answered owners)
 
-turns-append : (trace more : List TraceStep) → turns_of (trace ++ more) ≡ turns_of trace ++ turns_of more
+pub turns-append : (trace more : List TraceStep) → turns_of (trace ++ more) ≡ turns_of trace ++ turns_of more
 turns-append trace more = grind (arith, common_steps)
 
-cut_at : (bound : ℕ) (trace so_far rest : List TraceStep) → trace ≡ so_far ++ rest →
+pub cut_at : (bound : ℕ) (trace so_far rest : List TraceStep) → trace ≡ so_far ++ rest →
     AreDisciplined bound (turns_of trace) → AreDisciplined bound (turns_of so_far ++ turns_of rest)
 cut_at bound trace so_far rest e d =
     subst (λ (turns : List Turn). AreDisciplined bound turns) (ap turns_of e ∙ turns-append so_far rest) d
@@ -157,13 +167,13 @@ pub record Keeps (limit : ℕ) (jobs : List Job) (tables : Tables) (trace : List
   pub rest : IsAtRest limit (length jobs) (turns_of trace) tables'
   pub gives_back : OfEachJob jobs answers (GivesAllBack trace)
   pub causes : OfEachJob jobs answers (IsCausedIn trace)
+  pub memory : OfEachJob jobs answers (RanOutIn trace)
 
 first_of : (plan : Plan) (jobs : List Job) (trace : List TraceStep) (answers : List Answer) →
-    AnswersEach plan jobs trace answers → Each (λ turn. turn.job < length jobs) (turns_of trace) → (j : ℕ) →
-    j < length jobs → BeginsFirst (steps_of j (turns_of trace))
-first_of plan jobs trace answers each owners j below =
-    let a = answered_in plan jobs trace answers each owners in
-    job_first plan (asked_at jobs j) (steps_of j (turns_of trace)) (end_at answers j) (a.jobs j below)
+    AnswersEach plan jobs trace answers → (j : ℕ) → j < length jobs → BeginsFirst (steps_of j (turns_of trace))
+first_of plan jobs trace answers each j below =
+    job_first plan (start_at jobs j) (asked_at jobs j) (steps_of j (turns_of trace)) (end_at answers j)
+    (belongs_in plan jobs trace answers each j below)
 
 pub keeps : {H : Type 0} (does : Does H) (faults : H → ℕ) → Promises does faults →
     (plan : Plan) (limit : ℕ) (jobs : List Job) (host : H) (tables : Tables) (trace : List TraceStep)
@@ -211,7 +221,7 @@ keeps does faults p plan limit jobs host tables trace answers host' tables' ran 
           ∙ turns-append so_far (step ∷ rest)) whole in
           let cut = tables_split (turns_of so_far) (turn_of step ∷ turns_of rest) (empty_tables limit) tables' run in
           let d = cut_at (length jobs) trace so_far (step ∷ rest) e disciplined in
-          let first = first_of plan jobs trace answers ran.answered owners step.job
+          let first = first_of plan jobs trace answers ran.answered step.job
           (owner_of (length jobs) (turns_of so_far) (turn_of step) (turns_of rest) d.owners) in
           shut_out_law limit (length jobs) (turns_of so_far) (turn_of step) (turns_of rest) cut.0 cut.2.0
           (subst (λ (turns : List Turn). BeginsFirst (steps_of step.job turns)) (ap turns_of e
@@ -229,7 +239,8 @@ keeps does faults p plan limit jobs host tables trace answers host' tables' ran 
       agree = λ so_far rest now e r. agree_law limit (turns_of so_far) now (from_empty (turns_of so_far) now r);
       gives_back = λ j job answer at told_at.
           let b = belongs_by plan job (steps_by j trace) answer (ran.answered.in_pattern j job answer at told_at) in
-          let ends = job_ends plan (asked_of job) (steps_by j trace) (finish.Answer answer) (told j) b in
+          let ends = job_ends plan (job_start job) (asked_of job) (steps_by j trace) (finish.Answer answer)
+          (told j) b in
           let below = slice_get_within jobs j job at in
           record {
             settled = all_settled (steps_by j trace) (finish.Answer answer) ends;
@@ -240,99 +251,17 @@ keeps does faults p plan limit jobs host tables trace answers host' tables' ran 
                 omega (arith, none, most));
           };
       causes = λ j job answer at told_at.
-          job_caused plan (asked_of job) (steps_by j trace) answer (told j)
+          job_caused plan (job_start job) (asked_of job) (steps_by j trace) answer (told j)
           (belongs_by plan job (steps_by j trace) answer (ran.answered.in_pattern j job answer at told_at));
-    }
-
--- those that speak of objects, over a host that tells its tree
-pub record KeepsTold (plan : Plan) (jobs : List Job) (told : Option Tree) (tables : Tables) (trace : List TraceStep)
-    (answers : List Answer) (told' : Option Tree) (tables' : Tables) : Type 0 where
-  pub leads_on : LeadsOn told tables trace told' tables'
-  pub distinct : AfterEachTold told tables trace (λ start so_far now. KeepsObjects now)
-  pub serves : AfterEachTold told tables trace (λ start so_far now. ServesEach now)
-  pub descriptors : AfterEachTold told tables trace (λ start so_far now. AreKept start (length jobs) so_far now)
-  pub named : NamesOpenOnes told tables trace
-  pub leaves : LeavesOpen told tables trace
-  pub entries : OfEachJob jobs answers (IsNamedIn plan told tables trace)
-  pub two_lookups : AgreeOnNumbers plan told tables trace
-  pub origins : AfterEachTold told tables trace ComeFromNames
-
-entered_by : (limit : ℕ) (plan : Plan) (jobs : List Job) (told : Option Tree) (tables : Tables)
-    (trace : List TraceStep) → tables ≡ empty_tables limit → AreDisciplined (length jobs) (turns_of trace) →
-    (j : ℕ) (job : Job) (given : Answer) →
-    Belongs (grammar_for plan (asked_of job)) (steps_of j (turns_of trace)) (finish.Answer given) →
-    IsNamedIn plan told tables trace j job given
-entered_by limit plan jobs told tables trace begins disciplined j job (answer.Entry entry) b =
-    let named = entry_asked plan (asked_of job) (steps_of j (turns_of trace)) entry b in (
-      named.0,
-      named.1,
-      ap name_asked named.2,
-      (λ tree is well.
-          entered_law limit (length jobs) plan (turns_of trace) (begins_in tree tables) j named.0 named.1 entry
-          (record { tables = begins; well_formed = well; past = refl }) disciplined
-          (subst (λ (r : Asked).
-          Belongs (grammar_for plan r) (steps_of j (turns_of trace)) (finish.Answer (answer.Entry entry))) named.2 b)),
-    )
-entered_by limit plan jobs told tables trace begins disciplined j job given b = tt
-
-pub keeps_told : {H : Type 0} (does : Does H) (tree : H → Option Tree) (faults : H → ℕ) → Promises does faults →
-    Tells does tree → (plan : Plan) (limit : ℕ) (jobs : List Job) (host : H) (tables : Tables)
-    (trace : List TraceStep) (answers : List Answer) (host' : H) (tables' : Tables) →
-    Ran does plan limit jobs host tables trace answers host' tables' →
-    KeepsTold plan jobs (tree host) tables trace answers (tree host') tables'
-keeps_told does tree faults p tells plan limit jobs host tables trace answers host' tables' ran =
-    let runs = host_runs does trace host ran.seats tables host' ran.seats' tables' ran.runs in
-    let ended = ended_of does faults p plan limit jobs host tables trace answers host' tables' ran in
-    let disciplined = ended_jobs (length jobs) (turns_of trace) ended in
-    let starts = λ (t : Tree) (well : IsWellFormed t). let s : Starts limit (begins_in t tables) =
-    record { tables = ran.begins; well_formed = well; past = refl } in s in
-    record {
-      leads_on = λ t is well.
-          let w = hosts_world does tree faults p tells (turns_of trace) (begins_in t tables) host host' tables' is runs in (
-            w.0,
-            w.1,
-            w.2,
-            w.3,
-            (λ so_far rest e.
-                runs_split (turns_of so_far) (turns_of rest) (begins_in t tables) w.0
-                (subst (λ (turns : List Turn). WorldRuns (begins_in t tables) turns w.0)
-                (ap turns_of e ∙ turns-append so_far rest) w.3)),
-          );
-      two_lookups = λ t is well job other parent folder name child entry another one two between first second object.
-          two_lookups_law limit (length jobs) (turns_of trace) [] (begins_in t tables) first second job other parent
-          folder name child entry.inode another.inode one.looked_up.stat.ids two.looked_up.stat.ids between object
-          one.given two.given (starts t well) (rw append-nil disciplined);
-      origins = λ t is well so_far rest now e r number object.
-          origins_law limit (length jobs) (turns_of so_far) (turns_of rest) (begins_in t tables) now number object
-          (starts t well) (cut_at (length jobs) trace so_far rest e disciplined) r;
-      distinct = λ t is well so_far rest now e r.
-          let d = cut_at (length jobs) trace so_far rest e disciplined in
-          record {
-            distinct = distinct_law limit (length jobs) (turns_of so_far) (turns_of rest) (begins_in t tables) now
-                (starts t well) d r;
-            open_on = λ row at live.
-                object_law limit (length jobs) (turns_of so_far) (turns_of rest) (begins_in t tables) now row
-                (starts t well) d r at live;
-          };
-      serves = λ t is well so_far rest now e r row at.
-          handles_law limit (length jobs) (turns_of so_far) (turns_of rest) (begins_in t tables) now row
-          (starts t well) (cut_at (length jobs) trace so_far rest e disciplined) r at;
-      descriptors = λ t is well so_far rest now e r.
-          kept_law limit (length jobs) (turns_of so_far) (turns_of rest) (begins_in t tables) now (starts t well)
-          (cut_at (length jobs) trace so_far rest e disciplined) r;
-      named = λ t is well so_far rest step now e r.
-          named_law limit (length jobs) (turns_of so_far) (turn_of step) (turns_of rest) (begins_in t tables) now
-          (starts t well) (cut_at (length jobs) trace so_far (step ∷ rest) e disciplined) r;
-      leaves = λ t is well end r.
-          leaves_law limit (length jobs) (turns_of trace) (begins_in t tables) end (starts t well) ended r;
-      entries = λ j job given at told_at.
-          entered_by limit plan jobs (tree host) tables trace ran.begins disciplined j job given
-          (rw (steps_same j trace)
-          (belongs_by plan job (steps_by j trace) given (ran.answered.in_pattern j job given at told_at)));
+      memory = λ j job answer at told_at is.
+          ran_out plan (job_start job) (asked_of job) (steps_by j trace) (told j)
+          (subst (λ (last : Answer). Belongs (job_grammar plan job) (steps_by j trace) (finish.Answer last)) is
+          (belongs_by plan job (steps_by j trace) answer (ran.answered.in_pattern j job answer at told_at)));
     }
 
 -- what is known of a whole run
-pub ran_whole : {H : Type 0} {does : Does H} {plan : Plan} {schedule : List ℕ} {h h' : H} {jobs : List Job} {running running' : List Running} {tables tables' : Tables} {trace : List TraceStep} {answers : List Answer}
+pub ran_whole : {H : Type 0} {does : Does H} {plan : Plan} {schedule : List ℕ} {h h' : H} {jobs : List Job}
+    {running running' : List Running} {tables tables' : Tables} {trace : List TraceStep} {answers : List Answer}
     → Whole does plan schedule h jobs running tables h' running' tables' trace answers →
     ((limit : ℕ) × (tables ≡ empty_tables limit)) →
     Ran does plan tables.limit jobs h tables trace answers h' tables'

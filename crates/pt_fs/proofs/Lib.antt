@@ -4,10 +4,15 @@ pub mod Orders
 pub mod Pending
 pub mod Works
 pub mod Going
+pub mod Unlost
 pub mod Ended
 pub mod Advancing
 pub mod Whole
+pub mod Memory
+pub mod Uncalled
 pub mod Laws
+pub mod Objects
+pub mod Leads
 pub mod Lockstep
 pub mod Determined
 pub mod SeatsAt

@@ -10,19 +10,20 @@ use Rattle.pt_host.specs.declared.op.KeptHostOp.{KeptHostOp}
 use Rattle.pt_host.specs.declared.seat.HostSeat.{HostSeat}
 use Rattle.pt_session.specs.Tables.{Tables, Agree}
 use Rattle.pt_session.specs.declared.event.KeptEvent.{KeptEvent}
-use Rattle.pt_req.specs.Deed.{Deed, Calls, Changes, Step, IsStepOf, kept_deed_of}
-use Rattle.pt_req.specs.Determined.{LacksMemory, IsAnsweredInFull, IsDetermined, IsDeterminedHost}
-use Rattle.pt_req.specs.Grammar.{Grammar, End, Do, May, Belongs}
-use Rattle.pt_req.specs.Made.{Does}
-use Rattle.pt_req.specs.declared.act.ActReply.{ActReply}
-use Rattle.pt_req.specs.declared.act.KeptAct.{KeptAct}
-use Rattle.pt_req.specs.declared.act.KeptAct.TheVariants as kept
-use Rattle.pt_req.specs.declared.finish.Finish.{Finish}
-use Rattle.pt_req.proofs.Determined.{whole_step, leads}
+use Rattle.pt_frame.specs.Deed.{Deed, Calls, Changes, Step, IsStepOf, kept_deed_of, LacksMemory}
+use Rattle.pt_frame.specs.Determined.{IsAnsweredInFull, IsDetermined, IsDeterminedHost}
+use Rattle.pt_frame.specs.Grammar.{Grammar, End, Do, May, Belongs}
+use Rattle.pt_frame.specs.Made.{Does}
+use Rattle.pt_frame.specs.declared.act.ActReply.{ActReply}
+use Rattle.pt_frame.specs.declared.act.KeptAct.{KeptAct}
+use Rattle.pt_frame.specs.declared.act.KeptAct.TheVariants as kept
+use Rattle.pt_frame.specs.declared.finish.Finish.{Finish}
 use Rattle.pt_fs.specs.Order.{lowered, rest_of, order, owner, count_of, with_left}
-use Rattle.pt_fs.specs.Trace.{no_seat, MadeFrom, TraceRuns, MadeAt, step_of, steps_by}
+use Rattle.pt_fs.specs.Jobs.{no_seat}
+use Rattle.pt_fs.specs.Trace.{MadeFrom, TraceRuns, MadeAt, step_of, steps_by}
 use Rattle.pt_fs.specs.declared.trace.TraceStep.{TraceStep}
 use Rattle.pt_fs.proofs.Orders.{same_function, count_of-append, with_left_same, lowered-with_left, rest_other}
+use Rattle.pt_fs.proofs.Leads.{whole_step, leads}
 use Rattle.pt_fs.proofs.Traces.{length-steps_by}
 
 -- no step lacked memory
@@ -50,7 +51,8 @@ same_step : (step other : TraceStep) → step.job ≡ other.job → step.act ≡
 same_step step other j a r =
     ap (λ (job : ℕ). let it : TraceStep = record { job = job; act = step.act; reply = step.reply } in it) j
     ∙ ap (λ (act : KeptAct). let it : TraceStep = record { job = other.job; act = act; reply = step.reply } in it) a
-    ∙ ap (λ (reply : ActReply). let it : TraceStep = record { job = other.job; act = other.act; reply = reply } in it) r
+    ∙ ap (λ (reply : ActReply).
+    let it : TraceStep = record { job = other.job; act = other.act; reply = reply } in it) r
 
 -- where a run stands
 pub record Place (H : Type 0) : Type 0 where
@@ -90,7 +92,8 @@ led_from : {H : Type 0} (does : Does H) → IsDeterminedHost does →
     Led reply reply' host1 host2 seat1 seat2 tables1 tables2
 led_from does one deed reply reply' host (Some seat) tables host1 host2 (Some seat1)
     (Some seat2) tables1 tables2 w w' agree m n =
-    let led = leads does one deed reply reply' host seat tables host1 host2 seat1 seat2 tables1 tables2 w w' agree m n in
+    let led = leads does one deed reply reply' host seat tables host1 host2 seat1 seat2 tables1 tables2 w w' agree m
+    n in
     record {
       replies = led.replies;
       hosts = led.hosts;
@@ -99,7 +102,8 @@ led_from does one deed reply reply' host (Some seat) tables host1 host2 (Some se
       agree = led.agree;
     }
 led_from does one deed reply reply' host None tables host1 host2 None None tables1 tables2 w w' agree m n =
-    let led = leads does one deed reply reply' host no_seat tables host1 host2 m.0 n.0 tables1 tables2 w w' agree m.1 n.1 in
+    let led = leads does one deed reply reply' host no_seat tables host1 host2 m.0 n.0 tables1 tables2 w w' agree m.1
+    n.1 in
     record { replies = led.replies; hosts = led.hosts; seats = refl; left = led.left; agree = led.agree }
 led_from does one deed reply reply' host (Some seat) tables host1 host2
     (Some seat1) None tables1 tables2 w w' agree m n = absurd n
@@ -126,7 +130,8 @@ one_step {H} does one deed x y from to to' j w w' agree s s' m n =
     MadeFrom does (Some deed) y.reply from.host z from.tables to'.host n.1 to'.tables) seat
     (subst (λ (d : Option Deed).
     MadeFrom does d y.reply from.host n.0 from.tables to'.host n.1 to'.tables) b n.4) in
-    let led = led_from does one deed x.reply y.reply from.host m.0 from.tables to.host to'.host m.1 n.1 to.tables to'.tables w w' agree here there in
+    let led = led_from does one deed x.reply y.reply from.host m.0 from.tables to.host to'.host m.1 n.1 to.tables
+    to'.tables w w' agree here there in
     let sat : to.seats ≡ to'.seats =
     m.3 ∙ ap (λ (k : ℕ). slice_set from.seats k m.1) j
     ∙ ap (λ (z : Option HostSeat). slice_set from.seats y.job z) led.seats ∙ sym n.3 in
@@ -233,7 +238,8 @@ first_of_rest : {H : Type 0} (does : Does H) (deed : Deed) (left : ℕ → Gramm
     Finish) (step : TraceStep) (trace : List TraceStep) (from to : Place H) → ((j : ℕ) → IsDetermined (left j)) →
     next_deed (left step.job) ≡ Some deed →
     IsRest does left ends (step ∷ trace) from to → (j : ℕ) → step.job ≡ j →
-    IsStepOf deed (kept_deed_of step.act) step.reply × Belongs (then_on step.reply (left j)) (steps_by j trace) (ends j)
+    IsStepOf deed (kept_deed_of step.act) step.reply × Belongs (then_on step.reply (left j)) (steps_by j trace)
+    (ends j)
 first_of_rest does deed left ends step trace from to det is it j same =
     let here : Belongs (left j) (step_of step ∷ steps_by j trace) (ends j) =
     subst (λ (steps : List Step). Belongs (left j) steps (ends j)) (first_same step trace j same) (it.belongs j) in
@@ -291,16 +297,19 @@ HasNoOther {H} does owners trace =
 -- two runs that both make a step of one job
 only_step : {H : Type 0} (does : Does H) → IsDeterminedHost does →
     (owners : (ℕ → ℕ) → List ℕ) (deed : Deed) (x y : TraceStep) (trace trace' : List TraceStep) (left : ℕ →
-    Grammar) (ends ends' : ℕ → Finish) (from to to' : Place H) → ((j : ℕ) → IsDetermined (left j)) → Agree from.tables →
+    Grammar) (ends ends' : ℕ → Finish) (from to to' : Place H) → ((j : ℕ) → IsDetermined (left j)) →
+    Agree from.tables →
     next_deed (left x.job) ≡ Some deed → x.job ≡ y.job → IsRest does left ends (x ∷ trace) from to →
     IsRest does left ends' (y ∷ trace') from to' → map owner trace ≡ owners (count_of trace) →
     map owner trace' ≡ owners (count_of trace') → HasNoOther does owners trace →
     AreAlike (x ∷ trace) (y ∷ trace') ends ends' to to'
-only_step {H} does one owners deed x y trace trace' left ends ends' from to to' det agree is j here there own own' only =
+only_step {H} does one owners deed x y trace trace' left ends ends' from to to' det agree is j here there own own'
+    only =
     let a = rest_on does deed left ends x trace from to det is here in
     let b = rest_on does deed left ends' y trace' from to' det (ap (λ (k : ℕ). next_deed (left k)) (sym j)
     ∙ is) there in
-    let same = one_step does one deed x y from a.after b.after j here.found.0 there.found.0 agree a.by b.by a.makes b.makes in
+    let same = one_step does one deed x y from a.after b.after j here.found.0 there.found.0 agree a.by b.by a.makes
+    b.makes in
     let moved : IsRest does (left_after x left) ends' trace' b.after to' =
     subst (λ (s : TraceStep). IsRest does (left_after s left) ends' trace' b.after to') (sym same.steps) b.rest in
     let beside : IsRest does (left_after x left) ends' trace' a.after to' =
@@ -365,25 +374,29 @@ only_place : {H : Type 0} (does : Does H) → IsDeterminedHost does →
     (trace : List TraceStep) →
     ((step : TraceStep) (rest : List TraceStep) → trace ≡ step ∷ rest → HasNoOther does served rest) →
     HasNoOther does passed trace → HasNoOther does owners trace
-only_place {H} does one owners served passed place serves passes trace go skip left ends ends' trace' from to to' det agree here there own own' = elim (deed_or_none (next_deed (left place))) [
-  | inl asked ↦
-      let a = serves trace (has_step does left ends trace from to place asked.0 (det place) asked.1 here) own in
-      let b = serves trace' (has_step does left ends' trace' from to' place asked.0 (det place) asked.1 there) own' in
-      let is : next_deed (left a.step.job) ≡ Some asked.0 = ap (λ (k : ℕ). next_deed (left k)) a.own ∙ asked.1 in
-      let first : IsRest does left ends (a.step ∷ a.rest) from to =
-      subst (λ (t : List TraceStep). IsRest does left ends t from to) a.whole here in
-      let second : IsRest does left ends' (b.step ∷ b.rest) from to' =
-      subst (λ (t : List TraceStep). IsRest does left ends' t from to') b.whole there in
-      let more = only_step does one served asked.0 a.step b.step a.rest b.rest left ends ends' from to to' det agree is (a.own ∙ sym b.own) first second a.owned b.owned (go a.step a.rest a.whole) in
-      record { traces = a.whole ∙ more.traces ∙ sym b.whole; ended = more.ended; places = more.places }
-  | inr none ↦
-      let quiet = has_none does left ends trace from to place (det place) none here in
-      let quiet' = has_none does left ends' trace' from to' place (det place) none there in
-      skip left ends ends' trace' from to to' det agree here there (own ∙ passes (count_of trace) quiet) (own'
-      ∙ passes (count_of trace') quiet')
-]
+only_place {H} does one owners served passed place serves passes trace go skip left ends ends' trace' from to to' det
+    agree here there own own' = elim (deed_or_none (next_deed (left place))) [
+      | inl asked ↦
+          let a = serves trace (has_step does left ends trace from to place asked.0 (det place) asked.1 here) own in
+          let b = serves trace' (has_step does left ends' trace' from to' place asked.0 (det place) asked.1 there)
+          own' in
+          let is : next_deed (left a.step.job) ≡ Some asked.0 = ap (λ (k : ℕ). next_deed (left k)) a.own ∙ asked.1 in
+          let first : IsRest does left ends (a.step ∷ a.rest) from to =
+          subst (λ (t : List TraceStep). IsRest does left ends t from to) a.whole here in
+          let second : IsRest does left ends' (b.step ∷ b.rest) from to' =
+          subst (λ (t : List TraceStep). IsRest does left ends' t from to') b.whole there in
+          let more = only_step does one served asked.0 a.step b.step a.rest b.rest left ends ends' from to to' det
+          agree is (a.own ∙ sym b.own) first second a.owned b.owned (go a.step a.rest a.whole) in
+          record { traces = a.whole ∙ more.traces ∙ sym b.whole; ended = more.ended; places = more.places }
+      | inr none ↦
+          let quiet = has_none does left ends trace from to place (det place) none here in
+          let quiet' = has_none does left ends' trace' from to' place (det place) none there in
+          skip left ends ends' trace' from to to' det agree here there (own ∙ passes (count_of trace) quiet) (own'
+          ∙ passes (count_of trace') quiet')
+    ]
 
-count_first : (step : TraceStep) (trace : List TraceStep) → count_of (step ∷ trace) ≡ with_left (step ∷ []) (count_of trace)
+count_first : (step : TraceStep) (trace : List TraceStep) →
+    count_of (step ∷ trace) ≡ with_left (step ∷ []) (count_of trace)
 count_first step trace =
     same_function (count_of (step ∷ trace)) (with_left (step ∷ []) (count_of trace)) (λ j.
     count_of-append (step ∷ []) trace j)

@@ -3,7 +3,7 @@ use Rattle.std.proofs.Common.{◌++◌, ◌∙◌, Some, refl, ap, sym, map, sli
 use Rattle.std.proofs.lemmas.Bool.{cases_eq, ne_eqb, lt-ltb}
 use Rattle.std.proofs.lemmas.List.{length-set, map-append}
 use Rattle.std.proofs.lemmas.Option.{same_Some, slice_get_within, slice_get_cases}
-use Rattle.pt_req.specs.Job.{is_finished}
+use Rattle.pt_attr.specs.Machine.Job.{is_finished}
 use Rattle.pt_fs.specs.declared.trace.TraceStep.{TraceStep}
 use Rattle.pt_fs.specs.declared.running.Running.{Running}
 use Rattle.pt_fs.specs.Order.{lowered, rest_of, order, owner, count_of, with_left, MayBeLeft, Owns}
@@ -20,9 +20,11 @@ count_of-append (x ∷ xs) ys job = let e = count_of-append xs ys job in
     elim (x.job == job) as (λ b. cond b (suc (count_of (xs ++ ys) job)) (count_of (xs ++ ys) job)
     ≡ cond b (suc (count_of xs job)) (count_of xs job) + count_of ys job) [ true ↦ omega arith | false ↦ e ]
 
-pub with_left-append : (xs ys : List TraceStep) (left : ℕ → ℕ) → with_left (xs ++ ys) left ≡ with_left xs (with_left ys left)
+pub with_left-append : (xs ys : List TraceStep) (left : ℕ → ℕ) →
+    with_left (xs ++ ys) left ≡ with_left xs (with_left ys left)
 with_left-append xs ys left =
-    same_function (with_left (xs ++ ys) left) (with_left xs (with_left ys left)) (λ j. let e = count_of-append xs ys j in
+    same_function (with_left (xs ++ ys) left) (with_left xs (with_left ys left))
+    (λ j. let e = count_of-append xs ys j in
     omega arith)
 
 pub with_left-none : (left : ℕ → ℕ) → with_left [] left ≡ left
@@ -31,10 +33,13 @@ with_left-none left = same_function (with_left [] left) left (λ j. omega arith)
 -- one step more
 pub with_left_same : (step : TraceStep) (job : ℕ) (left : ℕ → ℕ) → step.job ≡ job →
     with_left (step ∷ []) left job ≡ suc (left job)
-with_left_same step job left e = let one : count_of (step ∷ []) job ≡ 1 = rw (eq-eqb step.job job e) refl in omega arith
+with_left_same step job left e =
+    let one : count_of (step ∷ []) job ≡ 1 = rw (eq-eqb step.job job e) refl in omega arith
 
-pub with_left_other : (step : TraceStep) (job : ℕ) (left : ℕ → ℕ) → step.job ≢ job → with_left (step ∷ []) left job ≡ left job
-with_left_other step job left ne = let none : count_of (step ∷ []) job ≡ 0 = rw (ne_eqb step.job job ne) refl in omega arith
+pub with_left_other : (step : TraceStep) (job : ℕ) (left : ℕ → ℕ) → step.job ≢ job →
+    with_left (step ∷ []) left job ≡ left job
+with_left_other step job left ne =
+    let none : count_of (step ∷ []) job ≡ 0 = rw (ne_eqb step.job job ne) refl in omega arith
 
 pub lowered-with_left : (step : TraceStep) (left : ℕ → ℕ) → lowered (with_left (step ∷ []) left) step.job ≡ left
 lowered-with_left step left =

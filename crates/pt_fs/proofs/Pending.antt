@@ -8,9 +8,9 @@ use Rattle.pt_session.specs.declared.event.KeptEvent.TheVariants as change
 use Rattle.pt_session.specs.declared.reply.EventReply.{EventReply}
 use Rattle.pt_session.specs.declared.reply.EventReply.TheVariants as reply
 use Rattle.pt_session.proofs.Replies.{pays}
-use Rattle.pt_req.specs.Deed as deed
-use Rattle.pt_req.specs.Held.{closings_in, inserted_by}
-use Rattle.pt_req.specs.declared.act.ActReply.TheVariants.{Event}
+use Rattle.pt_frame.specs.Deed as deed
+use Rattle.pt_frame.specs.Replies.{closings_in, inserted_by}
+use Rattle.pt_frame.specs.declared.act.ActReply.TheVariants.{Event}
 
 -- a job is told no more closings than the event put on the list
 pub told_put : (asked : Change) (told : EventReply) → closings_in (deed.Changes asked) (Event told) ≤ put_by told

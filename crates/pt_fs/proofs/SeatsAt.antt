@@ -4,10 +4,10 @@ use Rattle.std.proofs.lemmas.Bool.Decides.{eqb_tells}
 use Rattle.std.proofs.lemmas.Option.{same_Some}
 use Rattle.pt_host.specs.declared.seat.HostSeat.{HostSeat}
 use Rattle.pt_session.specs.Tables.{Tables}
-use Rattle.pt_req.specs.Deed.{Deed, kept_deed_of}
-use Rattle.pt_req.specs.Made.{Does}
-use Rattle.pt_req.specs.Seats.{seat_at, seat_by}
-use Rattle.pt_req.specs.declared.act.ActReply.{ActReply}
+use Rattle.pt_frame.specs.Deed.{Deed, kept_deed_of}
+use Rattle.pt_frame.specs.Made.{Does}
+use Rattle.pt_frame.specs.Seats.{seat_at, seat_by}
+use Rattle.pt_frame.specs.declared.act.ActReply.{ActReply}
 use Rattle.pt_law.proofs.Seats.{made_seat}
 use Rattle.pt_law.proofs.Told.{Promises}
 use Rattle.pt_fs.proofs.Places.{get-set_other, get-set_same}
@@ -50,5 +50,6 @@ module _ {H : Type 0} (does : Does H) (faults : H → ℕ) (p : Promises does fa
             ap (λ (s : List (Option HostSeat)). slice_get s job) at.3
             ∙ get-set_other s0 x.job job at.1 (λ q. apart.1 (sym q)) ∙ is in
             seats_at xs runs.0 h1 runs.1 s1 runs.2 r1 runs.4 job seat next
-            ∙ ap (λ b. has_seat (seat_at seat (cond b (step_of x ∷ steps_by job xs) (steps_by job xs)))) (sym apart.0))
+            ∙ ap (λ b. has_seat (seat_at seat (cond b (step_of x ∷ steps_by job xs) (steps_by job xs))))
+            (sym apart.0))
       ]

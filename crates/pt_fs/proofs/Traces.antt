@@ -5,11 +5,12 @@ use Rattle.std.proofs.lemmas.Bool.{ne_eqb}
 use Rattle.std.proofs.lemmas.Option.{same_Some}
 use Rattle.pt_host.specs.declared.seat.HostSeat.{HostSeat}
 use Rattle.pt_session.specs.Tables.{Tables}
-use Rattle.pt_req.specs.Deed.{Deed, Step}
-use Rattle.pt_req.specs.Made.{Does, Made}
-use Rattle.pt_req.specs.declared.act.ActReply.{ActReply}
+use Rattle.pt_frame.specs.Deed.{Deed, Step}
+use Rattle.pt_frame.specs.Made.{Does, Made}
+use Rattle.pt_frame.specs.declared.act.ActReply.{ActReply}
 use Rattle.pt_fs.specs.Order.{count_of}
-use Rattle.pt_fs.specs.Trace.{no_seat, MadeFrom, TraceRuns, seated, steps_by, step_of, closings_told}
+use Rattle.pt_fs.specs.Jobs.{no_seat}
+use Rattle.pt_fs.specs.Trace.{MadeFrom, TraceRuns, seated, steps_by, step_of, closings_told}
 use Rattle.pt_fs.specs.declared.trace.TraceStep.{TraceStep}
 
 -- two traces that meet are one
@@ -80,7 +81,8 @@ seats_left does (x ∷ xs) h0 h1 s0 s1 r0 r1 runs =
     ∙ seated-set s0 x.job at.0 at.1 at.2 (same_count does _ x.reply h0 at.0 r0 runs.0 at.1 runs.2 at.4) in
     seats_left does xs runs.0 h1 runs.1 s1 runs.2 r1 runs.4 ∙ one
 
-pub steps_by-append : (job : ℕ) (xs ys : List TraceStep) → steps_by job (xs ++ ys) ≡ steps_by job xs ++ steps_by job ys
+pub steps_by-append : (job : ℕ) (xs ys : List TraceStep) → steps_by job (xs ++ ys) ≡ steps_by job xs
+    ++ steps_by job ys
 steps_by-append job [] ys = refl
 steps_by-append job (x ∷ xs) ys = let e = steps_by-append job xs ys in
     elim (x.job == job) as (λ b. cond b (step_of x ∷ steps_by job (xs ++ ys)) (steps_by job (xs ++ ys))

@@ -3,7 +3,7 @@ use Rattle.std.proofs.Common.{◌≡◌, ◌≤◌, ℕ, List, [], ◌++◌, ◌
 use Rattle.pt_host.specs.declared.seat.HostSeat.{HostSeat}
 use Rattle.pt_session.specs.Tables.{Tables}
 use Rattle.pt_iface.specs.declared.answer.Answer.{Answer}
-use Rattle.pt_req.specs.Made.{Does}
+use Rattle.pt_frame.specs.Made.{Does}
 use Rattle.pt_req.specs.declared.plan.Plan.{Plan}
 use Rattle.pt_fs.specs.Each.{EachStarted, EachAnswered}
 use Rattle.pt_fs.specs.GoesOn.{GoesOn}
@@ -32,17 +32,23 @@ pub record Whole {H : Type 0} (does : Does H) (plan : Plan) (schedule : List ℕ
   pub finished : (j : ℕ) → IsFinishedAt running' j
   pub answered : EachAnswered running' answers
 
-pub whole_steps : {H : Type 0} {does : Does H} {plan : Plan} {schedule : List ℕ} {h h' : H} {jobs : List Job} {running running' : List Running} {tables tables' : Tables} {trace : List TraceStep} {answers : List Answer} (whole : Whole does plan schedule h jobs running tables h' running' tables' trace answers) → trace ≡ whole.goes.steps
+pub whole_steps : {H : Type 0} {does : Does H} {plan : Plan} {schedule : List ℕ} {h h' : H} {jobs : List Job}
+    {running running' : List Running} {tables tables' : Tables} {trace : List TraceStep} {answers : List Answer}
+    (whole : Whole does plan schedule h jobs running tables h' running' tables' trace answers) →
+    trace ≡ whole.goes.steps
 whole_steps whole = whole.goes.longer ∙ ap (λ t. t ++ whole.goes.steps) whole.empty
 
-pub runs_whole : {H : Type 0} {does : Does H} {plan : Plan} {schedule : List ℕ} {h h' : H} {jobs : List Job} {running running' : List Running} {tables tables' : Tables} {trace : List TraceStep} {answers : List Answer}
+pub runs_whole : {H : Type 0} {does : Does H} {plan : Plan} {schedule : List ℕ} {h h' : H} {jobs : List Job}
+    {running running' : List Running} {tables tables' : Tables} {trace : List TraceStep} {answers : List Answer}
     → Whole does plan schedule h jobs running tables h' running' tables' trace answers →
     TraceRuns does trace h (map job_seat jobs) tables h' (map run_seat running') tables'
 runs_whole {plan = plan} {jobs = jobs} {running = running} whole =
     rw (whole_steps whole, ← started_seats plan jobs running whole.started) whole.goes.runs
 
 -- and the seats that are left
-pub jobs_whole : {H : Type 0} {does : Does H} {plan : Plan} {schedule : List ℕ} {h h' : H} {jobs : List Job} {running running' : List Running} {tables tables' : Tables} {trace : List TraceStep} {answers : List Answer} (left : List HostSeat)
+pub jobs_whole : {H : Type 0} {does : Does H} {plan : Plan} {schedule : List ℕ} {h h' : H} {jobs : List Job}
+    {running running' : List Running} {tables tables' : Tables} {trace : List TraceStep} {answers : List Answer}
+    (left : List HostSeat)
     → Whole does plan schedule h jobs running tables h' running' tables' trace answers →
     left ≡ seated (map run_seat running') → RunsJobs does jobs trace h tables h' left tables'
 jobs_whole {does = does} {h =
@@ -57,25 +63,30 @@ jobs_whole {does = does} {h =
           ∙ seats_left does trace h h' (map job_seat jobs) (map run_seat running') tables tables' runs;
     }
 
-pub owing_whole : {H : Type 0} {does : Does H} {plan : Plan} {schedule : List ℕ} {h h' : H} {jobs : List Job} {running running' : List Running} {tables tables' : Tables} {trace : List TraceStep} {answers : List Answer}
-    → Whole does plan schedule h jobs running tables h' running' tables' trace answers → Owing plan jobs running' trace
+pub owing_whole : {H : Type 0} {does : Does H} {plan : Plan} {schedule : List ℕ} {h h' : H} {jobs : List Job}
+    {running running' : List Running} {tables tables' : Tables} {trace : List TraceStep} {answers : List Answer}
+    → Whole does plan schedule h jobs running tables h' running' tables' trace answers →
+    Owing plan jobs running' trace
 owing_whole {plan = plan} {jobs = jobs} {running = running} whole =
     whole.goes.owing jobs
     (subst (λ (t : List TraceStep).
     Owing plan jobs running t) (sym whole.empty) (started_owing plan jobs running whole.started))
 
-pub answers_whole : {H : Type 0} {does : Does H} {plan : Plan} {schedule : List ℕ} {h h' : H} {jobs : List Job} {running running' : List Running} {tables tables' : Tables} {trace : List TraceStep} {answers : List Answer}
+pub answers_whole : {H : Type 0} {does : Does H} {plan : Plan} {schedule : List ℕ} {h h' : H} {jobs : List Job}
+    {running running' : List Running} {tables tables' : Tables} {trace : List TraceStep} {answers : List Answer}
     → Whole does plan schedule h jobs running tables h' running' tables' trace answers →
     AnswersEach plan jobs trace answers
 answers_whole {plan = plan} {jobs = jobs} {running' = running'} {trace = trace} {answers = answers} whole =
     answers_each plan jobs running' trace answers (owing_whole whole) whole.answered
 
-pub bounded_whole : {H : Type 0} {does : Does H} {plan : Plan} {schedule : List ℕ} {h h' : H} {jobs : List Job} {running running' : List Running} {tables tables' : Tables} {trace : List TraceStep} {answers : List Answer}
+pub bounded_whole : {H : Type 0} {does : Does H} {plan : Plan} {schedule : List ℕ} {h h' : H} {jobs : List Job}
+    {running running' : List Running} {tables tables' : Tables} {trace : List TraceStep} {answers : List Answer}
     → Whole does plan schedule h jobs running tables h' running' tables' trace answers → IsBounded jobs trace
 bounded_whole {plan = plan} {jobs = jobs} {running' = running'} {trace = trace} whole =
     bounded_each plan jobs running' trace (owing_whole whole)
 
-pub order_whole : {H : Type 0} {does : Does H} {plan : Plan} {schedule : List ℕ} {h h' : H} {jobs : List Job} {running running' : List Running} {tables tables' : Tables} {trace : List TraceStep} {answers : List Answer}
+pub order_whole : {H : Type 0} {does : Does H} {plan : Plan} {schedule : List ℕ} {h h' : H} {jobs : List Job}
+    {running running' : List Running} {tables tables' : Tables} {trace : List TraceStep} {answers : List Answer}
     → Whole does plan schedule h jobs running tables h' running' tables' trace answers →
     IsInOrder schedule (length jobs) trace
 order_whole {plan =
@@ -88,7 +99,8 @@ order_whole {plan =
     }
 
 -- the trace has no more steps than there was work
-pub spent_whole : {H : Type 0} {does : Does H} {plan : Plan} {schedule : List ℕ} {h h' : H} {jobs : List Job} {running running' : List Running} {tables tables' : Tables} {trace : List TraceStep} {answers : List Answer}
+pub spent_whole : {H : Type 0} {does : Does H} {plan : Plan} {schedule : List ℕ} {h h' : H} {jobs : List Job}
+    {running running' : List Running} {tables tables' : Tables} {trace : List TraceStep} {answers : List Answer}
     → Whole does plan schedule h jobs running tables h' running' tables' trace answers →
     length trace ≤ work running tables
 spent_whole whole =

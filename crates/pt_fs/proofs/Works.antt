@@ -5,11 +5,11 @@ use Rattle.std.proofs.lemmas.Option.{same_Some}
 use Rattle.pt_host.specs.declared.seat.HostSeat.{HostSeat}
 use Rattle.pt_session.specs.Pending.{pending_in}
 use Rattle.pt_session.specs.Tables.{Tables}
-use Rattle.pt_req.specs.Deed.{Deed, Changes, Calls}
-use Rattle.pt_req.specs.Job.{steps_bound, inserts_left}
-use Rattle.pt_req.specs.Made.{Does, Made}
-use Rattle.pt_req.specs.declared.act.ActReply.{ActReply}
-use Rattle.pt_req.specs.declared.act.ActReply.TheVariants.{Event, Host, NoCopy}
+use Rattle.pt_frame.specs.Deed.{Deed, Changes, Calls}
+use Rattle.pt_attr.specs.Machine.Job.{steps_bound, inserts_left}
+use Rattle.pt_frame.specs.Made.{Does, Made}
+use Rattle.pt_frame.specs.declared.act.ActReply.{ActReply}
+use Rattle.pt_frame.specs.declared.act.ActReply.TheVariants.{Event, Host, NoCopy}
 use Rattle.pt_req.specs.declared.plan.Plan.{Plan}
 use Rattle.pt_fs.specs.Advances.{inserted_in}
 use Rattle.pt_fs.specs.Each.{EachStarted}
@@ -28,7 +28,8 @@ pub bounds-set : (running : List Running) (place : ℕ) (run run' : Running) →
 bounds-set [] place run run' there = cc
 bounds-set (first ∷ running) zero run run' there =
     let e : weight first ≡ weight run = ap (λ (r : Running). weight r) (same_Some first run there) in omega arith
-bounds-set (first ∷ running) (suc place) run run' there = let e = bounds-set running place run run' there in omega arith
+bounds-set (first ∷ running) (suc place) run run' there =
+    let e = bounds-set running place run run' there in omega arith
 
 -- a step that was made tells no more closings than rows went
 pub made_puts : {H : Type 0} (does : Does H) (kept : Option Deed) (told : ActReply) (host host' : H)

@@ -1,11 +1,11 @@
 -- Inner. One step of a job: what it wants, what it is told, and how its grammar goes on.
 use Rattle.std.specs.Prelude.{◌≡◌, ◌⊎◌, ℕ, List, ◌∷◌, Option, Some, None}
-use Rattle.pt_req.specs.Deed.{Deed, Step, MayFailToCopy, HoldsReplyBytes}
-use Rattle.pt_req.specs.Grammar.{Grammar, Do, Belongs}
-use Rattle.pt_req.specs.Held.{inserted_by}
-use Rattle.pt_req.specs.declared.act.ActReply.{ActReply}
-use Rattle.pt_req.specs.declared.act.ActReply.TheVariants as told
-use Rattle.pt_req.specs.declared.finish.Finish.{Finish}
+use Rattle.pt_frame.specs.Deed.{Deed, Step, MayFailToCopy, HoldsReplyBytes}
+use Rattle.pt_frame.specs.Grammar.{Grammar, Do, Belongs}
+use Rattle.pt_frame.specs.Replies.{inserted_by}
+use Rattle.pt_frame.specs.declared.act.ActReply.{ActReply}
+use Rattle.pt_frame.specs.declared.act.ActReply.TheVariants as told
+use Rattle.pt_frame.specs.declared.finish.Finish.{Finish}
 
 -- what is made is what is to be done, or its bytes could not be copied
 abbrev pub IsWanted : Grammar → Option Deed → Type 0

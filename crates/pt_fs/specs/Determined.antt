@@ -5,8 +5,8 @@ use Rattle.pt_host.specs.declared.seat.HostSeat.{HostSeat}
 use Rattle.pt_session.specs.Tables.{Tables, Agree}
 use Rattle.pt_iface.specs.declared.answer.Answer.{Answer}
 use Rattle.pt_iface.specs.declared.answer.Answer.TheVariants.{NoMemory}
-use Rattle.pt_req.specs.Determined.{LacksMemory}
-use Rattle.pt_req.specs.Made.{Does}
+use Rattle.pt_frame.specs.Deed.{LacksMemory}
+use Rattle.pt_frame.specs.Made.{Does}
 use Rattle.pt_req.specs.declared.plan.Plan.{Plan}
 use Rattle.pt_fs.specs.Order.{IsInOrder}
 use Rattle.pt_fs.specs.Trace.{RunsJobs, AnswersEach}
@@ -19,17 +19,34 @@ pub record FoundMemory (trace : List TraceStep) (answers : List Answer) : Type 0
   pub answered : Each (λ answer. answer ≢ NoMemory) answers
 
 -- the jobs ran in the order of the schedule, and never lacked memory
-pub record RanInOrder {H : Type 0} (does : Does H) (plan : Plan) (schedule : List ℕ) (jobs : List Job) (host : H)
-    (tables : Tables) (trace : List TraceStep) (answers : List Answer) (host' : H) (seats' : List HostSeat)
-    (tables' : Tables) : Type 0 where
+pub record RanInOrder
+    {H : Type 0}
+    (does : Does H)
+    (plan : Plan)
+    (schedule : List ℕ)
+    (jobs : List Job)
+    (host : H)
+    (tables : Tables)
+    (trace : List TraceStep)
+    (answers : List Answer)
+    (host' : H)
+    (seats' : List HostSeat)
+    (tables' : Tables)
+    : Type 0 where
   pub steps : RunsJobs does jobs trace host tables host' seats' tables'
   pub order : IsInOrder schedule (length jobs) trace
   pub answers_each : AnswersEach plan jobs trace answers
   pub memory : FoundMemory trace answers
 
 -- two such runs of the same jobs, by one schedule from the same host and tables, are one
-pub record AreOneRun {H : Type 0} (trace trace' : List TraceStep) (answers answers' : List Answer) (host host' : H)
-    (seats seats' : List HostSeat) (tables tables' : Tables) : Type 0 where
+pub record AreOneRun
+    {H : Type 0}
+    (trace trace' : List TraceStep)
+    (answers answers' : List Answer)
+    (host host' : H)
+    (seats seats' : List HostSeat)
+    (tables tables' : Tables)
+    : Type 0 where
   pub traces : trace ≡ trace'
   pub answered : answers ≡ answers'
   pub hosts : host ≡ host'

@@ -2,20 +2,21 @@
 use Rattle.std.specs.Prelude.{◌≡◌, ◌≤◌, List, [], ◌∷◌}
 use Rattle.pt_iface.specs.declared.answer.Answer.{Answer}
 use Rattle.pt_iface.specs.declared.answer.Answer.TheVariants as answer
-use Rattle.pt_req.specs.Grammar.{End}
-use Rattle.pt_req.specs.Job.{owes, steps_bound, inserts_left}
-use Rattle.pt_req.specs.Pattern.{grammar_for, bound_for, most_inserted}
-use Rattle.pt_req.specs.declared.finish.Finish.{Finish}
-use Rattle.pt_req.specs.declared.finish.Finish.TheVariants as finish
+use Rattle.pt_frame.specs.Grammar.{End}
+use Rattle.pt_attr.specs.Machine.Job.{owes, steps_bound, inserts_left}
+use Rattle.pt_attr.specs.Pattern.{bound_for, most_inserted}
+use Rattle.pt_frame.specs.declared.finish.Finish.{Finish}
+use Rattle.pt_frame.specs.declared.finish.Finish.TheVariants as finish
 use Rattle.pt_req.specs.declared.plan.Plan.{Plan}
-use Rattle.pt_fs.specs.Jobs.{job_seat, asked_of}
+use Rattle.pt_fs.specs.Jobs.{job_seat, job_start, job_grammar, asked_of}
 use Rattle.pt_fs.specs.declared.job.Job.{Job}
 use Rattle.pt_fs.specs.declared.running.Running.{Running}
 
--- the job has its seat, if any, and owes all of what it asks
+-- the job has its seat, if any, and from that seat owes all of what it asks
 pub record IsStarted (plan : Plan) (job : Job) (run : Running) : Type 0 where
   pub seat : run.seat ≡ job_seat job
-  pub left : owes plan run.state ≡ grammar_for plan (asked_of job)
+  pub start : run.start ≡ job_start job
+  pub left : owes plan run.start run.state ≡ job_grammar plan job
   pub bound : steps_bound run.state ≤ bound_for (asked_of job)
   pub inserts : inserts_left run.state ≤ most_inserted
 
@@ -32,7 +33,8 @@ answer_of (finish.Lost errno) = answer.Cut
 
 -- the job owes its end alone
 abbrev pub EndsAs : Running → Answer → Type 0
-EndsAs run told = (last : Finish) × ((plan : Plan) → owes plan run.state ≡ End last) × (told ≡ answer_of last)
+EndsAs run told =
+    (last : Finish) × ((plan : Plan) → owes plan run.start run.state ≡ End last) × (told ≡ answer_of last)
 
 abbrev pub EachAnswered : List Running → List Answer → Type 0
 EachAnswered [] [] = Unit {0}

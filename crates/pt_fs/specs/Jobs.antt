@@ -1,14 +1,30 @@
 -- Believed. What a job is: its seat, who asks, and what is asked.
-use Rattle.std.specs.Prelude.{List, Option, Some, None}
+use Rattle.std.specs.Prelude.{List, [], Option, Some, None}
 use Rattle.pt_host.specs.declared.seat.HostSeat.{HostSeat}
 use Rattle.pt_iface.specs.declared.answer.Answer.{Answer}
 use Rattle.pt_iface.specs.declared.request.Context.{Context}
 use Rattle.pt_iface.specs.declared.request.Request.TheVariants as request
-use Rattle.pt_req.specs.Deed.{Step}
-use Rattle.pt_req.specs.Pattern.{Pattern, EditPattern, Asked, Requests, Edits}
+use Rattle.pt_frame.specs.Deed.{Step}
+use Rattle.pt_frame.specs.Grammar.{Grammar}
+use Rattle.pt_attr.specs.Pattern.{Pattern, EditPattern, Asked, Requests, Edits, grammar_for}
 use Rattle.pt_req.specs.declared.plan.Plan.{Plan}
 use Rattle.pt_fs.specs.declared.job.Job.{Job}
 use Rattle.pt_fs.specs.declared.job.Job.TheVariants as job
+
+-- A host's call takes a seat, and an edit has none: it is handed this one, and what is left of it is thrown away.
+abbrev pub no_seat : HostSeat
+no_seat = record {
+  real_uid = 0;
+  eff_uid = 0;
+  saved_uid = 0;
+  real_gid = 0;
+  eff_gid = 0;
+  saved_gid = 0;
+  groups = [];
+  eff_caps = record { 0 = 0 };
+  perm_caps = record { 0 = 0 };
+  umask = 0;
+}
 
 -- an edit has no seat
 abbrev pub job_seat : Job → Option HostSeat
@@ -16,14 +32,24 @@ job_seat (job.Request who seat asked) = Some seat
 job_seat (job.OpenRoot seat) = Some seat
 job_seat (job.Edit edit) = None
 
-abbrev pub asked_of : Job → Asked
-asked_of (job.Request who seat asked) = Requests asked
-asked_of (job.OpenRoot seat) = Requests request.Root
-asked_of (job.Edit edit) = Edits edit
+-- the seat with which the job begins, and to which it restores its own
+abbrev pub job_start : Job → HostSeat
+job_start (job.Request who seat asked) = seat
+job_start (job.OpenRoot seat) = seat
+job_start (job.Edit edit) = no_seat
 
 -- the daemon itself opens the root
 abbrev pub daemon : Context
 daemon = record { uid = 0; gid = 0 }
+
+abbrev pub asked_of : Job → Asked
+asked_of (job.Request who seat asked) = Requests who asked
+asked_of (job.OpenRoot seat) = Requests daemon request.Root
+asked_of (job.Edit edit) = Edits edit
+
+-- what the job may do from its start on
+abbrev pub job_grammar : Plan → Job → Grammar
+job_grammar plan job = grammar_for plan (job_start job) (asked_of job)
 
 -- the steps and the answer belong to the job's request, or to its edit
 abbrev pub IsAnsweredBy : Plan → Job → List Step → Answer → Type 0

@@ -1,6 +1,6 @@
 -- Believed. What a run keeps after every step and at its end, in whatever order its jobs took their steps.
 use Rattle.std.specs.Prelude.{◌≡◌, ◌≢◌, ◌≤◌, ◌⊎◌, ℕ, true, List, ◌∷◌, ◌++◌, Option, Some, map, slice_get}
-use Rattle.pt_host.specs.Tree.{Tree, IsWellFormed}
+use Rattle.pt_host.specs.Tree.{Tree}
 use Rattle.pt_session.specs.Tables.{Tables}
 use Rattle.pt_session.specs.Rows.{IsRow, IsHandleRow}
 use Rattle.pt_session.specs.declared.row.Row.{Row}
@@ -8,11 +8,13 @@ use Rattle.pt_session.specs.declared.row.HandleRow.{HandleRow}
 use Rattle.pt_iface.specs.declared.answer.Answer.{Answer}
 use Rattle.pt_iface.specs.declared.answer.Answer.TheVariants as answer
 use Rattle.pt_iface.specs.declared.entry.Entry.{Entry}
-use Rattle.pt_req.specs.Deed.{kept_deed_of}
-use Rattle.pt_req.specs.declared.finish.Finish.TheVariants as finish
+use Rattle.pt_frame.specs.Deed.{kept_deed_of}
+use Rattle.pt_frame.specs.declared.finish.Finish.TheVariants as finish
+use Rattle.pt_frame.specs.Memory.{RanOut}
 use Rattle.pt_req.specs.declared.plan.Plan.{Plan}
-use Rattle.pt_law.specs.Cause.{IsCausedBy}
-use Rattle.pt_law.specs.Entered.{EntryPlaces, IsEntered, up_to, name_asked}
+use Rattle.pt_fit.specs.Cause.{IsCausedBy}
+use Rattle.pt_fit.specs.Entered.{EntryPlaces, IsEntered, name_asked}
+use Rattle.pt_law.specs.Giving.{up_to}
 use Rattle.pt_law.specs.Laws.{ObjectOf, AreDistinct, HasObject, IsCounted, IsStanding, Serves, TellsOvertaken}
 use Rattle.pt_law.specs.Laws.{IsOvertaken, TellsGiven, IsHonoured, NamesOpen, LeavesRows}
 use Rattle.pt_law.specs.Ledger.{given, inserted, handle_inserted, standing, slots_taken, slots_given}
@@ -41,9 +43,9 @@ AfterEach tables trace P =
 abbrev pub begins_in : Tree → Tables → World
 begins_in tree tables = record { tree = tree; tables = tables; past = no_past }
 
--- where the host told a tree that is well formed
+-- where the host told its tree
 abbrev pub WhereTold : Option Tree → Tables → (World → Type 0) → Type 0
-WhereTold told tables P = (tree : Tree) → told ≡ Some tree → IsWellFormed tree → P (begins_in tree tables)
+WhereTold told tables P = (tree : Tree) → told ≡ Some tree → P (begins_in tree tables)
 
 -- after every step: of the steps so far and the world to which they led
 abbrev pub AfterEachTold : Option Tree → Tables → List TraceStep → (World → List Turn → World → Type 0) → Type 0
@@ -117,9 +119,13 @@ pub record GivesAllBack (trace : List TraceStep) (j : ℕ) (job : Job) (told : A
   pub settled : IsSettled (steps_by j trace) (finish.Answer told)
   pub slots : slots_taken (steps_by j trace) ≡ slots_given (steps_by j trace)
 
--- a refusal has its cause, in what was asked or at a step of the job; and an edit is refused exactly where its step was
+-- a refusal has its cause, in what was asked or at a step of the job; an edit is refused exactly where its step was
 abbrev pub IsCausedIn : List TraceStep → ℕ → Job → Answer → Type 0
 IsCausedIn trace j job told = IsCausedBy (asked_of job) (steps_by j trace) told
+
+-- a job is answered that memory ran out only where one of its steps was told so or could not be copied
+abbrev pub RanOutIn : List TraceStep → ℕ → Job → Answer → Type 0
+RanOutIn trace j job told = told ≡ answer.NoMemory → RanOut (steps_by j trace)
 
 -- An entry is the answer of a lookup, and names the object that the name which was asked had in the directory that
 -- its parent stood for.

@@ -4,13 +4,13 @@ use Rattle.pt_host.specs.Tree.{Tree}
 use Rattle.pt_host.specs.declared.seat.HostSeat.{HostSeat}
 use Rattle.pt_session.specs.Tables.{Tables, Agree}
 use Rattle.pt_iface.specs.declared.answer.Answer.{Answer}
-use Rattle.pt_req.specs.Made.{Does}
+use Rattle.pt_frame.specs.Made.{Does}
 use Rattle.pt_req.specs.declared.plan.Plan.{Plan}
 use Rattle.pt_law.specs.Laws.{SlotsAddUp, IsAtRest, AreKept}
 use Rattle.pt_fs.specs.Keeps.{turns_of, AfterEach, AfterEachTold, ReachesEach, LeadsOn, KeepsObjects, KeepsCounts}
 use Rattle.pt_fs.specs.Keeps.{KeepsHandles, ServesEach, InsertsOnce, OvertakenAsTold, ShutsOut, OfEachJob}
-use Rattle.pt_fs.specs.Keeps.{GivesAllBack, IsCausedIn, IsNamedIn, AgreeOnNumbers, ComeFromNames, NamesOpenOnes}
-use Rattle.pt_fs.specs.Keeps.{LeavesOpen, HonoursEach}
+use Rattle.pt_fs.specs.Keeps.{GivesAllBack, IsCausedIn, RanOutIn, IsNamedIn, AgreeOnNumbers, ComeFromNames}
+use Rattle.pt_fs.specs.Keeps.{NamesOpenOnes, LeavesOpen, HonoursEach}
 use Rattle.pt_fs.specs.Order.{IsInOrder}
 use Rattle.pt_fs.specs.Trace.{RunsJobs, AnswersEach, IsBounded, room_of}
 use Rattle.pt_fs.specs.declared.job.Job.{Job}
@@ -18,9 +18,22 @@ use Rattle.pt_fs.specs.declared.trace.TraceStep.{TraceStep}
 
 -- The jobs ran by this plan and schedule, from this host, the tree that it told and these tables, which are new; the
 -- trace, the answers, the host, the tree that it tells, the seats and the tables came of it.
-pub record IsRun {H : Type 0} (does : Does H) (plan : Plan) (jobs : List Job) (schedule : List ℕ) (host : H)
-    (told : Option Tree) (tables : Tables) (trace : List TraceStep) (answers : List Answer) (host' : H)
-    (told' : Option Tree) (seats : List HostSeat) (tables' : Tables) : Type 0 where
+pub record IsRun
+    {H : Type 0}
+    (does : Does H)
+    (plan : Plan)
+    (jobs : List Job)
+    (schedule : List ℕ)
+    (host : H)
+    (told : Option Tree)
+    (tables : Tables)
+    (trace : List TraceStep)
+    (answers : List Answer)
+    (host' : H)
+    (told' : Option Tree)
+    (seats : List HostSeat)
+    (tables' : Tables)
+    : Type 0 where
   -- The trace runs from the host, the jobs' seats and the tables at the beginning to those at the end. An edit has no
   -- seat.
   pub steps : RunsJobs does jobs trace host tables host' seats tables'
@@ -34,6 +47,8 @@ pub record IsRun {H : Type 0} (does : Does H) (plan : Plan) (jobs : List Job) (s
   -- Each refusal has its cause, in what was asked or at a step of its job. An edit is refused exactly where its step
   -- was.
   pub causes : OfEachJob jobs answers (IsCausedIn trace)
+  -- A job is answered that memory ran out only where one of its steps was told so or could not be copied.
+  pub memory : OfEachJob jobs answers (RanOutIn trace)
   -- What a job was given it gave back, but for the number that its answer has; and giving back is never refused.
   pub gives_back : OfEachJob jobs answers (GivesAllBack trace)
   pub honoured : HonoursEach trace

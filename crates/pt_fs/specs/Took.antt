@@ -2,10 +2,10 @@
 use Rattle.std.specs.Prelude.{◌+◌, ◌*◌, ◌≤◌, ◌≡◌, ◌<◌, ◌⊎◌, None, ℕ, List, [], ◌∷◌, ◌++◌, Option, Some, true, false}
 use Rattle.std.specs.Prelude.{slice_get, slice_set}
 use Rattle.pt_session.specs.Tables.{Tables}
-use Rattle.pt_req.specs.Deed.{kept_deed_of}
-use Rattle.pt_req.specs.Grammar.{is_end}
-use Rattle.pt_req.specs.Job.{owes, steps_left, steps_bound, is_finished}
-use Rattle.pt_req.specs.Made.{Does}
+use Rattle.pt_frame.specs.Deed.{kept_deed_of}
+use Rattle.pt_frame.specs.Grammar.{is_end}
+use Rattle.pt_attr.specs.Machine.Job.{owes, steps_left, steps_bound, is_finished}
+use Rattle.pt_frame.specs.Made.{Does}
 use Rattle.pt_req.specs.declared.plan.Plan.{Plan}
 use Rattle.pt_fs.specs.Advances.{Advances}
 use Rattle.pt_fs.specs.Trace.{MadeFrom, told_by}
@@ -17,12 +17,23 @@ use Rattle.pt_fs.specs.declared.running.Running.{Running}
 abbrev pub IsUnfinished : Plan → List Running → ℕ → Type 0
 IsUnfinished plan running place =
     (run : Running) → slice_get running place ≡ Some run →
-    (is_finished run.state ≡ false) × (is_end (owes plan run.state) ≡ false)
+    (is_finished run.state ≡ false) × (is_end (owes plan run.start run.state) ≡ false)
 
 -- the job of this number took its next step, which is the last of the trace
-pub record Took {H : Type 0} (does : Does H) (plan : Plan) (place : ℕ) (host : H) (running : List Running)
-    (tables : Tables) (trace : List TraceStep)
-    (host' : H) (running' : List Running) (tables' : Tables) (trace' : List TraceStep) : Type 0 where
+pub record Took
+    {H : Type 0}
+    (does : Does H)
+    (plan : Plan)
+    (place : ℕ)
+    (host : H)
+    (running : List Running)
+    (tables : Tables)
+    (trace : List TraceStep)
+    (host' : H)
+    (running' : List Running)
+    (tables' : Tables)
+    (trace' : List TraceStep)
+    : Type 0 where
   pub run : Running
   pub run' : Running
   pub step : TraceStep
@@ -32,7 +43,8 @@ pub record Took {H : Type 0} (does : Does H) (plan : Plan) (place : ℕ) (host :
   pub owner : step.job ≡ place
   pub unfinished : is_finished run.state ≡ false
   pub made : MadeFrom does (kept_deed_of step.act) step.reply host run.seat tables host' run'.seat tables'
-  pub advances : Advances (owes plan run.state) (kept_deed_of step.act) step.reply (owes plan run'.state)
+  pub advances : Advances (owes plan run.start run.state) (kept_deed_of step.act) step.reply
+      (owes plan run'.start run'.state)
   pub fewer : steps_left run'.state < steps_left run.state
   pub within : steps_bound run'.state + 1 ≤ steps_bound run.state + 3 * told_by (kept_deed_of step.act) step.reply
   pub spent : work running' tables' + 1 ≤ work running tables

@@ -4,34 +4,19 @@ use Rattle.std.specs.Prelude.{slice_set, if◌then◌else◌}
 use Rattle.pt_host.specs.declared.seat.HostSeat.{HostSeat}
 use Rattle.pt_session.specs.Tables.{Tables}
 use Rattle.pt_iface.specs.declared.answer.Answer.{Answer}
-use Rattle.pt_req.specs.Deed.{Deed, Step, kept_deed_of}
-use Rattle.pt_req.specs.Held.{closings_in}
-use Rattle.pt_req.specs.Made.{Does, Made}
-use Rattle.pt_req.specs.Pattern.{bound_for, most_inserted}
-use Rattle.pt_req.specs.declared.act.ActReply.{ActReply}
+use Rattle.pt_frame.specs.Deed.{Deed, Step, kept_deed_of}
+use Rattle.pt_frame.specs.Replies.{closings_in}
+use Rattle.pt_frame.specs.Made.{Does, Made}
+use Rattle.pt_attr.specs.Pattern.{bound_for, most_inserted}
+use Rattle.pt_frame.specs.declared.act.ActReply.{ActReply}
 use Rattle.pt_req.specs.declared.plan.Plan.{Plan}
-use Rattle.pt_fs.specs.Jobs.{job_seat, asked_of, IsAnsweredBy}
+use Rattle.pt_fs.specs.Jobs.{no_seat, job_seat, asked_of, IsAnsweredBy}
 use Rattle.pt_fs.specs.declared.job.Job.{Job}
 use Rattle.pt_fs.specs.declared.trace.TraceStep.{TraceStep}
 
 -- the step of a trace, its owner aside
 abbrev pub step_of : TraceStep → Step
 step_of step = record { deed = kept_deed_of step.act; reply = step.reply }
-
--- A host's call takes a seat, and an edit has none: it is handed this one, and what is left of it is thrown away.
-abbrev pub no_seat : HostSeat
-no_seat = record {
-  real_uid = 0;
-  eff_uid = 0;
-  saved_uid = 0;
-  real_gid = 0;
-  eff_gid = 0;
-  saved_gid = 0;
-  groups = [];
-  eff_caps = record { 0 = 0 };
-  perm_caps = record { 0 = 0 };
-  umask = 0;
-}
 
 -- a step of a job that has a seat, which may be another after it, or of one that has none
 abbrev pub MadeFrom : {H : Type 0} → Does H → Option Deed → ActReply → H → Option HostSeat → Tables → H →
@@ -67,8 +52,17 @@ seated (Some seat ∷ seats) = seat ∷ seated seats
 
 -- The trace leads from host, the jobs' seats and tables to these. The seats that are left are those of the jobs that
 -- are no edit, in job order.
-pub record RunsJobs {H : Type 0} (does : Does H) (jobs : List Job) (trace : List TraceStep) (host : H)
-    (tables : Tables) (host' : H) (left : List HostSeat) (tables' : Tables) : Type 0 where
+pub record RunsJobs
+    {H : Type 0}
+    (does : Does H)
+    (jobs : List Job)
+    (trace : List TraceStep)
+    (host : H)
+    (tables : Tables)
+    (host' : H)
+    (left : List HostSeat)
+    (tables' : Tables)
+    : Type 0 where
   pub seats : List (Option HostSeat)
   pub runs : TraceRuns does trace host (map job_seat jobs) tables host' seats tables'
   pub are_left : left ≡ seated seats

@@ -7,10 +7,11 @@ ghost use Rattle.pt_fs.specs.Trace.{seated};
 use crate::fs::SteppedFs;
 use crate::job::Job;
 use crate::room::push_within;
-use crate::running::Running;
+use crate::running::{Running, no_seat};
+use pt_attr::AnyJob;
+use pt_frame::Finish;
 use pt_host::HostSeat;
 use pt_iface::{Answer, Context, Request};
-use pt_req::{Finish, JobState};
 use std::alloc::{AllocError, Global};
 
 /// Starts one job.
@@ -21,15 +22,19 @@ fn start_one<F: SteppedFs>(alloc: Global, fs: &F, job: Job) -> Result<Running, A
         Job::Request(who, seat, request) => (who, seat, request),
         Job::OpenRoot(seat) => (Context { uid: 0, gid: 0 }, seat, Request::Root),
         Job::Edit(edit) => {
-            let state = JobState::edit(edit);
-            return Ok(Running { seat: None, state });
+            return Ok(Running {
+                start: no_seat(),
+                seat: None,
+                state: AnyJob::edit(edit),
+            });
         }
     };
     match fs.start(alloc, who, request) {
-        Ok(state) => {
-            let seat = Some(seat);
-            Ok(Running { seat, state })
-        }
+        Ok(state) => Ok(Running {
+            start: seat.copy(),
+            seat: Some(seat),
+            state,
+        }),
         Err(_) => Err(AllocError),
     }
 }

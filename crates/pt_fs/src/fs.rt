@@ -1,15 +1,17 @@
 ghost use Rattle.std.specs.Prelude.{◌≡◌, ◌≤◌, [], ◌∷◌, IfOk, IfErr};
 ghost use Rattle.pt_host.specs.declared.ids.Fd.{Fd};
+ghost use Rattle.pt_host.specs.declared.seat.HostSeat.{HostSeat};
 ghost use Rattle.pt_session.specs.Change.{change_of};
 ghost use Rattle.pt_session.specs.Happens.{Happens};
 ghost use Rattle.pt_session.specs.Tables.{Tables};
-ghost use Rattle.pt_req.specs.Job.{owes, steps_bound, inserts_left};
-ghost use Rattle.pt_req.specs.Pattern.{grammar_of, bound_of, most_inserted};
+ghost use Rattle.pt_attr.specs.Machine.Job.{owes, steps_bound, inserts_left};
+ghost use Rattle.pt_attr.specs.Pattern.{grammar_of, bound_of, most_inserted};
 ghost use Rattle.pt_req.specs.declared.plan.Plan.{Plan};
 
+use pt_attr::AnyJob;
 use pt_host::Fd;
 use pt_iface::{Context, Request};
-use pt_req::{JobState, Plan};
+use pt_req::Plan;
 use pt_session::{Event, EventReply, Session};
 use std::alloc::Global;
 
@@ -25,8 +27,9 @@ pub trait SteppedFs {
     ghost root: { Self → Fd };
 
     /// Begins a request. Where memory ran out the request is handed back.
-    fn start(&self, alloc: Global, who: Context, request: Request) -> Result<JobState, Request>
-        ensures left { IfOk result (λ job. owes (plan_of self.now) job ≡ grammar_of (plan_of self.now) request) }
+    fn start(&self, alloc: Global, who: Context, request: Request) -> Result<AnyJob, Request>
+        ensures left { IfOk result (λ job. (seat : HostSeat) →
+            owes (plan_of self.now) seat job ≡ grammar_of (plan_of self.now) seat who request) }
         ensures bound { IfOk result (λ job. steps_bound job ≤ bound_of request) }
         ensures inserts { IfOk result (λ job. inserts_left job ≤ most_inserted) }
         ensures back { IfErr result (λ back. back ≡ request) };

@@ -4,9 +4,10 @@ ghost use Rattle.pt_session.specs.Tables.{empty_tables};
 ghost use Rattle.pt_fs.specs.FileSystem.{opens_root, IsMadeBy, OpensOne, StaysTold};
 
 use crate::fs::SteppedFs;
+use pt_attr::AnyJob;
 use pt_host::{Errno, Fd, Host, HostOp, HostReply, HostSeat, HostValue, OpenFlags};
 use pt_iface::{Context, Refusal, Request};
-use pt_req::{Config, JobState, Plan};
+use pt_req::{Config, Plan};
 use pt_session::{Event, EventReply, Session};
 use std::alloc::Global;
 use std::marker::Model;
@@ -73,8 +74,8 @@ impl SteppedFs for PassthroughFs {
 
     ghost root = { λ fs. fs.root };
 
-    fn start(&self, alloc: Global, who: Context, request: Request) -> Result<JobState, Request> {
-        JobState::start(alloc, &self.plan, who, request)
+    fn start(&self, alloc: Global, who: Context, request: Request) -> Result<AnyJob, Request> {
+        AnyJob::start(alloc, &self.plan, who, request)
     }
 
     fn event(&mut self, event: &Event<'_>) -> EventReply {

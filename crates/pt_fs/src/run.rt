@@ -15,7 +15,8 @@ use pt_host::{Host, HostSeat};
 use pt_iface::Answer;
 use std::alloc::{AllocError, Global};
 
-/// What a run leaves: the file system, the answers and the steps of its jobs, and the seats of those that are no edit.
+/// What a run leaves: the file system, the answers and the steps of its jobs, and the seats of those that are no
+/// edit.
 #[derive(Drop)]
 pub struct Driven<F> {
     pub fs: F,

@@ -1,55 +1,27 @@
-ghost use Rattle.std.specs.Prelude.{◌+◌, ◌*◌, ◌≤◌, vec_capacity, ◌≡◌, ◌<◌, false, length, unwrap_or};
-ghost use Rattle.pt_req.specs.Deed.{kept_deed_of};
-ghost use Rattle.pt_req.specs.Grammar.{is_end};
-ghost use Rattle.pt_req.specs.Job.{owes, steps_left, steps_bound, inserts_left};
-ghost use Rattle.pt_req.specs.Made.{Made};
+ghost use Rattle.std.specs.Prelude.{◌+◌, ◌*◌, ◌≤◌, vec_capacity, ◌≡◌, ◌<◌, false, length};
+ghost use Rattle.pt_frame.specs.Deed.{kept_deed_of};
+ghost use Rattle.pt_frame.specs.Grammar.{is_end};
+ghost use Rattle.pt_attr.specs.Machine.Job.{owes, steps_left, steps_bound, inserts_left, is_finished};
+ghost use Rattle.pt_frame.specs.Made.{Made};
 ghost use Rattle.pt_fs.specs.Advances.{Advances, IsWanted, IsShown, inserted_in};
 ghost use Rattle.pt_fs.specs.Took.{Took, IsUnfinished};
-ghost use Rattle.pt_fs.specs.Trace.{no_seat, MadeFrom, told_by};
+ghost use Rattle.pt_fs.specs.Trace.{MadeFrom, told_by};
 ghost use Rattle.pt_fs.specs.Work.{work};
 
 use crate::fs::SteppedFs;
 use crate::room::push_within;
-use crate::running::Running;
+use crate::running::{Running, no_seat};
 use crate::trace::TraceStep;
-use pt_host::{Caps, Groups, Host, HostSeat};
-use pt_req::{ActReply, KeptAct, Want};
+use pt_frame::{ActReply, KeptAct, Want};
+use pt_host::{Host, HostSeat};
 use std::alloc::Global;
-
-/// The seat that an edit's call is handed.
-fn no_seat() -> HostSeat
-    ensures { result ≡ no_seat }
-{
-    HostSeat {
-        real_uid: 0,
-        eff_uid: 0,
-        saved_uid: 0,
-        real_gid: 0,
-        eff_gid: 0,
-        saved_gid: 0,
-        groups: Groups::new(),
-        eff_caps: Caps(0),
-        perm_caps: Caps(0),
-        umask: 0,
-    }
-}
-
-fn seat_or<'a>(seat: &'a Option<HostSeat>, none: &'a HostSeat) -> &'a HostSeat
-    ensures { result.now ≡ unwrap_or seat.now none.now }
-{
-    match seat {
-        Some(seat) => seat,
-        None => none,
-    }
-}
 
 /// What the job is to do next, or word that its bytes could not be copied.
 fn wanted<F: SteppedFs>(alloc: Global, fs: &F, running: &Running) -> KeptAct
-    requires { is_end (owes (F.plan_of fs.now) running.now.state) ≡ false }
-    ensures { IsWanted (owes (F.plan_of fs.now) running.now.state) (kept_deed_of result) }
+    requires { is_end (owes (F.plan_of fs.now) running.now.start running.now.state) ≡ false }
+    ensures { IsWanted (owes (F.plan_of fs.now) running.now.start running.now.state) (kept_deed_of result) }
 {
-    let none = no_seat();
-    match running.state.want(fs.plan(), seat_or(&running.seat, &none)) {
+    match running.state.want(fs.plan(), &running.start) {
         Want::Finished => KeptAct::NoCopy,
         Want::Step(act) => match act.keep(alloc) {
             Ok(kept) => kept,
@@ -116,13 +88,14 @@ fn advance<H: Host, F: SteppedFs>(
     fs: &mut F,
     running: &mut Running,
 ) -> (KeptAct, ActReply)
-    requires { is_end (owes (F.plan_of fs.old) running.old.state) ≡ false }
+    requires unfinished { is_finished running.old.state ≡ false }
+    requires going { is_end (owes (F.plan_of fs.old) running.old.start running.old.state) ≡ false }
     ensures made { MadeFrom H.does (kept_deed_of result.0) result.1 host.old running.old.seat
         (F.tables fs.old) host.new running.new.seat (F.tables fs.new) }
     ensures plan { F.plan_of fs.new ≡ F.plan_of fs.old }
     ensures root { F.root fs.new ≡ F.root fs.old }
-    ensures advances { Advances (owes (F.plan_of fs.old) running.old.state) (kept_deed_of result.0) result.1
-        (owes (F.plan_of fs.old) running.new.state) }
+    ensures advances { Advances (owes (F.plan_of fs.old) running.old.start running.old.state)
+        (kept_deed_of result.0) result.1 (owes (F.plan_of fs.old) running.new.start running.new.state) }
     ensures fewer { steps_left running.new.state < steps_left running.old.state }
     ensures within { steps_bound running.new.state + 1
         ≤ steps_bound running.old.state + 3 * told_by (kept_deed_of result.0) result.1 }
@@ -132,10 +105,7 @@ fn advance<H: Host, F: SteppedFs>(
     let act = wanted(alloc, fs, running);
     let reply = make_from(host, fs, &mut running.seat, &act);
     let (shown, told) = told_twice(alloc, reply);
-    let none = no_seat();
-    running
-        .state
-        .take(fs.plan(), told, seat_or(&running.seat, &none));
+    running.state.take(fs.plan(), told, &running.start);
     (act, shown)
 }
 

@@ -1,4 +1,4 @@
-use pt_req::{ActReply, KeptAct};
+use pt_frame::{ActReply, KeptAct};
 use std::mem::size_of;
 
 /// One step of a run, and the job that took it.

@@ -6,8 +6,8 @@ ghost use Rattle.pt_session.specs.Tables.{Tables};
 ghost use Rattle.pt_fs.specs.Determined.{TurnsAreDetermined};
 ghost use Rattle.pt_fs.specs.Trace.{TraceRuns, steps_by};
 ghost use Rattle.pt_fs.specs.declared.trace.TraceStep.{TraceStep};
-ghost use Rattle.pt_req.specs.Determined.{IsDeterminedHost};
-ghost use Rattle.pt_req.specs.Seats.{seat_at};
+ghost use Rattle.pt_frame.specs.Determined.{IsDeterminedHost};
+ghost use Rattle.pt_frame.specs.Seats.{seat_at};
 
 use pt_host::Host;
 

@@ -16,12 +16,13 @@ use Rattle.pt_session.specs.declared.form.Negotiated.{Negotiated}
 use Rattle.pt_session.specs.declared.event.KeptEvent.TheVariants as change
 use Rattle.pt_session.specs.declared.reply.EventReply.{EventReply}
 use Rattle.pt_session.specs.declared.reply.EventReply.TheVariants as reply
-use Rattle.pt_req.specs.Deed.{Deed, Changes as Asks}
-use Rattle.pt_req.specs.Held.{closings_in}
-use Rattle.pt_req.specs.declared.act.ActReply.{ActReply}
-use Rattle.pt_req.specs.declared.act.ActReply.TheVariants.{Event}
-use Rattle.pt_law.specs.Ledger.{row_slot, closing_slot, form_slot, kept_slots, row_fd, handle_fd, closing_fd, kept_fds}
-use Rattle.pt_law.specs.Ledger.{fd_in, fd_out, pin_made, pin_ended, handle_pin_made}
+use Rattle.pt_frame.specs.Deed.{Deed, Changes as Asks}
+use Rattle.pt_frame.specs.Replies.{closings_in}
+use Rattle.pt_frame.specs.declared.act.ActReply.{ActReply}
+use Rattle.pt_frame.specs.declared.act.ActReply.TheVariants.{Event}
+use Rattle.pt_law.specs.Ledger.{row_slot, closing_slot, form_slot, kept_slots, row_has, handle_has, closing_has}
+use Rattle.pt_law.specs.Ledger.{kept_fds}
+use Rattle.pt_law.specs.Ledger.{fd_handed, fd_received, pin_made, pin_ended, handle_pin_made}
 use Rattle.pt_law.specs.Ledger.{handle_pin_ended, closing_ended}
 use Rattle.pt_law.proofs.Flows.{slot_in, slot_out}
 use Rattle.pt_law.proofs.Flows.{row_pins, handle_pins, IsHonest}
@@ -33,16 +34,16 @@ closing_slot_of row = go row.form
     go : (form : RowForm) → closing_slot (closing_of (record row { form = form })) ≡ form_slot form
     go (File fd) = refl
 
-pub closing_fd_of : (fd : ℕ) (row : Row) → closing_fd fd (closing_of row) ≡ row_fd fd row
+pub closing_fd_of : (fd : ℕ) (row : Row) → closing_has fd (closing_of row) ≡ row_has fd row
 closing_fd_of fd row = go row.form
   where
     go : (form : RowForm) →
-        closing_fd fd (closing_of (record row { form = form })) ≡ row_fd fd (record row { form = form })
+        closing_has fd (closing_of (record row { form = form })) ≡ row_has fd (record row { form = form })
     go (File same) = refl
 
 -- what the tables have more after, and less: descriptors, slots, pins and closings
 pub record Moved (t after : Tables) (deed : Deed) (told : ActReply) : Type 0 where
-  pub fds : (fd : ℕ) → kept_fds fd after + fd_out fd deed told ≡ kept_fds fd t + fd_in fd deed told
+  pub fds : (fd : ℕ) → kept_fds fd after + fd_received fd deed told ≡ kept_fds fd t + fd_handed fd deed told
   pub slots : kept_slots after + slot_out deed told ≡ kept_slots t + slot_in deed told
   pub pins : (serial : ℕ) →
       total (row_pins serial) after.rows + pin_ended serial deed told
@@ -73,8 +74,8 @@ sheds_none t = record {
 recounts : (t : Tables) (row later : Row) (after : Tables) → later.form ≡ row.form → later.serial ≡ row.serial →
     later.pins ≡ row.pins → ChangesRow number_rows t row later after → Sheds t after 0
 recounts t row later after form serial pins h = rw h.2 (record {
-  fds = λ fd. let a = total_replaces (row_fd fd) h.1 in
-      let b : row_fd fd later ≡ row_fd fd row = ap (λ f. row_fd fd (record row { form = f })) form in
+  fds = λ fd. let a = total_replaces (row_has fd) h.1 in
+      let b : row_has fd later ≡ row_has fd row = ap (λ f. row_has fd (record row { form = f })) form in
       omega (arith, a, b);
   slots = let a = total_replaces row_slot h.1 in let b : row_slot later ≡ row_slot row = ap form_slot form in
       omega (arith, a, b);
@@ -95,7 +96,8 @@ record Shut (t after : Tables) (row : Row) : Type 0 where
 
 shuts : (t : Tables) (row : Row) (after : Tables) → EndsRow number_rows t row after → Shut t after row
 shuts t row after h = rw h.2 (record {
-  fds = λ fd. let a = total_takes (row_fd fd) h.1 in let b = total_push (closing_fd fd) t.closing (closing_of row) in
+  fds = λ fd. let a = total_takes (row_has fd) h.1 in
+      let b = total_push (closing_has fd) t.closing (closing_of row) in
       let c = closing_fd_of fd row in omega (arith, a, b, c);
   slots = let a = total_takes row_slot h.1 in let b = total_push closing_slot t.closing (closing_of row) in
       let c = closing_slot_of row in omega (arith, a, b, c);
@@ -156,7 +158,7 @@ sheds_all t (pair ∷ pairs) n after h =
 -- a deed that moves nothing but the closings it tells
 moved_by : (t after : Tables) (n : ℕ) (deed : Deed) (told : ActReply) → Sheds t after n → closings_in deed told ≡ n →
     closing_ended deed told ≡ 0 →
-    ((fd : ℕ) → fd_out fd deed told ≡ fd_in fd deed told) → slot_out deed told ≡ slot_in deed told →
+    ((fd : ℕ) → fd_received fd deed told ≡ fd_handed fd deed told) → slot_out deed told ≡ slot_in deed told →
     ((serial : ℕ) → pin_ended serial deed told ≡ pin_made serial deed told) →
     ((serial : ℕ) → handle_pin_ended serial deed told ≡ handle_pin_made serial deed told) → Moved t after deed told
 moved_by t after n deed told s c e f l p q = record {
@@ -169,7 +171,7 @@ moved_by t after n deed told s c e f l p q = record {
 
 same : (t after : Tables) (deed : Deed) (told : ActReply) → after ≡ t → closings_in deed told ≡ 0 →
     closing_ended deed told ≡ 0 →
-    ((fd : ℕ) → fd_out fd deed told ≡ fd_in fd deed told) → slot_out deed told ≡ slot_in deed told →
+    ((fd : ℕ) → fd_received fd deed told ≡ fd_handed fd deed told) → slot_out deed told ≡ slot_in deed told →
     ((serial : ℕ) → pin_ended serial deed told ≡ pin_made serial deed told) →
     ((serial : ℕ) → handle_pin_ended serial deed told ≡ handle_pin_made serial deed told) → Moved t after deed told
 same t after deed told e = rw e (moved_by t t 0 deed told (sheds_none t))
@@ -177,7 +179,7 @@ same t after deed told e = rw e (moved_by t t 0 deed told (sheds_none t))
 again : (t : Tables) (row : Row) (after : Tables) (deed : Deed) (told : ActReply) →
     ChangesRow number_rows t row (record row { count = row.count + 1 }) after → closings_in deed told ≡ 0 →
     closing_ended deed told ≡ 0 →
-    ((fd : ℕ) → fd_out fd deed told ≡ fd_in fd deed told) → slot_out deed told ≡ slot_in deed told →
+    ((fd : ℕ) → fd_received fd deed told ≡ fd_handed fd deed told) → slot_out deed told ≡ slot_in deed told →
     ((serial : ℕ) → pin_ended serial deed told ≡ pin_made serial deed told) →
     ((serial : ℕ) → handle_pin_ended serial deed told ≡ handle_pin_made serial deed told) → Moved t after deed told
 again t row after deed told h = moved_by t after 0 deed told (recounts t row _ after refl refl refl h)
@@ -200,7 +202,7 @@ unpinned t serial n after (row, pins, s, p, inl h) =
 unpinned t serial n after (row, pins, s, p, inr h) =
     let c = h.2 in
     rw c.2 (record {
-      fds = λ fd. let a = total_replaces (row_fd fd) c.1 in omega (arith, a);
+      fds = λ fd. let a = total_replaces (row_has fd) c.1 in omega (arith, a);
       slots = let a = total_replaces row_slot c.1 in omega (arith, a);
       pins = λ k.
           let a = total_replaces (row_pins k) c.1 in
@@ -212,7 +214,7 @@ unpinned t serial n after (row, pins, s, p, inr h) =
     })
 
 inserts : (t : Tables) (number : ℕ) (form : RowForm) (row : Row) (deed : Deed) (told : ActReply) → row.form ≡ form →
-    row.pins ≡ 0 → ((fd : ℕ) → fd_out fd deed told + row_fd fd row ≡ fd_in fd deed told) →
+    row.pins ≡ 0 → ((fd : ℕ) → fd_received fd deed told + row_has fd row ≡ fd_handed fd deed told) →
     slot_out deed told + row_slot row ≡ slot_in deed told →
     ((serial : ℕ) → pin_ended serial deed told ≡ pin_made serial deed told) →
     ((serial : ℕ) → handle_pin_ended serial deed told ≡ handle_pin_made serial deed told) →
@@ -237,7 +239,7 @@ inserts t number form row deed told e z f s p q c d (Some n) = record {
 handle_recounts : (t : Tables) (row : HandleRow) (after : Tables) →
     ChangesRow handle_rows t row (record row { live = false }) after → Sheds t after 0
 handle_recounts t row after h = rw h.2 (record {
-  fds = λ fd. let a = total_replaces (handle_fd fd) h.1 in omega (arith, a);
+  fds = λ fd. let a = total_replaces (handle_has fd) h.1 in omega (arith, a);
   slots = let a = length_replaces h.1 in omega (arith, a);
   pins = λ s. refl;
   handle_pins = λ s. let a = total_replaces (handle_pins s) h.1 in omega (arith, a);
@@ -256,8 +258,8 @@ record HandleShut (t after : Tables) (row : HandleRow) : Type 0 where
 handle_shuts : (t : Tables) (row : HandleRow) (after : Tables) → EndsRow handle_rows t row after → HandleShut t after
     row
 handle_shuts t row after h = rw h.2 (record {
-  fds = λ fd. let a = total_takes (handle_fd fd) h.1 in
-      let b = total_push (closing_fd fd) t.closing (closing_of_handle row) in omega (arith, a, b);
+  fds = λ fd. let a = total_takes (handle_has fd) h.1 in
+      let b = total_push (closing_has fd) t.closing (closing_of_handle row) in omega (arith, a, b);
   slots = let a = length_takes h.1 in let b = total_push closing_slot t.closing (closing_of_handle row) in
       omega (arith, a, b);
   pins = λ s. refl;
@@ -334,7 +336,7 @@ handle_unpinned t serial n after (row, pins, s, p, inl h) =
 handle_unpinned t serial n after (row, pins, s, p, inr h) =
     let c = h.2 in
     rw c.2 (record {
-      fds = λ fd. let a = total_replaces (handle_fd fd) c.1 in omega (arith, a);
+      fds = λ fd. let a = total_replaces (handle_has fd) c.1 in omega (arith, a);
       slots = let a = length_replaces c.1 in omega (arith, a);
       pins = λ k. omega arith;
       handle_pins = λ k.
@@ -352,7 +354,7 @@ moved_by_case t change.Begin (reply.Began era negotiated) after h a =
 moved_by_case t (change.Resolve number) (reply.Resolved serial form ids mode) after h a =
     let c = h.7 in
     rw c.2 (record {
-      fds = λ fd. let x = total_replaces (row_fd fd) c.1 in omega (arith, x);
+      fds = λ fd. let x = total_replaces (row_has fd) c.1 in omega (arith, x);
       slots = let x = total_replaces row_slot c.1 in omega (arith, x);
       pins = λ k.
           let x = total_replaces (row_pins k) c.1 in
@@ -427,7 +429,7 @@ moved_by_case t (change.InsertHandle era handle number fd) (reply.Inserted given
 moved_by_case t (change.PinHandle handle number) (reply.Pinned serial fd) after h a =
     let c = h.5 in
     rw c.2 (record {
-      fds = λ k. let x = total_replaces (handle_fd k) c.1 in omega (arith, x);
+      fds = λ k. let x = total_replaces (handle_has k) c.1 in omega (arith, x);
       slots = let x = length_replaces c.1 in omega (arith, x);
       pins = λ _. omega arith;
       handle_pins = λ k.
@@ -447,7 +449,7 @@ moved_by_case t change.Clear (reply.Cleared era closings) after h a =
     (sheds_clears t closings after h.1) refl refl (λ _. refl) refl (λ _. refl) (λ _. refl)
 moved_by_case t change.TakeClosing (reply.Closing fd slot) after h a =
     rw h.2 (record {
-      fds = λ k. let x = ap (total (closing_fd k)) h.1 in omega (arith, x);
+      fds = λ k. let x = ap (total (closing_has k)) h.1 in omega (arith, x);
       slots = let x = ap (total closing_slot) h.1 in omega (arith, x);
       pins = λ _. omega arith;
       handle_pins = λ _. omega arith;

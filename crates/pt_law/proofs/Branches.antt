@@ -1,205 +1,402 @@
--- Each answer is that of a branch of the tree, or the job gave up.
+-- Each answer is that of a branch of the tree, or the job gave up or lost its seat.
 use Rattle.std.proofs.Common.{◌≡◌, ◌⊎◌, inl, inr, ℕ, zero, suc, List, [], ◌∷◌, length, Bool, true, false, Option}
-use Rattle.std.proofs.Common.{Some, None, refl, sym, subst, ◌∙◌}
+use Rattle.std.proofs.Common.{◌||◌}
+use Rattle.std.proofs.Common.{Some, None, refl, sym, subst, ◌∙◌, if◌then◌else◌, nat_lt}
 use Rattle.pt_host.specs.declared.ids.Errno.{Errno}
-use Rattle.pt_iface.specs.declared.answer.Answer.{Answer}
-use Rattle.pt_iface.specs.declared.answer.Answer.TheVariants as answer
+use Rattle.pt_host.specs.declared.seat.HostSeat.{HostSeat}
 use Rattle.pt_host.specs.declared.op.KeptHostOp.TheVariants as call
 use Rattle.pt_session.specs.declared.event.KeptEvent.TheVariants as change
-use Rattle.pt_req.specs.Deed.{Deed, Calls, Changes, Step, IsStepOf, MayFailToCopy}
-use Rattle.pt_req.specs.declared.act.ActReply.{ActReply}
-use Rattle.pt_req.specs.declared.act.ActReply.TheVariants.{NoCopy}
-use Rattle.pt_req.specs.declared.hold.Hold.TheVariants as hold
-use Rattle.pt_law.proofs.Moving.{never_copied}
-use Rattle.pt_req.specs.Held.{held, giving, closings_in, taken_in, lost_by, restored, refusal, passes_with, front}
-use Rattle.pt_req.specs.Held.{behind, under}
-use Rattle.pt_req.specs.Grammar.{Grammar, End, Belongs}
-use Rattle.pt_req.specs.Frame.{closings, give_taken, give, leave, or_lost, shut}
-use Rattle.pt_req.specs.Tree.{Tree, Gives, Refuses, Asks, Shuts, framed, answered}
-use Rattle.pt_req.specs.declared.finish.Finish.{Finish}
-use Rattle.pt_req.specs.declared.finish.Finish.TheVariants as finish
-use Rattle.pt_req.specs.declared.hold.Hold.{Hold}
-use Rattle.pt_req.specs.declared.hold.Taken.{Taken}
-use Rattle.pt_req.specs.declared.hold.Taken.TheVariants as taken
-use Rattle.pt_law.specs.Branch.{Along, ReturnsHold, AreOwn, AreOwn.{none, keep, skip}, IsGivenUp, IsOfBranch}
-
-same_gives : (deed same : Deed) → same ≡ deed → ReturnsHold (Some deed) → ReturnsHold (Some same)
-same_gives deed same e g = subst (λ (d : Deed). ReturnsHold (Some d)) (sym e) g
+use Rattle.pt_iface.specs.declared.answer.Answer.{Answer}
+use Rattle.pt_iface.specs.declared.answer.Answer.TheVariants as answer
+use Rattle.pt_frame.specs.Deed.{Deed, Calls, Changes, Step, IsStepOf, lacks_memory, LacksMemory}
+use Rattle.pt_frame.specs.Held.{is_scope, held, opened}
+use Rattle.pt_frame.specs.Memory.{RanOut}
+use Rattle.pt_frame.specs.Replies.{closings_in, taken_in, restored, refusal, passes_with, is_cut, fault_if}
+use Rattle.pt_frame.specs.Grammar.{Grammar, End, Belongs}
+use Rattle.pt_frame.specs.Frame.{giving, closings, give_taken, give, leave, or_lost, bare_one, bare, shut, front}
+use Rattle.pt_frame.specs.Frame.{behind}
+use Rattle.pt_frame.specs.Frame.{under, mark_in, outer, answered_by}
+use Rattle.pt_frame.specs.Tree.{RequestTree, Gives, Refuses, Asks, Opens, Bares, Brackets, Shuts, Allocates, framed}
+use Rattle.pt_frame.specs.Tree.{follows}
+use Rattle.pt_frame.specs.Tree.{may_give_up, allocates}
+use Rattle.pt_frame.specs.declared.act.ActReply.{ActReply}
+use Rattle.pt_frame.specs.declared.act.ActReply.TheVariants.{NoCopy}
+use Rattle.pt_frame.specs.declared.finish.Finish.{Finish}
+use Rattle.pt_frame.specs.declared.finish.Finish.TheVariants as finish
+use Rattle.pt_frame.specs.declared.hold.Hold.{Hold}
+use Rattle.pt_frame.specs.declared.hold.Hold.TheVariants as hold
+use Rattle.pt_frame.specs.declared.hold.Taken.{Taken}
+use Rattle.pt_frame.specs.declared.hold.Taken.TheVariants as taken
+use Rattle.pt_law.specs.Branch.{Along, AllocatesAfter, ReturnsHold, AreOwn, AreOwn.{none, keep, skip}}
+use Rattle.pt_law.specs.Branch.{IsLost}
+use Rattle.pt_law.specs.Branch.{AreFirst, AreFirst.{stop, next as first_next, pass}, GaveUp, IsOfBranch}
 
 -- a step of a deed that gives back
 back_step : (deed : Deed) (made : Option Deed) (told : ActReply) → IsStepOf deed made told →
-    (MayFailToCopy deed → ⊥) → ReturnsHold (Some deed) → ReturnsHold made
-back_step deed (Some same) NoCopy i n g = same_gives deed same i.0 g
-back_step deed (Some same) told i n g = same_gives deed same i g
-back_step deed None NoCopy i n g = absurd (n i)
-back_step deed None told i n g = absurd i
+    ReturnsHold (Some deed) → ReturnsHold made
+back_step deed (Some same) NoCopy i g = subst (λ (d : Deed). ReturnsHold (Some d)) (sym i.0) g
+back_step deed (Some same) told i g = subst (λ (d : Deed). ReturnsHold (Some d)) (sym i) g
+back_step deed None told i g = tt
 
-giving_gives : (one : Hold) → ReturnsHold (Some (giving one))
-giving_gives (hold.Pin row fd) = tt
-giving_gives (hold.HandlePin row fd) = tt
-giving_gives (hold.Fd fd was) = tt
-giving_gives hold.Slot = tt
-giving_gives (hold.Count era number) = tt
+giving_gives : (seat : HostSeat) (one : Hold) → ReturnsHold (Some (giving seat one))
+giving_gives seat (hold.Pin row fd) = tt
+giving_gives seat (hold.HandlePin row fd) = tt
+giving_gives seat (hold.Fd fd was) = tt
+giving_gives seat hold.Slot = tt
+giving_gives seat (hold.Count era number) = tt
+giving_gives seat hold.Groups = tt
+giving_gives seat hold.EffectiveGid = tt
+giving_gives seat hold.EffectiveUid = tt
+giving_gives seat (hold.Dropped caps) = tt
+giving_gives seat hold.Umask = tt
+
+-- the later steps are the last of these, and those before them give back
+pub record Backs (later steps : List Step) : Type 0 where
+  pub own : (path : List Step) → AreOwn path later → AreOwn path steps
+  pub first : (path : List Step) → AreFirst path later → AreFirst path steps
+  pub lacks : RanOut later → RanOut steps
+
+backs_none : (steps : List Step) → Backs steps steps
+backs_none steps = record { own = λ path s. s; first = λ path s. s; lacks = λ l. l }
+
+backs_one : (step : Step) (later steps : List Step) → ReturnsHold step.deed → Backs later steps →
+    Backs later (step ∷ steps)
+backs_one step later steps g b = record {
+  own = λ path s. skip g (b.own path s);
+  first = λ path s. pass g (b.first path s);
+  lacks = λ l. inr (b.lacks l);
+}
+
+backs_on : (last later steps : List Step) → Backs last later → Backs later steps → Backs last steps
+backs_on last later steps a b =
+    record {
+      own = λ path s. b.own path (a.own path s);
+      first = λ path s. b.first path (a.first path s);
+      lacks = λ l. b.lacks (a.lacks l);
+    }
 
 -- the last of the steps belong to the rest, and those before them give back
-abbrev Reached : Grammar → List Step → Finish → Type 0
-Reached rest steps end =
-    (later : List Step) × ((path : List Step) → AreOwn path later → AreOwn path steps) × Belongs rest later end
+pub record Reached (rest : Grammar) (steps : List Step) (end : Finish) : Type 0 where
+  pub later : List Step
+  pub backs : Backs later steps
+  pub belongs : Belongs rest later end
 
-pass_taken : (brings : Taken) (count : ℕ) (holds : List Hold) (rest : Grammar) (steps : List Step) (end : Finish) →
+reached_on : (rest more : Grammar) (steps : List Step) (end : Finish) (r : Reached more steps end) →
+    Reached rest r.later end → Reached rest steps end
+reached_on rest more steps end r s =
+    record { later = s.later; backs = backs_on s.later r.later steps s.backs r.backs; belongs = s.belongs }
+
+pub pass_taken : (brings : Taken) (count : ℕ) (holds : List Hold) (rest : Grammar) (steps : List Step)
+    (end : Finish) →
     Belongs (give_taken brings count holds rest) steps end → Reached rest steps end
-pass_taken taken.Nothing count holds rest steps end b = (steps, (λ path s. s), b)
+pass_taken taken.Nothing count holds rest steps end b =
+    record { later = steps; backs = backs_none steps; belongs = b }
 pass_taken taken.Slot count holds rest [] end b = absurd b
-pass_taken taken.Slot count holds rest (step ∷ steps) end b =
-    (steps, (λ path s. skip (back_step (Changes change.GiveFd) step.deed step.reply b.0 (λ no. no) tt) s), b.1)
+pass_taken taken.Slot count holds rest (step ∷ steps) end b = record {
+  later = steps;
+  backs = backs_one step steps steps (back_step (Changes change.GiveFd) step.deed step.reply b.0 tt)
+      (backs_none steps);
+  belongs = b.1;
+}
 pass_taken (taken.Fd fd true) count holds rest [] end b = absurd b
 pass_taken (taken.Fd fd true) count holds rest (step ∷ []) end b = absurd b.1
-pass_taken (taken.Fd fd true) count holds rest (step ∷ other ∷ steps) end b = (
-  steps,
-  (λ path s. skip (back_step (Calls (call.Close fd)) step.deed step.reply b.0 (λ no. no) tt)
-      (skip (back_step (Changes change.GiveFd) other.deed other.reply b.1.0 (λ no. no) tt) s)),
-  b.1.1,
-)
+pass_taken (taken.Fd fd true) count holds rest (step ∷ other ∷ steps) end b = record {
+  later = steps;
+  backs = backs_one step steps (other ∷ steps) (back_step (Calls (call.Close fd)) step.deed step.reply b.0 tt)
+      (backs_one other steps steps (back_step (Changes change.GiveFd) other.deed other.reply b.1.0 tt)
+      (backs_none steps));
+  belongs = b.1.1;
+}
 pass_taken (taken.Fd fd false) count holds rest [] end b = absurd b
-pass_taken (taken.Fd fd false) count holds rest (step ∷ steps) end b =
-    (steps, (λ path s. skip (back_step (Calls (call.Close fd)) step.deed step.reply b.0 (λ no. no) tt) s), b.1)
+pass_taken (taken.Fd fd false) count holds rest (step ∷ steps) end b = record {
+  later = steps;
+  backs = backs_one step steps steps (back_step (Calls (call.Close fd)) step.deed step.reply b.0 tt)
+      (backs_none steps);
+  belongs = b.1;
+}
 
-pass_closings : (count : ℕ) (holds : List Hold) (rest : Grammar) (steps : List Step) (end : Finish) →
+pub pass_closings : (count : ℕ) (holds : List Hold) (rest : Grammar) (steps : List Step) (end : Finish) →
     Belongs (closings count holds rest) steps end → Reached rest steps end
-pass_closings zero holds rest steps end b = (steps, (λ path s. s), b)
+pass_closings zero holds rest steps end b = record { later = steps; backs = backs_none steps; belongs = b }
 pass_closings (suc count) holds rest [] end b = absurd b
 pass_closings (suc count) holds rest (step ∷ steps) end b =
     let k = pass_taken (taken_in step.reply) count holds (closings count holds rest) steps end b.1 in
-    let m = pass_closings count holds rest k.0 end k.2 in (
-      m.0,
-      (λ path s. skip (back_step (Changes change.TakeClosing) step.deed step.reply b.0 (λ no. no) tt)
-          (k.1 path (m.1 path s))),
-      m.2,
-    )
+    let m = pass_closings count holds rest k.later end k.belongs in
+    record {
+      later = m.later;
+      backs = backs_one step m.later steps (back_step (Changes change.TakeClosing) step.deed step.reply b.0 tt)
+          (backs_on m.later k.later steps m.backs k.backs);
+      belongs = m.belongs;
+    }
 
-pass_give : (one : Hold) (holds left : List Hold) (next : Option Errno → Grammar) (steps : List Step) (end : Finish) →
-    Belongs (give one holds left next) steps end → (fault : Option Errno) × Reached (next fault) steps end
-pass_give one holds left next [] end b = absurd b
-pass_give one holds left next (step ∷ steps) end b =
-    let fault = lost_by one step.reply in
-    let k = pass_closings (closings_in (giving one) step.reply) left (next fault) steps end b.1 in (
+pub pass_give : (seat : HostSeat) (one : Hold) (holds left : List Hold) (next : Option Errno → Grammar)
+    (steps : List Step) (end : Finish) → Belongs (give seat one holds left next) steps end →
+    (fault : Option Errno) × Reached (next fault) steps end
+pass_give seat one holds left next [] end b = absurd b
+pass_give seat one holds left next (step ∷ steps) end b =
+    let fault = fault_if (is_scope one) step.reply in
+    let k = pass_closings (closings_in (giving seat one) step.reply) left (next fault) steps end b.1 in (
       fault,
-      (
-        k.0,
-        (λ path s.
-            skip (back_step (giving one) step.deed step.reply b.0 (never_copied one) (giving_gives one)) (k.1 path s)),
-        k.2,
-      ),
+      record {
+        later = k.later;
+        backs = backs_one step k.later steps
+            (back_step (giving seat one) step.deed step.reply b.0 (giving_gives seat one)) k.backs;
+        belongs = k.belongs;
+      },
     )
 
-given_up : (last end : Finish) → end ≡ last → IsGivenUp last → IsGivenUp end
-given_up last end e g = subst IsGivenUp (sym e) g
+-- an end that is this, or a lost seat
+abbrev pub Ended : Finish → Finish → Type 0
+Ended last end = (end ≡ last) ⊎ IsLost end
 
-restored_is : (last : Finish) (fault : Option Errno) → (restored last fault ≡ last) ⊎ IsGivenUp (restored last fault)
+lost_as : (last end : Finish) → end ≡ last → IsLost last → IsLost end
+lost_as last end e g = subst IsLost (sym e) g
+
+restored_is : (last : Finish) (fault : Option Errno) → (restored last fault ≡ last) ⊎ IsLost (restored last fault)
 restored_is last None = inl refl
 restored_is (finish.Lost first) (Some errno) = inl refl
-restored_is (finish.Answer answer.Cut) (Some errno) = inl refl
-restored_is (finish.Answer told) (Some errno) = inr tt
-
--- an end that is this, or a job that gave up
-abbrev Ended : Finish → Finish → Type 0
-Ended last end = (end ≡ last) ⊎ IsGivenUp end
+restored_is (finish.Answer told) (Some errno) = go (is_cut told)
+  where
+    go : (b : Bool) → ((if b then finish.Answer told else finish.Lost errno) ≡ finish.Answer told)
+        ⊎ IsLost (if b then finish.Answer told else finish.Lost errno)
+    go true = inl refl
+    go false = inr tt
 
 after_restored : (last : Finish) (fault : Option Errno) (end : Finish) → Ended (restored last fault) end →
     Ended last end
 after_restored last fault end (inl e) = elim (restored_is last fault) [
   | inl same ↦ inl (e ∙ same)
-  | inr g ↦ inr (given_up (restored last fault) end e g)
+  | inr g ↦ inr (lost_as (restored last fault) end e g)
 ]
 after_restored last fault end (inr g) = inr g
 
-end_leave : (holds : List Hold) (last : Finish) (steps : List Step) (end : Finish) →
-    Belongs (leave holds last) steps end → Ended last end × AreOwn [] steps
-end_leave [] last [] end b = (inl b, none)
-end_leave [] last (step ∷ steps) end b = absurd b
-end_leave (one ∷ holds) last steps end b =
-    let k = pass_give one (one ∷ holds) holds (λ fault. leave holds (restored last fault)) steps end b in
-    let l = end_leave holds (restored last k.0) k.1.0 end k.1.2 in
-    (after_restored last k.0 end l.0, k.1.1 [] l.1)
+own_none : (later steps : List Step) → Backs later steps → AreOwn [] later → AreOwn [] steps
+own_none later steps b o = b.own [] o
 
-end_shut : (passing : Option Hold) (count : ℕ) (holds : List Hold) (next : List Hold →
-    Grammar) (steps : List Step) (end : Finish) →
-    Belongs (shut passing count holds next) steps end →
-    IsGivenUp end ⊎ ((left : List Hold) × Reached (next left) steps end)
-end_shut passing zero holds next steps end b = inr (under passing holds, (steps, (λ path s. s), b))
-end_shut passing (suc count) [] next steps end b = inr (under passing [], (steps, (λ path s. s), b))
-end_shut passing (suc count) (one ∷ holds) next steps end b =
-    let k = pass_give one (under passing (one ∷ holds)) (under passing holds) (λ fault.
-    or_lost fault (under passing holds) (shut passing count holds next)) steps end b in
-    go k.0 k.1.0 k.1.1 k.1.2 (end_shut passing count holds next k.1.0 end)
+pub end_leave : (seat : HostSeat) (holds : List Hold) (last : Finish) (steps : List Step) (end : Finish) →
+    Belongs (leave seat holds last) steps end → Ended last end × AreOwn [] steps
+end_leave seat [] last [] end b = (inl b, none)
+end_leave seat [] last (step ∷ steps) end b = absurd b
+end_leave seat (one ∷ holds) last steps end b =
+    let k = pass_give seat one (one ∷ holds) holds (λ fault. leave seat holds (restored last fault)) steps end b in
+    let l = end_leave seat holds (restored last k.0) k.1.later end k.1.belongs in
+    (after_restored last k.0 end l.0, k.1.backs.own [] l.1)
+
+-- after a fault the seat is lost, or else the rest follows
+end_or_lost : (seat : HostSeat) (fault : Option Errno) (holds : List Hold) (next : Grammar) (steps : List Step)
+    (end : Finish) → Belongs (or_lost seat fault holds next) steps end → IsLost end ⊎ Belongs next steps end
+end_or_lost seat None holds next steps end b = inr b
+end_or_lost seat (Some errno) holds next steps end b = elim (end_leave seat holds (finish.Lost errno) steps end b).0 [
+  | inl e ↦ inl (lost_as (finish.Lost errno) end e tt)
+  | inr g ↦ inl g
+]
+
+-- what is reached, whatever is held there
+abbrev ReachedFrom : (List Hold → Grammar) → List Step → Finish → Type 0
+ReachedFrom next steps end = IsLost end ⊎ ((left : List Hold) × Reached (next left) steps end)
+
+reach_on : (next : List Hold → Grammar) (more : Grammar) (steps : List Step) (end : Finish)
+    (r : Reached more steps end) → ReachedFrom next r.later end → ReachedFrom next steps end
+reach_on next more steps end r (inl g) = inl g
+reach_on next more steps end r (inr s) = inr (s.0, reached_on (next s.0) more steps end r s.1)
+
+end_shut : (seat : HostSeat) (passing : Option Hold) (mark : ℕ) (holds : List Hold) (next : List Hold → Grammar)
+    (steps : List Step) (end : Finish) → Belongs (shut seat passing mark holds next) steps end →
+    ReachedFrom next steps end
+end_shut seat passing mark [] next steps end b =
+    inr (under passing [], record { later = steps; backs = backs_none steps; belongs = b })
+end_shut seat passing mark (one ∷ holds) next steps end b =
+    go (nat_lt mark (length (one ∷ holds))) (λ later. end_shut seat passing mark holds next later end) b
   where
-    go : (fault : Option Errno) (later : List Step) → ((path : List Step) → AreOwn path later → AreOwn path steps) →
-        Belongs (or_lost fault (under passing holds) (shut passing count holds next)) later end →
-        (Belongs (shut passing count holds next) later end →
-        IsGivenUp end ⊎ ((left : List Hold) × Reached (next left) later end)) →
-        IsGivenUp end ⊎ ((left : List Hold) × Reached (next left) steps end)
-    go None later w r f = elim (f r) [
+    gave : (fault : Option Errno)
+        × Reached (or_lost seat fault (under passing holds) (shut seat passing mark holds next)) steps end →
+        ((later : List Step) → Belongs (shut seat passing mark holds next) later end → ReachedFrom next later end) →
+        ReachedFrom next steps end
+    gave k f = elim (end_or_lost seat k.0 (under passing holds) (shut seat passing mark holds next) k.1.later end
+        k.1.belongs) [
+          | inl g ↦ inl g
+          | inr on ↦ reach_on next _ steps end k.1 (f k.1.later on)
+        ]
+
+    go : (b : Bool) →
+        ((later : List Step) → Belongs (shut seat passing mark holds next) later end → ReachedFrom next later end) →
+        Belongs (if b then give seat one (under passing (one ∷ holds)) (under passing holds) (λ fault.
+        or_lost seat fault (under passing holds) (shut seat passing mark holds next))
+        else next (under passing (one ∷ holds))) steps end → ReachedFrom next steps end
+    go true f r = gave (pass_give seat one (under passing (one ∷ holds)) (under passing holds) (λ fault.
+        or_lost seat fault (under passing holds) (shut seat passing mark holds next)) steps end r) f
+    go false f r =
+        inr (under passing (one ∷ holds), record { later = steps; backs = backs_none steps; belongs = r })
+
+end_bare : (seat : HostSeat) (holds : List Hold) (next : List Hold → Grammar) (steps : List Step) (end : Finish) →
+    Belongs (bare seat holds next) steps end → ReachedFrom next steps end
+end_bare seat [] next steps end b =
+    inr ([], record { later = steps; backs = backs_none steps; belongs = b })
+end_bare seat (one ∷ holds) next steps end b =
+    go (is_scope one) (λ later. end_bare seat holds next later end) b
+  where
+    gave : (fault : Option Errno) × Reached (or_lost seat fault holds (bare seat holds next)) steps end →
+        ((later : List Step) → Belongs (bare seat holds next) later end → ReachedFrom next later end) →
+        ReachedFrom next steps end
+    gave k f = elim (end_or_lost seat k.0 holds (bare seat holds next) k.1.later end k.1.belongs) [
       | inl g ↦ inl g
-      | inr more ↦ inr (more.0, (more.1.0, (λ path s. w path (more.1.1 path s)), more.1.2))
-    ]
-    go (Some errno) later w r f = elim (end_leave (under passing holds) (finish.Lost errno) later end r).0 [
-      | inl e ↦ inl (given_up (finish.Lost errno) end e tt)
-      | inr g ↦ inl g
+      | inr on ↦ reach_on next _ steps end k.1 (f k.1.later on)
     ]
 
-at_end : (last : Finish) (steps : List Step) (end : Finish) → Belongs (End last) steps end →
+    go : (b : Bool) →
+        ((later : List Step) → Belongs (bare seat holds next) later end → ReachedFrom next later end) →
+        Belongs (bare_one seat b one holds (bare seat holds next) next) steps end → ReachedFrom next steps end
+    go true f r = gave (pass_give seat one (one ∷ holds) holds (λ fault.
+        or_lost seat fault holds (bare seat holds next)) steps end r) f
+    go false f r = inr (one ∷ holds, record { later = steps; backs = backs_none steps; belongs = r })
+
+pub at_end : (last : Finish) (steps : List Step) (end : Finish) → Belongs (End last) steps end →
     (end ≡ last) × AreOwn [] steps
 at_end last [] end b = (b, none)
 at_end last (step ∷ steps) end b = absurd b
 
--- an end is the answer of a leaf, or the job gave up
-at_leaf : (tree : Tree) (last : Answer) (steps : List Step) (end : Finish) → Along tree [] last →
-    Ended (finish.Answer last) end → AreOwn [] steps → IsGivenUp end ⊎ IsOfBranch tree end steps
-at_leaf tree last steps end a (inl e) own = inr ([], last, own, e, a)
+-- how a job with this tree may come to its end
+abbrev pub Comes : RequestTree → List Step → Finish → Type 0
+Comes tree steps end = IsLost end ⊎ (GaveUp tree steps end ⊎ IsOfBranch tree end steps)
+
+-- an end is the answer of a leaf, or a lost seat
+at_leaf : (tree : RequestTree) (last : Answer) (steps : List Step) (end : Finish) → Along tree [] last →
+    Ended (finish.Answer last) end → AreOwn [] steps → Comes tree steps end
+at_leaf tree last steps end a (inl e) own = inr (inr ([], last, own, e, a))
 at_leaf tree last steps end a (inr g) own = inl g
 
-at_answer : (passes : Bool) (holds : List Hold) (tree : Tree) (last : Answer) (steps : List Step) (end : Finish) →
-    Along tree [] last →
-    Belongs (answered passes holds (finish.Answer last)) steps end → IsGivenUp end ⊎ IsOfBranch tree end steps
-at_answer true [] tree last steps end a b = let l = end_leave [] (finish.Answer last) steps end b in
+at_answer : (seat : HostSeat) (passes : Bool) (holds : List Hold) (tree : RequestTree) (last : Answer)
+    (steps : List Step)
+    (end : Finish) → Along tree [] last → Belongs (answered_by seat passes holds (finish.Answer last)) steps end →
+    Comes tree steps end
+at_answer seat true [] tree last steps end a b = let l = end_leave seat [] (finish.Answer last) steps end b in
     at_leaf tree last steps end a l.0 l.1
-at_answer true (one ∷ holds) tree last steps end a b =
-    elim (end_shut (Some one) (length holds) holds (λ left. End (finish.Answer last)) steps end b) [
+at_answer seat true (one ∷ holds) tree last steps end a b =
+    elim (end_shut seat (Some one) 0 holds (λ left. End (finish.Answer last)) steps end b) [
       | inl g ↦ inl g
-      | inr k ↦ let l = at_end (finish.Answer last) k.1.0 end k.1.2 in
-          at_leaf tree last steps end a (inl l.0) (k.1.1 [] l.1)
+      | inr k ↦ let l = at_end (finish.Answer last) k.1.later end k.1.belongs in
+          at_leaf tree last steps end a (inl l.0) (k.1.backs.own [] l.1)
     ]
-at_answer false holds tree last steps end a b = let l = end_leave holds (finish.Answer last) steps end b in
+at_answer seat false holds tree last steps end a b =
+    let l = end_leave seat holds (finish.Answer last) steps end b in
     at_leaf tree last steps end a l.0 l.1
 
-pub branch : (tree : Tree) (holds : List Hold) (steps : List Step) (end : Finish) →
-    Belongs (framed tree holds) steps end → IsGivenUp end ⊎ IsOfBranch tree end steps
-branch (Gives last) holds steps end b =
-    at_answer (passes_with (finish.Answer last)) holds (Gives last) last steps end refl b
-branch (Refuses told) holds steps end b = let l = end_leave holds (finish.Answer (refusal told)) steps end b in
-    at_leaf (Refuses told) (refusal told) steps end refl l.0 l.1
-branch (Asks deed next) holds [] end b = absurd b
-branch (Asks deed next) holds (step ∷ steps) end b = elim b.1 [
-  | inl up ↦
-      let k = pass_closings (closings_in deed step.reply) (held deed step.reply holds)
-      (leave (held deed step.reply holds) (finish.Answer answer.NoMemory)) steps end up in
-      elim (end_leave (held deed step.reply holds) (finish.Answer answer.NoMemory) k.0 end k.2).0 [
-        | inl e ↦ inl (given_up (finish.Answer answer.NoMemory) end e tt)
-        | inr g ↦ inl g
-      ]
-  | inr on ↦
-      let k = pass_closings (closings_in deed step.reply) (held deed step.reply holds)
-      (framed (next step.reply) (held deed step.reply holds)) steps end on in
-      elim (branch (next step.reply) (held deed step.reply holds) k.0 end k.2) [
-        | inl g ↦ inl g
-        | inr r ↦ inr (step ∷ r.0, r.1, keep (k.1 r.0 r.2), r.3, (b.0, r.4))
-      ]
-]
-branch (Shuts passes count rest) holds steps end b =
-    elim (end_shut (front passes holds) count (behind passes holds) (framed rest) steps end b) [
-      | inl g ↦ inl g
-      | inr k ↦ elim (branch rest k.0 k.1.0 end k.1.2) [
-        | inl g ↦ inl g
-        | inr r ↦ inr (r.0, r.1, k.1.1 r.0 r.2, r.3, r.4)
-      ]
+-- the tree allocates at once
+allocates_now : (tree : RequestTree) → allocates tree ≡ true → AllocatesAfter tree []
+allocates_now (Allocates rest) e = inl refl
+allocates_now (Gives last) e = absurd (cc)
+allocates_now (Refuses told) e = absurd (cc)
+allocates_now (Asks deed next) e = absurd (cc)
+allocates_now (Opens asked scope next) e = absurd (cc)
+allocates_now (Bares rest) e = absurd (cc)
+allocates_now (Brackets rest) e = absurd (cc)
+allocates_now (Shuts passes rest) e = absurd (cc)
+
+why_gave_up : (told : ActReply) (next : RequestTree) → may_give_up told next ≡ true →
+    LacksMemory told ⊎ (allocates next ≡ true)
+why_gave_up told next e = go (lacks_memory told) refl e
+  where
+    go : (b : Bool) → lacks_memory told ≡ b → (b || allocates next) ≡ true →
+        LacksMemory told ⊎ (allocates next ≡ true)
+    go true s f = inl s
+    go false s f = inr f
+
+-- what may follow a reply: the job gives up, or goes on
+end_follows : (seat : HostSeat) (wants : Bool) (count : ℕ) (holds : List Hold) (rest : Grammar) (steps : List Step)
+    (end : Finish) → Belongs (follows seat wants count holds rest) steps end →
+    ((wants ≡ true) × Ended (finish.Answer answer.NoMemory) end) ⊎ Reached rest steps end
+end_follows seat false count holds rest steps end b = inr (pass_closings count holds rest steps end b)
+end_follows seat true count holds rest steps end (inl b) =
+    let k = pass_closings count holds (leave seat holds (finish.Answer answer.NoMemory)) steps end b in
+    inl (refl, (end_leave seat holds (finish.Answer answer.NoMemory) k.later end k.belongs).0)
+end_follows seat true count holds rest steps end (inr b) = inr (pass_closings count holds rest steps end b)
+
+-- a step of the tree's own comes before
+comes_after : (tree next : RequestTree) (step : Step) (later steps : List Step) (end : Finish) →
+    ((path : List Step) (last : Answer) → Along next path last → Along tree (step ∷ path) last) →
+    ((path : List Step) → AllocatesAfter next path → AllocatesAfter tree (step ∷ path)) → Backs later steps →
+    Comes next later end → Comes tree (step ∷ steps) end
+comes_after tree next step later steps end f g b (inl lost) = inl lost
+comes_after tree next step later steps end f g b (inr (inl up)) =
+    inr (inl (record { answered = up.answered; why = why up.why }))
+  where
+    why : RanOut later ⊎ ((path : List Step) × AreFirst path later × AllocatesAfter next path) →
+        RanOut (step ∷ steps) ⊎ ((path : List Step) × AreFirst path (step ∷ steps) × AllocatesAfter tree path)
+    why (inl l) = inl (inr (b.lacks l))
+    why (inr a) = inr (step ∷ a.0, first_next (b.first a.0 a.1), g a.0 a.2)
+comes_after tree next step later steps end f g b (inr (inr r)) =
+    inr (inr (step ∷ r.0, r.1, keep (b.own r.0 r.2), r.3, f r.0 r.1 r.4))
+
+-- nothing of the tree's own comes before
+comes_still : (tree next : RequestTree) (later steps : List Step) (end : Finish) →
+    ((path : List Step) (last : Answer) → Along next path last → Along tree path last) →
+    ((path : List Step) → AllocatesAfter next path → AllocatesAfter tree path) → Backs later steps →
+    Comes next later end → Comes tree steps end
+comes_still tree next later steps end f g b (inl lost) = inl lost
+comes_still tree next later steps end f g b (inr (inl up)) =
+    inr (inl (record { answered = up.answered; why = why up.why }))
+  where
+    why : RanOut later ⊎ ((path : List Step) × AreFirst path later × AllocatesAfter next path) →
+        RanOut steps ⊎ ((path : List Step) × AreFirst path steps × AllocatesAfter tree path)
+    why (inl l) = inl (b.lacks l)
+    why (inr a) = inr (a.0, b.first a.0 a.1, g a.0 a.2)
+comes_still tree next later steps end f g b (inr (inr r)) =
+    inr (inr (r.0, r.1, b.own r.0 r.2, r.3, f r.0 r.1 r.4))
+
+-- the job gave up after a step
+gives_up : (tree next : RequestTree) (step : Step) (steps : List Step) (end : Finish) →
+    ((path : List Step) → AllocatesAfter next path → AllocatesAfter tree (step ∷ path)) →
+    may_give_up step.reply next ≡ true → Ended (finish.Answer answer.NoMemory) end → Comes tree (step ∷ steps) end
+gives_up tree next step steps end g m (inl e) = inr (inl (record { answered = e; why = why }))
+  where
+    why : RanOut (step ∷ steps) ⊎ ((path : List Step) × AreFirst path (step ∷ steps) × AllocatesAfter tree path)
+    why = elim (why_gave_up step.reply next m) [
+      | inl l ↦ inl (inl l)
+      | inr a ↦ inr (step ∷ [], first_next stop, g [] (allocates_now next a))
     ]
+gives_up tree next step steps end g m (inr lost) = inl lost
+
+pub branch : (seat : HostSeat) (tree : RequestTree) (holds : List Hold) (marks : List ℕ) (steps : List Step)
+    (end : Finish) → Belongs (framed seat tree holds marks) steps end → Comes tree steps end
+branch seat (Gives last) holds marks steps end b =
+    at_answer seat (passes_with last) holds (Gives last) last steps end refl b
+branch seat (Refuses told) holds marks steps end b =
+    let l = end_leave seat holds (finish.Answer (refusal told)) steps end b in
+    at_leaf (Refuses told) (refusal told) steps end refl l.0 l.1
+branch seat (Asks deed next) holds marks [] end b = absurd b
+branch seat (Asks deed next) holds marks (step ∷ steps) end b =
+    elim (end_follows seat (may_give_up step.reply (next step.reply)) (closings_in deed step.reply)
+    (held deed step.reply holds) (framed seat (next step.reply) (held deed step.reply holds) marks) steps end b.1) [
+      | inl up ↦ gives_up (Asks deed next) (next step.reply) step steps end (λ path a. (b.0, a)) up.0 up.1
+      | inr k ↦ comes_after (Asks deed next) (next step.reply) step k.later steps end (λ path last a. (b.0, a))
+          (λ path a. (b.0, a)) k.backs
+          (branch seat (next step.reply) (held deed step.reply holds) marks k.later end k.belongs)
+    ]
+branch seat (Opens asked scope next) holds marks [] end b = absurd b
+branch seat (Opens asked scope next) holds marks (step ∷ steps) end b =
+    elim (end_follows seat (may_give_up step.reply (next step.reply)) 0 (opened scope step.reply holds)
+    (framed seat (next step.reply) (opened scope step.reply holds) marks) steps end b.1) [
+      | inl up ↦ gives_up (Opens asked scope next) (next step.reply) step steps end (λ path a. (b.0, a)) up.0 up.1
+      | inr k ↦ comes_after (Opens asked scope next) (next step.reply) step k.later steps end
+          (λ path last a. (b.0, a)) (λ path a. (b.0, a)) k.backs
+          (branch seat (next step.reply) (opened scope step.reply holds) marks k.later end k.belongs)
+    ]
+branch seat (Bares rest) holds marks steps end b =
+    elim (end_bare seat holds (λ left. framed seat rest left marks) steps end b) [
+      | inl g ↦ inl g
+      | inr k ↦ comes_still (Bares rest) rest k.1.later steps end (λ path last a. a) (λ path a. a) k.1.backs
+          (branch seat rest k.0 marks k.1.later end k.1.belongs)
+    ]
+branch seat (Brackets rest) holds marks steps end b =
+    comes_still (Brackets rest) rest steps steps end (λ path last a. a) (λ path a. a) (backs_none steps)
+    (branch seat rest holds (length holds ∷ marks) steps end b)
+branch seat (Shuts passes rest) holds marks steps end b =
+    elim (end_shut seat (front passes holds) (mark_in marks) (behind passes holds) (λ left.
+    framed seat rest left (outer marks)) steps end b) [
+      | inl g ↦ inl g
+      | inr k ↦ comes_still (Shuts passes rest) rest k.1.later steps end (λ path last a. a) (λ path a. a) k.1.backs
+          (branch seat rest k.0 (outer marks) k.1.later end k.1.belongs)
+    ]
+branch seat (Allocates rest) holds marks steps end b =
+    comes_still (Allocates rest) rest steps steps end (λ path last a. a) (λ path a. inr a) (backs_none steps)
+    (branch seat rest holds marks steps end b)

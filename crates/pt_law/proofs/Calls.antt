@@ -1,5 +1,6 @@
 -- Calls of the host keep what is known of open descriptors.
-use Rattle.std.proofs.Common.{◌≡◌, ℕ, ◌<◌, ◌≤◌, List, Bool, true, false, refl, sym, ap, subst, ◌∙◌, arith, Option}
+use Rattle.std.proofs.Common.{◌≡◌, inl, inr, ℕ, ◌<◌, ◌≤◌, List, Bool, true, false, refl, sym, ap, subst, ◌∙◌, arith}
+use Rattle.std.proofs.Common.{Option}
 use Rattle.std.proofs.Common.{Some, None}
 use Rattle.pt_host.specs.Words.{total, Each, Takes, set_at}
 use Rattle.pt_host.specs.Call.{Call}
@@ -15,16 +16,17 @@ use Rattle.pt_host.specs.declared.reply.HostReply.TheVariants as host
 use Rattle.pt_host.specs.declared.reply.HostValue.TheVariants as value
 use Rattle.pt_session.specs.declared.row.Row.{Row}
 use Rattle.pt_session.specs.declared.row.HandleRow.{HandleRow}
-use Rattle.pt_req.specs.Deed.{Calls}
-use Rattle.pt_req.specs.declared.act.ActReply.TheVariants.{Host}
-use Rattle.pt_req.specs.declared.hold.Hold.{Hold}
-use Rattle.pt_req.specs.declared.hold.Hold.TheVariants as hold
-use Rattle.pt_law.specs.Discipline.{Job, Notes, with_root, unnoted, unless, MovesBy, Resolution}
+use Rattle.pt_frame.specs.Deed.{Calls}
+use Rattle.pt_frame.specs.declared.act.ActReply.TheVariants.{Host}
+use Rattle.pt_frame.specs.declared.hold.Hold.{Hold}
+use Rattle.pt_frame.specs.declared.hold.Hold.TheVariants as hold
+use Rattle.pt_law.specs.Discipline.{Job, Notes, with_root, unnoted, unless, MovesBy, Resolution, IsNoted}
 use Rattle.pt_law.specs.World.{Past, settled_by, object_of, first_of}
-use Rattle.pt_law.specs.Ledger.{fd_held, row_fd, handle_fd}
+use Rattle.pt_law.specs.Ledger.{row_has, handle_has}
+use Rattle.pt_law.proofs.Flows.{fd_held}
 use Rattle.pt_law.proofs.Lists.{total_takes, total_replaces, is_same, is_apart, set_at_same, set_at_other, at_each}
 use Rattle.pt_law.proofs.Lists.{each_replaces, each_takes, each_put}
-use Rattle.pt_law.proofs.Growing.{Grows, edit_grows, rows_on, handles_on, knows_on}
+use Rattle.pt_law.proofs.Growing.{Grows, call_grows, rows_on, handles_on, knows_on}
 use Rattle.pt_law.proofs.Found.{found_only}
 use Rattle.pt_law.proofs.Knowing.{RowOpen, HandleOpen, ToldRight, PinRight, NotedOpen, NotedRight, Knowing}
 use Rattle.pt_law.proofs.Knowing.{with_entry, rows_open, handles_open, told_open, noted_open, rows_closed}
@@ -291,12 +293,46 @@ opens_anew bound tree next past rows handles js j after object flags new lt h fr
           (λ other. elsewhere tree next past past i (js i) new.0 x free refl refl refl refl refl (h.knows i less));
     }
 
+-- an opening that is noted nowhere
+opens_other : (bound : ℕ) (tree : Tree) (next : ℕ) (past : Past) (rows : List Row) (handles : List HandleRow)
+    (js : ℕ → Job) (j : ℕ) (after : Job) (object : ℕ) (flags : OpenFlags) (new : Fd) → j < bound →
+    Right bound tree next past rows handles js →
+    tree.opened new.0 ≡ None → Takes (hold.Fd new None) after.holds (js j).holds → after.notes ≡ (js j).notes →
+    Right bound (opened_on tree object flags new) next past rows handles (set_at j after js)
+opens_other bound tree next past rows handles js j after object flags new lt h free t n =
+    let x : Option Opened = Some (record { object = object; path_only = includes flags.0 o_path }) in
+    record {
+      shown = rows_open tree past new.0 x rows free h.shown;
+      handled = handles_open tree past new.0 x handles free h.handled;
+      knows = λ i less. at_each (Knowing (opened_on tree object flags new) next past) js j after i (
+          let k = h.knows j lt in
+          record {
+            told = each_put (ToldRight (with_entry tree new.0 x)) t tt
+                (told_open tree new.0 x (js j).holds free k.told);
+            pins = each_put (PinRight next past.fds) t tt k.pins;
+            latest = rw (ap (λ (z : Notes). z.latest) n)
+                (noted_open tree new.0 x (js j).notes.latest (past.latest j) (js j).holds after.holds free
+                (more_held t) k.latest);
+            root = rw (ap (λ (z : Notes). z.root) n)
+                (noted_open tree new.0 x (js j).notes.root (past.roots j) (js j).holds after.holds free
+                (more_held t) k.root);
+            unrooted = λ e. k.unrooted (sym (ap (λ (z : Notes). z.rooted) n) ∙ e);
+            resolved = λ was e. k.resolved was (sym (ap (λ (z : Notes). z.resolved) n) ∙ e);
+            reopened = λ was u.
+                rw (ap (λ (z : Notes). z.reopened) n)
+                (noted_open tree new.0 x (js j).notes.reopened (past.resolved j was.number)
+                (js j).holds after.holds free (more_held t) (k.reopened was (sym (ap (λ (z : Notes). z.resolved) n)
+                ∙ u)));
+          })
+          (λ other. elsewhere tree next past past i (js i) new.0 x free refl refl refl refl refl (h.knows i less));
+    }
+
 -- a descriptor was closed that no row and no job has after
 closes : (bound : ℕ) (tree : Tree) (next : ℕ) (past : Past) (rows : List Row) (handles : List HandleRow) (js : ℕ →
     Job) (j : ℕ) (after : Job) (f : Fd) (told : Option ObjIds) → j < bound →
     Right bound tree next past rows handles js →
     Takes (hold.Fd f told) (js j).holds after.holds → after.notes ≡ unnoted f (js j).notes →
-    total (row_fd f.0) rows ≡ 0 → total (handle_fd f.0) handles ≡ 0 →
+    total (row_has f.0) rows ≡ 0 → total (handle_has f.0) handles ≡ 0 →
     ((i : ℕ) → i < bound → total (fd_held f.0) (set_at j after js i).holds ≡ 0) →
     Right bound (closed_at tree f) next past rows handles (set_at j after js)
 closes bound tree next past rows handles js j after f told lt h t n z y none = record {
@@ -330,7 +366,8 @@ closes bound tree next past rows handles js j after f told lt h t n z y none = r
         unrooted = k.unrooted;
         resolved = k.resolved;
         reopened = λ was u.
-            noted_closed tree f.0 (js i).notes.reopened (past.resolved i was.number) (js i).holds y (k.reopened was u);
+            noted_closed tree f.0 (js i).notes.reopened (past.resolved i was.number) (js i).holds y
+            (k.reopened was u);
       })
       (none i less);
 }
@@ -348,7 +385,7 @@ closes bound tree next past rows handles js j after f told lt h t n z y none = r
           judged = a.judged;
         }
 
--- an edit opens and closes nothing
+-- what opens and closes nothing
 grown : (bound : ℕ) (tree after : Tree) (next : ℕ) (past : Past) (rows : List Row) (handles : List HandleRow)
     (js : ℕ → Job) → Grows tree after → Right bound tree next past rows handles js →
     Right bound after next past rows handles js
@@ -366,13 +403,13 @@ pub keeps_call : (bound : ℕ) (tree : Tree) (next : ℕ) (past : Past) (rows : 
     TreeChanges tree a r tree' → MovesBy (js j) (Calls a) (Host r) after →
     ((f : Fd) (flags : OpenFlags) (object : ℕ) → a ≡ call.Reopen f flags → IsOpenOn tree f object →
     (was : Resolution) → (js j).notes.resolved ≡ Some was → past.resolved j was.number ≡ Some object) →
-    ((f : Fd) → a ≡ call.Close f → (total (row_fd f.0) rows ≡ 0) × (total (handle_fd f.0) handles ≡ 0)
+    ((f : Fd) → a ≡ call.Close f → (total (row_has f.0) rows ≡ 0) × (total (handle_has f.0) handles ≡ 0)
     × ((i : ℕ) → i < bound → total (fd_held f.0) (set_at j after js i).holds ≡ 0)) →
     Right bound tree' next (settled_by past j (Calls a) (Host r) next tree') rows handles (set_at j after js)
 keeps_call bound tree next past rows handles js j after (call.OpenRoot path flags)
     (host.Ok (value.Fd new)) tree' lt h l m b c =
     let o = l.1 in
-    rw o.adds (opens_root bound tree next past rows handles js j after l.0 flags new lt h o.fresh m.0 m.3
+    rw o.adds (opens_root bound tree next past rows handles js j after l.0 flags new lt h o.fresh m.0.1 m.3
     (object_of ((opened_on tree l.0 flags new).opened new.0)) (object_opened tree l.0 flags new))
 keeps_call bound tree next past rows handles js j after (call.OpenAt dir name flags mode)
     (host.Ok (value.Fd new)) tree' lt h l m b c =
@@ -385,55 +422,27 @@ keeps_call bound tree next past rows handles js j after (call.Reopen f flags)
     let o = l.2 in
     rw o.adds (opens_anew bound tree next past rows handles js j after l.0 flags new lt h o.fresh m.0.1 m.3
     (b f flags l.0 refl l.1))
-keeps_call bound tree next past rows handles js j after (call.ReadAt f offset size)
-    (host.Ok (value.Bytes bytes)) tree' lt h l m b c =
-    rw l.1 (same_holds bound tree next past rows handles js j after lt h m.3 m.0.1)
+keeps_call bound tree next past rows handles js j after (call.OpenPath dir path flags)
+    (host.Ok (value.Fd new)) tree' lt h l m b c =
+    let o = l.1 in
+    rw o.adds (opens_other bound tree next past rows handles js j after l.0 flags new lt h o.fresh m.0.1 m.3)
+keeps_call bound tree next past rows handles js j after (call.OpenByHandle dir handle flags)
+    (host.Ok (value.Fd new)) tree' lt h l m b c =
+    let o = l.2 in
+    rw o.adds (opens_other bound tree next past rows handles js j after l.0 flags new lt h o.fresh m.0.1 m.3)
 keeps_call bound tree next past rows handles js j after (call.Stat f) (host.Ok (value.Stat stat)) tree' lt h l m b c =
-    rw l.5 (quiet bound tree next past rows handles js j after lt h m.3
-    (each_replaces (ToldRight tree) m.0.1 (λ _.
-    (l.0, record { open_on = l.2; what = l.1; is_object = l.3; same_ids = sym l.4.ids })) (h.knows j lt).told)
-    (each_replaces (PinRight next past.fds) m.0.1 (λ _. tt) (h.knows j lt).pins)
-    (λ fd. let e = total_replaces (fd_held fd) m.0.1 in omega (arith, e)))
+    rw l.5 (noted m.0.1)
+  where
+    noted : IsNoted f stat.ids (js j).holds after.holds → Right bound tree next past rows handles (set_at j after js)
+    noted (inl r) = quiet bound tree next past rows handles js j after lt h m.3
+        (each_replaces (ToldRight tree) r.1 (λ _.
+        (l.0, record { open_on = l.2; what = l.1; is_object = l.3; same_ids = sym l.4.ids })) (h.knows j lt).told)
+        (each_replaces (PinRight next past.fds) r.1 (λ _. tt) (h.knows j lt).pins)
+        (λ fd. let e = total_replaces (fd_held fd) r.1 in omega (arith, e))
+    noted (inr e) = same_holds bound tree next past rows handles js j after lt h m.3 e
 keeps_call bound tree next past rows handles js j after (call.Close f) told tree' lt h l m b c =
     let e = c f refl in
     rw l (closes bound tree next past rows handles js j after f m.0.0 lt h m.0.1 m.3 e.0 e.1 e.2)
-keeps_call bound tree next past rows handles js j after (call.Edit edit) (host.Ok value.Unit) tree' lt h l m b c =
-    grown bound tree tree' next past rows handles (set_at j after js) (edit_grows tree edit tree' l)
-    (same_holds bound tree next past rows handles js j after lt h m.3 m.0)
-keeps_call bound tree next past rows handles js j after (call.OpenRoot path flags) (host.Ok told) tree' lt h l m b c =
-    absurd l.0
-keeps_call bound tree next past rows handles js j after (call.OpenAt dir name flags mode)
-    (host.Ok told) tree' lt h l m b c = absurd l.0
-keeps_call bound tree next past rows handles js j after (call.Reopen f flags) (host.Ok told) tree' lt h l m b c =
-    absurd l.0
-keeps_call bound tree next past rows handles js j after (call.ReadAt f offset size)
-    (host.Ok told) tree' lt h l m b c = absurd l.0
-keeps_call bound tree next past rows handles js j after (call.Stat f) (host.Ok told) tree' lt h l m b c = absurd l.0
-keeps_call bound tree next past rows handles js j after (call.Edit edit) (host.Ok told) tree' lt h l m b c = absurd l.0
-keeps_call bound tree next past rows handles js j after (call.OpenRoot path flags)
-    (host.Refused e) tree' lt h l m b c = rw l.1 (same_holds bound tree next past rows handles js j after lt h m.3 m.0)
-keeps_call bound tree next past rows handles js j after (call.OpenAt dir name flags mode)
-    (host.Refused e) tree' lt h l m b c =
-    rw l.1 (same_holds bound tree next past rows handles js j after lt h m.3 m.0.1)
-keeps_call bound tree next past rows handles js j after (call.Reopen f flags) (host.Refused e) tree' lt h l m b c =
-    rw l.1 (same_holds bound tree next past rows handles js j after lt h m.3 m.0.1)
-keeps_call bound tree next past rows handles js j after (call.ReadAt f offset size)
-    (host.Refused e) tree' lt h l m b c =
-    rw l.1 (same_holds bound tree next past rows handles js j after lt h m.3 m.0.1)
-keeps_call bound tree next past rows handles js j after (call.Stat f) (host.Refused e) tree' lt h l m b c =
-    rw l.1 (same_holds bound tree next past rows handles js j after lt h m.3 m.0.1)
-keeps_call bound tree next past rows handles js j after (call.Edit edit) (host.Refused e) tree' lt h l m b c =
-    rw l.1 (same_holds bound tree next past rows handles js j after lt h m.3 m.0)
-keeps_call bound tree next past rows handles js j after (call.OpenRoot path flags) told tree' lt h l m b c =
-    rw l (same_holds bound tree next past rows handles js j after lt h m.3 m.0)
-keeps_call bound tree next past rows handles js j after (call.OpenAt dir name flags mode) told tree' lt h l m b c =
-    rw l (same_holds bound tree next past rows handles js j after lt h m.3 m.0.1)
-keeps_call bound tree next past rows handles js j after (call.Reopen f flags) told tree' lt h l m b c =
-    rw l (same_holds bound tree next past rows handles js j after lt h m.3 m.0.1)
-keeps_call bound tree next past rows handles js j after (call.ReadAt f offset size) told tree' lt h l m b c =
-    rw l (same_holds bound tree next past rows handles js j after lt h m.3 m.0.1)
-keeps_call bound tree next past rows handles js j after (call.Stat f) told tree' lt h l m b c =
-    rw l (same_holds bound tree next past rows handles js j after lt h m.3 m.0.1)
-keeps_call bound tree next past rows handles js j after (call.Edit edit) told tree' lt h l m b c =
-    rw l (same_holds bound tree next past rows handles js j after lt h m.3 m.0)
-keeps_call bound tree next past rows handles js j after asked told tree' lt h l m b c = absurd m.0
+keeps_call bound tree next past rows handles js j after asked told tree' lt h l m b c =
+    grown bound tree tree' next past rows handles (set_at j after js) (call_grows tree asked told tree' l tt)
+    (same_holds bound tree next past rows handles js j after lt h m.3 m.0.1)

@@ -12,14 +12,15 @@ use Rattle.pt_session.specs.declared.event.KeptEvent.TheVariants as change
 use Rattle.pt_session.specs.declared.reply.EventRefusal.TheVariants.{NotLive}
 use Rattle.pt_session.specs.declared.reply.EventReply.{EventReply}
 use Rattle.pt_session.specs.declared.reply.EventReply.TheVariants as event
-use Rattle.pt_req.specs.Deed.{Deed, Calls, Changes}
-use Rattle.pt_req.specs.Held.{closings_in}
-use Rattle.pt_req.specs.declared.act.ActReply.{ActReply}
-use Rattle.pt_req.specs.declared.act.ActReply.TheVariants.{Event}
-use Rattle.pt_req.specs.declared.hold.Hold.{Hold}
+use Rattle.pt_frame.specs.Deed.{Deed, Calls, Changes}
+use Rattle.pt_frame.specs.Replies.{closings_in}
+use Rattle.pt_frame.specs.declared.act.ActReply.{ActReply}
+use Rattle.pt_frame.specs.declared.act.ActReply.TheVariants.{Event, Host, NoCopy}
+use Rattle.pt_frame.specs.declared.hold.Hold.{Hold}
 use Rattle.pt_law.specs.Discipline.{Job, MovesBy}
 use Rattle.pt_law.specs.World.{TablesGo}
-use Rattle.pt_law.specs.Ledger.{held_by, kept_slots}
+use Rattle.pt_law.specs.Ledger.{kept_slots}
+use Rattle.pt_law.proofs.Flows.{all_hold}
 use Rattle.pt_law.specs.Ledger.{closing_ended}
 use Rattle.pt_law.proofs.Flows.{slot_held, pin_held, handle_pin_held, row_pins, handle_pins, IsHonest}
 use Rattle.pt_law.proofs.Flows.{called}
@@ -30,12 +31,12 @@ use Rattle.pt_law.proofs.Holding.{handed}
 
 -- what is there is what tables and jobs have
 pub record Books (bound : ℕ) (t : Tables) (js : ℕ → Job) : Type 0 where
-  pub slots : kept_slots t + held_by bound slot_held js ≡ t.limit
-  pub pins : (serial : ℕ) → total (row_pins serial) t.rows ≡ held_by bound (pin_held serial) js
-  pub handle_pins : (serial : ℕ) → total (handle_pins serial) t.handles ≡ held_by bound (handle_pin_held serial) js
+  pub slots : kept_slots t + all_hold bound slot_held js ≡ t.limit
+  pub pins : (serial : ℕ) → total (row_pins serial) t.rows ≡ all_hold bound (pin_held serial) js
+  pub handle_pins : (serial : ℕ) → total (handle_pins serial) t.handles ≡ all_hold bound (handle_pin_held serial) js
   pub closings : length t.closing ≡ sum_to bound (λ j. (js j).owed)
 
-pub part : (w : Hold → ℕ) (js : ℕ → Job) (bound j : ℕ) → j < bound → total w (js j).holds ≤ held_by bound w js
+pub part : (w : Hold → ℕ) (js : ℕ → Job) (bound j : ℕ) → j < bound → total w (js j).holds ≤ all_hold bound w js
 part w js bound j h = le_sum_to (λ i. total w (js i).holds) bound j h
 
 unpinned : (serial : ℕ) (rows : List Row) → Each (λ r. (r.serial ≡ serial) × (r.pins ≢ 0) → ⊥) rows →
@@ -104,10 +105,16 @@ pub honest : (bound : ℕ) (t : Tables) (js : ℕ → Job) (j : ℕ) (e : Change
     IsHonest (Changes e) (Event r)
 honest bound t js j e r t' after lt b h m = honest_by bound t js j e r t' after lt b (cases t t' e r h) m
 
+-- a closing that is taken brings none
+took_none : (told : ActReply) → closings_in (Changes change.TakeClosing) told ≡ 0
+took_none (Event told) = refl
+took_none (Host told) = refl
+took_none NoCopy = refl
+
 -- closings that come to be owed, and those that are taken
 pub owed_flow : (job : Job) (deed : Deed) (told : ActReply) (after : Job) → MovesBy job deed told after →
     after.owed + closing_ended deed told ≡ job.owed + closings_in deed told
-owed_flow job (Changes change.TakeClosing) told after m = omega (arith, m.1, m.2)
+owed_flow job (Changes change.TakeClosing) told after m = let a = took_none told in omega (arith, m.1, m.2, a)
 owed_flow job deed told after m = let e = m.2 in omega (arith, e)
 
 pub keeps_books : (bound : ℕ) (t : Tables) (js : ℕ →
@@ -135,9 +142,11 @@ keeps_books bound t js j (Changes e) (Event r) t' after lt agree b g m =
     let l = (stays t e r t' g).limit in
     record {
       slots = let x = b.slots in let y = f.slots in let u = v.slots in
-          let z = sum_to_set (λ (k : Job). total slot_held k.holds) js j after bound lt in omega (arith, x, y, z, u, l);
+          let z = sum_to_set (λ (k : Job). total slot_held k.holds) js j after bound lt in
+          omega (arith, x, y, z, u, l);
       pins = λ s. let x = b.pins s in let y = f.pins s in let u = v.pins s in
-          let z = sum_to_set (λ (k : Job). total (pin_held s) k.holds) js j after bound lt in omega (arith, x, y, z, u);
+          let z = sum_to_set (λ (k : Job). total (pin_held s) k.holds) js j after bound lt in
+          omega (arith, x, y, z, u);
       handle_pins = λ s. let x = b.handle_pins s in let y = f.handle_pins s in let u = v.handle_pins s in
           let z = sum_to_set (λ (k : Job). total (handle_pin_held s) k.holds) js j after bound lt in
           omega (arith, x, y, z, u);

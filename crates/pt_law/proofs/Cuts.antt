@@ -1,7 +1,7 @@
 -- A run cut at steps of one job.
 use Rattle.std.proofs.Common.{◌≡◌, ◌≢◌, ⊎_elim, ℕ, List, [], ◌∷◌, ◌++◌, refl, sym, ap, ap₂, subst, ◌∙◌, arith}
 use Rattle.std.proofs.lemmas.Bool.{cases_eq}
-use Rattle.pt_req.specs.Deed.{Step}
+use Rattle.pt_frame.specs.Deed.{Step}
 use Rattle.pt_law.specs.World.{World, Turn, turn_by, Goes, Runs, steps_of}
 
 -- where a step of a job stands in a run

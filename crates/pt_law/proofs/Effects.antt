@@ -12,7 +12,9 @@ use Rattle.pt_session.specs.Happens.{Happens, ForgetsOne, ForgetsAll, Clears}
 use Rattle.pt_session.proofs.Cases.{GivesPin, GivenAgain, Case, cases}
 use Rattle.pt_session.specs.Store.{IsLaterHandle}
 use Rattle.pt_session.specs.Effect.{Effect}
-use Rattle.pt_session.specs.Effect.{Effect.{nothing as unchanged, counted, changed as row_changed, ended as row_ended, added, drawn, handle_changed, handle_ended, handle_added, begun, shut}}
+use Rattle.pt_session.specs.Effect.{Effect.{nothing as unchanged, counted, changed as row_changed}}
+use Rattle.pt_session.specs.Effect.{Effect.{ended as row_ended, added, drawn, handle_changed, handle_ended}}
+use Rattle.pt_session.specs.Effect.{Effect.{handle_added, begun, shut}}
 use Rattle.pt_session.specs.Effect.{Effects, Effects.{none, more}}
 use Rattle.pt_session.specs.declared.event.KeptEvent.TheVariants as change
 use Rattle.pt_session.specs.declared.reply.EventReply.{EventReply}
@@ -200,23 +202,65 @@ stays_effect {t = t} (unchanged e) = rw e (stays_same t)
 stays_effect {t = t} (counted slots next l m e) =
     rw e (record { era = omega arith; limit = refl; numbers = m; handles = omega arith; rows = omega arith })
 stays_effect {t = t} (row_changed was now rows c l s e) =
-    rw e (record { era = omega arith; limit = refl; numbers = omega arith; handles = omega arith; rows = omega arith })
+    rw e (record {
+      era = omega arith;
+      limit = refl;
+      numbers = omega arith;
+      handles = omega arith;
+      rows = omega arith;
+    })
 stays_effect {t = t} (row_ended row rows c e) =
-    rw e (record { era = omega arith; limit = refl; numbers = omega arith; handles = omega arith; rows = omega arith })
+    rw e (record {
+      era = omega arith;
+      limit = refl;
+      numbers = omega arith;
+      handles = omega arith;
+      rows = omega arith;
+    })
 stays_effect {t = t} (added row negotiated n e) =
-    rw e (record { era = omega arith; limit = refl; numbers = omega arith; handles = omega arith; rows = omega arith })
+    rw e (record {
+      era = omega arith;
+      limit = refl;
+      numbers = omega arith;
+      handles = omega arith;
+      rows = omega arith;
+    })
 stays_effect {t = t} (drawn next l e) =
     rw e (record { era = omega arith; limit = refl; numbers = omega arith; handles = l; rows = omega arith })
 stays_effect {t = t} (handle_changed was now handles c l s e) =
-    rw e (record { era = omega arith; limit = refl; numbers = omega arith; handles = omega arith; rows = omega arith })
+    rw e (record {
+      era = omega arith;
+      limit = refl;
+      numbers = omega arith;
+      handles = omega arith;
+      rows = omega arith;
+    })
 stays_effect {t = t} (handle_ended row handles c e) =
-    rw e (record { era = omega arith; limit = refl; numbers = omega arith; handles = omega arith; rows = omega arith })
+    rw e (record {
+      era = omega arith;
+      limit = refl;
+      numbers = omega arith;
+      handles = omega arith;
+      rows = omega arith;
+    })
 stays_effect {t = t} (handle_added row n e) =
-    rw e (record { era = omega arith; limit = refl; numbers = omega arith; handles = omega arith; rows = omega arith })
+    rw e (record {
+      era = omega arith;
+      limit = refl;
+      numbers = omega arith;
+      handles = omega arith;
+      rows = omega arith;
+    })
 stays_effect {t = t} (begun era negotiated l e) =
     rw e (record { era = l; limit = refl; numbers = omega arith; handles = omega arith; rows = omega arith })
 stays_effect {t = t} (shut first closing c e) =
-    rw e (record { era = omega arith; limit = refl; numbers = omega arith; handles = omega arith; rows = omega arith })
+    rw e (record {
+      era = omega arith;
+      limit = refl;
+      numbers = omega arith;
+      handles = omega arith;
+      rows = omega arith;
+    })
 
 pub stays_on : {t mid after : Tables} → Stays t mid → Stays mid after → Stays t after
 stays_on a b = record {

@@ -14,20 +14,23 @@ use Rattle.pt_session.specs.Effect.{IsFree}
 use Rattle.pt_session.specs.Happens.{new_row, with_row, agreed}
 use Rattle.pt_session.proofs.Cases.{Case}
 use Rattle.pt_session.specs.declared.form.RowForm.{RowForm}
+use Rattle.pt_session.specs.declared.form.RowForm.TheVariants.{File}
+use Rattle.pt_frame.specs.Held.{row_fd}
 use Rattle.pt_session.specs.declared.form.Negotiated.{Negotiated}
 use Rattle.pt_session.specs.declared.event.KeptEvent.TheVariants as change
 use Rattle.pt_session.specs.declared.reply.EventReply.{EventReply}
 use Rattle.pt_session.specs.declared.reply.EventReply.TheVariants as event
-use Rattle.pt_req.specs.Deed.{Changes}
-use Rattle.pt_req.specs.Held.{fd_of, taken_in, brought}
-use Rattle.pt_req.specs.declared.act.ActReply.TheVariants.{Event}
-use Rattle.pt_req.specs.declared.hold.Hold.{Hold}
-use Rattle.pt_req.specs.declared.hold.Hold.TheVariants as hold
-use Rattle.pt_req.specs.declared.hold.Taken.{Taken}
-use Rattle.pt_req.specs.declared.hold.Taken.TheVariants as taken
+use Rattle.pt_frame.specs.Deed.{Changes}
+use Rattle.pt_law.specs.World.{fd_of}
+use Rattle.pt_frame.specs.Replies.{taken_in, brought}
+use Rattle.pt_frame.specs.declared.act.ActReply.TheVariants.{Event}
+use Rattle.pt_frame.specs.declared.hold.Hold.{Hold}
+use Rattle.pt_frame.specs.declared.hold.Hold.TheVariants as hold
+use Rattle.pt_frame.specs.declared.hold.Taken.{Taken}
+use Rattle.pt_frame.specs.declared.hold.Taken.TheVariants as taken
 use Rattle.pt_law.specs.Discipline.{Job, Notes, Resolution, notes_after, Shifts, MovesBy, HoldsTold}
 use Rattle.pt_law.specs.World.{Past, settled, settled_by}
-use Rattle.pt_law.specs.Ledger.{fd_in}
+use Rattle.pt_law.specs.Ledger.{fd_handed}
 use Rattle.pt_law.proofs.Lists.{is_apart, set_at_same, set_at_other, each_replaced, each_takes, each_taken, each_map}
 use Rattle.pt_law.proofs.Lists.{each_both, each_put}
 use Rattle.pt_law.proofs.Effects.{kept_by, rows_kept, handles_kept, stays_by}
@@ -140,7 +143,8 @@ pub handles_event : (tree : Tree) (past : Past) (t : Tables) (j : ℕ) (job afte
     (t' : Tables) → Agree t → Case t e r t' → MovesBy job (Changes e) (Event r) after →
     Knowing tree t.next_row past j job → Each (HandleOpen tree past) t.handles →
     Each (HandleOpen tree (settled_by past j (Changes e) (Event r) t.next_row tree)) t'.handles
-handles_event tree past t j job after (change.Insert era number form ids mode) (event.Inserted given) t' a h m k rows =
+handles_event tree past t j job after (change.Insert era number form ids mode) (event.Inserted given) t' a h m k
+    rows =
     rw h.4 (handles_place tree past (settled past given t.next_row (fd_of form) (past.latest j)) t.next_row
     (fd_of form) (past.latest j) t.handles refl refl a.sound_handles rows)
 handles_event tree past t j job after (change.InsertRoot era form ids mode negotiated)
@@ -212,7 +216,7 @@ pub holds_event : (P : Hold → Type 0) (holds : List Hold) (e : Change) (r : Ev
     Shifts holds (Changes e) (Event r) after → P hold.Slot → ((era n : ℕ) → IsOfEra e era → P (hold.Count era n)) →
     ((fd : Fd) → P (hold.Fd fd None)) →
     ((number row mode : ℕ) (form : RowForm) (ids : ObjIds) → e ≡ change.Resolve number →
-    r ≡ event.Resolved row form ids mode → P (hold.Pin row (fd_of form))) →
+    r ≡ event.Resolved row form ids mode → P (hold.Pin row (row_fd form))) →
     ((handle number row : ℕ) (fd : Fd) → e ≡ change.PinHandle handle number → r ≡ event.Pinned row fd →
     P (hold.HandlePin row fd)) → Each P holds → Each P after
 holds_event P holds (change.Resolve number) (event.Resolved row form ids mode) after m s c f p q h =
@@ -287,9 +291,7 @@ pin_grows past later next next' (hold.Pin row fd) g p =
     (let a = g.rows in let b = p.0 in omega (arith, a, b), g.fds row p.0 ∙ p.1)
 pin_grows past later next next' (hold.HandlePin row fd) g p =
     (let a = g.rows in let b = p.0 in omega (arith, a, b), g.fds row p.0 ∙ p.1)
-pin_grows past later next next' (hold.Fd fd told) g p = tt
-pin_grows past later next next' hold.Slot g p = tt
-pin_grows past later next next' (hold.Count era n) g p = tt
+pin_grows past later next next' one g p = tt
 
 pub pins_grow : (past later : Past) (next next' : ℕ) (holds : List Hold) → Grows past later next next' →
     Each (PinRight next past.fds) holds → Each (PinRight next' later.fds) holds
@@ -299,7 +301,7 @@ pins_grow past later next next' holds g =
 -- an event notes no descriptor, and one that stays noted is not handed to the tables
 event_latest : (notes : Notes) (e : Change) (r : EventReply) (fd : Fd) →
     (notes_after notes (Changes e) (Event r)).latest ≡ Some fd →
-    (notes.latest ≡ Some fd) × (fd_in fd.0 (Changes e) (Event r) ≡ 0)
+    (notes.latest ≡ Some fd) × (fd_handed fd.0 (Changes e) (Event r) ≡ 0)
 event_latest notes (change.Insert era number form ids mode) (event.Inserted given) fd e =
     let a = unless_apart (fd_of form) notes.latest fd e in (a.0, is_apart (fd_of form).0 fd.0 a.1)
 event_latest notes (change.InsertRoot era form ids mode negotiated) (event.Inserted given) fd e =
@@ -315,7 +317,7 @@ event_latest notes _ _ fd e = (e, refl)
 
 event_root : (notes : Notes) (e : Change) (r : EventReply) (fd : Fd) →
     (notes_after notes (Changes e) (Event r)).root ≡ Some fd →
-    (notes.root ≡ Some fd) × (fd_in fd.0 (Changes e) (Event r) ≡ 0)
+    (notes.root ≡ Some fd) × (fd_handed fd.0 (Changes e) (Event r) ≡ 0)
 event_root notes (change.Insert era number form ids mode) (event.Inserted given) fd e =
     let a = unless_apart (fd_of form) notes.root fd e in (a.0, is_apart (fd_of form).0 fd.0 a.1)
 event_root notes (change.InsertRoot era form ids mode negotiated) (event.Inserted given) fd e =
@@ -343,7 +345,7 @@ event_rooted notes _ _ = refl
 
 noted_event : (tree : Tree) (job after : Job) (e : Change) (r : EventReply) (noted noted' : Option Fd)
     (was was' : Option ℕ) → Shifts job.holds (Changes e) (Event r) after.holds → was' ≡ was →
-    ((fd : Fd) → noted' ≡ Some fd → (noted ≡ Some fd) × (fd_in fd.0 (Changes e) (Event r) ≡ 0)) →
+    ((fd : Fd) → noted' ≡ Some fd → (noted ≡ Some fd) × (fd_handed fd.0 (Changes e) (Event r) ≡ 0)) →
     NotedRight tree noted was job.holds → NotedRight tree noted' was' after.holds
 noted_event tree job after e r noted noted' was was' m w f h fd q =
     let g = f fd q in
@@ -356,15 +358,18 @@ noted_event tree job after e r noted noted' was was' m w f h fd q =
       judged = w ∙ a.judged;
     }
 
+kept_fd : (form : RowForm) → Some (fd_of form) ≡ row_fd form
+kept_fd (File fd) = refl
+
 resolved_pin : (tree : Tree) (past : Past) (t : Tables) (number row mode : ℕ) (form : RowForm) (ids : ObjIds)
     (t' : Tables) → Agree t → Case t (change.Resolve number) (event.Resolved row form ids mode) t' →
-    Each (RowOpen tree past) t.rows → PinRight t.next_row past.fds (hold.Pin row (fd_of form))
+    Each (RowOpen tree past) t.rows → PinRight t.next_row past.fds (hold.Pin row (row_fd form))
 resolved_pin tree past t number row mode form ids t' a h rows =
     let o = each_replaced (RowOpen tree past) h.7.1 rows in
     let s = each_replaced (IsSoundRow t.next_row) h.7.1 a.sound in (
       let d = s.drawn in let e = h.2 in
           omega (arith, d, e),
-      ap past.fds (sym h.2) ∙ o.kept_by ∙ ap (λ f. Some (fd_of f)) h.3,
+      ap past.fds (sym h.2) ∙ o.kept_by ∙ ap (λ f. Some (fd_of f)) h.3 ∙ kept_fd form,
     )
 
 -- what is noted of the latest resolution stays right
@@ -439,7 +444,7 @@ resolved_event tree past t j notes _ _ t' a h rows g k was e =
 
 event_reopened : (notes : Notes) (e : Change) (r : EventReply) (fd : Fd) →
     (notes_after notes (Changes e) (Event r)).reopened ≡ Some fd →
-    (notes.reopened ≡ Some fd) × (fd_in fd.0 (Changes e) (Event r) ≡ 0)
+    (notes.reopened ≡ Some fd) × (fd_handed fd.0 (Changes e) (Event r) ≡ 0)
 event_reopened notes (change.Insert era number form ids mode) (event.Inserted given) fd e =
     let a = unless_apart (fd_of form) notes.reopened fd e in (a.0, is_apart (fd_of form).0 fd.0 a.1)
 event_reopened notes (change.InsertRoot era form ids mode negotiated) (event.Inserted given) fd e =
@@ -523,9 +528,10 @@ knows_event tree past t j job after e r t' a h m rows handles k =
     record {
       told = holds_event (ToldRight tree) job.holds e r after.holds m.0 tt (λ era n own. tt) (λ fd.
           tt) (λ number row mode form ids x y. tt) (λ handle number row fd x y. tt) k.told;
-      pins = holds_event (PinRight t'.next_row later.fds) job.holds e r after.holds m.0 tt (λ era n own. tt) (λ fd. tt)
+      pins = holds_event (PinRight t'.next_row later.fds) job.holds e r after.holds m.0 tt (λ era n own. tt)
+          (λ fd. tt)
           (λ number row mode form ids x y.
-          pin_grows past later t.next_row t'.next_row (hold.Pin row (fd_of form)) g
+          pin_grows past later t.next_row t'.next_row (hold.Pin row (row_fd form)) g
           (resolved_pin tree past t number row mode form ids t' a (rw (x, y) at h) rows))
           (λ handle number row fd x y.
           pin_grows past later t.next_row t'.next_row (hold.HandlePin row fd) g

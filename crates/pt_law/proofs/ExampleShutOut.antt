@@ -1,4 +1,5 @@
--- A job begins, and then another clears the session. What the first asks for in its era is refused as overtaken, and no
+-- A job begins, and then another clears the session. What the first asks for in its era is refused as overtaken, and
+-- no
 -- number is given to it.
 use Rattle.std.proofs.Common.{inl, inr, ℕ, List, [], ◌∷◌, refl, arith, None, Some}
 use Rattle.pt_host.specs.declared.ids.ObjIds.{ObjIds}
@@ -8,10 +9,10 @@ use Rattle.pt_session.specs.Tables.{Tables, empty_tables, nothing_agreed}
 use Rattle.pt_session.specs.declared.event.KeptEvent.TheVariants as change
 use Rattle.pt_session.specs.declared.reply.EventRefusal.TheVariants.{Overtaken}
 use Rattle.pt_session.specs.declared.reply.EventReply.TheVariants as event
-use Rattle.pt_req.specs.Deed.{Changes}
-use Rattle.pt_req.specs.declared.act.ActReply.TheVariants.{Event}
-use Rattle.pt_law.specs.Opened.{made}
+use Rattle.pt_frame.specs.Deed.{Changes}
+use Rattle.pt_frame.specs.declared.act.ActReply.TheVariants.{Event}
 use Rattle.pt_law.specs.World.{Turn, turn_by, TablesGo, TablesRun}
+use Rattle.pt_law.specs.Naming.{made}
 use Rattle.pt_law.specs.Laws.{IsOvertaken}
 
 abbrev cleared : Tables

@@ -1,17 +1,18 @@
 -- What each deed moves between tables, jobs and host, by its reply.
 use Rattle.std.proofs.Common.{◌≡◌, ℕ, ◌*◌, Some, None}
-use Rattle.pt_host.specs.Words.{is}
+use Rattle.pt_host.specs.Words.{is, total, sum_to}
 use Rattle.pt_host.specs.Call.{Call}
 use Rattle.pt_session.specs.Tables.{Tables}
 use Rattle.pt_session.specs.declared.row.Row.{Row}
 use Rattle.pt_session.specs.declared.row.HandleRow.{HandleRow}
 use Rattle.pt_session.specs.declared.event.KeptEvent.TheVariants as change
 use Rattle.pt_session.specs.declared.reply.EventReply.TheVariants as event
-use Rattle.pt_req.specs.Deed.{Deed, Calls, Changes}
-use Rattle.pt_req.specs.declared.act.ActReply.{ActReply}
-use Rattle.pt_req.specs.declared.act.ActReply.TheVariants.{Event, Host, NoCopy}
-use Rattle.pt_req.specs.declared.hold.Hold.{Hold}
-use Rattle.pt_req.specs.declared.hold.Hold.TheVariants as hold
+use Rattle.pt_frame.specs.Deed.{Deed, Calls, Changes}
+use Rattle.pt_frame.specs.declared.act.ActReply.{ActReply}
+use Rattle.pt_frame.specs.declared.act.ActReply.TheVariants.{Event, Host, NoCopy}
+use Rattle.pt_frame.specs.declared.hold.Hold.{Hold}
+use Rattle.pt_frame.specs.declared.hold.Hold.TheVariants as hold
+use Rattle.pt_law.specs.Discipline.{Job}
 use Rattle.pt_law.specs.World.{TablesGo}
 use Rattle.pt_law.specs.Ledger.{one_if, form_slot}
 
@@ -30,6 +31,10 @@ slot_out (Changes change.TakeClosing) (Event (event.Closing fd slot)) = one_if s
 slot_out deed told = 0
 
 -- what holds weigh
+
+abbrev pub fd_held : ℕ → Hold → ℕ
+fd_held fd (hold.Fd same told) = is same.0 fd
+fd_held fd _ = 0
 
 abbrev pub pin_held : ℕ → Hold → ℕ
 pin_held serial (hold.Pin row fd) = is row serial
@@ -67,3 +72,7 @@ called t a told t' g = absurd g
 pub unmade : (t : Tables) (told : ActReply) (t' : Tables) → TablesGo t None told t' → t' ≡ t
 unmade t NoCopy t' g = g
 unmade t told t' g = absurd g
+
+-- what the jobs below a bound hold together
+abbrev pub all_hold : ℕ → (Hold → ℕ) → (ℕ → Job) → ℕ
+all_hold bound weight jobs = sum_to bound (λ job. total weight (jobs job).holds)

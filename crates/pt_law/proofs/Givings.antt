@@ -13,9 +13,9 @@ use Rattle.pt_session.specs.declared.form.Negotiated.{Negotiated}
 use Rattle.pt_session.specs.declared.event.KeptEvent.TheVariants as change
 use Rattle.pt_session.specs.declared.reply.EventReply.{EventReply}
 use Rattle.pt_session.specs.declared.reply.EventReply.TheVariants as event
-use Rattle.pt_req.specs.Deed.{Deed, Changes as Asks, Calls}
-use Rattle.pt_req.specs.declared.act.ActReply.{ActReply}
-use Rattle.pt_req.specs.declared.act.ActReply.TheVariants.{Event}
+use Rattle.pt_frame.specs.Deed.{Deed, Changes as Asks, Calls}
+use Rattle.pt_frame.specs.declared.act.ActReply.{ActReply}
+use Rattle.pt_frame.specs.declared.act.ActReply.TheVariants.{Event}
 use Rattle.pt_law.specs.World.{Turn, TablesGo, TablesRun}
 use Rattle.pt_law.specs.Ledger.{forgotten, given_by, given_if, given_after}
 use Rattle.pt_law.proofs.Ignoring.{IgnoresHandles, handle_dies, unpins_handle}
@@ -43,7 +43,8 @@ numbered n m r e = ap (λ k. is k n) e
 -- no other row has the number
 pub in_other : (n : ℕ) (z : Row) → (z.live ≡ true → z.number ≢ n) → count_in n z ≡ 0
 in_other n z h = ⊎_elim (λ (e : z.live ≡ true). let a = in_live n z e in
-    let b = ap (λ i. i * z.count) (is_apart z.number n (h e)) in omega (arith, a, b)) (in_dead n z) (cases_Bool z.live)
+    let b = ap (λ i. i * z.count) (is_apart z.number n (h e)) in
+    omega (arith, a, b)) (in_dead n z) (cases_Bool z.live)
 
 pub none_other : (n : ℕ) (rows : List Row) → Each (λ z. HasNumber n z → ⊥) rows → total (count_in n) rows ≡ 0
 none_other n [] h = refl

@@ -4,12 +4,13 @@ use Rattle.pt_session.specs.Tables.{Tables}
 use Rattle.pt_session.specs.declared.row.Row.{Row}
 use Rattle.pt_session.specs.declared.row.HandleRow.{HandleRow}
 use Rattle.pt_session.specs.Effect.{Effect}
-use Rattle.pt_session.specs.Effect.{Effect.{nothing, counted, changed, ended, added, drawn, handle_changed, handle_ended, handle_added, begun, shut}}
+use Rattle.pt_session.specs.Effect.{Effect.{nothing, counted, changed, ended, added, drawn, handle_changed}}
+use Rattle.pt_session.specs.Effect.{Effect.{handle_ended, handle_added, begun, shut}}
 use Rattle.pt_session.specs.Effect.{Effects, Effects.{none, more}}
 use Rattle.pt_session.proofs.Effects.{effects}
-use Rattle.pt_req.specs.Deed.{Deed, Calls, Changes}
-use Rattle.pt_req.specs.declared.act.ActReply.{ActReply}
-use Rattle.pt_req.specs.declared.act.ActReply.TheVariants.{Event}
+use Rattle.pt_frame.specs.Deed.{Deed, Calls, Changes}
+use Rattle.pt_frame.specs.declared.act.ActReply.{ActReply}
+use Rattle.pt_frame.specs.declared.act.ActReply.TheVariants.{Event}
 use Rattle.pt_law.specs.World.{Turn, TablesGo, TablesRun}
 use Rattle.pt_law.specs.Laws.{HasEnded}
 use Rattle.pt_law.proofs.Flows.{called, unmade}

@@ -1,19 +1,29 @@
--- What an edit leaves as it is: open descriptors, and all objects that there were.
-use Rattle.std.proofs.Common.{◌≡◌, inl, inr, ℕ, zero, suc, List, [], ◌∷◌, ◌++◌, refl, sym, ap, subst, ◌∙◌, Option}
-use Rattle.std.proofs.Common.{Some, slice_get}
+-- What a call does to a tree by its sort: one that opens and closes nothing leaves open descriptors and all objects
+-- that there were.
+use Rattle.std.proofs.Common.{◌≡◌, ◌⊎◌, inl, inr, ℕ, zero, suc, List, [], ◌∷◌, ◌++◌, refl, sym, ap, subst, ◌∙◌}
+use Rattle.std.proofs.Common.{Option}
+use Rattle.std.proofs.Common.{Some, slice_get, length}
 use Rattle.pt_host.specs.Words.{Each}
 use Rattle.pt_host.specs.Tree.{Tree, Object, IsObject, IsOpenOn}
-use Rattle.pt_host.specs.Names.{TakesName, MakesObject, NameMoves}
+use Rattle.pt_host.specs.Call.{Call}
+use Rattle.pt_host.specs.LawfulTree.{TreeChanges, Opens, OpensFound, OpensMade, closed_at}
+use Rattle.pt_host.specs.Names.{TakesName, MakesObject, NameMoves, LinksName, ExchangesNames, Renames}
 use Rattle.pt_host.specs.Edits.{Edits}
+use Rattle.pt_host.specs.Sorts.{Sort, OpensWith, EndsFd, OfSeat, Plain, sort_of}
+use Rattle.pt_host.specs.declared.flags.OpenFlags.{OpenFlags}
+use Rattle.pt_host.specs.declared.op.KeptHostOp.TheVariants as call
+use Rattle.pt_host.specs.declared.reply.HostReply.{HostReply}
+use Rattle.pt_host.specs.declared.reply.HostReply.TheVariants as host
+use Rattle.pt_host.specs.declared.reply.HostValue.TheVariants as value
 use Rattle.pt_host.specs.declared.edit.Edit.{Edit}
 use Rattle.pt_host.specs.declared.edit.Edit.TheVariants as edit
 use Rattle.pt_host.specs.declared.ids.Fd.{Fd}
 use Rattle.pt_host.specs.declared.ids.ObjIds.{ObjIds}
 use Rattle.pt_session.specs.declared.row.Row.{Row}
 use Rattle.pt_session.specs.declared.row.HandleRow.{HandleRow}
-use Rattle.pt_req.specs.Held.{fd_of}
-use Rattle.pt_req.specs.declared.hold.Hold.{Hold}
-use Rattle.pt_req.specs.declared.hold.Hold.TheVariants as hold
+use Rattle.pt_law.specs.World.{fd_of}
+use Rattle.pt_frame.specs.declared.hold.Hold.{Hold}
+use Rattle.pt_frame.specs.declared.hold.Hold.TheVariants as hold
 use Rattle.pt_law.specs.Discipline.{Job}
 use Rattle.pt_law.specs.World.{Past}
 use Rattle.pt_law.proofs.Lists.{each_map}
@@ -61,6 +71,93 @@ edit_grows tree (edit.Rename old new) after h =
 edit_grows tree (edit.File path mode uid gid bytes) after h = makes_object tree h.0 h.1 after h.2
 edit_grows tree (edit.Dir path mode uid gid) after h = makes_object tree h.0 h.1 after h.2
 edit_grows tree (edit.Write path bytes) after h = grows_same tree after h
+
+-- what a call does by its sort
+
+links_name : (tree : Tree) (object dir : ℕ) (name : List ℕ) (after : Tree) → LinksName tree object dir name after →
+    Grows tree after
+links_name tree object dir name after h =
+    subst (λ (t : Tree). Grows tree t) (sym h.links) (record { same_open = refl; stays = λ object what is. is })
+
+exchanges : (tree : Tree) (dir : ℕ) (name : List ℕ) (to : ℕ) (new : List ℕ) (after : Tree) →
+    ExchangesNames tree dir name to new after → Grows tree after
+exchanges tree dir name to new after h =
+    subst (λ (t : Tree). Grows tree t) (sym h.exchanges) (record { same_open = refl; stays = λ object what is. is })
+
+renames : (tree : Tree) (dir : ℕ) (name : List ℕ) (to : ℕ) (new : List ℕ) (flags : ℕ) (after : Tree) →
+    Renames tree dir name to new flags after → Grows tree after
+renames tree dir name to new flags after (inl h) = moves_name tree dir name to new h.1.object after h.1.moves
+renames tree dir name to new flags after (inr (inl h)) = moves_name tree dir name to new h.2.object after h.2.moves
+renames tree dir name to new flags after (inr (inr h)) = exchanges tree dir name to new after h.1
+
+-- it opens and closes nothing
+abbrev pub IsQuiet : Sort → HostReply → Type 0
+IsQuiet (OpensWith flags) (host.Ok (value.Fd fd)) = ⊥
+IsQuiet (OpensWith flags) told = Unit {0}
+IsQuiet (EndsFd fd) told = ⊥
+IsQuiet OfSeat told = Unit {0}
+IsQuiet Plain told = Unit {0}
+
+pub call_grows : (tree : Tree) (a : Call) (r : HostReply) (after : Tree) → TreeChanges tree a r after →
+    IsQuiet (sort_of a) r → Grows tree after
+call_grows tree (call.Close fd) r after l q = absurd q
+call_grows tree (call.OpenRoot path flags) (host.Ok (value.Fd new)) after l q = absurd q
+call_grows tree (call.OpenPath fd path flags) (host.Ok (value.Fd new)) after l q = absurd q
+call_grows tree (call.OpenAt fd name flags mode) (host.Ok (value.Fd new)) after l q = absurd q
+call_grows tree (call.Reopen fd flags) (host.Ok (value.Fd new)) after l q = absurd q
+call_grows tree (call.OpenByHandle fd handle flags) (host.Ok (value.Fd new)) after l q = absurd q
+call_grows tree (call.Stat fd) (host.Ok (value.Stat stat)) after l q = grows_same tree after l.5
+call_grows tree (call.HandleOf fd) (host.Ok (value.Handle handle)) after l q = grows_same tree after l.6
+call_grows tree (call.MakeDir fd name mode) (host.Ok value.Unit) after l q = makes_object tree l.0 name after l.2
+call_grows tree (call.MakeNode fd name mode rdev) (host.Ok value.Unit) after l q =
+    makes_object tree l.0 name after l.2
+call_grows tree (call.SymLink fd name target) (host.Ok value.Unit) after l q = makes_object tree l.0 name after l.2
+call_grows tree (call.MakeLink from fd name) (host.Ok value.Unit) after l q =
+    links_name tree l.0 l.2.0 name after l.2.2
+call_grows tree (call.Unlink fd name) (host.Ok value.Unit) after l q = takes_name tree l.0 name after l.2
+call_grows tree (call.RemoveDir fd name) (host.Ok value.Unit) after l q = takes_name tree l.0 name after l.2
+call_grows tree (call.Rename fd name fd2 name2 flags) (host.Ok value.Unit) after l q =
+    renames tree l.0 name l.2.0 name2 flags after l.2.2
+call_grows tree (call.Edit edit) (host.Ok value.Unit) after l q = edit_grows tree edit after l
+call_grows tree a (host.Ok told) after l q = grows_same tree after l.1
+call_grows tree a (host.Refused e) after l q = grows_same tree after l.1
+call_grows tree a told after l q = grows_same tree after l
+
+-- an opening opens an object that is there, or that it made
+abbrev pub OpensSome : Tree → OpenFlags → Fd → Tree → Type 0
+OpensSome tree flags fd after =
+    (made : Tree) × (object : ℕ) × (made.opened ≡ tree.opened) × Opens made object flags fd after
+
+there : (tree : Tree) (object : ℕ) (same flags : OpenFlags) (fd : Fd) (after : Tree) →
+    OpensWith same ≡ OpensWith flags → Opens tree object same fd after → OpensSome tree flags fd after
+there tree object same flags fd after e o =
+    let k : same ≡ flags = cc in
+    subst (λ f. OpensSome tree f fd after) k (tree, object, refl, o)
+
+found_or_made : (tree : Tree) (dir : Fd) (name : List ℕ) (same flags : OpenFlags) (fd : Fd) (after : Tree) →
+    OpensWith same ≡ OpensWith flags →
+    OpensFound tree dir name same fd after ⊎ OpensMade tree dir name same fd after → OpensSome tree flags fd after
+found_or_made tree dir name same flags fd after e (inl f) = there tree f.0 same flags fd after e f.3
+found_or_made tree dir name same flags fd after e (inr m) =
+    let k : same ≡ flags = cc in
+    let g = makes_object tree m.2.0 name m.0 m.2.2 in
+    subst (λ f. OpensSome tree f fd after) k (m.0, length tree.objects, g.same_open, m.3)
+
+pub opening_does : (tree : Tree) (a : Call) (flags : OpenFlags) (fd : Fd) (after : Tree) →
+    sort_of a ≡ OpensWith flags → TreeChanges tree a (host.Ok (value.Fd fd)) after → OpensSome tree flags fd after
+opening_does tree (call.OpenRoot path same) flags fd after e l = there tree l.0 same flags fd after e l.1
+opening_does tree (call.OpenPath dir path same) flags fd after e l = there tree l.0 same flags fd after e l.1
+opening_does tree (call.OpenAt dir name same mode) flags fd after e l =
+    found_or_made tree dir name same flags fd after e l
+opening_does tree (call.Reopen dir same) flags fd after e l = there tree l.0 same flags fd after e l.2
+opening_does tree (call.OpenByHandle dir handle same) flags fd after e l = there tree l.0 same flags fd after e l.2
+opening_does tree a flags fd after e l = absurd (cc)
+
+pub closing_does : (tree : Tree) (a : Call) (fd : Fd) (r : HostReply) (after : Tree) → sort_of a ≡ EndsFd fd →
+    TreeChanges tree a r after → after ≡ closed_at tree fd
+closing_does tree (call.Close same) fd r after e l =
+    let k : same ≡ fd = cc in subst (λ f. after ≡ closed_at tree f) k l
+closing_does tree a fd r after e l = absurd (cc)
 
 open_on : {tree after : Tree} → Grows tree after → (fd : Fd) (object : ℕ) → IsOpenOn tree fd object →
     IsOpenOn after fd object

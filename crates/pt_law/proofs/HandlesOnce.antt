@@ -11,13 +11,13 @@ use Rattle.pt_session.specs.Tables.{Tables, empty_tables}
 use Rattle.pt_session.specs.declared.event.KeptEvent.TheVariants as change
 use Rattle.pt_session.specs.declared.reply.EventReply.TheVariants as event
 use Rattle.pt_session.proofs.Cases.{cases}
-use Rattle.pt_req.specs.Deed.{Deed, Calls, Changes}
-use Rattle.pt_req.specs.declared.act.ActReply.{ActReply}
-use Rattle.pt_req.specs.declared.act.ActReply.TheVariants.{Event, Host}
+use Rattle.pt_frame.specs.Deed.{Deed, Calls, Changes}
+use Rattle.pt_frame.specs.declared.act.ActReply.{ActReply}
+use Rattle.pt_frame.specs.declared.act.ActReply.TheVariants.{Event, Host}
 use Rattle.pt_law.specs.Discipline.{Job, Notes, idle, with_root, MovesBy, MovesIf}
 use Rattle.pt_law.specs.World.{Turn, TablesGo, TablesRun, steps_of}
 use Rattle.pt_law.specs.Ledger.{handle_inserted, handle_inserted_as, handle_inserted_if}
-use Rattle.pt_law.specs.Laws.{AreDisciplined}
+use Rattle.pt_law.specs.Discipline.{AreDisciplined}
 use Rattle.pt_law.proofs.Lists.{is_apart, is_within, sum_to_set, sum_to_zero, each_front}
 use Rattle.pt_law.proofs.Interleaving.{Sorted, after_step, choose, steps_same}
 use Rattle.pt_law.proofs.Laws.{Between, between, step_stays}
@@ -106,7 +106,8 @@ handle_flow job t deed told t' after g m n = let a = ap (λ (z : Notes). is_draw
 keeps_handles : (bound : ℕ) (had : ℕ → ℕ) (t : Tables) (js : ℕ →
     Job) (j : ℕ) (deed : Option Deed) (told : ActReply) (t' : Tables) (after : Job) → j < bound →
     Handles bound had t js → TablesGo t deed told t' →
-    MovesIf (js j) deed told after → Handles bound (λ n. had n + handle_inserted_if n deed told) t' (set_at j after js)
+    MovesIf (js j) deed told after →
+    Handles bound (λ n. had n + handle_inserted_if n deed told) t' (set_at j after js)
 keeps_handles bound had t js j None told t' after lt v g m =
     let s = step_stays t None told t' g in
     singly_kept t.next_handle t'.next_handle _ _ s.handles (λ n.

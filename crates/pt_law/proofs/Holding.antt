@@ -1,15 +1,17 @@
 -- What each deed moves in a job's holds and in the host.
-use Rattle.std.proofs.Common.{◌≡◌, ◌≢◌, ⊎_elim, ℕ, ◌+◌, ◌*◌, ◌<◌, List, ◌++◌, Bool, true, false, refl, sym, ap, subst}
-use Rattle.std.proofs.Common.{arith, Option, Some, None}
+use Rattle.std.proofs.Common.{◌≡◌, ◌≢◌, ⊎_elim, inl, inr, ℕ, ◌+◌, ◌*◌, ◌<◌, List, ◌++◌, Bool, true, false, refl, sym}
+use Rattle.std.proofs.Common.{ap, subst}
+use Rattle.std.proofs.Common.{arith, ◌∙◌, Option, Some, None}
 use Rattle.std.proofs.lemmas.Bool.{cases_eq}
 use Rattle.pt_host.specs.Words.{is, total, Takes, set_at}
 use Rattle.pt_host.specs.Call.{Call}
+use Rattle.pt_host.specs.Sorts.{Sort, OpensWith, EndsFd, OfSeat, Plain, sort_of, fds_of}
 use Rattle.pt_host.specs.Flags.{includes, o_path}
 use Rattle.pt_host.specs.Tree.{Tree, Opened}
 use Rattle.pt_host.specs.LawfulTree.{TreeChanges, Opens, closed_at}
 use Rattle.pt_host.specs.declared.ids.Fd.{Fd}
+use Rattle.pt_host.specs.declared.ids.ObjIds.{ObjIds}
 use Rattle.pt_host.specs.declared.flags.OpenFlags.{OpenFlags}
-use Rattle.pt_host.specs.declared.op.KeptHostOp.TheVariants as call
 use Rattle.pt_host.specs.declared.reply.HostReply.{HostReply}
 use Rattle.pt_host.specs.declared.reply.HostReply.TheVariants as host
 use Rattle.pt_host.specs.declared.reply.HostValue.TheVariants as value
@@ -17,17 +19,19 @@ use Rattle.pt_session.specs.declared.form.RowForm.{RowForm}
 use Rattle.pt_session.specs.declared.form.RowForm.TheVariants.{File}
 use Rattle.pt_session.specs.declared.event.KeptEvent.TheVariants as change
 use Rattle.pt_session.specs.declared.reply.EventReply.TheVariants as event
-use Rattle.pt_req.specs.Deed.{Deed, Calls, Changes}
-use Rattle.pt_req.specs.Held.{taken_in, brought}
-use Rattle.pt_req.specs.declared.act.ActReply.{ActReply}
-use Rattle.pt_req.specs.declared.act.ActReply.TheVariants.{Event, Host}
-use Rattle.pt_req.specs.declared.hold.Hold.{Hold}
-use Rattle.pt_law.specs.Discipline.{Job, Shifts, MovesBy}
-use Rattle.pt_law.specs.Ledger.{form_slot, fd_held, open_count, some_count}
-use Rattle.pt_law.specs.Ledger.{fd_in, fd_out, fd_made, fd_ended, pin_made}
+use Rattle.pt_frame.specs.Deed.{Deed, Calls, Changes}
+use Rattle.pt_frame.specs.Replies.{taken_in, brought}
+use Rattle.pt_frame.specs.declared.act.ActReply.{ActReply}
+use Rattle.pt_frame.specs.declared.act.ActReply.TheVariants.{Event, Host}
+use Rattle.pt_frame.specs.Held.{statted}
+use Rattle.pt_frame.specs.declared.hold.Hold.{Hold}
+use Rattle.pt_frame.specs.declared.hold.Hold.TheVariants as hold
+use Rattle.pt_law.specs.Discipline.{IsNoted, ShiftsCalled, Shifts}
+use Rattle.pt_law.specs.Ledger.{form_slot, open_count, some_count}
+use Rattle.pt_law.proofs.Flows.{fd_held}
+use Rattle.pt_law.specs.Ledger.{fd_handed, fd_received, fd_opened, fd_made, fd_closed, fd_ended, pin_made}
 use Rattle.pt_law.specs.Ledger.{pin_ended, handle_pin_made, handle_pin_ended}
-use Rattle.pt_law.proofs.Growing.{edit_grows}
-use Rattle.pt_law.proofs.Found.{found_only}
+use Rattle.pt_law.proofs.Growing.{IsQuiet, call_grows, opening_does, closing_does}
 use Rattle.pt_law.proofs.Flows.{slot_in, slot_out}
 use Rattle.pt_law.proofs.Flows.{pin_held, handle_pin_held, slot_held}
 use Rattle.pt_law.proofs.Lists.{total_takes, total_replaces, is_same, is_apart, set_at_same, set_at_other}
@@ -35,8 +39,8 @@ use Rattle.pt_law.proofs.Lists.{total_takes, total_replaces, is_same, is_apart, 
 -- what a job holds more after, and less
 pub record Handed (holds : List Hold) (deed : Deed) (told : ActReply) (after : List Hold) : Type 0 where
   pub fds : (fd : ℕ) →
-      total (fd_held fd) after + fd_in fd deed told + fd_ended fd deed told
-      ≡ total (fd_held fd) holds + fd_out fd deed told + fd_made fd deed told
+      total (fd_held fd) after + fd_handed fd deed told + fd_ended fd deed told
+      ≡ total (fd_held fd) holds + fd_received fd deed told + fd_made fd deed told
   pub slots : total slot_held after + slot_in deed told ≡ total slot_held holds + slot_out deed told
   pub pins : (serial : ℕ) →
       total (pin_held serial) after + pin_ended serial deed told
@@ -46,9 +50,10 @@ pub record Handed (holds : List Hold) (deed : Deed) (told : ActReply) (after : L
       ≡ total (handle_pin_held serial) holds + handle_pin_made serial deed told
 
 keeps : (deed : Deed) (told : ActReply) (holds after : List Hold) → after ≡ holds →
-    ((fd : ℕ) → fd_in fd deed told + fd_ended fd deed told ≡ fd_out fd deed told + fd_made fd deed told) →
+    ((fd : ℕ) → fd_handed fd deed told + fd_ended fd deed told ≡ fd_received fd deed told + fd_made fd deed told) →
     slot_in deed told ≡ slot_out deed told → ((serial : ℕ) → pin_ended serial deed told ≡ pin_made serial deed told) →
-    ((serial : ℕ) → handle_pin_ended serial deed told ≡ handle_pin_made serial deed told) → Handed holds deed told after
+    ((serial : ℕ) → handle_pin_ended serial deed told ≡ handle_pin_made serial deed told) →
+    Handed holds deed told after
 keeps deed told holds after e f s p q = rw e (record {
   fds = λ fd. let a = f fd in omega (arith, a);
   slots = omega (arith, s);
@@ -57,8 +62,8 @@ keeps deed told holds after e f s p q = rw e (record {
 })
 
 gains : (deed : Deed) (told : ActReply) {one : Hold} {holds after : List Hold} → Takes one after holds →
-    ((fd : ℕ) → fd_held fd one + fd_in fd deed told + fd_ended fd deed told
-    ≡ fd_out fd deed told + fd_made fd deed told) → slot_held one + slot_in deed told ≡ slot_out deed told →
+    ((fd : ℕ) → fd_held fd one + fd_handed fd deed told + fd_ended fd deed told
+    ≡ fd_received fd deed told + fd_made fd deed told) → slot_held one + slot_in deed told ≡ slot_out deed told →
     ((serial : ℕ) → pin_held serial one + pin_ended serial deed told ≡ pin_made serial deed told) →
     ((serial : ℕ) → handle_pin_held serial one + handle_pin_ended serial deed told
     ≡ handle_pin_made serial deed told) → Handed holds deed told after
@@ -70,8 +75,8 @@ gains deed told t f s p q = record {
 }
 
 loses : (deed : Deed) (told : ActReply) {one : Hold} {holds after : List Hold} → Takes one holds after →
-    ((fd : ℕ) → fd_in fd deed told + fd_ended fd deed told
-    ≡ fd_held fd one + fd_out fd deed told + fd_made fd deed told) →
+    ((fd : ℕ) → fd_handed fd deed told + fd_ended fd deed told
+    ≡ fd_held fd one + fd_received fd deed told + fd_made fd deed told) →
     slot_in deed told ≡ slot_held one + slot_out deed told →
     ((serial : ℕ) → pin_ended serial deed told ≡ pin_held serial one + pin_made serial deed told) →
     ((serial : ℕ) → handle_pin_ended serial deed told
@@ -101,40 +106,68 @@ brings fd false holds after e =
       handle_pins = λ k. omega arith;
     })
 
+-- a hold that is noted weighs what it did
+noted_weighs : (w : Hold → ℕ) (fd : Fd) (ids : ObjIds) →
+    ((was : Option ObjIds) → w (hold.Fd fd was) ≡ w (hold.Fd fd (Some ids))) → (holds after : List Hold) →
+    IsNoted fd ids holds after → total w after ≡ total w holds
+noted_weighs w fd ids f holds after (inl r) =
+    let a = total_replaces w r.1 in let b = f r.0 in omega (arith, a, b)
+noted_weighs w fd ids f holds after (inr e) = ap (total w) e
+
+fds_called : (f : ℕ) (sort : Sort) (names : List Fd) (stat_of : Option Fd) (told : ActReply)
+    (holds after : List Hold) →
+    ShiftsCalled sort names stat_of holds told after →
+    total (fd_held f) after + fd_closed f sort ≡ total (fd_held f) holds + fd_opened f sort told
+fds_called f (OpensWith flags) names stat_of (Host (host.Ok (value.Fd fd))) holds after m =
+    let a = total_takes (fd_held f) m.1 in omega (arith, a)
+fds_called f (OpensWith flags) names stat_of told holds after m = let a = ap (total (fd_held f)) m.1 in
+    omega (arith, a)
+fds_called f (EndsFd fd) names stat_of told holds after m = let a = total_takes (fd_held f) m.1 in omega (arith, a)
+fds_called f OfSeat names stat_of told holds after m = let a = ap (total (fd_held f)) m.1 in omega (arith, a)
+fds_called f Plain names (Some fd) (Host (host.Ok (value.Stat stat))) holds after m =
+    let a = noted_weighs (fd_held f) fd stat.ids (λ was. refl) holds after m.1 in omega (arith, a)
+fds_called f Plain names (Some fd) told holds after m = let a = ap (total (fd_held f)) m.1 in omega (arith, a)
+fds_called f Plain names None told holds after m = let a = ap (total (fd_held f)) m.1 in omega (arith, a)
+
+-- a call moves nothing else
+pub others_called : (w : Hold → ℕ) → ((fd : Fd) (was : Option ObjIds) → w (hold.Fd fd was) ≡ 0) → (sort : Sort)
+    (names : List Fd) (stat_of : Option Fd) (told : ActReply) (holds after : List Hold) →
+    ShiftsCalled sort names stat_of holds told after → total w after ≡ total w holds
+others_called w z (OpensWith flags) names stat_of (Host (host.Ok (value.Fd fd))) holds after m =
+    let a = total_takes w m.1 in let b = z fd None in omega (arith, a, b)
+others_called w z (OpensWith flags) names stat_of told holds after m = ap (total w) m.1
+others_called w z (EndsFd fd) names stat_of told holds after m =
+    let a = total_takes w m.1 in let b = z fd m.0 in omega (arith, a, b)
+others_called w z OfSeat names stat_of told holds after m = ap (total w) m.1
+others_called w z Plain names (Some fd) (Host (host.Ok (value.Stat stat))) holds after m =
+    noted_weighs w fd stat.ids (λ was. z fd was ∙ sym (z fd (Some stat.ids))) holds after m.1
+others_called w z Plain names (Some fd) told holds after m = ap (total w) m.1
+others_called w z Plain names None told holds after m = ap (total w) m.1
+
 -- the row takes the slot that was held
 form_held : (form : RowForm) → form_slot form ≡ 1
 form_held (File fd) = refl
 
+-- a call, by its sort
+handed_called : (asked : Call) (sort : Sort) → sort_of asked ≡ sort → (names : List Fd) (stat_of : Option Fd)
+    (told : ActReply) (holds after : List Hold) → ShiftsCalled sort names stat_of holds told after →
+    Handed holds (Calls asked) told after
+handed_called asked sort e names stat_of told holds after m = record {
+  fds = λ fd. let a = fds_called fd sort names stat_of told holds after m in
+      let b = ap (λ (s : Sort). fd_opened fd s told) e in let c = ap (λ (s : Sort). fd_closed fd s) e in
+      omega (arith, a, b, c);
+  slots = let a = others_called slot_held (λ fd was. refl) sort names stat_of told holds after m in omega (arith, a);
+  pins = λ k. let a = others_called (pin_held k) (λ fd was. refl) sort names stat_of told holds after m in
+      omega (arith, a);
+  handle_pins = λ k. let a = others_called (handle_pin_held k) (λ fd was. refl) sort names stat_of told holds after m
+      in
+      omega (arith, a);
+}
+
 pub handed : (holds : List Hold) (deed : Deed) (told : ActReply) (after : List Hold) → Shifts holds deed told after →
     Handed holds deed told after
-handed holds (Calls (call.OpenRoot path flags)) (Host (host.Ok (value.Fd fd))) after m =
-    gains (Calls (call.OpenRoot path flags)) (Host (host.Ok (value.Fd fd))) m (λ _. omega arith) (omega arith) (λ _.
-    omega arith) (λ _. omega arith)
-handed holds (Calls (call.OpenRoot path flags)) told after m =
-    keeps _ _ holds after m (λ _. refl) refl (λ _. refl) (λ _. refl)
-handed holds (Calls (call.OpenAt dir name flags mode)) (Host (host.Ok (value.Fd fd))) after m =
-    gains (Calls (call.OpenAt dir name flags mode)) (Host (host.Ok (value.Fd fd))) m.1 (λ _.
-    omega arith) (omega arith) (λ _. omega arith) (λ _. omega arith)
-handed holds (Calls (call.OpenAt dir name flags mode)) told after m =
-    keeps _ _ holds after m.1 (λ _. refl) refl (λ _. refl) (λ _. refl)
-handed holds (Calls (call.Reopen fd flags)) (Host (host.Ok (value.Fd new))) after m =
-    gains (Calls (call.Reopen fd flags)) (Host (host.Ok (value.Fd new))) m.1 (λ _. omega arith) (omega arith) (λ _.
-    omega arith) (λ _. omega arith)
-handed holds (Calls (call.Reopen fd flags)) told after m =
-    keeps _ _ holds after m.1 (λ _. refl) refl (λ _. refl) (λ _. refl)
-handed holds (Calls (call.ReadAt fd offset size)) told after m =
-    keeps _ _ holds after m.1 (λ _. refl) refl (λ _. refl) (λ _. refl)
-handed holds (Calls (call.Stat fd)) (Host (host.Ok (value.Stat stat))) after m = record {
-  fds = λ f. let a = total_replaces (fd_held f) m.1 in omega (arith, a);
-  slots = let a = total_replaces slot_held m.1 in omega (arith, a);
-  pins = λ k. let a = total_replaces (pin_held k) m.1 in omega (arith, a);
-  handle_pins = λ k. let a = total_replaces (handle_pin_held k) m.1 in omega (arith, a);
-}
-handed holds (Calls (call.Stat fd)) told after m = keeps _ _ holds after m.1 (λ _. refl) refl (λ _. refl) (λ _. refl)
-handed holds (Calls (call.Close fd)) told after m =
-    loses (Calls (call.Close fd)) told m.1 (λ _. omega arith) (omega arith) (λ _. omega arith) (λ _. omega arith)
-handed holds (Calls (call.Edit edit)) told after m = keeps _ _ holds after m (λ _. refl) refl (λ _. refl) (λ _. refl)
-handed holds (Calls asked) told after m = absurd m
+handed holds (Calls asked) told after m =
+    handed_called asked (sort_of asked) refl (fds_of asked) (statted asked) told holds after m
 handed holds (Changes change.Begin) told after m = keeps _ _ holds after m (λ _. refl) refl (λ _. refl) (λ _. refl)
 handed holds (Changes (change.Resolve number)) (Event (event.Resolved row form ids mode)) after m =
     gains (Changes (change.Resolve number)) (Event (event.Resolved row form ids mode)) m (λ _.
@@ -185,7 +218,8 @@ handed holds (Changes (change.Forget list)) told after m =
 handed holds (Changes (change.GiveBack era number)) told after m =
     loses (Changes (change.GiveBack era number)) told m (λ _. omega arith) (omega arith) (λ _. omega arith) (λ _.
     omega arith)
-handed holds (Changes change.DrawHandle) told after m = keeps _ _ holds after m (λ _. refl) refl (λ _. refl) (λ _. refl)
+handed holds (Changes change.DrawHandle) told after m =
+    keeps _ _ holds after m (λ _. refl) refl (λ _. refl) (λ _. refl)
 handed holds (Changes (change.InsertHandle era handle number fd)) (Event (event.Inserted given)) after m = record {
   fds = λ f. let a = total_takes (fd_held f) m.2 in let b = total_takes (fd_held f) m.3 in omega (arith, a, b);
   slots = let a = total_takes slot_held m.2 in let b = total_takes slot_held m.3 in omega (arith, a, b);
@@ -250,43 +284,29 @@ closes tree f after e one fd = rw e (
     let b = ap (λ n. is f.0 fd * n) one in
     omega (arith, a, b))
 
--- what a job's call opens and closes; what is closed was open
-pub in_tree : (job next : Job) (tree : Tree) (a : Call) (r : HostReply) (after : Tree) →
-    MovesBy job (Calls a) (Host r) next → TreeChanges tree a r after →
+-- what a call opens and closes; what is closed was open
+pub in_tree : (tree : Tree) (a : Call) (r : HostReply) (after : Tree) → TreeChanges tree a r after →
     ((f : ℕ) → 0 < fd_ended f (Calls a) (Host r) → open_count f tree ≡ 1) →
-    (fd : ℕ) → open_count fd after + fd_ended fd (Calls a) (Host r) ≡ open_count fd tree + fd_made fd (Calls a) (Host r)
-in_tree job next tree (call.OpenRoot path flags) (host.Ok (value.Fd new)) after m l c fd =
-    let a = opens tree l.0 flags new after l.1 fd in omega (arith, a)
-in_tree job next tree (call.OpenAt dir name flags mode) (host.Ok (value.Fd new)) after m l c fd =
-    let f = found_only tree dir name flags new after m.1.1 l in
-    let a = opens tree f.0 flags new after f.3 fd in
-    omega (arith, a)
-in_tree job next tree (call.Reopen f flags) (host.Ok (value.Fd new)) after m l c fd =
-    let a = opens tree l.0 flags new after l.2 fd in omega (arith, a)
-in_tree job next tree (call.ReadAt f offset size) (host.Ok (value.Bytes bytes)) after m l c fd =
-    ap (λ t. open_count fd t + 0) l.1
-in_tree job next tree (call.Stat f) (host.Ok (value.Stat stat)) after m l c fd = ap (λ t. open_count fd t + 0) l.5
-in_tree job next tree (call.Close f) told after m l c fd =
-    let a = closes tree f after l (c f.0 (let k = is_same f.0 in omega (arith, k))) fd in omega (arith, a)
-in_tree job next tree (call.Edit edit) (host.Ok value.Unit) after m l c fd = let g = edit_grows tree edit after l in
-    ap (λ (o : ℕ → Option Opened). some_count (o fd) + 0) g.same_open
-in_tree job next tree (call.OpenRoot path flags) (host.Ok told) after m l c fd = absurd l.0
-in_tree job next tree (call.OpenAt dir name flags mode) (host.Ok told) after m l c fd = absurd l.0
-in_tree job next tree (call.Reopen f flags) (host.Ok told) after m l c fd = absurd l.0
-in_tree job next tree (call.ReadAt f offset size) (host.Ok told) after m l c fd = absurd l.0
-in_tree job next tree (call.Stat f) (host.Ok told) after m l c fd = absurd l.0
-in_tree job next tree (call.Edit edit) (host.Ok told) after m l c fd = absurd l.0
-in_tree job next tree (call.OpenRoot path flags) (host.Refused e) after m l c fd = ap (λ t. open_count fd t + 0) l.1
-in_tree job next tree (call.OpenAt dir name flags mode) (host.Refused e) after m l c fd =
-    ap (λ t. open_count fd t + 0) l.1
-in_tree job next tree (call.Reopen f flags) (host.Refused e) after m l c fd = ap (λ t. open_count fd t + 0) l.1
-in_tree job next tree (call.ReadAt f offset size) (host.Refused e) after m l c fd = ap (λ t. open_count fd t + 0) l.1
-in_tree job next tree (call.Stat f) (host.Refused e) after m l c fd = ap (λ t. open_count fd t + 0) l.1
-in_tree job next tree (call.Edit edit) (host.Refused e) after m l c fd = ap (λ t. open_count fd t + 0) l.1
-in_tree job next tree (call.OpenRoot path flags) told after m l c fd = ap (λ t. open_count fd t + 0) l
-in_tree job next tree (call.OpenAt dir name flags mode) told after m l c fd = ap (λ t. open_count fd t + 0) l
-in_tree job next tree (call.Reopen f flags) told after m l c fd = ap (λ t. open_count fd t + 0) l
-in_tree job next tree (call.ReadAt f offset size) told after m l c fd = ap (λ t. open_count fd t + 0) l
-in_tree job next tree (call.Stat f) told after m l c fd = ap (λ t. open_count fd t + 0) l
-in_tree job next tree (call.Edit edit) told after m l c fd = ap (λ t. open_count fd t + 0) l
-in_tree job next tree asked told after m l c fd = absurd m.0
+    (fd : ℕ) → open_count fd after + fd_ended fd (Calls a) (Host r) ≡ open_count fd tree
+    + fd_made fd (Calls a) (Host r)
+in_tree tree a r after l c fd = go (sort_of a) r refl l c
+  where
+    quiet : (r : HostReply) → TreeChanges tree a r after → IsQuiet (sort_of a) r →
+        open_count fd after ≡ open_count fd tree
+    quiet r l q = ap (λ (o : ℕ → Option Opened). some_count (o fd)) (call_grows tree a r after l q).same_open
+
+    go : (s : Sort) (r : HostReply) → sort_of a ≡ s → TreeChanges tree a r after →
+        ((f : ℕ) → 0 < fd_closed f s → open_count f tree ≡ 1) →
+        open_count fd after + fd_closed fd s ≡ open_count fd tree + fd_opened fd s (Host r)
+    go (OpensWith flags) (host.Ok (value.Fd new)) e l c =
+        let o = opening_does tree a flags new after e l in
+        let x = opens o.0 o.1 flags new after o.3 fd in
+        let y = ap (λ (z : ℕ → Option Opened). some_count (z fd)) o.2 in
+        omega (arith, x, y)
+    go (OpensWith flags) r e l c =
+        let x = quiet r l (subst (λ s. IsQuiet s r) (sym e) tt) in omega (arith, x)
+    go (EndsFd f) r e l c =
+        let x = closes tree f after (closing_does tree a f r after e l)
+        (c f.0 (let k = is_same f.0 in omega (arith, k))) fd in omega (arith, x)
+    go OfSeat r e l c = let x = quiet r l (subst (λ s. IsQuiet s r) (sym e) tt) in omega (arith, x)
+    go Plain r e l c = let x = quiet r l (subst (λ s. IsQuiet s r) (sym e) tt) in omega (arith, x)

@@ -7,18 +7,13 @@ use Rattle.pt_host.specs.LawfulStep.{LawfulStep}
 use Rattle.pt_host.specs.declared.reply.HostReply.{HostReply}
 use Rattle.pt_host.specs.declared.seat.HostSeat.{HostSeat}
 use Rattle.pt_session.specs.Tables.{Tables}
-use Rattle.pt_req.specs.Deed.{Deed, Calls, Changes, Step}
-use Rattle.pt_req.specs.Made.{Does, Made}
-use Rattle.pt_req.specs.declared.act.ActReply.{ActReply}
-use Rattle.pt_req.specs.declared.act.ActReply.TheVariants.{Event, Host, NoCopy}
-use Rattle.pt_req.specs.Pattern.{Asked}
-use Rattle.pt_req.specs.declared.finish.Finish.{Finish}
-use Rattle.pt_req.specs.declared.plan.Plan.{Plan}
+use Rattle.pt_frame.specs.Deed.{Deed, Calls, Changes, Step}
+use Rattle.pt_frame.specs.Made.{Does, Made}
+use Rattle.pt_frame.specs.declared.act.ActReply.{ActReply}
+use Rattle.pt_frame.specs.declared.act.ActReply.TheVariants.{Event, Host, NoCopy}
 use Rattle.pt_law.specs.Told.{StepMayBeTold, AllMayBeTold}
 use Rattle.pt_law.specs.World.{World, Turn, IsLawful, Runs, HostRuns, TablesRun, steps_of, settled_if}
-use Rattle.pt_law.specs.Laws.{AreAnswered, AreEnded}
 use Rattle.pt_law.proofs.Told.{Promises, made_told, call_told, bytes_told}
-use Rattle.pt_law.proofs.Asked.{job_ends}
 use Rattle.pt_law.proofs.Steps.{turned}
 
 pub hosts_tables : {H : Type 0} (does : Does H) (turns : List Turn) (from : H) (t : Tables) (to : H) (t' : Tables) →
@@ -42,21 +37,6 @@ hosts_told does faults p job (s ∷ ss) from t to t' r =
     (made_told does faults p s.step.deed s.step.reply from r.2 t r.0 r.3 r.1 r.4)
     (hosts_told does faults p job ss r.0 r.1 to t' r.5)
 
--- a job whose steps belong to what it asked, and whose replies are such as may come, keeps the discipline to its end
-answered_ended : (plan : Plan) (bound : ℕ) (asked : ℕ → Asked) (ends : ℕ → Finish) (turns : List Turn) →
-    ((job : ℕ) → AllMayBeTold (steps_of job turns)) → AreAnswered plan bound asked ends turns → AreEnded bound turns
-answered_ended plan bound asked ends turns told a = record {
-  owners = a.owners;
-  jobs = λ job l. (ends job, job_ends plan (asked job) (steps_of job turns) (ends job) (told job) (a.jobs job l));
-}
-
-pub hosts_ended : {H : Type 0} (does : Does H) (faults : H → ℕ) → Promises does faults →
-    (plan : Plan) (bound : ℕ) (asked : ℕ → Asked) (ends : ℕ →
-    Finish) (turns : List Turn) (from : H) (t : Tables) (to : H) (t' : Tables) →
-    HostRuns does turns from t to t' → AreAnswered plan bound asked ends turns → AreEnded bound turns
-hosts_ended does faults p plan bound asked ends turns from t to t' r a =
-    answered_ended plan bound asked ends turns (λ job. hosts_told does faults p job turns from t to t' r) a
-
 -- the same of a host that is its tree
 lawful_told : (deed : Option Deed) (told : ActReply) (from : Tree) (seat : HostSeat) (t : Tables) (to : Tree)
     (seat' : HostSeat) (t' : Tables) → Made IsLawful deed told from seat t to seat' t' → StepMayBeTold deed told
@@ -69,19 +49,14 @@ lawful_told (Some (Calls asked)) NoCopy from seat t to seat' t' m = let p = m.0.
 lawful_told (Some (Calls asked)) told from seat t to seat' t' m = absurd m
 lawful_told None told from seat t to seat' t' m = tt
 
-run_told : (job : ℕ) (turns : List Turn) (start end : World) → Runs start turns end → AllMayBeTold (steps_of job turns)
+pub run_told : (job : ℕ) (turns : List Turn) (start end : World) → Runs start turns end →
+    AllMayBeTold (steps_of job turns)
 run_told job [] start end r = tt
 run_told job (s ∷ ss) start end r =
     let g = r.1 in
     told_if (eqb s.job job) s.step (steps_of job ss)
     (lawful_told s.step.deed s.step.reply start.tree g.seat start.tables r.0.tree g.seat_after r.0.tables g.made)
     (run_told job ss r.0 end r.2)
-
-pub run_ended : (plan : Plan) (bound : ℕ) (asked : ℕ → Asked) (ends : ℕ →
-    Finish) (turns : List Turn) (start end : World) → Runs start turns end → AreAnswered plan bound asked ends turns →
-    AreEnded bound turns
-run_ended plan bound asked ends turns start end r a =
-    answered_ended plan bound asked ends turns (λ job. run_told job turns start end r) a
 
 -- the host goes on telling its tree, and its steps are lawful
 abbrev pub Tells : {H : Type 0} → Does H → (H → Option Tree) → Type 0
@@ -113,7 +88,8 @@ pub hosts_world : {H : Type 0} (does : Does H) (tree : H → Option Tree) (fault
     (end : World) × (tree to ≡ Some end.tree) × (end.tables ≡ t') × Runs start turns end
 hosts_world does tree faults p l [] start from to t' is r = (start, ap tree r.0 ∙ is, sym r.1, refl)
 hosts_world does tree faults p l (s ∷ ss) start from to t' is r =
-    let k = made_lawful does tree faults p l s.step.deed s.step.reply from r.2 start.tables r.0 r.3 r.1 start.tree is r.4 in
+    let k = made_lawful does tree faults p l s.step.deed s.step.reply from r.2 start.tables r.0 r.3 r.1 start.tree is
+    r.4 in
     let next : World = record {
       tree = k.0;
       tables = r.1;

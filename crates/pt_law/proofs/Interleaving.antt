@@ -4,7 +4,7 @@ use Rattle.std.proofs.Common.{subst, ◌∙◌, arith}
 use Rattle.std.proofs.lemmas.Bool.{cases_eq, cases_lt}
 use Rattle.pt_host.specs.Words.{Each, set_at}
 use Rattle.pt_session.specs.Tables.{Tables}
-use Rattle.pt_req.specs.Deed.{Step}
+use Rattle.pt_frame.specs.Deed.{Step}
 use Rattle.pt_law.specs.Discipline.{Job, Disciplined}
 use Rattle.pt_law.specs.World.{Turn, World, IsLawful, Runs, TablesRun, steps_of}
 use Rattle.pt_law.specs.Ledger.{inserted, inserted_if}
@@ -111,8 +111,12 @@ runs_keep bound base had (s ∷ ss) w last js ends r lt v d =
 pub tables_run : (turns : List Turn) (w last : World) → Runs w turns last → TablesRun w.tables turns last.tables
 tables_run [] w last r = ap (λ (z : World). z.tables) r
 tables_run (s ∷ ss) w last r =
-    let g = r.1 in
-    (r.0.tables, turned IsLawful s.step.deed s.step.reply w.tree g.seat w.tables r.0.tree g.seat_after r.0.tables g.made, tables_run ss r.0 last r.2)
+    let g = r.1 in (
+      r.0.tables,
+      turned IsLawful s.step.deed s.step.reply w.tree g.seat w.tables r.0.tree g.seat_after r.0.tables
+          g.made,
+      tables_run ss r.0 last r.2,
+    )
 
 pub tables_split : (turns more : List Turn) (t last : Tables) → TablesRun t (turns ++ more) last →
     (mid : Tables) × TablesRun t turns mid × TablesRun mid more last

@@ -8,12 +8,13 @@ use Rattle.pt_host.specs.declared.ids.Fd.{Fd}
 use Rattle.pt_host.specs.declared.ids.ObjIds.{ObjIds}
 use Rattle.pt_session.specs.declared.row.Row.{Row}
 use Rattle.pt_session.specs.declared.row.HandleRow.{HandleRow}
-use Rattle.pt_req.specs.Held.{fd_of}
-use Rattle.pt_req.specs.declared.hold.Hold.{Hold}
-use Rattle.pt_req.specs.declared.hold.Hold.TheVariants as hold
+use Rattle.pt_law.specs.World.{fd_of}
+use Rattle.pt_frame.specs.declared.hold.Hold.{Hold}
+use Rattle.pt_frame.specs.declared.hold.Hold.TheVariants as hold
 use Rattle.pt_law.specs.Discipline.{Job, Resolution, unless}
 use Rattle.pt_law.specs.World.{Past}
-use Rattle.pt_law.specs.Ledger.{fd_held, row_fd, handle_fd}
+use Rattle.pt_law.specs.Ledger.{row_has, handle_has}
+use Rattle.pt_law.proofs.Flows.{fd_held}
 use Rattle.pt_law.proofs.Lists.{none_weighs, is_none, set_at_other, each_map, each_both}
 use Rattle.pt_law.proofs.Effects.{Later}
 
@@ -52,7 +53,7 @@ ToldRight tree _ = Unit {0}
 
 -- a pinned row was inserted, with the pin's descriptor
 abbrev pub PinRight : ℕ → (ℕ → Option Fd) → Hold → Type 0
-PinRight next fds (hold.Pin row fd) = (row < next) × (fds row ≡ Some fd)
+PinRight next fds (hold.Pin row kept) = (row < next) × (fds row ≡ kept)
 PinRight next fds (hold.HandlePin row fd) = (row < next) × (fds row ≡ Some fd)
 PinRight next fds _ = Unit {0}
 
@@ -151,11 +152,9 @@ told_stays : (tree : Tree) (f : ℕ) (x : Option Opened) (one : Hold) →
     ((fd : Fd) (object : ℕ) → fd_held f one ≡ is fd.0 f → IsOpenOn tree fd object → fd.0 ≢ f) → ToldRight tree one →
     ToldRight (with_entry tree f x) one
 told_stays tree f x (hold.Fd fd None) e h = tt
-told_stays tree f x (hold.Fd fd (Some ids)) e h = (h.0, stays_shown tree f x fd h.0 ids (e fd h.0 refl h.1.open_on) h.1)
-told_stays tree f x (hold.Pin row fd) e h = tt
-told_stays tree f x (hold.HandlePin row fd) e h = tt
-told_stays tree f x hold.Slot e h = tt
-told_stays tree f x (hold.Count era n) e h = tt
+told_stays tree f x (hold.Fd fd (Some ids)) e h =
+    (h.0, stays_shown tree f x fd h.0 ids (e fd h.0 refl h.1.open_on) h.1)
+told_stays tree f x one e h = tt
 
 pub told_open : (tree : Tree) (f : ℕ) (x : Option Opened) (holds : List Hold) → tree.opened f ≡ None →
     Each (ToldRight tree) holds → Each (ToldRight (with_entry tree f x)) holds
@@ -177,17 +176,17 @@ noted_open tree f x noted was holds after n more h fd e =
     }
 
 -- a descriptor is closed that is neither a row's nor held after
-pub rows_closed : (tree : Tree) (past : Past) (f : ℕ) (rows : List Row) → total (row_fd f) rows ≡ 0 →
+pub rows_closed : (tree : Tree) (past : Past) (f : ℕ) (rows : List Row) → total (row_has f) rows ≡ 0 →
     Each (RowOpen tree past) rows → Each (RowOpen (with_entry tree f None) past) rows
 rows_closed tree past f rows z h =
-    each_both (RowOpen tree past) (λ r. row_fd f r ≡ 0) (RowOpen (with_entry tree f None) past) rows
-    (λ r a b. row_stays tree past f None r (is_none (fd_of r.form).0 f b) a) h (none_weighs (row_fd f) rows z)
+    each_both (RowOpen tree past) (λ r. row_has f r ≡ 0) (RowOpen (with_entry tree f None) past) rows
+    (λ r a b. row_stays tree past f None r (is_none (fd_of r.form).0 f b) a) h (none_weighs (row_has f) rows z)
 
-pub handles_closed : (tree : Tree) (past : Past) (f : ℕ) (rows : List HandleRow) → total (handle_fd f) rows ≡ 0 →
+pub handles_closed : (tree : Tree) (past : Past) (f : ℕ) (rows : List HandleRow) → total (handle_has f) rows ≡ 0 →
     Each (HandleOpen tree past) rows → Each (HandleOpen (with_entry tree f None) past) rows
 handles_closed tree past f rows z h =
-    each_both (HandleOpen tree past) (λ r. handle_fd f r ≡ 0) (HandleOpen (with_entry tree f None) past) rows
-    (λ r a b. handle_stays tree past f None r (is_none r.fd.0 f b) a) h (none_weighs (handle_fd f) rows z)
+    each_both (HandleOpen tree past) (λ r. handle_has f r ≡ 0) (HandleOpen (with_entry tree f None) past) rows
+    (λ r a b. handle_stays tree past f None r (is_none r.fd.0 f b) a) h (none_weighs (handle_has f) rows z)
 
 pub told_closed : (tree : Tree) (f : ℕ) (holds : List Hold) → total (fd_held f) holds ≡ 0 →
     Each (ToldRight tree) holds → Each (ToldRight (with_entry tree f None)) holds
@@ -202,7 +201,8 @@ pub held_apart : (f : ℕ) (fd : Fd) (holds : List Hold) → total (fd_held f) h
 held_apart f fd holds z h e = let a = ap (λ g. total (fd_held g) holds) e in absurd (omega (arith, a, z, h))
 
 pub noted_closed : (tree : Tree) (f : ℕ) (noted : Option Fd) (was : Option ℕ) (holds : List Hold) →
-    total (fd_held f) holds ≡ 0 → NotedRight tree noted was holds → NotedRight (with_entry tree f None) noted was holds
+    total (fd_held f) holds ≡ 0 → NotedRight tree noted was holds →
+    NotedRight (with_entry tree f None) noted was holds
 noted_closed tree f noted was holds z h fd e =
     let a = h fd e in
     record {
@@ -213,7 +213,8 @@ noted_closed tree f noted was holds z h fd e =
     }
 
 -- what stays noted is another descriptor
-pub unless_apart : (f : Fd) (noted : Option Fd) (fd : Fd) → unless f noted ≡ Some fd → (noted ≡ Some fd) × (f.0 ≢ fd.0)
+pub unless_apart : (f : Fd) (noted : Option Fd) (fd : Fd) → unless f noted ≡ Some fd →
+    (noted ≡ Some fd) × (f.0 ≢ fd.0)
 unless_apart f None fd e = absurd (cc)
 unless_apart f (Some n) fd e = ⊎_elim
     (λ (q : n.0 ≡ f.0). let k = gone f n q in absurd (cc))

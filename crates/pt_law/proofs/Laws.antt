@@ -8,18 +8,20 @@ use Rattle.pt_session.specs.Tables.{Tables, Agree, AreApart, IsSoundRow, IsSound
 use Rattle.pt_session.specs.declared.row.Row.{Row}
 use Rattle.pt_session.specs.declared.row.HandleRow.{HandleRow}
 use Rattle.pt_session.specs.Rows.{IsRow, IsHandleRow}
-use Rattle.pt_req.specs.Deed.{Deed, Calls, Changes, Step}
-use Rattle.pt_req.specs.Held.{fd_of}
-use Rattle.pt_req.specs.declared.hold.Hold.{Hold}
-use Rattle.pt_req.specs.declared.hold.Hold.TheVariants as hold
+use Rattle.pt_frame.specs.Deed.{Deed, Calls, Changes, Step}
+use Rattle.pt_law.specs.World.{fd_of}
+use Rattle.pt_frame.specs.declared.hold.Hold.{Hold}
+use Rattle.pt_frame.specs.declared.hold.Hold.TheVariants as hold
 use Rattle.pt_law.specs.Discipline.{Job, idle, at_job, JobMoves, Disciplined, entry_holds}
 use Rattle.pt_law.specs.World.{World, Turn, TablesGo, Runs, TablesRun, steps_of, no_past}
 use Rattle.pt_law.specs.Ledger.{closing_slot, slot_taken, slot_given_by, slots_taken, slots_given, carried}
-use Rattle.pt_law.specs.Ledger.{closing_fd, fd_held, fds_carried, held_by, open_count, given, inserted}
-use Rattle.pt_law.specs.Laws.{Serves, AreDisciplined, AreEnded, Starts, AreDistinct, HasObject, IsCounted, SlotsAddUp}
+use Rattle.pt_law.specs.Ledger.{closing_has, fds_carried, open_count, given, inserted}
+use Rattle.pt_law.proofs.Flows.{fd_held, all_hold}
+use Rattle.pt_law.specs.Laws.{Serves, Starts, AreDistinct, HasObject, IsCounted, SlotsAddUp}
+use Rattle.pt_law.specs.Discipline.{AreDisciplined, AreEnded}
 use Rattle.pt_law.specs.Laws.{AreKept, IsAtRest, LeavesRows}
-use Rattle.pt_req.specs.declared.act.ActReply.{ActReply}
-use Rattle.pt_req.specs.declared.act.ActReply.TheVariants.{Event}
+use Rattle.pt_frame.specs.declared.act.ActReply.{ActReply}
+use Rattle.pt_frame.specs.declared.act.ActReply.TheVariants.{Event}
 use Rattle.pt_law.proofs.Flows.{slot_held, pin_held, handle_pin_held, row_pins, handle_pins, called, unmade}
 use Rattle.pt_law.proofs.Lists.{total_takes, each_front, each_taken, each_both, sum_to_same, sum_to_zero, two_of}
 use Rattle.pt_law.proofs.Lists.{is_same, is_apart}
@@ -33,7 +35,7 @@ use Rattle.pt_law.proofs.Interleaving.{steps_append, disciplined_split, choose, 
 
 -- before the first step
 pub held_nobody : (bound : ℕ) (w : Hold → ℕ) (js : ℕ → Job) → ((j : ℕ) → j < bound → total w (js j).holds ≡ 0) →
-    held_by bound w js ≡ 0
+    all_hold bound w js ≡ 0
 held_nobody bound w js e = sum_to_zero (λ j. total w (js j).holds) bound e
 
 empty_agree : (limit : ℕ) → Agree (empty_tables limit)
@@ -169,11 +171,13 @@ flows_of j (s ∷ ss) h = go (eqb s.job j) (flows_of j ss h.1)
     go false r = r
 
 carries_step : (job after : Job) (step : Step) → HasFlows step.deed step.reply → JobMoves job step after →
-    total slot_held after.holds + slot_given_by step.deed step.reply ≡ total slot_held job.holds + slot_taken step.reply
+    total slot_held after.holds + slot_given_by step.deed step.reply ≡ total slot_held job.holds
+    + slot_taken step.reply
 carries_step job after step f m = go step.deed f m
   where
     go : (deed : Option Deed) → HasFlows deed step.reply → JobMoves job (record step { deed = deed }) after →
-        total slot_held after.holds + slot_given_by deed step.reply ≡ total slot_held job.holds + slot_taken step.reply
+        total slot_held after.holds + slot_given_by deed step.reply ≡ total slot_held job.holds
+        + slot_taken step.reply
     go None f m = let a = ap (λ (z : Job). total slot_held z.holds) m in omega (arith, a, f)
     go (Some deed) f m = let a = (handed job.holds deed step.reply after.holds m.0).slots in let b = f.0 in
         let c = f.1 in omega (arith, a, b, c)
@@ -360,7 +364,7 @@ at_end bound turns a j l = let e = a.jobs j l in let f = e.1 in
     (at_job (entry_holds f.0 e.0) f.1, (f.2, ((λ w z. entry_weighs w z f.0 e.0), refl)))
 
 sum_nothing : (bound : ℕ) (js : ℕ → Job) → ((j : ℕ) → j < bound → HasFinished (js j)) →
-    ((w : Hold → ℕ) → ((era n : ℕ) → w (hold.Count era n) ≡ 0) → held_by bound w js ≡ 0)
+    ((w : Hold → ℕ) → ((era n : ℕ) → w (hold.Count era n) ≡ 0) → all_hold bound w js ≡ 0)
     × (sum_to bound (λ j. (js j).owed) ≡ 0)
 sum_nothing bound js h =
     ((λ w z. held_nobody bound w js (λ j l. (h j l).0 w z)), sum_to_zero (λ j. (js j).owed) bound (λ j l. (h j l).1))
@@ -416,6 +420,6 @@ leaves_law limit bound turns start end s a r fd =
     let q = none.0 (fd_held fd) (λ era n. refl) in
     let closed = empty end.tables.closing (let p = v.1.tabled.books.closings in let q = none.1 in
     omega (arith, p, q)) in
-    let c = ap (total (closing_fd fd)) closed in
+    let c = ap (total (closing_has fd)) closed in
     let f = v.1.fds fd in
     omega (arith, q, c, f)

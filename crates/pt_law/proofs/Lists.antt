@@ -47,7 +47,8 @@ pub each_map : {X : Type 0} (P Q : X → Type 0) (xs : List X) → ((x : X) → 
 each_map P Q [] f h = h
 each_map P Q (x ∷ xs) f h = (f x h.0, each_map P Q xs f h.1)
 
-pub two_takes : {X : Type 0} (R : X → X → Type 0) {x : X} {xs ys : List X} → Takes x xs ys → EachTwo R xs → EachTwo R ys
+pub two_takes : {X : Type 0} (R : X → X → Type 0) {x : X} {xs ys : List X} → Takes x xs ys → EachTwo R xs →
+    EachTwo R ys
 two_takes R here h = h.1
 two_takes R (there {y = y} t) h = (each_takes (R y) t h.0, two_takes R t h.1)
 
@@ -61,10 +62,6 @@ two_replaces R (past {z = z} r) f g h = (each_replaces (R z) r (g z) h.0, two_re
 pub none_weighs : {X : Type 0} (w : X → ℕ) (xs : List X) → total w xs ≡ 0 → Each (λ x. w x ≡ 0) xs
 none_weighs w [] h = tt
 none_weighs w (x ∷ xs) h = (omega arith, none_weighs w xs (omega arith))
-
-pub weighs_none : {X : Type 0} (w : X → ℕ) (xs : List X) → Each (λ x. w x ≡ 0) xs → total w xs ≡ 0
-weighs_none w [] h = refl
-weighs_none w (x ∷ xs) h = let k = weighs_none w xs h.1 in omega (arith, k, h.0)
 
 pub is_same : (a : ℕ) → is a a ≡ 1
 unfolding is

@@ -1,26 +1,35 @@
 -- Steps of the frame and of a request's own part move the job as the holds say.
-use Rattle.std.proofs.Common.{◌≡◌, inl, List, [], ◌∷◌, Option, Some, None, refl, sym, subst, subst₂, arith}
-use Rattle.pt_host.specs.Words.{Takes, Takes.{here, there}, Replaces, Replaces.{at}}
-use Rattle.pt_host.specs.declared.ids.Errno.{Errno}
+use Rattle.std.proofs.Common.{◌≡◌, inl, inr, ℕ, List, [], ◌∷◌, Bool, true, false, Option, Some, None, refl}
+use Rattle.std.proofs.Common.{sym}
+use Rattle.std.proofs.Common.{ap, subst, arith, if◌then◌else◌, ◌==◌}
+use Rattle.pt_host.specs.Words.{Takes, Takes.{here, there}, Replaces, Replaces.{at, past}}
+use Rattle.pt_host.specs.Call.{Call}
+use Rattle.pt_host.specs.Sorts.{Sort, OpensWith, EndsFd, OfSeat, Plain, sort_of, fds_of}
 use Rattle.pt_host.specs.declared.ids.Fd.{Fd}
 use Rattle.pt_host.specs.declared.ids.ObjIds.{ObjIds}
+use Rattle.pt_host.specs.declared.seat.HostSeat.{HostSeat}
 use Rattle.pt_host.specs.declared.op.KeptHostOp.TheVariants as call
 use Rattle.pt_host.specs.declared.reply.HostReply.TheVariants as host
 use Rattle.pt_host.specs.declared.reply.HostValue.TheVariants as value
+use Rattle.pt_session.specs.declared.form.RowForm.TheVariants.{File}
 use Rattle.pt_session.specs.declared.event.KeptEvent.TheVariants as change
 use Rattle.pt_session.specs.declared.reply.EventReply.TheVariants as event
-use Rattle.pt_iface.specs.declared.request.Request.{Request}
-use Rattle.pt_req.specs.Deed.{Deed, Calls, Changes, IsStepOf, MayFailToCopy}
-use Rattle.pt_req.specs.Held.{fd_of, held, laid, giving, closings_in}
-use Rattle.pt_req.specs.declared.act.ActReply.{ActReply}
-use Rattle.pt_req.specs.declared.act.ActReply.TheVariants.{Event, Host, NoCopy}
-use Rattle.pt_req.specs.declared.hold.Hold.{Hold}
-use Rattle.pt_req.specs.declared.hold.Hold.TheVariants as hold
-use Rattle.pt_law.specs.Discipline.{Notes, Job, at_job, notes_after, MovesBy, MovesIf}
+use Rattle.pt_frame.specs.Deed.{Deed, Calls, Changes, IsStepOf, MayFailToCopy}
+use Rattle.pt_frame.specs.Held.{is_scope, fd_in, is_some_fd, is_same_fd, noted, closed, slotted, unslotted}
+use Rattle.pt_frame.specs.Held.{handed, held, held_called, row_fd, statted}
+use Rattle.pt_frame.specs.Frame.{giving}
+use Rattle.pt_frame.specs.Replies.{closings_in}
+use Rattle.pt_frame.specs.declared.act.ActReply.{ActReply}
+use Rattle.pt_frame.specs.declared.act.ActReply.TheVariants.{Event, Host, NoCopy}
+use Rattle.pt_frame.specs.declared.hold.Hold.{Hold}
+use Rattle.pt_frame.specs.declared.hold.Hold.TheVariants as hold
+use Rattle.pt_law.specs.Discipline.{IsNoted, ShiftsCalled, Notes, Job, at_job, notes_after, MovesBy}
+use Rattle.pt_law.specs.Discipline.{MovesIf}
 use Rattle.pt_law.specs.Told.{MayBeTold, StepMayBeTold}
-use Rattle.pt_law.specs.Cause.{StepCauses}
-use Rattle.pt_law.specs.Fit.{MayMake, Lasts}
+use Rattle.pt_law.specs.Keeps.{LiesOnSlot, LiesOnSlot.{here as lies_here, there as lies_there}}
+use Rattle.pt_law.specs.Keeps.{MayCall, MayMake, Lasts, unscoped, MayOpen}
 use Rattle.pt_law.proofs.Sound.{owing_job}
+use Rattle.pt_law.proofs.Unscoped.{takes_plain, takes_scope, takes_laid, replaces_plain}
 
 same_deed : (deed same : Deed) (told : ActReply) → IsStepOf deed (Some same) told → same ≡ deed
 same_deed deed same NoCopy i = i.0
@@ -34,139 +43,264 @@ made_moves deed (Some same) told job mid n i m =
 made_moves deed None NoCopy job mid n i m = absurd (n i)
 made_moves deed None told job mid n i m = absurd i
 
-pub never_copied : (one : Hold) → MayFailToCopy (giving one) → ⊥
-never_copied (hold.Pin row fd) m = m
-never_copied (hold.HandlePin row fd) m = m
-never_copied (hold.Fd fd was) m = m
-never_copied hold.Slot m = m
-never_copied (hold.Count era number) m = m
-
-pub giving_lasts : (one : Hold) (told : ActReply) (notes : Notes) → Lasts notes (notes_after notes (giving one) told)
-giving_lasts (hold.Pin row fd) told notes = (refl, refl)
-giving_lasts (hold.HandlePin row fd) told notes = (refl, refl)
-giving_lasts (hold.Fd fd was) told notes = (refl, refl)
-giving_lasts hold.Slot told notes = (refl, refl)
-giving_lasts (hold.Count era number) told notes = (refl, refl)
+-- what gives a hold back leaves it noted which era it is and whether a root was opened
+pub giving_lasts : (seat : HostSeat) (one : Hold) (told : ActReply) (notes : Notes) →
+    Lasts notes (notes_after notes (giving seat one) told)
+giving_lasts seat (hold.Pin row fd) told notes = (refl, refl)
+giving_lasts seat (hold.HandlePin row fd) told notes = (refl, refl)
+giving_lasts seat (hold.Fd fd was) told notes = (refl, refl)
+giving_lasts seat hold.Slot told notes = (refl, refl)
+giving_lasts seat (hold.Count era number) told notes = (refl, refl)
+giving_lasts seat hold.Groups told notes = (refl, refl)
+giving_lasts seat hold.EffectiveGid told notes = (refl, refl)
+giving_lasts seat hold.EffectiveUid told notes = (refl, refl)
+giving_lasts seat (hold.Dropped caps) told notes = (refl, refl)
+giving_lasts seat hold.Umask told notes = (refl, refl)
 
 -- any hold may be given back
-pub gives_back : (one : Hold) (told : ActReply) (holds left : List Hold) (notes : Notes) → Takes one holds left →
-    MovesBy (at_job holds notes) (giving one) told
-    (owing_job left (closings_in (giving one) told) (notes_after notes (giving one) told))
-gives_back (hold.Pin row fd) told holds left notes t = ((fd, t), tt, omega arith, refl)
-gives_back (hold.HandlePin row fd) told holds left notes t = ((fd, t), tt, omega arith, refl)
-gives_back (hold.Fd fd was) told holds left notes t = ((was, t), tt, omega arith, refl)
-gives_back hold.Slot told holds left notes t = (t, tt, omega arith, refl)
-gives_back (hold.Count era number) told holds left notes t = (t, tt, omega arith, refl)
+gives_back : (seat : HostSeat) (one : Hold) (told : ActReply) (holds left : List Hold) (notes : Notes) →
+    Takes one holds left →
+    MovesBy (at_job (unscoped holds) notes) (giving seat one) told
+    (owing_job (unscoped left) (closings_in (giving seat one) told) (notes_after notes (giving seat one) told))
+gives_back seat (hold.Pin row fd) told holds left notes t = ((fd, takes_plain t refl), tt, omega arith, refl)
+gives_back seat (hold.HandlePin row fd) told holds left notes t = ((fd, takes_plain t refl), tt, omega arith, refl)
+gives_back seat (hold.Fd fd was) told holds left notes t = ((was, takes_plain t refl), tt, refl, refl)
+gives_back seat hold.Slot told holds left notes t = (takes_plain t refl, tt, omega arith, refl)
+gives_back seat (hold.Count era number) told holds left notes t = (takes_plain t refl, tt, omega arith, refl)
+gives_back seat hold.Groups told holds left notes t = ((tt, takes_scope t refl), tt, refl, refl)
+gives_back seat hold.EffectiveGid told holds left notes t = ((tt, takes_scope t refl), tt, refl, refl)
+gives_back seat hold.EffectiveUid told holds left notes t = ((tt, takes_scope t refl), tt, refl, refl)
+gives_back seat (hold.Dropped caps) told holds left notes t = ((tt, takes_scope t refl), tt, refl, refl)
+gives_back seat hold.Umask told holds left notes t = ((tt, takes_scope t refl), tt, refl, refl)
 
-takes_laid : (one : Hold) (holds : List Hold) → Takes one (laid one holds) holds
-takes_laid one [] = here
-takes_laid one (top ∷ holds) = here
+-- many groups may not be copied, and were then not put back
+unmade_back : (seat : HostSeat) (one : Hold) (holds left : List Hold) (notes : Notes) → Takes one holds left →
+    MayFailToCopy (giving seat one) →
+    owing_job (unscoped left) (closings_in (giving seat one) NoCopy) (notes_after notes (giving seat one) NoCopy)
+    ≡ at_job (unscoped holds) notes
+unmade_back seat hold.Groups holds left notes t m = ap (λ (h : List Hold). at_job h notes) (takes_scope t refl)
+unmade_back seat (hold.Pin row fd) holds left notes t m = absurd m
+unmade_back seat (hold.HandlePin row fd) holds left notes t m = absurd m
+unmade_back seat (hold.Fd fd was) holds left notes t m = absurd m
+unmade_back seat hold.Slot holds left notes t m = absurd m
+unmade_back seat (hold.Count era number) holds left notes t m = absurd m
+unmade_back seat one holds left notes t m = absurd m
+
+pub gives_step : (seat : HostSeat) (one : Hold) (made : Option Deed) (told : ActReply) (holds left : List Hold)
+    (notes : Notes) → Takes one holds left → IsStepOf (giving seat one) made told →
+    MovesIf (at_job (unscoped holds) notes) made told
+    (owing_job (unscoped left) (closings_in (giving seat one) told) (notes_after notes (giving seat one) told))
+gives_step seat one (Some same) told holds left notes t i =
+    subst (λ (d : Deed). MovesBy (at_job (unscoped holds) notes) d told
+    (owing_job (unscoped left) (closings_in (giving seat one) told) (notes_after notes (giving seat one) told)))
+    (sym (same_deed (giving seat one) same told i)) (gives_back seat one told holds left notes t)
+gives_step seat one None NoCopy holds left notes t i = unmade_back seat one holds left notes t i
+gives_step seat one None told holds left notes t i = absurd i
+
+-- changes of what is held
+
+same_number : (n : ℕ) → (n == n) ≡ true
+same_number n = grind arith
+
+number_same : (m n : ℕ) → (m == n) ≡ true → m ≡ n
+number_same m n e = grind arith
+
+same_fd : (same fd : Fd) → is_same_fd fd (Some same) ≡ true → same ≡ fd
+same_fd same fd e = let k = number_same same.0 fd.0 e in λ i. record { 0 = k i }
+
+-- the first hold that is this descriptor
+descriptor : (one : Hold) (fd : Fd) → is_same_fd fd (fd_in one) ≡ true →
+    (was : Option ObjIds) × (one ≡ hold.Fd fd was)
+descriptor (hold.Fd same was) fd e = (was, ap (λ (f : Fd). hold.Fd f was) (same_fd same fd e))
+descriptor (hold.Pin row kept) fd e = absurd (cc)
+descriptor (hold.HandlePin row kept) fd e = absurd (cc)
+descriptor one fd e = absurd (cc)
+
+takes_closed : (fd : Fd) (was : Option ObjIds) (holds rest : List Hold) → Takes (hold.Fd fd was) holds rest →
+    (told : Option ObjIds) × Takes (hold.Fd fd told) holds (closed fd holds)
+takes_closed fd was _ _ (here {xs = holds}) = (
+  was,
+  subst (λ (b : Bool). Takes (hold.Fd fd was) (hold.Fd fd was ∷ holds)
+      (if b then holds else hold.Fd fd was ∷ closed fd holds)) (sym (same_number fd.0)) here,
+)
+takes_closed fd was _ _ (there {y = one} {xs = holds} {ys = left} t) =
+    go (is_same_fd fd (fd_in one)) refl (takes_closed fd was holds left t)
+  where
+    go : (b : Bool) → is_same_fd fd (fd_in one) ≡ b →
+        (told : Option ObjIds) × Takes (hold.Fd fd told) holds (closed fd holds) →
+        (told : Option ObjIds) × Takes (hold.Fd fd told) (one ∷ holds) (if b then holds else one ∷ closed fd holds)
+    go true e k = let d = descriptor one fd e in
+        (d.0, subst (λ (z : Hold). Takes (hold.Fd fd d.0) (z ∷ holds) holds) (sym d.1) here)
+    go false e k = (k.0, there k.1)
+
+is_noted : (fd : Fd) (ids : ObjIds) (holds : List Hold) → IsNoted fd ids holds (noted fd ids holds)
+is_noted fd ids [] = inr refl
+is_noted fd ids (one ∷ holds) = go (is_same_fd fd (fd_in one)) refl (is_noted fd ids holds)
+  where
+    further : IsNoted fd ids holds (noted fd ids holds) → IsNoted fd ids (one ∷ holds) (one ∷ noted fd ids holds)
+    further (inl r) = inl (r.0, past r.1)
+    further (inr e) = inr (ap (λ (z : List Hold). one ∷ z) e)
+
+    go : (b : Bool) → is_same_fd fd (fd_in one) ≡ b → IsNoted fd ids holds (noted fd ids holds) →
+        IsNoted fd ids (one ∷ holds) (if b then hold.Fd fd (Some ids) ∷ holds else one ∷ noted fd ids holds)
+    go true e k = let d = descriptor one fd e in
+        inl (
+          d.0,
+          subst (λ (z : Hold). Replaces (hold.Fd fd d.0) (hold.Fd fd (Some ids)) (z ∷ holds)
+              (hold.Fd fd (Some ids) ∷ holds)) (sym d.1) at,
+        )
+    go false e k = further k
+
+takes_slotted : (holds : List Hold) → Takes hold.Slot (slotted holds) holds
+takes_slotted [] = here
+takes_slotted (one ∷ holds) = go (is_some_fd (fd_in one)) (takes_slotted holds)
+  where
+    go : (b : Bool) → Takes hold.Slot (slotted holds) holds →
+        Takes hold.Slot (if b then one ∷ hold.Slot ∷ holds else one ∷ slotted holds) (one ∷ holds)
+    go true t = there here
+    go false t = there t
+
+-- the tables take the descriptor and the slot on which it lies
+hands : (fd : Fd) (told : Option ObjIds) (holds : List Hold) → LiesOnSlot fd told holds →
+    (mid : List Hold) × Takes (hold.Fd fd told) holds mid × Takes hold.Slot mid (handed fd holds)
+hands fd told _ (lies_here {holds = holds}) = (
+  hold.Slot ∷ holds,
+  here,
+  subst (λ (b : Bool). Takes hold.Slot (hold.Slot ∷ holds)
+      (if b then holds else hold.Fd fd told ∷ handed fd (hold.Slot ∷ holds))) (sym (same_number fd.0)) here,
+)
+hands fd told _ (lies_there {one = one} {holds = holds} n l) =
+    let k = hands fd told holds l in (
+      one ∷ k.0,
+      there k.1,
+      subst (λ (b : Bool). Takes hold.Slot (one ∷ k.0) (if b then unslotted holds else one ∷ handed fd holds)) (sym n)
+          (there k.2),
+    )
+
+-- what is noted, without the scopes
+noted_plain : (fd : Fd) (ids : ObjIds) (holds after : List Hold) → IsNoted fd ids holds after →
+    IsNoted fd ids (unscoped holds) (unscoped after)
+noted_plain fd ids holds after (inl r) = inl (r.0, replaces_plain r.1 refl refl)
+noted_plain fd ids holds after (inr e) = inr (ap unscoped e)
+
+ended_plain : (fd : Fd) (holds after : List Hold) → (told : Option ObjIds) × Takes (hold.Fd fd told) holds after →
+    (told : Option ObjIds) × Takes (hold.Fd fd told) (unscoped holds) (unscoped after)
+ended_plain fd holds after t = (t.0, takes_plain t.1 refl)
+
+-- a call of a request's own part
+call_shifts : (sort : Sort) (names : List Fd) (stat_of : Option Fd) (told : ActReply) (holds : List Hold) →
+    MayCall sort names holds →
+    ShiftsCalled sort names stat_of (unscoped holds) told (unscoped (held_called sort stat_of told holds))
+call_shifts (OpensWith flags) names stat_of (Host (host.Ok (value.Fd fd))) holds m =
+    (m, takes_plain (takes_laid (hold.Fd fd None) holds) refl)
+call_shifts (OpensWith flags) names stat_of told holds m = (m, refl)
+call_shifts (EndsFd fd) names stat_of told holds m =
+    ended_plain fd holds (closed fd holds) (takes_closed fd m.0 holds m.1 m.2)
+call_shifts OfSeat names stat_of told holds m = (m, refl)
+call_shifts Plain names (Some fd) (Host (host.Ok (value.Stat stat))) holds m =
+    (m, noted_plain fd stat.ids holds (noted fd stat.ids holds) (is_noted fd stat.ids holds))
+call_shifts Plain names (Some fd) told holds m = (m, refl)
+call_shifts Plain names None told holds m = (m, refl)
 
 -- a deed of a request's own part
 may_move : (deed : Deed) (told : ActReply) (holds : List Hold) (notes : Notes) → MayMake deed holds notes →
-    MovesBy (at_job holds notes) deed told
-    (owing_job (held deed told holds) (closings_in deed told) (notes_after notes deed told))
-may_move (Calls (call.OpenRoot path flags)) (Host (host.Ok (value.Fd fd))) holds notes m =
-    (takes_laid (hold.Fd fd None) holds, tt, omega arith, refl)
-may_move (Calls (call.OpenAt dir name flags mode)) (Host (host.Ok (value.Fd fd))) holds notes m =
-    (((hold.Pin m.0.0.row dir, m.0.1, m.0.3, refl), takes_laid (hold.Fd fd None) holds), m, omega arith, refl)
-may_move (Calls (call.OpenAt dir name flags mode)) told holds notes m =
-    (((hold.Pin m.0.0.row dir, m.0.1, m.0.3, refl), refl), m, omega arith, refl)
-may_move (Calls (call.Reopen fd flags)) (Host (host.Ok (value.Fd new))) holds notes m =
-    (((hold.Pin m.0.row fd, m.1, m.3, refl), takes_laid (hold.Fd new None) holds), m, omega arith, refl)
-may_move (Calls (call.Reopen fd flags)) told holds notes m =
-    (((hold.Pin m.0.row fd, m.1, m.3, refl), refl), m, omega arith, refl)
-may_move (Calls (call.ReadAt fd offset size)) told holds notes m = ((m, refl), tt, omega arith, refl)
-may_move (Calls (call.Stat fd)) (Host (host.Ok (value.Stat stat))) (hold.Fd same was ∷ holds) notes m = (
-  (
-    was,
-    subst (λ (f : Fd).
-        Replaces (hold.Fd f was) (hold.Fd f (Some stat.ids)) (hold.Fd same was ∷ holds) (hold.Fd same (Some stat.ids)
-        ∷ holds)) m at,
-  ),
-  tt,
-  omega arith,
-  refl,
-)
-may_move (Calls (call.Stat fd)) told (hold.Fd same was ∷ holds) notes m =
-    (((hold.Fd same was, holds, here, m), refl), tt, omega arith, refl)
-may_move (Calls (call.Stat fd)) told holds notes m = absurd m
-may_move (Calls (call.OpenRoot path flags)) told holds notes m = (refl, tt, omega arith, refl)
-may_move (Calls asked) told holds notes m = absurd m
-may_move (Changes change.Begin) told holds notes m = (refl, m, omega arith, refl)
-may_move (Changes change.Clear) (Event (event.Cleared era closings)) holds notes m = (refl, m, omega arith, refl)
-may_move (Changes change.Clear) told holds notes m = (refl, m, omega arith, refl)
-may_move (Changes (change.PinHandle handle number)) (Event (event.Pinned row fd)) holds notes m =
-    (takes_laid (hold.HandlePin row fd) holds, tt, omega arith, refl)
-may_move (Changes (change.InsertHandle era handle number fd)) (Event (event.Inserted given)) (hold.Fd same was
-    ∷ hold.Slot ∷ holds) notes m =
-    let t = subst (λ (f : Fd).
-    Takes (hold.Fd f was) (hold.Fd same was ∷ hold.Slot ∷ holds) (hold.Slot ∷ holds)) m.0 here in
-    ((was, hold.Slot ∷ holds, t, here), m.1, omega arith, refl)
-may_move (Changes (change.InsertHandle era handle number fd)) told (hold.Fd same was ∷ hold.Slot ∷ holds) notes m =
-    (refl, m.1, omega arith, refl)
-may_move (Changes (change.InsertHandle era handle number fd)) told holds notes m = absurd m
-may_move (Changes (change.UnpinHandle row)) told holds notes m = absurd m
-may_move (Changes (change.Release handle number)) (Event (event.Done closings)) holds notes m =
-    (refl, tt, omega arith, refl)
+    MovesBy (at_job (unscoped holds) notes) deed told
+    (owing_job (unscoped (held deed told holds)) (closings_in deed told) (notes_after notes deed told))
+may_move (Calls asked) told holds notes m =
+    (call_shifts (sort_of asked) (fds_of asked) (statted asked) told holds m.0, m.1, refl, refl)
 may_move (Changes (change.Resolve number)) (Event (event.Resolved row form ids mode)) holds notes m =
-    (takes_laid (hold.Pin row (fd_of form)) holds, tt, omega arith, refl)
-may_move (Changes change.TakeFd) (Event event.Taken) (top ∷ holds) notes m = (there here, tt, omega arith, refl)
-may_move (Changes change.TakeFd) (Event event.Taken) [] notes m = (here, tt, omega arith, refl)
+    (takes_plain (takes_laid (hold.Pin row (row_fd form)) holds) refl, m.1, omega arith, refl)
 may_move (Changes (change.Claim era handle ids)) (Event (event.Claimed number)) holds notes m =
-    (here, m, omega arith, refl)
-may_move (Changes (change.Claim era handle ids)) told holds notes m = (refl, m, omega arith, refl)
-may_move (Changes (change.Insert era number form ids mode)) (Event (event.Inserted given)) (hold.Fd same was
-    ∷ hold.Slot ∷ holds) notes m =
-    let t = subst₂ (λ (f : Fd) (i : Option ObjIds).
-    Takes (hold.Fd f i) (hold.Fd same was ∷ hold.Slot ∷ holds) (hold.Slot ∷ holds)) m.0 m.1 here in
-    ((hold.Slot ∷ holds, holds, t, here, here), (m.2, m.3, m.4, (hold.Slot ∷ holds, t)), omega arith, refl)
-may_move (Changes (change.Insert era number form ids mode)) (Event (event.Found given)) (hold.Fd same was ∷ hold.Slot
-    ∷ holds) notes m =
-    let t = subst₂ (λ (f : Fd) (i : Option ObjIds).
-    Takes (hold.Fd f i) (hold.Fd same was ∷ hold.Slot ∷ holds) (hold.Slot ∷ holds)) m.0 m.1 here in
-    (here, (m.2, m.3, m.4, (hold.Slot ∷ holds, t)), omega arith, refl)
-may_move (Changes (change.Insert era number form ids mode)) told (hold.Fd same was ∷ hold.Slot ∷ holds) notes m =
-    let t = subst₂ (λ (f : Fd) (i : Option ObjIds).
-    Takes (hold.Fd f i) (hold.Fd same was ∷ hold.Slot ∷ holds) (hold.Slot ∷ holds)) m.0 m.1 here in
-    (refl, (m.2, m.3, m.4, (hold.Slot ∷ holds, t)), omega arith, refl)
-may_move (Changes (change.Insert era number form ids mode)) told holds notes m = absurd m
-may_move (Changes (change.InsertRoot era form ids mode agreed)) (Event (event.Inserted given)) (hold.Fd same was
-    ∷ hold.Slot ∷ holds) notes m =
-    let t = subst₂ (λ (f : Fd) (i : Option ObjIds).
-    Takes (hold.Fd f i) (hold.Fd same was ∷ hold.Slot ∷ holds) (hold.Slot ∷ holds)) m.0 m.1 here in
-    ((hold.Slot ∷ holds, t, here), (m.2, m.3, (hold.Slot ∷ holds, t)), omega arith, refl)
-may_move (Changes (change.InsertRoot era form ids mode agreed)) told (hold.Fd same was ∷ hold.Slot ∷ holds) notes m =
-    let t = subst₂ (λ (f : Fd) (i : Option ObjIds).
-    Takes (hold.Fd f i) (hold.Fd same was ∷ hold.Slot ∷ holds) (hold.Slot ∷ holds)) m.0 m.1 here in
-    (refl, (m.2, m.3, (hold.Slot ∷ holds, t)), omega arith, refl)
-may_move (Changes (change.InsertRoot era form ids mode agreed)) told holds notes m = absurd m
-may_move (Changes (change.Unpin row)) told holds notes m = absurd m
-may_move (Changes change.GiveFd) told holds notes m = absurd m
-may_move (Changes (change.GiveBack era number)) told holds notes m = absurd m
-may_move (Changes change.TakeClosing) told holds notes m = absurd m
-may_move (Changes (change.Forget list)) (Event (event.Done closings)) holds notes m = (refl, tt, omega arith, refl)
-may_move deed told holds notes m = (refl, tt, omega arith, refl)
+    (takes_plain (takes_laid (hold.Count era number) holds) refl, m.1, omega arith, refl)
+may_move (Changes change.TakeFd) (Event event.Taken) holds notes m =
+    (takes_plain (takes_slotted holds) refl, m.1, omega arith, refl)
+may_move (Changes (change.Insert era number (File fd) ids mode)) (Event (event.Inserted given)) holds notes m =
+    let k = hands fd (Some ids) holds m.0 in (
+      (
+        unscoped k.0,
+        unscoped (handed fd holds),
+        takes_plain k.1 refl,
+        takes_plain k.2 refl,
+        takes_plain (takes_laid (hold.Count era given) (handed fd holds)) refl,
+      ),
+      m.1,
+      omega arith,
+      refl,
+    )
+may_move (Changes (change.Insert era number form ids mode)) (Event (event.Found given)) holds notes m =
+    (takes_plain (takes_laid (hold.Count era given) holds) refl, m.1, omega arith, refl)
+may_move (Changes (change.InsertRoot era (File fd) ids mode agreed)) (Event (event.Inserted given)) holds notes m =
+    let k = hands fd (Some ids) holds m.0 in
+    ((unscoped k.0, takes_plain k.1 refl, takes_plain k.2 refl), m.1, omega arith, refl)
+may_move (Changes (change.InsertHandle era handle number fd)) (Event (event.Inserted given)) holds notes m =
+    let k = hands fd m.0.0 holds m.0.1 in
+    ((m.0.0, unscoped k.0, takes_plain k.1 refl, takes_plain k.2 refl), m.1, omega arith, refl)
+may_move (Changes (change.PinHandle handle number)) (Event (event.Pinned row fd)) holds notes m =
+    (takes_plain (takes_laid (hold.HandlePin row fd) holds) refl, m.1, omega arith, refl)
+may_move (Changes (change.Unpin row)) told holds notes m = absurd m.0
+may_move (Changes (change.UnpinHandle row)) told holds notes m = absurd m.0
+may_move (Changes change.GiveFd) told holds notes m = absurd m.0
+may_move (Changes (change.GiveBack era number)) told holds notes m = absurd m.0
+may_move (Changes change.TakeClosing) told holds notes m = absurd m.0
+may_move (Changes asked) (Event told) holds notes m = (refl, m.1, omega arith, refl)
+may_move (Changes asked) told holds notes m = (refl, m.1, omega arith, refl)
 
 -- what could not be copied was not made, and moves nothing
+unmade_call : (asked : Call) (holds : List Hold) → MayFailToCopy (Calls asked) →
+    held (Calls asked) NoCopy holds ≡ holds
+unmade_call (call.Close fd) holds m = absurd m
+unmade_call asked holds m = refl
+
+unnoted_call : (asked : Call) (notes : Notes) → MayFailToCopy (Calls asked) →
+    notes_after notes (Calls asked) NoCopy ≡ notes
+unnoted_call (call.Close fd) notes m = absurd m
+unnoted_call asked notes m = refl
+
 not_made : (deed : Deed) (holds : List Hold) (notes : Notes) → MayFailToCopy deed →
-    owing_job (held deed NoCopy holds) (closings_in deed NoCopy) (notes_after notes deed NoCopy) ≡ at_job holds notes
-not_made (Calls (call.Stat fd)) holds notes m = absurd m
-not_made (Calls (call.Close fd)) holds notes m = absurd m
-not_made (Calls asked) holds notes m = refl
+    owing_job (unscoped (held deed NoCopy holds)) (closings_in deed NoCopy) (notes_after notes deed NoCopy)
+    ≡ at_job (unscoped holds) notes
+not_made (Calls asked) holds notes m =
+    λ i. at_job (unscoped (unmade_call asked holds m i)) (unnoted_call asked notes m i)
 not_made (Changes (change.Forget list)) holds notes m = refl
 not_made (Changes asked) holds notes m = absurd m
 
 pub may_step : (deed : Deed) (made : Option Deed) (told : ActReply) (holds : List Hold) (notes : Notes) →
     IsStepOf deed made told → MayMake deed holds notes →
-    MovesIf (at_job holds notes) made told
-    (owing_job (held deed told holds) (closings_in deed told) (notes_after notes deed told))
+    MovesIf (at_job (unscoped holds) notes) made told
+    (owing_job (unscoped (held deed told holds)) (closings_in deed told) (notes_after notes deed told))
 may_step deed (Some same) told holds notes i m =
-    let after = owing_job (held deed told holds) (closings_in deed told) (notes_after notes deed told) in
+    let after = owing_job (unscoped (held deed told holds)) (closings_in deed told) (notes_after notes deed told) in
     subst (λ (d : Deed).
-    MovesBy (at_job holds notes) d told after) (sym (same_deed deed same told i)) (may_move deed told holds notes m)
+    MovesBy (at_job (unscoped holds) notes) d told after) (sym (same_deed deed same told i))
+    (may_move deed told holds notes m)
 may_step deed None NoCopy holds notes i m = not_made deed holds notes i
 may_step deed None told holds notes i m = absurd i
+
+-- a call of the seat moves nothing
+seat_moves : (asked : Call) (scope : Hold) (told : ActReply) (holds : List Hold) (notes : Notes) →
+    MayOpen (sort_of asked) scope → MovesBy (at_job holds notes) (Calls asked) told (at_job holds notes)
+seat_moves (call.SetGroups list) scope told holds notes m = ((tt, refl), tt, refl, refl)
+seat_moves (call.SetEgid gid) scope told holds notes m = ((tt, refl), tt, refl, refl)
+seat_moves (call.SetEuid uid) scope told holds notes m = ((tt, refl), tt, refl, refl)
+seat_moves (call.RaiseCap caps) scope told holds notes m = ((tt, refl), tt, refl, refl)
+seat_moves (call.DropCap caps) scope told holds notes m = ((tt, refl), tt, refl, refl)
+seat_moves (call.SetUmask mask) scope told holds notes m = ((tt, refl), tt, refl, refl)
+seat_moves asked scope told holds notes m = absurd m
+
+pub seat_step : (asked : Call) (scope : Hold) (made : Option Deed) (told : ActReply) (holds : List Hold)
+    (notes : Notes) → IsStepOf (Calls asked) made told → MayOpen (sort_of asked) scope →
+    MovesIf (at_job holds notes) made told (at_job holds notes)
+seat_step asked scope (Some same) told holds notes i m =
+    subst (λ (d : Deed). MovesBy (at_job holds notes) d told (at_job holds notes))
+    (sym (same_deed (Calls asked) same told i)) (seat_moves asked scope told holds notes m)
+seat_step asked scope None NoCopy holds notes i m = refl
+seat_step asked scope None told holds notes i m = absurd i
+
+pub is_scope_opened : (sort : Sort) (scope : Hold) → MayOpen sort scope → is_scope scope ≡ true
+is_scope_opened OfSeat scope m = m
+is_scope_opened (OpensWith flags) scope m = absurd m
+is_scope_opened (EndsFd fd) scope m = absurd m
+is_scope_opened Plain scope m = absurd m
 
 -- a reply that may come to the step may come to the deed
 pub told_of : (deed : Deed) (made : Option Deed) (told : ActReply) → IsStepOf deed made told →
@@ -175,17 +309,3 @@ told_of deed (Some same) told i t = subst (λ (d : Deed). MayBeTold d told) (sam
 told_of (Calls asked) None NoCopy i t = inl i
 told_of (Changes asked) None NoCopy i t = inl i
 told_of deed None told i t = absurd i
-
-no_copy_causes : (asked : Request) (deed : Deed) (errno : Errno) → StepCauses asked (Some deed) NoCopy errno → ⊥
-no_copy_causes asked (Calls (call.OpenRoot path flags)) errno s = s
-no_copy_causes asked (Calls made) errno s = s
-no_copy_causes asked (Changes change.Begin) errno s = s
-no_copy_causes asked (Changes made) errno s = s
-
--- what the deed causes, the step causes
-pub causes_of : (asked : Request) (deed : Deed) (made : Option Deed) (told : ActReply) (errno : Errno) →
-    IsStepOf deed made told → StepCauses asked (Some deed) told errno → StepCauses asked made told errno
-causes_of asked deed (Some same) told errno i s =
-    subst (λ (d : Deed). StepCauses asked (Some d) told errno) (sym (same_deed deed same told i)) s
-causes_of asked deed None NoCopy errno i s = absurd (no_copy_causes asked deed errno s)
-causes_of asked deed None told errno i s = absurd i

@@ -16,14 +16,15 @@ use Rattle.pt_session.proofs.Cases.{cases}
 use Rattle.pt_session.specs.declared.form.RowForm.{RowForm}
 use Rattle.pt_session.specs.declared.event.KeptEvent.TheVariants as change
 use Rattle.pt_session.specs.declared.reply.EventReply.TheVariants as event
-use Rattle.pt_req.specs.Deed.{Deed, Calls, Changes, Step}
-use Rattle.pt_req.specs.declared.act.ActReply.{ActReply}
-use Rattle.pt_req.specs.declared.act.ActReply.TheVariants.{Event, Host}
-use Rattle.pt_req.specs.declared.hold.Hold.{Hold}
-use Rattle.pt_req.specs.declared.hold.Hold.TheVariants as hold
+use Rattle.pt_frame.specs.Deed.{Deed, Calls, Changes, Step}
+use Rattle.pt_frame.specs.declared.act.ActReply.{ActReply}
+use Rattle.pt_frame.specs.declared.act.ActReply.TheVariants.{Event, Host}
+use Rattle.pt_frame.specs.declared.hold.Hold.{Hold}
+use Rattle.pt_frame.specs.declared.hold.Hold.TheVariants as hold
 use Rattle.pt_law.specs.Discipline.{Job, Notes, Resolution, idle, MovesIf, Disciplined, notes_after, with_root}
 use Rattle.pt_law.specs.World.{World, Past, Turn, turn_by, Goes, IsLawful, Runs, steps_of, settled_if, object_of}
-use Rattle.pt_law.specs.Laws.{AreDisciplined, Starts, ObjectOf}
+use Rattle.pt_law.specs.Laws.{Starts, ObjectOf}
+use Rattle.pt_law.specs.Discipline.{AreDisciplined}
 use Rattle.pt_law.specs.Naming.{resolving, opening, ResolvesNone, OpensNone, NamePlaces, NamePath, LedTo}
 use Rattle.pt_law.proofs.Lists.{each_replaced, set_at_same, set_at_other}
 use Rattle.pt_law.proofs.Givings.{agree_step}
@@ -56,14 +57,16 @@ settled_objects past j (Some (Changes (change.Resolve number)))
     (Event (event.Resolved serial form ids mode)) next tree row l = refl
 settled_objects past j (Some (Calls (call.OpenAt dir name flags mode)))
     (Host (host.Ok (value.Fd fd))) next tree row l = refl
-settled_objects past j (Some (Calls (call.OpenRoot place flags))) (Host (host.Ok (value.Fd fd))) next tree row l = refl
+settled_objects past j (Some (Calls (call.OpenRoot place flags))) (Host (host.Ok (value.Fd fd))) next tree row l =
+    refl
 settled_objects past j (Some _) _ next tree row l = refl
 
 objects_step : (w : World) (s : Turn) (next : World) (row : ℕ) → Agree w.tables → Goes w s next →
     row < w.tables.next_row → (next.past.objects row ≡ w.past.objects row) × (row < next.tables.next_row)
     × Agree next.tables
 objects_step w s next row a g l =
-    let t = turned IsLawful s.step.deed s.step.reply w.tree g.seat w.tables next.tree g.seat_after next.tables g.made in
+    let t = turned IsLawful s.step.deed s.step.reply w.tree g.seat w.tables next.tree g.seat_after next.tables g.made
+    in
     let later = (step_stays w.tables s.step.deed s.step.reply next.tables t).rows in (
       ap (λ (p : Past). p.objects row) g.past
           ∙ settled_objects w.past s.job s.step.deed s.step.reply w.tables.next_row next.tree row l,
@@ -95,7 +98,8 @@ settled_latest past j i (Some (Calls (call.OpenRoot place flags))) (Host (host.O
 settled_latest past j i None told next tree q = refl
 settled_latest past j i (Some _) _ next tree q = refl
 
-pub latest_step : (w : World) (i : ℕ) (s : Turn) (next : World) → Goes w s next → (s.job ≢ i) ⊎ OpensNone s.step.deed s.step.reply →
+pub latest_step : (w : World) (i : ℕ) (s : Turn) (next : World) → Goes w s next →
+    (s.job ≢ i) ⊎ OpensNone s.step.deed s.step.reply →
     next.past.latest i ≡ w.past.latest i
 latest_step w i s next g q =
     ap (λ (p : Past). p.latest i) g.past
@@ -108,11 +112,13 @@ latest_stays j [] w last r q = ap (λ (z : World). z.past.latest j) r
 latest_stays j (s ∷ ss) w last r q =
     ⊎_elim (mine (latest_stays j ss r.0 last r.2)) (other (latest_stays j ss r.0 last r.2)) (cases_eq s.job j)
   where
-    mine : (Each (λ (step : Step). OpensNone step.deed step.reply) (steps_of j ss) → last.past.latest j ≡ r.0.past.latest j) →
+    mine : (Each (λ (step : Step). OpensNone step.deed step.reply) (steps_of j ss) →
+        last.past.latest j ≡ r.0.past.latest j) →
         s.job ≡ j → last.past.latest j ≡ w.past.latest j
     mine ih e = let k = rw (steps_at j s ss e) at q in ih k.1 ∙ latest_step w j s r.0 r.1 (inr k.0)
 
-    other : (Each (λ (step : Step). OpensNone step.deed step.reply) (steps_of j ss) → last.past.latest j ≡ r.0.past.latest j) →
+    other : (Each (λ (step : Step). OpensNone step.deed step.reply) (steps_of j ss) →
+        last.past.latest j ≡ r.0.past.latest j) →
         s.job ≢ j → last.past.latest j ≡ w.past.latest j
     other ih e = ih (rw (steps_past j s ss e) at q) ∙ latest_step w j s r.0 r.1 (inl e)
 
@@ -136,7 +142,7 @@ resolve_at bound base had w js j parent row mode form ids next v g =
 open_at : (bound : ℕ) (base had : ℕ → ℕ) (w : World) (js : ℕ →
     Job) (j row mode : ℕ) (dir : Fd) (name : List ℕ) (flags : OpenFlags) (new : Fd) (next : World) {rest : List Hold}
     (directory : ℕ) → includes flags.0 o_creat ≡ false → j < bound → Inv bound base had w js →
-    Takes (hold.Pin row dir) (js j).holds rest → w.past.objects row ≡ Some directory →
+    Takes (hold.Pin row (Some dir)) (js j).holds rest → w.past.objects row ≡ Some directory →
     Goes w (turn_by j (opening dir name flags mode new)) next →
     (object : ℕ) × (w.tree.names directory name ≡ Some object) × (next.past.latest j ≡ Some object)
     × IsOpenOn w.tree dir directory × IsOpenOn next.tree new object
@@ -267,15 +273,17 @@ led_law {j = j} {number = number} {name = name} limit bound turns more start ope
     let between = v1.2 j lt in
     let move = next_move b (p.later ++ more) (v1.0 j) between.1 between.2 in
     let fit = move.1.1 in
-    let resolved = last_resolved (steps_of j p.before) (steps_of j p.between) number p.row p.mode p.form p.ids (v1.0 j)
+    let resolved = last_resolved (steps_of j p.before) (steps_of j p.between) number p.row p.mode p.form p.ids
+    (v1.0 j)
     p.resolved_last (subst (λ z. Disciplined idle z (v1.0 j)) (own_to j p.before p.between
     (resolving number p.row p.form p.ids p.mode)) between.0) in
     let same : fit.0.0 ≡ record { number = number; row = p.row } = some_same (sym fit.0.2 ∙ resolved) in
-    let pin : Takes (hold.Pin p.row p.dir) (v1.0 j).holds fit.0.1 =
-    subst (λ (r : Resolution). Takes (hold.Pin r.row p.dir) (v1.0 j).holds fit.0.1) same fit.0.3 in
+    let pin : Takes (hold.Pin p.row (Some p.dir)) (v1.0 j).holds fit.0.1 =
+    subst (λ (r : Resolution). Takes (hold.Pin r.row (Some p.dir)) (v1.0 j).holds fit.0.1) same fit.0.3 in
     let kept = row_stays path.at_resolve a path.resolved p.between path.at_open p.row directory.0
     v0.1.tabled.agree path.resolves path.to_open directory.3 directory.2 in
-    let o = open_at bound _ _ path.at_open v1.0 j p.row p.made_mode p.dir name p.flags p.fd opened directory.0 fit.1 lt
+    let o = open_at bound _ _ path.at_open v1.0 j p.row p.made_mode p.dir name p.flags p.fd opened directory.0 fit.1
+    lt
     v1.1 pin kept path.opens in (
       o.0,
       record { directory = directory.0; number_is = directory.1; dir_open = o.3; named = o.1; fd_open = o.4 },

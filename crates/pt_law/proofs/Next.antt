@@ -7,13 +7,14 @@ use Rattle.pt_session.specs.Happens.{Happens}
 use Rattle.pt_session.specs.declared.event.KeptEvent.TheVariants as change
 use Rattle.pt_session.specs.declared.reply.EventReply.{EventReply}
 use Rattle.pt_session.specs.declared.reply.EventReply.TheVariants as event
-use Rattle.pt_req.specs.Deed.{Deed, Calls, Changes}
-use Rattle.pt_req.specs.declared.act.ActReply.{ActReply}
-use Rattle.pt_req.specs.declared.act.ActReply.TheVariants.{Event, Host, NoCopy}
+use Rattle.pt_frame.specs.Deed.{Deed, Calls, Changes}
+use Rattle.pt_frame.specs.declared.act.ActReply.{ActReply}
+use Rattle.pt_frame.specs.declared.act.ActReply.TheVariants.{Event, Host, NoCopy}
 use Rattle.pt_law.specs.Discipline.{Job, JobMoves, MovesIf, Disciplined}
 use Rattle.pt_law.specs.World.{World, Turn, TablesGo, Runs, TablesRun, steps_of}
 use Rattle.pt_law.specs.Ledger.{open_count, inserted}
-use Rattle.pt_law.specs.Laws.{AreDisciplined, Starts, NamesOpen, IsHonoured}
+use Rattle.pt_law.specs.Laws.{Starts, NamesOpen, IsHonoured}
+use Rattle.pt_law.specs.Discipline.{AreDisciplined}
 use Rattle.pt_law.proofs.Flows.{IsHonest}
 use Rattle.pt_law.proofs.Counting.{honest}
 use Rattle.pt_law.proofs.Steps.{Tabled}

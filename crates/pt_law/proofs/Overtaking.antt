@@ -1,5 +1,6 @@
 -- A job is told that it was overtaken only where another began the session anew after its first step.
-use Rattle.std.proofs.Common.{◌≡◌, ◌≢◌, ◌⊎◌, ⊎_elim, inl, inr, ℕ, ◌+◌, ◌<◌, List, [], ◌∷◌, ◌++◌, length, refl, sym, ap}
+use Rattle.std.proofs.Common.{◌≡◌, ◌≢◌, ◌⊎◌, ⊎_elim, inl, inr, ℕ, ◌+◌, ◌<◌, List, [], ◌∷◌, ◌++◌, length, refl, sym}
+use Rattle.std.proofs.Common.{ap}
 use Rattle.std.proofs.Common.{subst, ◌∙◌, arith, append_assoc, append-nil, length-append, Option, Some, None}
 use Rattle.pt_host.specs.Words.{set_at, Each}
 use Rattle.pt_host.specs.Call.{Call}
@@ -16,12 +17,13 @@ use Rattle.pt_session.specs.declared.event.KeptEvent.TheVariants as change
 use Rattle.pt_session.specs.declared.reply.EventReply.{EventReply}
 use Rattle.pt_session.specs.declared.reply.EventRefusal.TheVariants.{Overtaken}
 use Rattle.pt_session.specs.declared.reply.EventReply.TheVariants as event
-use Rattle.pt_req.specs.Deed.{Deed, Calls, Changes, Step}
-use Rattle.pt_req.specs.declared.act.ActReply.{ActReply}
-use Rattle.pt_req.specs.declared.act.ActReply.TheVariants.{Event, Host}
+use Rattle.pt_frame.specs.Deed.{Deed, Calls, Changes, Step}
+use Rattle.pt_frame.specs.declared.act.ActReply.{ActReply}
+use Rattle.pt_frame.specs.declared.act.ActReply.TheVariants.{Event, Host}
 use Rattle.pt_law.specs.Discipline.{Job, Notes, idle, notes_after, with_root, MovesBy, MovesIf, Disciplined}
 use Rattle.pt_law.specs.World.{Turn, turn_by, TablesGo, TablesRun, steps_of}
-use Rattle.pt_law.specs.Laws.{AreDisciplined, IsOvertaken, TellsOvertaken, TellsGiven, IsBeginning, BeginsFirst}
+use Rattle.pt_law.specs.Laws.{IsOvertaken, TellsOvertaken, TellsGiven, IsBeginning, BeginsFirst}
+use Rattle.pt_law.specs.Discipline.{AreDisciplined}
 use Rattle.pt_law.proofs.Ignoring.{IgnoresRows, IgnoresHandles, forgets_one, forgets_all, unpins, handle_dies}
 use Rattle.pt_law.proofs.Ignoring.{unpins_handle}
 use Rattle.pt_law.proofs.Flows.{called, unmade}
@@ -201,7 +203,10 @@ other_step : (j : ℕ) (t t' : Tables) (turns : List Turn) (owner : ℕ) (deed :
 other_step j t t' turns owner (Some (Changes change.Clear)) (Event (event.Cleared was closings)) g n b era e =
     inr (record {
       before = turns;
-      clearing = record { job = owner; step = made (Some (Changes change.Clear)) (Event (event.Cleared was closings)) };
+      clearing = record {
+        job = owner;
+        step = made (Some (Changes change.Clear)) (Event (event.Cleared was closings));
+      };
       later = [];
       in_turn = refl;
       begun = b;
@@ -334,7 +339,8 @@ given_era : (t t' : Tables) (job after : Job) (deed : Option Deed) (told : ActRe
     MovesIf job deed told after → TellsGiven deed told → job.notes.era ≡ Some t.era
 given_era t t' job after (Some (Changes (change.Claim era handle ids))) (Event (event.Claimed number)) g m o =
     m.1.1 ∙ ap Some (cases t t' (change.Claim era handle ids) (event.Claimed number) g).0
-given_era t t' job after (Some (Changes (change.Insert era number form ids mode))) (Event (event.Inserted given)) g m o =
+given_era t t' job after (Some (Changes (change.Insert era number form ids mode))) (Event (event.Inserted given)) g m
+    o =
     m.1.0 ∙ ap Some (cases t t' (change.Insert era number form ids mode) (event.Inserted given) g).0
 given_era t t' job after (Some (Changes (change.Insert era number form ids mode))) (Event (event.Found given)) g m o =
     m.1.0 ∙ ap Some (cases t t' (change.Insert era number form ids mode) (event.Found given) g).0
@@ -350,7 +356,8 @@ cleared_later : (t t' : Tables) (step : Step) (era closings : ℕ) →
     step ≡ record { deed = Some (Changes change.Clear); reply = Event (event.Cleared era closings) } →
     TablesGo t step.deed step.reply t' → t'.era ≡ t.era + 1
 cleared_later t t' step era closings e g =
-    let h = cases t t' change.Clear (event.Cleared era closings) (subst (λ (s : Step). TablesGo t s.deed s.reply t') e g) in
+    let h = cases t t' change.Clear (event.Cleared era closings)
+    (subst (λ (s : Step). TablesGo t s.deed s.reply t') e g) in
     ap (λ (z : Tables). z.era) h.1.7
 
 begins_where : (first : Step) (rest more : List Step) (last : Step) → BeginsFirst (first ∷ (rest ++ last ∷ more)) →
@@ -375,7 +382,8 @@ shut_out limit bound turns turn more now next first rest o e begins a r g given 
     ≡ first ∷ ((rest ++ own_later) ++ turn.step ∷ steps_of j more) =
     steps_append j turns (turn ∷ more) ∙ ap (λ z. steps_of j turns ++ z) (steps_same turn more)
     ∙ ap (λ z. z ++ turn.step ∷ steps_of j more) own_steps in
-    let begun = begins_where first (rest ++ own_later) (steps_of j more) turn.step (subst BeginsFirst all_steps begins) in
+    let begun = begins_where first (rest ++ own_later) (steps_of j more) turn.step
+    (subst BeginsFirst all_steps begins) in
     let d = subst (λ z. Disciplined idle z own.0) own_steps own.1.0 in
     let l = located j o.before [] first rest e in
     let run : TablesRun (empty_tables limit) (l.0 ++ turn_by j first ∷ (l.1 ++ o.clearing ∷ o.later)) now =

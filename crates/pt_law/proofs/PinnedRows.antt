@@ -7,9 +7,9 @@ use Rattle.pt_host.specs.declared.ids.Fd.{Fd}
 use Rattle.pt_session.specs.Tables.{Tables}
 use Rattle.pt_session.specs.declared.row.Row.{Row}
 use Rattle.pt_session.specs.declared.row.HandleRow.{HandleRow}
-use Rattle.pt_req.specs.Held.{fd_of}
-use Rattle.pt_req.specs.declared.hold.Hold.{Hold}
-use Rattle.pt_req.specs.declared.hold.Hold.TheVariants as hold
+use Rattle.pt_law.specs.World.{fd_of}
+use Rattle.pt_frame.specs.declared.hold.Hold.{Hold}
+use Rattle.pt_frame.specs.declared.hold.Hold.TheVariants as hold
 use Rattle.pt_law.specs.Discipline.{Job}
 use Rattle.pt_law.specs.World.{Past}
 use Rattle.pt_law.proofs.Flows.{pin_held, handle_pin_held}
@@ -39,14 +39,15 @@ some_pinned {R = R} serial_of pins_of serial (row ∷ rows) h =
 pub pinned_row : (bound : ℕ) (tree : Tree) (t : Tables) (past : Past) (js : ℕ →
     Job) (j row : ℕ) (fd : Fd) {rest : List Hold} → j < bound → Books bound t js →
     Right bound tree t.next_row past t.rows t.handles js →
-    Takes (hold.Pin row fd) (js j).holds rest →
+    Takes (hold.Pin row (Some fd)) (js j).holds rest →
     (object : ℕ) × IsOpenOn tree fd object × (past.objects row ≡ Some object)
 pinned_row bound tree t past js j row fd lt b v k =
     let x = b.pins row in
     let y = part (pin_held row) js bound j lt in
     let z = total_takes (pin_held row) k in
     let s = is_same row in
-    let r = some_pinned (λ (row : Row). row.serial) (λ (row : Row). row.pins) row t.rows (omega (arith, x, y, z, s)) in
+    let r = some_pinned (λ (row : Row). row.serial) (λ (row : Row). row.pins) row t.rows (omega (arith, x, y, z, s))
+    in
     let o = each_taken (RowOpen tree past) r.2 v.shown in
     let p = each_taken (PinRight t.next_row past.fds) k (v.knows j lt).pins in
     let same : fd_of r.0.form ≡ fd = (let a = ap past.fds (sym r.3) ∙ o.kept_by in let b = p.1 in cc) in

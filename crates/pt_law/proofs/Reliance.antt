@@ -19,12 +19,13 @@ use Rattle.pt_session.specs.declared.event.KeptEvent.TheVariants as change
 use Rattle.pt_session.specs.declared.reply.EventReply.{EventReply}
 use Rattle.pt_session.specs.declared.reply.EventReply.TheVariants as event
 use Rattle.pt_session.specs.declared.reply.EventRefusal.TheVariants.{NotLive}
-use Rattle.pt_req.specs.Deed.{Deed, Calls, Changes}
-use Rattle.pt_req.specs.declared.act.ActReply.{ActReply}
-use Rattle.pt_req.specs.declared.act.ActReply.TheVariants.{Event, Host}
+use Rattle.pt_frame.specs.Deed.{Deed, Calls, Changes}
+use Rattle.pt_frame.specs.declared.act.ActReply.{ActReply}
+use Rattle.pt_frame.specs.declared.act.ActReply.TheVariants.{Event, Host}
 use Rattle.pt_law.specs.World.{World, Past, Turn, IsLawful, Runs, TablesGo, TablesRun, settled_if}
 use Rattle.pt_law.specs.Ledger.{forgotten, given_by, inserted, inserted_if, inserted_as}
-use Rattle.pt_law.specs.Laws.{AreDisciplined, Starts, IsLive, ObjectOf}
+use Rattle.pt_law.specs.Laws.{Starts, IsLive, ObjectOf}
+use Rattle.pt_law.specs.Discipline.{AreDisciplined}
 use Rattle.pt_law.specs.Uses.{StaysLive, amount_asked}
 use Rattle.pt_law.proofs.Lists.{is_apart, set_at_other, each_taken, each_replaced}
 use Rattle.pt_law.proofs.Givings.{count_in, live_count, in_other, apart_from, none_other, counts_step, counts_event}
@@ -66,7 +67,8 @@ pub object_stays : (turns : List Turn) (start now : World) (number object : ℕ)
 object_stays [] start now n o live r at = ap (λ (w : World). w.past.numbers n) r ∙ at
 object_stays (s ∷ ss) start now n o live r at =
     let g = r.1 in
-    let t = turned IsLawful s.step.deed s.step.reply start.tree g.seat start.tables r.0.tree g.seat_after r.0.tables g.made in
+    let t = turned IsLawful s.step.deed s.step.reply start.tree g.seat start.tables r.0.tree g.seat_after r.0.tables
+    g.made in
     let same = ap (λ (p : Past). p.numbers n) g.past
     ∙ settled_number start.past start.tables r.0.tables s.job s.step.deed s.step.reply r.0.tree n
     (live [] (s ∷ ss) start refl refl) t in
@@ -112,7 +114,8 @@ at_most n most (row ∷ rows) a h = ⊎_elim
 
 pub gone_law : (before after : Tables) (list : List (ℕ × ℕ)) (closings number : ℕ) → Agree before →
     Happens before (change.Forget list) (event.Done closings) after →
-    Each (λ row. HasNumber number row → row.count ≤ amount_asked number list) before.rows → NoRow after (HasNumber number)
+    Each (λ row. HasNumber number row → row.count ≤ amount_asked number list) before.rows →
+    NoRow after (HasNumber number)
 gone_law before after list closings n a h most =
     let c = counts_event n before (change.Forget list) (event.Done closings) after a h in
     let l = forgotten_less n (live_count n before) list in
@@ -180,7 +183,8 @@ tables_append : (turns more : List Turn) (t mid last : Tables) → TablesRun t t
 tables_append [] more t mid last r k = subst (λ z. TablesRun z more last) r k
 tables_append (s ∷ ss) more t mid last r k = (r.0, r.1, tables_append ss more r.0 mid last r.2 k)
 
-pub inserted_append : (n : ℕ) (turns more : List Turn) → inserted n (turns ++ more) ≡ inserted n turns + inserted n more
+pub inserted_append : (n : ℕ) (turns more : List Turn) → inserted n (turns ++ more) ≡ inserted n turns
+    + inserted n more
 inserted_append n [] more = omega arith
 inserted_append n (s ∷ ss) more = let h = inserted_append n ss more in omega (arith, h)
 

@@ -2,15 +2,16 @@
 use Rattle.std.proofs.Common.{◌≡◌, ℕ, ◌+◌, ◌≤◌, List, [], ◌∷◌, Option, Some, None, refl, ap, arith}
 use Rattle.pt_host.specs.Words.{total}
 use Rattle.pt_iface.specs.declared.answer.Answer.TheVariants as answer
-use Rattle.pt_req.specs.Deed.{Deed, Step}
-use Rattle.pt_req.specs.Held.{closings_in}
-use Rattle.pt_req.specs.declared.act.ActReply.{ActReply}
-use Rattle.pt_req.specs.declared.finish.Finish.{Finish}
-use Rattle.pt_req.specs.declared.finish.Finish.TheVariants as finish
-use Rattle.pt_req.specs.declared.hold.Hold.{Hold}
-use Rattle.pt_req.specs.declared.hold.Hold.TheVariants as hold
+use Rattle.pt_frame.specs.Deed.{Deed, Step}
+use Rattle.pt_frame.specs.Replies.{closings_in}
+use Rattle.pt_frame.specs.declared.act.ActReply.{ActReply}
+use Rattle.pt_frame.specs.declared.finish.Finish.{Finish}
+use Rattle.pt_frame.specs.declared.finish.Finish.TheVariants as finish
+use Rattle.pt_frame.specs.declared.hold.Hold.{Hold}
+use Rattle.pt_frame.specs.declared.hold.Hold.TheVariants as hold
 use Rattle.pt_law.specs.Discipline.{Shifts, Job, idle, MovesIf, Disciplined, ComesToEnd, entry_holds}
-use Rattle.pt_law.specs.Ledger.{weighed, summed, fd_taken, fd_given, fds_carried, fd_held, pin_made, pin_ended}
+use Rattle.pt_law.specs.Ledger.{weighed, summed, fd_taken, fd_given, fds_carried, pin_made, pin_ended}
+use Rattle.pt_law.proofs.Flows.{fd_held}
 use Rattle.pt_law.specs.Ledger.{handle_pin_made, handle_pin_ended, closing_ended}
 use Rattle.pt_law.specs.Settled.{IsSettled}
 use Rattle.pt_law.proofs.Flows.{pin_held, handle_pin_held}
@@ -66,6 +67,8 @@ owed_steps job (step ∷ steps) last d =
 pub entry_weighs : (w : Hold → ℕ) → ((era n : ℕ) → w (hold.Count era n) ≡ 0) → (era : ℕ) (end : Finish) →
     total w (entry_holds era end) ≡ 0
 entry_weighs w z era (finish.Answer (answer.Entry entry)) = let a = z era entry.inode in omega (arith, a)
+entry_weighs w z era (finish.Answer (answer.Created entry handle options)) = let a = z era entry.inode in
+    omega (arith, a)
 entry_weighs w z era _ = refl
 
 pub all_settled : (steps : List Step) (end : Finish) → ComesToEnd idle steps end → IsSettled steps end

@@ -1,25 +1,25 @@
 -- What was given and not given back is what the answer has.
 use Rattle.std.proofs.Common.{◌≡◌, ℕ, ◌+◌, List, [], ◌∷◌, ◌++◌, true, false, Option, Some, None, refl, ap, arith}
 use Rattle.pt_host.specs.Words.{is, total}
-use Rattle.pt_host.specs.declared.op.KeptHostOp.TheVariants as call
-use Rattle.pt_host.specs.declared.reply.HostReply.TheVariants as host
-use Rattle.pt_host.specs.declared.reply.HostValue.TheVariants as value
+use Rattle.pt_host.specs.Sorts.{sort_of, fds_of}
+use Rattle.pt_frame.specs.Held.{statted}
+use Rattle.pt_law.proofs.Holding.{others_called}
 use Rattle.pt_session.specs.declared.event.KeptEvent.TheVariants as change
 use Rattle.pt_session.specs.declared.reply.EventReply.TheVariants as event
 use Rattle.pt_iface.specs.declared.answer.Answer.TheVariants as answer
-use Rattle.pt_req.specs.Deed.{Deed, Calls, Changes, Step}
-use Rattle.pt_req.specs.Held.{brought, taken_in}
-use Rattle.pt_req.specs.declared.act.ActReply.{ActReply}
-use Rattle.pt_req.specs.declared.act.ActReply.TheVariants.{Event, Host}
-use Rattle.pt_req.specs.declared.finish.Finish.{Finish}
-use Rattle.pt_req.specs.declared.finish.Finish.TheVariants as finish
-use Rattle.pt_req.specs.declared.hold.Hold.{Hold}
-use Rattle.pt_req.specs.declared.hold.Hold.TheVariants as hold
-use Rattle.pt_req.specs.declared.hold.Taken.{Taken}
-use Rattle.pt_req.specs.declared.hold.Taken.TheVariants as taken
+use Rattle.pt_frame.specs.Deed.{Deed, Calls, Changes, Step}
+use Rattle.pt_frame.specs.Replies.{brought, taken_in}
+use Rattle.pt_frame.specs.declared.act.ActReply.{ActReply}
+use Rattle.pt_frame.specs.declared.act.ActReply.TheVariants.{Event}
+use Rattle.pt_frame.specs.declared.finish.Finish.{Finish}
+use Rattle.pt_frame.specs.declared.finish.Finish.TheVariants as finish
+use Rattle.pt_frame.specs.declared.hold.Hold.{Hold}
+use Rattle.pt_frame.specs.declared.hold.Hold.TheVariants as hold
+use Rattle.pt_frame.specs.declared.hold.Taken.{Taken}
+use Rattle.pt_frame.specs.declared.hold.Taken.TheVariants as taken
 use Rattle.pt_law.specs.Discipline.{Shifts, Job, MovesIf, Disciplined, ComesToEnd, idle, entry_holds}
 use Rattle.pt_law.specs.Settled.{job_given, job_returned, all_given, all_returned, entry_count}
-use Rattle.pt_law.proofs.Lists.{total_takes, total_replaces}
+use Rattle.pt_law.proofs.Lists.{total_takes}
 
 -- 1 for a count of this number
 abbrev count_of : ℕ → Hold → ℕ
@@ -35,25 +35,10 @@ brings_none n (taken.Fd fd false) holds = omega arith
 
 one_given : (n : ℕ) (deed : Deed) (told : ActReply) (holds after : List Hold) → Shifts holds deed told after →
     total (count_of n) after + job_returned n (Some deed) ≡ total (count_of n) holds + job_given n (Some deed) told
-one_given n (Calls (call.OpenRoot path flags)) (Host (host.Ok (value.Fd fd))) holds after s =
-    let k = total_takes (count_of n) s in omega (arith, k)
-one_given n (Calls (call.OpenAt dir name flags mode)) (Host (host.Ok (value.Fd fd))) holds after s =
-    let k = total_takes (count_of n) s.1 in omega (arith, k)
-one_given n (Calls (call.OpenAt dir name flags mode)) told holds after s = let k = ap (total (count_of n)) s.1 in
-    omega (arith, k)
-one_given n (Calls (call.Reopen fd flags)) (Host (host.Ok (value.Fd new))) holds after s =
-    let k = total_takes (count_of n) s.1 in omega (arith, k)
-one_given n (Calls (call.Reopen fd flags)) told holds after s = let k = ap (total (count_of n)) s.1 in omega (arith, k)
-one_given n (Calls (call.ReadAt fd offset size)) told holds after s = let k = ap (total (count_of n)) s.1 in
-    omega (arith, k)
-one_given n (Calls (call.Stat fd)) (Host (host.Ok (value.Stat stat))) holds after s =
-    let k = total_replaces (count_of n) s.1 in omega (arith, k)
-one_given n (Calls (call.Stat fd)) told holds after s = let k = ap (total (count_of n)) s.1 in omega (arith, k)
-one_given n (Calls (call.Close fd)) told holds after s = let k = total_takes (count_of n) s.1 in omega (arith, k)
-one_given n (Calls (call.OpenRoot path flags)) told holds after s = let k = ap (total (count_of n)) s in
-    omega (arith, k)
-one_given n (Calls (call.Edit edit)) told holds after s = let k = ap (total (count_of n)) s in omega (arith, k)
-one_given n (Calls asked) told holds after s = absurd s
+one_given n (Calls asked) told holds after s =
+    let k = others_called (count_of n) (λ fd was. refl) (sort_of asked) (fds_of asked) (statted asked) told holds
+    after s
+    in omega (arith, k)
 one_given n (Changes (change.Resolve number)) (Event (event.Resolved row form ids mode)) holds after s =
     let k = total_takes (count_of n) s in omega (arith, k)
 one_given n (Changes (change.Unpin row)) told holds after s = let k = total_takes (count_of n) s.1 in omega (arith, k)
@@ -102,6 +87,7 @@ each_given n job (step ∷ steps) last d =
 
 entry_weighs : (n era : ℕ) (end : Finish) → total (count_of n) (entry_holds era end) ≡ entry_count n end
 entry_weighs n era (finish.Answer (answer.Entry entry)) = omega arith
+entry_weighs n era (finish.Answer (answer.Created entry handle options)) = omega arith
 entry_weighs n era end = refl
 
 pub settled : (n : ℕ) (steps : List Step) (end : Finish) → ComesToEnd idle steps end →

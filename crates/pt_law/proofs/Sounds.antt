@@ -1,55 +1,40 @@
--- A tree that is fit is sound in its frame.
-use Rattle.std.proofs.Common.{◌≡◌, inl, inr, ℕ, zero, suc, List, [], ◌∷◌, ◌++◌, length, Bool, true, false, Option}
-use Rattle.std.proofs.Common.{Some, None, refl, sym, ap, subst, ◌∙◌, arith}
+-- A tree that keeps the discipline is sound in its frame.
+use Rattle.std.proofs.Common.{◌≡◌, ℕ, zero, suc, List, [], ◌∷◌, ◌++◌, length, Bool, true, false, Option, nat_lt}
+use Rattle.std.proofs.Common.{Some, None, refl, sym, ap, subst, ◌∙◌, arith, if◌then◌else◌}
 use Rattle.pt_host.specs.Words.{Takes, Takes.{here, there}}
+use Rattle.pt_host.specs.Sorts.{sort_of}
 use Rattle.pt_host.specs.declared.ids.Errno.{Errno}
 use Rattle.pt_host.specs.declared.op.KeptHostOp.TheVariants as call
+use Rattle.pt_host.specs.declared.reply.HostReply.TheVariants as host
+use Rattle.pt_host.specs.declared.seat.HostSeat.{HostSeat}
 use Rattle.pt_session.specs.declared.event.KeptEvent.TheVariants as change
-use Rattle.pt_iface.specs.declared.answer.Answer.{Answer}
-use Rattle.pt_iface.specs.declared.answer.Answer.TheVariants as answer
-use Rattle.pt_iface.specs.declared.request.Request.{Request}
-use Rattle.pt_req.specs.Deed.{Deed, Calls, Changes, Step, IsStepOf}
-use Rattle.pt_req.specs.Held.{held, giving, closings_in, taken_in, brought, lost_by, restored, refusal, event_refusal}
-use Rattle.pt_req.specs.Held.{passes_with, front, behind, under, dropped}
-use Rattle.pt_req.specs.Grammar.{Grammar, End, Owed}
-use Rattle.pt_req.specs.Frame.{closings, give_slot, give_taken, give, leave, or_lost, shut, cut}
-use Rattle.pt_req.specs.Tree.{Tree, Gives, Refuses, Asks, Shuts, framed, answered}
-use Rattle.pt_req.specs.declared.act.ActReply.{ActReply}
-use Rattle.pt_req.specs.declared.act.ActReply.TheVariants.{Event, Host}
 use Rattle.pt_session.specs.declared.reply.EventReply.TheVariants as event
 use Rattle.pt_session.specs.declared.reply.EventRefusal.{EventRefusal}
 use Rattle.pt_session.specs.declared.reply.EventRefusal.TheVariants as refused
-use Rattle.pt_host.specs.declared.reply.HostReply.TheVariants as host
-use Rattle.pt_req.specs.declared.finish.Finish.{Finish}
-use Rattle.pt_req.specs.declared.finish.Finish.TheVariants as finish
-use Rattle.pt_req.specs.declared.hold.Hold.{Hold}
-use Rattle.pt_req.specs.declared.hold.Hold.TheVariants as hold
-use Rattle.pt_req.specs.declared.hold.Taken.{Taken}
-use Rattle.pt_req.specs.declared.hold.Taken.TheVariants as taken
-use Rattle.pt_law.specs.Discipline.{Notes, Job, at_job, notes_after, unnoted, entry_holds}
-use Rattle.pt_law.specs.Cause.{IsCaused, IsCausedEnd}
-use Rattle.pt_law.specs.Fit.{After, Lasts, HoldsEntry, Fit}
-use Rattle.pt_law.proofs.Sound.{Sound, Owes, Within, Goes, owing_job}
-use Rattle.pt_law.proofs.Moving.{made_moves, never_copied, giving_lasts, gives_back, may_step, told_of, causes_of}
-
--- causes
-caused_within : (asked : Request) (last : Answer) (past more : List Step) → Within asked past more →
-    IsCaused asked past last → IsCaused asked more last
-caused_within asked (answer.Refused errno) past more w (inl own) = inl own
-caused_within asked (answer.Refused errno) past more w (inr made) = inr (w errno made)
-caused_within asked last past more w c = tt
-
-pub end_within : (asked : Request) (last : Finish) (past more : List Step) → Within asked past more →
-    IsCausedEnd asked past last → IsCausedEnd asked more last
-end_within asked (finish.Answer last) past more w c = caused_within asked last past more w c
-end_within asked (finish.Lost errno) past more w c = tt
-
-restored_caused : (asked : Request) (last : Finish) (fault : Option Errno) (past : List Step) →
-    IsCausedEnd asked past last → IsCausedEnd asked past (restored last fault)
-restored_caused asked last None past c = c
-restored_caused asked (finish.Lost first) (Some errno) past c = tt
-restored_caused asked (finish.Answer answer.Cut) (Some errno) past c = tt
-restored_caused asked (finish.Answer told) (Some errno) past c = tt
+use Rattle.pt_iface.specs.declared.answer.Answer.{Answer}
+use Rattle.pt_iface.specs.declared.answer.Answer.TheVariants as answer
+use Rattle.pt_frame.specs.Deed.{Calls, Changes}
+use Rattle.pt_frame.specs.Held.{is_scope, held, opened}
+use Rattle.pt_frame.specs.Replies.{closings_in, taken_in, brought, restored, refusal, event_refusal, fault_if}
+use Rattle.pt_frame.specs.Grammar.{Grammar, End, Owed}
+use Rattle.pt_frame.specs.Frame.{giving, give_slot, give_taken, closings, give, leave, or_lost, bare_one, bare, front}
+use Rattle.pt_frame.specs.Frame.{behind, under, mark_in, outer, shut, answered, cut}
+use Rattle.pt_frame.specs.Tree.{RequestTree, Gives, Refuses, Asks, Opens, Bares, Brackets, Shuts, Allocates, framed}
+use Rattle.pt_frame.specs.Tree.{follows}
+use Rattle.pt_frame.specs.Tree.{may_give_up}
+use Rattle.pt_frame.specs.declared.act.ActReply.{ActReply}
+use Rattle.pt_frame.specs.declared.act.ActReply.TheVariants.{Event, Host, NoCopy}
+use Rattle.pt_frame.specs.declared.finish.Finish.{Finish}
+use Rattle.pt_frame.specs.declared.finish.Finish.TheVariants as finish
+use Rattle.pt_frame.specs.declared.hold.Hold.{Hold}
+use Rattle.pt_frame.specs.declared.hold.Hold.TheVariants as hold
+use Rattle.pt_frame.specs.declared.hold.Taken.{Taken}
+use Rattle.pt_frame.specs.declared.hold.Taken.TheVariants as taken
+use Rattle.pt_law.specs.Discipline.{Notes, Job, at_job, notes_after, unnoted, entry_holds, MovesIf}
+use Rattle.pt_law.specs.Keeps.{After, Lasts, HoldsEntry, Keeps, unscoped, uncovered, down_to}
+use Rattle.pt_law.proofs.Sound.{Sound, Owes, Goes, owing_job}
+use Rattle.pt_law.proofs.Unscoped.{opened_on, all_down}
+use Rattle.pt_law.proofs.Moving.{made_moves, giving_lasts, gives_step, may_step, seat_step, is_scope_opened, told_of}
 
 restored_bare : (last : Finish) (fault : Option Errno) → entry_holds 0 last ≡ [] →
     entry_holds 0 (restored last fault) ≡ []
@@ -69,144 +54,224 @@ after_map : (count : ℕ) (P Q : Notes → Type 0) (notes : Notes) → ((later :
 after_map zero P Q notes f k = f notes k
 after_map (suc count) P Q notes f k = λ later l. f later (k later l)
 
-goes_on : (asked : Request) (rest : Grammar) (holds : List Hold) (count : ℕ) (notes later : Notes)
-    (past more : List Step) →
-    Lasts notes later → Within asked past more → Goes asked rest holds count notes past →
-    Goes asked rest holds count later more
-goes_on asked rest holds count notes later past more l w k =
-    λ last m much v. k last (m.0 ∙ l.0, m.1 ∙ l.1) much (λ errno s. v errno (w errno s))
+goes_on : (rest : Grammar) (holds : List Hold) (count : ℕ) (notes later : Notes) → Lasts notes later →
+    Goes rest holds count notes → Goes rest holds count later
+goes_on rest holds count notes later l k = λ last m. k last (m.0 ∙ l.0, m.1 ∙ l.1)
+
+-- a slot that is given back brings no closing
+gave_none : (told : ActReply) → closings_in (Changes change.GiveFd) told ≡ 0
+gave_none (Event told) = refl
+gave_none (Host told) = refl
+gave_none NoCopy = refl
 
 -- what a closing brought
-sound_slot : (asked : Request) (count : ℕ) (holds : List Hold) (rest : Grammar) (notes : Notes) (past : List Step) →
-    Goes asked rest holds count notes past →
-    Sound asked (give_slot true count holds rest) (owing_job (hold.Slot ∷ holds) count notes) past
-sound_slot asked count holds rest notes past k = (
+sound_slot : (count : ℕ) (holds : List Hold) (rest : Grammar) (notes : Notes) → Goes rest holds count notes →
+    Sound (give_slot true count holds rest) (owing_job (hold.Slot ∷ unscoped holds) count notes)
+sound_slot count holds rest notes k = (
   (refl, refl),
   (λ step i t. (
-    owing_job holds count notes,
-    made_moves (Changes change.GiveFd) step.deed step.reply _ _ (λ no. no) i (here, tt, omega arith, refl),
-    k notes (refl, refl) (step ∷ past) (λ errno s. inr s),
+    owing_job (unscoped holds) count notes,
+    made_moves (Changes change.GiveFd) step.deed step.reply _ _ (λ no. no) i
+        (here, tt, (let a = gave_none step.reply in omega (arith, a)), refl),
+    k notes (refl, refl),
   )),
 )
 
-sound_taken : (asked : Request) (brings : Taken) (count : ℕ) (holds : List Hold) (rest : Grammar) (notes : Notes)
-    (past : List Step) →
-    Goes asked rest holds count notes past →
-    Sound asked (give_taken brings count holds rest) (owing_job (brought brings ++ holds) count notes) past
-sound_taken asked taken.Nothing count holds rest notes past k = k notes (refl, refl) past (λ errno s. s)
-sound_taken asked taken.Slot count holds rest notes past k = sound_slot asked count holds rest notes past k
-sound_taken asked (taken.Fd fd true) count holds rest notes past k = (
+sound_taken : (brings : Taken) (count : ℕ) (holds : List Hold) (rest : Grammar) (notes : Notes) →
+    Goes rest holds count notes →
+    Sound (give_taken brings count holds rest) (owing_job (brought brings ++ unscoped holds) count notes)
+sound_taken taken.Nothing count holds rest notes k = k notes (refl, refl)
+sound_taken taken.Slot count holds rest notes k = sound_slot count holds rest notes k
+sound_taken (taken.Fd fd true) count holds rest notes k = (
   (refl, refl),
   (λ step i t. (
-    owing_job (hold.Slot ∷ holds) count (unnoted fd notes),
+    owing_job (hold.Slot ∷ unscoped holds) count (unnoted fd notes),
     made_moves (Calls (call.Close fd)) step.deed step.reply _ _ (λ no. no) i ((None, here), tt, omega arith, refl),
-    sound_slot asked count holds rest (unnoted fd notes) (step
-        ∷ past) (goes_on asked rest holds count notes (unnoted fd notes) past (step
-        ∷ past) (refl, refl) (λ errno s. inr s) k),
+    sound_slot count holds rest (unnoted fd notes)
+        (goes_on rest holds count notes (unnoted fd notes) (refl, refl) k),
   )),
 )
-sound_taken asked (taken.Fd fd false) count holds rest notes past k = (
+sound_taken (taken.Fd fd false) count holds rest notes k = (
   (refl, refl),
   (λ step i t. (
-    owing_job holds count (unnoted fd notes),
+    owing_job (unscoped holds) count (unnoted fd notes),
     made_moves (Calls (call.Close fd)) step.deed step.reply _ _ (λ no. no) i ((None, here), tt, omega arith, refl),
-    k (unnoted fd notes) (refl, refl) (step ∷ past) (λ errno s. inr s),
+    k (unnoted fd notes) (refl, refl),
   )),
 )
 
-pub sound_closings : (asked : Request) (count : ℕ) (holds : List Hold) (next : Grammar) (notes : Notes)
-    (past : List Step) →
-    After count (λ later. (more : List Step) → Within asked past more →
-    Sound asked next (at_job holds later) more) notes →
-    Sound asked (closings count holds next) (owing_job holds count notes) past
-sound_closings asked zero holds next notes past k = k past (λ errno s. s)
-sound_closings asked (suc count) holds next notes past k = (
+pub sound_closings : (count : ℕ) (holds : List Hold) (next : Grammar) (notes : Notes) →
+    After count (λ later. Sound next (at_job (unscoped holds) later)) notes →
+    Sound (closings count holds next) (owing_job (unscoped holds) count notes)
+sound_closings zero holds next notes k = k
+sound_closings (suc count) holds next notes k = (
   (refl, refl),
   (λ step i t. (
-    owing_job (brought (taken_in step.reply) ++ holds) count notes,
-    made_moves (Changes change.TakeClosing) step.deed step.reply _ _ (λ no.
-        no) i (refl, omega arith, omega arith, refl),
-    sound_taken asked (taken_in step.reply) count holds (closings count holds next) notes (step
-        ∷ past) (λ later l more w.
-        sound_closings asked count holds next later more
-        (after_any count _ later (λ last m much v.
-        k last (m.0 ∙ l.0, m.1 ∙ l.1) much (λ errno s. v errno (w errno (inr s)))))),
+    owing_job (brought (taken_in step.reply) ++ unscoped holds) count notes,
+    made_moves (Changes change.TakeClosing) step.deed step.reply _ _ (λ no. no) i
+        (refl, omega arith, omega arith, refl),
+    sound_taken (taken_in step.reply) count holds (closings count holds next) notes (λ later l.
+        sound_closings count holds next later
+        (after_any count _ later (λ last m. k last (m.0 ∙ l.0, m.1 ∙ l.1)))),
   )),
 )
 
--- holds are given back
-pub sound_give : (asked : Request) (one : Hold) (holds left : List Hold) (next : Option Errno →
-    Grammar) (notes : Notes) (past : List Step) → Takes one holds left →
-    ((fault : Option Errno) → Goes asked (next fault) left 0 notes past) →
-    Sound asked (give one holds left next) (at_job holds notes) past
-sound_give asked one holds left next notes past t k = (
+-- a hold is given back
+pub sound_give : (seat : HostSeat) (one : Hold) (holds left : List Hold) (next : Option Errno → Grammar)
+    (notes : Notes) → Takes one holds left → ((fault : Option Errno) → Goes (next fault) left 0 notes) →
+    Sound (give seat one holds left next) (at_job (unscoped holds) notes)
+sound_give seat one holds left next notes t k = (
   (refl, refl),
   (λ step i told.
-      let later = notes_after notes (giving one) step.reply in
-      let count = closings_in (giving one) step.reply in (
-        owing_job left count later,
-        made_moves (giving one) step.deed step.reply _ _ (never_copied one) i
-            (gives_back one step.reply holds left notes t),
-        sound_closings asked count left (next (lost_by one step.reply)) later (step
-            ∷ past) (after_any count _ later (λ last m more w.
-            k (lost_by one step.reply) last (let g = giving_lasts one step.reply notes in
-            (m.0 ∙ g.0, m.1 ∙ g.1)) more (λ errno s. w errno (inr s)))),
+      let later = notes_after notes (giving seat one) step.reply in
+      let count = closings_in (giving seat one) step.reply in
+      let fault = fault_if (is_scope one) step.reply in (
+        owing_job (unscoped left) count later,
+        gives_step seat one step.deed step.reply holds left notes t i,
+        sound_closings count left (next fault) later (after_any count _ later (λ last m.
+            let g = giving_lasts seat one step.reply notes in
+            k fault last (m.0 ∙ g.0, m.1 ∙ g.1))),
       )),
 )
 
-pub sound_leave : (asked : Request) (holds : List Hold) (last : Finish) (notes : Notes) (past : List Step) →
-    entry_holds 0 last ≡ [] → IsCausedEnd asked past last → Sound asked (leave holds last) (at_job holds notes) past
-sound_leave asked [] last notes past e c = ((0, sym e), refl, c)
-sound_leave asked (one ∷ holds) last notes past e c =
-    sound_give asked one (one ∷ holds) holds _ notes past here (λ fault later l more w.
-    sound_leave asked holds (restored last fault) later more (restored_bare last fault e)
-    (restored_caused asked last fault more (end_within asked last past more w c)))
+-- a scope that ends leaves all that is noted
+sound_scope : (seat : HostSeat) (one : Hold) (holds left : List Hold) (next : Option Errno → Grammar)
+    (notes : Notes) → is_scope one ≡ true → Takes one holds left →
+    ((fault : Option Errno) → Sound (next fault) (at_job (unscoped left) notes)) →
+    Sound (give seat one holds left next) (at_job (unscoped holds) notes)
+sound_scope seat hold.Groups holds left next notes e t k = (
+  (refl, refl),
+  (λ step i told. (
+    at_job (unscoped left) notes,
+    gives_step seat hold.Groups step.deed step.reply holds left notes t i,
+    k (fault_if true step.reply),
+  )),
+)
+sound_scope seat hold.EffectiveGid holds left next notes e t k = (
+  (refl, refl),
+  (λ step i told. (
+    at_job (unscoped left) notes,
+    gives_step seat hold.EffectiveGid step.deed step.reply holds left notes t i,
+    k (fault_if true step.reply),
+  )),
+)
+sound_scope seat hold.EffectiveUid holds left next notes e t k = (
+  (refl, refl),
+  (λ step i told. (
+    at_job (unscoped left) notes,
+    gives_step seat hold.EffectiveUid step.deed step.reply holds left notes t i,
+    k (fault_if true step.reply),
+  )),
+)
+sound_scope seat (hold.Dropped caps) holds left next notes e t k = (
+  (refl, refl),
+  (λ step i told. (
+    at_job (unscoped left) notes,
+    gives_step seat (hold.Dropped caps) step.deed step.reply holds left notes t i,
+    k (fault_if true step.reply),
+  )),
+)
+sound_scope seat hold.Umask holds left next notes e t k = (
+  (refl, refl),
+  (λ step i told. (
+    at_job (unscoped left) notes,
+    gives_step seat hold.Umask step.deed step.reply holds left notes t i,
+    k (fault_if true step.reply),
+  )),
+)
+sound_scope seat (hold.Pin row fd) holds left next notes e t k = absurd (cc)
+sound_scope seat (hold.HandlePin row fd) holds left next notes e t k = absurd (cc)
+sound_scope seat (hold.Fd fd told) holds left next notes e t k = absurd (cc)
+sound_scope seat hold.Slot holds left next notes e t k = absurd (cc)
+sound_scope seat (hold.Count era number) holds left next notes e t k = absurd (cc)
 
-sound_or_lost : (asked : Request) (fault : Option Errno) (holds : List Hold) (next : Grammar) (notes : Notes)
-    (past : List Step) →
-    Sound asked next (at_job holds notes) past → Sound asked (or_lost fault holds next) (at_job holds notes) past
-sound_or_lost asked None holds next notes past s = s
-sound_or_lost asked (Some errno) holds next notes past s =
-    sound_leave asked holds (finish.Lost errno) notes past refl tt
+pub sound_leave : (seat : HostSeat) (holds : List Hold) (last : Finish) (notes : Notes) →
+    entry_holds 0 last ≡ [] → Sound (leave seat holds last) (at_job (unscoped holds) notes)
+sound_leave seat [] last notes e = ((0, sym e), refl)
+sound_leave seat (one ∷ holds) last notes e =
+    sound_give seat one (one ∷ holds) holds (λ fault. leave seat holds (restored last fault)) notes here
+    (λ fault later l. sound_leave seat holds (restored last fault) later (restored_bare last fault e))
+
+sound_or_lost : (seat : HostSeat) (fault : Option Errno) (holds : List Hold) (next : Grammar) (notes : Notes) →
+    Sound next (at_job (unscoped holds) notes) → Sound (or_lost seat fault holds next) (at_job (unscoped holds) notes)
+sound_or_lost seat None holds next notes s = s
+sound_or_lost seat (Some errno) holds next notes s = sound_leave seat holds (finish.Lost errno) notes refl
+
+-- the scopes on top end
+sound_bare : (seat : HostSeat) (holds : List Hold) (next : List Hold → Grammar) (notes : Notes) →
+    Sound (next (uncovered holds)) (at_job (unscoped (uncovered holds)) notes) →
+    Sound (bare seat holds next) (at_job (unscoped holds) notes)
+sound_bare seat [] next notes s = s
+sound_bare seat (one ∷ holds) next notes s = go (is_scope one) refl s (sound_bare seat holds next notes)
+  where
+    go : (b : Bool) → is_scope one ≡ b →
+        Sound (next (if b then uncovered holds else one ∷ holds))
+        (at_job (unscoped (if b then uncovered holds else one ∷ holds)) notes) →
+        (Sound (next (uncovered holds)) (at_job (unscoped (uncovered holds)) notes) →
+        Sound (bare seat holds next) (at_job (unscoped holds) notes)) →
+        Sound (bare_one seat b one holds (bare seat holds next) next) (at_job (unscoped (one ∷ holds)) notes)
+    go true e s f = sound_scope seat one (one ∷ holds) holds
+        (λ fault. or_lost seat fault holds (bare seat holds next)) notes e here (λ fault.
+        sound_or_lost seat fault holds (bare seat holds next) notes (f s))
+    go false e s f = s
 
 takes_under : (passing : Option Hold) (one : Hold) (holds : List Hold) →
     Takes one (under passing (one ∷ holds)) (under passing holds)
 takes_under None one holds = here
 takes_under (Some other) one holds = there here
 
-pub sound_shut : (asked : Request) (passing : Option Hold) (count : ℕ) (holds : List Hold) (next : List Hold →
-    Grammar) (notes : Notes) (past : List Step) →
-    Goes asked (next (under passing (dropped count holds))) (under passing (dropped count holds)) 0 notes past →
-    Sound asked (shut passing count holds next) (at_job (under passing holds) notes) past
-sound_shut asked passing zero holds next notes past k = k notes (refl, refl) past (λ errno s. s)
-sound_shut asked passing (suc count) [] next notes past k = k notes (refl, refl) past (λ errno s. s)
-sound_shut asked passing (suc count) (one ∷ holds) next notes past k =
-    sound_give asked one (under passing (one ∷ holds)) (under passing holds) _ notes past
-    (takes_under passing one holds) (λ fault later l more w.
-    sound_or_lost asked fault (under passing holds) (shut passing count holds next) later more
-    (sound_shut asked passing count holds next later more (goes_on asked _ _ 0 notes later past more l w k)))
+-- a bracket ends
+pub sound_shut : (seat : HostSeat) (passing : Option Hold) (mark : ℕ) (holds : List Hold)
+    (next : List Hold → Grammar) (notes : Notes) →
+    Goes (next (under passing (down_to mark holds))) (under passing (down_to mark holds)) 0 notes →
+    Sound (shut seat passing mark holds next) (at_job (unscoped (under passing holds)) notes)
+sound_shut seat passing mark [] next notes k = k notes (refl, refl)
+sound_shut seat passing mark (one ∷ holds) next notes k =
+    go (nat_lt mark (length (one ∷ holds))) k (sound_shut seat passing mark holds next)
+  where
+    go : (b : Bool) →
+        Goes (next (under passing (if b then down_to mark holds else one ∷ holds)))
+        (under passing (if b then down_to mark holds else one ∷ holds)) 0 notes →
+        ((later : Notes) → Goes (next (under passing (down_to mark holds))) (under passing (down_to mark holds)) 0
+        later →
+        Sound (shut seat passing mark holds next) (at_job (unscoped (under passing holds)) later)) →
+        Sound (if b then give seat one (under passing (one ∷ holds)) (under passing holds) (λ fault.
+        or_lost seat fault (under passing holds) (shut seat passing mark holds next))
+        else next (under passing (one ∷ holds))) (at_job (unscoped (under passing (one ∷ holds))) notes)
+    go true k f = sound_give seat one (under passing (one ∷ holds)) (under passing holds) (λ fault.
+        or_lost seat fault (under passing holds) (shut seat passing mark holds next)) notes
+        (takes_under passing one holds) (λ fault later l.
+        sound_or_lost seat fault (under passing holds) (shut seat passing mark holds next) later
+        (f later (goes_on (next (under passing (down_to mark holds))) (under passing (down_to mark holds)) 0 notes
+        later
+        l k)))
+    go false k f = k notes (refl, refl)
 
 -- answers
-all_dropped : (holds : List Hold) → dropped (length holds) holds ≡ []
-all_dropped [] = refl
-all_dropped (one ∷ holds) = all_dropped holds
-
-pub sound_answered : (asked : Request) (last : Answer) (holds : List Hold) (notes : Notes) (past : List Step) →
-    HoldsEntry last holds → IsCaused asked past last →
-    Sound asked (answered (passes_with (finish.Answer last)) holds (finish.Answer last)) (at_job holds notes) past
-sound_answered asked (answer.Entry entry) (hold.Count era number ∷ holds) notes past h c =
-    sound_shut asked (Some (hold.Count era number)) (length holds) holds (λ left.
-    End (finish.Answer (answer.Entry entry))) notes past (λ later l more w. (
+sound_entry : (seat : HostSeat) (number : ℕ) (last : Finish) (holds : List Hold) (notes : Notes) →
+    ((era : ℕ) → entry_holds era last ≡ hold.Count era number ∷ []) → (era same : ℕ) → same ≡ number →
+    Sound (shut seat (Some (hold.Count era same)) 0 holds (λ left. End last))
+    (at_job (hold.Count era same ∷ unscoped holds) notes)
+sound_entry seat number last holds notes e era same s =
+    sound_shut seat (Some (hold.Count era same)) 0 holds (λ left. End last) notes (λ later l. (
       (
         era,
-        ap (λ (z : List Hold). hold.Count era number ∷ z) (all_dropped holds)
-            ∙ ap (λ (n : ℕ). hold.Count era n ∷ []) h,
+        ap (λ (z : List Hold). hold.Count era same ∷ unscoped z) (all_down holds)
+            ∙ ap (λ (n : ℕ). hold.Count era n ∷ []) s ∙ sym (e era),
       ),
       refl,
-      tt,
     ))
-sound_answered asked (answer.Entry entry) holds notes past h c = absurd h
-sound_answered asked last holds notes past h c = sound_leave asked holds (finish.Answer last) notes past refl c
+
+pub sound_answered : (seat : HostSeat) (last : Answer) (holds : List Hold) (notes : Notes) → HoldsEntry last holds →
+    Sound (answered seat last holds) (at_job (unscoped holds) notes)
+sound_answered seat (answer.Entry entry) (hold.Count era number ∷ holds) notes h =
+    sound_entry seat entry.inode (finish.Answer (answer.Entry entry)) holds notes (λ e. refl) era number h
+sound_answered seat (answer.Entry entry) holds notes h = absurd h
+sound_answered seat (answer.Created entry handle options) (hold.Count era number ∷ holds) notes h =
+    sound_entry seat entry.inode (finish.Answer (answer.Created entry handle options)) holds notes (λ e. refl) era
+    number h
+sound_answered seat (answer.Created entry handle options) holds notes h = absurd h
+sound_answered seat last holds notes h = sound_leave seat holds (finish.Answer last) notes refl
 
 event_bare : (why : EventRefusal) → entry_holds 0 (finish.Answer (event_refusal why)) ≡ []
 event_bare refused.Memory = refl
@@ -222,52 +287,70 @@ under_front true [] = refl
 under_front true (one ∷ holds) = refl
 under_front false holds = refl
 
--- what the path of the tree causes, the steps so far cause
-further : (asked : Request) (deed : Deed) (step : Step) (path past : List Step) → IsStepOf deed step.deed step.reply →
-    Within asked path past → Within asked (record { deed = Some deed; reply = step.reply } ∷ path) (step ∷ past)
-further asked deed step path past i w errno (inl s) = inl (causes_of asked deed step.deed step.reply errno i s)
-further asked deed step path past i w errno (inr s) = inr (w errno s)
+-- a reply is followed by its closings, and then by the rest, unless the job gives up
+sound_follows : (seat : HostSeat) (wants : Bool) (count : ℕ) (holds : List Hold) (rest : Grammar) (notes : Notes) →
+    After count (λ later. Sound rest (at_job (unscoped holds) later)) notes →
+    Sound (follows seat wants count holds rest) (owing_job (unscoped holds) count notes)
+sound_follows seat false count holds rest notes k = sound_closings count holds rest notes k
+sound_follows seat true count holds rest notes k = (
+  sound_closings count holds (leave seat holds (finish.Answer answer.NoMemory)) notes
+      (after_any count _ notes (λ later l. sound_leave seat holds (finish.Answer answer.NoMemory) later refl)),
+  sound_closings count holds rest notes k,
+)
 
-pub sound_framed : (asked : Request) (tree : Tree) (holds : List Hold) (notes : Notes) (path past : List Step) →
-    Fit asked tree holds notes path → Within asked path past →
-    Sound asked (framed tree holds) (at_job holds notes) past
-sound_framed asked (Gives last) holds notes path past f w =
-    sound_answered asked last holds notes past f.0 (caused_within asked last path past w f.1)
-sound_framed asked (Refuses told) holds notes path past f w =
-    sound_leave asked holds (finish.Answer (refusal told)) notes past (refusal_bare told)
-    (caused_within asked (refusal told) path past w f)
-sound_framed asked (Asks deed next) holds notes path past f w = (
+pub sound_framed : (seat : HostSeat) (tree : RequestTree) (holds : List Hold) (marks : List ℕ) (notes : Notes) →
+    Keeps tree holds marks notes → Sound (framed seat tree holds marks) (at_job (unscoped holds) notes)
+sound_framed seat (Gives last) holds marks notes f = sound_answered seat last holds notes f
+sound_framed seat (Refuses told) holds marks notes f =
+    sound_leave seat holds (finish.Answer (refusal told)) notes (refusal_bare told)
+sound_framed seat (Asks deed next) holds marks notes f = (
   (refl, refl),
   (λ step i t.
       let after = held deed step.reply holds in
-      let count = closings_in deed step.reply in (
-        owing_job after count (notes_after notes deed step.reply),
+      let count = closings_in deed step.reply in
+      let later = notes_after notes deed step.reply in (
+        owing_job (unscoped after) count later,
         may_step deed step.deed step.reply holds notes i f.0,
-        (
-          sound_closings asked count after (leave after (finish.Answer answer.NoMemory)) _ _
-              (after_any count _ _ (λ later l more v.
-              sound_leave asked after (finish.Answer answer.NoMemory) later more refl tt)),
-          sound_closings asked count after (framed (next step.reply) after) _ _
-              (after_map count _ _ _ (λ later g more v.
-              sound_framed asked (next step.reply) after later _ more g (λ errno s.
-              v errno (further asked deed step path past i w errno s)))
-              (f.1 step.reply (told_of deed step.deed step.reply i t))),
-        ),
+        sound_follows seat (may_give_up step.reply (next step.reply)) count after
+            (framed seat (next step.reply) after marks) later
+            (after_map count _ _ later (λ last g. sound_framed seat (next step.reply) after marks last g)
+            (f.1 step.reply (told_of deed step.deed step.reply i t))),
       )),
 )
-sound_framed asked (Shuts passes count rest) holds notes path past f w =
+sound_framed seat (Opens asked scope next) holds marks notes f = (
+  (refl, refl),
+  (λ step i t.
+      let after = opened scope step.reply holds in (
+        at_job (unscoped after) notes,
+        subst (λ (h : List Hold). MovesIf (at_job (unscoped holds) notes) step.deed step.reply (at_job h notes))
+            (sym (opened_on scope step.reply holds (is_scope_opened (sort_of asked) scope f.0)))
+            (seat_step asked scope step.deed step.reply (unscoped holds) notes i f.0),
+        sound_follows seat (may_give_up step.reply (next step.reply)) 0 after
+            (framed seat (next step.reply) after marks) notes
+            (sound_framed seat (next step.reply) after marks notes
+            (f.1 step.reply (told_of (Calls asked) step.deed step.reply i t))),
+      )),
+)
+sound_framed seat (Bares rest) holds marks notes f =
+    sound_bare seat holds (λ left. framed seat rest left marks) notes
+    (sound_framed seat rest (uncovered holds) marks notes f)
+sound_framed seat (Brackets rest) holds marks notes f = sound_framed seat rest holds (length holds ∷ marks) notes f
+sound_framed seat (Shuts passes rest) holds marks notes f =
     subst (λ (z : List Hold).
-    Sound asked (framed (Shuts passes count rest) holds) (at_job z notes) past) (under_front passes holds)
-    (sound_shut asked (front passes holds) count (behind passes holds) (framed rest) notes past (λ later l more v.
-    sound_framed asked rest _ later path more (f later l) (λ errno s. v errno (w errno s))))
+    Sound (framed seat (Shuts passes rest) holds marks) (at_job (unscoped z) notes)) (under_front passes holds)
+    (sound_shut seat (front passes holds) (mark_in marks) (behind passes holds) (λ left.
+    framed seat rest left (outer marks)) notes (λ later l.
+    sound_framed seat rest (under (front passes holds) (down_to (mark_in marks) (behind passes holds))) (outer marks)
+    later (f later l)))
+sound_framed seat (Allocates rest) holds marks notes f = sound_framed seat rest holds marks notes f
 
 -- a job that is cut
-pub sound_cut : (asked : Request) (owed : Owed) (job : Job) (past : List Step) → Owes owed job →
-    Sound asked (cut owed) job past
-sound_cut asked owed job past o =
-    subst (λ (z : Job). Sound asked (cut owed) z past) (λ i.
+pub sound_cut : (seat : HostSeat) (owed : Owed) (job : Job) → Owes owed job → Sound (cut seat owed) job
+sound_cut seat owed job o =
+    subst (λ (z : Job). Sound (cut seat owed) z) (λ i.
     record { holds = sym o.0 i; owed = sym o.1 i; notes = job.notes })
-    (sound_taken asked owed.taken owed.closings owed.holds _ job.notes past (λ later l more w.
-    sound_closings asked owed.closings owed.holds (leave owed.holds (finish.Answer answer.Cut)) later more
-    (after_any owed.closings _ later (λ last m much v.
-    sound_leave asked owed.holds (finish.Answer answer.Cut) last much refl tt))))
+    (sound_taken owed.taken owed.closings owed.holds
+    (closings owed.closings owed.holds (leave seat owed.holds (finish.Answer answer.Cut))) job.notes (λ later l.
+    sound_closings owed.closings owed.holds (leave seat owed.holds (finish.Answer answer.Cut)) later
+    (after_any owed.closings _ later (λ last m.
+    sound_leave seat owed.holds (finish.Answer answer.Cut) last refl))))

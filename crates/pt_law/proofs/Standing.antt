@@ -14,9 +14,9 @@ use Rattle.pt_session.specs.declared.event.KeptEvent.TheVariants as change
 use Rattle.pt_session.specs.declared.reply.EventReply.{EventReply}
 use Rattle.pt_session.specs.declared.reply.EventReply.TheVariants as event
 use Rattle.pt_session.proofs.Dying.{clears}
-use Rattle.pt_req.specs.Deed.{Deed, Calls, Changes as Asks}
-use Rattle.pt_req.specs.declared.act.ActReply.{ActReply}
-use Rattle.pt_req.specs.declared.act.ActReply.TheVariants.{Event}
+use Rattle.pt_frame.specs.Deed.{Deed, Calls, Changes as Asks}
+use Rattle.pt_frame.specs.declared.act.ActReply.{ActReply}
+use Rattle.pt_frame.specs.declared.act.ActReply.TheVariants.{Event}
 use Rattle.pt_law.specs.World.{Turn, TablesGo, TablesRun}
 use Rattle.pt_law.specs.Ledger.{standing, standing_by, standing_if, standing_after}
 use Rattle.pt_law.proofs.Ignoring.{IgnoresRows, forgets_one, forgets_all, unpins}

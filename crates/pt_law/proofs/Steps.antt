@@ -4,6 +4,7 @@ use Rattle.std.proofs.Common.{Some, None}
 use Rattle.std.proofs.lemmas.Bool.{cases_eq}
 use Rattle.pt_host.specs.Words.{total, set_at}
 use Rattle.pt_host.specs.Call.{Call}
+use Rattle.pt_host.specs.Sorts.{Sort, OpensWith, EndsFd, OfSeat, Plain, sort_of, fds_of}
 use Rattle.pt_host.specs.Reply.{ReplyHoldsBytes}
 use Rattle.pt_host.specs.Promises.{IsAllowed}
 use Rattle.pt_host.specs.Tree.{Tree, IsOpenOn, IsWellFormed}
@@ -23,16 +24,18 @@ use Rattle.pt_session.proofs.Cases.{Case, cases}
 use Rattle.pt_session.specs.declared.event.KeptEvent.TheVariants as change
 use Rattle.pt_session.specs.declared.reply.EventReply.{EventReply}
 use Rattle.pt_session.specs.declared.reply.EventReply.TheVariants as event
-use Rattle.pt_req.specs.Deed.{Deed, Calls, Changes}
-use Rattle.pt_req.specs.Made.{Does, Made}
-use Rattle.pt_req.specs.declared.act.ActReply.{ActReply}
-use Rattle.pt_req.specs.declared.act.ActReply.TheVariants.{Event, Host, NoCopy}
-use Rattle.pt_req.specs.declared.hold.Hold.{Hold}
-use Rattle.pt_law.specs.Discipline.{Job, Resolution, Shifts, JobMoves, MovesIf, MovesBy}
-use Rattle.pt_law.specs.World.{World, Turn, TablesGo, Goes, IsLawful, settled_if, settled_by}
-use Rattle.pt_law.specs.Ledger.{open_count, kept_fds, held_by, fd_held, some_count, slot_taken, slot_given}
+use Rattle.pt_frame.specs.Deed.{Deed, Calls, Changes}
+use Rattle.pt_frame.specs.Made.{Does, Made}
+use Rattle.pt_frame.specs.declared.act.ActReply.{ActReply}
+use Rattle.pt_frame.specs.declared.act.ActReply.TheVariants.{Event, Host, NoCopy}
+use Rattle.pt_frame.specs.Held.{statted}
+use Rattle.pt_frame.specs.declared.hold.Hold.{Hold}
+use Rattle.pt_law.specs.Discipline.{Job, Notes, Resolution, ShiftsCalled, JobMoves, MovesIf, MovesBy, notes_after}
+use Rattle.pt_law.specs.World.{World, Past, Turn, TablesGo, Goes, IsLawful, settled_if, settled_by}
+use Rattle.pt_law.specs.Ledger.{open_count, kept_fds, some_count, slot_taken, slot_given}
+use Rattle.pt_law.proofs.Flows.{all_hold, fd_held}
 use Rattle.pt_law.specs.Ledger.{inserted_if, inserted_as}
-use Rattle.pt_law.specs.Ledger.{fd_ended}
+use Rattle.pt_law.specs.Ledger.{fd_ended, fd_closed}
 use Rattle.pt_law.proofs.Flows.{slot_in, slot_out, IsHonest, unmade}
 use Rattle.pt_law.proofs.Lists.{total_takes, sum_to_set, set_at_same, set_at_other, at_each}
 use Rattle.pt_law.proofs.Balance.{moved}
@@ -40,7 +43,8 @@ use Rattle.pt_law.proofs.Holding.{handed, in_tree}
 use Rattle.pt_law.proofs.Counting.{Books, keeps_books, honest, part}
 use Rattle.pt_law.proofs.Numbers.{Numbers, keeps_numbers}
 use Rattle.pt_law.proofs.Knowing.{Knowing, one_object}
-use Rattle.pt_law.proofs.Events.{number_of, grows, rows_event, handles_event, knows_event, knows_other, resolved_other}
+use Rattle.pt_law.proofs.Events.{number_of, grows, rows_event, handles_event, knows_event, knows_other}
+use Rattle.pt_law.proofs.Events.{resolved_other}
 use Rattle.pt_law.proofs.Calls.{Right, keeps_call}
 use Rattle.pt_law.proofs.PinnedRows.{pinned_row}
 use Rattle.pt_law.proofs.Givings.{agree_step}
@@ -55,7 +59,7 @@ pub record Tabled (bound : ℕ) (had : ℕ → ℕ) (t : Tables) (js : ℕ → J
 pub record Inv (bound : ℕ) (base had : ℕ → ℕ) (w : World) (js : ℕ → Job) : Type 0 where
   pub tabled : Tabled bound had w.tables js
   pub well : IsWellFormed w.tree
-  pub fds : (fd : ℕ) → open_count fd w.tree ≡ kept_fds fd w.tables + held_by bound (fd_held fd) js + base fd
+  pub fds : (fd : ℕ) → open_count fd w.tree ≡ kept_fds fd w.tables + all_hold bound (fd_held fd) js + base fd
   pub right : Right bound w.tree w.tables.next_row w.past w.tables.rows w.tables.handles js
 
 pub set_self : {X : Type 0} (f : ℕ → X) (j : ℕ) (x : X) → x ≡ f j → set_at j x f ≡ f
@@ -134,22 +138,36 @@ turned does (Some (Calls a)) NoCopy from seat t to seat' t' h = h.1
 turned does None NoCopy from seat t to seat' t' h = h.2
 turned does _ _ from seat t to seat' t' h = absurd h
 
--- of what a job calls reading alone tells bytes, so each other reply could be copied
-abbrev Reads : Call → Type 0
-Reads (call.ReadAt fd offset size) = Unit {0}
-Reads a = ⊥
+-- what a call moves is the same where it told bytes and where these could not be copied
+bytes_shift : (sort : Sort) (names : List Fd) (stat_of : Option Fd) (bytes : List ℕ) (holds after : List Hold) →
+    ShiftsCalled sort names stat_of holds NoCopy after →
+    ShiftsCalled sort names stat_of holds (Host (host.Ok (value.Bytes bytes))) after
+bytes_shift (OpensWith flags) names stat_of bytes holds after s = s
+bytes_shift (EndsFd fd) names stat_of bytes holds after s = s
+bytes_shift OfSeat names stat_of bytes holds after s = s
+bytes_shift Plain names (Some fd) bytes holds after s = s
+bytes_shift Plain names None bytes holds after s = s
 
-no_bytes : (a : Call) (r : HostReply) (before after : ℕ) (holds next : List Hold) → (Reads a → ⊥) →
-    Shifts holds (Calls a) NoCopy next → ReplyHoldsBytes r → IsAllowed before a r after → ⊥
-no_bytes (call.OpenRoot path flags) (host.Ok (value.Bytes bytes)) before after holds next n s h f = f
-no_bytes (call.OpenAt dir name flags mode) (host.Ok (value.Bytes bytes)) before after holds next n s h f = f
-no_bytes (call.Reopen fd flags) (host.Ok (value.Bytes bytes)) before after holds next n s h f = f
-no_bytes (call.ReadAt fd offset size) (host.Ok (value.Bytes bytes)) before after holds next n s h f = n tt
-no_bytes (call.Stat fd) (host.Ok (value.Bytes bytes)) before after holds next n s h f = f
-no_bytes (call.Close fd) (host.Ok (value.Bytes bytes)) before after holds next n s h f = f
-no_bytes (call.Edit edit) (host.Ok (value.Bytes bytes)) before after holds next n s h f = f
-no_bytes asked (host.Ok (value.Bytes bytes)) before after holds next n s h f = s
-no_bytes _ _ before after holds next n s h f = absurd h
+bytes_notes : (a : Call) (bytes : List ℕ) (notes : Notes) →
+    notes_after notes (Calls a) NoCopy ≡ notes_after notes (Calls a) (Host (host.Ok (value.Bytes bytes)))
+bytes_notes (call.Close fd) bytes notes = refl
+bytes_notes a bytes notes = refl
+
+bytes_settled : (past : Past) (j : ℕ) (a : Call) (bytes : List ℕ) (row : ℕ) (tree : Tree) →
+    settled_by past j (Calls a) NoCopy row tree
+    ≡ settled_by past j (Calls a) (Host (host.Ok (value.Bytes bytes))) row tree
+bytes_settled past j (call.OpenAt dir name flags mode) bytes row tree = refl
+bytes_settled past j (call.OpenRoot path flags) bytes row tree = refl
+bytes_settled past j a bytes row tree = refl
+
+bytes_move : (job : Job) (a : Call) (bytes : List ℕ) (after : Job) → MovesBy job (Calls a) NoCopy after →
+    MovesBy job (Calls a) (Host (host.Ok (value.Bytes bytes))) after
+bytes_move job a bytes after m = (
+  bytes_shift (sort_of a) (fds_of a) (statted a) bytes job.holds after.holds m.0,
+  m.1,
+  m.2,
+  m.3 ∙ bytes_notes a bytes job.notes,
+)
 
 at_most_one : (fd : ℕ) (tree : Tree) → open_count fd tree ≤ 1
 at_most_one fd tree = go (tree.opened fd)
@@ -161,14 +179,13 @@ at_most_one fd tree = go (tree.opened fd)
 -- what is closed was held
 closed_held : (job : Job) (a : Call) (told : ActReply) (after : Job) → MovesBy job (Calls a) told after → (f : ℕ) →
     0 < fd_ended f (Calls a) told → 0 < total (fd_held f) job.holds
-closed_held job (call.OpenRoot path flags) told after m f l = absurd (omega arith)
-closed_held job (call.OpenAt dir name flags mode) told after m f l = absurd (omega arith)
-closed_held job (call.Reopen fd flags) told after m f l = absurd (omega arith)
-closed_held job (call.ReadAt fd offset size) told after m f l = absurd (omega arith)
-closed_held job (call.Stat fd) told after m f l = absurd (omega arith)
-closed_held job (call.Edit edit) told after m f l = absurd (omega arith)
-closed_held job (call.Close fd) told after m f l = let a = total_takes (fd_held f) m.0.1 in omega (arith, a, l)
-closed_held job asked told after m f l = absurd m.0
+closed_held job a told after m f l = go (sort_of a) (fds_of a) (statted a) m.0 l
+  where
+    go : (sort : Sort) (names : List Fd) (stat_of : Option Fd) →
+        ShiftsCalled sort names stat_of job.holds told after.holds → 0 < fd_closed f sort →
+        0 < total (fd_held f) job.holds
+    go (EndsFd fd) names stat_of s l = let a = total_takes (fd_held f) s.1 in omega (arith, a, l)
+    go sort names stat_of s l = absurd (omega (arith, l))
 
 keeps_event : (bound : ℕ) (base had : ℕ → ℕ) (w : World) (js : ℕ →
     Job) (j : ℕ) (e : Change) (r : EventReply) (t' : Tables) (after : Job) → j < bound → Inv bound base had w js →
@@ -217,11 +234,11 @@ keeps_host : (bound : ℕ) (base had : ℕ → ℕ) (w : World) (js : ℕ →
           settled_by w.past j (Calls a) (Host r) w.tables.next_row tree';
     }) (set_at j after js)
 keeps_host bound base had w js j a r seat seat' tree' after lt v l m =
-    let opened = in_tree (js j) after w.tree a r tree' m l.trees.changes (λ f q. let x =
+    let opened = in_tree w.tree a r tree' l.trees.changes (λ f q. let x =
     closed_held (js j) a (Host r) after m f q in let y = v.fds f in let z = part (fd_held f) js bound j lt in
     let u = at_most_one f w.tree in omega (arith, x, y, z, u)) in
     let fds : (fd : ℕ) →
-    open_count fd tree' ≡ kept_fds fd w.tables + held_by bound (fd_held fd) (set_at j after js) + base fd = (λ fd.
+    open_count fd tree' ≡ kept_fds fd w.tables + all_hold bound (fd_held fd) (set_at j after js) + base fd = (λ fd.
     let x = v.fds fd in
     let y = (handed (js j).holds (Calls a) (Host r) after.holds m.0).fds fd in
     let z = opened fd in
@@ -231,7 +248,8 @@ keeps_host bound base had w js j a r seat seat' tree' after lt v l m =
       tabled = keeps_tabled bound had w.tables js j (Some (Calls a)) (Host r) w.tables after lt v.tabled refl m;
       well = l.trees.formed_after;
       fds = fds;
-      right = keeps_call bound w.tree w.tables.next_row w.past w.tables.rows w.tables.handles js j after a r tree' lt v.right l.trees.changes m
+      right = keeps_call bound w.tree w.tables.next_row w.past w.tables.rows w.tables.handles js j after a r tree' lt
+          v.right l.trees.changes m
           (λ f flags object e on. judged f flags object on (subst (λ c. MovesBy (js j) (Calls c) (Host r) after) e m))
           (λ f e.
           let n : open_count f.0 tree' ≡ 0 = closed_none w.tree tree' a f r e l.trees.changes in
@@ -271,16 +289,21 @@ keeps_bytes : (bound : ℕ) (base had : ℕ → ℕ) (w : World) (js : ℕ →
     next.tables ≡ w.tables → next.past ≡ settled_by w.past j (Calls a) NoCopy w.tables.next_row next.tree →
     MovesBy (js j) (Calls a) NoCopy after →
     Inv bound base (λ n. had n + inserted_as n (Calls a) NoCopy) next (set_at j after js)
-keeps_bytes bound base had w js j (call.ReadAt fd offset size)
-    (host.Ok (value.Bytes bytes)) seat seat' next after faults later lt v h f l t p m =
-    let same : next ≡ record { tree = next.tree; tables = w.tables; past = w.past } =
-    λ i. record { tree = next.tree; tables = t i; past = p i } in
-    rw same (keeps_host bound base had w js j (call.ReadAt fd offset size)
-    (host.Ok (value.Bytes bytes)) seat seat' next.tree after lt v l m)
-keeps_bytes bound base had w js j (call.ReadAt fd offset size) r seat seat' next after faults later lt v h f l t p m =
-    absurd h
-keeps_bytes bound base had w js j a r seat seat' next after faults later lt v h f l t p m =
-    absurd (no_bytes a r faults later (js j).holds after.holds (λ no. no) m.0 h f)
+keeps_bytes bound base had w js j a (host.Ok (value.Bytes bytes)) seat seat' next after faults later lt v h f l t p
+    m =
+    let told = Host (host.Ok (value.Bytes bytes)) in
+    let same : next ≡ record {
+      tree = next.tree;
+      tables = w.tables;
+      past = settled_by w.past j (Calls a) told w.tables.next_row next.tree;
+    } = λ i. record {
+      tree = next.tree;
+      tables = t i;
+      past = (p ∙ bytes_settled w.past j a bytes w.tables.next_row next.tree) i;
+    } in
+    rw same (keeps_host bound base had w js j a (host.Ok (value.Bytes bytes)) seat seat' next.tree after lt v l
+    (bytes_move (js j) a bytes after m))
+keeps_bytes bound base had w js j a r seat seat' next after faults later lt v h f l t p m = absurd h
 
 keeps_by : (bound : ℕ) (base had : ℕ → ℕ) (w : World) (js : ℕ →
     Job) (j : ℕ) (deed : Option Deed) (told : ActReply) (seat seat' : HostSeat) (next : World) (after : Job) →
@@ -324,4 +347,5 @@ pub keeps : (bound : ℕ) (base had : ℕ → ℕ) (w : World) (js : ℕ → Job
     JobMoves (js turn.job) turn.step after →
     Inv bound base (λ n. had n + inserted_if n turn.step.deed turn.step.reply) next (set_at turn.job after js)
 keeps bound base had w js turn next after lt v g m =
-    keeps_by bound base had w js turn.job turn.step.deed turn.step.reply g.seat g.seat_after next after lt v g.made g.past m
+    keeps_by bound base had w js turn.job turn.step.deed turn.step.reply g.seat g.seat_after next after lt v g.made
+    g.past m

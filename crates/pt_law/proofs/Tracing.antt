@@ -15,13 +15,14 @@ use Rattle.pt_session.specs.declared.form.Negotiated.{Negotiated}
 use Rattle.pt_session.specs.declared.form.RowForm.{RowForm}
 use Rattle.pt_session.specs.declared.event.KeptEvent.TheVariants as change
 use Rattle.pt_session.specs.declared.reply.EventReply.TheVariants as event
-use Rattle.pt_req.specs.Deed.{Deed, Calls, Changes, Step}
-use Rattle.pt_req.specs.declared.act.ActReply.{ActReply}
-use Rattle.pt_req.specs.declared.act.ActReply.TheVariants.{Event, Host}
+use Rattle.pt_frame.specs.Deed.{Deed, Calls, Changes, Step}
+use Rattle.pt_frame.specs.declared.act.ActReply.{ActReply}
+use Rattle.pt_frame.specs.declared.act.ActReply.TheVariants.{Event, Host}
 use Rattle.pt_law.specs.Discipline.{idle}
-use Rattle.pt_law.specs.Opened.{made}
 use Rattle.pt_law.specs.World.{World, Past, Turn, turn_by, Goes, Runs, settled_if, object_of, first_of, steps_of}
-use Rattle.pt_law.specs.Laws.{AreDisciplined, Starts, ObjectOf}
+use Rattle.pt_law.specs.Naming.{made}
+use Rattle.pt_law.specs.Laws.{Starts, ObjectOf}
+use Rattle.pt_law.specs.Discipline.{AreDisciplined}
 use Rattle.pt_law.specs.Naming.{resolving, opening, ResolvesNone, OpensNone, NamePlaces, LedTo}
 use Rattle.pt_law.specs.Origins.{opening_root, RootPlace, WasRoot, WasNamed}
 use Rattle.pt_law.proofs.Lists.{at_each, set_at_same, set_at_other}
@@ -89,7 +90,8 @@ abbrev Does : ℕ → (Step → Type 0) → Turn → Type 0
 Does j P turn = (step : Step) × P step × (turn ≡ turn_by j step)
 
 sorted : (j : ℕ) (P : Step → Type 0) (N : Option Deed → ActReply → Type 0) →
-    ((deed : Option Deed) (told : ActReply) → P (record { deed = deed; reply = told }) ⊎ N deed told) → (turn : Turn) →
+    ((deed : Option Deed) (told : ActReply) → P (record { deed = deed; reply = told }) ⊎ N deed told) →
+    (turn : Turn) →
     Does j P turn ⊎ Spares j N turn
 sorted j P N sort turn = ⊎_elim
     (λ (e : turn.job ≡ j). ⊎_elim

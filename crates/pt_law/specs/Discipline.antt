@@ -1,27 +1,38 @@
--- Believed. What a job holds, owes and knows between its steps, whichever request it serves.
-use Rattle.std.specs.Prelude.{◌≡◌, ℕ, ◌+◌, ◌-◌, ◌<◌, ◌==◌, Bool, true, false, if◌then◌else◌, List, [], ◌∷◌, ◌++◌}
+-- Inner. What a job holds, owes and knows between its steps, whichever request it serves. What it comes to is said
+-- by sums over steps, in which no hold is named.
+use Rattle.std.specs.Prelude.{◌≡◌, ◌⊎◌, ℕ, ◌+◌, ◌-◌, ◌<◌, ◌==◌, Bool, true, false, if◌then◌else◌, List, [], ◌∷◌, ◌++◌}
 use Rattle.std.specs.Prelude.{Option, None, Some}
-use Rattle.pt_host.specs.Words.{Takes, Replaces}
+use Rattle.pt_host.specs.Words.{Takes, Replaces, Each}
 use Rattle.pt_host.specs.Flags.{includes, o_creat}
+use Rattle.pt_host.specs.Sorts.{Sort, OpensWith, EndsFd, OfSeat, Plain, sort_of, fds_of}
 use Rattle.pt_host.specs.declared.ids.Fd.{Fd}
 use Rattle.pt_host.specs.declared.ids.ObjIds.{ObjIds}
 use Rattle.pt_host.specs.declared.op.KeptHostOp.TheVariants as call
 use Rattle.pt_host.specs.declared.reply.HostReply.TheVariants as host
 use Rattle.pt_host.specs.declared.reply.HostValue.TheVariants as value
+use Rattle.pt_session.specs.Change.{Change}
 use Rattle.pt_session.specs.declared.event.KeptEvent.TheVariants as change
 use Rattle.pt_session.specs.declared.reply.EventReply.TheVariants as event
 use Rattle.pt_iface.specs.declared.answer.Answer.TheVariants as answer
-use Rattle.pt_req.specs.Deed.{Deed, Calls, Changes, Step}
-use Rattle.pt_req.specs.Held.{fd_of, closings_in, taken_in, brought}
-use Rattle.pt_req.specs.declared.act.ActReply.{ActReply}
-use Rattle.pt_req.specs.declared.act.ActReply.TheVariants.{Event, Host}
-use Rattle.pt_req.specs.declared.finish.Finish.{Finish}
-use Rattle.pt_req.specs.declared.finish.Finish.TheVariants as finish
-use Rattle.pt_req.specs.declared.hold.Hold.{Hold}
-use Rattle.pt_req.specs.declared.hold.Hold.TheVariants as hold
+use Rattle.pt_frame.specs.Deed.{Deed, Calls, Changes, Step}
+use Rattle.pt_frame.specs.Held.{row_fd, statted}
+use Rattle.pt_frame.specs.Replies.{closings_in, taken_in, brought}
+use Rattle.pt_frame.specs.declared.act.ActReply.{ActReply}
+use Rattle.pt_frame.specs.declared.act.ActReply.TheVariants.{Event, Host}
+use Rattle.pt_frame.specs.declared.finish.Finish.{Finish}
+use Rattle.pt_frame.specs.declared.finish.Finish.TheVariants as finish
+use Rattle.pt_frame.specs.declared.hold.Hold.{Hold}
+use Rattle.pt_frame.specs.declared.hold.Hold.TheVariants as hold
+use Rattle.pt_law.specs.World.{Turn, steps_of, fd_of}
+
+-- What is held.
+
+abbrev pub IsFd : Option Fd → Fd → Type 0
+IsFd None fd = ⊥
+IsFd (Some same) fd = same ≡ fd
 
 abbrev pub Names : Hold → Fd → Type 0
-Names (hold.Pin row same) fd = same ≡ fd
+Names (hold.Pin row kept) fd = IsFd kept fd
 Names (hold.HandlePin row same) fd = same ≡ fd
 Names (hold.Fd same told) fd = same ≡ fd
 Names _ fd = ⊥
@@ -30,51 +41,74 @@ Names _ fd = ⊥
 abbrev pub Knows : List Hold → Fd → Type 0
 Knows holds fd = (one : Hold) × (rest : List Hold) × Takes one holds rest × Names one fd
 
+abbrev pub KnowsAll : List Hold → List Fd → Type 0
+KnowsAll holds fds = Each (Knows holds) fds
+
 -- the second list is the first with one more
 abbrev pub Gains : Hold → List Hold → List Hold → Type 0
 Gains one holds after = Takes one after holds
 
--- What is held before and after a deed, by its reply; the order is of no account. What gives a hold back ends it,
--- whatever it is told. No job of today makes another call.
-abbrev pub Shifts : List Hold → Deed → ActReply → List Hold → Type 0
-Shifts holds (Calls (call.OpenRoot path flags)) (Host (host.Ok (value.Fd fd))) after =
-    Gains (hold.Fd fd None) holds after
-Shifts holds (Calls (call.OpenAt dir name flags mode)) (Host (host.Ok (value.Fd fd))) after =
-    Knows holds dir × Gains (hold.Fd fd None) holds after
-Shifts holds (Calls (call.OpenAt dir name flags mode)) told after = Knows holds dir × (after ≡ holds)
-Shifts holds (Calls (call.Reopen fd flags)) (Host (host.Ok (value.Fd new))) after =
-    Knows holds fd × Gains (hold.Fd new None) holds after
-Shifts holds (Calls (call.Reopen fd flags)) told after = Knows holds fd × (after ≡ holds)
-Shifts holds (Calls (call.ReadAt fd offset size)) told after = Knows holds fd × (after ≡ holds)
-Shifts holds (Calls (call.Stat fd)) (Host (host.Ok (value.Stat stat))) after =
-    (was : Option ObjIds) × Replaces (hold.Fd fd was) (hold.Fd fd (Some stat.ids)) holds after
-Shifts holds (Calls (call.Stat fd)) told after = Knows holds fd × (after ≡ holds)
-Shifts holds (Calls (call.Close fd)) told after = (was : Option ObjIds) × Takes (hold.Fd fd was) holds after
-Shifts holds (Calls (call.OpenRoot path flags)) told after = after ≡ holds
-Shifts holds (Calls (call.Edit edit)) told after = after ≡ holds
-Shifts holds (Calls asked) told after = ⊥
-Shifts holds (Changes (change.Resolve number)) (Event (event.Resolved row form ids mode)) after =
-    Gains (hold.Pin row (fd_of form)) holds after
-Shifts holds (Changes (change.Unpin row)) told after = (fd : Fd) × Takes (hold.Pin row fd) holds after
-Shifts holds (Changes (change.Claim era handle ids)) (Event (event.Claimed number)) after =
+-- what `Stat` told is kept with the descriptor, where the job holds it itself
+abbrev pub IsNoted : Fd → ObjIds → List Hold → List Hold → Type 0
+IsNoted fd ids holds after =
+    ((was : Option ObjIds) × Replaces (hold.Fd fd was) (hold.Fd fd (Some ids)) holds after) ⊎ (after ≡ holds)
+
+-- What is held before and after a call, by its sort, the descriptors that it names, and the one of which it tells the
+-- ids. The order of what is held is of no account. What is changed of the seat is no part of it: a job's seat is a
+-- law of its own steps alone.
+abbrev pub ShiftsCalled : Sort → List Fd → Option Fd → List Hold → ActReply → List Hold → Type 0
+ShiftsCalled (OpensWith flags) names stat_of holds (Host (host.Ok (value.Fd fd))) after =
+    KnowsAll holds names × Gains (hold.Fd fd None) holds after
+ShiftsCalled (OpensWith flags) names stat_of holds told after = KnowsAll holds names × (after ≡ holds)
+ShiftsCalled (EndsFd fd) names stat_of holds told after = (was : Option ObjIds) × Takes (hold.Fd fd was) holds after
+ShiftsCalled OfSeat names stat_of holds told after = KnowsAll holds names × (after ≡ holds)
+ShiftsCalled Plain names (Some fd) holds (Host (host.Ok (value.Stat stat))) after =
+    KnowsAll holds names × IsNoted fd stat.ids holds after
+ShiftsCalled Plain names stat_of holds told after = KnowsAll holds names × (after ≡ holds)
+
+-- and an event; what gives a hold back ends it, whatever it is told
+abbrev pub ShiftsChanged : Change → List Hold → ActReply → List Hold → Type 0
+ShiftsChanged change.Begin holds told after = after ≡ holds
+ShiftsChanged (change.Resolve number) holds (Event (event.Resolved row form ids mode)) after =
+    Gains (hold.Pin row (row_fd form)) holds after
+ShiftsChanged (change.Resolve number) holds told after = after ≡ holds
+ShiftsChanged (change.Unpin row) holds told after = (kept : Option Fd) × Takes (hold.Pin row kept) holds after
+ShiftsChanged (change.Claim era handle ids) holds (Event (event.Claimed number)) after =
     Gains (hold.Count era number) holds after
-Shifts holds (Changes change.TakeFd) (Event event.Taken) after = Gains hold.Slot holds after
-Shifts holds (Changes change.GiveFd) told after = Takes hold.Slot holds after
-Shifts holds (Changes (change.Insert era number form ids mode)) (Event (event.Inserted given)) after =
+ShiftsChanged (change.Claim era handle ids) holds told after = after ≡ holds
+ShiftsChanged change.TakeFd holds (Event event.Taken) after = Gains hold.Slot holds after
+ShiftsChanged change.TakeFd holds told after = after ≡ holds
+ShiftsChanged change.GiveFd holds told after = Takes hold.Slot holds after
+ShiftsChanged change.DrawNode holds told after = after ≡ holds
+ShiftsChanged (change.Insert era number form ids mode) holds (Event (event.Inserted given)) after =
     (mid : List Hold) × (rest : List Hold) × Takes (hold.Fd (fd_of form) (Some ids)) holds mid
     × Takes hold.Slot mid rest × Gains (hold.Count era given) rest after
-Shifts holds (Changes (change.Insert era number form ids mode)) (Event (event.Found given)) after =
+ShiftsChanged (change.Insert era number form ids mode) holds (Event (event.Found given)) after =
     Gains (hold.Count era given) holds after
-Shifts holds (Changes (change.InsertRoot era form ids mode agreed)) (Event (event.Inserted given)) after =
+ShiftsChanged (change.Insert era number form ids mode) holds told after = after ≡ holds
+ShiftsChanged (change.InsertRoot era form ids mode agreed) holds (Event (event.Inserted given)) after =
     (mid : List Hold) × Takes (hold.Fd (fd_of form) (Some ids)) holds mid × Takes hold.Slot mid after
-Shifts holds (Changes (change.GiveBack era number)) told after = Takes (hold.Count era number) holds after
-Shifts holds (Changes (change.PinHandle handle number)) (Event (event.Pinned row fd)) after =
-    Gains (hold.HandlePin row fd) holds after
-Shifts holds (Changes (change.UnpinHandle row)) told after = (fd : Fd) × Takes (hold.HandlePin row fd) holds after
-Shifts holds (Changes (change.InsertHandle era handle number fd)) (Event (event.Inserted given)) after =
+ShiftsChanged (change.InsertRoot era form ids mode agreed) holds told after = after ≡ holds
+ShiftsChanged (change.Forget list) holds told after = after ≡ holds
+ShiftsChanged (change.GiveBack era number) holds told after = Takes (hold.Count era number) holds after
+ShiftsChanged change.DrawHandle holds told after = after ≡ holds
+ShiftsChanged (change.InsertHandle era handle number fd) holds (Event (event.Inserted given)) after =
     (was : Option ObjIds) × (mid : List Hold) × Takes (hold.Fd fd was) holds mid × Takes hold.Slot mid after
-Shifts holds (Changes change.TakeClosing) told after = after ≡ brought (taken_in told) ++ holds
-Shifts holds deed told after = after ≡ holds
+ShiftsChanged (change.InsertHandle era handle number fd) holds told after = after ≡ holds
+ShiftsChanged (change.PinHandle handle number) holds (Event (event.Pinned row fd)) after =
+    Gains (hold.HandlePin row fd) holds after
+ShiftsChanged (change.PinHandle handle number) holds told after = after ≡ holds
+ShiftsChanged (change.UnpinHandle row) holds told after = (fd : Fd) × Takes (hold.HandlePin row fd) holds after
+ShiftsChanged (change.Release handle number) holds told after = after ≡ holds
+ShiftsChanged change.Clear holds told after = after ≡ holds
+ShiftsChanged change.TakeClosing holds told after = after ≡ brought (taken_in told) ++ holds
+
+abbrev pub Shifts : List Hold → Deed → ActReply → List Hold → Type 0
+Shifts holds (Calls asked) told after =
+    ShiftsCalled (sort_of asked) (fds_of asked) (statted asked) holds told after
+Shifts holds (Changes asked) told after = ShiftsChanged asked holds told after
+
+-- What is known.
 
 -- a number that was resolved, and the row that is pinned for it
 pub record Resolution : Type 0 where
@@ -135,7 +169,8 @@ notes_after notes (Calls (call.OpenAt dir name flags mode)) (Host (host.Ok (valu
     record notes { latest = Some fd }
 notes_after notes (Changes (change.Resolve number)) (Event (event.Resolved row form ids mode)) =
     record notes { resolved = Some (record { number = number; row = row }); reopened = None }
-notes_after notes (Calls (call.Reopen fd flags)) (Host (host.Ok (value.Fd new))) = record notes { reopened = Some new }
+notes_after notes (Calls (call.Reopen fd flags)) (Host (host.Ok (value.Fd new))) =
+    record notes { reopened = Some new }
 notes_after notes (Calls (call.Close fd)) told = unnoted fd notes
 notes_after notes (Changes change.DrawNode) (Event (event.Drawn number)) = record notes { drawn = Some number }
 notes_after notes (Changes change.DrawHandle) (Event (event.Drawn handle)) = record notes { handle = Some handle }
@@ -146,6 +181,8 @@ notes_after notes (Changes (change.Insert era number form ids mode)) (Event (eve
 notes_after notes (Changes (change.InsertRoot era form ids mode agreed)) (Event (event.Inserted given)) =
     unnoted (fd_of form) notes
 notes_after notes _ _ = notes
+
+-- A job, and when it may make a deed.
 
 pub record Job : Type 0 where
   pub holds : List Hold
@@ -172,7 +209,7 @@ HoldsTold holds fd ids = (rest : List Hold) × Takes (hold.Fd fd (Some ids)) hol
 abbrev pub PinsLatest : Job → Fd → Type 0
 PinsLatest job fd =
     (was : Resolution) × (rest : List Hold) × (job.notes.resolved ≡ Some was)
-    × Takes (hold.Pin was.row fd) job.holds rest
+    × Takes (hold.Pin was.row (Some fd)) job.holds rest
 
 -- Whether the job may make this deed, what it holds aside. A job begins once, in the era that there is or in a new
 -- one; a number is asked or inserted only for what was opened last, in the era of the job; an inserted one was drawn;
@@ -198,12 +235,14 @@ Fits job (Changes (change.InsertRoot era form ids mode agreed)) =
 Fits job (Changes change.TakeClosing) = 0 < job.owed
 Fits job deed = Unit {0}
 
+-- Its steps, to their end.
+
 abbrev pub MovesBy : Job → Deed → ActReply → Job → Type 0
 MovesBy job deed told after =
     Shifts job.holds deed told after.holds × Fits job deed × (after.owed ≡ owed_after job.owed deed told)
     × (after.notes ≡ notes_after job.notes deed told)
 
--- a step that was not made moves nothing
+-- one that was not made moves nothing
 abbrev pub MovesIf : Job → Option Deed → ActReply → Job → Type 0
 MovesIf job None told after = after ≡ job
 MovesIf job (Some deed) told after = MovesBy job deed told after
@@ -218,8 +257,21 @@ Disciplined job (step ∷ steps) after = (mid : Job) × JobMoves job step mid ×
 -- what is held at the end: an answered number's count, which the asker has then
 abbrev pub entry_holds : ℕ → Finish → List Hold
 entry_holds era (finish.Answer (answer.Entry entry)) = hold.Count era entry.inode ∷ []
+entry_holds era (finish.Answer (answer.Created entry handle options)) = hold.Count era entry.inode ∷ []
 entry_holds era end = []
 
 -- by these steps the job comes to its end: it holds what passes with the answer, and owes nothing
 abbrev pub ComesToEnd : Job → List Step → Finish → Type 0
 ComesToEnd job steps end = (era : ℕ) × (last : Notes) × Disciplined job steps (at_job (entry_holds era end) last)
+
+-- All jobs of a run.
+
+-- each step is one of the jobs' below the bound, and each of these keeps the discipline
+pub record AreDisciplined (bound : ℕ) (turns : List Turn) : Type 0 where
+  pub owners : Each (λ turn. turn.job < bound) turns
+  pub jobs : (job : ℕ) → job < bound → (last : Job) × Disciplined idle (steps_of job turns) last
+
+-- and has come to its end
+pub record AreEnded (bound : ℕ) (turns : List Turn) : Type 0 where
+  pub owners : Each (λ turn. turn.job < bound) turns
+  pub jobs : (job : ℕ) → job < bound → (end : Finish) × ComesToEnd idle (steps_of job turns) end

@@ -1,8 +1,9 @@
--- Believed. What holds of every run whose jobs keep the discipline, after every step and at the end.
-use Rattle.std.specs.Prelude.{◌≡◌, ◌≢◌, ◌<◌, ◌≤◌, ℕ, ◌+◌, true, List, [], ◌∷◌, ◌++◌, length, Option, Some}
+-- Believed. What holds of every run, after every step and at the end.
+use Rattle.std.specs.Prelude.{◌≡◌, ◌≢◌, ◌<◌, ◌≤◌, ℕ, ◌+◌, true, List, [], ◌∷◌, ◌++◌, length, Option, None, Some}
 use Rattle.pt_host.specs.Words.{total, sum_to, Each}
+use Rattle.pt_host.specs.Sorts.{fds_of}
+use Rattle.pt_host.specs.declared.ids.Fd.{Fd}
 use Rattle.pt_host.specs.Tree.{Tree, IsOpenOn, IsWellFormed}
-use Rattle.pt_host.specs.declared.op.KeptHostOp.TheVariants as call
 use Rattle.pt_session.specs.Tables.{Tables, empty_tables, HasNumber, HasHandle}
 use Rattle.pt_session.specs.declared.row.Row.{Row}
 use Rattle.pt_session.specs.declared.row.HandleRow.{HandleRow}
@@ -10,34 +11,15 @@ use Rattle.pt_session.specs.Rows.{IsRow, NoRow, IsHandleRow, NoHandle}
 use Rattle.pt_session.specs.declared.event.KeptEvent.TheVariants as change
 use Rattle.pt_session.specs.declared.reply.EventRefusal.TheVariants.{Overtaken}
 use Rattle.pt_session.specs.declared.reply.EventReply.TheVariants as event
-use Rattle.pt_req.specs.Deed.{Deed, Calls, Changes, Step}
-use Rattle.pt_req.specs.Grammar.{Belongs}
-use Rattle.pt_req.specs.Held.{fd_of}
-use Rattle.pt_req.specs.Pattern.{Asked, grammar_for}
-use Rattle.pt_req.specs.declared.act.ActReply.{ActReply}
-use Rattle.pt_req.specs.declared.act.ActReply.TheVariants.{Event}
-use Rattle.pt_req.specs.declared.finish.Finish.{Finish}
-use Rattle.pt_req.specs.declared.plan.Plan.{Plan}
-use Rattle.pt_law.specs.Discipline.{Job, idle, Disciplined, ComesToEnd}
-use Rattle.pt_law.specs.World.{Turn, World, steps_of, no_past}
-use Rattle.pt_law.specs.Ledger.{kept_slots, row_slot, handle_fd, slots_taken, slots_given, carried, kept_fds, row_fd}
+use Rattle.pt_frame.specs.Deed.{Deed, Calls, Changes, Step}
+use Rattle.pt_frame.specs.declared.act.ActReply.{ActReply}
+use Rattle.pt_frame.specs.declared.act.ActReply.TheVariants.{Event}
+use Rattle.pt_law.specs.World.{Turn, World, steps_of, no_past, fd_of}
+use Rattle.pt_law.specs.Ledger.{kept_slots, row_slot, handle_has, slots_taken, slots_given, carried, kept_fds}
+use Rattle.pt_law.specs.Ledger.{row_has}
 use Rattle.pt_law.specs.Ledger.{fd_taken, fd_given, fds_carried, summed, open_count}
 
--- each step is one of the jobs' below the bound, and each of these keeps the discipline
-pub record AreDisciplined (bound : ℕ) (turns : List Turn) : Type 0 where
-  pub owners : Each (λ turn. turn.job < bound) turns
-  pub jobs : (job : ℕ) → job < bound → (last : Job) × Disciplined idle (steps_of job turns) last
-
--- and has come to its end
-pub record AreEnded (bound : ℕ) (turns : List Turn) : Type 0 where
-  pub owners : Each (λ turn. turn.job < bound) turns
-  pub jobs : (job : ℕ) → job < bound → (end : Finish) × ComesToEnd idle (steps_of job turns) end
-
--- each job's steps and end belong to what it asked, a request or an edit
-pub record AreAnswered (plan : Plan) (bound : ℕ) (asked : ℕ → Asked) (ends : ℕ → Finish)
-    (turns : List Turn) : Type 0 where
-  pub owners : Each (λ turn. turn.job < bound) turns
-  pub jobs : (job : ℕ) → job < bound → Belongs (grammar_for plan (asked job)) (steps_of job turns) (ends job)
+-- Numbers, handles and their objects.
 
 -- a new session on a host that may have descriptors open
 pub record Starts (limit : ℕ) (world : World) : Type 0 where
@@ -83,6 +65,8 @@ pub record HasEnded (tables : Tables) (serial : ℕ) : Type 0 where
 abbrev pub Serves : World → HandleRow → Type 0
 Serves world row = (object : ℕ) × (world.past.objects row.serial ≡ Some object) × IsOpenOn world.tree row.fd object
 
+-- Jobs of an earlier session.
+
 -- a job that was overtaken: after its first step another job began the session anew
 pub record IsOvertaken (job : ℕ) (turns : List Turn) : Type 0 where
   pub before : List Turn
@@ -102,7 +86,8 @@ TellsOvertaken (Some (Changes (change.Claim era handle ids))) (Event (event.Refu
 TellsOvertaken (Some (Changes (change.Insert era number form ids mode))) (Event (event.Refused Overtaken)) = Unit {0}
 TellsOvertaken (Some (Changes (change.InsertRoot era form ids mode agreed))) (Event (event.Refused Overtaken)) =
     Unit {0}
-TellsOvertaken (Some (Changes (change.InsertHandle era handle number fd))) (Event (event.Refused Overtaken)) = Unit {0}
+TellsOvertaken (Some (Changes (change.InsertHandle era handle number fd))) (Event (event.Refused Overtaken)) =
+    Unit {0}
 TellsOvertaken deed told = ⊥
 
 -- the tables gave the job a number, or took its handle
@@ -126,6 +111,8 @@ BeginsFirst [] = Unit {0}
 BeginsFirst (step ∷ []) = Unit {0}
 BeginsFirst (step ∷ other ∷ steps) = IsBeginning step.deed step.reply
 
+-- Slots and descriptors.
+
 -- slots left, those of rows and of the closing list, and those that jobs carry, are the limit
 pub record SlotsAddUp (limit bound : ℕ) (turns : List Turn) (tables : Tables) : Type 0 where
   pub sum : kept_slots tables + sum_to bound (λ job. carried (steps_of job turns)) ≡ limit
@@ -145,14 +132,14 @@ pub record AreKept (start : World) (bound : ℕ) (turns : List Turn) (now : Worl
   pub taken : (fd job : ℕ) → job < bound →
       summed (fd_given fd) (steps_of job turns) ≤ summed (fd_taken fd) (steps_of job turns)
 
--- a call names only what is open; an edit names no descriptor
+-- a call names only what is open
+abbrev pub IsOpen : Tree → Fd → Type 0
+IsOpen tree fd = (object : ℕ) × IsOpenOn tree fd object
+
 abbrev pub NamesOpen : Tree → Option Deed → Type 0
-NamesOpen tree (Some (Calls (call.OpenAt fd name flags mode))) = (object : ℕ) × IsOpenOn tree fd object
-NamesOpen tree (Some (Calls (call.Reopen fd flags))) = (object : ℕ) × IsOpenOn tree fd object
-NamesOpen tree (Some (Calls (call.ReadAt fd offset size))) = (object : ℕ) × IsOpenOn tree fd object
-NamesOpen tree (Some (Calls (call.Stat fd))) = (object : ℕ) × IsOpenOn tree fd object
-NamesOpen tree (Some (Calls (call.Close fd))) = (object : ℕ) × IsOpenOn tree fd object
-NamesOpen tree deed = Unit {0}
+NamesOpen tree (Some (Calls asked)) = Each (IsOpen tree) (fds_of asked)
+NamesOpen tree (Some (Changes asked)) = Unit {0}
+NamesOpen tree None = Unit {0}
 
 -- Giving back a pin or a slot that is held is never refused, nor is the taking of a closing that is owed.
 abbrev pub IsHonoured : Option Deed → ActReply → Type 0
@@ -175,4 +162,4 @@ pub record IsAtRest (limit bound : ℕ) (turns : List Turn) (tables : Tables) : 
 abbrev pub LeavesRows : World → World → Type 0
 LeavesRows start end =
     (fd : ℕ) → open_count fd end.tree
-    ≡ total (row_fd fd) end.tables.rows + total (handle_fd fd) end.tables.handles + open_count fd start.tree
+    ≡ total (row_has fd) end.tables.rows + total (handle_has fd) end.tables.handles + open_count fd start.tree

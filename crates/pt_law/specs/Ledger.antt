@@ -1,8 +1,8 @@
 -- Believed. Who has what: tables, jobs and host; and what was given of each number.
 use Rattle.std.specs.Prelude.{ℕ, ◌+◌, ◌-◌, ◌*◌, Bool, true, false, List, [], ◌∷◌, length, Option, None, Some}
-use Rattle.pt_host.specs.Words.{is, total, sum_to}
+use Rattle.pt_host.specs.Words.{is, total}
+use Rattle.pt_host.specs.Sorts.{Sort, OpensWith, EndsFd, OfSeat, Plain, sort_of}
 use Rattle.pt_host.specs.Tree.{Tree}
-use Rattle.pt_host.specs.declared.op.KeptHostOp.TheVariants as call
 use Rattle.pt_host.specs.declared.reply.HostReply.TheVariants as host
 use Rattle.pt_host.specs.declared.reply.HostValue.TheVariants as value
 use Rattle.pt_session.specs.Tables.{Tables}
@@ -13,14 +13,10 @@ use Rattle.pt_session.specs.declared.form.RowForm.{RowForm}
 use Rattle.pt_session.specs.declared.form.RowForm.TheVariants.{File}
 use Rattle.pt_session.specs.declared.event.KeptEvent.TheVariants as change
 use Rattle.pt_session.specs.declared.reply.EventReply.TheVariants as event
-use Rattle.pt_req.specs.Deed.{Deed, Calls, Changes, Step}
-use Rattle.pt_req.specs.Held.{fd_of}
-use Rattle.pt_req.specs.declared.act.ActReply.{ActReply}
-use Rattle.pt_req.specs.declared.act.ActReply.TheVariants.{Event, Host}
-use Rattle.pt_req.specs.declared.hold.Hold.{Hold}
-use Rattle.pt_req.specs.declared.hold.Hold.TheVariants as hold
-use Rattle.pt_law.specs.Discipline.{Job}
-use Rattle.pt_law.specs.World.{Turn}
+use Rattle.pt_frame.specs.Deed.{Deed, Calls, Changes, Step}
+use Rattle.pt_frame.specs.declared.act.ActReply.{ActReply}
+use Rattle.pt_frame.specs.declared.act.ActReply.TheVariants.{Event, Host}
+use Rattle.pt_law.specs.World.{Turn, fd_of}
 
 abbrev pub one_if : Bool → ℕ
 one_if true = 1
@@ -73,27 +69,19 @@ carried steps = slots_taken steps - slots_given steps
 
 -- Descriptors.
 
-abbrev pub row_fd : ℕ → Row → ℕ
-row_fd fd row = is (fd_of row.form).0 fd
+abbrev pub row_has : ℕ → Row → ℕ
+row_has fd row = is (fd_of row.form).0 fd
 
-abbrev pub handle_fd : ℕ → HandleRow → ℕ
-handle_fd fd row = is row.fd.0 fd
+abbrev pub handle_has : ℕ → HandleRow → ℕ
+handle_has fd row = is row.fd.0 fd
 
-abbrev pub closing_fd : ℕ → Closing → ℕ
-closing_fd fd closing = is closing.fd.0 fd
+abbrev pub closing_has : ℕ → Closing → ℕ
+closing_has fd closing = is closing.fd.0 fd
 
 -- at how many places of the tables the descriptor stands
 abbrev pub kept_fds : ℕ → Tables → ℕ
 kept_fds fd tables =
-    total (row_fd fd) tables.rows + total (handle_fd fd) tables.handles + total (closing_fd fd) tables.closing
-
-abbrev pub fd_held : ℕ → Hold → ℕ
-fd_held fd (hold.Fd same told) = is same.0 fd
-fd_held fd _ = 0
-
--- what the jobs below a bound hold together
-abbrev pub held_by : ℕ → (Hold → ℕ) → (ℕ → Job) → ℕ
-held_by bound weight jobs = sum_to bound (λ job. total weight (jobs job).holds)
+    total (row_has fd) tables.rows + total (handle_has fd) tables.handles + total (closing_has fd) tables.closing
 
 abbrev pub some_count : {A : Type 0} → Option A → ℕ
 some_count None = 0
@@ -106,34 +94,46 @@ open_count fd tree = some_count (tree.opened fd)
 -- What a step moves, by its deed and its reply alone.
 
 -- a descriptor that it opens
+abbrev pub fd_opened : ℕ → Sort → ActReply → ℕ
+fd_opened fd (OpensWith flags) (Host (host.Ok (value.Fd new))) = is new.0 fd
+fd_opened fd (OpensWith flags) told = 0
+fd_opened fd (EndsFd same) told = 0
+fd_opened fd OfSeat told = 0
+fd_opened fd Plain told = 0
+
 abbrev pub fd_made : ℕ → Deed → ActReply → ℕ
-fd_made fd (Calls (call.OpenRoot path flags)) (Host (host.Ok (value.Fd new))) = is new.0 fd
-fd_made fd (Calls (call.OpenAt dir name flags mode)) (Host (host.Ok (value.Fd new))) = is new.0 fd
-fd_made fd (Calls (call.Reopen same flags)) (Host (host.Ok (value.Fd new))) = is new.0 fd
-fd_made fd deed told = 0
+fd_made fd (Calls asked) told = fd_opened fd (sort_of asked) told
+fd_made fd (Changes asked) told = 0
 
 -- one that it closes, whatever that is answered
+abbrev pub fd_closed : ℕ → Sort → ℕ
+fd_closed fd (OpensWith flags) = 0
+fd_closed fd (EndsFd same) = is same.0 fd
+fd_closed fd OfSeat = 0
+fd_closed fd Plain = 0
+
 abbrev pub fd_ended : ℕ → Deed → ActReply → ℕ
-fd_ended fd (Calls (call.Close same)) told = is same.0 fd
-fd_ended fd deed told = 0
+fd_ended fd (Calls asked) told = fd_closed fd (sort_of asked)
+fd_ended fd (Changes asked) told = 0
 
 -- one that it hands to the tables
-abbrev pub fd_in : ℕ → Deed → ActReply → ℕ
-fd_in fd (Changes (change.Insert era number form ids mode)) (Event (event.Inserted given)) = is (fd_of form).0 fd
-fd_in fd (Changes (change.InsertRoot era form ids mode agreed)) (Event (event.Inserted given)) = is (fd_of form).0 fd
-fd_in fd (Changes (change.InsertHandle era handle number same)) (Event (event.Inserted given)) = is same.0 fd
-fd_in fd deed told = 0
+abbrev pub fd_handed : ℕ → Deed → ActReply → ℕ
+fd_handed fd (Changes (change.Insert era number form ids mode)) (Event (event.Inserted given)) = is (fd_of form).0 fd
+fd_handed fd (Changes (change.InsertRoot era form ids mode agreed)) (Event (event.Inserted given)) =
+    is (fd_of form).0 fd
+fd_handed fd (Changes (change.InsertHandle era handle number same)) (Event (event.Inserted given)) = is same.0 fd
+fd_handed fd deed told = 0
 
 -- one that it takes from their closing list
-abbrev pub fd_out : ℕ → Deed → ActReply → ℕ
-fd_out fd (Changes change.TakeClosing) (Event (event.Closing same slot)) = is same.0 fd
-fd_out fd deed told = 0
+abbrev pub fd_received : ℕ → Deed → ActReply → ℕ
+fd_received fd (Changes change.TakeClosing) (Event (event.Closing same slot)) = is same.0 fd
+fd_received fd deed told = 0
 
 abbrev pub fd_taken : ℕ → Deed → ActReply → ℕ
-fd_taken fd deed told = fd_made fd deed told + fd_out fd deed told
+fd_taken fd deed told = fd_made fd deed told + fd_received fd deed told
 
 abbrev pub fd_given : ℕ → Deed → ActReply → ℕ
-fd_given fd deed told = fd_ended fd deed told + fd_in fd deed told
+fd_given fd deed told = fd_ended fd deed told + fd_handed fd deed told
 
 -- a pin of a number's row, taken and given back
 abbrev pub pin_made : ℕ → Deed → ActReply → ℕ

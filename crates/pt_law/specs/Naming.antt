@@ -11,12 +11,15 @@ use Rattle.pt_host.specs.declared.reply.HostValue.TheVariants as value
 use Rattle.pt_session.specs.declared.form.RowForm.{RowForm}
 use Rattle.pt_session.specs.declared.event.KeptEvent.TheVariants as change
 use Rattle.pt_session.specs.declared.reply.EventReply.TheVariants as event
-use Rattle.pt_req.specs.Deed.{Deed, Calls, Changes, Step}
-use Rattle.pt_req.specs.declared.act.ActReply.{ActReply}
-use Rattle.pt_req.specs.declared.act.ActReply.TheVariants.{Event, Host}
-use Rattle.pt_law.specs.Opened.{made}
+use Rattle.pt_frame.specs.Deed.{Deed, Calls, Changes, Step}
+use Rattle.pt_frame.specs.declared.act.ActReply.{ActReply}
+use Rattle.pt_frame.specs.declared.act.ActReply.TheVariants.{Event, Host}
 use Rattle.pt_law.specs.World.{World, Turn, turn_by, Goes, Runs, steps_of}
 use Rattle.pt_law.specs.Laws.{ObjectOf}
+
+-- a step that was made
+abbrev pub made : Deed → ActReply → Step
+made deed told = record { deed = Some deed; reply = told }
 
 -- a number is resolved to a row, and a name is opened
 abbrev pub resolving : ℕ → ℕ → RowForm → ObjIds → ℕ → Step
@@ -57,8 +60,14 @@ pub record NamePlaces (turns : List Turn) (job number : ℕ) (name : List ℕ) :
   pub resolved_last : Each (λ step. ResolvesNone step.deed step.reply) (steps_of job between)
 
 -- the worlds of a path through these places, up to the one in which the name has been opened
-pub record NamePath {turns : List Turn} {job number : ℕ} {name : List ℕ} (start : World)
-    (places : NamePlaces turns job number name) (opened : World) : Type 0 where
+pub record NamePath
+    {turns : List Turn}
+    {job number : ℕ}
+    {name : List ℕ}
+    (start : World)
+    (places : NamePlaces turns job number name)
+    (opened : World)
+    : Type 0 where
   pub at_resolve : World
   pub resolved : World
   pub at_open : World
@@ -71,9 +80,16 @@ pub record NamePath {turns : List Turn} {job number : ℕ} {name : List ℕ} (st
 
 -- On this path the number stood for a directory when it was resolved; when the name was opened, the descriptor that
 -- the opening named was open on that directory, where the name led to the object; and the new one is open on it then.
-pub record LedTo {turns : List Turn} {job number : ℕ} {name : List ℕ} {start : World}
-    {places : NamePlaces turns job number name} {opened : World} (path : NamePath start places opened)
-    (object : ℕ) : Type 0 where
+pub record LedTo
+    {turns : List Turn}
+    {job number : ℕ}
+    {name : List ℕ}
+    {start : World}
+    {places : NamePlaces turns job number name}
+    {opened : World}
+    (path : NamePath start places opened)
+    (object : ℕ)
+    : Type 0 where
   pub directory : ℕ
   pub number_is : ObjectOf path.at_resolve number directory
   pub dir_open : IsOpenOn path.at_open.tree places.dir directory

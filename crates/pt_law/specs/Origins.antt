@@ -7,11 +7,10 @@ use Rattle.pt_host.specs.declared.flags.OpenFlags.{OpenFlags}
 use Rattle.pt_host.specs.declared.op.KeptHostOp.TheVariants as call
 use Rattle.pt_host.specs.declared.reply.HostReply.TheVariants as host
 use Rattle.pt_host.specs.declared.reply.HostValue.TheVariants as value
-use Rattle.pt_req.specs.Deed.{Calls, Step}
-use Rattle.pt_req.specs.declared.act.ActReply.TheVariants.{Host}
-use Rattle.pt_law.specs.Opened.{made}
+use Rattle.pt_frame.specs.Deed.{Calls, Step}
+use Rattle.pt_frame.specs.declared.act.ActReply.TheVariants.{Host}
 use Rattle.pt_law.specs.World.{World, Turn, turn_by, Goes, Runs}
-use Rattle.pt_law.specs.Naming.{NamePlaces, NamePath, LedTo}
+use Rattle.pt_law.specs.Naming.{made, NamePlaces, NamePath, LedTo}
 
 abbrev pub opening_root : List ℕ → OpenFlags → Fd → Step
 opening_root path flags fd = made (Calls (call.OpenRoot path flags)) (Host (host.Ok (value.Fd fd)))
@@ -26,8 +25,13 @@ pub record RootPlace (turns : List Turn) (job : ℕ) : Type 0 where
   pub in_turn : turns ≡ before ++ turn_by job (opening_root path flags fd) ∷ later
 
 -- the worlds of a path through this place to another world
-pub record RootPath {turns : List Turn} {job : ℕ} (start : World) (place : RootPlace turns job) (opened now : World) :
-    Type 0 where
+pub record RootPath
+    {turns : List Turn}
+    {job : ℕ}
+    (start : World)
+    (place : RootPlace turns job)
+    (opened now : World)
+    : Type 0 where
   pub at_open : World
   pub to_open : Runs start place.before at_open
   pub opens : Goes at_open (turn_by job (opening_root place.path place.flags place.fd)) opened

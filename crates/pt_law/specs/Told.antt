@@ -5,9 +5,9 @@ use Rattle.pt_host.specs.Promises.{FitsCall, MayLackMemory}
 use Rattle.pt_host.specs.declared.reply.HostReply.TheVariants as host
 use Rattle.pt_session.specs.Tables.{Tables}
 use Rattle.pt_session.specs.Happens.{Happens}
-use Rattle.pt_req.specs.Deed.{Deed, Calls, Changes, Step, MayFailToCopy, MayTellBytes}
-use Rattle.pt_req.specs.declared.act.ActReply.{ActReply}
-use Rattle.pt_req.specs.declared.act.ActReply.TheVariants.{Event, Host, NoCopy}
+use Rattle.pt_frame.specs.Deed.{Deed, Calls, Changes, Step, MayFailToCopy, MayTellBytes}
+use Rattle.pt_frame.specs.declared.act.ActReply.{ActReply}
+use Rattle.pt_frame.specs.declared.act.ActReply.TheVariants.{Event, Host, NoCopy}
 
 -- A call is answered as every host promises, an event as it may happen to some tables; only what is copied may find
 -- no memory for it.

@@ -11,13 +11,14 @@ use Rattle.pt_host.specs.declared.reply.HostReply.TheVariants as host
 use Rattle.pt_host.specs.declared.reply.HostValue.TheVariants as value
 use Rattle.pt_session.specs.Tables.{Tables}
 use Rattle.pt_session.specs.Happens.{Happens}
+use Rattle.pt_session.specs.declared.form.RowForm.{RowForm}
+use Rattle.pt_session.specs.declared.form.RowForm.TheVariants.{File}
 use Rattle.pt_session.specs.declared.event.KeptEvent.TheVariants as change
 use Rattle.pt_session.specs.declared.reply.EventReply.TheVariants as event
-use Rattle.pt_req.specs.Deed.{Deed, Calls, Changes, Step}
-use Rattle.pt_req.specs.Held.{fd_of}
-use Rattle.pt_req.specs.Made.{Does, Made}
-use Rattle.pt_req.specs.declared.act.ActReply.{ActReply}
-use Rattle.pt_req.specs.declared.act.ActReply.TheVariants.{Event, Host, NoCopy}
+use Rattle.pt_frame.specs.Deed.{Deed, Calls, Changes, Step}
+use Rattle.pt_frame.specs.Made.{Does, Made}
+use Rattle.pt_frame.specs.declared.act.ActReply.{ActReply}
+use Rattle.pt_frame.specs.declared.act.ActReply.TheVariants.{Event, Host, NoCopy}
 
 -- a step of a run, and the job that made it
 pub record Turn : Type 0 where
@@ -31,6 +32,10 @@ turn_by job step = record { job = job; step = step }
 abbrev pub steps_of : ℕ → List Turn → List Step
 steps_of job [] = []
 steps_of job (turn ∷ turns) = if turn.job == job then turn.step ∷ steps_of job turns else steps_of job turns
+
+-- the descriptor by which a row's object is kept
+abbrev pub fd_of : RowForm → Fd
+fd_of (File fd) = fd
 
 -- What the steps so far have settled, judged by the tree and not by ids. A row is known by its serial, which never
 -- comes back.
@@ -115,7 +120,8 @@ pub record Goes (world : World) (turn : Turn) (after : World) : Type 0 where
   pub seat_after : HostSeat
   pub made : Made IsLawful turn.step.deed turn.step.reply world.tree seat world.tables after.tree
       seat_after after.tables
-  pub past : after.past ≡ settled_if world.past turn.job turn.step.deed turn.step.reply world.tables.next_row after.tree
+  pub past : after.past
+      ≡ settled_if world.past turn.job turn.step.deed turn.step.reply world.tables.next_row after.tree
 
 abbrev pub Runs : World → List Turn → World → Type 0
 Runs world [] after = after ≡ world

@@ -11,25 +11,18 @@ ghost use Rattle.pt_session.specs.declared.form.RowForm.{RowForm};
 ghost use Rattle.pt_session.specs.declared.row.Row.{Row};
 ghost use Rattle.pt_session.specs.declared.row.HandleRow.{HandleRow};
 ghost use Rattle.pt_session.specs.Rows.{IsRow, IsHandleRow};
-ghost use Rattle.pt_iface.specs.declared.answer.Answer.TheVariants as answer;
-ghost use Rattle.pt_iface.specs.declared.entry.Entry.{Entry};
-ghost use Rattle.pt_iface.specs.declared.request.Request.TheVariants as request;
-ghost use Rattle.pt_req.specs.Deed.{Step};
-ghost use Rattle.pt_req.specs.Grammar.{Belongs};
-ghost use Rattle.pt_req.specs.Pattern.{Asked, grammar_of};
-ghost use Rattle.pt_req.specs.declared.finish.Finish.{Finish};
-ghost use Rattle.pt_req.specs.declared.finish.Finish.TheVariants as finish;
-ghost use Rattle.pt_req.specs.declared.plan.Plan.{Plan};
+ghost use Rattle.pt_frame.specs.Deed.{Step};
 ghost use Rattle.pt_law.specs.Told.{AllMayBeTold};
 ghost use Rattle.pt_law.specs.Branch.{AreOwn};
 ghost use Rattle.pt_law.specs.Naming.{resolving, opening, ResolvesNone, OpensNone};
 ghost use Rattle.pt_law.specs.World.{World, Turn, Runs, HostRuns, TablesGo, TablesRun, steps_of};
 ghost use Rattle.pt_law.specs.Ledger.{given, inserted, handle_inserted, standing};
-ghost use Rattle.pt_law.specs.Laws.{ObjectOf, AreDisciplined, AreEnded, AreAnswered, Starts, AreDistinct, HasObject};
+ghost use Rattle.pt_law.specs.Laws.{ObjectOf, Starts, AreDistinct, HasObject};
+ghost use Rattle.pt_law.specs.Discipline.{AreDisciplined, AreEnded};
 ghost use Rattle.pt_law.specs.Laws.{Serves, IsCounted, IsStanding, HasEnded, SlotsAddUp, AreKept, NamesOpen};
 ghost use Rattle.pt_law.specs.Laws.{IsHonoured, IsOvertaken, TellsOvertaken, TellsGiven, BeginsFirst, IsAtRest};
 ghost use Rattle.pt_law.specs.Laws.{LeavesRows};
-ghost use Rattle.pt_law.specs.Entered.{GivesBy, GivingPlaces, GivingPath, IsGiven, IsEntered};
+ghost use Rattle.pt_law.specs.Giving.{GivesBy, GivingPlaces, GivingPath, IsGiven};
 ghost use Rattle.pt_law.specs.Origins.{WasRoot, WasNamed};
 
 use pt_host::Host;
@@ -79,9 +72,8 @@ pub fn every_told_run()
         TablesRun start.tables turns now.tables }
     ensures cut { (turns more : List Turn) (start end : World) → Runs start (turns ++ more) end →
         ((now : World) × Runs start turns now × Runs now more end) }
-    ensures ended { (plan : Plan) (bound : ℕ) (asked : ℕ → Asked) (ends : ℕ →
-        Finish) (turns : List Turn) (start end : World) →
-        Runs start turns end → AreAnswered plan bound asked ends turns → AreEnded bound turns }
+    ensures told { (job : ℕ) (turns : List Turn) (start end : World) → Runs start turns end →
+        AllMayBeTold (steps_of job turns) }
     ensures distinct { (limit bound : ℕ) (turns more : List Turn) (start now : World) →
         Starts limit start → AreDisciplined bound (turns ++ more) → Runs start turns now → AreDistinct now }
     ensures objects { (limit bound : ℕ) (turns more : List Turn) (start now : World) (row : Row) →
@@ -111,17 +103,12 @@ pub fn every_told_run()
         (number : ℕ) (ids : ObjIds) (places : GivingPlaces turns job parent name number ids) →
         Starts limit start → AreDisciplined bound (turns ++ more) → (path : GivingPath start places given) →
         IsGiven path }
-    ensures entries { (limit bound : ℕ) (plan : Plan) (turns : List Turn) (start : World) (job parent : ℕ)
-        (name : List ℕ) (entry : Entry) →
-        Starts limit start → AreDisciplined bound turns →
-        Belongs (grammar_of plan (request.Lookup parent name)) (steps_of job turns)
-        (finish.Answer (answer.Entry entry)) → IsEntered plan start turns job parent name entry }
     ensures rest { (limit bound : ℕ) (turns : List Turn) (start end : World) →
         Starts limit start → AreEnded bound turns → Runs start turns end → LeavesRows start end }
 {}
 
-/// A run over any host is one of the tables, and where the host tells its tree one of trees and tables; where each
-/// job's steps belong to what it asked, they keep the discipline to their end.
+/// A run over any host is one of the tables, and where the host tells its tree one of trees and tables; what each job
+/// is told is such as may come.
 pub fn every_host<H: Host>()
     ensures tables { (turns : List Turn) (host after : H) (tables tables_after : Tables) →
         HostRuns H.does turns host tables after tables_after → TablesRun tables turns tables_after }
@@ -130,8 +117,4 @@ pub fn every_host<H: Host>()
         ((end : World) × (H.tree after ≡ Some end.tree) × (end.tables ≡ tables_after) × Runs start turns end) }
     ensures told { (job : ℕ) (turns : List Turn) (host after : H) (tables tables_after : Tables) →
         HostRuns H.does turns host tables after tables_after → AllMayBeTold (steps_of job turns) }
-    ensures ended { (plan : Plan) (bound : ℕ) (asked : ℕ → Asked) (ends : ℕ →
-        Finish) (turns : List Turn) (host after : H) (tables tables_after : Tables) →
-        HostRuns H.does turns host tables after tables_after → AreAnswered plan bound asked ends turns →
-        AreEnded bound turns }
 {}

@@ -2,7 +2,6 @@
 
 ghost use Rattle.std.specs.Prelude.{◌≡◌, ◌≢◌, ◌⊎◌, ◌<◌, ◌≤◌, ℕ, List, [], ◌∷◌, ◌++◌};
 ghost use Rattle.pt_host.specs.Words.{Each};
-ghost use Rattle.pt_host.specs.Errno.{ebadf};
 ghost use Rattle.pt_host.specs.declared.ids.ObjIds.{ObjIds};
 ghost use Rattle.pt_session.specs.Tables.{Tables, Agree, HasNumber, empty_tables};
 ghost use Rattle.pt_session.specs.Rows.{NoRow};
@@ -11,19 +10,12 @@ ghost use Rattle.pt_session.specs.declared.event.KeptEvent.TheVariants as change
 ghost use Rattle.pt_session.specs.declared.reply.EventReply.{EventReply};
 ghost use Rattle.pt_session.specs.declared.reply.EventReply.TheVariants as event;
 ghost use Rattle.pt_session.specs.declared.reply.EventRefusal.TheVariants.{NotLive};
-ghost use Rattle.pt_iface.specs.declared.answer.Answer.TheVariants as answer;
-ghost use Rattle.pt_iface.specs.declared.request.Request.{Request};
-ghost use Rattle.pt_req.specs.Grammar.{Belongs};
-ghost use Rattle.pt_req.specs.Pattern.{grammar_of};
-ghost use Rattle.pt_req.specs.declared.finish.Finish.{Finish};
-ghost use Rattle.pt_req.specs.declared.finish.Finish.TheVariants as finish;
-ghost use Rattle.pt_req.specs.declared.plan.Plan.{Plan};
-ghost use Rattle.pt_law.specs.Branch.{IsGivenUp};
-ghost use Rattle.pt_law.specs.World.{World, Turn, Runs, TablesRun, steps_of};
+ghost use Rattle.pt_law.specs.World.{World, Turn, Runs, TablesRun};
 ghost use Rattle.pt_law.specs.Ledger.{inserted};
-ghost use Rattle.pt_law.specs.Laws.{AreDisciplined, Starts, IsLive, ObjectOf};
-ghost use Rattle.pt_law.specs.Entered.{GivingPlaces, up_to};
-ghost use Rattle.pt_law.specs.Uses.{StaysLive, amount_asked, IsOn};
+ghost use Rattle.pt_law.specs.Laws.{Starts, IsLive, ObjectOf};
+ghost use Rattle.pt_law.specs.Discipline.{AreDisciplined};
+ghost use Rattle.pt_law.specs.Giving.{GivingPlaces, up_to};
+ghost use Rattle.pt_law.specs.Uses.{StaysLive, amount_asked};
 
 /// While a number stays live its object stays, and every other live number that stands for that object is this one.
 pub fn one_number()
@@ -51,8 +43,7 @@ pub fn two_lookups()
 {}
 
 /// A forget of at least the count removes the number, and no row of a handle; the number is not live and not inserted
-/// again, unless it is the root's. A request on it is answered EBADF for as long as it is not inserted again, or
-/// finds no memory.
+/// again, unless it is the root's. To resolve it is refused.
 pub fn forgotten_number()
     ensures gone { (before after : Tables) (list : List (ℕ × ℕ)) (closings number : ℕ) →
         Agree before → Happens before (change.Forget list) (event.Done closings) after →
@@ -69,12 +60,6 @@ pub fn forgotten_number()
     ensures refused { (before after : Tables) (number : ℕ) (told : EventReply) →
         NoRow before (HasNumber number) → Happens before (change.Resolve number) told after →
         (told ≡ event.Refused NotLive) × (after ≡ before) }
-    ensures answered { (limit job : ℕ) (plan : Plan) (what : Request) (turns later : List Turn) (was now : Tables)
-        (number : ℕ) (end : Finish) →
-        TablesRun (empty_tables limit) turns was → NoRow was (HasNumber number) → TablesRun was later now →
-        inserted number later ≡ 0 → IsOn number what →
-        Belongs (grammar_of plan what) (steps_of job later) end →
-        (end ≡ finish.Answer (answer.Refused ebadf)) ⊎ IsGivenUp end }
 {}
 
 /// A forget of an unknown number, or of none of it, changes nothing.

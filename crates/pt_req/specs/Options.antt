@@ -1,7 +1,9 @@
--- Believed. The bits of openings and sessions: which flags the host is given, and which options the guest is answered.
+-- Believed. The bits of openings and sessions: which flags the host is given, and which options the guest is
+-- answered.
 use Rattle.std.specs.Prelude.{ℕ, ◌+◌, ◌-◌, ◌^◌, Bool, true, false, bit_and, bit_or, if◌then◌else◌}
 use Rattle.pt_host.specs.Flags.{includes, o_directory}
 use Rattle.pt_host.specs.declared.flags.OpenFlags.{OpenFlags}
+use Rattle.pt_session.specs.Tables.{nothing_agreed}
 use Rattle.pt_session.specs.declared.form.Negotiated.{Negotiated}
 use Rattle.pt_iface.specs.declared.flags.FsOptions.{FsOptions}
 use Rattle.pt_iface.specs.declared.flags.OpenOptions.{OpenOptions}
@@ -27,17 +29,18 @@ o_cloexec = 524288
 abbrev pub with_bits : ℕ → ℕ → ℕ
 with_bits flags bits = bit_or flags bits
 
-abbrev pub without : ℕ → ℕ → ℕ
-without flags bits = bit_and flags (2 ^ 32 - 1 - bits)
+abbrev pub without_bits : ℕ → ℕ → ℕ
+without_bits flags bits = bit_and flags (2 ^ 32 - 1 - bits)
 
--- Each write says itself whether it appends, so no handle does; access times are the host's own, where it is set up so.
+-- Each write says itself whether it appends, so no handle does; access times are the host's own, where it is set up
+-- so.
 abbrev pub cleaned : Config → ℕ → ℕ
 cleaned config flags =
-    if config.clean_noatime then without (without flags o_append) o_noatime else without flags o_append
+    if config.clean_noatime then without_bits (without_bits flags o_append) o_noatime else without_bits flags o_append
 
 -- direct I/O of the guest is not passed on, unless it is allowed; the daemon runs no other program
 abbrev pub inode_flags : Config → ℕ → ℕ
-inode_flags config flags = with_bits (if config.allow_direct_io then flags else without flags o_direct) o_cloexec
+inode_flags config flags = with_bits (if config.allow_direct_io then flags else without_bits flags o_direct) o_cloexec
 
 -- what a handle is opened with
 abbrev pub host_flags : Config → ℕ → ℕ
@@ -45,7 +48,7 @@ host_flags config flags = inode_flags config (cleaned config flags)
 
 -- a descriptor's link in `/proc` is to be followed
 abbrev pub without_nofollow : ℕ → OpenFlags
-without_nofollow flags = record { 0 = without flags o_nofollow }
+without_nofollow flags = record { 0 = without_bits flags o_nofollow }
 
 abbrev pub direct_io : ℕ
 direct_io = 1
@@ -72,9 +75,6 @@ open_options config flags = record { 0 = cache_options config.cache_policy (incl
 -- `CREATE_SUPP_GROUP`
 abbrev pub create_supp_group : ℕ
 create_supp_group = 512
-
-abbrev pub nothing_agreed : Negotiated
-nothing_agreed = record { writeback = false; announce_submounts = false; posix_acl = false; sup_group = false }
 
 -- what is agreed on with a guest that offers this
 abbrev pub agreed_with : FsOptions → Negotiated

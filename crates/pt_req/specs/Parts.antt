@@ -1,124 +1,92 @@
--- Inner. What is left of the parts of bodies.
-use Rattle.std.specs.Prelude.{ℕ, true, List}
-use Rattle.pt_host.specs.declared.op.KeptHostOp.TheVariants as call
+-- Believed. The parts of requests, each with what it hands on. After virtiofsd's `open_inode`, `do_lookup`,
+-- `do_open`, `open_root_node`.
+use Rattle.std.specs.Prelude.{ℕ, true, false, if◌then◌else◌, List, Option, None}
+use Rattle.pt_host.specs.Errno.{ebadf, einval}
+use Rattle.pt_host.specs.Flags.{path_flags}
+use Rattle.pt_host.specs.declared.ids.Fd.{Fd}
+use Rattle.pt_host.specs.declared.ids.ObjIds.{ObjIds}
+use Rattle.pt_host.specs.declared.stat.Stat.{Stat}
+use Rattle.pt_host.specs.declared.flags.OpenFlags.{OpenFlags}
+use Rattle.pt_session.specs.declared.form.RowForm.{RowForm}
 use Rattle.pt_session.specs.declared.form.RowForm.TheVariants.{File}
-use Rattle.pt_session.specs.declared.event.KeptEvent.TheVariants as change
-use Rattle.pt_iface.specs.declared.entry.Entry.{Entry}
-use Rattle.pt_req.specs.Deed.{Calls, Changes}
-use Rattle.pt_req.specs.Tree.{Tree, Refuses, Asks, Shuts}
-use Rattle.pt_req.specs.Requests.{on_stat, on_taken, on_drawn, on_inserted, on_root, root_open, entry_of, inserted}
-use Rattle.pt_req.specs.Requests.{numbered, told_of, opened_in, look_up}
-use Rattle.pt_req.specs.Next.{IsAsks}
-use Rattle.pt_req.specs.declared.act.ActReply.{ActReply}
+use Rattle.pt_session.specs.declared.form.Negotiated.{Negotiated}
+use Rattle.pt_iface.specs.declared.answer.Answer.TheVariants as answer
+use Rattle.pt_frame.specs.Tree.{RequestTree, Gives, Brackets, Shuts}
+use Rattle.pt_req.specs.Options.{cleaned, inode_flags, without_nofollow}
+use Rattle.pt_req.specs.Steps.{Resolved, resolve, open_root, open_at, reopen, stat, claim, take_fd, draw_node}
+use Rattle.pt_req.specs.Steps.{draw_handle, insert, insert_root, insert_handle}
+use Rattle.pt_req.specs.Entries.{is_bad_name, is_bad_offset, can_open, entry_of}
+use Rattle.pt_req.specs.declared.begun.BegunSession.{BegunSession}
+use Rattle.pt_req.specs.declared.parts.looked.Looked.{Looked}
 use Rattle.pt_req.specs.declared.plan.Plan.{Plan}
-use Rattle.pt_req.specs.declared.parts.look_up.Opened.{Opened}
-use Rattle.pt_req.specs.declared.parts.look_up.LookUp.{LookUp}
-use Rattle.pt_req.specs.declared.parts.look_up.LookUp.TheVariants as look
-use Rattle.pt_req.specs.declared.parts.look_up.LookedUp.{LookedUp}
-use Rattle.pt_req.specs.declared.parts.look_up.LookedUp.TheVariants as looked
-use Rattle.pt_req.specs.declared.parts.root_open.RootOpen.{RootOpen}
-use Rattle.pt_req.specs.declared.parts.root_open.RootOpen.TheVariants as at
-use Rattle.pt_req.specs.declared.parts.root_open.RootOpened.{RootOpened}
-use Rattle.pt_req.specs.declared.parts.root_open.RootOpened.TheVariants as opened_root
 
--- the rest of a lookup, where the number of what was opened is known
-abbrev pub with_number : Plan → Opened → (Entry → Tree) → ℕ → Tree
-with_number plan it next number = next (entry_of plan it.session.agreed it.parent it.stat number)
+-- the flags of every opening that only stands for its object
+abbrev pub by_path : OpenFlags
+by_path = record { 0 = path_flags }
 
-abbrev pub drawing : Plan → Opened → (Entry → Tree) → Tree
-drawing plan it next =
-    Asks (Changes change.DrawNode) (on_drawn (inserted it.session it.fd it.stat (with_number plan it next)))
+-- checks: a name that is none, an offset that is none
+abbrev pub named : List ℕ → RequestTree → RequestTree
+named name next = if is_bad_name name then Gives (answer.Refused einval) else next
 
-abbrev pub look_up_left : LookUp → List ℕ → Plan → (Entry → Tree) → Tree
-look_up_left (look.Resolve session parent) name plan next = look_up plan session parent name next
-look_up_left (look.Open session parent dir) name plan next = opened_in plan session parent dir name next
-look_up_left (look.Stat session parent fd) name plan next = told_of plan session parent fd next
-look_up_left (look.Claim it) name plan next = numbered it.session it.fd it.stat (with_number plan it next)
-look_up_left (look.Take it) name plan next = Asks (Changes change.TakeFd) (on_taken (drawing plan it next))
-look_up_left (look.Draw it) name plan next = drawing plan it next
-look_up_left (look.Insert it form fresh) name plan next =
-    Asks (Changes (change.Insert it.session.era fresh form it.stat.ids it.stat.mode))
-    (on_inserted (λ number. Shuts true 1 (with_number plan it next number)) (λ number.
-    Shuts true 3 (with_number plan it next number)))
+abbrev pub placed : ℕ → RequestTree → RequestTree
+placed offset next = if is_bad_offset offset then Gives (answer.Refused einval) else next
 
-abbrev pub looked_up_tree : LookedUp → ActReply → Tree → (Entry → Tree) → Tree
-looked_up_tree looked.Goes told left next = left
-looked_up_tree looked.Refuses told left next = Refuses told
-looked_up_tree (looked.Ends count entry) told left next = Shuts true count (next entry)
+-- the file of a row: the descriptor that stands for its object
+abbrev pub file_of : RowForm → (Fd → RequestTree) → RequestTree
+file_of (File fd) next = next fd
 
-abbrev pub looked_up_counts : LookedUp → ℕ → ℕ
-looked_up_counts looked.Goes count = count
-looked_up_counts _ count = 0
+-- a row's object is opened anew; its descriptor's link in `/proc` is to be followed
+abbrev pub open_form : RowForm → ℕ → (Fd → RequestTree) → RequestTree
+open_form (File fd) flags next = reopen fd (without_nofollow flags) next
 
--- an act that brings a hold counts twice
-abbrev pub look_up_acts : LookUp → ℕ
-look_up_acts (look.Resolve session parent) = 12
-look_up_acts (look.Open session parent dir) = 10
-look_up_acts (look.Stat session parent fd) = 8
-look_up_acts (look.Claim it) = 7
-look_up_acts (look.Take it) = 5
-look_up_acts (look.Draw it) = 3
-look_up_acts (look.Insert it form fresh) = 2
+-- what is neither a regular file nor a directory is not opened
+abbrev pub open_row : Resolved → ℕ → (Fd → RequestTree) → RequestTree
+open_row row flags next = if can_open row.mode then open_form row.form flags next else Gives (answer.Refused ebadf)
 
-abbrev pub look_up_room : LookUp → ℕ
-look_up_room (look.Resolve session parent) = 5
-look_up_room (look.Open session parent dir) = 4
-look_up_room (look.Stat session parent fd) = 3
-look_up_room (look.Claim it) = 3
-look_up_room (look.Take it) = 2
-look_up_room _ = 1
+-- a number is opened
+abbrev pub open_inode : Plan → ℕ → ℕ → (Fd → RequestTree) → RequestTree
+open_inode plan number flags next =
+    resolve number (λ row. open_row row (inode_flags plan.config flags) next)
 
-abbrev pub look_up_inserts : LookUp → ℕ
-look_up_inserts it = 1
+-- what was opened gets the number of its object, where it has one, or a new one
+abbrev pub numbered : BegunSession → RowForm → Stat → (ℕ → RequestTree) → RequestTree
+numbered session form told next =
+    claim session None told.ids next (
+    take_fd (
+    draw_node (λ fresh.
+    insert session fresh form told next)))
 
-pub look_up_asks : (it : LookUp) (name : List ℕ) (plan : Plan) (next : Entry → Tree) →
-    IsAsks (look_up_left it name plan next)
-look_up_asks (look.Resolve session parent) name plan next = tt
-look_up_asks (look.Open session parent dir) name plan next = tt
-look_up_asks (look.Stat session parent fd) name plan next = tt
-look_up_asks (look.Claim it) name plan next = tt
-look_up_asks (look.Take it) name plan next = tt
-look_up_asks (look.Draw it) name plan next = tt
-look_up_asks (look.Insert it form fresh) name plan next = tt
+-- what a lookup hands on, in a directory of these ids
+abbrev pub looked_of : Plan → BegunSession → ObjIds → Stat → RowForm → ℕ → Looked
+looked_of plan session parent told form number = record {
+  entry = entry_of plan session.agreed parent told number;
+  ids = told.ids;
+  form = form;
+}
 
-abbrev pub root_open_left : RootOpen → Plan → Tree → Tree
-root_open_left (at.Open session agreed) plan next = root_open plan session agreed next
-root_open_left (at.Stat session agreed fd) plan next =
-    Asks (Calls (call.Stat fd)) (on_stat (λ stat.
-    Asks (Changes change.TakeFd) (on_taken (
-    Asks (Changes (change.InsertRoot session.era (File fd) stat.ids stat.mode agreed)) (on_root next)))))
-root_open_left (at.Take session agreed fd stat) plan next =
-    Asks (Changes change.TakeFd) (on_taken (
-    Asks (Changes (change.InsertRoot session.era (File fd) stat.ids stat.mode agreed)) (on_root next)))
-root_open_left (at.Insert session agreed form stat) plan next =
-    Asks (Changes (change.InsertRoot session.era form stat.ids stat.mode agreed)) (on_root next)
+-- A lookup: a name in a numbered directory becomes an entry, whose count passes the end of the bracket.
+abbrev pub look_up : Plan → BegunSession → ℕ → List ℕ → (Looked → RequestTree) → RequestTree
+look_up plan session parent name next = Brackets (
+    resolve parent (λ directory.
+    file_of directory.form (λ dir.
+    open_at dir name by_path (λ fd.
+    stat fd (λ told.
+    numbered session (File fd) told (λ number.
+    Shuts true (next (looked_of plan session directory.ids told (File fd) number))))))))
 
-abbrev pub root_opened_tree : RootOpened → ActReply → Tree → Tree → Tree
-root_opened_tree opened_root.Goes told left next = left
-root_opened_tree opened_root.Refuses told left next = Refuses told
-root_opened_tree opened_root.Done told left next = next
+-- a number is opened by a handle
+abbrev pub open_num : Plan → BegunSession → ℕ → ℕ → (ℕ → RequestTree) → RequestTree
+open_num plan session number flags next = Brackets (
+    open_inode plan number (cleaned plan.config flags) (λ fd.
+    draw_handle (λ handle.
+    take_fd (
+    insert_handle session handle number fd (
+    Shuts false (next handle))))))
 
-abbrev pub root_opened_counts : RootOpened → ℕ → ℕ
-root_opened_counts opened_root.Goes count = count
-root_opened_counts _ count = 0
-
-abbrev pub root_open_acts : RootOpen → ℕ
-root_open_acts (at.Open session agreed) = 6
-root_open_acts (at.Stat session agreed fd) = 4
-root_open_acts (at.Take session agreed fd stat) = 3
-root_open_acts (at.Insert session agreed form stat) = 1
-
-abbrev pub root_open_room : RootOpen → ℕ
-root_open_room (at.Open session agreed) = 2
-root_open_room (at.Stat session agreed fd) = 1
-root_open_room (at.Take session agreed fd stat) = 1
-root_open_room (at.Insert session agreed form stat) = 0
-
-abbrev pub root_open_inserts : RootOpen → ℕ
-root_open_inserts it = 1
-
-pub root_open_asks : (it : RootOpen) (plan : Plan) (next : Tree) → IsAsks (root_open_left it plan next)
-root_open_asks (at.Open session agreed) plan next = tt
-root_open_asks (at.Stat session agreed fd) plan next = tt
-root_open_asks (at.Take session agreed fd stat) plan next = tt
-root_open_asks (at.Insert session agreed form stat) plan next = tt
+-- the shared directory is opened and numbered 1; what is agreed on is said, or left
+abbrev pub root_open : Plan → BegunSession → Option Negotiated → RequestTree → RequestTree
+root_open plan session agreed next =
+    open_root plan.config.root_dir by_path (λ fd.
+    stat fd (λ told.
+    take_fd (
+    insert_root session (File fd) told agreed next)))

@@ -1,30 +1,23 @@
--- Believed. Which step lists and answers belong to a request, or to an edit.
-use Rattle.std.specs.Prelude.{ℕ, List, []}
-use Rattle.pt_host.specs.declared.edit.Edit.{Edit}
+-- Believed. Which step lists and answers belong to a request.
+use Rattle.std.specs.Prelude.{ℕ, List}
 use Rattle.pt_host.specs.declared.seat.HostSeat.{HostSeat}
 use Rattle.pt_iface.specs.declared.answer.Answer.{Answer}
 use Rattle.pt_iface.specs.declared.request.Context.{Context}
 use Rattle.pt_iface.specs.declared.request.Request.{Request}
 use Rattle.pt_iface.specs.declared.request.Request.TheVariants as request
-use Rattle.pt_req.specs.Deed.{Step}
-use Rattle.pt_req.specs.Edit.{edit_grammar}
-use Rattle.pt_req.specs.Grammar.{Grammar, Belongs}
-use Rattle.pt_req.specs.Tree.{framed}
+use Rattle.pt_frame.specs.Deed.{Step}
+use Rattle.pt_frame.specs.Grammar.{Grammar, Belongs}
+use Rattle.pt_frame.specs.Tree.{grammar_of_tree}
+use Rattle.pt_frame.specs.declared.finish.Finish.TheVariants as finish
 use Rattle.pt_req.specs.Requests.{tree_of}
-use Rattle.pt_req.specs.declared.finish.Finish.TheVariants as finish
 use Rattle.pt_req.specs.declared.plan.Plan.{Plan}
 
--- what a request's job may do from its start on
-abbrev pub grammar_of : Plan → Request → Grammar
-grammar_of plan asked = framed (tree_of plan asked) []
+-- what a request's job may do from its start on, where it begins with this seat
+abbrev pub grammar_of : Plan → HostSeat → Context → Request → Grammar
+grammar_of plan seat who asked = grammar_of_tree seat (tree_of plan seat who asked)
 
--- No request of today takes its seat, or who asks, into account.
 abbrev pub Pattern : Plan → HostSeat → Context → Request → List Step → Answer → Type 0
-Pattern plan seat who asked steps answer = Belongs (grammar_of plan asked) steps (finish.Answer answer)
-
--- An edit has no seat, and nobody asks.
-abbrev pub EditPattern : Edit → List Step → Answer → Type 0
-EditPattern edit steps answer = Belongs (edit_grammar edit) steps (finish.Answer answer)
+Pattern plan seat who asked steps answer = Belongs (grammar_of plan seat who asked) steps (finish.Answer answer)
 
 -- a bound on a request's steps; each closing takes at most three more
 abbrev pub bound_of : Request → ℕ
@@ -38,16 +31,3 @@ bound_of _ = 8
 -- so many rows a request inserts at most
 abbrev pub most_inserted : ℕ
 most_inserted = 4
-
--- what a job asks: it serves a request, or edits the host's tree beside the requests
-pub data Asked : Type 0 where
-  Requests : Request → Asked
-  Edits : Edit → Asked
-
-abbrev pub grammar_for : Plan → Asked → Grammar
-grammar_for plan (Requests asked) = grammar_of plan asked
-grammar_for plan (Edits edit) = edit_grammar edit
-
-abbrev pub bound_for : Asked → ℕ
-bound_for (Requests asked) = bound_of asked
-bound_for (Edits edit) = 1

@@ -1,213 +1,145 @@
-ghost use Rattle.std.specs.Prelude.{◌≡◌, ◌+◌, ◌*◌, ◌<◌, ◌≤◌, ℕ, true, false, List, IfOk, IfErr, IfSome};
-ghost use Rattle.pt_req.specs.Bodies.{request_left, request_acts, request_room, request_inserts};
-ghost use Rattle.pt_req.specs.Pattern.{bound_of, most_inserted};
-ghost use Rattle.pt_req.specs.Requests.{tree_of};
+ghost use Rattle.std.specs.Prelude.{◌≡◌, ◌+◌, ◌*◌, ◌<◌, ◌≤◌, true, false, IfOk, IfErr, None};
+ghost use Rattle.pt_frame.specs.Frame.{cut};
+ghost use Rattle.pt_frame.specs.Grammar.{End, IsChosen, IsDo, IsSettled, Wants, after, is_end, owed_by, restores};
+ghost use Rattle.pt_frame.specs.Grammar.{told_closings, told_inserted, events_first, told_slots};
+ghost use Rattle.pt_frame.specs.Machine.Job.{owes, steps_left, steps_bound, own_left, events_left, inserts_left};
+ghost use Rattle.pt_frame.specs.Machine.Job.{is_finished, restores_now};
+ghost use Rattle.pt_frame.specs.Machine.Left.{IsTold};
+ghost use Rattle.pt_frame.specs.Past.{lost_after};
+ghost use Rattle.pt_host.specs.declared.seat.HostSeat.{HostSeat};
+ghost use Rattle.pt_req.specs.Machine.Bodies.{request_left, request_acts, request_inserts};
+ghost use Rattle.pt_req.specs.Pattern.{grammar_of, bound_of, most_inserted};
 ghost use Rattle.pt_req.specs.declared.plan.Plan.{Plan};
 
-use crate::act::{ActReply, Want};
-use crate::edit::Editing;
-use crate::finish::Finish;
-use crate::frame::Framed;
 use crate::plan::Plan;
-use crate::requests::{
-    Destroy, Forget, ForgetAt, Forgotten, Init, Lookup, LookupAt, Open, OpenAt, Read, Reading,
-    Release, ReleaseAt, RequestBody, Root, Unknown,
-};
-use pt_host::{Edit, Errno, HostSeat, OpenFlags};
+use crate::requests::RequestBody;
+use pt_frame::{ActReply, Finish, Framed, Want};
+use pt_host::{Errno, HostSeat};
 use pt_iface::{Context, Request};
 use std::alloc::Global;
+use std::marker::Model;
 
-/// A request on its way, or an edit. All calls of one job are given one plan.
+/// A request on its way. All calls of one job are given one plan, and the seat with which the job began.
 #[derive(Drop)]
 pub struct JobState {
-    work: Work,
+    framed: Framed<RequestBody>,
 }
 
-/// What the job does.
-#[derive(Drop)]
-enum Work {
-    Request(Framed<RequestBody>),
-    Edit(Editing),
+impl Model for JobState {
+    ghost use Rattle.pt_frame.specs.Machine.Job.{Job};
+    ghost use Rattle.pt_req.specs.declared.requests.any.RequestBody.{RequestBody};
+
+    ghost Value = { Job RequestBody };
+
+    ghost view = { λ job. job.framed };
 }
 
-fn body_of(request: Request) -> RequestBody
-    ensures left { (plan : Plan) → request_left result plan ≡ tree_of plan request }
-    ensures acts { request_acts result ≤ bound_of request }
-    ensures room { request_room result ≤ 16 }
-    ensures inserts { request_inserts result ≤ most_inserted }
-{
-    match request {
-        Request::Init { capable } => RequestBody::Init(Init::Clear { capable }),
-        Request::Destroy => RequestBody::Destroy(Destroy),
-        Request::Root => RequestBody::Root(Root::Begin),
-        Request::Lookup { parent, name } => {
-            let at = LookupAt::Begin { parent };
-            RequestBody::Lookup(Lookup { name, at })
-        }
-        Request::Forget { inode, count } => {
-            let at = ForgetAt::Begin;
-            let list = Forgotten::One([(inode, count)]);
-            RequestBody::Forget(Forget { list, at })
-        }
-        Request::BatchForget { list } => {
-            let at = ForgetAt::Begin;
-            let list = Forgotten::Many(list);
-            RequestBody::Forget(Forget { list, at })
-        }
-        // Whether set-id bits are cleared is decided by a switch that is not there yet.
-        Request::Open { inode, flags, .. } => {
-            let at = OpenAt::Begin { inode };
-            RequestBody::Open(Open { flags, at })
-        }
-        Request::OpenDir { inode, flags } => {
-            let at = OpenAt::Begin { inode };
-            let flags = flags | OpenFlags::O_DIRECTORY.0;
-            RequestBody::Open(Open { flags, at })
-        }
-        Request::Release { inode, handle } | Request::ReleaseDir { inode, handle } => {
-            let at = ReleaseAt::Begin;
-            RequestBody::Release(Release { inode, handle, at })
-        }
-        Request::Read {
-            inode,
-            handle,
-            size,
-            offset,
-        } => {
-            let at = Reading::Begin;
-            RequestBody::Read(Read {
-                inode,
-                handle,
-                size,
-                offset,
-                at,
-            })
-        }
-        _ => RequestBody::Unknown(Unknown),
-    }
-}
-
-#[tactic(auto, unfolding(crate::specs::Job::owes, crate::specs::Job::steps_left, crate::specs::Job::steps_bound, crate::specs::Job::inserts_left, crate::specs::Job::is_finished, crate::specs::Job::lost_of, crate::specs::Job::is_restoring))]
 impl JobState {
-    ghost use Rattle.pt_req.specs.Deed.{Step};
-    ghost use Rattle.pt_req.specs.Edit.{edit_grammar};
-    ghost use Rattle.pt_req.specs.Frame.{cut, BelongsCut};
-    ghost use Rattle.pt_req.specs.Grammar.{End, Wants, after, owed_by, is_end, Belongs, told_closings, told_inserted};
-    ghost use Rattle.pt_req.specs.Pattern.{grammar_of};
-    ghost use Rattle.pt_req.specs.Job.{owes, steps_left, steps_bound, inserts_left, is_finished, lost_of, is_restoring};
-    ghost use Rattle.pt_req.specs.declared.finish.Finish.{Finish};
-    ghost use Rattle.pt_req.specs.declared.finish.Finish.TheVariants.{Lost};
-
     /// A job that has made no step. An `Err`, which gives the request back, says that memory ran out; these requests
     /// take none.
     pub fn start(
         _alloc: Global,
-        plan: &Plan,
-        _who: Context,
+        _plan: &Plan,
+        who: Context,
         request: Request,
     ) -> Result<JobState, Request>
-        ensures left { IfOk result (λ job. owes plan.now job ≡ grammar_of plan.now request) }
-        ensures bound { IfOk result (λ job. steps_bound job ≤ bound_of request) }
-        ensures inserts { IfOk result (λ job. inserts_left job ≤ most_inserted) }
+        ensures left { IfOk result (λ job. (plan : Plan) (seat : HostSeat) →
+            owes seat job.at (request_left job.body plan seat) ≡ grammar_of plan seat who request) }
+        ensures bound { IfOk result (λ job. steps_bound job.at (request_acts job.body) ≤ bound_of request) }
+        ensures events { IfOk result (λ job. events_left job.at (request_acts job.body) ≤ bound_of request) }
+        ensures inserts { IfOk result (λ job. inserts_left job.at (request_inserts job.body) ≤ most_inserted) }
+        ensures lost { IfOk result (λ job. job.at.lost ≡ None) }
         ensures back { IfErr result (λ back. back ≡ request) }
     {
-        let body = body_of(request);
-        let work = Work::Request(Framed::start(body));
-        Ok(JobState { work })
-    }
-
-    /// An edit that has not been made, which is one step.
-    pub fn edit(edit: Edit) -> JobState
-        ensures left { (plan : Plan) → owes plan result ≡ edit_grammar edit }
-        ensures bound { steps_bound result ≡ 1 }
-        ensures inserts { inserts_left result ≡ 0 }
-    {
-        let work = Work::Edit(Editing::Asks(edit));
-        JobState { work }
+        let framed = Framed::start(RequestBody::of(request));
+        Ok(JobState { framed })
     }
 
     /// What it wants next, which takes no memory.
-    pub fn want<'a>(&'a self, plan: &'a Plan, seat: &HostSeat) -> Want<'a>
-        ensures { Wants (owes plan.now self.now) result }
+    pub fn want<'a>(&'a self, plan: &'a Plan, seat: &'a HostSeat) -> Want<'a>
+        ensures { Wants (owes seat.now self.now.at (request_left self.now.body plan.now seat.now)) result }
     {
-        match &self.work {
-            Work::Request(framed) => framed.want(plan, seat),
-            Work::Edit(editing) => editing.want(),
-        }
+        self.framed.want(plan, seat)
     }
 
     /// Goes on from the reply of the step that was wanted.
     pub fn take(&mut self, plan: &Plan, reply: ActReply, seat: &HostSeat)
-        requires { is_end (owes plan.now self.old) ≡ false }
-        ensures belongs { (steps : List Step) (end : Finish) → Belongs (owes plan.now self.new) steps end →
-            Belongs (after reply (owes plan.now self.old)) steps end }
-        ensures belongs_cut { (steps : List Step) (end : Finish) → BelongsCut (owes plan.now self.new) steps end →
-            BelongsCut (after reply (owes plan.now self.old)) steps end }
-        ensures fewer { steps_left self.new < steps_left self.old }
-        ensures within { steps_bound self.new + 1
-            ≤ steps_bound self.old + 3 * told_closings (owes plan.now self.old) reply }
-        ensures inserts { inserts_left self.new + told_inserted (owes plan.now self.old) reply ≤ inserts_left self.old }
+        requires { is_finished self.old.at ≡ false }
+        ensures left { IsChosen
+            (after reply (owes seat.now self.old.at (request_left self.old.body plan.now seat.now)))
+            (owes seat.now self.new.at (request_left self.new.body plan.now seat.now)) }
+        ensures lost { self.new.at.lost ≡ lost_after self.old.at.lost (restores_now self.old.at) reply }
+        ensures fewer { steps_left self.new.at (request_acts self.new.body)
+            < steps_left self.old.at (request_acts self.old.body) }
+        ensures within { steps_bound self.new.at (request_acts self.new.body) + 1
+            ≤ steps_bound self.old.at (request_acts self.old.body)
+            + 3 * told_closings (owes seat.now self.old.at (request_left self.old.body plan.now seat.now)) reply }
+        ensures own { own_left self.new.at (request_acts self.new.body)
+            ≤ own_left self.old.at (request_acts self.old.body) }
+        ensures slot { events_left self.new.at (request_acts self.new.body)
+            ≤ own_left self.new.at (request_acts self.new.body) + 1 }
+        ensures events { events_left self.new.at (request_acts self.new.body)
+            + events_first (owes seat.now self.old.at (request_left self.old.body plan.now seat.now))
+            ≤ events_left self.old.at (request_acts self.old.body)
+            + told_slots (owes seat.now self.old.at (request_left self.old.body plan.now seat.now)) reply }
+        ensures inserts { inserts_left self.new.at (request_inserts self.new.body)
+            + told_inserted (owes seat.now self.old.at (request_left self.old.body plan.now seat.now)) reply
+            ≤ inserts_left self.old.at (request_inserts self.old.body) }
     {
-        match &mut self.work {
-            Work::Request(framed) => framed.take(plan, reply, seat),
-            Work::Edit(editing) => editing.take(&reply),
-        }
+        self.framed.take(plan, seat, reply);
     }
 
     pub fn is_finished(&self) -> bool
-        ensures result { result ≡ is_finished self.now }
-        ensures end { (plan : Plan) → is_end (owes plan self.now) ≡ result }
+        ensures result { result ≡ is_finished self.now.at }
+        ensures end { (plan : Plan) (seat : HostSeat) →
+            is_end (owes seat self.now.at (request_left self.now.body plan seat)) ≡ result }
     {
-        match &self.work {
-            Work::Request(framed) => framed.is_finished(),
-            Work::Edit(editing) => editing.is_finished(),
-        }
+        self.framed.is_finished()
     }
 
     /// Makes it want only the end of its open scopes, the closings that it owes and its holds; it then finishes with
     /// the answer `Cut`.
     pub fn cut(&mut self)
-        requires { is_finished self.old ≡ false }
-        ensures left { (plan : Plan) → owes plan self.new ≡ cut (owed_by (owes plan self.old)) }
-        ensures bound { steps_bound self.new ≤ steps_bound self.old }
-        ensures inserts { inserts_left self.new ≡ 0 }
+        requires { is_finished self.old.at ≡ false }
+        ensures left { (plan : Plan) (seat : HostSeat) →
+            owes seat self.new.at (request_left self.new.body plan seat)
+            ≡ cut seat (owed_by (owes seat self.old.at (request_left self.old.body plan seat))) }
+        ensures stood { (plan : Plan) (seat : HostSeat) →
+            IsDo (owes seat self.old.at (request_left self.old.body plan seat)) }
+        ensures lost { self.new.at.lost ≡ self.old.at.lost }
+        ensures bound { steps_bound self.new.at (request_acts self.new.body)
+            ≤ steps_bound self.old.at (request_acts self.old.body) }
+        ensures inserts { inserts_left self.new.at (request_inserts self.new.body) ≡ 0 }
     {
-        match &mut self.work {
-            Work::Request(framed) => framed.cut(),
-            Work::Edit(editing) => editing.cut(),
-        }
+        self.framed.cut();
     }
 
-    /// What the first step that was to end a scope and was refused was answered, in a job that was not cut. It then
-    /// finishes with that.
+    /// What the first refused restoring step was answered, also where the job was cut.
     pub fn lost(&self) -> Option<Errno>
-        ensures lost { result ≡ lost_of self.now }
-        ensures ends { IfSome result (λ errno. (plan : Plan) (steps : List Step) (end : Finish) →
-            Belongs (owes plan self.now) steps end → end ≡ Lost errno) }
+        ensures { result ≡ self.now.at.lost }
     {
-        match &self.work {
-            Work::Request(framed) => framed.lost(),
-            Work::Edit(_) => None,
-        }
+        self.framed.lost()
     }
 
-    /// Whether the wanted step ends a scope.
+    /// Whether the wanted step is to restore the seat.
     pub fn restoring(&self) -> bool
-        ensures { result ≡ is_restoring self.now }
+        ensures result { result ≡ restores_now self.now.at }
+        ensures restores { (plan : Plan) (seat : HostSeat) →
+            result ≡ restores (owes seat self.now.at (request_left self.now.body plan seat)) }
+        ensures unfinished { result ≡ true → is_finished self.now.at ≡ false }
+        ensures settled { (plan : Plan) (seat : HostSeat) →
+            IsSettled (owes seat self.now.at (request_left self.now.body plan seat)) }
     {
-        match &self.work {
-            Work::Request(framed) => framed.restoring(),
-            Work::Edit(_) => false,
-        }
+        self.framed.restoring()
     }
 
+    /// How it ends. A seat that was lost is told, but where the job was cut.
     pub fn finish(self) -> Finish
-        requires { is_finished self ≡ true }
-        ensures { (plan : Plan) → owes plan self ≡ End result }
+        requires { is_finished self.at ≡ true }
+        ensures left { (plan : Plan) (seat : HostSeat) →
+            owes seat self.at (request_left self.body plan seat) ≡ End result }
+        ensures lost { IsTold result self.at.lost }
     {
-        match self.work {
-            Work::Request(framed) => framed.finish(),
-            Work::Edit(editing) => editing.finish(),
-        }
+        self.framed.finish()
     }
 }

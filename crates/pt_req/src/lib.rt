@@ -1,21 +1,14 @@
-//! Requests as lists of steps: what each does, the frame round all of them, and the machines that take the steps.
+//! Requests as trees of steps, by their parts, and the bodies that take the steps.
 #![tactic(auto)]
 
-mod act;
 mod begun;
-mod edit;
-mod finish;
-mod frame;
-mod hold;
 mod job;
 mod laws;
 mod parts;
 mod plan;
 mod requests;
 
-pub use act::{Act, ActReply, KeptAct, Want};
-pub use finish::Finish;
-pub use hold::{Hold, Holds, Taken};
 pub use job::JobState;
-pub use laws::{calm, cut_says_no_more, jobs_are_determined};
+pub use laws::{requests_spare, requests_tend};
 pub use plan::{CachePolicy, Config, Plan};
+pub use requests::RequestBody;

@@ -14,7 +14,7 @@ pub use destroy::Destroy;
 pub use forget::{Forget, ForgetAt, Forgotten};
 pub use init::Init;
 pub use lookup::{Lookup, LookupAt};
-pub use open::{Open, OpenAt};
+pub use open::{Open, OpeningAt};
 pub use read::{Read, Reading};
 pub use release::{Release, ReleaseAt};
 pub use root::Root;

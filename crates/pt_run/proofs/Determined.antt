@@ -1,5 +1,6 @@
 -- A script alone determines its report unless memory runs out.
-use Rattle.std.proofs.Common.{◌≡◌, ◌≢◌, ℕ, ◌≤◌, List, [], ◌∷◌, ◌∙◌, Option, Some, None, Ok, refl, ap, sym, subst, arith}
+use Rattle.std.proofs.Common.{◌≡◌, ◌≢◌, ℕ, ◌≤◌, List, [], ◌∷◌, ◌∙◌, Option, Some, None, Ok, refl, ap, sym, subst}
+use Rattle.std.proofs.Common.{arith}
 use Rattle.pt_host.specs.declared.reply.HostReply.{HostReply}
 use Rattle.pt_host.specs.declared.reply.HostReply.TheVariants as reply
 use Rattle.pt_host.specs.declared.reply.HostValue.TheVariants as value
@@ -57,8 +58,10 @@ pair_same one other a b = λ i. Some (a i, b i)
 
 lives_one : (tables : Tables) → Agree tables → IsOne (IsLiveAfter tables.rows)
 lives_one tables agree above None None h k = refl
-lives_one tables agree above None (Some found) h k = absurd (none_taken (IsLiveAbove number_rows above) h k.0.1.1 k.0.2)
-lives_one tables agree above (Some found) None h k = absurd (none_taken (IsLiveAbove number_rows above) k h.0.1.1 h.0.2)
+lives_one tables agree above None (Some found) h k =
+    absurd (none_taken (IsLiveAbove number_rows above) h k.0.1.1 k.0.2)
+lives_one tables agree above (Some found) None h k =
+    absurd (none_taken (IsLiveAbove number_rows above) k h.0.1.1 h.0.2)
 lives_one tables agree above (Some one) (Some other) h k =
     let a : one.0 ≤ k.0.0.number =
     each_taken (λ (row : Row). IsLiveAbove number_rows above row → one.0 ≤ row.number) k.0.1.1 h.1 k.0.2 in
@@ -76,8 +79,10 @@ lives_one tables agree above (Some one) (Some other) h k =
 
 handles_one : (tables : Tables) → Agree tables → IsOne (IsHandleAfter tables.handles)
 handles_one tables agree above None None h k = refl
-handles_one tables agree above None (Some found) h k = absurd (none_taken (IsLiveAbove handle_rows above) h k.0.1.1 k.0.2)
-handles_one tables agree above (Some found) None h k = absurd (none_taken (IsLiveAbove handle_rows above) k h.0.1.1 h.0.2)
+handles_one tables agree above None (Some found) h k =
+    absurd (none_taken (IsLiveAbove handle_rows above) h k.0.1.1 k.0.2)
+handles_one tables agree above (Some found) None h k =
+    absurd (none_taken (IsLiveAbove handle_rows above) k h.0.1.1 h.0.2)
 handles_one tables agree above (Some one) (Some other) h k =
     let a : one.0 ≤ k.0.0.handle =
     each_taken (λ (row : HandleRow). IsLiveAbove handle_rows above row → one.0 ≤ row.handle) k.0.1.1 h.1 k.0.2 in
@@ -189,7 +194,8 @@ runs_one settings start lines schedule trace trace' answers answers' tables tabl
     subst Agree (sym run.opened.tables)
     (agree_law run.fs.plan.config.guest_fd_limit [] (empty_tables run.fs.plan.config.guest_fd_limit) refl) in
     turns_determined Does host_determined run.fs.plan schedule
-    (jobs_of settings lines) run.opened_host run.fs.tables trace trace' answers answers' host host' run.seats run'.seats tables tables' agree here moved
+    (jobs_of settings lines) run.opened_host run.fs.tables trace trace' answers answers' host host' run.seats
+    run'.seats tables tables' agree here moved
 
 report_same : (trace trace' : List TraceStep) (answers answers' : List Answer)
     (lives lives' handles handles' : List (ℕ × ℕ)) (seats seats' : List HostSeat) (tables tables' : Tables)
@@ -197,7 +203,9 @@ report_same : (trace trace' : List TraceStep) (answers answers' : List Answer)
     AreOneRun trace trace' answers answers' host host' seats seats' tables tables' → lives ≡ lives' →
     handles ≡ handles' →
     report_of trace answers lives handles tables host ≡ report_of trace' answers' lives' handles' tables' host'
-report_same trace trace' answers answers' lives lives' handles handles' seats seats' tables tables' host host' one l h = λ i. report_of (one.traces i) (one.answered i) (l i) (h i) (one.left i) (one.hosts i)
+report_same trace trace' answers answers' lives lives' handles handles' seats seats' tables tables' host host' one l
+    h =
+    λ i. report_of (one.traces i) (one.answered i) (l i) (h i) (one.left i) (one.hosts i)
 
 determined : (bytes report other : List ℕ) (ran : IsReportOf bytes report) (again : IsReportOf bytes other) →
     IsFull ran → IsFull again → report ≡ other
@@ -207,13 +215,18 @@ determined bytes report other ran again full full' =
     subst (λ (b : Begun). BeginsAs b.tree b.faults again.start) begun again.starts in
     let start : again.start ≡ ran.start =
     start_one ran.begun.tree ran.begun.faults again.start ran.start starts ran.starts in
-    let run : IsRunFrom ran.begun.settings ran.start ran.begun.jobs ran.begun.order again.trace again.answers again.tables again.host =
+    let run : IsRunFrom ran.begun.settings ran.start ran.begun.jobs ran.begun.order again.trace again.answers
+    again.tables again.host =
     subst (λ (s : State).
-    IsRunFrom ran.begun.settings s ran.begun.jobs ran.begun.order again.trace again.answers again.tables again.host) start
+    IsRunFrom ran.begun.settings s ran.begun.jobs ran.begun.order again.trace again.answers again.tables again.host)
+    start
     (subst (λ (b : Begun).
-    IsRunFrom b.settings again.start b.jobs b.order again.trace again.answers again.tables again.host) begun again.run) in
-    let one = runs_one ran.begun.settings ran.start ran.begun.jobs ran.begun.order ran.trace again.trace ran.answers again.answers ran.tables again.tables ran.host again.host ran.run run full full' in
-    let agree = end_agrees ran.begun.settings ran.start ran.begun.jobs ran.begun.order ran.trace ran.answers ran.tables ran.host ran.run in
+    IsRunFrom b.settings again.start b.jobs b.order again.trace again.answers again.tables again.host) begun
+    again.run) in
+    let one = runs_one ran.begun.settings ran.start ran.begun.jobs ran.begun.order ran.trace again.trace ran.answers
+    again.answers ran.tables again.tables ran.host again.host ran.run run full full' in
+    let agree = end_agrees ran.begun.settings ran.start ran.begun.jobs ran.begun.order ran.trace ran.answers
+    ran.tables ran.host ran.run in
     let live : AreLive ran.tables again.lives again.handles =
     subst (λ (t : Tables). AreLive t again.lives again.handles) (sym one.left) again.live in
     let lives : ran.lives ≡ again.lives =
@@ -222,7 +235,9 @@ determined bytes report other ran again full full' =
     let handles : ran.handles ≡ again.handles =
     all_one (IsHandleAfter ran.tables.handles)
     (handles_one ran.tables agree) None ran.handles again.handles ran.live.1 live.1 in
-    ran.text ∙ report_same ran.trace again.trace ran.answers again.answers ran.lives again.lives ran.handles again.handles ran.run.seats run.seats ran.tables again.tables ran.host again.host one lives handles ∙ sym again.text
+    ran.text ∙ report_same ran.trace again.trace ran.answers again.answers ran.lives again.lives ran.handles
+    again.handles ran.run.seats run.seats ran.tables again.tables ran.host again.host one lives handles
+    ∙ sym again.text
 
 pub only : (bytes report : List ℕ) (ran : IsReportOf bytes report) → IsOnly ran
 only bytes report ran full other again full' = determined bytes other report again ran full' full

@@ -4,8 +4,8 @@ use Rattle.std.proofs.Common.{nat_eq}
 use Rattle.std.specs.Prelude.{codes}
 use Rattle.std.proofs.lemmas.List.{append_cancel_left, append_cancel_right}
 use Rattle.pt_iface.specs.declared.answer.Answer.{Answer}
-use Rattle.pt_req.specs.declared.act.KeptAct.{KeptAct}
-use Rattle.pt_req.specs.declared.act.ActReply.{ActReply}
+use Rattle.pt_frame.specs.declared.act.KeptAct.{KeptAct}
+use Rattle.pt_frame.specs.declared.act.ActReply.{ActReply}
 use Rattle.pt_fs.specs.declared.trace.TraceStep.{TraceStep}
 use Rattle.pt_show.specs.Texts.{number_text}
 use Rattle.pt_show.specs.ActTexts.{act_text, act_reply_text}

@@ -42,8 +42,10 @@ opened_well settings before fs after opened =
 -- the host's root is found and opened, where there is one
 root_opens : (start : State) (numbers : ℕ → ℕ) (seat : HostSeat) (node : Node) → slice_get start.nodes 0 ≡ Some node →
     (fd : Fd) × ((answer start numbers seat opens_root).0 ≡ reply.Ok (value.Fd fd))
-root_opens start numbers seat node is =
-    (record { 0 = least_free start.slots }, ap (λ (found : Option Node). (opening_of start seat only_path 0 found).0) is)
+root_opens start numbers seat node is = (
+  record { 0 = least_free start.slots },
+  ap (λ (found : Option Node). (opening_of start seat only_path 0 found).0) is,
+)
 
 -- an answer that opened the root, or found no memory, is no refusal
 not_opened : (given : HostReply) (fs : Result FileSystem Refusal) (errno : Errno) → fs ≡ Err (refusal.Errno errno) →

@@ -34,7 +34,8 @@ map_roots : {A : Type 0} (f : A → State) (o : Option A) → ((a : A) → HasRo
 map_roots f None roots after is = let never : ⊥ = cc in absurd never
 map_roots f (Some a) roots after is = let same : f a ≡ after = cc in subst HasRoot same (roots a)
 
-then_roots : {A : Type 0} (f : A → Option State) (o : Option A) → ((a : A) → Roots (f a)) → Roots (option_and_then f o)
+then_roots : {A : Type 0} (f : A → Option State) (o : Option A) → ((a : A) → Roots (f a)) →
+    Roots (option_and_then f o)
 then_roots f None roots after is = let never : ⊥ = cc in absurd never
 then_roots f (Some a) roots after is = roots a after is
 
@@ -58,7 +59,8 @@ made_roots state dir name node =
     touched (time_of state)
     (with_entry name (length state.nodes) parent)) state.nodes) node
 
-put_roots : (state : State) (place : Option (ℕ × List ℕ)) (object : Node → Node) → Roots (put_object state place object)
+put_roots : (state : State) (place : Option (ℕ × List ℕ)) (object : Node → Node) →
+    Roots (put_object state place object)
 put_roots state place object =
     then_roots (λ (at : ℕ × List ℕ).
     option_map (λ (dir : Node). with_made state at.0 at.1 (object dir)) (slice_get state.nodes at.0)) place

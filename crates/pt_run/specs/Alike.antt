@@ -8,10 +8,13 @@ use Rattle.pt_fs.specs.Determined.{FoundMemory}
 use Rattle.pt_fs.specs.declared.trace.TraceStep.{TraceStep}
 use Rattle.pt_run.specs.Run.{IsReportOf, IsReportFrom, report_of}
 
--- The runs are alike in all that is printed of them: their steps in order, answers, live numbers and handles, the slots
--- that are left, and the listing of the host's tree.
-pub record AreAlike {bytes report bytes' report' : List ℕ} (ran : IsReportOf bytes report)
-    (again : IsReportOf bytes' report') : Type 0 where
+-- The runs are alike in all that is printed of them: their steps in order, answers, live numbers and handles, the
+-- slots that are left, and the listing of the host's tree.
+pub record AreAlike
+    {bytes report bytes' report' : List ℕ}
+    (ran : IsReportOf bytes report)
+    (again : IsReportOf bytes' report')
+    : Type 0 where
   pub traces : ran.trace ≡ again.trace
   pub answers : ran.answers ≡ again.answers
   pub lives : ran.lives ≡ again.lives

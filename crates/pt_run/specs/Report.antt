@@ -1,8 +1,8 @@
 -- Believed. The lines of a report that say what the jobs did.
 use Rattle.std.specs.Prelude.{ℕ, ◌+◌, List, [], ◌∷◌, ◌++◌, codes}
 use Rattle.pt_iface.specs.declared.answer.Answer.{Answer}
-use Rattle.pt_req.specs.declared.act.KeptAct.{KeptAct}
-use Rattle.pt_req.specs.declared.act.ActReply.{ActReply}
+use Rattle.pt_frame.specs.declared.act.KeptAct.{KeptAct}
+use Rattle.pt_frame.specs.declared.act.ActReply.{ActReply}
 use Rattle.pt_fs.specs.declared.trace.TraceStep.{TraceStep}
 use Rattle.pt_show.specs.Texts.{number_text, ended}
 use Rattle.pt_show.specs.ActTexts.{act_text, act_reply_text}
@@ -10,7 +10,8 @@ use Rattle.pt_show.specs.AnswerTexts.{answer_text}
 
 -- `step JOB ACT = REPLY`
 abbrev pub step_line : ℕ → KeptAct → ActReply → List ℕ
-step_line job act reply = ended (codes "step" ++ number_text job ++ act_text act ++ codes " =" ++ act_reply_text reply)
+step_line job act reply =
+    ended (codes "step" ++ number_text job ++ act_text act ++ codes " =" ++ act_reply_text reply)
 
 abbrev pub step_lines : List TraceStep → List ℕ
 step_lines [] = []

@@ -1,5 +1,6 @@
 -- Believed. A run of a script, and its report.
-use Rattle.std.specs.Prelude.{◌≡◌, ◌≤◌, ℕ, List, [], ◌∷◌, ◌++◌, Option, Some, None, Result, Ok, Err, length, map, codes}
+use Rattle.std.specs.Prelude.{◌≡◌, ◌≤◌, ℕ, List, [], ◌∷◌, ◌++◌, Option, Some, None, Result, Ok, Err, length, map}
+use Rattle.std.specs.Prelude.{codes}
 use Rattle.pt_host.specs.declared.ids.Errno.{Errno}
 use Rattle.pt_host.specs.declared.reply.HostReply.{HostReply}
 use Rattle.pt_host.specs.declared.seat.HostSeat.{HostSeat}
@@ -80,8 +81,16 @@ pub record IsOpened (settings : Settings) (before : State) (fs : FileSystem) (af
 
 -- The jobs of a script run over this host: from the new file system, and from its tree, which is well formed, the run
 -- leads to these tables and that host, and all that is said of a run holds of it.
-pub record IsRunFrom (settings : Settings) (start : State) (lines : List ScriptJob) (schedule : List ℕ)
-    (trace : List TraceStep) (answers : List Answer) (tables : Tables) (host : State) : Type 0 where
+pub record IsRunFrom
+    (settings : Settings)
+    (start : State)
+    (lines : List ScriptJob)
+    (schedule : List ℕ)
+    (trace : List TraceStep)
+    (answers : List Answer)
+    (tables : Tables)
+    (host : State)
+    : Type 0 where
   pub fs : FileSystem
   pub opened_host : State
   pub opened : IsOpened settings start fs opened_host

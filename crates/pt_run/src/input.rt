@@ -1,4 +1,5 @@
-ghost use Rattle.std.specs.Prelude.{◌≡◌, ◌≢◌, ◌≤◌, ◌<◌, ◌+◌, List, ℕ, Option, IfOk, true, false, vec_len, OnErr, OnOk};
+ghost use Rattle.std.specs.Prelude.{◌≡◌, ◌≢◌, ◌≤◌, ◌<◌, ◌+◌, List, ℕ, Option, IfOk, true, false, vec_len, OnErr};
+ghost use Rattle.std.specs.Prelude.{OnOk};
 ghost use Rattle.pt_host.specs.Promises.{HasRisen};
 ghost use Rattle.pt_run.specs.Passing.{IsTaken};
 ghost use Rattle.pt_run.specs.Streams.{IsAtEnd, IsAll, IsLonger};

@@ -1,9 +1,9 @@
 ghost use Rattle.std.specs.Prelude.{◌≡◌, ◌++◌, OnOk};
 ghost use Rattle.pt_run.specs.Report.{step_line, step_lines, answer_line, answer_lines};
 
+use pt_frame::{ActReply, KeptAct};
 use pt_fs::TraceStep;
 use pt_iface::Answer;
-use pt_req::{ActReply, KeptAct};
 use pt_show::Text;
 use pt_text::push_text;
 use std::alloc::AllocError;

@@ -52,8 +52,13 @@ Leaves true key old new = Puts key None old new
 Leaves false key old new = SameAt old new
 
 -- an index of the live rows: a key leads to the serial of the row that has it
-pub record Indexes {R K : Type 0} (is_live : R → Bool) (key : R → K) (rows : ℕ → Option R)
-    (index : K → Option ℕ) : Type 0 where
+pub record Indexes
+    {R K : Type 0}
+    (is_live : R → Bool)
+    (key : R → K)
+    (rows : ℕ → Option R)
+    (index : K → Option ℕ)
+    : Type 0 where
   pub sound : (k : K) (serial : ℕ) → index k ≡ Some serial →
       (row : R) × (rows serial ≡ Some row) × (is_live row ≡ true) × (key row ≡ k)
   pub whole : (serial : ℕ) (row : R) → rows serial ≡ Some row → is_live row ≡ true → index (key row) ≡ Some serial
@@ -75,8 +80,13 @@ pub record FindsObjects (rows : List Row) (objects : ObjectKey → Option ℕ) :
   pub whole : (row : Row) → IsAmong row rows → row.live ≡ true → objects (key_of row.ids) ≡ Some row.serial
 
 -- each row can still be put on the closing list without memory, and objects are found
-pub record IsSoundStore (rows : List Row) (index : ObjectKey → Option ℕ) (handles : List HandleRow)
-    (closing : List Closing) (capacity : ℕ) : Type 0 where
+pub record IsSoundStore
+    (rows : List Row)
+    (index : ObjectKey → Option ℕ)
+    (handles : List HandleRow)
+    (closing : List Closing)
+    (capacity : ℕ)
+    : Type 0 where
   pub room : length rows + length handles + length closing ≤ capacity
   pub objects : FindsObjects rows index
 

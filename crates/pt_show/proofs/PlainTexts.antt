@@ -136,7 +136,8 @@ digits_are_decimal n small = sym (onto-room 64 (suc n) n [] (omega arith) (omega
 
 pub signed_digits_are_decimal : (n : ℤ) → mag n < 2 ^ 63 → signed_digits n ≡ signed_decimal n
 signed_digits_are_decimal (pos n) small = digits_are_decimal n (omega arith)
-signed_digits_are_decimal (negsuc n) small = ap (λ (text : List ℕ). 45 ∷ text) (digits_are_decimal (suc n) (omega arith))
+signed_digits_are_decimal (negsuc n) small = ap (λ (text : List ℕ). 45 ∷ text)
+    (digits_are_decimal (suc n) (omega arith))
 
 pub numbers : Reads number_text
 numbers = words all_digits (value_after 0) digits_value digits-plain

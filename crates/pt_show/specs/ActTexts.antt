@@ -1,9 +1,9 @@
 -- Believed. The texts of acts and of their replies.
 use Rattle.std.specs.Prelude.{ℕ, List, codes}
-use Rattle.pt_req.specs.declared.act.KeptAct.{KeptAct}
-use Rattle.pt_req.specs.declared.act.KeptAct.TheVariants as act
-use Rattle.pt_req.specs.declared.act.ActReply.{ActReply}
-use Rattle.pt_req.specs.declared.act.ActReply.TheVariants as told
+use Rattle.pt_frame.specs.declared.act.KeptAct.{KeptAct}
+use Rattle.pt_frame.specs.declared.act.KeptAct.TheVariants as act
+use Rattle.pt_frame.specs.declared.act.ActReply.{ActReply}
+use Rattle.pt_frame.specs.declared.act.ActReply.TheVariants as told
 use Rattle.pt_show.specs.Texts.{word}
 use Rattle.pt_show.specs.HostTexts.{call_text, host_reply_text}
 use Rattle.pt_show.specs.SessionTexts.{event_text, event_reply_text}

@@ -58,7 +58,8 @@ handle_text handle = number_text handle.mnt_id ++ c_handle_text handle.handle
 -- what is told of an object, and of a file system
 abbrev pub stat_text : Stat → List ℕ
 stat_text stat =
-    ids_text stat.ids ++ number_text stat.mode ++ number_text stat.nlink ++ number_text stat.uid ++ number_text stat.gid
+    ids_text stat.ids ++ number_text stat.mode ++ number_text stat.nlink ++ number_text stat.uid
+    ++ number_text stat.gid
     ++ number_text stat.rdev ++ number_text stat.size ++ number_text stat.blksize ++ number_text stat.blocks
     ++ time_text stat.atime ++ time_text stat.mtime ++ time_text stat.ctime
 

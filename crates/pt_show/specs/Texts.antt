@@ -1,5 +1,6 @@
 -- Believed. The texts of plain values: each word stands behind a space.
-use Rattle.std.specs.Prelude.{ℕ, suc, ℤ, pos, negsuc, Bool, false, List, [], ◌∷◌, ◌++◌, Option, Some, None, if◌then◌else◌}
+use Rattle.std.specs.Prelude.{ℕ, suc, ℤ, pos, negsuc, Bool, false, List, [], ◌∷◌, ◌++◌, Option, Some, None}
+use Rattle.std.specs.Prelude.{if◌then◌else◌}
 use Rattle.std.specs.Prelude.{codes}
 use Rattle.std.specs.Fmt.{digits_onto}
 use Rattle.pt_text.specs.ByteWord.{byte_word}
@@ -7,8 +8,8 @@ use Rattle.pt_text.specs.ByteWord.{byte_word}
 abbrev pub word : List ℕ → List ℕ
 word bytes = 32 ∷ bytes
 
--- A number in decimal, whatever its size: it has no more digits than it has units and one. std's `decimal` is the same
--- of a number of up to 64 digits.
+-- A number in decimal, whatever its size: it has no more digits than it has units and one. std's `decimal` is the
+-- same of a number of up to 64 digits.
 unfoldable pub all_digits : ℕ → List ℕ
 all_digits n = digits_onto (suc n) 10 false n []
 

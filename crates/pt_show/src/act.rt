@@ -2,7 +2,7 @@ ghost use Rattle.pt_show.specs.ActTexts.{act_text, act_reply_text};
 
 use crate::plain::push_word;
 use crate::text::Text;
-use pt_req::{ActReply, KeptAct};
+use pt_frame::{ActReply, KeptAct};
 use std::alloc::AllocError;
 
 impl Text for KeptAct {

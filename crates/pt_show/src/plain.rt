@@ -33,7 +33,8 @@ pub(crate) fn push_two<A: Text, B: Text>(
     first: &A,
     second: &B,
 ) -> Result<(), AllocError>
-    ensures { OnOk result (out.new.items ≡ out.old.items ++ (word name.now ++ A.text first.now ++ B.text second.now)) }
+    ensures { OnOk result
+        (out.new.items ≡ out.old.items ++ (word name.now ++ A.text first.now ++ B.text second.now)) }
 {
     push_named(out, name, first)?;
     second.write(out)

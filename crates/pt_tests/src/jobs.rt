@@ -1,6 +1,8 @@
+use pt_attr::AnyJob;
+use pt_frame::{ActReply, Finish, Want};
 use pt_host::{Bytes, Caps, Edit, Errno, Fd, HostReply, HostSeat, HostValue, ObjIds, Stat, Time};
 use pt_iface::{Answer, Context, OpenOptions, Request};
-use pt_req::{ActReply, CachePolicy, Config, Finish, JobState, Plan, Want};
+use pt_req::{CachePolicy, Config, Plan};
 use pt_session::{EventRefusal, EventReply, Negotiated, RowForm};
 use std::alloc::Global;
 use std::test::Fail;
@@ -8,7 +10,7 @@ use std::test::Fail;
 /// A job whose acts are compared, and whose replies are handed in by hand.
 #[derive(Drop)]
 struct Played {
-    job: JobState,
+    job: AnyJob,
     plan: Plan,
     seat: HostSeat,
 }
@@ -21,7 +23,7 @@ impl Played {
         };
         let plan = Plan { config };
         let who = Context { uid: 0, gid: 0 };
-        let job = match JobState::start(alloc, &plan, who, request) {
+        let job = match AnyJob::start(alloc, &plan, who, request) {
             Ok(job) => job,
             Err(_) => return Err(Fail::from("no memory")),
         };
@@ -33,7 +35,7 @@ impl Played {
     fn edit(alloc: Global) -> Result<Played, Fail> {
         let mut played = Played::start(alloc, Request::Destroy)?;
         let path = Bytes::from_slice(alloc, b"/a")?;
-        played.job = JobState::edit(Edit::Unlink { path });
+        played.job = AnyJob::edit(Edit::Unlink { path });
         Ok(played)
     }
 

@@ -1,32 +1,48 @@
 use crate::one_directory::OneDirectory;
+use pt_fit::{
+    all_answered, asked_ends, each_request, edit_ends, gone_number, lookup_opens, part_looks_up,
+    places_of_entry,
+};
 use pt_fs::{seats_follow, turns_are_determined};
 use pt_law::{
-    any_request, each_request, edit_ends, every_host, every_run, every_told_run, forgotten_nothing,
-    forgotten_number, one_number, request_ends, steps_seated, steps_told, two_lookups,
+    any_course, every_host, every_run, every_told_run, forgotten_nothing, forgotten_number,
+    one_number, steps_seated, steps_told, two_lookups,
 };
-use pt_req::{calm, cut_says_no_more, jobs_are_determined};
 use pt_run::{report_determines_run, script_determines_report};
 use pt_script::first_bad_line;
 use pt_show::texts_tell_values;
 
 #[test]
 fn the_laws_hold_with_no_premise() {
-    calm();
-    cut_says_no_more();
-    jobs_are_determined();
-    any_request();
+    pt_frame::choices_are_kept();
+    pt_frame::cut_says_no_more();
+    pt_frame::jobs_are_determined();
+    pt_frame::losses_are_told();
+    pt_frame::memory_ran_out_at_a_step();
+    pt_frame::seats_are_tended();
+    pt_req::requests_spare();
+    pt_req::requests_tend();
+    pt_attr::jobs_are_determined();
+    pt_attr::jobs_tend();
+    pt_attr::no_memory_has_its_cause();
     each_request();
-    request_ends();
+    asked_ends();
     edit_ends();
+    lookup_opens();
+    part_looks_up();
+    places_of_entry();
+    any_course();
     steps_told::<OneDirectory>();
     steps_seated::<OneDirectory>();
     every_run();
     every_told_run();
     every_host::<OneDirectory>();
+    all_answered::<OneDirectory>();
     one_number();
     two_lookups();
     forgotten_number();
     forgotten_nothing();
+    gone_number();
     turns_are_determined::<OneDirectory>();
     seats_follow::<OneDirectory>();
     first_bad_line();

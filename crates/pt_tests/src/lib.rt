@@ -1,5 +1,5 @@
-//! Tests of what no input of a program shows: streams that fail, jobs that are cut or find no memory, another host, the
-//! calls of the laws.
+//! Tests of what no input of a program shows: streams that fail, jobs that are cut or find no memory, another host,
+//! the calls of the laws.
 #![tactic(auto)]
 
 #[cfg(test)]

@@ -1,5 +1,5 @@
 ghost use Rattle.std.specs.Prelude.{◌≡◌};
-ghost use Rattle.pt_req.specs.Requests.{mount_flag, attr_of, entry_of};
+ghost use Rattle.pt_req.specs.Entries.{mount_flag, attr_of, entry_of};
 
 use crate::plan::Plan;
 use pt_host::{ObjIds, Stat};

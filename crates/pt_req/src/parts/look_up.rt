@@ -1,206 +1,149 @@
-ghost use Rattle.std.specs.Prelude.{◌≡◌, ◌+◌, ◌<◌, ◌≤◌, ℕ, List};
-ghost use Rattle.pt_iface.specs.declared.entry.Entry.{Entry};
-ghost use Rattle.pt_req.specs.Deed.{deed_of};
-ghost use Rattle.pt_req.specs.Held.{inserted_by};
-ghost use Rattle.pt_req.specs.Next.{asked, deed_in, AsksFor};
-ghost use Rattle.pt_req.specs.Room.{adds};
-ghost use Rattle.pt_req.specs.Parts.{look_up_left, look_up_acts, look_up_room, look_up_inserts, looked_up_tree};
-ghost use Rattle.pt_req.specs.Parts.{looked_up_counts};
-ghost use Rattle.pt_req.specs.Requests.{entry_of};
-ghost use Rattle.pt_req.specs.Tree.{Tree};
+ghost use Rattle.std.specs.Prelude.{◌≡◌, ◌+◌, ◌<◌, ◌≤◌, ℕ, List, None, true};
+ghost use Rattle.pt_frame.specs.Machine.Next.{asked, deed_in, with_memory, AsksFor};
+ghost use Rattle.pt_frame.specs.Machine.Room.{brings};
+ghost use Rattle.pt_frame.specs.Replies.{inserted_by};
+ghost use Rattle.pt_frame.specs.Tree.{RequestTree, Shuts};
+ghost use Rattle.pt_req.specs.Machine.Parts.{look_up_left, look_up_acts, look_up_room, part_tree, part_counts};
+ghost use Rattle.pt_req.specs.Parts.{looked_of};
+ghost use Rattle.pt_req.specs.declared.parts.looked.Looked.{Looked};
 ghost use Rattle.pt_req.specs.declared.plan.Plan.{Plan};
-ghost use Rattle.pt_req.specs.declared.parts.look_up.LookedUp.TheVariants.{Ends};
 
-use crate::act::{Act, ActReply};
-use crate::begun::Session;
-use crate::frame::fd_of;
+use crate::begun::BegunSession;
 use crate::parts::entry::entry_of;
+use crate::parts::looked::Looked;
+use crate::parts::numbering::NumberAt;
+use crate::parts::part::Part;
 use crate::plan::Plan;
+use pt_frame::{Act, ActReply};
 use pt_host::{Fd, HostOp, HostReply, HostValue, ObjIds, OpenFlags, Stat};
-use pt_iface::Entry;
-use pt_session::{Event, EventReply, Negotiated, RowForm};
-use std::mem;
+use pt_session::{Event, EventReply, RowForm};
 
-/// What a lookup has opened, and the ids of the directory that it was opened in.
-#[derive(Clone, Copy, Debug)]
-pub struct Opened {
-    pub session: Session,
-    pub parent: ObjIds,
-    pub fd: Fd,
-    pub stat: Stat,
-}
-
-/// Where a lookup stands: the act that it wants next. The name is its request's.
-#[derive(Debug, Drop)]
-pub enum LookUp {
+/// The act that a lookup wants next. The name is its request's.
+#[derive(Drop)]
+pub enum EntryLookupAt {
     Resolve {
-        session: Session,
         parent: u64,
     },
     Open {
-        session: Session,
         parent: ObjIds,
         dir: Fd,
     },
     Stat {
-        session: Session,
         parent: ObjIds,
         fd: Fd,
     },
-    Claim(Opened),
-    Take(Opened),
-    Draw(Opened),
-    Insert {
-        opened: Opened,
+    Number {
+        parent: ObjIds,
         form: RowForm,
-        fresh: u64,
+        stat: Stat,
+        at: NumberAt,
     },
 }
 
-/// What a lookup does after a reply.
-#[derive(Debug, Drop)]
-pub enum LookedUp {
-    Goes,
-    Refuses,
-    /// Its bracket ends with so many holds, the count passes, and this is the entry.
-    Ends { count: usize, entry: Entry },
+/// A lookup on its way, in its bracket.
+#[derive(Drop)]
+pub struct EntryLookup {
+    pub session: BegunSession,
+    pub at: EntryLookupAt,
 }
 
-impl Opened {
-    fn ends(&self, plan: &Plan, count: usize, number: u64) -> LookedUp
-        ensures { result ≡ Ends count (entry_of plan.now self.now.session.agreed self.now.parent self.now.stat number) }
-    {
-        let entry = entry_of(plan, self.session.agreed, self.parent, &self.stat, number);
-        LookedUp::Ends { count, entry }
+/// What a lookup hands on, in a directory of these ids.
+fn looked_of(
+    plan: &Plan,
+    session: &BegunSession,
+    parent: ObjIds,
+    stat: &Stat,
+    form: &RowForm,
+    number: u64,
+) -> Looked
+    ensures { result ≡ looked_of plan.now session.now parent stat.now form.now number }
+{
+    Looked {
+        entry: entry_of(plan, session.agreed, parent, stat, number),
+        ids: stat.ids,
+        form: form.copy(),
     }
 }
 
-impl LookUp {
+impl EntryLookup {
     pub fn want<'a>(&'a self, name: &'a [u8]) -> Act<'a>
-        ensures asks { (plan : Plan) (next : Entry → Tree) → AsksFor (look_up_left self.now name.now plan next) result }
-        ensures fits { adds (deed_of result) ≤ look_up_room self.now }
+        ensures asks { (plan : Plan) (next : Looked → RequestTree) →
+            AsksFor (look_up_left self.now name.now plan next) result None }
+        ensures fits { (plan : Plan) (next : Looked → RequestTree) →
+            brings (look_up_left self.now name.now plan next) ≤ look_up_room self.now }
     {
-        match self {
-            LookUp::Resolve { parent, .. } => Act::Event(Event::Resolve { number: *parent }),
-            LookUp::Open { dir, .. } => Act::Host(HostOp::OpenAt {
+        match &self.at {
+            EntryLookupAt::Resolve { parent } => Act::Event(Event::Resolve { number: *parent }),
+            EntryLookupAt::Open { dir, .. } => Act::Host(HostOp::OpenAt {
                 fd: *dir,
                 name,
                 flags: OpenFlags::PATH,
                 mode: 0,
             }),
-            LookUp::Stat { fd, .. } => Act::Host(HostOp::Stat { fd: *fd }),
-            LookUp::Claim(opened) => Act::Event(Event::Claim {
-                era: opened.session.era,
-                handle: None,
-                ids: opened.stat.ids,
-            }),
-            LookUp::Take(_) => Act::Event(Event::TakeFd),
-            LookUp::Draw(_) => Act::Event(Event::DrawNode),
-            LookUp::Insert {
-                opened,
-                form,
-                fresh,
-            } => Act::Event(Event::Insert {
-                era: opened.session.era,
-                number: *fresh,
-                form,
-                ids: opened.stat.ids,
-                mode: opened.stat.mode,
-            }),
+            EntryLookupAt::Stat { fd, .. } => Act::Host(HostOp::Stat { fd: *fd }),
+            EntryLookupAt::Number { form, stat, at, .. } => at.want(&self.session, form, stat),
         }
     }
 
     /// Goes on from the reply of the act that was wanted.
-    pub fn take(&mut self, plan: &Plan, reply: ActReply) -> LookedUp
-        ensures left { (name : List ℕ) (next : Entry → Tree) →
-            asked (look_up_left self.old name plan.now next) reply
-            ≡ looked_up_tree result reply (look_up_left self.new name plan.now next) next }
-        ensures fewer { (name : List ℕ) (next : Entry → Tree) →
-            adds (deed_in (look_up_left self.old name plan.now next))
-            + looked_up_counts result (look_up_acts self.new) < look_up_acts self.old }
-        ensures room { (name : List ℕ) (next : Entry → Tree) →
-            adds (deed_in (look_up_left self.old name plan.now next))
-            + looked_up_counts result (look_up_room self.new) ≤ look_up_room self.old }
-        ensures inserts { (name : List ℕ) (next : Entry → Tree) →
-            inserted_by (deed_in (look_up_left self.old name plan.now next)) reply
-            + looked_up_counts result (look_up_inserts self.new) ≤ look_up_inserts self.old }
+    pub fn take(&mut self, plan: &Plan, reply: ActReply) -> Part<Looked>
+        ensures left { (name : List ℕ) (next : Looked → RequestTree) →
+            with_memory (asked (look_up_left self.old name plan.now next) reply)
+            ≡ part_tree result reply (look_up_left self.new name plan.now next) (λ looked. Shuts true (next looked)) }
+        ensures fewer { (name : List ℕ) (next : Looked → RequestTree) →
+            brings (look_up_left self.old name plan.now next) + part_counts result (look_up_acts self.new)
+            < look_up_acts self.old }
+        ensures room { (name : List ℕ) (next : Looked → RequestTree) →
+            brings (look_up_left self.old name plan.now next) + part_counts result (look_up_room self.new)
+            ≤ look_up_room self.old }
+        ensures inserts { (name : List ℕ) (next : Looked → RequestTree) →
+            inserted_by (deed_in (look_up_left self.old name plan.now next)) reply + part_counts result 1 ≤ 1 }
     {
-        let nowhere = LookUp::Resolve {
-            session: Session {
-                era: 0,
-                agreed: Negotiated::NONE,
+        match &mut self.at {
+            EntryLookupAt::Resolve { .. } => match reply {
+                ActReply::Event(EventReply::Resolved { form, ids, .. }) => {
+                    let RowForm::File(dir) = form;
+                    self.at = EntryLookupAt::Open { parent: ids, dir };
+                    Part::Goes
+                }
+                _ => Part::Refuses,
             },
-            parent: 0,
-        };
-        match (mem::replace(self, nowhere), reply) {
-            (
-                LookUp::Resolve { session, .. },
-                ActReply::Event(EventReply::Resolved { form, ids, .. }),
-            ) => {
-                *self = LookUp::Open {
-                    session,
-                    parent: ids,
-                    dir: fd_of(&form),
-                };
-                LookedUp::Goes
-            }
-            (
-                LookUp::Open {
-                    session,
-                    parent,
-                    ..
-                },
-                ActReply::Host(HostReply::Ok(HostValue::Fd(fd))),
-            ) => {
-                *self = LookUp::Stat {
-                    session,
-                    parent,
-                    fd,
-                };
-                LookedUp::Goes
-            }
-            (
-                LookUp::Stat {
-                    session,
-                    parent,
-                    fd,
-                },
-                ActReply::Host(HostReply::Ok(HostValue::Stat(stat))),
-            ) => {
-                *self = LookUp::Claim(Opened {
-                    session,
-                    parent,
-                    fd,
-                    stat,
-                });
-                LookedUp::Goes
-            }
-            (LookUp::Claim(opened), ActReply::Event(EventReply::Claimed { number })) => {
-                opened.ends(plan, 2, number)
-            }
-            (LookUp::Claim(opened), ActReply::Event(EventReply::Absent)) => {
-                *self = LookUp::Take(opened);
-                LookedUp::Goes
-            }
-            (LookUp::Take(opened), ActReply::Event(EventReply::Taken)) => {
-                *self = LookUp::Draw(opened);
-                LookedUp::Goes
-            }
-            (LookUp::Draw(opened), ActReply::Event(EventReply::Drawn { number })) => {
-                *self = LookUp::Insert {
-                    opened,
-                    form: RowForm::File(opened.fd),
-                    fresh: number,
-                };
-                LookedUp::Goes
-            }
-            (LookUp::Insert { opened, .. }, ActReply::Event(EventReply::Inserted { number })) => {
-                opened.ends(plan, 1, number)
-            }
-            (LookUp::Insert { opened, .. }, ActReply::Event(EventReply::Found { number })) => {
-                opened.ends(plan, 3, number)
-            }
-            _ => LookedUp::Refuses,
+            EntryLookupAt::Open { parent, .. } => match reply {
+                ActReply::Host(HostReply::Ok(HostValue::Fd(fd))) => {
+                    let parent = *parent;
+                    self.at = EntryLookupAt::Stat { parent, fd };
+                    Part::Goes
+                }
+                _ => Part::Refuses,
+            },
+            EntryLookupAt::Stat { parent, fd } => match reply {
+                ActReply::Host(HostReply::Ok(HostValue::Stat(stat))) => {
+                    let parent = *parent;
+                    let form = RowForm::File(*fd);
+                    let at = NumberAt::Claim;
+                    self.at = EntryLookupAt::Number {
+                        parent,
+                        form,
+                        stat,
+                        at,
+                    };
+                    Part::Goes
+                }
+                _ => Part::Refuses,
+            },
+            EntryLookupAt::Number {
+                parent,
+                form,
+                stat,
+                at,
+            } => match at.take(reply) {
+                Part::Goes => Part::Goes,
+                Part::Refuses => Part::Refuses,
+                Part::Gives(answer) => Part::Gives(answer),
+                Part::Has(number) => {
+                    Part::Has(looked_of(plan, &self.session, *parent, stat, form, number))
+                }
+            },
         }
     }
 }

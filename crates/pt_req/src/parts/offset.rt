@@ -1,5 +1,5 @@
 ghost use Rattle.std.specs.Prelude.{◌≡◌};
-ghost use Rattle.pt_req.specs.Requests.{is_bad_offset};
+ghost use Rattle.pt_req.specs.Entries.{is_bad_offset};
 
 /// Whether the host's `off_t` cannot hold it.
 pub fn is_bad_offset(offset: u64) -> bool

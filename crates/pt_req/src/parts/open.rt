@@ -1,21 +1,21 @@
-ghost use Rattle.std.specs.Prelude.{◌≡◌, ◌+◌, ◌<◌, ◌≤◌, ℕ};
-ghost use Rattle.pt_req.specs.Deed.{deed_of};
-ghost use Rattle.pt_req.specs.Held.{inserted_by};
-ghost use Rattle.pt_req.specs.Next.{asked, deed_in, AsksFor};
-ghost use Rattle.pt_req.specs.Opening.{handle_open_left, handle_open_acts, handle_open_room, handle_open_inserts};
-ghost use Rattle.pt_req.specs.Opening.{handle_opened_tree, handle_opened_counts};
-ghost use Rattle.pt_req.specs.Requests.{can_open};
-ghost use Rattle.pt_req.specs.Room.{adds};
-ghost use Rattle.pt_req.specs.Tree.{Tree};
+ghost use Rattle.std.specs.Prelude.{◌≡◌, ◌+◌, ◌<◌, ◌≤◌, ℕ, None, false};
+ghost use Rattle.pt_frame.specs.Machine.Next.{asked, deed_in, with_memory, AsksFor};
+ghost use Rattle.pt_frame.specs.Machine.Room.{brings};
+ghost use Rattle.pt_frame.specs.Replies.{inserted_by};
+ghost use Rattle.pt_frame.specs.Tree.{RequestTree, Shuts};
+ghost use Rattle.pt_req.specs.Entries.{can_open};
+ghost use Rattle.pt_req.specs.Machine.Opening.{handle_open_left, handle_open_acts, handle_open_room};
+ghost use Rattle.pt_req.specs.Machine.Parts.{part_tree, part_counts};
 ghost use Rattle.pt_req.specs.declared.plan.Plan.{Plan};
 
-use crate::act::{Act, ActReply};
-use crate::begun::Session;
-use crate::frame::fd_of;
+use crate::begun::BegunSession;
 use crate::parts::options::reopen_flags;
+use crate::parts::part::Part;
 use crate::plan::Plan;
-use pt_host::{Fd, HostOp, HostReply, HostValue};
-use pt_session::{Event, EventReply};
+use pt_frame::{Act, ActReply};
+use pt_host::{Errno, Fd, HostOp, HostReply, HostValue};
+use pt_iface::Answer;
+use pt_session::{Event, EventReply, RowForm};
 
 /// Linux's kinds of what has contents, the mode's bits above 4096.
 const REGULAR: u32 = 8;
@@ -23,7 +23,7 @@ const REGULAR: u32 = 8;
 const DIRECTORY: u32 = 4;
 
 /// The act that an opening wants next.
-#[derive(Clone, Copy, Debug, PartialEq, Eq)]
+#[derive(Clone, Copy)]
 pub enum HandleOpenAt {
     Resolve,
     Reopen { path: Fd },
@@ -33,23 +33,12 @@ pub enum HandleOpenAt {
 }
 
 /// The opening of a number by a handle, with the guest's flags.
-#[derive(Clone, Copy, Debug, PartialEq, Eq)]
+#[derive(Drop)]
 pub struct HandleOpen {
-    pub session: Session,
+    pub session: BegunSession,
     pub inode: u64,
     pub flags: u32,
     pub at: HandleOpenAt,
-}
-
-/// What an opening does after a reply.
-#[derive(Clone, Copy, Debug, PartialEq, Eq)]
-pub enum HandleOpened {
-    Goes,
-    Refuses,
-    /// Only regular files and directories are opened.
-    IsSpecial,
-    /// Its bracket ends with its pin, and this is the handle.
-    Ends { handle: u64 },
 }
 
 /// Whether what has this mode is a regular file or a directory.
@@ -61,8 +50,9 @@ fn can_open(mode: u32) -> bool
 
 impl HandleOpen {
     pub fn want<'a>(&self, plan: &Plan) -> Act<'a>
-        ensures asks { (next : ℕ → Tree) → AsksFor (handle_open_left self.now plan.now next) result }
-        ensures fits { adds (deed_of result) ≤ handle_open_room self.now }
+        ensures asks { (next : ℕ → RequestTree) → AsksFor (handle_open_left self.now plan.now next) result None }
+        ensures fits { (next : ℕ → RequestTree) →
+            brings (handle_open_left self.now plan.now next) ≤ handle_open_room self.now }
     {
         match self.at {
             HandleOpenAt::Resolve => Act::Event(Event::Resolve { number: self.inode }),
@@ -82,45 +72,44 @@ impl HandleOpen {
     }
 
     /// Goes on from the reply of the act that was wanted.
-    pub fn take(&mut self, reply: ActReply) -> HandleOpened
-        ensures left { (plan : Plan) (next : ℕ → Tree) →
-            asked (handle_open_left self.old plan next) reply
-            ≡ handle_opened_tree result reply (handle_open_left self.new plan next) next }
-        ensures fewer { (plan : Plan) (next : ℕ → Tree) →
-            adds (deed_in (handle_open_left self.old plan next))
-            + handle_opened_counts result (handle_open_acts self.new) < handle_open_acts self.old }
-        ensures room { (plan : Plan) (next : ℕ → Tree) →
-            adds (deed_in (handle_open_left self.old plan next))
-            + handle_opened_counts result (handle_open_room self.new) ≤ handle_open_room self.old }
-        ensures inserts { (plan : Plan) (next : ℕ → Tree) →
-            inserted_by (deed_in (handle_open_left self.old plan next)) reply
-            + handle_opened_counts result (handle_open_inserts self.new) ≤ handle_open_inserts self.old }
+    pub fn take(&mut self, reply: ActReply) -> Part<u64>
+        ensures left { (plan : Plan) (next : ℕ → RequestTree) →
+            with_memory (asked (handle_open_left self.old plan next) reply)
+            ≡ part_tree result reply (handle_open_left self.new plan next) (λ handle. Shuts false (next handle)) }
+        ensures fewer { (plan : Plan) (next : ℕ → RequestTree) →
+            brings (handle_open_left self.old plan next) + part_counts result (handle_open_acts self.new)
+            < handle_open_acts self.old }
+        ensures room { (plan : Plan) (next : ℕ → RequestTree) →
+            brings (handle_open_left self.old plan next) + part_counts result (handle_open_room self.new)
+            ≤ handle_open_room self.old }
+        ensures inserts { (plan : Plan) (next : ℕ → RequestTree) →
+            inserted_by (deed_in (handle_open_left self.old plan next)) reply + part_counts result 1 ≤ 1 }
     {
         match (self.at, reply) {
             (HandleOpenAt::Resolve, ActReply::Event(EventReply::Resolved { form, mode, .. })) => {
                 if !can_open(mode) {
-                    return HandleOpened::IsSpecial;
+                    return Part::Gives(Answer::Refused(Errno::EBADF));
                 }
-                let path = fd_of(&form);
+                let RowForm::File(path) = form;
                 self.at = HandleOpenAt::Reopen { path };
-                HandleOpened::Goes
+                Part::Goes
             }
             (HandleOpenAt::Reopen { .. }, ActReply::Host(HostReply::Ok(HostValue::Fd(fd)))) => {
                 self.at = HandleOpenAt::Draw { fd };
-                HandleOpened::Goes
+                Part::Goes
             }
             (HandleOpenAt::Draw { fd }, ActReply::Event(EventReply::Drawn { number })) => {
                 self.at = HandleOpenAt::Take { fd, handle: number };
-                HandleOpened::Goes
+                Part::Goes
             }
             (HandleOpenAt::Take { fd, handle }, ActReply::Event(EventReply::Taken)) => {
                 self.at = HandleOpenAt::Insert { fd, handle };
-                HandleOpened::Goes
+                Part::Goes
             }
             (HandleOpenAt::Insert { handle, .. }, ActReply::Event(EventReply::Inserted { .. })) => {
-                HandleOpened::Ends { handle }
+                Part::Has(handle)
             }
-            _ => HandleOpened::Refuses,
+            _ => Part::Refuses,
         }
     }
 }

@@ -1,14 +1,14 @@
 ghost use Rattle.std.specs.Prelude.{◌≡◌};
-ghost use Rattle.pt_req.specs.Options.{without, cleaned, inode_flags, host_flags, without_nofollow, cache_options};
-ghost use Rattle.pt_req.specs.Options.{open_options, agreed_with, init_options};
+ghost use Rattle.pt_req.specs.Options.{without_bits, cleaned, inode_flags, host_flags, without_nofollow};
+ghost use Rattle.pt_req.specs.Options.{cache_options, open_options, agreed_with, init_options};
 
 use crate::plan::{CachePolicy, Config};
 use pt_host::OpenFlags;
 use pt_iface::{FsOptions, OpenOptions};
 use pt_session::Negotiated;
 
-fn without(flags: u32, bits: u32) -> u32
-    ensures { result ≡ without flags bits }
+fn without_bits(flags: u32, bits: u32) -> u32
+    ensures { result ≡ without_bits flags bits }
 {
     flags & !bits
 }
@@ -17,9 +17,9 @@ fn without(flags: u32, bits: u32) -> u32
 fn cleaned(config: &Config, flags: u32) -> u32
     ensures { result ≡ cleaned config.now flags }
 {
-    let flags = without(flags, OpenFlags::O_APPEND.0);
+    let flags = without_bits(flags, OpenFlags::O_APPEND.0);
     if config.clean_noatime {
-        without(flags, OpenFlags::O_NOATIME.0)
+        without_bits(flags, OpenFlags::O_NOATIME.0)
     } else {
         flags
     }
@@ -31,7 +31,7 @@ fn inode_flags(config: &Config, flags: u32) -> u32
     if config.allow_direct_io {
         flags | OpenFlags::O_CLOEXEC.0
     } else {
-        without(flags, OpenFlags::O_DIRECT.0) | OpenFlags::O_CLOEXEC.0
+        without_bits(flags, OpenFlags::O_DIRECT.0) | OpenFlags::O_CLOEXEC.0
     }
 }
 
@@ -48,7 +48,7 @@ pub fn reopen_flags(config: &Config, flags: u32) -> OpenFlags
     ensures { result ≡ without_nofollow (host_flags config.now flags) }
 {
     let flags = host_flags(config, flags);
-    OpenFlags(without(flags, OpenFlags::O_NOFOLLOW.0))
+    OpenFlags(without_bits(flags, OpenFlags::O_NOFOLLOW.0))
 }
 
 /// How the guest may cache what it opens, a directory or not.

@@ -1,151 +1,114 @@
-ghost use Rattle.std.specs.Prelude.{◌≡◌, ◌+◌, ◌<◌, ◌≤◌, ℕ};
-ghost use Rattle.pt_req.specs.Deed.{deed_of};
-ghost use Rattle.pt_req.specs.Held.{inserted_by};
-ghost use Rattle.pt_req.specs.Next.{asked, deed_in, AsksFor};
-ghost use Rattle.pt_req.specs.Room.{adds};
-ghost use Rattle.pt_req.specs.Parts.{root_open_left, root_open_acts, root_open_room, root_open_inserts};
-ghost use Rattle.pt_req.specs.Parts.{root_opened_tree, root_opened_counts};
-ghost use Rattle.pt_req.specs.Tree.{Tree};
+ghost use Rattle.std.specs.Prelude.{◌≡◌, ◌+◌, ◌<◌, ◌≤◌, ℕ, None};
+ghost use Rattle.pt_frame.specs.Machine.Next.{asked, deed_in, with_memory, AsksFor};
+ghost use Rattle.pt_frame.specs.Machine.Room.{brings};
+ghost use Rattle.pt_frame.specs.Replies.{inserted_by};
+ghost use Rattle.pt_frame.specs.Tree.{RequestTree};
+ghost use Rattle.pt_req.specs.Machine.Parts.{root_open_left, root_open_acts, root_open_room, part_tree, part_counts};
 
-use crate::act::{Act, ActReply};
-use crate::begun::Session;
+use crate::begun::BegunSession;
+use crate::parts::part::Part;
 use crate::plan::Plan;
+use pt_frame::{Act, ActReply};
 use pt_host::{Fd, HostOp, HostReply, HostValue, OpenFlags, Stat};
 use pt_session::{Event, EventReply, Negotiated, RowForm};
-use std::mem;
 
-/// Where the opening of the shared directory stands: the act that it wants next.
-#[derive(Debug, Drop)]
-pub enum RootOpen {
-    Open {
-        session: Session,
-        agreed: Option<Negotiated>,
-    },
+/// The act that the opening of the shared directory wants next.
+#[derive(Drop)]
+pub enum RootOpenAt {
+    Open,
     Stat {
-        session: Session,
-        agreed: Option<Negotiated>,
         fd: Fd,
     },
-    Take {
-        session: Session,
-        agreed: Option<Negotiated>,
-        fd: Fd,
-        stat: Stat,
-    },
-    Insert {
-        session: Session,
-        agreed: Option<Negotiated>,
+    /// What was opened is known; its descriptor is counted, or is to be.
+    Known {
         form: RowForm,
         stat: Stat,
+        counted: bool,
     },
 }
 
-/// What the opening of the shared directory does after a reply.
-#[derive(Debug, Drop)]
-pub enum RootOpened {
-    Goes,
-    Refuses,
-    Done,
+/// The opening of the shared directory, and what is agreed on with it, if anything is.
+#[derive(Drop)]
+pub struct RootOpen {
+    pub session: BegunSession,
+    pub agreed: Option<Negotiated>,
+    pub at: RootOpenAt,
 }
 
 impl RootOpen {
     pub fn want<'a>(&'a self, plan: &'a Plan) -> Act<'a>
-        ensures asks { (next : Tree) → AsksFor (root_open_left self.now plan.now next) result }
-        ensures fits { adds (deed_of result) ≤ root_open_room self.now }
+        ensures asks { (next : RequestTree) → AsksFor (root_open_left self.now plan.now next) result None }
+        ensures fits { (next : RequestTree) → brings (root_open_left self.now plan.now next) ≤ root_open_room self.now }
     {
-        match self {
-            RootOpen::Open { .. } => Act::Host(HostOp::OpenRoot {
+        match &self.at {
+            RootOpenAt::Open => Act::Host(HostOp::OpenRoot {
                 path: plan.config.root_dir.as_slice(),
                 flags: OpenFlags::PATH,
             }),
-            RootOpen::Stat { fd, .. } => Act::Host(HostOp::Stat { fd: *fd }),
-            RootOpen::Take { .. } => Act::Event(Event::TakeFd),
-            RootOpen::Insert {
-                session,
-                agreed,
+            RootOpenAt::Stat { fd } => Act::Host(HostOp::Stat { fd: *fd }),
+            RootOpenAt::Known {
                 form,
                 stat,
-            } => Act::Event(Event::InsertRoot {
-                era: session.era,
-                form,
-                ids: stat.ids,
-                mode: stat.mode,
-                negotiated: *agreed,
-            }),
+                counted,
+            } => {
+                if *counted {
+                    Act::Event(Event::InsertRoot {
+                        era: self.session.era,
+                        form,
+                        ids: stat.ids,
+                        mode: stat.mode,
+                        negotiated: self.agreed,
+                    })
+                } else {
+                    Act::Event(Event::TakeFd)
+                }
+            }
         }
     }
 
     /// Goes on from the reply of the act that was wanted.
-    pub fn take(&mut self, plan: &Plan, reply: ActReply) -> RootOpened
-        ensures left { (next : Tree) →
-            asked (root_open_left self.old plan.now next) reply
-            ≡ root_opened_tree result reply (root_open_left self.new plan.now next) next }
-        ensures fewer { (next : Tree) →
-            adds (deed_in (root_open_left self.old plan.now next))
-            + root_opened_counts result (root_open_acts self.new) < root_open_acts self.old }
-        ensures room { (next : Tree) →
-            adds (deed_in (root_open_left self.old plan.now next))
-            + root_opened_counts result (root_open_room self.new) ≤ root_open_room self.old }
-        ensures inserts { (next : Tree) →
-            inserted_by (deed_in (root_open_left self.old plan.now next)) reply
-            + root_opened_counts result (root_open_inserts self.new) ≤ root_open_inserts self.old }
+    pub fn take(&mut self, reply: ActReply) -> Part<()>
+        ensures left { (plan : Plan) (next : RequestTree) →
+            with_memory (asked (root_open_left self.old plan next) reply)
+            ≡ part_tree result reply (root_open_left self.new plan next) (λ done. with_memory next) }
+        ensures fewer { (plan : Plan) (next : RequestTree) →
+            brings (root_open_left self.old plan next) + part_counts result (root_open_acts self.new)
+            < root_open_acts self.old }
+        ensures room { (plan : Plan) (next : RequestTree) →
+            brings (root_open_left self.old plan next) + part_counts result (root_open_room self.new)
+            ≤ root_open_room self.old }
+        ensures inserts { (plan : Plan) (next : RequestTree) →
+            inserted_by (deed_in (root_open_left self.old plan next)) reply + part_counts result 1 ≤ 1 }
     {
-        let nowhere = RootOpen::Open {
-            session: Session {
-                era: 0,
-                agreed: Negotiated::NONE,
+        match &mut self.at {
+            RootOpenAt::Open => match reply {
+                ActReply::Host(HostReply::Ok(HostValue::Fd(fd))) => {
+                    self.at = RootOpenAt::Stat { fd };
+                    Part::Goes
+                }
+                _ => Part::Refuses,
             },
-            agreed: None,
-        };
-        match (mem::replace(self, nowhere), reply) {
-            (
-                RootOpen::Open { session, agreed },
-                ActReply::Host(HostReply::Ok(HostValue::Fd(fd))),
-            ) => {
-                *self = RootOpen::Stat {
-                    session,
-                    agreed,
-                    fd,
-                };
-                RootOpened::Goes
-            }
-            (
-                RootOpen::Stat {
-                    session,
-                    agreed,
-                    fd,
-                },
-                ActReply::Host(HostReply::Ok(HostValue::Stat(stat))),
-            ) => {
-                *self = RootOpen::Take {
-                    session,
-                    agreed,
-                    fd,
-                    stat,
-                };
-                RootOpened::Goes
-            }
-            (
-                RootOpen::Take {
-                    session,
-                    agreed,
-                    fd,
-                    stat,
-                },
-                ActReply::Event(EventReply::Taken),
-            ) => {
-                *self = RootOpen::Insert {
-                    session,
-                    agreed,
-                    form: RowForm::File(fd),
-                    stat,
-                };
-                RootOpened::Goes
-            }
-            (RootOpen::Insert { .. }, ActReply::Event(EventReply::Inserted { .. })) => {
-                RootOpened::Done
-            }
-            _ => RootOpened::Refuses,
+            RootOpenAt::Stat { fd } => match reply {
+                ActReply::Host(HostReply::Ok(HostValue::Stat(stat))) => {
+                    let form = RowForm::File(*fd);
+                    let counted = false;
+                    self.at = RootOpenAt::Known {
+                        form,
+                        stat,
+                        counted,
+                    };
+                    Part::Goes
+                }
+                _ => Part::Refuses,
+            },
+            RootOpenAt::Known { counted, .. } => match (*counted, reply) {
+                (false, ActReply::Event(EventReply::Taken)) => {
+                    *counted = true;
+                    Part::Goes
+                }
+                (true, ActReply::Event(EventReply::Inserted { .. })) => Part::Has(()),
+                _ => Part::Refuses,
+            },
         }
     }
 }

@@ -1,11 +1,23 @@
-use crate::act::{Act, ActReply};
-use crate::frame::{Body, Next};
+ghost use Rattle.std.specs.Prelude.{◌≡◌, ◌≤◌};
+ghost use Rattle.pt_frame.specs.Machine.Room.{most_holds};
+ghost use Rattle.pt_host.specs.declared.seat.HostSeat.{HostSeat};
+ghost use Rattle.pt_iface.specs.declared.request.Context.{Context};
+ghost use Rattle.pt_req.specs.Machine.Bodies.{request_left, request_acts, request_room, request_inserts};
+ghost use Rattle.pt_req.specs.Pattern.{bound_of, most_inserted};
+ghost use Rattle.pt_req.specs.Requests.{tree_of};
+ghost use Rattle.pt_req.specs.declared.plan.Plan.{Plan};
+
 use crate::plan::Plan;
-use crate::requests::{Destroy, Forget, Init, Lookup, Open, Read, Release, Root, Unknown};
-use pt_host::HostSeat;
+use crate::requests::{
+    Destroy, Forget, ForgetAt, Forgotten, Init, Lookup, LookupAt, Open, OpeningAt, Read, Reading,
+    Release, ReleaseAt, Root, Unknown,
+};
+use pt_frame::{ActReply, Body, Next, Wanted};
+use pt_host::{HostSeat, OpenFlags};
+use pt_iface::Request;
 
 /// The body of any request.
-#[derive(Debug, Drop)]
+#[derive(Drop)]
 pub enum RequestBody {
     Init(Init),
     Destroy(Destroy),
@@ -18,8 +30,72 @@ pub enum RequestBody {
     Unknown(Unknown),
 }
 
+impl RequestBody {
+    /// The body that begins this request.
+    pub fn of(request: Request) -> RequestBody
+        ensures left { (plan : Plan) (seat : HostSeat) (who : Context) →
+            request_left result plan seat ≡ tree_of plan seat who request }
+        ensures acts { request_acts result ≤ bound_of request }
+        ensures room { request_room result ≤ most_holds }
+        ensures inserts { request_inserts result ≤ most_inserted }
+    {
+        match request {
+            Request::Init { capable } => RequestBody::Init(Init::Clear { capable }),
+            Request::Destroy => RequestBody::Destroy(Destroy),
+            Request::Root => RequestBody::Root(Root::Begin),
+            Request::Lookup { parent, name } => {
+                let at = LookupAt::Begin { parent };
+                RequestBody::Lookup(Lookup { name, at })
+            }
+            Request::Forget { inode, count } => {
+                let at = ForgetAt::Begin;
+                let list = Forgotten::One([(inode, count)]);
+                RequestBody::Forget(Forget { list, at })
+            }
+            Request::BatchForget { list } => {
+                let at = ForgetAt::Begin;
+                let list = Forgotten::Many(list);
+                RequestBody::Forget(Forget { list, at })
+            }
+            // Whether set-id bits are cleared is decided by a switch that is not there yet.
+            Request::Open { inode, flags, .. } => {
+                let at = OpeningAt::Begin { inode };
+                RequestBody::Open(Open { flags, at })
+            }
+            Request::OpenDir { inode, flags } => {
+                let at = OpeningAt::Begin { inode };
+                let flags = flags | OpenFlags::O_DIRECTORY.0;
+                RequestBody::Open(Open { flags, at })
+            }
+            Request::Release { inode, handle } | Request::ReleaseDir { inode, handle } => {
+                let at = ReleaseAt::Begin;
+                RequestBody::Release(Release { inode, handle, at })
+            }
+            Request::Read {
+                inode,
+                handle,
+                size,
+                offset,
+            } => {
+                let at = Reading::Begin;
+                RequestBody::Read(Read {
+                    inode,
+                    handle,
+                    size,
+                    offset,
+                    at,
+                })
+            }
+            _ => RequestBody::Unknown(Unknown),
+        }
+    }
+}
+
 impl Body for RequestBody {
-    ghost use Rattle.pt_req.specs.Bodies.{request_left, request_acts, request_room, request_inserts, request_asks};
+    ghost use Rattle.pt_req.specs.Machine.Bodies.{request_left, request_acts, request_room, request_inserts};
+    ghost use Rattle.pt_req.specs.Machine.Bodies.{request_asks};
+
+    type Plan = Plan;
 
     ghost left = { request_left };
 
@@ -29,7 +105,7 @@ impl Body for RequestBody {
 
     ghost inserts = { request_inserts };
 
-    fn want<'a>(&'a self, plan: &'a Plan, seat: &HostSeat) -> Act<'a> {
+    fn want<'a>(&'a self, plan: &'a Plan, seat: &'a HostSeat) -> Wanted<'a> {
         match self {
             RequestBody::Init(body) => body.want(plan, seat),
             RequestBody::Destroy(body) => body.want(plan, seat),
@@ -43,17 +119,17 @@ impl Body for RequestBody {
         }
     }
 
-    fn take(&mut self, plan: &Plan, reply: ActReply, seat: &HostSeat) -> Next {
+    fn take(&mut self, plan: &Plan, seat: &HostSeat, reply: ActReply) -> Next {
         match self {
-            RequestBody::Init(body) => body.take(plan, reply, seat),
-            RequestBody::Destroy(body) => body.take(plan, reply, seat),
-            RequestBody::Root(body) => body.take(plan, reply, seat),
-            RequestBody::Lookup(body) => body.take(plan, reply, seat),
-            RequestBody::Forget(body) => body.take(plan, reply, seat),
-            RequestBody::Open(body) => body.take(plan, reply, seat),
-            RequestBody::Release(body) => body.take(plan, reply, seat),
-            RequestBody::Read(body) => body.take(plan, reply, seat),
-            RequestBody::Unknown(body) => body.take(plan, reply, seat),
+            RequestBody::Init(body) => body.take(plan, seat, reply),
+            RequestBody::Destroy(body) => body.take(plan, seat, reply),
+            RequestBody::Root(body) => body.take(plan, seat, reply),
+            RequestBody::Lookup(body) => body.take(plan, seat, reply),
+            RequestBody::Forget(body) => body.take(plan, seat, reply),
+            RequestBody::Open(body) => body.take(plan, seat, reply),
+            RequestBody::Release(body) => body.take(plan, seat, reply),
+            RequestBody::Read(body) => body.take(plan, seat, reply),
+            RequestBody::Unknown(body) => body.take(plan, seat, reply),
         }
     }
 

@@ -1,16 +1,18 @@
-use crate::act::{Act, ActReply};
-use crate::frame::{Body, Next, Then};
 use crate::plan::Plan;
+use pt_frame::{Act, ActReply, Body, Next, Then, Wanted};
 use pt_host::HostSeat;
 use pt_iface::Answer;
 use pt_session::{Event, EventReply};
 
 /// The request `destroy`.
-#[derive(Debug, Drop)]
+#[derive(Drop)]
 pub struct Destroy;
 
 impl Body for Destroy {
-    ghost use Rattle.pt_req.specs.Bodies.{destroy_left, destroy_acts, destroy_room, destroy_inserts, destroy_asks};
+    ghost use Rattle.pt_req.specs.Machine.Bodies.{destroy_left, destroy_acts, destroy_room, destroy_inserts};
+    ghost use Rattle.pt_req.specs.Machine.Bodies.{destroy_asks};
+
+    type Plan = Plan;
 
     ghost left = { destroy_left };
 
@@ -20,11 +22,12 @@ impl Body for Destroy {
 
     ghost inserts = { destroy_inserts };
 
-    fn want<'a>(&'a self, _plan: &'a Plan, _seat: &HostSeat) -> Act<'a> {
-        Act::Event(Event::Clear)
+    fn want<'a>(&'a self, _plan: &'a Plan, _seat: &'a HostSeat) -> Wanted<'a> {
+        let act = Act::Event(Event::Clear);
+        Wanted { act, opens: None }
     }
 
-    fn take(&mut self, _plan: &Plan, reply: ActReply, _seat: &HostSeat) -> Next {
+    fn take(&mut self, _plan: &Plan, _seat: &HostSeat, reply: ActReply) -> Next {
         match reply {
             ActReply::Event(EventReply::Cleared { .. }) => Next::At(Then::Gives(Answer::NoReply)),
             _ => Next::At(Then::Refuses),

@@ -1,22 +1,21 @@
 ghost use Rattle.std.specs.Prelude.{◌≡◌};
-ghost use Rattle.pt_req.specs.Bodies.{pairs_of};
+ghost use Rattle.pt_req.specs.Machine.Bodies.{pairs_of};
 
-use crate::act::{Act, ActReply};
-use crate::frame::{Body, Next, Then};
 use crate::plan::Plan;
+use pt_frame::{Act, ActReply, Body, Next, Then, Wanted};
 use pt_host::HostSeat;
 use pt_iface::{Answer, ForgetList};
 use pt_session::{Event, EventReply};
 
 /// Where the request `forget` stands.
-#[derive(Clone, Copy, Debug, PartialEq, Eq)]
+#[derive(Clone, Copy)]
 pub enum ForgetAt {
     Begin,
     Forget,
 }
 
 /// Numbers with the counts that are taken back of them.
-#[derive(Debug, Drop)]
+#[derive(Drop)]
 pub enum Forgotten {
     One([(u64, u64); 1]),
     Many(ForgetList),
@@ -34,14 +33,16 @@ impl Forgotten {
 }
 
 /// The request `forget`, of one number or of many.
-#[derive(Debug, Drop)]
+#[derive(Drop)]
 pub struct Forget {
     pub list: Forgotten,
     pub at: ForgetAt,
 }
 
 impl Body for Forget {
-    ghost use Rattle.pt_req.specs.Bodies.{forget_left, forget_acts, forget_room, forget_inserts, forget_asks};
+    ghost use Rattle.pt_req.specs.Machine.Bodies.{forget_left, forget_acts, forget_room, forget_inserts, forget_asks};
+
+    type Plan = Plan;
 
     ghost left = { forget_left };
 
@@ -51,16 +52,17 @@ impl Body for Forget {
 
     ghost inserts = { forget_inserts };
 
-    fn want<'a>(&'a self, _plan: &'a Plan, _seat: &HostSeat) -> Act<'a> {
-        match self.at {
+    fn want<'a>(&'a self, _plan: &'a Plan, _seat: &'a HostSeat) -> Wanted<'a> {
+        let act = match self.at {
             ForgetAt::Begin => Act::Event(Event::Begin),
             ForgetAt::Forget => Act::Event(Event::Forget {
                 list: self.list.as_slice(),
             }),
-        }
+        };
+        Wanted { act, opens: None }
     }
 
-    fn take(&mut self, _plan: &Plan, reply: ActReply, _seat: &HostSeat) -> Next {
+    fn take(&mut self, _plan: &Plan, _seat: &HostSeat, reply: ActReply) -> Next {
         match (self.at, reply) {
             (ForgetAt::Begin, ActReply::Event(EventReply::Began { .. })) => {
                 self.at = ForgetAt::Forget;

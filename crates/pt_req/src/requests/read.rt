@@ -1,13 +1,12 @@
-use crate::act::{Act, ActReply};
-use crate::frame::{Body, Next, Then};
 use crate::parts::is_bad_offset;
 use crate::plan::Plan;
+use pt_frame::{Act, ActReply, Body, Next, Then, Wanted};
 use pt_host::{Errno, Fd, HostOp, HostReply, HostSeat, HostValue};
 use pt_iface::Answer;
 use pt_session::{Event, EventReply};
 
 /// Where the request `read` stands.
-#[derive(Clone, Copy, Debug, PartialEq, Eq)]
+#[derive(Clone, Copy)]
 pub enum Reading {
     Begin,
     Pin,
@@ -15,7 +14,7 @@ pub enum Reading {
 }
 
 /// The request `read`.
-#[derive(Debug, Drop)]
+#[derive(Drop)]
 pub struct Read {
     pub inode: u64,
     pub handle: u64,
@@ -25,7 +24,9 @@ pub struct Read {
 }
 
 impl Body for Read {
-    ghost use Rattle.pt_req.specs.Bodies.{read_left, read_acts, read_room, read_inserts, read_asks};
+    ghost use Rattle.pt_req.specs.Machine.Bodies.{read_left, read_acts, read_room, read_inserts, read_asks};
+
+    type Plan = Plan;
 
     ghost left = { read_left };
 
@@ -35,8 +36,8 @@ impl Body for Read {
 
     ghost inserts = { read_inserts };
 
-    fn want<'a>(&'a self, _plan: &'a Plan, _seat: &HostSeat) -> Act<'a> {
-        match self.at {
+    fn want<'a>(&'a self, _plan: &'a Plan, _seat: &'a HostSeat) -> Wanted<'a> {
+        let act = match self.at {
             Reading::Begin => Act::Event(Event::Begin),
             Reading::Pin => Act::Event(Event::PinHandle {
                 handle: self.handle,
@@ -47,10 +48,11 @@ impl Body for Read {
                 offset: self.offset,
                 size: self.size,
             }),
-        }
+        };
+        Wanted { act, opens: None }
     }
 
-    fn take(&mut self, _plan: &Plan, reply: ActReply, _seat: &HostSeat) -> Next {
+    fn take(&mut self, _plan: &Plan, _seat: &HostSeat, reply: ActReply) -> Next {
         match (self.at, reply) {
             (Reading::Begin, ActReply::Event(EventReply::Began { .. })) => {
                 if is_bad_offset(self.offset) {

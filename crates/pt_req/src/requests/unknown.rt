@@ -1,16 +1,18 @@
-use crate::act::{Act, ActReply};
-use crate::frame::{Body, Next, Then};
 use crate::plan::Plan;
+use pt_frame::{Act, ActReply, Body, Next, Then, Wanted};
 use pt_host::{Errno, HostSeat};
 use pt_iface::Answer;
 use pt_session::{Event, EventReply};
 
 /// A request that is not implemented.
-#[derive(Debug, Drop)]
+#[derive(Drop)]
 pub struct Unknown;
 
 impl Body for Unknown {
-    ghost use Rattle.pt_req.specs.Bodies.{unknown_left, unknown_acts, unknown_room, unknown_inserts, unknown_asks};
+    ghost use Rattle.pt_req.specs.Machine.Bodies.{unknown_left, unknown_acts, unknown_room, unknown_inserts};
+    ghost use Rattle.pt_req.specs.Machine.Bodies.{unknown_asks};
+
+    type Plan = Plan;
 
     ghost left = { unknown_left };
 
@@ -20,11 +22,12 @@ impl Body for Unknown {
 
     ghost inserts = { unknown_inserts };
 
-    fn want<'a>(&'a self, _plan: &'a Plan, _seat: &HostSeat) -> Act<'a> {
-        Act::Event(Event::Begin)
+    fn want<'a>(&'a self, _plan: &'a Plan, _seat: &'a HostSeat) -> Wanted<'a> {
+        let act = Act::Event(Event::Begin);
+        Wanted { act, opens: None }
     }
 
-    fn take(&mut self, _plan: &Plan, reply: ActReply, _seat: &HostSeat) -> Next {
+    fn take(&mut self, _plan: &Plan, _seat: &HostSeat, reply: ActReply) -> Next {
         match reply {
             ActReply::Event(EventReply::Began { .. }) => {
                 Next::At(Then::Gives(Answer::Refused(Errno::ENOSYS)))

@@ -1,4 +1,5 @@
-use Rattle.std.proofs.Common.{◌≡◌, suc, List, ◌∷◌, ◌++◌, ◌∙◌, length, map, [], append-nil, append_assoc, sym, ap, arith}
+use Rattle.std.proofs.Common.{◌≡◌, suc, List, ◌∷◌, ◌++◌, ◌∙◌, length, map, [], append-nil, append_assoc, sym, ap}
+use Rattle.std.proofs.Common.{arith}
 use Rattle.std.proofs.lemmas.List.{length-append}
 use Rattle.std.specs.Vec.Iter.{into_iter_items}
 use Rattle.pt_host.specs.declared.seat.HostSeat.{HostSeat}
@@ -20,7 +21,8 @@ loop-run-preserved c =
     let rest_seats = seated (map run_seat (into_iter_items c.next.new.self)) in
     record {
       answers = rw c.push_within.ensures.items
-          (answered_more _ _ run c.answered.result _ (c.finish.result, c.finish.ensures, c.answered.ensures)
+          (answered_more _ _ run c.answered.result _
+          (c.finish.result, (λ plan. c.finish.ensures.left plan run.start), c.answered.ensures)
           (rw is at c.loop-run.invariant.answers));
       seats = rw c.push_seat.ensures.items (
           append_assoc c.loop-run.seats.items (seated (run.seat ∷ [])) rest_seats

@@ -5,7 +5,8 @@ use Rattle.pt_fs.specs.Trace.{room_of}
 use Rattle.pt_fs.proofs.Ended.{started_length}
 use Rattle.pt_fs.proofs.Works.{started_bounds}
 use Rattle.pt_fs.proofs.Whole.{Whole, jobs_whole, order_whole, answers_whole, bounded_whole, spent_whole}
-use Rattle.pt_fs.proofs.Laws.{ran_whole, keeps, keeps_told}
+use Rattle.pt_fs.proofs.Laws.{ran_whole, keeps}
+use Rattle.pt_fs.proofs.Objects.{keeps_told}
 use Rattle.pt_fs.proofs.run.drive.Goals as goal
 
 pub run_all-requires : goal.run_all-requires
@@ -49,7 +50,8 @@ returns g c =
     let lawful : Tells g.H.Host.does g.H.Host.tree =
     λ from seat asked reply to seat_after made before at. let l =
     g.met.H.Host.lawful from seat asked reply to seat_after made before at in (l.0, l.1, l.2) in
-    let told = keeps_told g.H.Host.does g.H.Host.tree g.H.Host.faults g.met.H.Host.promised lawful _ _ _ _ _ trace _ _ _ ran in
+    let told = keeps_told g.H.Host.does g.H.Host.tree g.H.Host.faults g.met.H.Host.promised lawful _ _ _ _ _ trace _
+    _ _ ran in
     let running = c.in-Ok.started.0.items in
     let bounds = started_bounds _ jobs running c.in-Ok.ensures.started in
     let none = ap pending_in c.requires.new.1 in
@@ -64,6 +66,7 @@ returns g c =
         bounded = bounded_whole whole;
         room = omega (arith, bounds, none, spent);
         causes = kept.causes;
+        memory = kept.memory;
         gives_back = kept.gives_back;
         honoured = kept.honoured;
         reached = kept.reached;

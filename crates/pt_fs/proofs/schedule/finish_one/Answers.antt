@@ -18,7 +18,8 @@ loop-alloc-init g c =
 
 pub take_step-requires-clause-unfinished : goal.take_step-requires-clause-unfinished
 take_step-requires-clause-unfinished g c =
-    unfinished_at c.loop-alloc.running c.args.place c.index-running-place.result _ _ c.is_finished.ensures.result c.is_finished.ensures.end c.loop-alloc-test.true
+    unfinished_at c.loop-alloc.running c.args.place c.index-running-place.result _ _ c.is_finished.ensures.result
+    c.is_finished.ensures.end c.loop-alloc-test.true
 
 pub loop-alloc-smaller : goal.loop-alloc-smaller
 loop-alloc-smaller g c = fewer_took _ _ _ _ _ _ _ _ _ _ _ c.take_step.ensures.took

@@ -2,9 +2,9 @@ use Rattle.pt_law.proofs.runs.every_told_run.Goals as goal
 use Rattle.pt_law.proofs.Interleaving.{tables_run}
 use Rattle.pt_law.proofs.Cuts.{runs_split}
 use Rattle.pt_law.proofs.Laws.{distinct_law, object_law, handles_law, kept_law, leaves_law}
-use Rattle.pt_law.proofs.Hosts.{run_ended}
+use Rattle.pt_law.proofs.Hosts.{run_told}
 use Rattle.pt_law.proofs.Next.{named_law}
-use Rattle.pt_law.proofs.Entries.{branch_places, giving_law, entered_law}
+use Rattle.pt_law.proofs.Giving.{branch_places, giving_law}
 use Rattle.pt_law.proofs.Tracing.{origins_law}
 
 pub returns-clause-tables : goal.returns-clause-tables
@@ -30,14 +30,11 @@ returns-clause-given c =
     λ limit bound turns more start given job parent name number ids places s d path.
     giving_law limit bound turns more start given places s d path
 
-pub returns-clause-entries : goal.returns-clause-entries
-returns-clause-entries c = entered_law
-
 pub returns-clause-rest : goal.returns-clause-rest
 returns-clause-rest c = leaves_law
 
-pub returns-clause-ended : goal.returns-clause-ended
-returns-clause-ended c = run_ended
+pub returns-clause-told : goal.returns-clause-told
+returns-clause-told c = run_told
 
 pub returns-clause-cut : goal.returns-clause-cut
 returns-clause-cut c = runs_split

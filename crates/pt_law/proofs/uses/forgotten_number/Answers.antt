@@ -1,5 +1,4 @@
 use Rattle.pt_law.proofs.Reliance.{gone_law, handles_stay_law, never_again_law, refused_law}
-use Rattle.pt_law.proofs.Forgotten.{gone_answered_law}
 use Rattle.pt_law.proofs.uses.forgotten_number.Goals as goal
 
 pub returns-clause-gone : goal.returns-clause-gone
@@ -13,6 +12,3 @@ returns-clause-never_again c = never_again_law
 
 pub returns-clause-refused : goal.returns-clause-refused
 returns-clause-refused c = refused_law
-
-pub returns-clause-answered : goal.returns-clause-answered
-returns-clause-answered c = gone_answered_law

@@ -1,4 +1,4 @@
-use Rattle.pt_law.proofs.Entries.{two_lookups_law}
+use Rattle.pt_law.proofs.Giving.{two_lookups_law}
 use Rattle.pt_law.proofs.uses.two_lookups.Goals as goal
 
 pub returns : goal.returns

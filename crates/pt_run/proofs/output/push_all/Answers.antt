@@ -6,6 +6,7 @@ use Rattle.pt_run.proofs.output.push_all.Goals as goal
 pub loop-rest-preserved : goal.loop-rest-preserved
 loop-rest-preserved g c = record {
   buffered = rw take_rest
-      (IsBuffered-pushed _ _ _ _ c.loop-rest.rest.now c.in_ok-count.count c.loop-rest.invariant.buffered c.in_ok-count.ensures.pushed);
+      (IsBuffered-pushed _ _ _ _ c.loop-rest.rest.now c.in_ok-count.count c.loop-rest.invariant.buffered
+      c.in_ok-count.ensures.pushed);
   no_fault = c.in_ok-count.ensures.no_fault ∙ c.loop-rest.invariant.no_fault;
 }

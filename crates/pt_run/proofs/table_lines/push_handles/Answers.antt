@@ -7,7 +7,8 @@ use Rattle.pt_run.proofs.table_lines.push_handles.Goals as goal
 pub loop-pair-preserved : goal.loop-pair-preserved
 loop-pair-preserved c =
     one_more (codes "handle")
-    (IsHandleAfter c.args.session.now.handles) c.loop-pair.above c.in-Some.pair _ _ _ c.loop-pair.invariant c.in-Some.ensures c.in_ok-push_pair.ensures
+    (IsHandleAfter c.args.session.now.handles) c.loop-pair.above c.in-Some.pair _ _ _ c.loop-pair.invariant
+    c.in-Some.ensures c.in_ok-push_pair.ensures
 
 pub loop-pair-smaller : goal.loop-pair-smaller
 loop-pair-smaller c =

@@ -7,7 +7,8 @@ use Rattle.pt_run.proofs.table_lines.push_lives.Goals as goal
 pub loop-live-preserved : goal.loop-live-preserved
 loop-live-preserved c =
     one_more (codes "live")
-    (IsLiveAfter c.args.session.now.rows) c.loop-live.above c.in-Some.live _ _ _ c.loop-live.invariant c.in-Some.ensures c.in_ok-push_pair.ensures
+    (IsLiveAfter c.args.session.now.rows) c.loop-live.above c.in-Some.live _ _ _ c.loop-live.invariant
+    c.in-Some.ensures c.in_ok-push_pair.ensures
 
 pub loop-live-smaller : goal.loop-live-smaller
 loop-live-smaller c =

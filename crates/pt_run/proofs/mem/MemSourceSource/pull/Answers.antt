@@ -7,4 +7,5 @@ returns-clause-pulled c =
     let count = rw (c.deref.ensures.value, take_rest) at c.copy_front-count.ensures.count in
     let copied = rw (c.deref.ensures.value, take_rest) at c.copy_front-count.ensures.copied in
     rw (← c.self.view_is)
-    (IsPulled-copied c.self.inside.bytes.items c.copy_front-count.new.to c.self.inside.place c.copy_front-count.result count copied)
+    (IsPulled-copied c.self.inside.bytes.items c.copy_front-count.new.to c.self.inside.place
+    c.copy_front-count.result count copied)

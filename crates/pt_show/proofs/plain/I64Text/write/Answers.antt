@@ -5,5 +5,6 @@ use Rattle.pt_show.proofs.plain.I64Text.write.Goals as goal
 
 pub returns : goal.returns
 returns c =
-    subst (λ (text : List ℕ). OnOk c.push_signed.result (c.push_signed.new.out.items ≡ c.args.out.now.items ++ (32 ∷ text)))
+    subst (λ (text : List ℕ). OnOk c.push_signed.result
+    (c.push_signed.new.out.items ≡ c.args.out.now.items ++ (32 ∷ text)))
     (sym (signed_digits_are_decimal c.args.self.now (omega arith))) (grind (arith, common_steps))

@@ -5,5 +5,6 @@ use Rattle.pt_show.proofs.plain.U64Text.write.Goals as goal
 
 pub returns : goal.returns
 returns c =
-    subst (λ (text : List ℕ). OnOk c.push_decimal.result (c.push_decimal.new.out.items ≡ c.args.out.now.items ++ (32 ∷ text)))
+    subst (λ (text : List ℕ). OnOk c.push_decimal.result
+    (c.push_decimal.new.out.items ≡ c.args.out.now.items ++ (32 ∷ text)))
     (sym (digits_are_decimal c.args.self.now (omega arith))) (grind (arith, common_steps))

@@ -1,0 +1,4 @@
+-- Inner. The files of definitions, lowest first.
+pub mod Pattern
+pub mod Laws
+pub mod Machine

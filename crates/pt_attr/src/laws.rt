@@ -1,0 +1,18 @@
+//! What holds of every list of steps that a job may make.
+
+ghost use Rattle.pt_attr.specs.Laws.{JobsTend, JobsAreDetermined, NoMemoryIsCaused};
+
+/// A job restores what it changes of its seat.
+pub fn jobs_tend()
+    ensures { JobsTend }
+{}
+
+/// A request has one outcome unless memory runs out, and an edit has one always.
+pub fn jobs_are_determined()
+    ensures { JobsAreDetermined }
+{}
+
+/// A request that is answered `NoMemory` has a step at which memory ran out.
+pub fn no_memory_has_its_cause()
+    ensures { NoMemoryIsCaused }
+{}

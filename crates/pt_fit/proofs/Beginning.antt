@@ -1,0 +1,100 @@
+-- A job's first step begins it, unless it is its only one.
+use Rattle.std.proofs.Common.{◌≡◌, ◌⊎◌, inl, inr, ℕ, List, [], ◌∷◌, Option, None, Some, refl, sym, subst, Bool, true}
+use Rattle.std.proofs.Common.{false}
+use Rattle.pt_host.specs.declared.seat.HostSeat.{HostSeat}
+use Rattle.pt_session.specs.declared.event.KeptEvent.TheVariants as change
+use Rattle.pt_session.specs.declared.reply.EventReply.TheVariants as event
+use Rattle.pt_iface.specs.declared.request.Context.{Context}
+use Rattle.pt_iface.specs.declared.request.Request.{Request}
+use Rattle.pt_iface.specs.declared.request.Request.TheVariants as request
+use Rattle.pt_frame.specs.Deed.{Deed, Calls, Changes, Step, IsStepOf}
+use Rattle.pt_frame.specs.Frame.{leave}
+use Rattle.pt_frame.specs.Grammar.{Belongs}
+use Rattle.pt_frame.specs.Held.{held}
+use Rattle.pt_frame.specs.Replies.{closings_in, refusal}
+use Rattle.pt_frame.specs.Tree.{RequestTree, Gives, Refuses, Asks, Opens, Bares, Brackets, Shuts, Allocates, framed}
+use Rattle.pt_frame.specs.Tree.{follows}
+use Rattle.pt_frame.specs.Tree.{may_give_up, grammar_of_tree}
+use Rattle.pt_frame.specs.declared.act.ActReply.{ActReply}
+use Rattle.pt_frame.specs.declared.act.ActReply.TheVariants.{Event, NoCopy}
+use Rattle.pt_frame.specs.declared.finish.Finish.{Finish}
+use Rattle.pt_frame.specs.declared.finish.Finish.TheVariants as finish
+use Rattle.pt_frame.specs.declared.hold.Hold.{Hold}
+use Rattle.pt_req.specs.Requests.{tree_of}
+use Rattle.pt_req.specs.declared.plan.Plan.{Plan}
+use Rattle.pt_attr.specs.Pattern.{Asked, Requests, Edits, grammar_for}
+use Rattle.pt_law.specs.Laws.{IsBeginning, BeginsFirst}
+
+none_begins : (deed : Deed) → IsBeginning (Some deed) NoCopy → ⊥
+none_begins (Changes change.Begin) b = b
+none_begins (Changes asked) b = b
+none_begins (Calls asked) b = b
+
+begins_as : (deed : Deed) (did : Option Deed) (told : ActReply) → IsStepOf deed did told →
+    IsBeginning (Some deed) told → IsBeginning did told
+begins_as deed did NoCopy i b = absurd (none_begins deed b)
+begins_as deed (Some same) told i b = subst (λ (d : Deed). IsBeginning (Some d) told) (sym i) b
+begins_as deed None told i b = absurd i
+
+-- the tree begins: by any other reply it is refused at once, and holds nothing
+abbrev Starts : RequestTree → Type 0
+Starts (Asks deed next) =
+    (told : ActReply) →
+    IsBeginning (Some deed) told
+    ⊎ ((closings_in deed told ≡ 0) × (held deed told [] ≡ []) × (next told ≡ Refuses told))
+Starts tree = ⊥
+
+-- a job that holds nothing and is refused has no step more
+refused_now : (seat : HostSeat) (wants : Bool) (last : Finish) (step : Step) (steps : List Step) (end : Finish) →
+    Belongs (follows seat wants 0 [] (leave seat [] last)) (step ∷ steps) end → ⊥
+refused_now seat true last step steps end (inl b) = b
+refused_now seat true last step steps end (inr b) = b
+refused_now seat false last step steps end b = b
+
+started : (seat : HostSeat) (tree : RequestTree) (steps : List Step) (end : Finish) → Starts tree →
+    Belongs (grammar_of_tree seat tree) steps end → BeginsFirst steps
+started seat tree [] end s b = tt
+started seat tree (step ∷ []) end s b = tt
+started seat (Asks deed next) (step ∷ other ∷ steps) end s b = elim (s step.reply) [
+  | inl begins ↦ begins_as deed step.deed step.reply b.0 begins
+  | inr refuses ↦
+      let wants = may_give_up step.reply (next step.reply) in
+      let one = subst (λ (n : ℕ). Belongs (follows seat wants n (held deed step.reply [])
+      (framed seat (next step.reply) (held deed step.reply []) [])) (other ∷ steps) end) refuses.0 b.1 in
+      let two = subst (λ (h : List Hold). Belongs (follows seat wants 0 h (framed seat (next step.reply) h []))
+      (other ∷ steps) end) refuses.1 one in
+      let three = subst (λ (t : RequestTree).
+      Belongs (follows seat wants 0 [] (framed seat t [] [])) (other ∷ steps) end)
+      refuses.2 two in
+      absurd (refused_now seat wants (finish.Answer (refusal step.reply)) other steps end three)
+]
+started seat (Gives last) (step ∷ other ∷ steps) end s b = absurd s
+started seat (Refuses told) (step ∷ other ∷ steps) end s b = absurd s
+started seat (Opens asked scope next) (step ∷ other ∷ steps) end s b = absurd s
+started seat (Bares rest) (step ∷ other ∷ steps) end s b = absurd s
+started seat (Brackets rest) (step ∷ other ∷ steps) end s b = absurd s
+started seat (Shuts passes rest) (step ∷ other ∷ steps) end s b = absurd s
+started seat (Allocates rest) (step ∷ other ∷ steps) end s b = absurd s
+
+-- each request's tree goes on with the session, or begins it anew
+starts : (plan : Plan) (seat : HostSeat) (who : Context) (asked : Request) → Starts (tree_of plan seat who asked)
+starts plan seat who (request.Init capable) = elim [
+  | Event (event.Cleared era closings) ↦ inl tt
+  | told ↦ inr (refl, refl, refl)
+]
+starts plan seat who request.Destroy = elim [
+  | Event (event.Cleared era closings) ↦ inl tt
+  | told ↦ inr (refl, refl, refl)
+]
+starts plan seat who asked = elim [
+  | Event (event.Began era agreed) ↦ inl tt
+  | told ↦ inr (refl, refl, refl)
+]
+
+pub job_first : (plan : Plan) (seat : HostSeat) (asked : Asked) (steps : List Step) (end : Finish) →
+    Belongs (grammar_for plan seat asked) steps end → BeginsFirst steps
+job_first plan seat (Requests who asked) steps end b =
+    started seat (tree_of plan seat who asked) steps end (starts plan seat who asked) b
+job_first plan seat (Edits edit) [] end b = absurd b
+job_first plan seat (Edits edit) (step ∷ []) end b = tt
+job_first plan seat (Edits edit) (step ∷ more ∷ steps) end b = absurd b.1

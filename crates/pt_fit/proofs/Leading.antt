@@ -1,0 +1,147 @@
+-- A job that is answered with an entry: by which reply it went on, and that its other steps follow.
+use Rattle.std.proofs.Common.{◌≡◌, ◌⊎◌, inl, inr, ℕ, List, [], ◌∷◌, Option, Some, None, Bool, true, false, refl, sym}
+use Rattle.std.proofs.Common.{ap, subst, ◌∙◌, length}
+use Rattle.pt_host.specs.declared.seat.HostSeat.{HostSeat}
+use Rattle.pt_session.specs.Change.{Change}
+use Rattle.pt_session.specs.declared.reply.EventReply.{EventReply}
+use Rattle.pt_session.specs.declared.reply.EventReply.TheVariants as event
+use Rattle.pt_session.specs.declared.reply.EventRefusal.{EventRefusal}
+use Rattle.pt_session.specs.declared.reply.EventRefusal.TheVariants as refused
+use Rattle.pt_host.specs.declared.reply.HostReply.TheVariants as host
+use Rattle.pt_iface.specs.declared.answer.Answer.{Answer}
+use Rattle.pt_iface.specs.declared.answer.Answer.TheVariants as answer
+use Rattle.pt_frame.specs.Deed.{Deed, Changes, Step, IsStepOf}
+use Rattle.pt_frame.specs.Held.{held}
+use Rattle.pt_frame.specs.Replies.{closings_in, put_by, refusal, event_refusal, passes_with}
+use Rattle.pt_frame.specs.Grammar.{Grammar, Belongs}
+use Rattle.pt_frame.specs.Tree.{RequestTree, Gives, Refuses, Asks, Brackets, Shuts, framed, follows, may_give_up}
+use Rattle.pt_frame.specs.declared.act.ActReply.{ActReply}
+use Rattle.pt_frame.specs.declared.act.ActReply.TheVariants.{Event, Host, NoCopy}
+use Rattle.pt_frame.specs.declared.finish.Finish.{Finish}
+use Rattle.pt_frame.specs.declared.finish.Finish.TheVariants as finish
+use Rattle.pt_frame.specs.declared.hold.Hold.{Hold}
+use Rattle.pt_law.specs.Branch.{Along, IsLost, IsGivenUp}
+use Rattle.pt_law.specs.Naming.{made}
+use Rattle.pt_law.proofs.Branches.{branch, end_leave, Ended}
+
+lost_up : (end : Finish) → IsLost end → IsGivenUp end
+lost_up (finish.Lost errno) l = tt
+lost_up (finish.Answer last) l = absurd l
+
+ended_up : (end : Finish) → Ended (finish.Answer answer.NoMemory) end → IsGivenUp end
+ended_up end (inl e) = subst IsGivenUp (sym e) tt
+ended_up end (inr lost) = lost_up end lost
+
+-- what follows a reply that told no closings
+pub follows_plain : (seat : HostSeat) (wants : Bool) (count : ℕ) (holds : List Hold) (rest : Grammar)
+    (steps : List Step) (end : Finish) → count ≡ 0 → Belongs (follows seat wants count holds rest) steps end →
+    IsGivenUp end ⊎ Belongs rest steps end
+follows_plain seat wants count holds rest steps end e b =
+    go wants (subst (λ n. Belongs (follows seat wants n holds rest) steps end) e b)
+  where
+    go : (w : Bool) → Belongs (follows seat w 0 holds rest) steps end → IsGivenUp end ⊎ Belongs rest steps end
+    go false b = inr b
+    go true (inl b) =
+        inl (ended_up end (end_leave seat holds (finish.Answer answer.NoMemory) steps end b).0)
+    go true (inr b) = inr b
+
+-- an answer with an entry
+abbrev pub HasEntry : Answer → Type 0
+HasEntry last = passes_with last ≡ true
+
+-- what refuses has none
+event_no_entry : (why : EventRefusal) → HasEntry (event_refusal why) → ⊥
+event_no_entry refused.Memory e = cc
+event_no_entry why e = cc
+
+no_refusal : (told : ActReply) → HasEntry (refusal told) → ⊥
+no_refusal (Event (event.Refused why)) e = event_no_entry why e
+no_refusal (Host host.NoMemory) e = cc
+no_refusal told e = cc
+
+not_given_up : (last : Answer) → HasEntry last → IsGivenUp (finish.Answer last) → ⊥
+not_given_up answer.NoMemory p g = cc
+not_given_up last p g = g
+
+-- by these steps a job that is to do what the tree says comes to this answer, whatever it holds
+pub record Leads (seat : HostSeat) (tree : RequestTree) (steps : List Step) (last : Answer) : Type 0 where
+  pub holds : List Hold
+  pub marks : List ℕ
+  pub belongs : Belongs (framed seat tree holds marks) steps (finish.Answer last)
+
+-- an answer with an entry is that of a branch
+pub of_branch : (seat : HostSeat) (tree : RequestTree) (steps : List Step) (last : Answer) → HasEntry last →
+    Leads seat tree steps last → (path : List Step) × Along tree path last
+of_branch seat tree steps last p l =
+    elim (branch seat tree l.holds l.marks steps (finish.Answer last) l.belongs) [
+      | inl lost ↦ absurd lost
+      | inr (inl up) ↦ absurd (not_given_up last p (subst IsGivenUp (sym up.answered) tt))
+      | inr (inr r) ↦ let same : r.1 ≡ last = cc in (r.0, subst (Along tree r.0) same r.4)
+    ]
+
+pub refused_none : (seat : HostSeat) (told : ActReply) (steps : List Step) (last : Answer) → HasEntry last →
+    Leads seat (Refuses told) steps last → ⊥
+refused_none seat told steps last p l = let b = of_branch seat (Refuses told) steps last p l in go b.0 b.1
+  where
+    go : (path : List Step) → Along (Refuses told) path last → ⊥
+    go [] e = no_refusal told (ap passes_with (sym e) ∙ p)
+    go (step ∷ path) e = e
+
+pub given_none : (seat : HostSeat) (given last : Answer) (steps : List Step) → HasEntry last →
+    Leads seat (Gives given) steps last → last ≡ given
+given_none seat given last steps p l = let b = of_branch seat (Gives given) steps last p l in go b.0 b.1
+  where
+    go : (path : List Step) → Along (Gives given) path last → last ≡ given
+    go [] e = e
+    go (step ∷ path) e = absurd e
+
+pub shut_none : (seat : HostSeat) (given last : Answer) (steps : List Step) → HasEntry last →
+    Leads seat (Shuts true (Gives given)) steps last → last ≡ given
+shut_none seat given last steps p l =
+    let b = of_branch seat (Shuts true (Gives given)) steps last p l in go b.0 b.1
+  where
+    go : (path : List Step) → Along (Gives given) path last → last ≡ given
+    go [] e = e
+    go (step ∷ path) e = absurd e
+
+-- an event that tells no closings
+pub none_told : (asked : Change) → ((told : EventReply) → put_by asked told ≡ 0) → (told : ActReply) →
+    closings_in (Changes asked) told ≡ 0
+none_told asked f (Event told) = f told
+none_told asked f (Host told) = refl
+none_told asked f NoCopy = refl
+
+-- it goes on by this reply to the deed
+pub record GoesOn (seat : HostSeat) (deed : Deed) (next : ActReply → RequestTree) (steps : List Step) (last : Answer) :
+    Type 0 where
+  pub told : ActReply
+  pub rest : List Step
+  pub are : steps ≡ made deed told ∷ rest
+  pub on : Leads seat (next told) rest last
+
+pub goes_on : (seat : HostSeat) (deed : Deed) (next : ActReply → RequestTree) (steps : List Step) (last : Answer) →
+    next NoCopy ≡ Refuses NoCopy → ((told : ActReply) → closings_in deed told ≡ 0) → HasEntry last →
+    Leads seat (Asks deed next) steps last → GoesOn seat deed next steps last
+goes_on seat deed next [] last n none p l = absurd l.belongs
+goes_on seat deed next (step ∷ steps) last n none p l =
+    go step.deed step.reply l.belongs.0 (elim (follows_plain seat (may_give_up step.reply (next step.reply))
+    (closings_in deed step.reply) (held deed step.reply l.holds)
+    (framed seat (next step.reply) (held deed step.reply l.holds) l.marks) steps (finish.Answer last)
+    (none step.reply) l.belongs.1) [
+      | inl up ↦ absurd (not_given_up last p up)
+      | inr on ↦ record { holds = held deed step.reply l.holds; marks = l.marks; belongs = on }
+    ])
+  where
+    go : (did : Option Deed) (told : ActReply) → IsStepOf deed did told → Leads seat (next told) steps last →
+        GoesOn seat deed next (record { deed = did; reply = told } ∷ steps) last
+    go did NoCopy i on =
+        absurd (refused_none seat NoCopy steps last p (subst (λ tree. Leads seat tree steps last) n on))
+    go (Some same) told i on =
+        record { told = told; rest = steps; are = ap (λ (d : Deed). made d told ∷ steps) i; on = on }
+    go None told i on = absurd i
+
+-- a bracket asks nothing itself
+pub in_bracket : (seat : HostSeat) (rest : RequestTree) (steps : List Step) (last : Answer) →
+    Leads seat (Brackets rest) steps last → Leads seat rest steps last
+in_bracket seat rest steps last l =
+    record { holds = l.holds; marks = length l.holds ∷ l.marks; belongs = l.belongs }

@@ -1,0 +1,17 @@
+pub mod Holds
+pub mod Refused
+pub mod Parts
+pub mod Requests
+pub mod Fitting
+pub mod Edits
+pub mod Asked
+pub mod Answered
+pub mod Beginning
+pub mod Leading
+pub mod Looking
+pub mod Entered
+pub mod Forgotten
+pub mod ExampleJob
+pub mod ExampleRace
+pub mod ExampleOrigins
+pub mod ExampleEntered

@@ -1,0 +1,18 @@
+use Rattle.pt_fit.proofs.job.asked_ends.Goals as goal
+use Rattle.pt_fit.proofs.Asked.{comes_ends, job_full, job_caused, entry_asked}
+use Rattle.pt_fit.proofs.Beginning.{job_first}
+
+pub returns-clause-ends : goal.returns-clause-ends
+returns-clause-ends c = comes_ends
+
+pub returns-clause-full : goal.returns-clause-full
+returns-clause-full c = job_full
+
+pub returns-clause-causes : goal.returns-clause-causes
+returns-clause-causes c = job_caused
+
+pub returns-clause-begins : goal.returns-clause-begins
+returns-clause-begins c = job_first
+
+pub returns-clause-named : goal.returns-clause-named
+returns-clause-named c = entry_asked

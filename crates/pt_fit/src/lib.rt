@@ -1,0 +1,13 @@
+//! What each request owes: its tree is fit, what it refuses has its cause, and its entry names what its name led to.
+//! Contracts of functions that do nothing.
+#![tactic(auto)]
+
+mod entry;
+mod job;
+mod run;
+mod uses;
+
+pub use entry::{lookup_opens, part_looks_up, places_of_entry};
+pub use job::{asked_ends, each_request, edit_ends};
+pub use run::all_answered;
+pub use uses::gone_number;

@@ -1,0 +1,18 @@
+use Rattle.std.proofs.Common.{◌≡◌, ◌∷◌, ◌∙◌, sym, subst, ap, drop}
+use Rattle.pt_frame.specs.Grammar.{Wants}
+use Rattle.pt_frame.specs.Frame.{behind}
+use Rattle.pt_frame.specs.declared.act.Want.TheVariants as want
+use Rattle.pt_frame.proofs.Framing.{gives_wanted, left_now}
+use Rattle.pt_frame.proofs.machine.framed.Framed.want.Goals as goal
+
+pub returns-in-Some : goal.returns-in-Some
+returns-in-Some g c =
+    let at = c.self.inside in
+    let seat = c.args.seat.now in
+    let tree = g.B.Body.left at.body c.args.plan.now seat in
+    rw (← c.self.view_is) (subst (λ x. Wants x (want.Step c.giving.result))
+    (sym (left_now seat at.taken at.closings at.mode tree at.holds at.marks c.in-Nothing.is c.if-self-gt0.false))
+    (gives_wanted seat at.mode tree at.holds at.marks c.in-Some.hold _ c.giving.result c.in_default.not-Body
+    c.self.invariant.1 (subst (λ p. behind p at.holds ≡ c.in-Some.hold ∷ drop 1 (behind p at.holds))
+    c.passes_at.ensures
+    c.in-Some.ensures.some) c.giving.ensures))

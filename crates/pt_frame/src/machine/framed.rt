@@ -1,0 +1,321 @@
+ghost use Rattle.std.specs.Prelude.{◌≡◌, ◌⊎◌, ◌+◌, ◌*◌, ◌<◌, ◌≤◌, ℕ, [], true, false, Some, None, length, List, Bool};
+ghost use Rattle.std.specs.Prelude.{Option};
+ghost use Rattle.pt_host.specs.declared.ids.Errno.{Errno};
+ghost use Rattle.pt_host.specs.declared.seat.HostSeat.{HostSeat};
+ghost use Rattle.pt_frame.specs.Frame.{closings};
+ghost use Rattle.pt_frame.specs.Grammar.{IsChosen, after, told_closings, told_inserted};
+ghost use Rattle.pt_frame.specs.Past.{lost_after};
+ghost use Rattle.pt_frame.specs.Tree.{framed};
+ghost use Rattle.pt_frame.specs.Machine.Left.{mode_left, mode_counts, mode_begins, is_over, is_ready};
+ghost use Rattle.pt_frame.specs.Machine.Left.{is_giving_scope};
+ghost use Rattle.pt_frame.specs.Machine.Left.{Tells};
+ghost use Rattle.pt_frame.specs.Machine.Room.{most_holds};
+
+use crate::act::{Act, ActReply, Want};
+use crate::finish::Finish;
+use crate::hold::{Holds, Taken};
+use crate::machine::body::Body;
+use crate::machine::giving::{closings_in, fault_if, giving, or_first, refusal, taken_in};
+use crate::machine::holding::hold;
+use crate::machine::mode::{
+    Mode, end_of, entered, hold_given, is_giving_scope, is_over, passes_at,
+};
+use crate::marks::Marks;
+use pt_host::{Errno, HostOp, HostSeat};
+use pt_iface::Answer;
+use pt_session::Event;
+use std::marker::Model;
+use std::mem;
+
+/// A request on its way: its body, and what the frame owes. All calls of one job are given one plan, and the seat
+/// with which the job began.
+#[derive(Drop)]
+pub struct Framed<B: Body> {
+    body: B,
+    mode: Mode,
+    holds: Holds,
+    marks: Marks,
+    closings: u64,
+    taken: Taken,
+    lost: Option<Errno>,
+}
+
+impl<B: Body> Model for Framed<B> {
+    ghost use Rattle.std.specs.Prelude.{◌≡◌, ◌+◌, ◌≤◌, true, length};
+    ghost use Rattle.pt_frame.specs.Machine.Job.{Job};
+    ghost use Rattle.pt_frame.specs.Machine.Left.{mode_counts, mode_begins, is_ready, Tells};
+    ghost use Rattle.pt_frame.specs.Machine.Room.{most_holds};
+
+    ghost Value = { Job B };
+
+    ghost view = { λ framed. record {
+      body = framed.body;
+      at = record {
+        mode = framed.mode;
+        holds = framed.holds;
+        marks = framed.marks;
+        closings = framed.closings;
+        taken = framed.taken;
+        lost = framed.lost;
+      };
+    } };
+
+    ghost invariant = { λ framed.
+        (length framed.holds + length framed.marks + mode_begins framed.mode
+        + mode_counts framed.mode (B.room framed.body) ≤ most_holds)
+        × (is_ready framed.mode framed.holds framed.marks ≡ true)
+        × Tells framed.mode framed.lost };
+}
+
+fn go_to(mode: &mut Mode, next: Mode)
+    ensures { mode.new ≡ next }
+{
+    *mode = next;
+}
+
+/// After a step of the body: the mode, and how many closings the reply told.
+fn body_stepped<B: Body>(
+    body: &mut B,
+    holds: &mut Holds,
+    marks: &mut Marks,
+    plan: &B::Plan,
+    seat: &HostSeat,
+    reply: ActReply,
+) -> (Mode, u64)
+    requires room { length holds.old + length marks.old + B.room body.old ≤ most_holds }
+    ensures left { IsChosen (after reply
+        (framed seat.now (B.left body.old plan.now seat.now) holds.old marks.old))
+        (closings result.1 holds.new
+        (mode_left seat.now result.0 (B.left body.new plan.now seat.now) holds.new marks.new)) }
+    ensures told { result.1 ≡ told_closings
+        (framed seat.now (B.left body.old plan.now seat.now) holds.old marks.old) reply }
+    ensures fewer { length holds.new + mode_counts result.0 (B.acts body.new) < length holds.old + B.acts body.old }
+    ensures inserts { mode_counts result.0 (B.inserts body.new)
+        + told_inserted (framed seat.now (B.left body.old plan.now seat.now) holds.old marks.old) reply
+        ≤ B.inserts body.old }
+    ensures room { length holds.new + length marks.new + mode_begins result.0
+        + mode_counts result.0 (B.room body.new) ≤ most_holds }
+    ensures ready { is_ready result.0 holds.new marks.new ≡ true }
+    ensures tells { Tells result.0 None }
+{
+    let wanted = body.want(plan, seat);
+    let closings = closings_in(&wanted.act, &reply);
+    let refused = refusal(&reply);
+    hold(&wanted.act, wanted.opens, &reply, holds);
+    let next = body.take(plan, seat, reply);
+    let mode = entered(next, refused, holds, marks);
+    (mode, closings)
+}
+
+/// After the reply to what this mode wanted: the mode, and how many closings it told.
+fn moved<B: Body>(
+    mode: Mode,
+    body: &mut B,
+    holds: &mut Holds,
+    marks: &mut Marks,
+    plan: &B::Plan,
+    seat: &HostSeat,
+    reply: ActReply,
+) -> (Mode, u64)
+    requires going { is_over mode holds.old ≡ false }
+    requires ready { is_ready mode holds.old marks.old ≡ true }
+    requires room { length holds.old + length marks.old + mode_begins mode
+        + mode_counts mode (B.room body.old) ≤ most_holds }
+    ensures left { IsChosen (after reply
+        (mode_left seat.now mode (B.left body.old plan.now seat.now) holds.old marks.old))
+        (closings result.1 holds.new
+        (mode_left seat.now result.0 (B.left body.new plan.now seat.now) holds.new marks.new)) }
+    ensures told { result.1 ≡ told_closings
+        (mode_left seat.now mode (B.left body.old plan.now seat.now) holds.old marks.old) reply }
+    ensures fewer { length holds.new + mode_counts result.0 (B.acts body.new)
+        < length holds.old + mode_counts mode (B.acts body.old) }
+    ensures inserts { mode_counts result.0 (B.inserts body.new)
+        + told_inserted (mode_left seat.now mode (B.left body.old plan.now seat.now) holds.old marks.old) reply
+        ≤ mode_counts mode (B.inserts body.old) }
+    ensures room { length holds.new + length marks.new + mode_begins result.0
+        + mode_counts result.0 (B.room body.new) ≤ most_holds }
+    ensures ready { is_ready result.0 holds.new marks.new ≡ true }
+    ensures tells { (lost : Option Errno) → Tells mode lost →
+        Tells result.0 (lost_after lost (is_giving_scope mode holds.old) reply) }
+{
+    match mode {
+        Mode::Body => body_stepped(body, holds, marks, plan, seat, reply),
+        _ => hold_given(mode, holds, marks, seat, &reply),
+    }
+}
+
+impl<B: Body> Framed<B> {
+    ghost use Rattle.pt_frame.specs.Frame.{cut};
+    ghost use Rattle.pt_frame.specs.Grammar.{End, IsDo, IsSettled, Wants, owed_by, is_end, restores, events_first};
+    ghost use Rattle.pt_frame.specs.Grammar.{told_slots};
+    ghost use Rattle.pt_frame.specs.Tree.{RequestTree, grammar_of_tree};
+    ghost use Rattle.pt_frame.specs.Machine.Job.{owes, steps_left, steps_bound, own_left, events_left, inserts_left};
+    ghost use Rattle.pt_frame.specs.Machine.Job.{is_finished, restores_now};
+    ghost use Rattle.pt_frame.specs.Machine.Left.{IsTold};
+
+    /// A job that has made no step.
+    pub fn start(body: B) -> Self
+        requires { B.room body ≤ most_holds }
+        ensures body { result.body ≡ body }
+        ensures left { (seat : HostSeat) (tree : RequestTree) → owes seat result.at tree ≡ grammar_of_tree seat tree }
+        ensures bound { (acts : ℕ) → steps_bound result.at acts ≡ acts }
+        ensures own { (acts : ℕ) → own_left result.at acts ≡ acts }
+        ensures events { (acts : ℕ) → events_left result.at acts ≡ acts }
+        ensures inserts { (inserts : ℕ) → inserts_left result.at inserts ≡ inserts }
+        ensures lost { result.at.lost ≡ None }
+    {
+        Framed {
+            body,
+            mode: Mode::Body,
+            holds: Holds::new(),
+            marks: Marks::new(),
+            closings: 0,
+            taken: Taken::Nothing,
+            lost: None,
+        }
+    }
+
+    /// What it wants next, which takes no memory.
+    pub fn want<'a>(&'a self, plan: &'a B::Plan, seat: &'a HostSeat) -> Want<'a>
+        ensures { Wants (owes seat.now self.now.at (B.left self.now.body plan.now seat.now)) result }
+    {
+        match self.taken {
+            Taken::Fd { fd, .. } => return Want::Step(Act::Host(HostOp::Close { fd })),
+            Taken::Slot => return Want::Step(Act::Event(Event::GiveFd)),
+            Taken::Nothing => {}
+        }
+        if self.closings > 0 {
+            return Want::Step(Act::Event(Event::TakeClosing));
+        }
+        if let Mode::Body = &self.mode {
+            return Want::Step(self.body.want(plan, seat).act);
+        }
+        match self.holds.next(passes_at(&self.mode)) {
+            None => Want::Finished,
+            Some(hold) => Want::Step(giving(hold, seat)),
+        }
+    }
+
+    /// Goes on from the reply of the act that was wanted.
+    #[tactic(auto, using(crate::proofs::Counting::first_most))]
+    pub fn take(&mut self, plan: &B::Plan, seat: &HostSeat, reply: ActReply)
+        requires { is_finished self.old.at ≡ false }
+        ensures left { IsChosen
+            (after reply (owes seat.now self.old.at (B.left self.old.body plan.now seat.now)))
+            (owes seat.now self.new.at (B.left self.new.body plan.now seat.now)) }
+        ensures lost { self.new.at.lost ≡ lost_after self.old.at.lost (restores_now self.old.at) reply }
+        ensures fewer { steps_left self.new.at (B.acts self.new.body)
+            < steps_left self.old.at (B.acts self.old.body) }
+        ensures within { steps_bound self.new.at (B.acts self.new.body) + 1
+            ≤ steps_bound self.old.at (B.acts self.old.body)
+            + 3 * told_closings (owes seat.now self.old.at (B.left self.old.body plan.now seat.now)) reply }
+        ensures own { own_left self.new.at (B.acts self.new.body) ≤ own_left self.old.at (B.acts self.old.body) }
+        ensures slot { events_left self.new.at (B.acts self.new.body)
+            ≤ own_left self.new.at (B.acts self.new.body) + 1 }
+        ensures events { events_left self.new.at (B.acts self.new.body)
+            + events_first (owes seat.now self.old.at (B.left self.old.body plan.now seat.now))
+            ≤ events_left self.old.at (B.acts self.old.body)
+            + told_slots (owes seat.now self.old.at (B.left self.old.body plan.now seat.now)) reply }
+        ensures inserts { inserts_left self.new.at (B.inserts self.new.body)
+            + told_inserted (owes seat.now self.old.at (B.left self.old.body plan.now seat.now)) reply
+            ≤ inserts_left self.old.at (B.inserts self.old.body) }
+    {
+        match self.taken {
+            Taken::Fd { slot, .. } => {
+                self.taken = if slot { Taken::Slot } else { Taken::Nothing };
+                return;
+            }
+            Taken::Slot => {
+                self.taken = Taken::Nothing;
+                return;
+            }
+            Taken::Nothing => {}
+        }
+        if self.closings > 0 {
+            self.closings -= 1;
+            self.taken = taken_in(&reply);
+            return;
+        }
+        let restores = is_giving_scope(&self.mode, &self.holds);
+        self.lost = or_first(fault_if(restores, &reply), self.lost);
+        let mode = mem::replace(&mut self.mode, Mode::Body);
+        let (mode, closings) = moved(
+            mode,
+            &mut self.body,
+            &mut self.holds,
+            &mut self.marks,
+            plan,
+            seat,
+            reply,
+        );
+        go_to(&mut self.mode, mode);
+        self.closings = closings;
+    }
+
+    pub fn is_finished(&self) -> bool
+        ensures result { result ≡ is_finished self.now.at }
+        ensures end { (plan : B.Plan) (seat : HostSeat) →
+            is_end (owes seat self.now.at (B.left self.now.body plan seat)) ≡ result }
+    {
+        match self.taken {
+            Taken::Nothing => {}
+            _ => return false,
+        }
+        if self.closings > 0 {
+            return false;
+        }
+        is_over(&self.mode, &self.holds)
+    }
+
+    /// Leaves out all but what is owed.
+    pub fn cut(&mut self)
+        requires { is_finished self.old.at ≡ false }
+        ensures body { self.new.body ≡ self.old.body }
+        ensures left { (plan : B.Plan) (seat : HostSeat) →
+            owes seat self.new.at (B.left self.new.body plan seat)
+            ≡ cut seat (owed_by (owes seat self.old.at (B.left self.old.body plan seat))) }
+        ensures stood { (plan : B.Plan) (seat : HostSeat) →
+            IsDo (owes seat self.old.at (B.left self.old.body plan seat)) }
+        ensures lost { self.new.at.lost ≡ self.old.at.lost }
+        ensures bound { (acts : ℕ) → steps_bound self.new.at acts ≤ steps_bound self.old.at acts }
+        ensures inserts { (inserts : ℕ) → inserts_left self.new.at inserts ≡ 0 }
+    {
+        go_to(&mut self.mode, Mode::Leave(Finish::Answer(Answer::Cut)));
+    }
+
+    /// What the first refused restoring step was answered, also where the job was cut.
+    pub fn lost(&self) -> Option<Errno>
+        ensures { result ≡ self.now.at.lost }
+    {
+        self.lost
+    }
+
+    /// Whether the wanted step is to restore the seat.
+    pub fn restoring(&self) -> bool
+        ensures result { result ≡ restores_now self.now.at }
+        ensures restores { (plan : B.Plan) (seat : HostSeat) →
+            result ≡ restores (owes seat self.now.at (B.left self.now.body plan seat)) }
+        ensures unfinished { result ≡ true → is_finished self.now.at ≡ false }
+        ensures settled { (plan : B.Plan) (seat : HostSeat) →
+            IsSettled (owes seat self.now.at (B.left self.now.body plan seat)) }
+    {
+        match self.taken {
+            Taken::Nothing => {}
+            _ => return false,
+        }
+        if self.closings > 0 {
+            return false;
+        }
+        is_giving_scope(&self.mode, &self.holds)
+    }
+
+    /// How it ends. A seat that was lost is told, but where the job was cut.
+    pub fn finish(self) -> Finish
+        requires { is_finished self.at ≡ true }
+        ensures left { (plan : B.Plan) (seat : HostSeat) →
+            owes seat self.at (B.left self.body plan seat) ≡ End result }
+        ensures lost { IsTold result self.at.lost }
+    {
+        end_of(self.mode)
+    }
+}

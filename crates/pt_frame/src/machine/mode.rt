@@ -1,0 +1,331 @@
+ghost use Rattle.std.specs.Prelude.{◌≡◌, ◌≢◌, ◌+◌, ◌<◌, ◌≤◌, ℕ, List, [], ◌∷◌, length, true, false, Some, None};
+ghost use Rattle.std.specs.Prelude.{IfSome, IfNone};
+ghost use Rattle.pt_host.specs.declared.seat.HostSeat.{HostSeat};
+ghost use Rattle.pt_frame.specs.Frame.{answered, closings, front, behind, under};
+ghost use Rattle.pt_frame.specs.Grammar.{after, told_closings, told_inserted};
+ghost use Rattle.pt_host.specs.declared.ids.Errno.{Errno};
+ghost use Rattle.std.specs.Prelude.{Option};
+ghost use Rattle.pt_frame.specs.Past.{lost_after, or_first};
+ghost use Rattle.pt_frame.specs.Tree.{RequestTree};
+ghost use Rattle.pt_frame.specs.Machine.Left.{tops, is_above, marked, ended, edges_left, tail_left, then_left};
+ghost use Rattle.pt_frame.specs.Machine.Left.{next_left, mode_left, passes_at, is_ready, is_over, is_giving_scope};
+ghost use Rattle.pt_frame.specs.Machine.Left.{Tells, end_of, given_left, tail_counts, mode_counts, mode_begins};
+ghost use Rattle.pt_frame.specs.Machine.Next.{then_counts, counts_after, begun_by, begun_in};
+ghost use Rattle.pt_frame.specs.Machine.Room.{most_holds};
+ghost use Rattle.pt_frame.specs.declared.hold.Hold.{Hold};
+ghost use Rattle.pt_frame.specs.declared.machine.mode.Mode.TheVariants.{Body};
+
+use crate::act::ActReply;
+use crate::finish::Finish;
+use crate::hold::{Hold, Holds};
+use crate::machine::body::{Edges, Next, Shut, Then};
+use crate::machine::giving::{closings_in, fault_if, giving, is_scope, passes_with, restored};
+use crate::marks::Marks;
+use pt_host::{Errno, HostSeat};
+use pt_iface::Answer;
+
+/// What follows the end of scopes and of a bracket.
+#[derive(Debug, Drop)]
+pub enum Tail {
+    /// The body goes on.
+    Goes,
+    Gives(Answer),
+    /// A refusal is answered, and all is given back.
+    Refuses(Answer),
+}
+
+/// What the frame is at.
+#[derive(Debug, Drop)]
+pub enum Mode {
+    Body,
+    /// Scopes end, or a bracket does.
+    Edge { edges: Edges, tail: Tail },
+    /// All is given back but the hold that passes with the answer, which is the last one.
+    Out(Answer),
+    Leave(Finish),
+}
+
+/// Whether a scope lies on top.
+pub fn tops(holds: &Holds) -> bool
+    ensures { result ≡ tops holds.now }
+{
+    match holds.next(false) {
+        Some(hold) => is_scope(hold),
+        None => false,
+    }
+}
+
+/// Whether the last hold passes what is given back next.
+pub fn passes_at(mode: &Mode) -> bool
+    ensures { result ≡ passes_at mode.now }
+{
+    match mode {
+        Mode::Edge { edges, .. } => match edges.shuts {
+            Some(shut) => !edges.bares && shut.passes,
+            None => false,
+        },
+        Mode::Out(_) => true,
+        Mode::Body | Mode::Leave(_) => false,
+    }
+}
+
+/// Whether the hold that is given back next is a scope.
+pub fn is_giving_scope(mode: &Mode, holds: &Holds) -> bool
+    ensures { result ≡ is_giving_scope mode.now holds.now }
+{
+    if let Mode::Body = mode {
+        return false;
+    }
+    match holds.next(passes_at(mode)) {
+        Some(hold) => is_scope(hold),
+        None => false,
+    }
+}
+
+/// Whether nothing is left but the end.
+pub fn is_over(mode: &Mode, holds: &Holds) -> bool
+    ensures { result ≡ is_over mode.now holds.now }
+{
+    match mode {
+        Mode::Body | Mode::Edge { .. } => false,
+        Mode::Out(_) | Mode::Leave(_) => match holds.next(passes_at(mode)) {
+            Some(_) => false,
+            None => true,
+        },
+    }
+}
+
+/// How a mode ends in which nothing is left.
+pub fn end_of(mode: Mode) -> Finish
+    ensures { result ≡ end_of mode }
+{
+    match mode {
+        Mode::Leave(last) => last,
+        Mode::Out(answer) => Finish::Answer(answer),
+        Mode::Body | Mode::Edge { .. } => Finish::Answer(Answer::NoMemory),
+    }
+}
+
+/// Takes the hold that is given back next.
+pub fn take_next(passes: bool, holds: &mut Holds) -> Option<Hold>
+    requires { length holds.old ≤ most_holds }
+    ensures some { IfSome result (λ one. behind passes holds.old ≡ one ∷ behind passes holds.new) }
+    ensures none { IfNone result (behind passes holds.old ≡ []) }
+    ensures same { IfNone result (holds.new ≡ holds.old) }
+    ensures front { front passes holds.new ≡ front passes holds.old }
+    ensures length { IfSome result (λ one. length holds.new + 1 ≡ length holds.old) }
+{
+    if !passes {
+        return holds.pop();
+    }
+    match holds.pop() {
+        Some(top) => {
+            let one = holds.pop();
+            holds.push(top);
+            one
+        }
+        None => None,
+    }
+}
+
+/// A request is answered: all is given back, but what passes with the answer.
+fn answered(answer: Answer, holds: &Holds) -> Mode
+    ensures left { (seat : HostSeat) (tree : RequestTree) (marks : List ℕ) →
+        mode_left seat result tree holds.now marks ≡ answered seat answer holds.now }
+    ensures ready { (marks : List ℕ) → is_ready result holds.now marks ≡ true }
+    ensures tells { Tells result None }
+    ensures counts { (count : ℕ) → mode_counts result count ≡ 0 }
+    ensures begins { mode_begins result ≡ 0 }
+{
+    match holds.next(false) {
+        Some(_) if passes_with(&answer) => Mode::Out(answer),
+        _ => Mode::Leave(Finish::Answer(answer)),
+    }
+}
+
+/// What follows where nothing ends any more.
+fn followed(tail: Tail, holds: &Holds) -> Mode
+    ensures left { (seat : HostSeat) (tree : RequestTree) (marks : List ℕ) →
+        mode_left seat result tree holds.now marks ≡ tail_left seat tail tree holds.now marks }
+    ensures ready { (marks : List ℕ) → is_ready result holds.now marks ≡ true }
+    ensures tells { Tells result None }
+    ensures counts { (count : ℕ) → mode_counts result count ≤ tail_counts tail count }
+    ensures begins { mode_begins result ≡ 0 }
+{
+    match tail {
+        Tail::Goes => Mode::Body,
+        Tail::Gives(answer) => answered(answer, holds),
+        Tail::Refuses(answer) => Mode::Leave(Finish::Answer(answer)),
+    }
+}
+
+/// A bracket begins, or none, and then this follows.
+fn begun(brackets: bool, tail: Tail, holds: &Holds, marks: &mut Marks) -> Mode
+    requires holds { length holds.now ≤ most_holds }
+    requires marks { length marks.old + begun_by brackets ≤ most_holds }
+    ensures left { (seat : HostSeat) (tree : RequestTree) →
+        mode_left seat result tree holds.now marks.new
+        ≡ tail_left seat tail tree holds.now (marked brackets holds.now marks.old) }
+    ensures ready { is_ready result holds.now marks.new ≡ true }
+    ensures tells { Tells result None }
+    ensures counts { (count : ℕ) → mode_counts result count ≤ tail_counts tail count }
+    ensures begins { length marks.new + mode_begins result ≤ length marks.old + begun_by brackets }
+{
+    if brackets {
+        marks.push(holds.len());
+    }
+    followed(tail, holds)
+}
+
+/// Whether a bracket has holds above its mark.
+fn is_above(shut: Shut, holds: &Holds, marks: &Marks) -> bool
+    ensures { result ≡ is_above (Some shut) holds.now marks.now }
+{
+    let there = holds.len();
+    if shut.passes && there > 0 {
+        marks.innermost() < there - 1
+    } else {
+        marks.innermost() < there
+    }
+}
+
+/// A bracket ends, where one does that has holds above its mark, and then this follows.
+fn shut_on(edges: Edges, tail: Tail, holds: &Holds, marks: &mut Marks) -> Mode
+    requires holds { length holds.now ≤ most_holds }
+    requires marks { length marks.old + begun_by edges.brackets ≤ most_holds }
+    ensures left { (seat : HostSeat) (tree : RequestTree) →
+        mode_left seat result tree holds.now marks.new
+        ≡ ended seat edges.shuts holds.now marks.old (λ kept above.
+        tail_left seat tail tree kept (marked edges.brackets kept above)) }
+    ensures ready { is_ready result holds.now marks.new ≡ true }
+    ensures tells { Tells result None }
+    ensures counts { (count : ℕ) → mode_counts result count ≤ tail_counts tail count }
+    ensures begins { length marks.new + mode_begins result ≤ length marks.old + begun_by edges.brackets }
+{
+    match edges.shuts {
+        Some(shut) if is_above(shut, holds, marks) => {
+            let bares = false;
+            let edges = Edges { bares, ..edges };
+            Mode::Edge { edges, tail }
+        }
+        Some(_) => {
+            marks.pop();
+            begun(edges.brackets, tail, holds, marks)
+        }
+        None => begun(edges.brackets, tail, holds, marks),
+    }
+}
+
+/// The open scopes end, where there is one, then a bracket, and then this follows.
+fn go_over(edges: Edges, tail: Tail, holds: &Holds, marks: &mut Marks) -> Mode
+    requires holds { length holds.now ≤ most_holds }
+    requires marks { length marks.old + begun_by edges.brackets ≤ most_holds }
+    ensures left { (seat : HostSeat) (tree : RequestTree) →
+        mode_left seat result tree holds.now marks.new
+        ≡ edges_left seat edges (tail_left seat tail tree) holds.now marks.old }
+    ensures ready { is_ready result holds.now marks.new ≡ true }
+    ensures tells { Tells result None }
+    ensures counts { (count : ℕ) → mode_counts result count ≤ tail_counts tail count }
+    ensures begins { length marks.new + mode_begins result ≤ length marks.old + begun_by edges.brackets }
+{
+    if edges.bares && tops(holds) {
+        return Mode::Edge { edges, tail };
+    }
+    shut_on(edges, tail, holds, marks)
+}
+
+/// After a hold was given back in this mode.
+fn given(mode: Mode, fault: Option<Errno>, holds: &Holds, marks: &mut Marks) -> Mode
+    requires other { mode ≢ Body }
+    requires holds { length holds.now ≤ most_holds }
+    requires marks { length marks.old + mode_begins mode ≤ most_holds }
+    requires some { passes_at mode ≡ true → 0 < length holds.now }
+    ensures left { (seat : HostSeat) (tree : RequestTree) →
+        mode_left seat result tree holds.now marks.new ≡ given_left seat mode fault tree holds.now marks.old }
+    ensures ready { is_ready result holds.now marks.new ≡ true }
+    ensures tells { (lost : Option Errno) → Tells mode lost → Tells result (or_first fault lost) }
+    ensures counts { (count : ℕ) → mode_counts result count ≤ mode_counts mode count }
+    ensures begins { length marks.new + mode_begins result ≤ length marks.old + mode_begins mode }
+{
+    match mode {
+        Mode::Body => Mode::Body,
+        Mode::Leave(last) => Mode::Leave(restored(last, fault)),
+        Mode::Edge { edges, tail } => match fault {
+            Some(errno) => Mode::Leave(Finish::Lost(errno)),
+            None => go_over(edges, tail, holds, marks),
+        },
+        Mode::Out(answer) => match fault {
+            Some(errno) => Mode::Leave(Finish::Lost(errno)),
+            None => Mode::Out(answer),
+        },
+    }
+}
+
+/// After the hold was given back that this mode gives back next.
+pub fn hold_given(
+    mode: Mode,
+    holds: &mut Holds,
+    marks: &mut Marks,
+    seat: &HostSeat,
+    reply: &ActReply,
+) -> (Mode, u64)
+    requires other { mode ≢ Body }
+    requires going { is_over mode holds.old ≡ false }
+    requires ready { is_ready mode holds.old marks.old ≡ true }
+    requires holds { length holds.old ≤ most_holds }
+    requires marks { length marks.old + mode_begins mode ≤ most_holds }
+    ensures left { (tree : RequestTree) →
+        after reply.now (mode_left seat.now mode tree holds.old marks.old)
+        ≡ closings result.1 holds.new (mode_left seat.now result.0 tree holds.new marks.new) }
+    ensures told { (tree : RequestTree) →
+        result.1 ≡ told_closings (mode_left seat.now mode tree holds.old marks.old) reply.now }
+    ensures inserted { (tree : RequestTree) →
+        told_inserted (mode_left seat.now mode tree holds.old marks.old) reply.now ≡ 0 }
+    ensures ready { is_ready result.0 holds.new marks.new ≡ true }
+    ensures tells { (lost : Option Errno) → Tells mode lost →
+        Tells result.0 (lost_after lost (is_giving_scope mode holds.old) reply.now) }
+    ensures fewer { length holds.new + 1 ≡ length holds.old }
+    ensures counts { (count : ℕ) → mode_counts result.0 count ≤ mode_counts mode count }
+    ensures begins { length marks.new + mode_begins result.0 ≤ length marks.old + mode_begins mode }
+{
+    match take_next(passes_at(&mode), holds) {
+        None => (mode, 0),
+        Some(hold) => {
+            let fault = fault_if(is_scope(hold), reply);
+            let count = closings_in(&giving(hold, seat), reply);
+            let mode = given(mode, fault, holds, marks);
+            (mode, count)
+        }
+    }
+}
+
+/// What follows, if a refusal is answered so.
+fn tail_of(then: Then, refused: Answer) -> Tail
+    ensures left { (seat : HostSeat) (tree : RequestTree) (holds : List Hold) (marks : List ℕ) →
+        tail_left seat result tree holds marks ≡ then_left seat then refused tree holds marks }
+    ensures counts { (count : ℕ) → tail_counts result count ≡ then_counts then count }
+{
+    match then {
+        Then::Goes => Tail::Goes,
+        Then::Gives(answer) => Tail::Gives(answer),
+        Then::Refuses => Tail::Refuses(refused),
+    }
+}
+
+/// After a step of the body, where its reply's holds are held, if a refusal is answered so.
+pub fn entered(next: Next, refused: Answer, holds: &Holds, marks: &mut Marks) -> Mode
+    requires holds { length holds.now ≤ most_holds }
+    requires marks { length marks.old + begun_in next ≤ most_holds }
+    ensures left { (seat : HostSeat) (tree : RequestTree) →
+        mode_left seat result tree holds.now marks.new ≡ next_left seat next refused tree holds.now marks.old }
+    ensures ready { is_ready result holds.now marks.new ≡ true }
+    ensures tells { Tells result None }
+    ensures counts { (count : ℕ) → mode_counts result count ≤ counts_after next count }
+    ensures begins { length marks.new + mode_begins result ≤ length marks.old + begun_in next }
+{
+    match next {
+        Next::At(then) => followed(tail_of(then, refused), holds),
+        Next::Over { edges, then } => go_over(edges, tail_of(then, refused), holds, marks),
+        Next::NoMemory => Mode::Leave(Finish::Answer(Answer::NoMemory)),
+    }
+}

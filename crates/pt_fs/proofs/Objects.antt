@@ -1,0 +1,228 @@
+-- The laws of whole runs that speak of objects, read for a trace over a host that tells its tree.
+use Rattle.std.proofs.Common.{◌≡◌, ◌⊎◌, inl, inr, ◌++◌, ◌∙◌, ℕ, List, [], ◌∷◌, Option, Some, ap, subst, refl}
+use Rattle.std.proofs.Common.{length, append-nil}
+use Rattle.pt_host.specs.declared.ids.ObjIds.{ObjIds}
+use Rattle.pt_host.specs.Tree.{Tree, IsWellFormed}
+use Rattle.pt_session.specs.Tables.{Tables, empty_tables}
+use Rattle.pt_iface.specs.declared.answer.Answer.{Answer}
+use Rattle.pt_iface.specs.declared.answer.Answer.TheVariants as answer
+use Rattle.pt_iface.specs.declared.entry.Entry.{Entry}
+use Rattle.pt_iface.specs.declared.request.Context.{Context}
+use Rattle.pt_iface.specs.declared.request.Request.TheVariants as request
+use Rattle.pt_frame.specs.Deed.{kept_deed_of}
+use Rattle.pt_frame.specs.Grammar.{Belongs}
+use Rattle.pt_frame.specs.Made.{Does}
+use Rattle.pt_frame.specs.declared.finish.Finish.TheVariants as finish
+use Rattle.pt_req.specs.declared.plan.Plan.{Plan}
+use Rattle.pt_attr.specs.Pattern.{Asked, Requests, grammar_of, grammar_for}
+use Rattle.pt_law.specs.Giving.{GivingPlaces, up_to}
+use Rattle.pt_law.specs.Discipline.{AreDisciplined}
+use Rattle.pt_law.specs.Laws.{AreKept, NamesOpen, ObjectOf, Starts}
+use Rattle.pt_law.specs.Told.{AllMayBeTold}
+use Rattle.pt_law.specs.Uses.{StaysLive}
+use Rattle.pt_law.specs.World.{Turn, World, no_past, Runs as WorldRuns, steps_of}
+use Rattle.pt_law.proofs.Cuts.{runs_split}
+use Rattle.pt_law.proofs.Giving.{two_lookups_law}
+use Rattle.pt_law.proofs.Hosts.{Tells, hosts_told, hosts_world}
+use Rattle.pt_law.proofs.Laws.{ended_jobs, distinct_law, object_law, handles_law, kept_law, leaves_law}
+use Rattle.pt_law.proofs.Next.{named_law}
+use Rattle.pt_law.proofs.Told.{Promises}
+use Rattle.pt_law.proofs.Tracing.{origins_law}
+use Rattle.pt_fit.specs.Entered.{IsEntered, name_asked}
+use Rattle.pt_fit.proofs.Asked.{entry_asked}
+use Rattle.pt_fit.proofs.Entered.{look_places, entered_law}
+use Rattle.pt_fit.proofs.Looking.{looked_up}
+use Rattle.pt_fs.specs.Jobs.{job_start, job_grammar, asked_of}
+use Rattle.pt_fs.specs.Keeps.{turn_of, turns_of, AfterEachTold, LeadsOn, begins_in, KeepsObjects, ServesEach}
+use Rattle.pt_fs.specs.Keeps.{OfEachJob, IsNamedIn, NamesOpenOnes, LeavesOpen, AgreeOnNumbers, ComeFromNames}
+use Rattle.pt_fs.specs.Trace.{steps_by}
+use Rattle.pt_fs.specs.declared.job.Job.{Job}
+use Rattle.pt_fs.specs.declared.trace.TraceStep.{TraceStep}
+use Rattle.pt_fs.proofs.Ended.{belongs_by}
+use Rattle.pt_fs.proofs.Laws.{Ran, host_runs, steps_same, ended_of, turns-append, cut_at}
+use Rattle.pt_fs.proofs.Uncalled.{AreUncalled, formed, uncalled_front, uncalled_at, no_rows, no_handles, keeps_none}
+use Rattle.pt_fs.proofs.Uncalled.{leaves_none, names_none, no_places, no_objects, unobjected}
+
+-- those that speak of objects, over a host that tells its tree
+pub record KeepsTold (plan : Plan) (jobs : List Job) (told : Option Tree) (tables : Tables) (trace : List TraceStep)
+    (answers : List Answer) (told' : Option Tree) (tables' : Tables) : Type 0 where
+  pub leads_on : LeadsOn told tables trace told' tables'
+  pub distinct : AfterEachTold told tables trace (λ start so_far now. KeepsObjects now)
+  pub serves : AfterEachTold told tables trace (λ start so_far now. ServesEach now)
+  pub descriptors : AfterEachTold told tables trace (λ start so_far now. AreKept start (length jobs) so_far now)
+  pub named : NamesOpenOnes told tables trace
+  pub leaves : LeavesOpen told tables trace
+  pub entries : OfEachJob jobs answers (IsNamedIn plan told tables trace)
+  pub two_lookups : AgreeOnNumbers plan told tables trace
+  pub origins : AfterEachTold told tables trace ComeFromNames
+
+-- an entry names what its name led to, in the world in which the run begins
+entered_from : (limit : ℕ) (plan : Plan) (jobs : List Job) (start : World) (turns : List Turn) (j : ℕ) (job : Job)
+    (who : Context) (parent : ℕ) (name : List ℕ) (entry : Entry) → start.tables ≡ empty_tables limit →
+    start.past ≡ no_past → AreUncalled turns ⊎ IsWellFormed start.tree → AreDisciplined (length jobs) turns →
+    asked_of job ≡ Requests who (request.Lookup parent name) →
+    Belongs (job_grammar plan job) (steps_of j turns) (finish.Answer (answer.Entry entry)) →
+    IsEntered plan start turns j parent name entry
+entered_from limit plan jobs start turns j job who parent name entry begins past known disciplined asked b =
+    let looked : Belongs (grammar_of plan (job_start job) who (request.Lookup parent name)) (steps_of j turns)
+    (finish.Answer (answer.Entry entry)) =
+    subst (λ (r : Asked). Belongs (grammar_for plan (job_start job) r) (steps_of j turns)
+    (finish.Answer (answer.Entry entry))) asked b in
+    elim known [
+      | inl u ↦
+          let e = looked_up plan (job_start job) who parent name entry (steps_of j turns) looked in
+          let places = look_places plan turns j parent name entry e.0 e.1 [] e.2 e.3 e.4 e.5 in
+          absurd (no_places u places.given)
+      | inr well ↦ entered_law limit (length jobs) plan (job_start job) who turns start j parent name entry
+          (record { tables = begins; well_formed = well; past = past }) disciplined looked
+    ]
+
+entered_by : (limit : ℕ) (plan : Plan) (jobs : List Job) (told : Option Tree) (tables : Tables)
+    (trace : List TraceStep) → tables ≡ empty_tables limit → AreDisciplined (length jobs) (turns_of trace) →
+    ((tree : Tree) → told ≡ Some tree → AreUncalled (turns_of trace) ⊎ IsWellFormed tree) →
+    (j : ℕ) (job : Job) (given : Answer) → AllMayBeTold (steps_of j (turns_of trace)) →
+    Belongs (job_grammar plan job) (steps_of j (turns_of trace)) (finish.Answer given) →
+    IsNamedIn plan told tables trace j job given
+entered_by limit plan jobs told tables trace begins disciplined known j job (answer.Entry entry) may b =
+    let named = entry_asked plan (job_start job) (asked_of job) (steps_of j (turns_of trace)) entry may b in (
+      named.1,
+      named.2,
+      ap name_asked named.3,
+      (λ tree is.
+          entered_from limit plan jobs (begins_in tree tables) (turns_of trace) j job named.0 named.1 named.2 entry
+          begins refl (known tree is) disciplined named.3 b),
+    )
+entered_by limit plan jobs told tables trace begins disciplined known j job given may b = tt
+
+-- what holds in the world in which the run begins, after the steps so far and the world to which they led
+module _ (limit bound : ℕ) (start now : World) (trace so_far rest : List TraceStep)
+    (begins : start.tables ≡ empty_tables limit) (past : start.past ≡ no_past)
+    (known : AreUncalled (turns_of trace) ⊎ IsWellFormed start.tree) (e : trace ≡ so_far ++ rest)
+    (d : AreDisciplined bound (turns_of trace)) (r : WorldRuns start (turns_of so_far) now) where
+  d_cut : AreDisciplined bound (turns_of so_far ++ turns_of rest)
+  d_cut = cut_at bound trace so_far rest e d
+
+  quiet : AreUncalled (turns_of trace) → AreUncalled (turns_of so_far)
+  quiet u = uncalled_front (turns_of so_far) (turns_of rest)
+      (subst AreUncalled (ap turns_of e ∙ turns-append so_far rest) u)
+
+  starts : IsWellFormed start.tree → Starts limit start
+  starts well = record { tables = begins; well_formed = well; past = past }
+
+  pub objects_kept : KeepsObjects now
+  objects_kept = elim known [
+    | inl u ↦ unobjected now
+        (no_rows limit bound (turns_of so_far) (turns_of rest) start now begins (quiet u) r d_cut)
+    | inr well ↦ record {
+      distinct = distinct_law limit bound (turns_of so_far) (turns_of rest) start now (starts well) d_cut r;
+      open_on = λ row at live.
+          object_law limit bound (turns_of so_far) (turns_of rest) start now row (starts well) d_cut r at live;
+    }
+  ]
+
+  pub each_served : ServesEach now
+  each_served row at = elim known [
+    | inl u ↦ absurd
+        (no_handles limit bound (turns_of so_far) (turns_of rest) start now begins (quiet u) r d_cut row at)
+    | inr well ↦ handles_law limit bound (turns_of so_far) (turns_of rest) start now row (starts well) d_cut r at
+  ]
+
+  pub all_kept : AreKept start bound (turns_of so_far) now
+  all_kept = elim known [
+    | inl u ↦ keeps_none limit bound (turns_of so_far) (turns_of rest) start now begins (quiet u) r d_cut
+    | inr well ↦ kept_law limit bound (turns_of so_far) (turns_of rest) start now (starts well) d_cut r
+  ]
+
+  pub named_before : ComeFromNames start (turns_of so_far) now
+  named_before number object is = elim known [
+    | inl u ↦ absurd (no_objects (turns_of so_far) start now past (quiet u) r number object is)
+    | inr well ↦ origins_law limit bound (turns_of so_far) (turns_of rest) start now number object (starts well)
+        d_cut r is
+  ]
+
+-- each call names only open descriptors
+names_from : (limit bound : ℕ) (start now : World) (trace so_far : List TraceStep) (step : TraceStep)
+    (rest : List TraceStep) → start.tables ≡ empty_tables limit → start.past ≡ no_past →
+    AreUncalled (turns_of trace) ⊎ IsWellFormed start.tree → trace ≡ so_far ++ step ∷ rest →
+    AreDisciplined bound (turns_of trace) → WorldRuns start (turns_of so_far) now →
+    NamesOpen now.tree (kept_deed_of step.act)
+names_from limit bound start now trace so_far step rest begins past known e d r = elim known [
+  | inl u ↦ names_none now.tree (kept_deed_of step.act)
+      (uncalled_at (turns_of so_far) (turn_of step) (turns_of rest)
+      (subst AreUncalled (ap turns_of e ∙ turns-append so_far (step ∷ rest)) u)).0
+  | inr well ↦ named_law limit bound (turns_of so_far) (turn_of step) (turns_of rest) start now
+      (record { tables = begins; well_formed = well; past = past })
+      (cut_at bound trace so_far (step ∷ rest) e d) r
+]
+
+-- two entries of one object have one number
+agree_from : (limit bound : ℕ) (turns : List Turn) (start first second : World) (job other parent folder : ℕ)
+    (name child : List ℕ) (number another : ℕ) (ids its : ObjIds) (between : List Turn) (object : ℕ)
+    (one : GivingPlaces turns job parent name number ids) (two : GivingPlaces turns other folder child another its) →
+    start.tables ≡ empty_tables limit → start.past ≡ no_past → AreUncalled turns ⊎ IsWellFormed start.tree →
+    AreDisciplined bound turns → up_to two ≡ up_to one ++ between → WorldRuns start (up_to one) first →
+    WorldRuns first between second → StaysLive first between number → ObjectOf first number object →
+    ObjectOf second another object → another ≡ number
+agree_from limit bound turns start first second job other parent folder name child number another ids its between
+    object one two begins past (inl u) d = absurd (no_places u one)
+agree_from limit bound turns start first second job other parent folder name child number another ids its between
+    object one two begins past (inr well) d =
+    two_lookups_law limit bound turns [] start first second job other parent folder name child number another ids its
+    between object one two (record { tables = begins; well_formed = well; past = past }) (rw append-nil d)
+
+pub keeps_told : {H : Type 0} (does : Does H) (tree : H → Option Tree) (faults : H → ℕ) → Promises does faults →
+    Tells does tree → (plan : Plan) (limit : ℕ) (jobs : List Job) (host : H) (tables : Tables)
+    (trace : List TraceStep) (answers : List Answer) (host' : H) (tables' : Tables) →
+    Ran does plan limit jobs host tables trace answers host' tables' →
+    KeepsTold plan jobs (tree host) tables trace answers (tree host') tables'
+keeps_told does tree faults p tells plan limit jobs host tables trace answers host' tables' ran =
+    let runs = host_runs does trace host ran.seats tables host' ran.seats' tables' ran.runs in
+    let ended = ended_of does faults p plan limit jobs host tables trace answers host' tables' ran in
+    let disciplined = ended_jobs (length jobs) (turns_of trace) ended in
+    let bound = length jobs in
+    let world = λ (t : Tree) (is : tree host ≡ Some t).
+    hosts_world does tree faults p tells (turns_of trace) (begins_in t tables) host host' tables' is runs in
+    let known = λ (t : Tree) (is : tree host ≡ Some t).
+    let w = world t is in formed (turns_of trace) (begins_in t tables) w.0 w.3 in
+    record {
+      leads_on = λ t is.
+          let w = world t is in (
+            w.0,
+            w.1,
+            w.2,
+            w.3,
+            (λ so_far rest e.
+                runs_split (turns_of so_far) (turns_of rest) (begins_in t tables) w.0
+                (subst (λ (turns : List Turn). WorldRuns (begins_in t tables) turns w.0)
+                (ap turns_of e ∙ turns-append so_far rest) w.3)),
+          );
+      two_lookups = λ t is job other parent folder name child entry another one two between first second object.
+          agree_from limit bound (turns_of trace) (begins_in t tables) first second job other parent folder name child
+          entry.inode another.inode one.looked_up.stat.ids two.looked_up.stat.ids between object one.given two.given
+          ran.begins refl (known t is) disciplined;
+      origins = λ t is so_far rest now e r.
+          named_before limit bound (begins_in t tables) now trace so_far rest ran.begins refl (known t is) e
+          disciplined r;
+      distinct = λ t is so_far rest now e r.
+          objects_kept limit bound (begins_in t tables) now trace so_far rest ran.begins refl (known t is) e
+          disciplined r;
+      serves = λ t is so_far rest now e r.
+          each_served limit bound (begins_in t tables) now trace so_far rest ran.begins refl (known t is) e
+          disciplined r;
+      descriptors = λ t is so_far rest now e r.
+          all_kept limit bound (begins_in t tables) now trace so_far rest ran.begins refl (known t is) e
+          disciplined r;
+      named = λ t is so_far rest step now e r.
+          names_from limit bound (begins_in t tables) now trace so_far step rest ran.begins refl (known t is) e
+          disciplined r;
+      leaves = λ t is end r. elim (known t is) [
+        | inl u ↦ leaves_none limit bound (turns_of trace) (begins_in t tables) end ran.begins u r ended
+        | inr well ↦ leaves_law limit bound (turns_of trace) (begins_in t tables) end
+            (record { tables = ran.begins; well_formed = well; past = refl }) ended r
+      ];
+      entries = λ j job given at told_at.
+          entered_by limit plan jobs (tree host) tables trace ran.begins disciplined known j job given
+          (hosts_told does faults p j (turns_of trace) host tables host' tables' runs)
+          (rw (steps_same j trace)
+          (belongs_by plan job (steps_by j trace) given (ran.answered.in_pattern j job given at told_at)));
+    }

@@ -1,0 +1,287 @@
+-- A host's call that is made tells that its tree was well formed from the start on. Where none is made, no descriptor
+-- is opened, so no row is inserted, and nothing is said of objects.
+use Rattle.std.proofs.Common.{◌≡◌, ◌⊎◌, inl, inr, ◌∙◌, ℕ, Bool, true, false, cond, eqb, List, [], ◌∷◌, ◌++◌}
+use Rattle.std.proofs.Common.{Option, Some, None, refl, ap, sym, subst, arith}
+use Rattle.pt_host.specs.Words.{Each, set_at, total}
+use Rattle.pt_host.specs.Tree.{Tree, IsOpenOn, IsWellFormed}
+use Rattle.pt_host.specs.declared.ids.Fd.{Fd}
+use Rattle.pt_host.specs.declared.ids.ObjIds.{ObjIds}
+use Rattle.pt_host.specs.declared.seat.HostSeat.{HostSeat}
+use Rattle.pt_session.specs.Rows.{IsRow, IsHandleRow}
+use Rattle.pt_session.specs.Tables.{Tables, empty_tables}
+use Rattle.pt_session.specs.declared.event.KeptEvent.TheVariants as change
+use Rattle.pt_session.specs.declared.reply.EventReply.TheVariants as event
+use Rattle.pt_session.specs.declared.row.HandleRow.{HandleRow}
+use Rattle.pt_session.specs.declared.row.Row.{Row}
+use Rattle.pt_frame.specs.Deed.{Deed, Calls, Changes}
+use Rattle.pt_frame.specs.Made.{Made}
+use Rattle.pt_frame.specs.declared.act.ActReply.{ActReply}
+use Rattle.pt_frame.specs.declared.act.ActReply.TheVariants.{Event, Host, NoCopy}
+use Rattle.pt_law.specs.Giving.{GivingPlaces}
+use Rattle.pt_law.specs.Discipline.{AreDisciplined, AreEnded}
+use Rattle.pt_law.specs.Laws.{AreKept, LeavesRows, NamesOpen, Starts}
+use Rattle.pt_law.specs.Ledger.{kept_fds, open_count, row_has, handle_has}
+use Rattle.pt_law.specs.Naming.{resolving, opening}
+use Rattle.pt_law.specs.World.{Turn, turn_by, World, Past, no_past, settled_if, IsLawful, Runs}
+use Rattle.pt_law.proofs.Laws.{object_law, handles_law, kept_law, leaves_law}
+use Rattle.pt_law.proofs.Lists.{each_front}
+use Rattle.pt_fs.specs.Keeps.{KeepsObjects}
+
+-- a step of the tables, or one that was not made
+abbrev pub IsUncalled : Option Deed → Type 0
+IsUncalled None = Unit {0}
+IsUncalled (Some (Changes asked)) = Unit {0}
+IsUncalled (Some (Calls asked)) = ⊥
+
+abbrev pub AreUncalled : List Turn → Type 0
+AreUncalled turns = Each (λ turn. IsUncalled turn.step.deed) turns
+
+pub uncalled_front : (turns more : List Turn) → AreUncalled (turns ++ more) → AreUncalled turns
+uncalled_front turns more u = each_front (λ turn. IsUncalled turn.step.deed) turns more u
+
+pub uncalled_at : (turns : List Turn) (turn : Turn) (more : List Turn) → AreUncalled (turns ++ turn ∷ more) →
+    IsUncalled turn.step.deed × AreUncalled more
+uncalled_at [] turn more u = u
+uncalled_at (first ∷ turns) turn more u = uncalled_at turns turn more u.1
+
+made_same : (deed : Option Deed) (told : ActReply) (tree : Tree) (seat : HostSeat) (tables : Tables) (later : Tree)
+    (seat' : HostSeat) (tables' : Tables) → IsUncalled deed →
+    Made IsLawful deed told tree seat tables later seat' tables' → later ≡ tree
+made_same (Some (Changes asked)) (Event reply) tree seat tables later seat' tables' u m = m.1
+made_same (Some (Changes asked)) told tree seat tables later seat' tables' u m = absurd m
+made_same (Some (Calls asked)) told tree seat tables later seat' tables' u m = absurd u
+made_same None NoCopy tree seat tables later seat' tables' u m = m.0
+made_same None told tree seat tables later seat' tables' u m = absurd m
+
+-- a call is made of a well-formed tree
+formed_by : (deed : Option Deed) (told : ActReply) (tree : Tree) (seat : HostSeat) (tables : Tables) (later : Tree)
+    (seat' : HostSeat) (tables' : Tables) → Made IsLawful deed told tree seat tables later seat' tables' →
+    IsUncalled deed ⊎ IsWellFormed tree
+formed_by None told tree seat tables later seat' tables' m = inl tt
+formed_by (Some (Changes asked)) told tree seat tables later seat' tables' m = inl tt
+formed_by (Some (Calls asked)) (Host reply) tree seat tables later seat' tables' m =
+    let lawful = m.0 in inr lawful.0.trees.formed_before
+formed_by (Some (Calls asked)) NoCopy tree seat tables later seat' tables' m =
+    let lawful = m.0.2 in inr lawful.0.trees.formed_before
+formed_by (Some (Calls asked)) (Event reply) tree seat tables later seat' tables' m = absurd m
+
+pub formed : (turns : List Turn) (start end : World) → Runs start turns end →
+    AreUncalled turns ⊎ IsWellFormed start.tree
+formed [] start end r = inl tt
+formed (turn ∷ turns) start end r =
+    let goes = r.1 in
+    elim (formed_by turn.step.deed turn.step.reply start.tree goes.seat start.tables r.0.tree goes.seat_after
+    r.0.tables goes.made) [
+      | inr well ↦ inr well
+      | inl first ↦ elim (formed turns r.0 end r.2) [
+        | inl rest ↦ inl (first, rest)
+        | inr well ↦ inr (subst IsWellFormed
+            (made_same turn.step.deed turn.step.reply start.tree goes.seat start.tables r.0.tree goes.seat_after
+            r.0.tables first goes.made) well)
+      ]
+    ]
+
+tree_same : (turns : List Turn) (start now : World) → AreUncalled turns → Runs start turns now → now.tree ≡ start.tree
+tree_same [] start now u r = ap (λ (w : World). w.tree) r
+tree_same (turn ∷ turns) start now u r =
+    let goes = r.1 in
+    tree_same turns r.0 now u.1 r.2
+    ∙ made_same turn.step.deed turn.step.reply start.tree goes.seat start.tables r.0.tree goes.seat_after r.0.tables
+    u.0 goes.made
+
+-- a tree with nothing in it
+no_tree : Tree
+no_tree = record { objects = []; names = λ dir name. None; opened = λ fd. None }
+
+no_tree_formed : IsWellFormed no_tree
+unfolding no_tree
+no_tree_formed = record {
+  named = λ dir name object e. absurd (cc);
+  directories = λ dir name object what e is. absurd (cc);
+  opened = λ fd open_as e. absurd (cc);
+  apart = λ fd other object another what that one two is also same. let no = one.1 in absurd (cc);
+  handles = λ object another what that handle is also same has had. absurd (cc);
+}
+
+none_open : (tree : Tree) (fd : Fd) (object : ℕ) → tree ≡ no_tree → IsOpenOn tree fd object → ⊥
+unfolding no_tree
+none_open tree fd object e is =
+    let found = sym (ap (λ (t : Tree). t.opened fd.0) e) ∙ is.1 in
+    cc
+
+count_none : (tree : Tree) (fd : ℕ) → tree ≡ no_tree → open_count fd tree ≡ 0
+unfolding no_tree
+count_none tree fd e = ap (open_count fd) e
+
+made_anywhere : (deed : Option Deed) (told : ActReply) (tree : Tree) (seat : HostSeat) (tables : Tables)
+    (later : Tree) (seat' : HostSeat) (tables' : Tables) (other : Tree) → IsUncalled deed →
+    Made IsLawful deed told tree seat tables later seat' tables' →
+    Made IsLawful deed told other seat tables other seat' tables'
+made_anywhere (Some (Changes asked)) (Event reply) tree seat tables later seat' tables' other u m = (m.0, refl, m.2)
+made_anywhere (Some (Changes asked)) told tree seat tables later seat' tables' other u m = absurd m
+made_anywhere (Some (Calls asked)) told tree seat tables later seat' tables' other u m = absurd u
+made_anywhere None NoCopy tree seat tables later seat' tables' other u m = (refl, m.1, m.2)
+made_anywhere None told tree seat tables later seat' tables' other u m = absurd m
+
+abbrev in_no_tree : Tables → Past → World
+in_no_tree tables past = record { tree = no_tree; tables = tables; past = past }
+
+-- such a run could be made of any tree
+run_anywhere : (turns : List Turn) (start now : World) (past : Past) → AreUncalled turns → Runs start turns now →
+    (end : World) × (end.tables ≡ now.tables) × (end.tree ≡ no_tree) × Runs (in_no_tree start.tables past) turns end
+run_anywhere [] start now past u r =
+    (in_no_tree start.tables past, ap (λ (w : World). w.tables) (sym r), refl, refl)
+run_anywhere (turn ∷ turns) start now past u r =
+    let goes = r.1 in
+    let next = in_no_tree r.0.tables
+    (settled_if past turn.job turn.step.deed turn.step.reply start.tables.next_row no_tree) in
+    let rest = run_anywhere turns r.0 now next.past u.1 r.2 in (
+      rest.0,
+      rest.1,
+      rest.2,
+      (
+        next,
+        record {
+          seat = goes.seat;
+          seat_after = goes.seat_after;
+          made = made_anywhere turn.step.deed turn.step.reply start.tree goes.seat start.tables r.0.tree
+              goes.seat_after r.0.tables no_tree u.0 goes.made;
+          past = refl;
+        },
+        rest.3,
+      ),
+    )
+
+module _ (limit bound : ℕ) (turns more : List Turn) (start now : World) (begins : start.tables ≡ empty_tables limit)
+    (u : AreUncalled turns) (r : Runs start turns now) where
+  there : (end : World) × (end.tables ≡ now.tables) × (end.tree ≡ no_tree)
+      × Runs (in_no_tree start.tables no_past) turns end
+  there = run_anywhere turns start now no_past u r
+
+  starts : Starts limit (in_no_tree start.tables no_past)
+  starts = record { tables = begins; well_formed = no_tree_formed; past = refl }
+
+  pub no_rows : AreDisciplined bound (turns ++ more) → (row : Row) → IsRow now.tables row → row.live ≡ true → ⊥
+  no_rows d row at live =
+      let has = object_law limit bound turns more (in_no_tree start.tables no_past) there.0 row starts d there.3
+      (subst (λ (t : Tables). IsRow t row) (sym there.1) at) live in
+      none_open there.0.tree _ has.0 there.2 has.2
+
+  pub no_handles : AreDisciplined bound (turns ++ more) → (row : HandleRow) → IsHandleRow now.tables row → ⊥
+  no_handles d row at =
+      let has = handles_law limit bound turns more (in_no_tree start.tables no_past) there.0 row starts d there.3
+      (subst (λ (t : Tables). IsHandleRow t row) (sym there.1) at) in
+      none_open there.0.tree _ has.0 there.2 has.2
+
+  pub keeps_none : AreDisciplined bound (turns ++ more) → AreKept start bound turns now
+  keeps_none d =
+      let kept = kept_law limit bound turns more (in_no_tree start.tables no_past) there.0 starts d there.3 in
+      record {
+        once = λ fd.
+            let one = kept.once fd in
+            let none = count_none there.0.tree fd there.2 in
+            let same = ap (kept_fds fd) there.1 in
+            omega (arith, one, none, same);
+        all = λ fd.
+            let every = kept.all fd in
+            let none = count_none there.0.tree fd there.2 in
+            let nothing = count_none no_tree fd refl in
+            let same = ap (kept_fds fd) there.1 in
+            let stays = ap (open_count fd) (tree_same turns start now u r) in
+            omega (arith, every, none, nothing, same, stays);
+        taken = kept.taken;
+      }
+
+pub leaves_none : (limit bound : ℕ) (turns : List Turn) (start end : World) → start.tables ≡ empty_tables limit →
+    AreUncalled turns → Runs start turns end → AreEnded bound turns → LeavesRows start end
+leaves_none limit bound turns start end begins u r ended fd =
+    let there = run_anywhere turns start end no_past u r in
+    let left = leaves_law limit bound turns (in_no_tree start.tables no_past) there.0
+    (record { tables = begins; well_formed = no_tree_formed; past = refl }) ended there.3 fd in
+    let none = count_none there.0.tree fd there.2 in
+    let nothing = count_none no_tree fd refl in
+    let rows = ap (λ (t : Tables). total (row_has fd) t.rows) there.1 in
+    let handles = ap (λ (t : Tables). total (handle_has fd) t.handles) there.1 in
+    let stays = ap (open_count fd) (tree_same turns start end u r) in
+    omega (arith, left, none, nothing, rows, handles, stays)
+
+pub names_none : (tree : Tree) (deed : Option Deed) → IsUncalled deed → NamesOpen tree deed
+names_none tree None u = tt
+names_none tree (Some (Changes asked)) u = tt
+names_none tree (Some (Calls asked)) u = absurd u
+
+-- no name is opened, so no entry was answered
+pub no_places : {turns : List Turn} {job parent : ℕ} {name : List ℕ} {number : ℕ} {ids : ObjIds} →
+    AreUncalled turns → GivingPlaces turns job parent name number ids → ⊥
+no_places {job = job} {parent = parent} {name = name} u places =
+    let p = places.opened in
+    let all = subst AreUncalled p.in_turn u in
+    let after = uncalled_at p.before (turn_by job (resolving parent p.row p.form p.ids p.mode))
+    (p.between ++ turn_by job (opening p.dir name p.flags p.made_mode p.fd) ∷ p.later) all in
+    (uncalled_at p.between (turn_by job (opening p.dir name p.flags p.made_mode p.fd)) p.later after.1).0
+
+-- nothing of an object is settled
+record Blank (past : Past) : Type 0 where
+  numbers : (number : ℕ) → past.numbers number ≡ None
+  latest : (job : ℕ) → past.latest job ≡ None
+  roots : (job : ℕ) → past.roots job ≡ None
+
+none_set : (key : ℕ) (value : Option ℕ) (f : ℕ → Option ℕ) → value ≡ None → ((n : ℕ) → f n ≡ None) → (n : ℕ) →
+    set_at key value f n ≡ None
+unfolding set_at
+none_set key value f is all n = either (eqb n key)
+  where
+    either : (same : Bool) → cond same value (f n) ≡ None
+    either true = is
+    either false = all n
+
+blank_by : (deed : Option Deed) (told : ActReply) (job row : ℕ) (tree : Tree) (past : Past) → IsUncalled deed →
+    Blank past → Blank (settled_if past job deed told row tree)
+blank_by (Some (Changes (change.Insert era number form ids mode)))
+    (Event (event.Inserted given)) job row tree past u b =
+    record {
+      numbers = none_set given (past.latest job) past.numbers (b.latest job) b.numbers;
+      latest = b.latest;
+      roots = b.roots;
+    }
+blank_by (Some (Changes (change.InsertRoot era form ids mode agreed)))
+    (Event (event.Inserted given)) job row tree past u b =
+    record {
+      numbers = none_set given (past.roots job) past.numbers (b.roots job) b.numbers;
+      latest = b.latest;
+      roots = b.roots;
+    }
+blank_by (Some (Changes (change.InsertHandle era handle number fd)))
+    (Event (event.Inserted given)) job row tree past u b =
+    record { numbers = b.numbers; latest = b.latest; roots = b.roots }
+blank_by (Some (Changes (change.Resolve number)))
+    (Event (event.Resolved serial form ids mode)) job row tree past u b =
+    record { numbers = b.numbers; latest = b.latest; roots = b.roots }
+blank_by (Some (Changes asked)) told job row tree past u b = b
+blank_by (Some (Calls asked)) told job row tree past u b = absurd u
+blank_by None told job row tree past u b = b
+
+blank_run : (turns : List Turn) (start now : World) → AreUncalled turns → Runs start turns now → Blank start.past →
+    Blank now.past
+blank_run [] start now u r b = subst (λ (w : World). Blank w.past) (sym r) b
+blank_run (turn ∷ turns) start now u r b =
+    let goes = r.1 in
+    blank_run turns r.0 now u.1 r.2
+    (subst Blank (sym goes.past)
+    (blank_by turn.step.deed turn.step.reply turn.job start.tables.next_row r.0.tree start.past u.0 b))
+
+-- no number stands for an object
+pub no_objects : (turns : List Turn) (start now : World) → start.past ≡ no_past → AreUncalled turns →
+    Runs start turns now → (number object : ℕ) → now.past.numbers number ≡ Some object → ⊥
+no_objects turns start now e u r number object is =
+    let b = blank_run turns start now u r
+    (subst Blank (sym e) (record { numbers = λ n. refl; latest = λ n. refl; roots = λ n. refl })) in
+    let no = sym (b.numbers number) ∙ is in
+    cc
+
+-- and where no row is live, none has an object
+pub unobjected : (now : World) → ((row : Row) → IsRow now.tables row → row.live ≡ true → ⊥) → KeepsObjects now
+unobjected now none = record {
+  distinct = λ number other live also apart. absurd (none live.0 live.1 live.2.0);
+  open_on = λ row at live. absurd (none row at live);
+}

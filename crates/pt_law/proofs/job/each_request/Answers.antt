@@ -1,5 +1,0 @@
-use Rattle.pt_law.proofs.job.each_request.Goals as goal
-use Rattle.pt_law.proofs.Requests.{fit_request}
-
-pub returns : goal.returns
-returns c = fit_request

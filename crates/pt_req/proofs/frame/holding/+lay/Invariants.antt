@@ -1,5 +1,0 @@
-use Rattle.std.proofs.Common.{length}
-use Rattle.pt_req.proofs.frame.holding.+lay.Given as goal
-
-abbrev pub decreases-lay : goal.decreases-lay
-decreases-lay l = length l.holds.now
