@@ -14,6 +14,7 @@ ghost use Rattle.pt_rules.specs.EditPaths.{
 };
 
 use pt_host::Errno;
+use pt_node::links::is_directory_at;
 use pt_node::names::NAME_MAX;
 use pt_node::new_place::{has_nul, is_dots};
 use pt_node::node::Node;
@@ -54,10 +55,7 @@ fn place_in<'a>(nodes: &[Node], path: &'a [u8]) -> Result<(usize, &'a [u8]), Err
 fn last_refusal(nodes: &[Node], dir: usize, name: &[u8]) -> Option<Errno>
     ensures { result ≡ last_refusal (slice_get nodes.now dir) name.now }
 {
-    let Some(dir) = nodes.get(dir) else {
-        return Some(Errno::EIO);
-    };
-    if !dir.is_directory() {
+    if !is_directory_at(nodes, dir) {
         Some(Errno::ENOTDIR)
     } else if name.len() > NAME_MAX {
         Some(Errno::ENAMETOOLONG)

@@ -51,7 +51,7 @@ pub fn unlink_refusal(nodes: &[Node], dir: usize, object: usize) -> Option<Errno
     ensures { result ≡ unlink_refusal (slice_get nodes.now dir) (slice_get nodes.now object) }
 {
     let (Some(dir), Some(node)) = (nodes.get(dir), nodes.get(object)) else {
-        return Some(Errno::EIO);
+        return Some(Errno::ENOENT);
     };
     if is_mounted(dir, node) {
         Some(Errno::EBUSY)
@@ -76,7 +76,7 @@ pub fn move_refusal(
 {
     let (Some(from), Some(to), Some(node)) = (nodes.get(from), nodes.get(to), nodes.get(object))
     else {
-        return Some(Errno::EIO);
+        return Some(Errno::ENOENT);
     };
     if from.ids.mnt_id != to.ids.mnt_id {
         Some(Errno::EXDEV)
@@ -106,7 +106,7 @@ pub fn replace_refusal(nodes: &[Node], object: usize, target: usize) -> Option<E
     ensures { result ≡ replace_refusal (slice_get nodes.now object) (slice_get nodes.now target) }
 {
     let (Some(node), Some(target)) = (nodes.get(object), nodes.get(target)) else {
-        return Some(Errno::EIO);
+        return Some(Errno::ENOENT);
     };
     if node.is_directory() && !target.is_directory() {
         Some(Errno::ENOTDIR)
@@ -124,7 +124,7 @@ pub fn write_refusal(nodes: &[Node], object: usize, size: usize) -> Option<Errno
     ensures { result ≡ write_refusal (slice_get nodes.now object) size }
 {
     let Some(node) = nodes.get(object) else {
-        return Some(Errno::EIO);
+        return Some(Errno::ENOENT);
     };
     if node.is_directory() {
         Some(Errno::EISDIR)

@@ -2,18 +2,19 @@
 use Rattle.std.specs.Prelude.{ℕ, ◌==◌, List, [], ◌∷◌, Option, Some, None, Result, Ok, Err, ok_or, slice_get}
 use Rattle.std.specs.Prelude.{if◌then◌else◌, option_and_then}
 use Rattle.std.specs.List.{slice_split}
-use Rattle.pt_host.specs.Errno.{eio, enoent, enotdir}
+use Rattle.pt_host.specs.Errno.{enoent, enotdir}
 use Rattle.pt_host.specs.declared.ids.Errno.{Errno}
 use Rattle.pt_node.specs.Names.{found}
-use Rattle.pt_node.specs.Node.{is_directory, names_in, name_at}
+use Rattle.pt_node.specs.Entries.{is_directory_where}
+use Rattle.pt_node.specs.Node.{names_in, name_at}
 use Rattle.pt_node.specs.declared.node.Node.{Node}
 
 -- one part of a path, from the object at this place; an empty part leads nowhere else
 abbrev pub step_from : ℕ → List ℕ → Option Node → Result ℕ Errno
 step_from at [] found_node = Ok at
-step_from at name None = Err eio
-step_from at name (Some node) =
-    if is_directory node then ok_or (found name (names_in node.content)) enoent else Err enotdir
+step_from at name found_node =
+    if is_directory_where found_node
+    then ok_or (option_and_then (λ node. found name (names_in node.content)) found_node) enoent else Err enotdir
 
 -- on from where the part led, unless it is refused
 abbrev pub then_on : {A B : Type 0} → Result A Errno → (A → Result B Errno) → Result B Errno

@@ -26,6 +26,7 @@ ghost use Rattle.pt_node.specs.Paths.{
   names_at,
 };
 
+use crate::links::is_directory_at;
 use crate::names::Names;
 use crate::node::{Content, Node};
 use pt_host::Errno;
@@ -96,15 +97,10 @@ pub fn step_from(nodes: &[Node], at: usize, part: &[u8]) -> Result<usize, Errno>
     if part.is_empty() {
         return Ok(at);
     }
-    match nodes.get(at) {
-        None => Err(Errno::EIO),
-        Some(node) => {
-            if !node.is_directory() {
-                return Err(Errno::ENOTDIR);
-            }
-            node.content.lookup(part).ok_or(Errno::ENOENT)
-        }
+    if !is_directory_at(nodes, at) {
+        return Err(Errno::ENOTDIR);
     }
+    name_at(nodes, at, part).ok_or(Errno::ENOENT)
 }
 
 fn walk(nodes: &[Node], from: usize, path: &[u8]) -> Result<usize, Errno>

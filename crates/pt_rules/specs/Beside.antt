@@ -27,12 +27,14 @@ IsAt tree fd name object = IsOpenOn tree fd object ⊎ LeadsTo tree fd name obje
 
 -- The call may change more of this object than its time of access. What it makes anew is not spoken of.
 abbrev pub MayTouch : Tree → Call → HostValue → Tree → ℕ → Type 0
+-- openings
 MayTouch tree (call.OpenRoot path flags) (value.Fd fd) after object = Empties flags fd after object
 MayTouch tree (call.OpenPath dir path flags) (value.Fd fd) after object = Empties flags fd after object
 MayTouch tree (call.OpenAt dir name flags mode) (value.Fd fd) after object =
     Empties flags fd after object ⊎ ((includes flags.0 o_creat ≡ true) × IsOpenOn tree dir object)
 MayTouch tree (call.Reopen fd flags) (value.Fd opened) after object = Empties flags opened after object
 MayTouch tree (call.OpenByHandle fd handle flags) (value.Fd opened) after object = Empties flags opened after object
+-- names
 MayTouch tree (call.MakeDir fd name mode) told after object = IsOpenOn tree fd object
 MayTouch tree (call.MakeNode fd name mode rdev) told after object = IsOpenOn tree fd object
 MayTouch tree (call.SymLink fd name target) told after object = IsOpenOn tree fd object
@@ -41,21 +43,31 @@ MayTouch tree (call.Unlink fd name) told after object = IsAt tree fd name object
 MayTouch tree (call.RemoveDir fd name) told after object = IsAt tree fd name object
 MayTouch tree (call.Rename fd name fd2 name2 flags) told after object =
     IsAt tree fd name object ⊎ IsAt tree fd2 name2 object
+-- contents
 MayTouch tree (call.WriteAt fd offset bytes append) told after object = IsOpenOn tree fd object
 MayTouch tree (call.Truncate fd size) told after object = IsOpenOn tree fd object
 MayTouch tree (call.Allocate fd mode offset size) told after object = IsOpenOn tree fd object
 MayTouch tree (call.CopyRange fd offset fd2 offset2 size flags) told after object = IsOpenOn tree fd2 object
+-- attributes
 MayTouch tree (call.ChMod fd through mode) told after object = IsOpenOn tree fd object
 MayTouch tree (call.ChOwn fd uid gid) told after object = IsOpenOn tree fd object
 MayTouch tree (call.SetTimes fd through atime mtime) told after object = IsOpenOn tree fd object
 MayTouch tree (call.SetXattr fd through name bytes flags) told after object = IsOpenOn tree fd object
 MayTouch tree (call.RemoveXattr fd through name) told after object = IsOpenOn tree fd object
+-- an edit, beside the requests
 MayTouch tree (call.Edit edit) told after object = Unit {0}
+-- any other call changes none
 MayTouch tree asked told after object = ⊥
 
 -- a call that is Ok keeps what it does not name
-pub record KeepsUntouched (tree : Tree) (before : Contents) (asked : Call) (told : HostValue) (tree_after : Tree)
-    (after : Contents) : Type 0 where
+pub record KeepsUntouched
+    (tree : Tree)
+    (before : Contents)
+    (asked : Call)
+    (told : HostValue)
+    (tree_after : Tree)
+    (after : Contents)
+    : Type 0 where
   pub objects : (object : ℕ) → object < length tree.objects → (MayTouch tree asked told tree_after object → ⊥) →
       StaysButAccess (before.objects object) (after.objects object)
   -- an opening sets no time of access either

@@ -1,8 +1,8 @@
 -- Believed. The calls one by one: what each is answered and what it leaves.
 use Rattle.std.specs.Prelude.{ℕ, nat_lt, not, ◌&&◌, Bool, List, [], ◌∷◌, length, Option, Some, None, Result, Ok, Err}
-use Rattle.std.specs.Prelude.{slice_get, slice_set}
+use Rattle.std.specs.Prelude.{option_map, slice_get, slice_set}
 use Rattle.pt_host.specs.Flags.{includes, o_creat, o_excl}
-use Rattle.pt_host.specs.Errno.{ebadf, eacces, eexist, eio, enotdir, enametoolong}
+use Rattle.pt_host.specs.Errno.{ebadf, eacces, eexist, enotdir, enametoolong, estale}
 use Rattle.pt_host.specs.declared.ids.Errno.{Errno}
 use Rattle.pt_host.specs.declared.ids.Fd.{Fd}
 use Rattle.pt_host.specs.declared.flags.OpenFlags.{OpenFlags}
@@ -41,18 +41,18 @@ unless state (Some errno) otherwise = refused state errno
 abbrev pub done : State → Answered
 done state = tells state value.Unit
 
--- the call on an object; one that is not there is a failure of the host, which never comes
-abbrev pub on_node : State → Option Node → (Node → Answered) → Answered
-on_node state None rest = refused state eio
-on_node state (Some node) rest = rest node
+-- what stands in the table of descriptors, with the object that it is open on
+abbrev pub open_on : List Node → Option OpenFile → Option (OpenFile × Node)
+open_on nodes None = None
+open_on nodes (Some file) = option_map (λ node. (file, node)) (slice_get nodes file.object)
 
-abbrev pub on_file : State → Option OpenFile → (OpenFile → Node → Answered) → Answered
-on_file state None rest = refused state ebadf
-on_file state (Some file) rest = on_node state (slice_get state.nodes file.object) (rest file)
+abbrev pub on_open : State → Option (OpenFile × Node) → (OpenFile → Node → Answered) → Answered
+on_open state None rest = refused state ebadf
+on_open state (Some at) rest = rest at.0 at.1
 
 -- the call on what the descriptor is open on
 abbrev pub on_fd : State → Fd → (OpenFile → Node → Answered) → Answered
-on_fd state fd rest = on_file state (open_at state.slots fd.0) rest
+on_fd state fd rest = on_open state (open_on state.nodes (open_at state.slots fd.0)) rest
 
 -- refused by the first of these tests that holds, else as said
 abbrev pub checked : State → List (Bool × Errno) → Answered → Answered
@@ -76,9 +76,9 @@ abbrev pub with_opened : State → HostSeat → OpenFlags → ℕ → Node → S
 with_opened state seat flags object node =
     with_descriptor (with_node state object (after_opening seat (time_of state) flags.0 node)) flags object
 
--- the opening of an object; one that is not there is a failure of the host, which never comes
+-- the opening of an object that was found and is there still
 abbrev pub opening_of : State → HostSeat → OpenFlags → ℕ → Option Node → Answered
-opening_of state seat flags object None = refused state eio
+opening_of state seat flags object None = refused state estale
 opening_of state seat flags object (Some node) = unless state (opening_refusal seat node flags.0)
     (tells (with_opened state seat flags object node) (value.Fd (record { 0 = least_free state.slots })))
 

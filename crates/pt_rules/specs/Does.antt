@@ -19,26 +19,32 @@ AnswersAs told before given after = ((given, after) ≡ told) ⊎ ((given ≡ re
 
 -- the calls that take memory; the others never answer that there is none
 abbrev pub TakesMemory : Call → Type 0
+-- on a descriptor
 TakesMemory (call.Close fd) = ⊥
 TakesMemory (call.Stat fd) = ⊥
 TakesMemory (call.HandleOf fd) = ⊥
 TakesMemory (call.StatFs fd) = ⊥
+-- names
 TakesMemory (call.Unlink fd name) = ⊥
 TakesMemory (call.RemoveDir fd name) = ⊥
+-- contents
 TakesMemory (call.Seek fd offset whence) = ⊥
 TakesMemory (call.Flush fd) = ⊥
 TakesMemory (call.Sync fd datasync) = ⊥
 TakesMemory (call.SyncFs fd) = ⊥
+-- attributes
 TakesMemory (call.ChMod fd through mode) = ⊥
 TakesMemory (call.ChOwn fd uid gid) = ⊥
 TakesMemory (call.SetTimes fd through atime mtime) = ⊥
 TakesMemory (call.RemoveXattr fd through name) = ⊥
+-- the seat's own
 TakesMemory (call.SetGroups list) = ⊥
 TakesMemory (call.SetEgid gid) = ⊥
 TakesMemory (call.SetEuid uid) = ⊥
 TakesMemory (call.RaiseCap caps) = ⊥
 TakesMemory (call.DropCap caps) = ⊥
 TakesMemory (call.SetUmask mask) = ⊥
+-- any other call takes some
 TakesMemory asked = ⊤
 
 -- no memory was found, and nothing changed
@@ -52,23 +58,44 @@ ComesTo before seat asked told given after seat_after =
     ⊎ (TakesMemory asked × ((given, after, seat_after) ≡ without_memory before seat))
 
 -- a failure that is planned for the call comes before all else
-abbrev pub AnswersCall : Option Errno → State → (ℕ → ℕ) → HostSeat → Call → HostReply → State → HostSeat → Type 0
+abbrev pub AnswersCall :
+    (failure : Option Errno) →
+    (before : State) →
+    (numbers : ℕ → ℕ) →
+    (seat : HostSeat) →
+    (asked : Call) →
+    (given : HostReply) →
+    (after : State) →
+    (seat_after : HostSeat) →
+    Type 0
 AnswersCall (Some errno) before numbers seat asked given after seat_after =
     (given, after, seat_after) ≡ failing_outcome before seat asked errno
 AnswersCall None before numbers seat asked given after seat_after =
     ComesTo before seat asked (outcome before numbers seat asked) given after seat_after
 
 -- a call is answered by the table and then counted; running out of memory is all that is left open
-pub record Answers (before : State) (seat : HostSeat) (asked : Call) (given : HostReply) (after : State)
-    (seat_after : HostSeat) : Type 0 where
+pub record Answers
+    (before : State)
+    (seat : HostSeat)
+    (asked : Call)
+    (given : HostReply)
+    (after : State)
+    (seat_after : HostSeat)
+    : Type 0 where
   pub numbers : ℕ → ℕ
   pub least : AreLeastFree before numbers
   pub state : State
   pub answered : AnswersCall (failure_of before asked) before numbers seat asked given state seat_after
   pub counts : after ≡ counted (past_plan state)
 
-pub record Does (before : State) (seat : HostSeat) (asked : Call) (given : HostReply) (after : State)
-    (seat_after : HostSeat) : Type 0 where
+pub record Does
+    (before : State)
+    (seat : HostSeat)
+    (asked : Call)
+    (given : HostReply)
+    (after : State)
+    (seat_after : HostSeat)
+    : Type 0 where
   pub sound : IsSound before
   pub answers : Answers before seat asked given after seat_after
   -- what a machine could not number is out of memory

@@ -1,10 +1,10 @@
 -- Believed. Where the path of an edit leads, after `path_resolution(7)`.
-use Rattle.std.specs.Prelude.{ℕ, ◌==◌, nat_lt, not, ◌||◌, Bool, false, List, [], ◌∷◌, length, Option, Some, None}
+use Rattle.std.specs.Prelude.{ℕ, ◌==◌, nat_lt, not, ◌||◌, Bool, false, List, [], ◌∷◌, length, Option}
 use Rattle.std.specs.Prelude.{Result, Ok, Err, slice_get, if◌then◌else◌}
 use Rattle.std.specs.Borrow.{Bor}
-use Rattle.pt_host.specs.Errno.{einval, eio, enametoolong, enoent, enotdir}
+use Rattle.pt_host.specs.Errno.{einval, enametoolong, enoent, enotdir}
 use Rattle.pt_host.specs.declared.ids.Errno.{Errno}
-use Rattle.pt_node.specs.Node.{is_directory}
+use Rattle.pt_node.specs.Entries.{is_directory_where}
 use Rattle.pt_node.specs.Opening.{first_refusal}
 use Rattle.pt_node.specs.Paths.{ok_unless, parts, step_from, then_on}
 use Rattle.pt_node.specs.NewPlace.{has_nul, is_dots}
@@ -27,16 +27,15 @@ abbrev pub at_root : ℕ × List ℕ
 at_root = (0, [])
 
 -- what the last name of a path is refused for
-abbrev pub last_checks : Node → List ℕ → List (Bool × Errno)
+abbrev pub last_checks : Option Node → List ℕ → List (Bool × Errno)
 last_checks dir name =
-    (not (is_directory dir), enotdir)
+    (not (is_directory_where dir), enotdir)
     ∷ (nat_lt name_max (length name), enametoolong)
     ∷ (is_dots name || has_nul name, einval)
     ∷ []
 
 abbrev pub last_refusal : Option Node → List ℕ → Option Errno
-last_refusal None name = Some eio
-last_refusal (Some dir) name = first_refusal (last_checks dir name)
+last_refusal dir name = first_refusal (last_checks dir name)
 
 -- a path is judged whole: what leads to its last name, and then that name
 abbrev pub judged_at : List Node → ℕ × List ℕ → Result (ℕ × List ℕ) Errno

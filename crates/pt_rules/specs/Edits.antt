@@ -4,7 +4,7 @@
 use Rattle.std.specs.Prelude.{ℕ, ◌+◌, ◌%◌, ◌==◌, nat_lt, not, ◌||◌, ◌&&◌, Bool, false, List, [], ◌∷◌, ◌++◌, length}
 use Rattle.std.specs.Prelude.{Option, Some, None, is_some, option_and_then, Result, Ok, Err, slice_get, if◌then◌else◌}
 use Rattle.std.specs.Option.{option_map_or}
-use Rattle.pt_host.specs.Errno.{ebusy, eexist, efbig, einval, eio, eisdir, eloop, enoent, enotdir, enotempty, enxio}
+use Rattle.pt_host.specs.Errno.{ebusy, eexist, efbig, einval, eisdir, eloop, enoent, enotdir, enotempty, enxio}
 use Rattle.pt_host.specs.Errno.{exdev}
 use Rattle.pt_host.specs.declared.edit.Edit.{Edit}
 use Rattle.pt_host.specs.declared.edit.Edit.TheVariants as edit
@@ -45,7 +45,7 @@ unlink_checks dir node = (is_mounted dir node, ebusy) ∷ (holds_any node, enote
 
 abbrev pub unlink_refusal : Option Node → Option Node → Option Errno
 unlink_refusal (Some dir) (Some node) = first_refusal (unlink_checks dir node)
-unlink_refusal _ _ = Some eio
+unlink_refusal _ _ = Some enoent
 
 -- the objects after this one lost this name
 abbrev pub unlinked : Time → ℕ → List ℕ → ℕ → List Node → List Node
@@ -82,7 +82,7 @@ move_checks into_itself from to node target =
 abbrev pub move_refusal : Bool → Option Node → Option Node → Option Node → Option Node → Option Errno
 move_refusal into_itself (Some from) (Some to) (Some node) target =
     first_refusal (move_checks into_itself from to node target)
-move_refusal into_itself _ _ _ target = Some eio
+move_refusal into_itself _ _ _ target = Some enoent
 
 abbrev pub replace_checks : Node → Node → List (Bool × Errno)
 replace_checks node target =
@@ -93,7 +93,7 @@ replace_checks node target =
 
 abbrev pub replace_refusal : Option Node → Option Node → Option Errno
 replace_refusal (Some node) (Some target) = first_refusal (replace_checks node target)
-replace_refusal _ _ = Some eio
+replace_refusal _ _ = Some enoent
 
 -- the object that had the new name lost it
 abbrev pub replaced : Time → Option ℕ → List Node → List Node
@@ -152,20 +152,49 @@ grown now dir name node nodes =
     ++ node ∷ []
 
 -- an object that is made in this directory: its serial is one more than that of the last one made
-abbrev pub made : State → (ℕ → ℕ) → ℕ → ℕ → ℕ → ℕ → Content → Node → Node
+abbrev pub made :
+    (state : State) →
+    (numbers : ℕ → ℕ) →
+    (permissions : ℕ) →
+    (uid : ℕ) →
+    (gid : ℕ) →
+    (rdev : ℕ) →
+    (content : Content) →
+    (dir : Node) →
+    Node
 made state numbers permissions uid gid rdev content dir =
     new_object (time_of state) (numbers dir.ids.dev) (length state.nodes + 1) dir permissions uid gid rdev content
 
 abbrev pub with_made : State → ℕ → List ℕ → Node → State
 with_made state dir name node = record state { nodes = grown (time_of state) dir name node state.nodes }
 
-abbrev pub make_in : State → (ℕ → ℕ) → ℕ → List ℕ → ℕ → ℕ → ℕ → ℕ → Content → Option Node → Answered
-make_in state numbers dir name permissions uid gid rdev content None = refused state eio
+abbrev pub make_in :
+    (state : State) →
+    (numbers : ℕ → ℕ) →
+    (dir : ℕ) →
+    (name : List ℕ) →
+    (permissions : ℕ) →
+    (uid : ℕ) →
+    (gid : ℕ) →
+    (rdev : ℕ) →
+    (content : Content) →
+    (parent : Option Node) →
+    Answered
+make_in state numbers dir name permissions uid gid rdev content None = refused state enoent
 make_in state numbers dir name permissions uid gid rdev content (Some parent) =
     done (with_made state dir name (made state numbers permissions uid gid rdev content parent))
 
 -- the mode is cut to permissions
-abbrev pub make_at : State → (ℕ → ℕ) → ℕ → ℕ → ℕ → Content → ℕ → List ℕ → Answered
+abbrev pub make_at :
+    (state : State) →
+    (numbers : ℕ → ℕ) →
+    (mode : ℕ) →
+    (uid : ℕ) →
+    (gid : ℕ) →
+    (content : Content) →
+    (dir : ℕ) →
+    (name : List ℕ) →
+    Answered
 make_at state numbers mode uid gid content dir name =
     unless state (make_refusal (name_at state.nodes dir name) (size_of content))
     (make_in state numbers dir name (mode % 4096) uid gid 0 content (slice_get state.nodes dir))
@@ -181,7 +210,7 @@ write_checks node size =
     ∷ []
 
 abbrev pub write_refusal : Option Node → ℕ → Option Errno
-write_refusal None size = Some eio
+write_refusal None size = Some enoent
 write_refusal (Some node) size = first_refusal (write_checks node size)
 
 -- the permissions of the file stay

@@ -6,7 +6,7 @@ use Rattle.std.specs.Prelude.{List, [], ◌∷◌, length, Option, Some, None, i
 use Rattle.std.specs.Prelude.{if◌then◌else◌}
 use Rattle.std.specs.List.{list_any}
 use Rattle.std.specs.Option.{option_map_or}
-use Rattle.pt_host.specs.Errno.{eacces, ebusy, eexist, einval, eio, eisdir, enametoolong, enoent, enotdir, enotempty}
+use Rattle.pt_host.specs.Errno.{eacces, ebusy, eexist, einval, eisdir, enametoolong, enoent, enotdir, enotempty}
 use Rattle.pt_host.specs.Errno.{eperm, exdev}
 use Rattle.pt_host.specs.Flags.{includes}
 use Rattle.pt_host.specs.declared.ids.Errno.{Errno}
@@ -19,7 +19,7 @@ use Rattle.pt_node.specs.Node.{is_directory, name_at, names_in}
 use Rattle.pt_node.specs.Permission.{may, mknod}
 use Rattle.pt_rules.specs.State.{State, time_of}
 use Rattle.pt_node.specs.Opening.{first_refusal}
-use Rattle.pt_rules.specs.Calls.{Answered, checked, done, on_fd, on_name, on_node, refused, unless}
+use Rattle.pt_rules.specs.Calls.{Answered, checked, done, on_fd, on_name, refused, unless}
 use Rattle.pt_node.specs.Entries.{changed_at, restamped, touched, with_entry}
 use Rattle.pt_rules.specs.Edits.{holds_any, is_mounted, make_in, node_at, rename_onto, with_unlinked}
 use Rattle.pt_node.specs.declared.node.Node.{Node}
@@ -48,7 +48,17 @@ abbrev pub masked : HostSeat → ℕ → ℕ
 masked seat mode = bit_and (mode % 4096) (2 ^ 32 - 1 - seat.umask)
 
 -- a new object with the effective ids
-abbrev pub make_in_dir : State → (ℕ → ℕ) → HostSeat → ℕ → List ℕ → ℕ → ℕ → Content → Node → Answered
+abbrev pub make_in_dir :
+    (state : State) →
+    (numbers : ℕ → ℕ) →
+    (seat : HostSeat) →
+    (dir : ℕ) →
+    (name : List ℕ) →
+    (permissions : ℕ) →
+    (rdev : ℕ) →
+    (content : Content) →
+    (parent : Node) →
+    Answered
 make_in_dir state numbers seat dir name permissions rdev content parent =
     make_in state numbers dir name permissions seat.eff_uid seat.eff_gid rdev content (Some parent)
 
@@ -87,7 +97,17 @@ node_checks seat dir name kind =
     ∷ (is_device kind && not (includes seat.eff_caps.0 mknod), eperm)
     ∷ []
 
-abbrev pub make_of_kind : State → (ℕ → ℕ) → HostSeat → ℕ → List ℕ → ℕ → ℕ → Option Content → Node → Answered
+abbrev pub make_of_kind :
+    (state : State) →
+    (numbers : ℕ → ℕ) →
+    (seat : HostSeat) →
+    (dir : ℕ) →
+    (name : List ℕ) →
+    (permissions : ℕ) →
+    (rdev : ℕ) →
+    (content : Option Content) →
+    (parent : Node) →
+    Answered
 make_of_kind state numbers seat dir name permissions rdev None parent = refused state einval
 make_of_kind state numbers seat dir name permissions rdev (Some content) parent =
     make_in_dir state numbers seat dir name permissions rdev content parent
@@ -141,10 +161,18 @@ make_link state seat from fd name = on_fd state from (λ file node. on_name stat
 
 -- ---- Unlink, RemoveDir
 
+-- what a name leads to, with the object itself
+abbrev pub led_on : List Node → Option ℕ → Option (ℕ × Node)
+led_on nodes None = None
+led_on nodes (Some object) = option_map (λ node. (object, node)) (slice_get nodes object)
+
+abbrev pub on_led : State → Option (ℕ × Node) → (ℕ → Node → Answered) → Answered
+on_led state None rest = refused state enoent
+on_led state (Some at) rest = rest at.0 at.1
+
 -- the call on what the name leads to in this directory
 abbrev pub on_found : State → Option ℕ → (ℕ → Node → Answered) → Answered
-on_found state None rest = refused state enoent
-on_found state (Some object) rest = on_node state (slice_get state.nodes object) (rest object)
+on_found state there rest = on_led state (led_on state.nodes there) rest
 
 abbrev pub take_checks : HostSeat → Node → Node → List (Bool × Errno)
 take_checks seat dir node = (cannot_write seat dir, eacces) ∷ (is_directory node, eisdir) ∷ []
@@ -217,11 +245,19 @@ rename_checks into_itself seat from to node target that flags =
     rename_tests (is_unwritable seat from to) (not (from.ids.mnt_id == to.ids.mnt_id))
     (is_mount_moved from to node that) into_itself target flags
 
-abbrev pub rename_refusal_of : Bool → HostSeat → Option Node → Option Node → Option Node → Option ℕ → Option Node →
-    ℕ → Option Errno
+abbrev pub rename_refusal_of :
+    (into_itself : Bool) →
+    (seat : HostSeat) →
+    (from : Option Node) →
+    (to : Option Node) →
+    (node : Option Node) →
+    (target : Option ℕ) →
+    (that : Option Node) →
+    (flags : ℕ) →
+    Option Errno
 rename_refusal_of into_itself seat (Some from) (Some to) (Some node) target that flags =
     first_refusal (rename_checks into_itself seat from to node target that flags)
-rename_refusal_of into_itself seat _ _ _ target that flags = Some eio
+rename_refusal_of into_itself seat _ _ _ target that flags = Some enoent
 
 abbrev pub rename_refusal : State → HostSeat → ℕ → ℕ → ℕ → Option ℕ → ℕ → Option Errno
 rename_refusal state seat from to object target flags =

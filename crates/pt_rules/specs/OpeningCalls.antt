@@ -8,7 +8,7 @@ use Rattle.std.specs.Ordering.{int_eq, is_lt, nat_cmp}
 use Rattle.std.specs.declared.alloc.Global.{Global}
 use Rattle.std.specs.Str.{bytes_eq}
 use Rattle.std.specs.Cmp.Lexicographic.{slice_cmp}
-use Rattle.pt_host.specs.Errno.{eacces, ebadf, eexist, einval, eio, enoent, eopnotsupp, eperm, estale}
+use Rattle.pt_host.specs.Errno.{eacces, ebadf, eexist, einval, enoent, eopnotsupp, eperm, estale}
 use Rattle.pt_host.specs.Flags.{includes, o_creat, o_directory, o_excl, o_path}
 use Rattle.pt_host.specs.declared.flags.OpenFlags.{OpenFlags}
 use Rattle.pt_host.specs.declared.handle.CFileHandle.{CFileHandle}
@@ -60,13 +60,32 @@ open_made state flags dir name node =
     tells (with_descriptor (with_made state dir name node) flags (length state.nodes))
     (value.Fd (record { 0 = least_free state.slots }))
 
-abbrev pub open_new : State → (ℕ → ℕ) → HostSeat → OpenFlags → ℕ → ℕ → List ℕ → Option Node → Answered
-open_new state numbers seat flags permissions dir name None = refused state eio
+abbrev pub open_new :
+    (state : State) →
+    (numbers : ℕ → ℕ) →
+    (seat : HostSeat) →
+    (flags : OpenFlags) →
+    (permissions : ℕ) →
+    (dir : ℕ) →
+    (name : List ℕ) →
+    (parent : Option Node) →
+    Answered
+open_new state numbers seat flags permissions dir name None = refused state enoent
 open_new state numbers seat flags permissions dir name (Some parent) =
     open_made state flags dir name (made state numbers permissions seat.eff_uid seat.eff_gid 0 (Regular []) parent)
 
 -- what is there is opened by the rule
-abbrev pub create_or_open : State → (ℕ → ℕ) → HostSeat → OpenFlags → ℕ → ℕ → Node → List ℕ → Option ℕ → Answered
+abbrev pub create_or_open :
+    (state : State) →
+    (numbers : ℕ → ℕ) →
+    (seat : HostSeat) →
+    (flags : OpenFlags) →
+    (mode : ℕ) →
+    (dir : ℕ) →
+    (parent : Node) →
+    (name : List ℕ) →
+    (there : Option ℕ) →
+    Answered
 create_or_open state numbers seat flags mode dir parent name (Some object) = opening state seat flags object
 create_or_open state numbers seat flags mode dir parent name None =
     checked state (created_checks seat parent flags.0)

@@ -1,5 +1,5 @@
 -- What a copy between files and a seek are answered, as the code comes to it.
-use Rattle.std.proofs.Common.{◌≡◌, ◌<◌, ℕ, ℤ, List, [], length, Option, Some, None, Result, Bool, get_or, ap, sym}
+use Rattle.std.proofs.Common.{◌≡◌, ◌<◌, ℕ, ℤ, List, [], length, Option, Some, None, option_map, Result, Bool, get_or, ap, sym}
 use Rattle.std.proofs.Common.{◌∙◌, inl, inr, arith, slice_get, slice_set, length-set}
 use Rattle.std.proofs.lemmas.Option.{same_Some, slice_get-get_or, slice_get_within}
 use Rattle.pt_host.specs.declared.ids.Errno.{Errno}
@@ -7,7 +7,7 @@ use Rattle.pt_host.specs.declared.ids.Fd.{Fd}
 use Rattle.pt_host.specs.declared.reply.HostReply.TheVariants as reply
 use Rattle.pt_host.specs.declared.reply.HostValue.TheVariants as value
 use Rattle.pt_host.specs.declared.seat.HostSeat.{HostSeat}
-use Rattle.pt_rules.specs.Calls.{Answered, checked, on_fd, on_file, on_node, tells, unless, with_node}
+use Rattle.pt_rules.specs.Calls.{Answered, checked, on_fd, on_open, open_on, tells, unless, with_node}
 use Rattle.pt_rules.specs.ContentCalls.{copied, copy_checks, copy_range, seek, seek_checks, seek_to, sought}
 use Rattle.pt_rules.specs.ContentCalls.{with_copied, written}
 use Rattle.pt_node.specs.Changes.{refilled}
@@ -29,8 +29,9 @@ pub told_on : (state : State) (fd : Fd) (file : OpenFile) (node : Node) (checks 
     first_refusal (checks file node) ≡ None →
     on_fd state fd (λ at dir. checked state (checks at dir) (rest at dir)) ≡ rest file node
 told_on state fd file node checks rest is at none =
-    ap (λ (f : Option OpenFile). on_file state f (λ o n. checked state (checks o n) (rest o n))) is
-    ∙ ap (λ (n : Option Node). on_node state n (λ n. checked state (checks file n) (rest file n))) at
+    ap (λ (f : Option OpenFile). on_open state (open_on state.nodes f) (λ o n. checked state (checks o n) (rest o n))) is
+    ∙ ap (λ (n : Option Node). on_open state (option_map (λ n. (file, n)) n)
+    (λ o n. checked state (checks o n) (rest o n))) at
     ∙ ap (λ (refusal : Option Errno). unless state refusal (rest file node)) none
 
 pub seek_is : (state : State) (fd : Fd) (offset : ℤ) (whence : ℕ) (file : OpenFile) (node : Node)
@@ -55,16 +56,16 @@ module _ (state : State) (seat : HostSeat) (fd fd2 : Fd) (offset offset2 size fl
   copy_told : copy_range state seat fd offset fd2 offset2 size flags ≡ told part
   copy_told =
       ap (λ (f : Option OpenFile).
-      on_file state f (λ o n.
+      on_open state (open_on state.nodes f) (λ o n.
       on_fd state fd2 (λ o2 n2.
       checked state (copy_checks o n o2 offset offset2 (length (copied offset size n)) flags)
       (tells (with_copied state seat o.object n o2.object offset2 (copied offset size n))
       (value.Count (length (copied offset size n))))))) is
       ∙ ap (λ (a : Option Node).
-      on_node state a (λ n.
+      on_open state (option_map (λ n. (file, n)) a) (λ o n.
       on_fd state fd2 (λ o2 n2.
-      checked state (copy_checks file n o2 offset offset2 (length (copied offset size n)) flags)
-      (tells (with_copied state seat file.object n o2.object offset2 (copied offset size n))
+      checked state (copy_checks o n o2 offset offset2 (length (copied offset size n)) flags)
+      (tells (with_copied state seat o.object n o2.object offset2 (copied offset size n))
       (value.Count (length (copied offset size n))))))) at
       ∙ told_on state fd2 file2 target (λ o2 n2.
       copy_checks file node o2 offset offset2 (length (copied offset size node)) flags)

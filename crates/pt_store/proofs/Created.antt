@@ -1,10 +1,10 @@
 -- A file that is created, as the code comes to it.
-use Rattle.std.proofs.Common.{◌≡◌, ℕ, List, Option, Some, None, ap, sym, ◌∙◌, slice_get}
+use Rattle.std.proofs.Common.{◌≡◌, ℕ, List, Option, Some, None, option_map, ap, sym, ◌∙◌, slice_get}
 use Rattle.pt_host.specs.declared.flags.OpenFlags.{OpenFlags}
 use Rattle.pt_host.specs.declared.ids.Errno.{Errno}
 use Rattle.pt_host.specs.declared.ids.Fd.{Fd}
 use Rattle.pt_host.specs.declared.seat.HostSeat.{HostSeat}
-use Rattle.pt_rules.specs.Calls.{Answered, checked, name_refusal, on_file, on_node, opening, refused, unless}
+use Rattle.pt_rules.specs.Calls.{Answered, checked, name_refusal, on_open, open_on, opening, refused, unless}
 use Rattle.pt_rules.specs.NameCalls.{masked, there_in}
 use Rattle.pt_node.specs.Opening.{first_refusal}
 use Rattle.pt_rules.specs.OpeningCalls.{create_or_open, created_checks, creating_checks, open_creating, open_new}
@@ -27,8 +27,9 @@ module _ (state : State) (numbers : ℕ → ℕ) (seat : HostSeat) (fd : Fd) (na
       ≡ create_or_open state numbers seat flags mode file.object dir name (there_in dir name)
   creating_is =
       ap (λ (f : Option OpenFile).
-      on_file state f (λ o d. unless state (name_refusal seat d name) (rest o.object d))) is
-      ∙ ap (λ (n : Option Node). on_node state n (λ d. unless state (name_refusal seat d name) (rest file.object d))) at
+      on_open state (open_on state.nodes f) (λ o d. unless state (name_refusal seat d name) (rest o.object d))) is
+      ∙ ap (λ (n : Option Node). on_open state (option_map (λ d. (file, d)) n)
+      (λ o d. unless state (name_refusal seat d name) (rest o.object d))) at
       ∙ ap (λ (refusal : Option Errno). unless state refusal (rest file.object dir)) asks
       ∙ ap (λ (refusal : Option Errno).
       unless state refusal

@@ -14,6 +14,7 @@ ghost use Rattle.pt_rules.specs.AttributeCalls.{
   set_xattr_row,
 };
 
+use crate::finding::open_on;
 use crate::store::Store;
 use pt_change::attribute_checks::{
     chmod_refusal, does_not_serve, is_too_long, names_listed, set_xattr_refusal, sized,
@@ -28,11 +29,8 @@ impl Store {
             ≡ on_row (state_of self.old) fd (chmod_row (state_of self.old) seat.now through mode) }
         ensures kept { IsKeptBy self.new }
     {
-        let Some(file) = self.files.get(fd) else {
+        let Some((file, node)) = open_on(&self.files, &self.nodes, fd) else {
             return HostReply::Refused(Errno::EBADF);
-        };
-        let Some(node) = self.nodes.get(file.object) else {
-            return HostReply::Refused(Errno::EIO);
         };
         if let Some(errno) = chmod_refusal(seat, file, node, through) {
             return HostReply::Refused(errno);
@@ -48,12 +46,9 @@ impl Store {
             ≡ on_row (state_of self.old) fd (chown_row (state_of self.old) seat.now uid gid) }
         ensures kept { IsKeptBy self.new }
     {
-        let Some(file) = self.files.get(fd) else {
+        let Some((file, _)) = open_on(&self.files, &self.nodes, fd) else {
             return HostReply::Refused(Errno::EBADF);
         };
-        if file.object >= self.nodes.len() {
-            return HostReply::Refused(Errno::EIO);
-        }
         if !seat.eff_caps.includes(Caps::CHOWN) {
             return HostReply::Refused(Errno::EPERM);
         }
@@ -75,11 +70,8 @@ impl Store {
             ≡ on_row (state_of self.old) fd (times_row (state_of self.old) seat.now through atime mtime) }
         ensures kept { IsKeptBy self.new }
     {
-        let Some(file) = self.files.get(fd) else {
+        let Some((file, node)) = open_on(&self.files, &self.nodes, fd) else {
             return HostReply::Refused(Errno::EBADF);
-        };
-        let Some(node) = self.nodes.get(file.object) else {
-            return HostReply::Refused(Errno::EIO);
         };
         if let Some(errno) = times_refusal(seat, file, node, through, atime, mtime) {
             return HostReply::Refused(errno);
@@ -103,11 +95,8 @@ impl Store {
             (state_of self.old) result (state_of self.new) }
         ensures kept { IsKeptBy self.new }
     {
-        let Some(file) = self.files.get(fd) else {
+        let Some((file, node)) = open_on(&self.files, &self.nodes, fd) else {
             return HostReply::Refused(Errno::EBADF);
-        };
-        let Some(node) = self.nodes.get(file.object) else {
-            return HostReply::Refused(Errno::EIO);
         };
         if let Some(errno) = set_xattr_refusal(file, through, name, value, flags, &node.xattrs) {
             return HostReply::Refused(errno);
@@ -130,11 +119,8 @@ impl Store {
         ensures { AnswersAs (on_row (state_of self.now) fd (get_xattr_row through name.now size))
             (state_of self.now) result (state_of self.now) }
     {
-        let Some(file) = self.files.get(fd) else {
+        let Some((file, node)) = open_on(&self.files, &self.nodes, fd) else {
             return HostReply::Refused(Errno::EBADF);
-        };
-        let Some(node) = self.nodes.get(file.object) else {
-            return HostReply::Refused(Errno::EIO);
         };
         if does_not_serve(file, through) {
             return HostReply::Refused(Errno::EBADF);
@@ -156,11 +142,8 @@ impl Store {
         ensures { AnswersAs (on_row (state_of self.now) fd (list_xattr_row through size)) (state_of self.now) result
             (state_of self.now) }
     {
-        let Some(file) = self.files.get(fd) else {
+        let Some((file, node)) = open_on(&self.files, &self.nodes, fd) else {
             return HostReply::Refused(Errno::EBADF);
-        };
-        let Some(node) = self.nodes.get(file.object) else {
-            return HostReply::Refused(Errno::EIO);
         };
         if does_not_serve(file, through) {
             return HostReply::Refused(Errno::EBADF);
@@ -183,11 +166,8 @@ impl Store {
             ≡ on_row (state_of self.old) fd (remove_xattr_row (state_of self.old) through name.now) }
         ensures kept { IsKeptBy self.new }
     {
-        let Some(file) = self.files.get(fd) else {
+        let Some((file, node)) = open_on(&self.files, &self.nodes, fd) else {
             return HostReply::Refused(Errno::EBADF);
-        };
-        let Some(node) = self.nodes.get(file.object) else {
-            return HostReply::Refused(Errno::EIO);
         };
         if does_not_serve(file, through) {
             return HostReply::Refused(Errno::EBADF);

@@ -19,6 +19,7 @@ ghost use Rattle.pt_rules.specs.ContentCalls.{
 };
 ghost use Rattle.pt_node.specs.Limits.{file_max};
 
+use crate::finding::open_on;
 use crate::store::Store;
 use pt_change::contents::{
     allocate_refusal, copy_refusal, is_path_only, lengthens, resized, sought, truncate_refusal,
@@ -70,11 +71,8 @@ impl Store {
             (state_of self.old) result (state_of self.new) }
         ensures kept { IsKeptBy self.new }
     {
-        let Some(file) = self.files.get(fd) else {
+        let Some((file, node)) = open_on(&self.files, &self.nodes, fd) else {
             return HostReply::Refused(Errno::EBADF);
-        };
-        let Some(node) = self.nodes.get(file.object) else {
-            return HostReply::Refused(Errno::EIO);
         };
         let start = if append { node.content.size() } else { offset };
         if let Some(errno) = write_refusal(file, start, bytes.len() as u64) {
@@ -92,16 +90,13 @@ impl Store {
             (state_of self.old) result (state_of self.new) }
         ensures kept { IsKeptBy self.new }
     {
-        let Some(file) = self.files.get(fd) else {
+        let now = self.now();
+        let Some((file, node)) = open_on(&self.files, &self.nodes, fd) else {
             return HostReply::Refused(Errno::EBADF);
-        };
-        let Some(node) = self.nodes.get(file.object) else {
-            return HostReply::Refused(Errno::EIO);
         };
         if let Some(errno) = truncate_refusal(file, size) {
             return HostReply::Refused(errno);
         }
-        let now = self.now();
         match resized(self.alloc, size as usize, node.content.bytes()) {
             Ok(bytes) => {
                 self.nodes[file.object].refill(seat, bytes, now);
@@ -118,11 +113,9 @@ impl Store {
             (state_of self.old) result (state_of self.new) }
         ensures kept { IsKeptBy self.new }
     {
-        let Some(file) = self.files.get(fd) else {
+        let now = self.now();
+        let Some((file, node)) = open_on(&self.files, &self.nodes, fd) else {
             return HostReply::Refused(Errno::EBADF);
-        };
-        let Some(node) = self.nodes.get(file.object) else {
-            return HostReply::Refused(Errno::EIO);
         };
         if let Some(errno) = allocate_refusal(file, mode, offset, size) {
             return HostReply::Refused(errno);
@@ -131,7 +124,6 @@ impl Store {
         if !lengthens(mode, node.content.size(), end) {
             return HostReply::Ok(HostValue::Unit);
         }
-        let now = self.now();
         match resized(self.alloc, end as usize, node.content.bytes()) {
             Ok(bytes) => {
                 self.nodes[file.object].rewrite(bytes, now);
@@ -146,11 +138,8 @@ impl Store {
         ensures answers { (result, state_of self.new) ≡ seek (state_of self.old) fd offset whence }
         ensures kept { IsKeptBy self.new }
     {
-        let Some(file) = self.files.get(fd) else {
+        let Some((file, node)) = open_on(&self.files, &self.nodes, fd) else {
             return HostReply::Refused(Errno::EBADF);
-        };
-        let Some(node) = self.nodes.get(file.object) else {
-            return HostReply::Refused(Errno::EIO);
         };
         if is_path_only(file) {
             return HostReply::Refused(Errno::EBADF);
@@ -181,17 +170,11 @@ impl Store {
         ensures kept { IsKeptBy self.new }
     {
         let now = self.now();
-        let Some(file) = self.files.get(from.0) else {
+        let Some((file, node)) = open_on(&self.files, &self.nodes, from.0) else {
             return HostReply::Refused(Errno::EBADF);
         };
-        let Some(node) = self.nodes.get(file.object) else {
-            return HostReply::Refused(Errno::EIO);
-        };
-        let Some(file2) = self.files.get(to.0) else {
+        let Some((file2, target)) = open_on(&self.files, &self.nodes, to.0) else {
             return HostReply::Refused(Errno::EBADF);
-        };
-        let Some(target) = self.nodes.get(file2.object) else {
-            return HostReply::Refused(Errno::EIO);
         };
         let part = part_of(node.content.bytes(), from.1, size);
         let count = part.len() as u64;
@@ -216,12 +199,9 @@ impl Store {
         requires { IsKeptBy self.now }
         ensures { (result, state_of self.now) ≡ on_row (state_of self.now) fd flush_row }
     {
-        let Some(file) = self.files.get(fd) else {
+        let Some((file, _)) = open_on(&self.files, &self.nodes, fd) else {
             return HostReply::Refused(Errno::EBADF);
         };
-        if file.object >= self.nodes.len() {
-            return HostReply::Refused(Errno::EIO);
-        }
         HostReply::Ok(HostValue::Unit)
     }
 
@@ -230,12 +210,9 @@ impl Store {
         requires { IsKeptBy self.now }
         ensures { (result, state_of self.now) ≡ on_row (state_of self.now) fd sync_row }
     {
-        let Some(file) = self.files.get(fd) else {
+        let Some((file, _)) = open_on(&self.files, &self.nodes, fd) else {
             return HostReply::Refused(Errno::EBADF);
         };
-        if file.object >= self.nodes.len() {
-            return HostReply::Refused(Errno::EIO);
-        }
         if is_path_only(file) {
             return HostReply::Refused(Errno::EBADF);
         }

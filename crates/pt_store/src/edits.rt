@@ -260,7 +260,7 @@ impl Store {
         let now = self.now();
         let object = self.nodes.len();
         let Some(parent) = self.nodes.get(dir) else {
-            return HostReply::Refused(Errno::EIO);
+            return HostReply::Refused(Errno::ENOENT);
         };
         let Ok(name) = name.to_vec(self.alloc) else {
             return HostReply::NoMemory;

@@ -7,6 +7,7 @@ pub mod building;
 pub mod content_calls;
 pub mod edits;
 pub mod fd_path;
+pub mod finding;
 pub mod list_calls;
 pub mod name_calls;
 pub mod opening_calls;

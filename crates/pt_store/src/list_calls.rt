@@ -2,6 +2,7 @@ ghost use Rattle.pt_store.specs.StoreState.{IsKeptBy, state_of};
 ghost use Rattle.pt_rules.specs.Does.{AnswersAs};
 ghost use Rattle.pt_rules.specs.ListCalls.{list_at};
 
+use crate::finding::open_on;
 use crate::store::Store;
 use pt_change::records::{list_refusal, records_from};
 use pt_host::{Bytes, Errno, Fd, HostReply, HostValue};
@@ -13,17 +14,14 @@ impl Store {
             (state_of self.new) }
         ensures kept { IsKeptBy self.new }
     {
-        let Some(file) = self.files.get(fd) else {
+        let now = self.now();
+        let Some((file, node)) = open_on(&self.files, &self.nodes, fd) else {
             return HostReply::Refused(Errno::EBADF);
-        };
-        let Some(node) = self.nodes.get(file.object) else {
-            return HostReply::Refused(Errno::EIO);
         };
         let start = offset.unwrap_or(file.position);
         if let Some(errno) = list_refusal(file, node, start, size) {
             return HostReply::Refused(errno);
         }
-        let now = self.now();
         match records_from(self.alloc, &self.nodes, node, start, size) {
             Ok(listed) => {
                 self.nodes[file.object].list_to(now, listed.place as usize, listed.next);

@@ -14,6 +14,7 @@ ghost use Rattle.pt_rules.specs.NameCalls.{
   with_linked,
 };
 
+use crate::finding::{led_on, open_on};
 use crate::store::Store;
 use pt_change::name_checks::{
     content_of_kind, kind_bits, link_refusal, make_refusal, masked, name_refusal, node_refusal,
@@ -33,11 +34,8 @@ impl Store {
             (state_of self.old) result (state_of self.new) }
         ensures kept { IsKeptBy self.new }
     {
-        let Some(file) = self.files.get(fd) else {
+        let Some((file, dir)) = open_on(&self.files, &self.nodes, fd) else {
             return HostReply::Refused(Errno::EBADF);
-        };
-        let Some(dir) = self.nodes.get(file.object) else {
-            return HostReply::Refused(Errno::EIO);
         };
         if let Some(errno) = name_refusal(seat, dir, name) {
             return HostReply::Refused(errno);
@@ -72,11 +70,8 @@ impl Store {
             (state_of self.old) result (state_of self.new) }
         ensures kept { IsKeptBy self.new }
     {
-        let Some(file) = self.files.get(fd) else {
+        let Some((file, dir)) = open_on(&self.files, &self.nodes, fd) else {
             return HostReply::Refused(Errno::EBADF);
-        };
-        let Some(dir) = self.nodes.get(file.object) else {
-            return HostReply::Refused(Errno::EIO);
         };
         if let Some(errno) = name_refusal(seat, dir, name) {
             return HostReply::Refused(errno);
@@ -108,11 +103,8 @@ impl Store {
             (state_of self.old) result (state_of self.new) }
         ensures kept { IsKeptBy self.new }
     {
-        let Some(file) = self.files.get(fd) else {
+        let Some((file, dir)) = open_on(&self.files, &self.nodes, fd) else {
             return HostReply::Refused(Errno::EBADF);
-        };
-        let Some(dir) = self.nodes.get(file.object) else {
-            return HostReply::Refused(Errno::EIO);
         };
         if let Some(errno) = name_refusal(seat, dir, name) {
             return HostReply::Refused(errno);
@@ -173,17 +165,11 @@ impl Store {
             (state_of self.old) result (state_of self.new) }
         ensures kept { IsKeptBy self.new }
     {
-        let Some(linked) = self.files.get(from) else {
+        let Some((linked, node)) = open_on(&self.files, &self.nodes, from) else {
             return HostReply::Refused(Errno::EBADF);
         };
-        let Some(node) = self.nodes.get(linked.object) else {
-            return HostReply::Refused(Errno::EIO);
-        };
-        let Some(file) = self.files.get(fd) else {
+        let Some((file, dir)) = open_on(&self.files, &self.nodes, fd) else {
             return HostReply::Refused(Errno::EBADF);
-        };
-        let Some(dir) = self.nodes.get(file.object) else {
-            return HostReply::Refused(Errno::EIO);
         };
         if let Some(errno) = name_refusal(seat, dir, name) {
             return HostReply::Refused(errno);
@@ -205,20 +191,14 @@ impl Store {
         ensures answers { (result, state_of self.new) ≡ unlink (state_of self.old) seat.now fd name.now }
         ensures kept { IsKeptBy self.new }
     {
-        let Some(file) = self.files.get(fd) else {
+        let Some((file, dir)) = open_on(&self.files, &self.nodes, fd) else {
             return HostReply::Refused(Errno::EBADF);
-        };
-        let Some(dir) = self.nodes.get(file.object) else {
-            return HostReply::Refused(Errno::EIO);
         };
         if let Some(errno) = name_refusal(seat, dir, name) {
             return HostReply::Refused(errno);
         }
-        let Some(object) = dir.content.lookup(name) else {
+        let Some((object, node)) = led_on(&self.nodes, dir.content.lookup(name)) else {
             return HostReply::Refused(Errno::ENOENT);
-        };
-        let Some(node) = self.nodes.get(object) else {
-            return HostReply::Refused(Errno::EIO);
         };
         if let Some(errno) = take_refusal(seat, dir, node) {
             return HostReply::Refused(errno);
@@ -232,20 +212,14 @@ impl Store {
         ensures answers { (result, state_of self.new) ≡ remove_dir (state_of self.old) seat.now fd name.now }
         ensures kept { IsKeptBy self.new }
     {
-        let Some(file) = self.files.get(fd) else {
+        let Some((file, dir)) = open_on(&self.files, &self.nodes, fd) else {
             return HostReply::Refused(Errno::EBADF);
-        };
-        let Some(dir) = self.nodes.get(file.object) else {
-            return HostReply::Refused(Errno::EIO);
         };
         if let Some(errno) = name_refusal(seat, dir, name) {
             return HostReply::Refused(errno);
         }
-        let Some(object) = dir.content.lookup(name) else {
+        let Some((object, node)) = led_on(&self.nodes, dir.content.lookup(name)) else {
             return HostReply::Refused(Errno::ENOENT);
-        };
-        let Some(node) = self.nodes.get(object) else {
-            return HostReply::Refused(Errno::EIO);
         };
         if let Some(errno) = remove_refusal(seat, dir, node) {
             return HostReply::Refused(errno);

@@ -19,6 +19,7 @@ ghost use Rattle.pt_rules.specs.OpeningCalls.{
   tell_mounts,
 };
 
+use crate::finding::open_on;
 use crate::store::{Store, begun_on};
 use pt_change::name_checks::{masked, name_refusal};
 use pt_change::node_edits::add_node;
@@ -42,12 +43,9 @@ impl Store {
             (state_of self.old) result (state_of self.new) }
         ensures kept { IsKeptBy self.new }
     {
-        let Some(file) = self.files.get(fd) else {
+        let Some((file, _)) = open_on(&self.files, &self.nodes, fd) else {
             return HostReply::Refused(Errno::EBADF);
         };
-        if file.object >= self.nodes.len() {
-            return HostReply::Refused(Errno::EIO);
-        }
         let found = walk_from(&self.nodes, file.object, path);
         self.open_found(seat, flags, found)
     }
@@ -74,7 +72,7 @@ impl Store {
         let length = self.files.len();
         let now = self.now();
         let Some(parent) = self.nodes.get(dir) else {
-            return HostReply::Refused(Errno::EIO);
+            return HostReply::Refused(Errno::ENOENT);
         };
         let dev = parent.ids.dev;
         let Ok(name) = name.to_vec(self.alloc) else {
@@ -127,11 +125,8 @@ impl Store {
             (state_of self.old) result (state_of self.new) }
         ensures kept { IsKeptBy self.new }
     {
-        let Some(file) = self.files.get(fd) else {
+        let Some((file, dir)) = open_on(&self.files, &self.nodes, fd) else {
             return HostReply::Refused(Errno::EBADF);
-        };
-        let Some(dir) = self.nodes.get(file.object) else {
-            return HostReply::Refused(Errno::EIO);
         };
         if let Some(errno) = name_refusal(seat, dir, name) {
             return HostReply::Refused(errno);
@@ -218,11 +213,8 @@ impl Store {
             (state_of self.old) result (state_of self.new) }
         ensures kept { IsKeptBy self.new }
     {
-        let Some(file) = self.files.get(fd) else {
+        let Some((file, node)) = open_on(&self.files, &self.nodes, fd) else {
             return HostReply::Refused(Errno::EBADF);
-        };
-        let Some(node) = self.nodes.get(file.object) else {
-            return HostReply::Refused(Errno::EIO);
         };
         if file.flags.includes(OpenFlags::O_PATH) {
             return HostReply::Refused(Errno::EBADF);
@@ -230,7 +222,8 @@ impl Store {
         if !seat.eff_caps.includes(Caps::DAC_READ_SEARCH) {
             return HostReply::Refused(Errno::EPERM);
         }
-        let found = self.handled(node.ids.mnt_id, handle).ok_or(Errno::ESTALE);
+        let mount = node.ids.mnt_id;
+        let found = self.handled(mount, handle).ok_or(Errno::ESTALE);
         self.open_found(seat, flags, found)
     }
 
@@ -238,11 +231,8 @@ impl Store {
         requires { IsKeptBy self.now }
         ensures { (result, state_of self.now) ≡ tell_handle (state_of self.now) fd }
     {
-        let Some(file) = self.files.get(fd) else {
+        let Some((file, node)) = open_on(&self.files, &self.nodes, fd) else {
             return HostReply::Refused(Errno::EBADF);
-        };
-        let Some(node) = self.nodes.get(file.object) else {
-            return HostReply::Refused(Errno::EIO);
         };
         if !node.has_handle {
             return HostReply::Refused(Errno::EOPNOTSUPP);
@@ -257,11 +247,8 @@ impl Store {
         requires { IsKeptBy self.now }
         ensures { (result, state_of self.now) ≡ on_row (state_of self.now) fd (stat_fs_row (state_of self.now)) }
     {
-        let Some(file) = self.files.get(fd) else {
+        let Some((file, node)) = open_on(&self.files, &self.nodes, fd) else {
             return HostReply::Refused(Errno::EBADF);
-        };
-        let Some(node) = self.nodes.get(file.object) else {
-            return HostReply::Refused(Errno::EIO);
         };
         HostReply::Ok(HostValue::FsStat(FsStat {
             blocks: 0,
@@ -281,16 +268,13 @@ impl Store {
             (state_of self.old) result (state_of self.new) }
         ensures kept { IsKeptBy self.new }
     {
-        let Some(file) = self.files.get(fd) else {
+        let now = self.now();
+        let Some((file, node)) = open_on(&self.files, &self.nodes, fd) else {
             return HostReply::Refused(Errno::EBADF);
-        };
-        let Some(node) = self.nodes.get(file.object) else {
-            return HostReply::Refused(Errno::EIO);
         };
         if !node.is_link() {
             return HostReply::Refused(Errno::EINVAL);
         }
-        let now = self.now();
         match Bytes::from_slice(self.alloc, node.content.bytes()) {
             Ok(target) => {
                 self.nodes[file.object].atime = now;

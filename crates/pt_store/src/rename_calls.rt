@@ -16,6 +16,7 @@ ghost use Rattle.pt_rules.specs.NameCalls.{
   with_exchanged,
 };
 
+use crate::finding::open_on;
 use crate::store::Store;
 use pt_change::name_checks::name_refusal;
 use pt_change::node_edits::exchange;
@@ -42,10 +43,10 @@ impl Store {
         ensures { result ≡ rename_refusal (state_of self.now) seat.now from to object target flags }
     {
         let Some(node) = self.nodes.get(object) else {
-            return Some(Errno::EIO);
+            return Some(Errno::ENOENT);
         };
         let (Some(source), Some(dir)) = (self.nodes.get(from), self.nodes.get(to)) else {
-            return Some(Errno::EIO);
+            return Some(Errno::ENOENT);
         };
         let unwritable = is_unwritable(seat, source, dir);
         let apart = source.ids.mnt_id != dir.ids.mnt_id;
@@ -147,17 +148,11 @@ impl Store {
             (state_of self.old) result (state_of self.new) }
         ensures kept { IsKeptBy self.new }
     {
-        let Some(other) = self.files.get(to.0) else {
+        let Some((other, into)) = open_on(&self.files, &self.nodes, to.0) else {
             return HostReply::Refused(Errno::EBADF);
         };
-        let Some(into) = self.nodes.get(other.object) else {
-            return HostReply::Refused(Errno::EIO);
-        };
-        let Some(file) = self.files.get(from.0) else {
+        let Some((file, dir)) = open_on(&self.files, &self.nodes, from.0) else {
             return HostReply::Refused(Errno::EBADF);
-        };
-        let Some(dir) = self.nodes.get(file.object) else {
-            return HostReply::Refused(Errno::EIO);
         };
         if let Some(errno) = name_refusal(seat, dir, from.1) {
             return HostReply::Refused(errno);

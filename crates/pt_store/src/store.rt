@@ -20,6 +20,7 @@ ghost use Rattle.pt_rules.specs.Finding.{find_name};
 ghost use Rattle.pt_rules.specs.OpeningCalls.{open_named};
 ghost use Rattle.pt_node.specs.Paths.{walk_root};
 
+use crate::finding::open_on;
 use crate::plans::Plans;
 use pt_change::name_checks::name_refusal;
 use pt_host::{Bytes, Errno, Fd, HostReply, HostSeat, HostValue, OpenFlags, Time};
@@ -81,7 +82,7 @@ impl Store {
         ensures kept { IsKeptBy self.new }
     {
         let Some(node) = self.nodes.get(object) else {
-            return HostReply::Refused(Errno::EIO);
+            return HostReply::Refused(Errno::ESTALE);
         };
         if let Some(errno) = opening_refusal(seat, node, flags) {
             return HostReply::Refused(errno);
@@ -122,8 +123,7 @@ impl Store {
     fn find(&self, seat: &HostSeat, fd: Fd, name: &[u8]) -> Result<usize, Errno>
         ensures { result ≡ find_name self.now.nodes.items seat.now name.now (open_at self.now.files fd.0) }
     {
-        let dir = self.files.get(fd).ok_or(Errno::EBADF)?;
-        let dir = self.nodes.get(dir.object).ok_or(Errno::EIO)?;
+        let (_, dir) = open_on(&self.files, &self.nodes, fd).ok_or(Errno::EBADF)?;
         if let Some(errno) = name_refusal(seat, dir, name) {
             return Err(errno);
         }
@@ -145,16 +145,11 @@ impl Store {
         requires { IsKeptBy self.now }
         ensures { (result, state_of self.now) ≡ tell_status (state_of self.now) fd }
     {
-        let Some(file) = self.files.get(fd) else {
+        let Some((file, node)) = open_on(&self.files, &self.nodes, fd) else {
             return HostReply::Refused(Errno::EBADF);
         };
-        match self.nodes.get(file.object) {
-            Some(node) => {
-                let links = self.links_of(file.object, node);
-                HostReply::Ok(HostValue::Stat(node.status(links)))
-            }
-            None => HostReply::Refused(Errno::EIO),
-        }
+        let links = self.links_of(file.object, node);
+        HostReply::Ok(HostValue::Stat(node.status(links)))
     }
 
     pub fn read(&mut self, fd: Fd, offset: u64, size: u32) -> HostReply
@@ -163,16 +158,13 @@ impl Store {
             (state_of self.old) result (state_of self.new) }
         ensures kept { IsKeptBy self.new }
     {
-        let Some(file) = self.files.get(fd) else {
+        let now = self.now();
+        let Some((file, node)) = open_on(&self.files, &self.nodes, fd) else {
             return HostReply::Refused(Errno::EBADF);
-        };
-        let Some(node) = self.nodes.get(file.object) else {
-            return HostReply::Refused(Errno::EIO);
         };
         if let Some(errno) = read_refusal(node, file.flags) {
             return HostReply::Refused(errno);
         }
-        let now = self.now();
         match Bytes::from_slice(
             self.alloc,
             part_of(node.content.bytes(), offset, u64::from(size)),

@@ -8,7 +8,7 @@ use Rattle.pt_host.specs.LawfulContents.{LeftByOpening, empties}
 use Rattle.pt_host.specs.declared.flags.OpenFlags.{OpenFlags}
 use Rattle.pt_host.specs.declared.ids.Time.{Time}
 use Rattle.pt_host.specs.declared.seat.HostSeat.{HostSeat}
-use Rattle.pt_node.specs.Opening.{emptied, permissions_after, without_set_group, without_set_user}
+use Rattle.pt_node.specs.Opening.{emptied, without_set_group, without_set_user}
 use Rattle.pt_node.specs.Permission.{fsetid}
 use Rattle.pt_node.specs.declared.node.Content.{Content}
 use Rattle.pt_node.specs.declared.node.Content.TheVariants.{Directory, Link, Regular, Special}

@@ -1,6 +1,6 @@
 -- Proof. What is found lives: at the end of a path, under a name, by a descriptor.
 use Rattle.std.proofs.Common.{◌≡◌, ◌⊎◌, inl, inr, ℕ, Bool, true, false, cond, ◌==◌, List, [], ◌∷◌, Option, Some, None}
-use Rattle.std.proofs.Common.{Result, Ok, Err, ok_or, slice_get, option_and_then, refl, ap, sym, ◌∙◌, subst}
+use Rattle.std.proofs.Common.{Result, Ok, Err, ok_or, slice_get, option_map, option_and_then, refl, ap, sym, ◌∙◌, subst}
 use Rattle.pt_host.specs.Errno.{enoent, enotdir}
 use Rattle.pt_host.specs.declared.flags.OpenFlags.{OpenFlags}
 use Rattle.pt_host.specs.declared.ids.Errno.{Errno}
@@ -11,7 +11,7 @@ use Rattle.pt_node.specs.Names.{found}
 use Rattle.pt_node.specs.Node.{is_directory, name_at, names_in}
 use Rattle.pt_node.specs.Slots.{open_at}
 use Rattle.pt_rules.specs.State.{State}
-use Rattle.pt_rules.specs.Calls.{name_refusal, on_file, on_node, open_walked, unless}
+use Rattle.pt_rules.specs.Calls.{name_refusal, on_open, open_on, open_walked, unless}
 use Rattle.pt_rules.specs.NameCalls.{there_in}
 use Rattle.pt_rules.specs.OpeningCalls.{open_named}
 use Rattle.pt_rules.specs.Finding.{find_in, find_name}
@@ -25,17 +25,19 @@ found_where (Some errno) held object is = cc
 found_where None None object is = cc
 found_where None (Some other) object is = (let e : other ≡ object = cc in ap (λ o. Some o) e)
 
-found_in : (seat : HostSeat) (name : List ℕ) (object : ℕ) (dir : Option Node) → find_in seat name dir ≡ Ok object →
+found_in : (seat : HostSeat) (name : List ℕ) (object : ℕ) (file : OpenFile) (dir : Option Node) →
+    find_in seat name (option_map (λ node. (file, node)) dir) ≡ Ok object →
     option_and_then (λ node. found name (names_in node.content)) dir ≡ Some object
-found_in seat name object None is = cc
-found_in seat name object (Some dir) is =
+found_in seat name object file None is = cc
+found_in seat name object file (Some dir) is =
     found_where (name_refusal seat dir name) (found name (names_in dir.content)) object is
 
 pub found_name : (nodes : List Node) (seat : HostSeat) (name : List ℕ) (object : ℕ) (file : Option OpenFile) →
     find_name nodes seat name file ≡ Ok object →
     (dir : OpenFile) × (file ≡ Some dir) × (name_at nodes dir.object name ≡ Some object)
 found_name nodes seat name object None is = cc
-found_name nodes seat name object (Some dir) is = (dir, refl, found_in seat name object (slice_get nodes dir.object) is)
+found_name nodes seat name object (Some dir) is =
+    (dir, refl, found_in seat name object dir (slice_get nodes dir.object) is)
 
 -- ---- the end of a path
 
@@ -114,24 +116,16 @@ named_where : (state : State) (seat : HostSeat) (flags : OpenFlags) (refusal : O
 named_where state seat flags None held = refl
 named_where state seat flags (Some errno) held = refl
 
-named_in : (state : State) (seat : HostSeat) (name : List ℕ) (flags : OpenFlags) (dir : Option Node) →
-    on_node state dir (λ parent.
+named_in : (state : State) (seat : HostSeat) (name : List ℕ) (flags : OpenFlags) (at : Option (OpenFile × Node)) →
+    on_open state at (λ held parent.
     unless state (name_refusal seat parent name)
     (open_walked state seat flags (ok_or (there_in parent name) enoent)))
-    ≡ open_walked state seat flags (find_in seat name dir)
+    ≡ open_walked state seat flags (find_in seat name at)
 named_in state seat name flags None = refl
-named_in state seat name flags (Some dir) =
-    named_where state seat flags (name_refusal seat dir name) (there_in dir name)
-
-named_by : (state : State) (seat : HostSeat) (name : List ℕ) (flags : OpenFlags) (file : Option OpenFile) →
-    on_file state file (λ held parent.
-    unless state (name_refusal seat parent name)
-    (open_walked state seat flags (ok_or (there_in parent name) enoent)))
-    ≡ open_walked state seat flags (find_name state.nodes seat name file)
-named_by state seat name flags None = refl
-named_by state seat name flags (Some file) = named_in state seat name flags (slice_get state.nodes file.object)
+named_in state seat name flags (Some at) =
+    named_where state seat flags (name_refusal seat at.1 name) (there_in at.1 name)
 
 pub named_is : (state : State) (seat : HostSeat) (fd : Fd) (name : List ℕ) (flags : OpenFlags) →
     open_named state seat fd name flags
     ≡ open_walked state seat flags (find_name state.nodes seat name (open_at state.slots fd.0))
-named_is state seat fd name flags = named_by state seat name flags (open_at state.slots fd.0)
+named_is state seat fd name flags = named_in state seat name flags (open_on state.nodes (open_at state.slots fd.0))

@@ -10,7 +10,7 @@ use Rattle.std.specs.Str.{bytes_eq}
 use Rattle.std.proofs.lemmas.Bool.{eqb-true, ltb-true}
 use Rattle.std.proofs.lemmas.Option.{same_Some, slice_get-map}
 use Rattle.std.proofs.lemmas.Slice.Eq.{bytes_eq-Decides}
-use Rattle.pt_host.specs.Errno.{ebadf, eio, eopnotsupp, eoverflow, estale}
+use Rattle.pt_host.specs.Errno.{ebadf, eopnotsupp, eoverflow, estale}
 use Rattle.pt_host.specs.LawfulTree.{HasHandle, RefusesHandle}
 use Rattle.pt_host.specs.Tree.{IsObject, IsOpenOn, Object}
 use Rattle.pt_host.specs.declared.flags.OpenFlags.{OpenFlags}
@@ -20,7 +20,7 @@ use Rattle.pt_host.specs.declared.ids.Fd.{Fd}
 use Rattle.pt_host.specs.declared.seat.HostSeat.{HostSeat}
 use Rattle.pt_host.specs.declared.op.KeptHostOp.TheVariants as call
 use Rattle.pt_host.specs.declared.reply.HostValue.TheVariants as value
-use Rattle.pt_rules.specs.Calls.{checked, on_file, on_node, refused, tells}
+use Rattle.pt_rules.specs.Calls.{checked, on_open, open_on, refused, tells}
 use Rattle.pt_rules.specs.Living.{held_by, is_alive}
 use Rattle.pt_rules.specs.Holds.{HasHold}
 use Rattle.pt_node.specs.Node.{handle_of, object_of}
@@ -85,16 +85,16 @@ module _ (state : State) (fd : Fd) (sound : IsSound state) where
 
   node_fair : (file : OpenFile) (node : Option Node) → open_at state.slots fd.0 ≡ Some file →
       slice_get state.nodes file.object ≡ node → IsFair state (call.HandleOf fd)
-      (on_node state node (λ at.
+      (on_open state (option_map (λ at. (file, at)) node) (λ held at.
       checked state ((not at.has_handle, eopnotsupp) ∷ []) (tells state (value.Handle (told_handle at)))))
   node_fair file None is there =
-      fair_refused state (call.HandleOf fd) eio sound
-      (other_errno state fd eio (errnos_apart 5 95 refl) (errnos_apart 5 75 refl), refl)
+      fair_refused state (call.HandleOf fd) ebadf sound
+      (other_errno state fd ebadf (errnos_apart 9 95 refl) (errnos_apart 9 75 refl), refl)
   node_fair file (Some node) is there = told_where file node node.has_handle is there refl
 
   file_fair : (file : Option OpenFile) → open_at state.slots fd.0 ≡ file →
       IsFair state (call.HandleOf fd)
-      (on_file state file (λ held at.
+      (on_open state (open_on state.nodes file) (λ held at.
       checked state ((not at.has_handle, eopnotsupp) ∷ []) (tells state (value.Handle (told_handle at)))))
   file_fair None is =
       fair_refused state (call.HandleOf fd) ebadf sound

@@ -1,5 +1,5 @@
 -- Proof. Every step is lawful.
-use Rattle.std.proofs.Common.{◌≡◌, ◌<◌, ◌^◌, inl, inr, ℕ, Bool, true, false, length, Option, Some, None, refl, sym}
+use Rattle.std.proofs.Common.{◌≡◌, ◌<◌, ◌^◌, inl, inr, ℕ, length, Option, Some, None, refl, sym}
 use Rattle.std.proofs.Common.{subst, arith, ◌+◌}
 use Rattle.std.proofs.lemmas.Option.{same_Some}
 use Rattle.pt_host.specs.Call.{Call}

@@ -1,5 +1,5 @@
 -- Proof. `MakeLink`: what it leaves of the tree and beside it.
-use Rattle.std.proofs.Common.{◌≡◌, ◌<◌, ◌==◌, inl, inr, ℕ, false, not, List, map, Some, None, is_some, slice_get}
+use Rattle.std.proofs.Common.{◌≡◌, ◌==◌, inl, inr, ℕ, not, List, map, Some, None, is_some, slice_get}
 use Rattle.std.proofs.Common.{refl, sym, ◌∙◌, subst}
 use Rattle.pt_host.specs.Tree.{IsOpenOn}
 use Rattle.pt_host.specs.declared.ids.Errno.{Errno}

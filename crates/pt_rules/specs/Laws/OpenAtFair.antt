@@ -344,7 +344,7 @@ module _ (state : State) (numbers : ℕ → ℕ) (seat : HostSeat) (fd : Fd) (na
   fair_creating : IsFair state (call.OpenAt fd name flags mode) (open_creating state numbers seat fd name flags mode)
   fair_creating =
       by_other_name state (IsFair state (call.OpenAt fd name flags mode)) eexist other_refused seat fd name _
-      (errnos_apart 9 17 refl) (errnos_apart 5 17 refl)
+      (errnos_apart 9 17 refl)
       (λ dir. (errnos_apart 20 17 refl, (errnos_apart 36 17 refl, (errnos_apart 13 17 refl, tt))))
       (λ file dir is there asks. creates_or_opens file dir is there asks (there_in dir name) refl
       (includes flags.0 o_path || includes flags.0 o_directory) (includes flags.0 o_excl) refl refl)

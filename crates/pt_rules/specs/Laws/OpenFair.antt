@@ -6,7 +6,7 @@ use Rattle.std.proofs.lemmas.Bool.Decides.{eqb_tells}
 use Rattle.std.proofs.lemmas.List.{length-map}
 use Rattle.std.proofs.lemmas.Option.{same_Some, slice_get_within, slice_get-map}
 use Rattle.pt_host.specs.Call.{Call}
-use Rattle.pt_host.specs.Errno.{ebadf, eexist, eio, enoent}
+use Rattle.pt_host.specs.Errno.{ebadf, eexist, enoent, estale}
 use Rattle.pt_host.specs.Flags.{includes, o_creat, o_excl, o_path, o_trunc}
 use Rattle.pt_host.specs.LawfulContents.{LeftByOpening, StaysOpen, begun, empties}
 use Rattle.pt_host.specs.LawfulTree.{TreeChanges, Opens}
@@ -186,7 +186,7 @@ fair_opening_of : (state : State) (seat : HostSeat) (asked : Call) (flags : Open
     slice_get state.nodes object ≡ node → HasHold state object → OpensBy state asked flags object →
     IsFair state asked (opening_of state seat flags object node)
 fair_opening_of state seat asked flags object None sound is lives by =
-    fair_refused state asked eio sound (by.refuses eio (errnos_apart 5 2 refl))
+    fair_refused state asked estale sound (by.refuses estale (errnos_apart 116 2 refl))
 fair_opening_of state seat asked flags object (Some node) sound is lives by =
     fair_unless state seat asked flags object node sound is lives by (opening_refusal seat node flags.0) refl
 

@@ -7,7 +7,7 @@ use Rattle.std.proofs.lemmas.Option.{same_Some, slice_get_within}
 use Rattle.std.proofs.lemmas.Bool.Decides.{eqb_tells}
 use Rattle.pt_host.specs.Words.{set_at}
 use Rattle.pt_host.specs.Flags.{includes, o_path, o_tmpfile}
-use Rattle.pt_host.specs.Errno.{errno_of, enoent, eopnotsupp, eio}
+use Rattle.pt_host.specs.Errno.{errno_of, enoent, eopnotsupp, estale}
 use Rattle.pt_host.specs.Tree.{Opened, IsOpenOn}
 use Rattle.pt_host.specs.LawfulTree.{Opens, opened_on, closed_at}
 use Rattle.pt_host.specs.declared.ids.Errno.{Errno}
@@ -186,7 +186,7 @@ opened_cases : (before : State) (seat : HostSeat) (flags : OpenFlags) (object : 
     slice_get before.nodes object ≡ node → (given, after) ≡ opening_of before seat flags object node →
     Refuses before given after ⊎ HasOpened before flags object given after
 opened_cases before seat flags object None given after is told =
-    inl (eio, ap (λ both. both.0) told, errnos_apart 5 2 refl, ap (λ both. both.1) told)
+    inl (estale, ap (λ both. both.0) told, errnos_apart 116 2 refl, ap (λ both. both.1) told)
 opened_cases before seat flags object (Some node) given after is told =
     opened_unless before seat flags object node (opening_refusal seat node flags.0) given after refl is told
 
@@ -221,10 +221,11 @@ missing_where checks (Some errno) held none first is =
 missing_where checks None None none first is = refl
 missing_where checks None (Some other) none first is = cc
 
-missing_in : (seat : HostSeat) (name : List ℕ) (dir : Option Node) → find_in seat name dir ≡ Err enoent →
+missing_in : (seat : HostSeat) (name : List ℕ) (file : OpenFile) (dir : Option Node) →
+    find_in seat name (option_map (λ node. (file, node)) dir) ≡ Err enoent →
     option_and_then (λ node. found name (names_in node.content)) dir ≡ None
-missing_in seat name None is = refl
-missing_in seat name (Some dir) is =
+missing_in seat name file None is = refl
+missing_in seat name file (Some dir) is =
     let none : NoneTells enoent (name_checks seat dir name) =
     (errnos_apart 20 2 refl, (errnos_apart 36 2 refl, (errnos_apart 13 2 refl, tt))) in
     missing_where (name_checks seat dir name) (name_refusal seat dir name)
@@ -237,7 +238,7 @@ missing_name nodes seat name None is dir held = cc
 missing_name nodes seat name (Some other) is dir held =
     let same : other ≡ dir = same_Some other dir held in
     subst (λ (file : OpenFile). name_at nodes file.object name
-    ≡ None) same (missing_in seat name (slice_get nodes other.object) is)
+    ≡ None) same (missing_in seat name other (slice_get nodes other.object) is)
 
 -- the descriptor's own object
 pub open_there : (state : State) (fd : Fd) (file : OpenFile) → open_at state.slots fd.0 ≡ Some file →

@@ -8,7 +8,7 @@ use Rattle.pt_host.specs.Errno.{enoent, eexist}
 use Rattle.pt_host.specs.declared.edit.Edit.{Edit}
 use Rattle.pt_host.specs.declared.edit.Edit.TheVariants as edit
 use Rattle.pt_host.specs.declared.ids.Errno.{Errno}
-use Rattle.pt_node.specs.Node.{is_directory, name_at, names_in, size_of}
+use Rattle.pt_node.specs.Node.{name_at, names_in, size_of}
 use Rattle.pt_rules.specs.State.{State}
 use Rattle.pt_rules.specs.Calls.{Answered, done, refused, unless}
 use Rattle.pt_node.specs.Paths.{then_on, ok_unless, parts}
@@ -133,8 +133,8 @@ not_not true is = refl
 not_not false is = cc
 
 last_directory : (dir : Option Node) (name : List ℕ) → last_refusal dir name ≡ None → is_directory_where dir ≡ true
-last_directory None name is = cc
-last_directory (Some dir) name is = not_not (is_directory dir) (passes_first (not (is_directory dir)) _ _ is).0
+last_directory dir name is =
+    not_not (is_directory_where dir) (passes_first (not (is_directory_where dir)) _ _ is).0
 
 pub judged_directory : (nodes : List Node) (path : List ℕ) (place : ℕ × List ℕ) → judged nodes path ≡ Ok place →
     is_directory_at nodes place.0 ≡ true

@@ -1,6 +1,6 @@
 -- Proof. An attribute call by a path-only descriptor that does not go through it is refused with EBADF.
 use Rattle.std.proofs.Common.{◌≡◌, ◌<◌, ℕ, zero, suc, Bool, true, false, not, ◌&&◌, List, [], ◌∷◌, length, Option}
-use Rattle.std.proofs.Common.{Some, None, slice_get, refl, ap, sym, ◌∙◌, arith}
+use Rattle.std.proofs.Common.{Some, None, option_map, slice_get, refl, ap, sym, ◌∙◌, arith}
 use Rattle.std.proofs.lemmas.Option.{same_Some}
 use Rattle.pt_host.specs.Call.{Call}
 use Rattle.pt_host.specs.Errno.{ebadf}
@@ -13,7 +13,7 @@ use Rattle.pt_host.specs.declared.seat.HostSeat.{HostSeat}
 use Rattle.pt_host.specs.declared.op.KeptHostOp.TheVariants as call
 use Rattle.pt_rules.specs.AttributeCalls.{does_not_serve, set_xattr_row, get_xattr_row, list_xattr_row}
 use Rattle.pt_rules.specs.AttributeCalls.{remove_xattr_row}
-use Rattle.pt_rules.specs.Calls.{Answered, checked, on_file, on_node}
+use Rattle.pt_rules.specs.Calls.{Answered, checked, on_open, open_on}
 use Rattle.pt_node.specs.Slots.{open_at}
 use Rattle.pt_rules.specs.Sound.{IsSound}
 use Rattle.pt_rules.specs.State.{State, tree_of}
@@ -55,16 +55,17 @@ module _ (state : State) (fd : Fd) (through : Bool) (sound : IsSound state) (goe
 
   bad_node : (file : OpenFile) → open_at state.slots fd.0 ≡ Some file → (node : Option Node) →
       slice_get state.nodes file.object ≡ node →
-      (rest : Node → Answered) → ((at : Node) → IsBadFd (rest at).0) → IsBadFd (on_node state node rest).0
+      (rest : OpenFile → Node → Answered) → ((at : Node) → IsBadFd (rest file at).0) →
+      IsBadFd (on_open state (option_map (λ at. (file, at)) node) rest).0
   bad_node file is None there rest bad = absurd (there_none state.nodes file.object (sound.opened fd.0 file is) there)
   bad_node file is (Some node) there rest bad = bad node
 
   bad_file : (file : Option OpenFile) → open_at state.slots fd.0 ≡ file → (rest : OpenFile → Node → Answered) →
       ((at : OpenFile) → open_at state.slots fd.0 ≡ Some at → (node : Node) → IsBadFd (rest at node).0) →
-      IsBadFd (on_file state file rest).0
+      IsBadFd (on_open state (open_on state.nodes file) rest).0
   bad_file None is rest bad = refl
   bad_file (Some file) is rest bad =
-      bad_node file is (slice_get state.nodes file.object) refl (rest file) (λ node. bad file is node)
+      bad_node file is (slice_get state.nodes file.object) refl rest (λ node. bad file is node)
 
   bad_row : (made : OpenFile → Node → Row) →
       ((file : OpenFile) (node : Node) → does_not_serve file through ≡ true → IsBadFirst (made file node).refusals) →

@@ -1,5 +1,5 @@
-use Rattle.std.proofs.Common.{◌<◌, ap, length, ◌∙◌, refl, slice_set, arith}
-use Rattle.std.proofs.lemmas.Option.{get_or_from_slice_get}
+use Rattle.std.proofs.Common.{ap, ◌∙◌, refl, slice_set}
+use Rattle.std.proofs.lemmas.Option.{get_or_from_slice_get, slice_get_within}
 use Rattle.pt_host.specs.declared.ids.Time.{Time}
 use Rattle.pt_node.specs.Changes.{owned}
 use Rattle.pt_rules.specs.Calls.{with_node}
@@ -11,6 +11,7 @@ use Rattle.pt_node.specs.declared.node.Node.{Node}
 use Rattle.pt_store.proofs.Holding.{get_there}
 use Rattle.pt_store.proofs.KeptCalls.{kept_node}
 use Rattle.pt_store.proofs.KeptStore.{kept_as, nodes_in}
+use Rattle.pt_store.proofs.Found.{open_there}
 use Rattle.pt_store.proofs.store.Store.change_owner.Goals as goal
 
 pub returns-clause-kept : goal.returns-clause-kept
@@ -19,9 +20,8 @@ returns-clause-kept c =
     let holds = counts_of c.args.self.now.inodes in
     let tables = table_in c.args.self.now.inodes.tables.items in
     let object = c.in-Some.file.object in
-    let within : object < length state.nodes =
-    omega (arith, c.if-file-len.false, c.len.ensures, c.args.self.now.nodes.ok.0) in
-    let at = get_there state.nodes object within in
+    let there = open_there _ _ _ c.in-Some.file _ c.in-Some.ensures.found c.deref.ensures.value in
+    let at = get_there state.nodes object (slice_get_within state.nodes object _ there) in
     let was = c.index_mut.ensures.value ∙ get_or_from_slice_get state.nodes object at.0 _ at.1 in
     let after = c.change_owner.ensures
     ∙ ap (λ (n : Node). restamped c.now-now.result (owned c.args.uid c.args.gid n)) was

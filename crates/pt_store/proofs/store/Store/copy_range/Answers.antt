@@ -1,6 +1,6 @@
-use Rattle.std.proofs.Common.{◌≡◌, ◌<◌, ◌∙◌, ℕ, ap, sym, inl, [], List, length, Some, slice_get, slice_set, arith}
+use Rattle.std.proofs.Common.{◌≡◌, ◌<◌, ◌∙◌, ℕ, ap, sym, inl, [], List, length, slice_set, arith}
 use Rattle.std.proofs.lemmas.Grind.{common_steps}
-use Rattle.std.proofs.lemmas.Option.{get_or_from_slice_get, slice_get-get_or}
+use Rattle.std.proofs.lemmas.Option.{get_or_from_slice_get}
 use Rattle.pt_host.specs.declared.ids.Time.{Time}
 use Rattle.pt_rules.specs.ContentCalls.{copy_range, written}
 use Rattle.pt_node.specs.Changes.{refilled}
@@ -10,24 +10,19 @@ use Rattle.pt_store.specs.StoreState.{state_of}
 use Rattle.pt_node.specs.declared.node.Node.{Node}
 use Rattle.pt_store.proofs.Copied.{copy_nothing, copy_some}
 use Rattle.pt_store.proofs.KeptCalls.{kept_answer, kept_copy_range}
+use Rattle.pt_store.proofs.Found.{open_is, open_there}
 use Rattle.pt_store.proofs.store.Store.copy_range.Goals as goal
 
 pub returns-in-Ok-clause-answers : goal.returns-in-Ok-clause-answers
 returns-in-Ok-clause-answers c =
     let state = state_of c.args.self.now in
     let file = c.in-Some.file in
-    let file2 = c.in-Some-get-2.file2 in
-    let node = c.in-Some-get.node.now in
-    let target = c.in-Some-get-3.target.now in
+    let file2 = c.in-Some-open_on.file2 in
+    let node = c.in-Some.node.now in
+    let target = c.in-Some-open_on.target.now in
     let part = c.part_of-part.result.now in
-    let lookup = c.in-Some-get.ensures.lookup in
-    let lookup2 = c.in-Some-get-3.ensures.lookup in
-    let at = ap (λ (ns : List Node). slice_get ns file.object) (sym c.deref.ensures.value)
-    ∙ slice_get-get_or c.deref.result.now file.object node lookup.3.0
-    ∙ ap (λ (n : Node). Some n) (sym lookup.1) in
-    let at2 = ap (λ (ns : List Node). slice_get ns file2.object) (sym c.deref-2.ensures.value)
-    ∙ slice_get-get_or c.deref-2.result.now file2.object target lookup2.3.0
-    ∙ ap (λ (n : Node). Some n) (sym lookup2.1) in
+    let at = open_there _ _ _ file node c.in-Some.ensures.found c.deref.ensures.value in
+    let at2 = open_there _ _ _ file2 target c.in-Some-open_on.ensures.found c.deref-2.ensures.value in
     let takes = c.part_of-part.ensures
     ∙ ap (λ (bytes : List ℕ). part_of c.args.from.1 c.args.size bytes) c.bytes.ensures in
     let none = sym (c.in_default-copy_refusal.ensures) in
@@ -40,8 +35,8 @@ returns-in-Ok-clause-answers c =
     ∙ ap (λ (now : Time).
     refilled c.args.seat.now now c.in-Ok.bytes c.index_mut-in-Ok-2.result.now) c.now-now.ensures in
     inl (copy_some state c.args.seat.now c.args.from.0 c.args.to.0 c.args.from.1 c.args.to.1 c.args.size c.args.flags file file2 node target
-    (sym c.in-Some.ensures) at
-    (sym c.in-Some-get-2.ensures) at2 part takes none some _ c.index_mut-in-Ok-2.result.now c.refill.new.self c.in-Ok.bytes _
+    (open_is _ _ file node c.in-Some.ensures.found) at
+    (open_is _ _ file2 target c.in-Some-open_on.ensures.found) at2 part takes none some _ c.index_mut-in-Ok-2.result.now c.refill.new.self c.in-Ok.bytes _
     same c.index_mut-in-Ok-2.ensures.value bytes becomes)
 
 pub returns-in-Ok-clause-kept : goal.returns-in-Ok-clause-kept
@@ -57,18 +52,12 @@ pub returns-then-is_empty-clause-answers : goal.returns-then-is_empty-clause-ans
 returns-then-is_empty-clause-answers c =
     let state = state_of c.args.self.now in
     let file = c.in-Some.file in
-    let file2 = c.in-Some-get-2.file2 in
-    let node = c.in-Some-get.node.now in
-    let target = c.in-Some-get-3.target.now in
+    let file2 = c.in-Some-open_on.file2 in
+    let node = c.in-Some.node.now in
+    let target = c.in-Some-open_on.target.now in
     let part = c.part_of-part.result.now in
-    let lookup = c.in-Some-get.ensures.lookup in
-    let lookup2 = c.in-Some-get-3.ensures.lookup in
-    let at = ap (λ (ns : List Node). slice_get ns file.object) (sym c.deref.ensures.value)
-    ∙ slice_get-get_or c.deref.result.now file.object node lookup.3.0
-    ∙ ap (λ (n : Node). Some n) (sym lookup.1) in
-    let at2 = ap (λ (ns : List Node). slice_get ns file2.object) (sym c.deref-2.ensures.value)
-    ∙ slice_get-get_or c.deref-2.result.now file2.object target lookup2.3.0
-    ∙ ap (λ (n : Node). Some n) (sym lookup2.1) in
+    let at = open_there _ _ _ file node c.in-Some.ensures.found c.deref.ensures.value in
+    let at2 = open_there _ _ _ file2 target c.in-Some-open_on.ensures.found c.deref-2.ensures.value in
     let takes = c.part_of-part.ensures
     ∙ ap (λ (bytes : List ℕ). part_of c.args.from.1 c.args.size bytes) c.bytes.ensures in
     let none = sym (c.in_default-copy_refusal.ensures) in
@@ -77,7 +66,7 @@ returns-then-is_empty-clause-answers c =
     let same = ap (λ (n : Node). slice_set state.nodes file.object (after_reading c.now-now.result n)) was
     ∙ ap (λ (now : Time). slice_set state.nodes file.object (after_reading now node)) c.now-now.ensures in
     inl (copy_nothing state c.args.seat.now c.args.from.0 c.args.to.0 c.args.from.1 c.args.to.1 c.args.size c.args.flags file file2 node target
-    (sym c.in-Some.ensures) at (sym c.in-Some-get-2.ensures) at2 part takes none nothing _ same)
+    (open_is _ _ file node c.in-Some.ensures.found) at (open_is _ _ file2 target c.in-Some-open_on.ensures.found) at2 part takes none nothing _ same)
 
 pub returns-then-is_empty-clause-kept : goal.returns-then-is_empty-clause-kept
 returns-then-is_empty-clause-kept c =

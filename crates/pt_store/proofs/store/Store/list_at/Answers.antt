@@ -1,5 +1,5 @@
-use Rattle.std.proofs.Common.{ap, sym, List, ◌∙◌, refl, Some, slice_get, slice_set}
-use Rattle.std.proofs.lemmas.Option.{get_or_from_slice_get, slice_get-get_or}
+use Rattle.std.proofs.Common.{ap, List, ◌∙◌, refl, slice_set}
+use Rattle.std.proofs.lemmas.Option.{get_or_from_slice_get}
 use Rattle.pt_host.specs.declared.ids.Time.{Time}
 use Rattle.pt_rules.specs.Calls.{with_node}
 use Rattle.pt_rules.specs.ContentCalls.{with_position}
@@ -12,6 +12,7 @@ use Rattle.pt_node.specs.declared.slots.Slot.{Slot}
 use Rattle.pt_rules.specs.Laws.Keeping.{keeps_reading}
 use Rattle.pt_store.proofs.KeptCalls.{kept_node, kept_placed}
 use Rattle.pt_store.proofs.KeptStore.{kept_as, parts_in}
+use Rattle.pt_store.proofs.Found.{open_there}
 use Rattle.pt_store.proofs.store.Store.list_at.Goals as goal
 
 pub returns-in-Ok-clause-kept : goal.returns-in-Ok-clause-kept
@@ -20,11 +21,8 @@ returns-in-Ok-clause-kept c =
     let holds = counts_of c.args.self.now.inodes in
     let tables = table_in c.args.self.now.inodes.tables.items in
     let object = c.in-Some.file.object in
-    let node = c.in-Some-get.node.now in
-    let lookup = c.in-Some-get.ensures.lookup in
-    let there = ap (λ (ns : List Node). slice_get ns object) (sym c.deref.ensures.value)
-    ∙ slice_get-get_or c.deref.result.now object node lookup.3.0
-    ∙ ap (λ (n : Node). Some n) (sym lookup.1) in
+    let node = c.in-Some.node.now in
+    let there = open_there _ _ _ c.in-Some.file c.in-Some.node.now c.in-Some.ensures.found c.deref.ensures.value in
     let was = c.index_mut.ensures.value ∙ get_or_from_slice_get state.nodes object node _ there in
     let listed = c.list_to.ensures ∙ ap (after_reading c.now-now.result) was
     ∙ ap (λ (now : Time). after_reading now node) c.now-now.ensures in

@@ -1,5 +1,5 @@
-use Rattle.std.proofs.Common.{ap, sym, List, ◌∙◌, refl, Some, slice_get, slice_set}
-use Rattle.std.proofs.lemmas.Option.{get_or_from_slice_get, slice_get-get_or}
+use Rattle.std.proofs.Common.{ap, ◌∙◌, refl, slice_set}
+use Rattle.std.proofs.lemmas.Option.{get_or_from_slice_get}
 use Rattle.pt_host.specs.declared.ids.Time.{Time}
 use Rattle.pt_node.specs.Numbers.{counts_of, table_in}
 use Rattle.pt_rules.specs.State.{time_of}
@@ -10,6 +10,7 @@ use Rattle.pt_node.specs.Changes.{refilled}
 use Rattle.pt_rules.specs.Laws.PlainCalls.{keeps_refilled}
 use Rattle.pt_store.proofs.KeptCalls.{kept_node}
 use Rattle.pt_store.proofs.KeptStore.{kept_as, nodes_in}
+use Rattle.pt_store.proofs.Found.{open_there}
 use Rattle.pt_store.proofs.store.Store.truncate.Goals as goal
 
 pub returns-in-Ok-clause-kept : goal.returns-in-Ok-clause-kept
@@ -18,11 +19,8 @@ returns-in-Ok-clause-kept c =
     let holds = counts_of c.args.self.now.inodes in
     let tables = table_in c.args.self.now.inodes.tables.items in
     let object = c.in-Some.file.object in
-    let node = c.in-Some-get.node.now in
-    let lookup = c.in-Some-get.ensures.lookup in
-    let there = ap (λ (ns : List Node). slice_get ns object) (sym c.deref.ensures.value)
-    ∙ slice_get-get_or c.deref.result.now object node lookup.3.0
-    ∙ ap (λ (n : Node). Some n) (sym lookup.1) in
+    let node = c.in-Some.node.now in
+    let there = open_there _ _ _ c.in-Some.file c.in-Some.node.now c.in-Some.ensures.found c.deref.ensures.value in
     let was = c.index_mut.ensures.value ∙ get_or_from_slice_get state.nodes object node _ there in
     let after = c.refill.ensures
     ∙ ap (λ (n : Node). refilled c.args.seat.now c.now-now.result c.in-Ok.bytes n) was

@@ -1,21 +1,17 @@
-use Rattle.std.proofs.Common.{rules, ap, sym, List, ◌∙◌, Some, slice_get}
-use Rattle.std.proofs.lemmas.Option.{slice_get-get_or}
+use Rattle.std.proofs.Common.{rules, ap, ◌∙◌}
 use Rattle.pt_store.specs.StoreState.{state_of}
-use Rattle.pt_node.specs.declared.node.Node.{Node}
 use Rattle.pt_store.proofs.Contents.{written_left}
 use Rattle.pt_rules.specs.ContentCalls.{with_written}
 use Rattle.pt_store.specs.declared.store.Store.{Store}
+use Rattle.pt_store.proofs.Found.{open_there}
 use Rattle.pt_store.proofs.store.Store.write_bytes.Goals.{then-append, else-append}
 use Rattle.pt_store.proofs.store.Store.write_bytes.Goals as goal
 
 pub returns-in-Ok-clause-answers : goal.returns-in-Ok-clause-answers
 returns-in-Ok-clause-answers c =
     let object = c.in-Some.file.object in
-    let node = c.in-Some-get.node.now in
-    let lookup = c.in-Some-get.ensures.lookup in
-    let there = ap (λ (ns : List Node). slice_get ns object) (sym c.deref.ensures.value)
-    ∙ slice_get-get_or c.deref.result.now object node lookup.3.0
-    ∙ ap (λ (n : Node). Some n) (sym lookup.1) in
+    let node = c.in-Some.node.now in
+    let there = open_there _ _ _ c.in-Some.file c.in-Some.node.now c.in-Some.ensures.found c.deref.ensures.value in
     elim c.if-append.branch [
       | then-append w ↦ (let left =
           c.in-Ok.ensures.ok ∙ ap (λ (s : Store).
