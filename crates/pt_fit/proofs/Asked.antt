@@ -14,7 +14,7 @@ use Rattle.pt_frame.specs.Frame.{CutAfter, CutInFull}
 use Rattle.pt_frame.specs.Grammar.{Belongs}
 use Rattle.pt_frame.specs.Memory.{RanOut}
 use Rattle.pt_frame.specs.Sparing.{IsSparing}
-use Rattle.pt_frame.specs.Tree.{Tree, Gives, Refuses, Asks, Opens, Bares, Brackets, Shuts, Allocates}
+use Rattle.pt_frame.specs.Tree.{RequestTree, Gives, Refuses, Asks, Opens, Bares, Brackets, Shuts, Allocates}
 use Rattle.pt_frame.specs.declared.act.ActReply.{ActReply}
 use Rattle.pt_frame.specs.declared.act.ActReply.TheVariants.{Host}
 use Rattle.pt_host.specs.declared.reply.HostReply.TheVariants as host
@@ -97,7 +97,7 @@ job_ends_cut plan seat (Requests who asked) so_far steps end u t b =
 job_ends_cut plan seat (Edits edit) so_far steps end u t b = edit_cut seat edit so_far steps end b
 
 -- what takes no memory of its own does so whatever may be told
-spares_none : (lacked : Bool) (tree : Tree) → IsSparing lacked tree → TakesNone tree
+spares_none : (lacked : Bool) (tree : RequestTree) → IsSparing lacked tree → TakesNone tree
 spares_none lacked (Gives last) s = tt
 spares_none lacked (Refuses told) s = tt
 spares_none lacked (Asks deed next) s = λ told t. spares_none (lacks_memory told || lacked) (next told) (s told)

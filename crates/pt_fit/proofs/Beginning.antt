@@ -12,7 +12,8 @@ use Rattle.pt_frame.specs.Frame.{leave}
 use Rattle.pt_frame.specs.Grammar.{Belongs}
 use Rattle.pt_frame.specs.Held.{held}
 use Rattle.pt_frame.specs.Replies.{closings_in, refusal}
-use Rattle.pt_frame.specs.Tree.{Tree, Gives, Refuses, Asks, Opens, Bares, Brackets, Shuts, Allocates, framed, follows}
+use Rattle.pt_frame.specs.Tree.{RequestTree, Gives, Refuses, Asks, Opens, Bares, Brackets, Shuts, Allocates, framed}
+use Rattle.pt_frame.specs.Tree.{follows}
 use Rattle.pt_frame.specs.Tree.{may_give_up, grammar_of_tree}
 use Rattle.pt_frame.specs.declared.act.ActReply.{ActReply}
 use Rattle.pt_frame.specs.declared.act.ActReply.TheVariants.{Event, NoCopy}
@@ -36,7 +37,7 @@ begins_as deed (Some same) told i b = subst (λ (d : Deed). IsBeginning (Some d)
 begins_as deed None told i b = absurd i
 
 -- the tree begins: by any other reply it is refused at once, and holds nothing
-abbrev Starts : Tree → Type 0
+abbrev Starts : RequestTree → Type 0
 Starts (Asks deed next) =
     (told : ActReply) →
     IsBeginning (Some deed) told
@@ -50,7 +51,7 @@ refused_now seat true last step steps end (inl b) = b
 refused_now seat true last step steps end (inr b) = b
 refused_now seat false last step steps end b = b
 
-started : (seat : HostSeat) (tree : Tree) (steps : List Step) (end : Finish) → Starts tree →
+started : (seat : HostSeat) (tree : RequestTree) (steps : List Step) (end : Finish) → Starts tree →
     Belongs (grammar_of_tree seat tree) steps end → BeginsFirst steps
 started seat tree [] end s b = tt
 started seat tree (step ∷ []) end s b = tt
@@ -62,7 +63,8 @@ started seat (Asks deed next) (step ∷ other ∷ steps) end s b = elim (s step.
       (framed seat (next step.reply) (held deed step.reply []) [])) (other ∷ steps) end) refuses.0 b.1 in
       let two = subst (λ (h : List Hold). Belongs (follows seat wants 0 h (framed seat (next step.reply) h []))
       (other ∷ steps) end) refuses.1 one in
-      let three = subst (λ (t : Tree). Belongs (follows seat wants 0 [] (framed seat t [] [])) (other ∷ steps) end)
+      let three = subst (λ (t : RequestTree).
+      Belongs (follows seat wants 0 [] (framed seat t [] [])) (other ∷ steps) end)
       refuses.2 two in
       absurd (refused_now seat wants (finish.Answer (refusal step.reply)) other steps end three)
 ]

@@ -15,7 +15,7 @@ use Rattle.pt_iface.specs.declared.request.Request.{Request}
 use Rattle.pt_frame.specs.Deed.{Deed, Calls, Changes, Step, IsStepOf}
 use Rattle.pt_frame.specs.Held.{held, opened}
 use Rattle.pt_frame.specs.Replies.{closings_in, refusal, event_refusal}
-use Rattle.pt_frame.specs.Tree.{Tree, Gives, Refuses, Asks, Opens, Bares, Brackets, Shuts, Allocates}
+use Rattle.pt_frame.specs.Tree.{RequestTree, Gives, Refuses, Asks, Opens, Bares, Brackets, Shuts, Allocates}
 use Rattle.pt_frame.specs.declared.act.ActReply.{ActReply}
 use Rattle.pt_frame.specs.declared.act.ActReply.TheVariants.{Event, Host, NoCopy}
 use Rattle.pt_frame.specs.declared.hold.Hold.{Hold}
@@ -39,7 +39,7 @@ after_at : (count : ℕ) (P : Notes → Type 0) (notes : Notes) → After count 
 after_at zero P notes k = k
 after_at (suc count) P notes k = k notes (refl, refl)
 
-pub fit_keeps : (asked : Request) (tree : Tree) (holds : List Hold) (marks : List ℕ) (notes : Notes)
+pub fit_keeps : (asked : Request) (tree : RequestTree) (holds : List Hold) (marks : List ℕ) (notes : Notes)
     (path : List Step) → Fit asked tree holds marks notes path → Keeps tree holds marks notes
 fit_keeps asked (Gives last) holds marks notes path f = f.0
 fit_keeps asked (Refuses told) holds marks notes path f = tt
@@ -121,7 +121,7 @@ at_leaf : (asked : Request) (given last : Answer) (path all : List Step) → las
 at_leaf asked given last path all e w c m =
     subst (IsRight asked all) (sym e) (caused_within asked given path all w c, m)
 
-pub fit_along : (asked : Request) (tree : Tree) (holds : List Hold) (marks : List ℕ) (notes : Notes)
+pub fit_along : (asked : Request) (tree : RequestTree) (holds : List Hold) (marks : List ℕ) (notes : Notes)
     (path own all : List Step) (last : Answer) → Fit asked tree holds marks notes path → AllMayBeTold own →
     Within asked path all → Within asked own all → Along tree own last → IsRight asked all last
 fit_along asked (Gives given) holds marks notes path [] all last f t w v a =

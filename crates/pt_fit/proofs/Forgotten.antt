@@ -23,7 +23,8 @@ use Rattle.pt_frame.specs.Deed.{Deed, Changes, Step, IsStepOf}
 use Rattle.pt_frame.specs.Held.{held}
 use Rattle.pt_frame.specs.Replies.{closings_in}
 use Rattle.pt_frame.specs.Grammar.{Belongs, End}
-use Rattle.pt_frame.specs.Tree.{Tree, Gives, Refuses, Asks, Brackets, Shuts, framed, may_give_up, grammar_of_tree}
+use Rattle.pt_frame.specs.Tree.{RequestTree, Gives, Refuses, Asks, Brackets, Shuts, framed, may_give_up}
+use Rattle.pt_frame.specs.Tree.{grammar_of_tree}
 use Rattle.pt_frame.specs.declared.act.ActReply.{ActReply}
 use Rattle.pt_frame.specs.declared.act.ActReply.TheVariants.{Event, Host, NoCopy}
 use Rattle.pt_frame.specs.declared.finish.Finish.{Finish}
@@ -72,7 +73,8 @@ began : (t t' : Tables) (r : EventReply) → Happens t change.Begin r t' →
 began t t' r h = begun_as t t' r (cases t t' change.Begin r h)
 
 -- what follows an act of a job that holds nothing and is told no closings
-follows : (seat : HostSeat) (deed : Deed) (next : ActReply → Tree) (marks : List ℕ) (step : Step) (steps : List Step)
+follows : (seat : HostSeat) (deed : Deed)
+    (next : ActReply → RequestTree) (marks : List ℕ) (step : Step) (steps : List Step)
     (end : Finish) → closings_in deed step.reply ≡ 0 → held deed step.reply [] ≡ [] →
     Belongs (framed seat (Asks deed next) [] marks) (step ∷ steps) end →
     IsGivenUp end ⊎ Belongs (framed seat (next step.reply) [] marks) steps end
@@ -91,7 +93,7 @@ abbrev Answers : Finish → Type 0
 Answers end = (end ≡ finish.Answer (answer.Refused ebadf)) ⊎ IsGivenUp end
 
 -- the number is resolved where it is not live
-resolved : (seat : HostSeat) (marks : List ℕ) (number : ℕ) (next : ActReply → Tree) (t t' : Tables) (step : Step)
+resolved : (seat : HostSeat) (marks : List ℕ) (number : ℕ) (next : ActReply → RequestTree) (t t' : Tables) (step : Step)
     (steps : List Step) (end : Finish) → NoRow t (HasNumber number) → next gone ≡ Refuses gone →
     TablesGo t step.deed step.reply t' →
     Belongs (framed seat (Asks (Changes (change.Resolve number)) next) [] marks) (step ∷ steps) end → Answers end
@@ -107,12 +109,13 @@ resolved seat marks number next t t' step steps end none refuses go b =
     ]
 
 -- the tree begins and, in a bracket, resolves the number, and passes the refusal on
-abbrev Resolves : ℕ → Tree → Type 0
+abbrev Resolves : ℕ → RequestTree → Type 0
 Resolves number tree =
-    (next : BegunSession → Resolved → Tree)
+    (next : BegunSession → Resolved → RequestTree)
     × (tree ≡ begin (λ session. Brackets (resolve number (next session))))
 
-good_name : (bad : Bool) (next : Tree) → bad ≡ false → (if bad then Gives (answer.Refused einval) else next) ≡ next
+good_name : (bad : Bool) (next : RequestTree) → bad ≡ false →
+    (if bad then Gives (answer.Refused einval) else next) ≡ next
 good_name true next e = absurd (cc)
 good_name false next e = refl
 
@@ -176,13 +179,13 @@ gone_answered_law limit job plan seat who what turns later was now number end r 
         gone_at number job later was now one step two (agree_law limit turns was r)
         (none_other number was.rows none) k i e
 
-    second : (one : List Step) (steps : List Step) (next : Resolved → Tree) → steps_of job later ≡ one ++ steps →
+    second : (one : List Step) (steps : List Step) (next : Resolved → RequestTree) → steps_of job later ≡ one ++ steps →
         Belongs (framed seat (resolve number next) [] (0 ∷ [])) steps end → Answers end
     second one [] next e b = absurd b
     second one (step ∷ steps) next e b = let g = at one step steps e in
         resolved seat (0 ∷ []) number (on_resolved next) g.t g.t' step steps end g.none refl g.go b
 
-    first : (steps : List Step) → steps_of job later ≡ steps → (next : BegunSession → Resolved → Tree) →
+    first : (steps : List Step) → steps_of job later ≡ steps → (next : BegunSession → Resolved → RequestTree) →
         Belongs (grammar_of_tree seat (begin (λ session. Brackets (resolve number (next session))))) steps end →
         Answers end
     first [] e next b = absurd b
@@ -191,7 +194,7 @@ gone_answered_law limit job plan seat who what turns later was now number end r 
         let h = happened change.Begin step.deed step.reply g.t g.t' (λ no. no) b.0 g.go in
         let n = began g.t g.t' h.0 h.2 in
         let told : step.reply ≡ Event (event.Began n.0 n.1) = h.1 ∙ ap Event n.2 in
-        let asks : BegunSession → Tree = λ session. Brackets (resolve number (next session)) in
+        let asks : BegunSession → RequestTree = λ session. Brackets (resolve number (next session)) in
         elim (follows seat (Changes change.Begin) (on_began asks) [] step steps end
         (ap (closings_in (Changes change.Begin)) told) (ap (λ r. held (Changes change.Begin) r []) told) b) [
           | inl up ↦ inr up

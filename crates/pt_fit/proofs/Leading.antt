@@ -14,7 +14,7 @@ use Rattle.pt_frame.specs.Deed.{Deed, Changes, Step, IsStepOf}
 use Rattle.pt_frame.specs.Held.{held}
 use Rattle.pt_frame.specs.Replies.{closings_in, put_by, refusal, event_refusal, passes_with}
 use Rattle.pt_frame.specs.Grammar.{Grammar, Belongs}
-use Rattle.pt_frame.specs.Tree.{Tree, Gives, Refuses, Asks, Brackets, Shuts, framed, follows, may_give_up}
+use Rattle.pt_frame.specs.Tree.{RequestTree, Gives, Refuses, Asks, Brackets, Shuts, framed, follows, may_give_up}
 use Rattle.pt_frame.specs.declared.act.ActReply.{ActReply}
 use Rattle.pt_frame.specs.declared.act.ActReply.TheVariants.{Event, Host, NoCopy}
 use Rattle.pt_frame.specs.declared.finish.Finish.{Finish}
@@ -64,13 +64,13 @@ not_given_up answer.NoMemory p g = cc
 not_given_up last p g = g
 
 -- by these steps a job that is to do what the tree says comes to this answer, whatever it holds
-pub record Leads (seat : HostSeat) (tree : Tree) (steps : List Step) (last : Answer) : Type 0 where
+pub record Leads (seat : HostSeat) (tree : RequestTree) (steps : List Step) (last : Answer) : Type 0 where
   pub holds : List Hold
   pub marks : List ℕ
   pub belongs : Belongs (framed seat tree holds marks) steps (finish.Answer last)
 
 -- an answer with an entry is that of a branch
-pub of_branch : (seat : HostSeat) (tree : Tree) (steps : List Step) (last : Answer) → HasEntry last →
+pub of_branch : (seat : HostSeat) (tree : RequestTree) (steps : List Step) (last : Answer) → HasEntry last →
     Leads seat tree steps last → (path : List Step) × Along tree path last
 of_branch seat tree steps last p l =
     elim (branch seat tree l.holds l.marks steps (finish.Answer last) l.belongs) [
@@ -112,14 +112,14 @@ none_told asked f (Host told) = refl
 none_told asked f NoCopy = refl
 
 -- it goes on by this reply to the deed
-pub record GoesOn (seat : HostSeat) (deed : Deed) (next : ActReply → Tree) (steps : List Step) (last : Answer) :
+pub record GoesOn (seat : HostSeat) (deed : Deed) (next : ActReply → RequestTree) (steps : List Step) (last : Answer) :
     Type 0 where
   pub told : ActReply
   pub rest : List Step
   pub are : steps ≡ made deed told ∷ rest
   pub on : Leads seat (next told) rest last
 
-pub goes_on : (seat : HostSeat) (deed : Deed) (next : ActReply → Tree) (steps : List Step) (last : Answer) →
+pub goes_on : (seat : HostSeat) (deed : Deed) (next : ActReply → RequestTree) (steps : List Step) (last : Answer) →
     next NoCopy ≡ Refuses NoCopy → ((told : ActReply) → closings_in deed told ≡ 0) → HasEntry last →
     Leads seat (Asks deed next) steps last → GoesOn seat deed next steps last
 goes_on seat deed next [] last n none p l = absurd l.belongs
@@ -141,7 +141,7 @@ goes_on seat deed next (step ∷ steps) last n none p l =
     go None told i on = absurd i
 
 -- a bracket asks nothing itself
-pub in_bracket : (seat : HostSeat) (rest : Tree) (steps : List Step) (last : Answer) →
+pub in_bracket : (seat : HostSeat) (rest : RequestTree) (steps : List Step) (last : Answer) →
     Leads seat (Brackets rest) steps last → Leads seat rest steps last
 in_bracket seat rest steps last l =
     record { holds = l.holds; marks = length l.holds ∷ l.marks; belongs = l.belongs }

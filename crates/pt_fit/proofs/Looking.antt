@@ -22,7 +22,7 @@ use Rattle.pt_iface.specs.declared.request.Request.TheVariants as request
 use Rattle.pt_frame.specs.Deed.{Deed, Calls, Changes, Step}
 use Rattle.pt_frame.specs.Grammar.{Belongs}
 use Rattle.pt_frame.specs.Replies.{passes_with}
-use Rattle.pt_frame.specs.Tree.{Tree, Gives, Shuts, framed}
+use Rattle.pt_frame.specs.Tree.{RequestTree, Gives, Shuts, framed}
 use Rattle.pt_frame.specs.declared.act.ActReply.{ActReply}
 use Rattle.pt_frame.specs.declared.act.ActReply.TheVariants.{Event, Host}
 use Rattle.pt_frame.specs.declared.finish.Finish.TheVariants as finish
@@ -45,33 +45,34 @@ then_step : {deed : Deed} {told one : ActReply} {steps rest more : List Step} �
     told ≡ one → rest ≡ more → steps ≡ made deed one ∷ more
 then_step {deed = deed} e t r = e ∙ (λ i. made deed (t i) ∷ r i)
 
-began : (seat : HostSeat) (next : BegunSession → Tree) (told : ActReply) (rest : List Step) (last : Answer) →
+began : (seat : HostSeat) (next : BegunSession → RequestTree) (told : ActReply) (rest : List Step) (last : Answer) →
     HasEntry last → Leads seat (on_began next told) rest last →
     (era : ℕ) × (agreed : Negotiated) × (told ≡ Event (event.Began era agreed))
     × Leads seat (next (session_of era agreed)) rest last
 began seat next (Event (event.Began era agreed)) rest last p a = (era, agreed, refl, a)
 began seat next told rest last p a = absurd (refused_none seat told rest last p a)
 
-resolved : (seat : HostSeat) (next : Resolved → Tree) (told : ActReply) (rest : List Step) (last : Answer) →
+resolved : (seat : HostSeat) (next : Resolved → RequestTree) (told : ActReply) (rest : List Step) (last : Answer) →
     HasEntry last → Leads seat (on_resolved next told) rest last →
     (row : ℕ) × (form : RowForm) × (ids : ObjIds) × (mode : ℕ) × (told ≡ Event (event.Resolved row form ids mode))
     × Leads seat (next (record { row = row; form = form; ids = ids; mode = mode })) rest last
 resolved seat next (Event (event.Resolved row form ids mode)) rest last p a = (row, form, ids, mode, refl, a)
 resolved seat next told rest last p a = absurd (refused_none seat told rest last p a)
 
-opened : (seat : HostSeat) (next : Fd → Tree) (told : ActReply) (rest : List Step) (last : Answer) → HasEntry last →
-    Leads seat (on_fd next told) rest last →
+opened : (seat : HostSeat) (next : Fd → RequestTree) (told : ActReply) (rest : List Step) (last : Answer) →
+    HasEntry last → Leads seat (on_fd next told) rest last →
     (fd : Fd) × (told ≡ Host (host.Ok (value.Fd fd))) × Leads seat (next fd) rest last
 opened seat next (Host (host.Ok (value.Fd fd))) rest last p a = (fd, refl, a)
 opened seat next told rest last p a = absurd (refused_none seat told rest last p a)
 
-stated : (seat : HostSeat) (next : Stat → Tree) (told : ActReply) (rest : List Step) (last : Answer) → HasEntry last →
-    Leads seat (on_stat next told) rest last →
+stated : (seat : HostSeat) (next : Stat → RequestTree) (told : ActReply) (rest : List Step) (last : Answer) →
+    HasEntry last → Leads seat (on_stat next told) rest last →
     (was : Stat) × (told ≡ Host (host.Ok (value.Stat was))) × Leads seat (next was) rest last
 stated seat next (Host (host.Ok (value.Stat was))) rest last p a = (was, refl, a)
 stated seat next told rest last p a = absurd (refused_none seat told rest last p a)
 
-claimed : (seat : HostSeat) (next : ℕ → Tree) (absent : Tree) (told : ActReply) (rest : List Step) (last : Answer) →
+claimed : (seat : HostSeat)
+    (next : ℕ → RequestTree) (absent : RequestTree) (told : ActReply) (rest : List Step) (last : Answer) →
     HasEntry last → Leads seat (on_claim next absent told) rest last →
     ((number : ℕ) × (told ≡ Event (event.Claimed number)) × Leads seat (next number) rest last)
     ⊎ ((told ≡ Event event.Absent) × Leads seat absent rest last)
@@ -79,19 +80,19 @@ claimed seat next absent (Event (event.Claimed number)) rest last p a = inl (num
 claimed seat next absent (Event event.Absent) rest last p a = inr (refl, a)
 claimed seat next absent told rest last p a = absurd (refused_none seat told rest last p a)
 
-taken : (seat : HostSeat) (next : Tree) (told : ActReply) (rest : List Step) (last : Answer) → HasEntry last →
+taken : (seat : HostSeat) (next : RequestTree) (told : ActReply) (rest : List Step) (last : Answer) → HasEntry last →
     Leads seat (on_taken next told) rest last → (told ≡ Event event.Taken) × Leads seat next rest last
 taken seat next (Event event.Taken) rest last p a = (refl, a)
 taken seat next told rest last p a = absurd (refused_none seat told rest last p a)
 
-drawn : (seat : HostSeat) (next : ℕ → Tree) (told : ActReply) (rest : List Step) (last : Answer) → HasEntry last →
-    Leads seat (on_drawn next told) rest last →
+drawn : (seat : HostSeat) (next : ℕ → RequestTree) (told : ActReply) (rest : List Step) (last : Answer) →
+    HasEntry last → Leads seat (on_drawn next told) rest last →
     (number : ℕ) × (told ≡ Event (event.Drawn number)) × Leads seat (next number) rest last
 drawn seat next (Event (event.Drawn number)) rest last p a = (number, refl, a)
 drawn seat next told rest last p a = absurd (refused_none seat told rest last p a)
 
-inserted : (seat : HostSeat) (next : ℕ → Tree) (told : ActReply) (rest : List Step) (last : Answer) → HasEntry last →
-    Leads seat (on_inserted next told) rest last →
+inserted : (seat : HostSeat) (next : ℕ → RequestTree) (told : ActReply) (rest : List Step) (last : Answer) →
+    HasEntry last → Leads seat (on_inserted next told) rest last →
     (number : ℕ) × InsertionGives number told × Leads seat (next number) rest last
 inserted seat next (Event (event.Inserted number)) rest last p a = (number, inl refl, a)
 inserted seat next (Event (event.Found number)) rest last p a = (number, inr refl, a)
@@ -103,7 +104,7 @@ record Gave
     (session : BegunSession)
     (fd : Fd)
     (told : Stat)
-    (next : ℕ → Tree)
+    (next : ℕ → RequestTree)
     (steps : List Step)
     (last : Answer)
     : Type 0 where
@@ -114,11 +115,11 @@ record Gave
   gives : Numbers session.era fd told number own
   on : Leads seat (next number) rest last
 
-gave : (seat : HostSeat) (session : BegunSession) (fd : Fd) (told : Stat) (next : ℕ → Tree) (steps : List Step)
+gave : (seat : HostSeat) (session : BegunSession) (fd : Fd) (told : Stat) (next : ℕ → RequestTree) (steps : List Step)
     (last : Answer) → HasEntry last → Leads seat (numbered session (File fd) told next) steps last →
     Gave seat session fd told next steps last
 gave seat session fd told next steps last p a =
-    let inserts : ℕ → Tree = λ fresh. insert session fresh (File fd) told next in
+    let inserts : ℕ → RequestTree = λ fresh. insert session fresh (File fd) told next in
     let asks = change.Claim session.era None told.ids in
     let c = goes_on seat (Changes asks) (on_claim next (take_fd (draw_node inserts))) steps last refl
     (none_told asks (λ t. refl)) p a in
@@ -152,19 +153,19 @@ gave seat session fd told next steps last p a =
     ]
 
 -- what follows the number, the status, the opening and the parent
-abbrev handing : Plan → BegunSession → ObjIds → (Looked → Tree) → Fd → Stat → ℕ → Tree
+abbrev handing : Plan → BegunSession → ObjIds → (Looked → RequestTree) → Fd → Stat → ℕ → RequestTree
 handing plan session ids next fd told number = Shuts true (next (looked_of plan session ids told (File fd) number))
 
-abbrev numbering : Plan → BegunSession → ObjIds → (Looked → Tree) → Fd → Stat → Tree
+abbrev numbering : Plan → BegunSession → ObjIds → (Looked → RequestTree) → Fd → Stat → RequestTree
 numbering plan session ids next fd told = numbered session (File fd) told (handing plan session ids next fd told)
 
-abbrev stating : Plan → BegunSession → ObjIds → (Looked → Tree) → Fd → Tree
+abbrev stating : Plan → BegunSession → ObjIds → (Looked → RequestTree) → Fd → RequestTree
 stating plan session ids next fd = stat fd (numbering plan session ids next fd)
 
-abbrev opening : Plan → BegunSession → ObjIds → List ℕ → (Looked → Tree) → Fd → Tree
+abbrev opening : Plan → BegunSession → ObjIds → List ℕ → (Looked → RequestTree) → Fd → RequestTree
 opening plan session ids name next dir = open_at dir name by_path (stating plan session ids next)
 
-abbrev resolving : Plan → BegunSession → List ℕ → (Looked → Tree) → Resolved → Tree
+abbrev resolving : Plan → BegunSession → List ℕ → (Looked → RequestTree) → Resolved → RequestTree
 resolving plan session name next directory =
     file_of directory.form (opening plan session directory.ids name next)
 
@@ -175,7 +176,7 @@ pub record Looks
     (session : BegunSession)
     (parent : ℕ)
     (name : List ℕ)
-    (next : Looked → Tree)
+    (next : Looked → RequestTree)
     (steps : List Step)
     (last : Answer)
     : Type 0 where
@@ -187,7 +188,7 @@ pub record Looks
   pub on : Leads seat (Shuts true (next looked)) rest last
 
 pub looks : (seat : HostSeat) (plan : Plan) (session : BegunSession) (parent : ℕ) (name : List ℕ)
-    (next : Looked → Tree) (steps : List Step) (last : Answer) → HasEntry last →
+    (next : Looked → RequestTree) (steps : List Step) (last : Answer) → HasEntry last →
     Leads seat (look_up plan session parent name next) steps last →
     Looks seat plan session parent name next steps last
 looks seat plan session parent name next steps last p a =
@@ -233,7 +234,7 @@ looks seat plan session parent name next steps last p a =
         }
 
 -- in any request, whatever follows
-pub looks_law : (plan : Plan) (session : BegunSession) (parent : ℕ) (name : List ℕ) (next : Looked → Tree)
+pub looks_law : (plan : Plan) (session : BegunSession) (parent : ℕ) (name : List ℕ) (next : Looked → RequestTree)
     (seat : HostSeat) (holds : List Hold) (marks : List ℕ) (steps : List Step) (last : Answer) →
     passes_with last ≡ true →
     Belongs (framed seat (look_up plan session parent name next) holds marks) steps (finish.Answer last) →
@@ -246,7 +247,7 @@ looks_law plan session parent name next seat holds marks steps last p b =
     (record { holds = holds; marks = marks; belongs = b }) in
     (l.looked, l.own, l.rest, l.are, l.by, (l.on.holds, l.on.marks, l.on.belongs))
 
-good_name : (seat : HostSeat) (bad : Bool) (next : Tree) (steps : List Step) (last : Answer) → HasEntry last →
+good_name : (seat : HostSeat) (bad : Bool) (next : RequestTree) (steps : List Step) (last : Answer) → HasEntry last →
     Leads seat (if bad then Gives (answer.Refused einval) else next) steps last → Leads seat next steps last
 good_name seat true next steps last p a =
     let no : passes_with (answer.Refused einval) ≡ true =
@@ -261,8 +262,8 @@ pub looked_up : (plan : Plan) (seat : HostSeat) (who : Context) (parent : ℕ) (
     × (steps ≡ made (Changes change.Begin) (Event (event.Began era agreed)) ∷ (own ++ back))
     × IsLookedUp plan era agreed parent name entry own
 looked_up plan seat who parent name entry steps b =
-    let next : Looked → Tree = λ looked. Gives (answer.Entry looked.entry) in
-    let begins : BegunSession → Tree = λ session. named name (look_up plan session parent name next) in
+    let next : Looked → RequestTree = λ looked. Gives (answer.Entry looked.entry) in
+    let begins : BegunSession → RequestTree = λ session. named name (look_up plan session parent name next) in
     let g = goes_on seat (Changes change.Begin) (on_began begins) steps (answer.Entry entry) refl
     (none_told change.Begin (λ t. refl)) refl (record { holds = []; marks = []; belongs = b }) in
     let k = began seat begins g.told g.rest (answer.Entry entry) refl g.on in

@@ -20,7 +20,7 @@ use Rattle.pt_iface.specs.declared.answer.Answer.TheVariants as answer
 use Rattle.pt_iface.specs.declared.request.Request.{Request}
 use Rattle.pt_frame.specs.Deed.{Calls, Changes, Step}
 use Rattle.pt_frame.specs.Held.{row_fd, laid}
-use Rattle.pt_frame.specs.Tree.{Tree, Gives, Brackets, Shuts}
+use Rattle.pt_frame.specs.Tree.{RequestTree, Gives, Brackets, Shuts}
 use Rattle.pt_frame.specs.declared.act.ActReply.TheVariants.{Event, Host}
 use Rattle.pt_frame.specs.declared.hold.Hold.{Hold}
 use Rattle.pt_frame.specs.declared.hold.Hold.TheVariants as hold
@@ -39,14 +39,15 @@ use Rattle.pt_fit.proofs.Holds.{IsBare, noted_top, handed_top, down_over}
 use Rattle.pt_fit.proofs.Refused.{refused_by}
 
 -- fit whatever the path to it was
-pub record Goes (asked : Request) (tree : Tree) (holds : List Hold) (marks : List ℕ) (notes : Notes) : Type 0 where
+pub record Goes (asked : Request) (tree : RequestTree) (holds : List Hold) (marks : List ℕ)
+    (notes : Notes) : Type 0 where
   pub on : (path : List Step) → Fit asked tree holds marks notes path
 
 -- fit after this step, whatever the path to it was
 pub record GoesAfter
     (step : Step)
     (asked : Request)
-    (tree : Tree)
+    (tree : RequestTree)
     (holds : List Hold)
     (marks : List ℕ)
     (notes : Notes)
@@ -54,13 +55,13 @@ pub record GoesAfter
   pub on : (path : List Step) → Fit asked tree holds marks notes (step ∷ path)
 
 -- with what is held written in another way
-held_as : (asked : Request) (tree : Tree) (these those : List Hold) (marks : List ℕ) (notes : Notes)
+held_as : (asked : Request) (tree : RequestTree) (these those : List Hold) (marks : List ℕ) (notes : Notes)
     (path : List Step) → these ≡ those → Fit asked tree those marks notes path → Fit asked tree these marks notes path
 held_as asked tree these those marks notes path e f =
     subst (λ (z : List Hold). Fit asked tree z marks notes path) (sym e) f
 
-pub fit_begin : {asked : Request} {holds : List Hold} {marks : List ℕ} {notes : Notes} (next : BegunSession → Tree) →
-    notes.era ≡ None →
+pub fit_begin : {asked : Request} {holds : List Hold} {marks : List ℕ} {notes : Notes}
+    (next : BegunSession → RequestTree) → notes.era ≡ None →
     ((session : BegunSession) → Goes asked (next session) holds marks (record notes { era = Some session.era })) →
     Goes asked (begin next) holds marks notes
 fit_begin {asked = asked} {holds = holds} next none f = record {
@@ -73,7 +74,7 @@ fit_begin {asked = asked} {holds = holds} next none f = record {
   );
 }
 
-pub fit_clear : {asked : Request} {holds : List Hold} {marks : List ℕ} {notes : Notes} (next : ℕ → Tree) →
+pub fit_clear : {asked : Request} {holds : List Hold} {marks : List ℕ} {notes : Notes} (next : ℕ → RequestTree) →
     notes.era ≡ None →
     ((era : ℕ) (later : Notes) → Lasts (record notes { era = Some era }) later →
     Goes asked (next era) holds marks later) →
@@ -99,7 +100,7 @@ abbrev pub noting : ℕ → ℕ → Notes → Notes
 noting number row notes = record notes { resolved = Some (record { number = number; row = row }); reopened = None }
 
 pub fit_resolve : {asked : Request} {holds : List Hold} {marks : List ℕ} {notes : Notes} (number : ℕ)
-    (next : Resolved → Tree) → IsBare holds →
+    (next : Resolved → RequestTree) → IsBare holds →
     ((row : Resolved) → GoesAfter (resolution number row) asked (next row)
     (hold.Pin row.row (row_fd row.form) ∷ holds) marks (noting number row.row notes)) →
     Goes asked (resolve number next) holds marks notes
@@ -117,7 +118,7 @@ fit_resolve {asked = asked} {holds = holds} number next b f = record {
 }
 
 pub fit_open_root : {asked : Request} {holds : List Hold} {marks : List ℕ} {notes : Notes} (dir : List ℕ)
-    (flags : OpenFlags) (next : Fd → Tree) → IsBare holds →
+    (flags : OpenFlags) (next : Fd → RequestTree) → IsBare holds →
     ((fd : Fd) → Goes asked (next fd) (hold.Fd fd None ∷ holds) marks (with_root fd notes)) →
     Goes asked (open_root dir flags next) holds marks notes
 fit_open_root {asked = asked} {holds = holds} dir flags next b f = record {
@@ -132,13 +133,13 @@ fit_open_root {asked = asked} {holds = holds} dir flags next b f = record {
 
 -- the file of a row that was resolved
 pub fit_file_of : {asked : Request} {holds : List Hold} {marks : List ℕ} {notes : Notes} (row : ℕ) (form : RowForm)
-    (next : Fd → Tree) →
+    (next : Fd → RequestTree) →
     ((dir : Fd) → Goes asked (next dir) (hold.Pin row (Some dir) ∷ holds) marks notes) →
     Goes asked (file_of form next) (hold.Pin row (row_fd form) ∷ holds) marks notes
 fit_file_of row (File dir) next f = f dir
 
 pub fit_open_at : {asked : Request} {holds : List Hold} {marks : List ℕ} {notes : Notes} (dir : Fd) (name : List ℕ)
-    (flags : OpenFlags) (row number : ℕ) (next : Fd → Tree) → includes flags.0 o_creat ≡ false →
+    (flags : OpenFlags) (row number : ℕ) (next : Fd → RequestTree) → includes flags.0 o_creat ≡ false →
     notes.resolved ≡ Some (record { number = number; row = row }) →
     ((fd : Fd) → Goes asked (next fd) (hold.Fd fd None ∷ hold.Pin row (Some dir) ∷ holds) marks
     (record notes { latest = Some fd })) →
@@ -154,7 +155,7 @@ fit_open_at {asked = asked} {holds = holds} dir name flags row number next free 
 }
 
 pub fit_reopen : {asked : Request} {holds : List Hold} {marks : List ℕ} {notes : Notes} (fd : Fd) (flags : OpenFlags)
-    (row number : ℕ) (next : Fd → Tree) → notes.resolved ≡ Some (record { number = number; row = row }) →
+    (row number : ℕ) (next : Fd → RequestTree) → notes.resolved ≡ Some (record { number = number; row = row }) →
     ((new : Fd) → Goes asked (next new) (hold.Fd new None ∷ hold.Pin row (Some fd) ∷ holds) marks
     (record notes { reopened = Some new })) →
     Goes asked (reopen fd flags next) (hold.Pin row (Some fd) ∷ holds) marks notes
@@ -169,7 +170,7 @@ fit_reopen {asked = asked} {holds = holds} fd flags row number next r f = record
 }
 
 pub fit_stat : {asked : Request} {holds : List Hold} {marks : List ℕ} {notes : Notes} (fd : Fd) (was : Option ObjIds)
-    (next : Stat → Tree) →
+    (next : Stat → RequestTree) →
     ((told : Stat) → Goes asked (next told) (hold.Fd fd (Some told.ids) ∷ holds) marks notes) →
     Goes asked (stat fd next) (hold.Fd fd was ∷ holds) marks notes
 fit_stat {asked = asked} {holds = holds} fd was next f = record {
@@ -184,7 +185,7 @@ fit_stat {asked = asked} {holds = holds} fd was next f = record {
 }
 
 pub fit_read_at : {asked : Request} {holds : List Hold} {marks : List ℕ} {notes : Notes} (fd : Fd)
-    (offset size row : ℕ) (next : List ℕ → Tree) →
+    (offset size row : ℕ) (next : List ℕ → RequestTree) →
     ((bytes : List ℕ) → Goes asked (next bytes) (hold.HandlePin row fd ∷ holds) marks notes) →
     Goes asked (read_at fd offset size next) (hold.HandlePin row fd ∷ holds) marks notes
 fit_read_at {asked = asked} {holds = holds} fd offset size row next f = record {
@@ -198,7 +199,7 @@ fit_read_at {asked = asked} {holds = holds} fd offset size row next f = record {
 }
 
 pub fit_claim : {asked : Request} {holds : List Hold} {marks : List ℕ} {notes : Notes} (session : BegunSession)
-    (fd : Fd) (ids : ObjIds) (next : ℕ → Tree) (absent : Tree) →
+    (fd : Fd) (ids : ObjIds) (next : ℕ → RequestTree) (absent : RequestTree) →
     notes.era ≡ Some session.era → notes.latest ≡ Some fd →
     ((number : ℕ) → Goes asked (next number) (hold.Count session.era number ∷ hold.Fd fd (Some ids) ∷ holds) marks
     notes) →
@@ -216,7 +217,7 @@ fit_claim {asked = asked} {holds = holds} session fd ids next absent e l f g = r
 }
 
 pub fit_take_fd : {asked : Request} {holds : List Hold} {marks : List ℕ} {notes : Notes} (fd : Fd)
-    (was : Option ObjIds) (next : Tree) → Goes asked next (hold.Fd fd was ∷ hold.Slot ∷ holds) marks notes →
+    (was : Option ObjIds) (next : RequestTree) → Goes asked next (hold.Fd fd was ∷ hold.Slot ∷ holds) marks notes →
     Goes asked (take_fd next) (hold.Fd fd was ∷ holds) marks notes
 fit_take_fd {asked = asked} {holds = holds} fd was next f = record {
   on = λ path. (
@@ -228,7 +229,7 @@ fit_take_fd {asked = asked} {holds = holds} fd was next f = record {
   );
 }
 
-pub fit_draw_node : {asked : Request} {holds : List Hold} {marks : List ℕ} {notes : Notes} (next : ℕ → Tree) →
+pub fit_draw_node : {asked : Request} {holds : List Hold} {marks : List ℕ} {notes : Notes} (next : ℕ → RequestTree) →
     ((number : ℕ) → Goes asked (next number) holds marks (record notes { drawn = Some number })) →
     Goes asked (draw_node next) holds marks notes
 fit_draw_node {asked = asked} {holds = holds} next f = record {
@@ -241,7 +242,7 @@ fit_draw_node {asked = asked} {holds = holds} next f = record {
   );
 }
 
-pub fit_draw_handle : {asked : Request} {holds : List Hold} {marks : List ℕ} {notes : Notes} (next : ℕ → Tree) →
+pub fit_draw_handle : {asked : Request} {holds : List Hold} {marks : List ℕ} {notes : Notes} (next : ℕ → RequestTree) →
     ((handle : ℕ) → Goes asked (next handle) holds marks (record notes { handle = Some handle })) →
     Goes asked (draw_handle next) holds marks notes
 fit_draw_handle {asked = asked} {holds = holds} next f = record {
@@ -256,7 +257,7 @@ fit_draw_handle {asked = asked} {holds = holds} next f = record {
 
 -- a new row takes the descriptor on top and its slot; or the object has a number
 pub fit_insert : {asked : Request} {holds : List Hold} {marks : List ℕ} {notes : Notes} (session : BegunSession)
-    (fresh : ℕ) (fd : Fd) (told : Stat) (next : ℕ → Tree) → IsBare holds → notes.era ≡ Some session.era →
+    (fresh : ℕ) (fd : Fd) (told : Stat) (next : ℕ → RequestTree) → IsBare holds → notes.era ≡ Some session.era →
     notes.latest ≡ Some fd → notes.drawn ≡ Some fresh →
     ((number : ℕ) → Goes asked (next number) (hold.Count session.era number ∷ holds) marks
     (record (unnoted fd notes) { drawn = None })) →
@@ -280,7 +281,7 @@ fit_insert {asked = asked} {holds = holds} session fresh fd told next b e l d f 
 }
 
 pub fit_insert_root : {asked : Request} {holds : List Hold} {marks : List ℕ} {notes : Notes} (session : BegunSession)
-    (fd : Fd) (told : Stat) (agreed : Option Negotiated) (next : Tree) → notes.era ≡ Some session.era →
+    (fd : Fd) (told : Stat) (agreed : Option Negotiated) (next : RequestTree) → notes.era ≡ Some session.era →
     notes.root ≡ Some fd → Goes asked next holds marks (unnoted fd notes) →
     Goes asked (insert_root session (File fd) told agreed next) (hold.Fd fd (Some told.ids) ∷ hold.Slot ∷ holds) marks
     notes
@@ -298,7 +299,7 @@ fit_insert_root {asked = asked} {holds = holds} session fd told agreed next e r 
 }
 
 pub fit_insert_handle : {asked : Request} {holds : List Hold} {marks : List ℕ} {notes : Notes}
-    (session : BegunSession) (handle number row : ℕ) (fd : Fd) (was : Option ObjIds) (next : Tree) →
+    (session : BegunSession) (handle number row : ℕ) (fd : Fd) (was : Option ObjIds) (next : RequestTree) →
     notes.era ≡ Some session.era → notes.handle ≡ Some handle →
     notes.resolved ≡ Some (record { number = number; row = row }) →
     notes.reopened ≡ Some fd → Goes asked next holds marks (record (unnoted fd notes) { handle = None }) →
@@ -315,7 +316,7 @@ fit_insert_handle {asked = asked} {holds = holds} session handle number row fd w
 }
 
 pub fit_pin_handle : {asked : Request} {holds : List Hold} {marks : List ℕ} {notes : Notes} (handle number : ℕ)
-    (next : Fd → Tree) → IsBare holds →
+    (next : Fd → RequestTree) → IsBare holds →
     ((row : ℕ) (fd : Fd) → Goes asked (next fd) (hold.HandlePin row fd ∷ holds) marks notes) →
     Goes asked (pin_handle handle number next) holds marks notes
 fit_pin_handle {asked = asked} {holds = holds} handle number next b f = record {
@@ -330,7 +331,7 @@ fit_pin_handle {asked = asked} {holds = holds} handle number next b f = record {
 }
 
 pub fit_forget_all : {asked : Request} {holds : List Hold} {marks : List ℕ} {notes : Notes} (list : List (ℕ × ℕ))
-    (next : Tree) → ((later : Notes) → Lasts notes later → Goes asked next holds marks later) →
+    (next : RequestTree) → ((later : Notes) → Lasts notes later → Goes asked next holds marks later) →
     Goes asked (forget_all list next) holds marks notes
 fit_forget_all {asked = asked} {holds = holds} {notes = notes} list next f = record {
   on = λ path. (
@@ -343,7 +344,7 @@ fit_forget_all {asked = asked} {holds = holds} {notes = notes} list next f = rec
 }
 
 pub fit_release_handle : {asked : Request} {holds : List Hold} {marks : List ℕ} {notes : Notes} (handle number : ℕ)
-    (next : Tree) → ((later : Notes) → Lasts notes later → Goes asked next holds marks later) →
+    (next : RequestTree) → ((later : Notes) → Lasts notes later → Goes asked next holds marks later) →
     Goes asked (release_handle handle number next) holds marks notes
 fit_release_handle {asked = asked} {holds = holds} {notes = notes} handle number next f = record {
   on = λ path. (
@@ -356,18 +357,18 @@ fit_release_handle {asked = asked} {holds = holds} {notes = notes} handle number
 }
 
 -- a check of the request's own, which is refused with this cause
-pub fit_checked : {asked : Request} {holds : List Hold} {marks : List ℕ} {notes : Notes} (bad : Bool) (next : Tree) →
-    (bad ≡ true → OwnCause asked einval) → Goes asked next holds marks notes →
+pub fit_checked : {asked : Request} {holds : List Hold} {marks : List ℕ} {notes : Notes} (bad : Bool)
+    (next : RequestTree) → (bad ≡ true → OwnCause asked einval) → Goes asked next holds marks notes →
     Goes asked (if bad then Gives (answer.Refused einval) else next) holds marks notes
 fit_checked true next c f = record { on = λ path. (tt, inl (c refl), tt) }
 fit_checked false next c f = f
 
 -- a bracket begins; where it ends, what was taken in it is given back, and the last hold may pass
-pub fit_brackets : {asked : Request} {holds : List Hold} {marks : List ℕ} {notes : Notes} (rest : Tree) →
+pub fit_brackets : {asked : Request} {holds : List Hold} {marks : List ℕ} {notes : Notes} (rest : RequestTree) →
     Goes asked rest holds (length holds ∷ marks) notes → Goes asked (Brackets rest) holds marks notes
 fit_brackets rest f = record { on = f.on }
 
-pub fit_shuts : {asked : Request} {marks : List ℕ} {notes : Notes} (rest : Tree) (front holds : List Hold) →
+pub fit_shuts : {asked : Request} {marks : List ℕ} {notes : Notes} (rest : RequestTree) (front holds : List Hold) →
     ((later : Notes) → Lasts notes later → Goes asked rest holds marks later) →
     Goes asked (Shuts false rest) (front ++ holds) (length holds ∷ marks) notes
 fit_shuts {asked = asked} {marks = marks} rest front holds f = record {
@@ -375,7 +376,7 @@ fit_shuts {asked = asked} {marks = marks} rest front holds f = record {
       (down_over front holds) ((f later l).on path);
 }
 
-pub fit_shuts_passing : {asked : Request} {marks : List ℕ} {notes : Notes} (rest : Tree) (one : Hold)
+pub fit_shuts_passing : {asked : Request} {marks : List ℕ} {notes : Notes} (rest : RequestTree) (one : Hold)
     (front holds : List Hold) → ((later : Notes) → Lasts notes later → Goes asked rest (one ∷ holds) marks later) →
     Goes asked (Shuts true rest) (one ∷ (front ++ holds)) (length holds ∷ marks) notes
 fit_shuts_passing {asked = asked} {marks = marks} rest one front holds f = record {

@@ -18,7 +18,7 @@ use Rattle.pt_iface.specs.declared.request.Request.{Request}
 use Rattle.pt_iface.specs.declared.request.Request.TheVariants as request
 use Rattle.pt_frame.specs.Deed.{Step}
 use Rattle.pt_frame.specs.Held.{row_fd}
-use Rattle.pt_frame.specs.Tree.{Tree, Gives}
+use Rattle.pt_frame.specs.Tree.{RequestTree, Gives}
 use Rattle.pt_frame.specs.declared.hold.Hold.{Hold}
 use Rattle.pt_frame.specs.declared.hold.Hold.TheVariants as hold
 use Rattle.pt_req.specs.Entries.{is_bad_name, is_bad_offset, can_open}
@@ -48,18 +48,18 @@ fit_gives : {asked : Request} {holds : List Hold} {marks : List ℕ} {notes : No
     ((path : List Step) → Fit asked (Gives last) holds marks notes path) → Goes asked (Gives last) holds marks notes
 fit_gives last f = record { on = f }
 
-after_any_step : {step : Step} {asked : Request} {tree : Tree} {holds : List Hold} {marks : List ℕ} {notes : Notes} →
-    Goes asked tree holds marks notes → GoesAfter step asked tree holds marks notes
+after_any_step : {step : Step} {asked : Request} {tree : RequestTree} {holds : List Hold} {marks : List ℕ}
+    {notes : Notes} → Goes asked tree holds marks notes → GoesAfter step asked tree holds marks notes
 after_any_step {step = step} f = record { on = λ path. f.on (step ∷ path) }
 
 -- what follows a number that was had, whatever lies between its count and what was held before
-abbrev Numbered : Request → ℕ → (ℕ → Tree) → List Hold → List ℕ → Notes → Type 0
+abbrev Numbered : Request → ℕ → (ℕ → RequestTree) → List Hold → List ℕ → Notes → Type 0
 Numbered asked era next holds marks notes =
     (number : ℕ) (front : List Hold) (later : Notes) → Lasts notes later →
     Goes asked (next number) (hold.Count era number ∷ (front ++ holds)) marks later
 
 fit_numbered : {asked : Request} {holds : List Hold} {marks : List ℕ} {notes : Notes} (session : BegunSession)
-    (fd : Fd) (told : Stat) (next : ℕ → Tree) (row : ℕ) (dir : Fd) → notes.era ≡ Some session.era →
+    (fd : Fd) (told : Stat) (next : ℕ → RequestTree) (row : ℕ) (dir : Fd) → notes.era ≡ Some session.era →
     notes.latest ≡ Some fd → Numbered asked session.era next holds marks notes →
     Goes asked (numbered session (File fd) told next)
     (hold.Fd fd (Some told.ids) ∷ hold.Pin row (Some dir) ∷ holds) marks notes
@@ -74,13 +74,13 @@ fit_numbered session fd told next row dir e l f =
     (λ number. f number (top ∷ hold.Slot ∷ pin ∷ []) _ (refl, refl)))))
 
 -- A lookup gives an entry, whose count is the last hold.
-abbrev pub Looks : Request → BegunSession → (Looked → Tree) → List Hold → List ℕ → Notes → Type 0
+abbrev pub Looks : Request → BegunSession → (Looked → RequestTree) → List Hold → List ℕ → Notes → Type 0
 Looks asked session next holds marks notes =
     (looked : Looked) (later : Notes) → Lasts notes later →
     Goes asked (next looked) (hold.Count session.era looked.entry.inode ∷ holds) marks later
 
 pub fit_look_up : {asked : Request} {holds : List Hold} {marks : List ℕ} {notes : Notes} (plan : Plan)
-    (session : BegunSession) (parent : ℕ) (name : List ℕ) (next : Looked → Tree) → IsBare holds →
+    (session : BegunSession) (parent : ℕ) (name : List ℕ) (next : Looked → RequestTree) → IsBare holds →
     notes.era ≡ Some session.era → Looks asked session next holds marks notes →
     Goes asked (look_up plan session parent name next) holds marks notes
 fit_look_up {asked = asked} {holds = holds} plan session parent name next b e f =
@@ -102,7 +102,7 @@ root_lasts true fd notes = refl
 root_lasts false fd notes = refl
 
 pub fit_root_open : {asked : Request} {holds : List Hold} {marks : List ℕ} {notes : Notes} (plan : Plan)
-    (session : BegunSession) (agreed : Option Negotiated) (next : Tree) → IsBare holds →
+    (session : BegunSession) (agreed : Option Negotiated) (next : RequestTree) → IsBare holds →
     notes.era ≡ Some session.era → notes.rooted ≡ false →
     ((later : Notes) → Goes asked next holds marks later) →
     Goes asked (root_open plan session agreed next) holds marks notes
@@ -140,7 +140,7 @@ fit_destroy asked = fit_clear _ refl (λ era later l. fit_gives answer.NoReply (
 
 -- what is no regular file and no directory is not opened
 fit_open_form : {asked : Request} {holds : List Hold} {marks : List ℕ} {notes : Notes} (row number flags : ℕ)
-    (form : RowForm) (next : Fd → Tree) → notes.resolved ≡ Some (record { number = number; row = row }) →
+    (form : RowForm) (next : Fd → RequestTree) → notes.resolved ≡ Some (record { number = number; row = row }) →
     ((dir new : Fd) → Goes asked (next new) (hold.Fd new None ∷ hold.Pin row (Some dir) ∷ holds) marks
     (record notes { reopened = Some new })) →
     Goes asked (open_form form flags next) (hold.Pin row (row_fd form) ∷ holds) marks notes
@@ -148,7 +148,7 @@ fit_open_form row number flags (File dir) next r f =
     fit_reopen dir (without_nofollow flags) row number next r (f dir)
 
 fit_open_row : {asked : Request} {holds : List Hold} {marks : List ℕ} (notes : Notes) (number flags : ℕ)
-    (row : Resolved) (next : Fd → Tree) → IsOpening asked →
+    (row : Resolved) (next : Fd → RequestTree) → IsOpening asked →
     ((dir new : Fd) → Goes asked (next new) (hold.Fd new None ∷ hold.Pin row.row (Some dir) ∷ holds) marks
     (record (noting number row.row notes) { reopened = Some new })) →
     GoesAfter (resolution number row) asked (open_row row flags next) (hold.Pin row.row (row_fd row.form) ∷ holds)

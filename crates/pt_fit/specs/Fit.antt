@@ -10,7 +10,7 @@ use Rattle.pt_frame.specs.Deed.{Calls, Step}
 use Rattle.pt_frame.specs.Held.{held, opened}
 use Rattle.pt_frame.specs.Replies.{closings_in, refusal}
 use Rattle.pt_frame.specs.Frame.{front, behind, under, mark_in, outer}
-use Rattle.pt_frame.specs.Tree.{Tree, Gives, Refuses, Asks, Opens, Bares, Brackets, Shuts, Allocates}
+use Rattle.pt_frame.specs.Tree.{RequestTree, Gives, Refuses, Asks, Opens, Bares, Brackets, Shuts, Allocates}
 use Rattle.pt_frame.specs.declared.act.ActReply.{ActReply}
 use Rattle.pt_frame.specs.declared.hold.Hold.{Hold}
 use Rattle.pt_law.specs.Discipline.{Notes, notes_after, blank}
@@ -32,7 +32,7 @@ IsCausedLeaf asked path (answer.Refused errno) = HasCause asked path errno
 IsCausedLeaf asked path last = Unit {0}
 
 -- On each path through the tree of what was asked, by replies that may come; the path's latest step stands first.
-abbrev pub Fit : Request → Tree → List Hold → List ℕ → Notes → List Step → Type 0
+abbrev pub Fit : Request → RequestTree → List Hold → List ℕ → Notes → List Step → Type 0
 Fit asked (Gives last) holds marks notes path =
     HoldsEntry last holds × IsCausedLeaf asked path last × MayAnswer last asked
 Fit asked (Refuses told) holds marks notes path = IsCausedLeaf asked path (refusal told)
@@ -55,5 +55,5 @@ Fit asked (Shuts passes rest) holds marks notes path =
 Fit asked (Allocates rest) holds marks notes path = Fit asked rest holds marks notes path
 
 -- from its start on
-abbrev pub IsFit : Request → Tree → Type 0
+abbrev pub IsFit : Request → RequestTree → Type 0
 IsFit asked tree = Fit asked tree [] [] blank []

@@ -11,7 +11,7 @@ ghost use Rattle.pt_iface.specs.declared.request.Request.TheVariants as request;
 ghost use Rattle.pt_frame.specs.Deed.{Changes, Step};
 ghost use Rattle.pt_frame.specs.Grammar.{Belongs};
 ghost use Rattle.pt_frame.specs.Replies.{passes_with};
-ghost use Rattle.pt_frame.specs.Tree.{Tree, Shuts, framed};
+ghost use Rattle.pt_frame.specs.Tree.{RequestTree, Shuts, framed};
 ghost use Rattle.pt_frame.specs.declared.act.ActReply.TheVariants.{Event};
 ghost use Rattle.pt_frame.specs.declared.finish.Finish.TheVariants as finish;
 ghost use Rattle.pt_frame.specs.declared.hold.Hold.{Hold};
@@ -46,7 +46,7 @@ pub fn lookup_opens()
 /// A part that looks up, in a request that is answered with an entry, whatever the request did before and does then:
 /// the lookup's steps stand first, by which it came to an entry, and the request goes on with that.
 pub fn part_looks_up()
-    ensures { (plan : Plan) (session : BegunSession) (parent : ℕ) (name : List ℕ) (next : Looked → Tree)
+    ensures { (plan : Plan) (session : BegunSession) (parent : ℕ) (name : List ℕ) (next : Looked → RequestTree)
         (seat : HostSeat) (holds : List Hold) (marks : List ℕ) (steps : List Step) (last : Answer) →
         passes_with last ≡ true →
         Belongs (framed seat (look_up plan session parent name next) holds marks) steps (finish.Answer last) →

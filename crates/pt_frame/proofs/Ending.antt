@@ -14,7 +14,7 @@ use Rattle.pt_frame.specs.Frame.{giving, give_slot, give_taken, closings, give, 
 use Rattle.pt_frame.specs.Frame.{front, behind, under, mark_in, outer, answered_by, answered, close_first, cut}
 use Rattle.pt_frame.specs.Frame.{CutAfter}
 use Rattle.pt_frame.specs.Frame.{CutInFull}
-use Rattle.pt_frame.specs.Tree.{Tree, Gives, Refuses, Asks, Opens, Bares, Brackets, Shuts, Allocates, framed}
+use Rattle.pt_frame.specs.Tree.{RequestTree, Gives, Refuses, Asks, Opens, Bares, Brackets, Shuts, Allocates, framed}
 use Rattle.pt_frame.specs.Tree.{may_give_up, or_gives_up, follows}
 use Rattle.pt_frame.specs.Determined.{EndsSo, IsAnsweredInFull, IsDetermined}
 use Rattle.pt_frame.specs.declared.act.ActReply.{ActReply}
@@ -216,7 +216,7 @@ det_follows : (seat : HostSeat) (wants : Bool) (count : ℕ) (holds : List Hold)
 det_follows seat true count holds rest so = (want_ends seat count holds, det_closings count holds rest so)
 det_follows seat false count holds rest so = det_closings count holds rest so
 
-pub det_framed : (seat : HostSeat) (tree : Tree) (holds : List Hold) (marks : List ℕ) →
+pub det_framed : (seat : HostSeat) (tree : RequestTree) (holds : List Hold) (marks : List ℕ) →
     IsDetermined (framed seat tree holds marks)
 det_framed seat (Gives last) holds marks = det_answered seat (passes_with last) holds (finish.Answer last)
 det_framed seat (Refuses told) holds marks = det_leave seat holds (finish.Answer (refusal told))

@@ -17,7 +17,7 @@ use Rattle.pt_frame.specs.Frame.{giving, closings, give, leave, or_lost, bare, b
 use Rattle.pt_frame.specs.Frame.{mark_in}
 use Rattle.pt_frame.specs.Frame.{outer, cut, close_first, answered}
 use Rattle.pt_frame.specs.Past.{or_first}
-use Rattle.pt_frame.specs.Tree.{Tree, Asks, Opens, Gives, Refuses, Bares, Brackets, Shuts, Allocates, framed}
+use Rattle.pt_frame.specs.Tree.{RequestTree, Asks, Opens, Gives, Refuses, Bares, Brackets, Shuts, Allocates, framed}
 use Rattle.pt_frame.specs.Tree.{may_give_up, or_gives_up}
 use Rattle.pt_frame.specs.Machine.Next.{IsAsks, AsksFor, IsNext, asked, deed_in, with_memory, then_tree, edged}
 use Rattle.pt_frame.specs.Machine.Next.{bares_if, shuts_if, brackets_if}
@@ -140,7 +140,8 @@ edge_back seat false (Some it) one holds new marks more told ready b f =
     shut_new seat it.passes (mark_in marks) one holds new (λ left. more left (outer marks)) told ready b f
 
 -- after a hold was given back there is left what its mode says
-pub given_back : (seat : HostSeat) (at : Mode) (tree : Tree) (one : Hold) (holds new : List Hold) (marks : List ℕ)
+pub given_back : (seat : HostSeat) (at : Mode) (tree : RequestTree) (one : Hold) (holds new : List Hold)
+    (marks : List ℕ)
     (told : ActReply) → at ≢ mode.Body → is_over at holds ≡ false → is_ready at holds marks ≡ true →
     behind (passes_at at) holds ≡ one ∷ behind (passes_at at) new →
     front (passes_at at) new ≡ front (passes_at at) holds →
@@ -158,7 +159,8 @@ given_back seat (mode.Out last) tree one holds new marks told other over ready b
 given_back seat (mode.Leave last) tree one holds new marks told other over ready b f =
     ap (λ (x : List Hold). after told (leave seat x last)) b
 
-pub given_step : (seat : HostSeat) (at : Mode) (tree : Tree) (one : Hold) (holds new : List Hold) (marks : List ℕ)
+pub given_step : (seat : HostSeat) (at : Mode) (tree : RequestTree) (one : Hold) (holds new : List Hold)
+    (marks : List ℕ)
     (told : ActReply) (passes scope : Bool) (wanted : Act) (fault : Option Errno) (count : ℕ) (left : Grammar) →
     at ≢ mode.Body → is_over at holds ≡ false → is_ready at holds marks ≡ true → passes ≡ passes_at at →
     behind passes holds ≡ one ∷ behind passes new → front passes new ≡ front passes holds → scope ≡ is_scope one →
@@ -177,7 +179,7 @@ given_step seat at tree one holds new marks told passes scope wanted fault count
     ∙ ap (closings count new) (sym is)
 
 -- scopes and brackets are those of the tree
-edges_same : (seat : HostSeat) (bares : Bool) (shuts : Option Shut) (brackets : Bool) (tree : Tree)
+edges_same : (seat : HostSeat) (bares : Bool) (shuts : Option Shut) (brackets : Bool) (tree : RequestTree)
     (holds : List Hold) (marks : List ℕ) →
     bared seat bares holds (λ left. ended seat shuts left marks (λ kept above.
     framed seat tree kept (marked brackets kept above)))
@@ -191,13 +193,13 @@ edges_same seat false None false tree holds marks = refl
 edges_same seat false (Some it) true tree holds marks = refl
 edges_same seat false (Some it) false tree holds marks = refl
 
-then_same : (seat : HostSeat) (what : Then) (told : ActReply) (left : Tree) →
+then_same : (seat : HostSeat) (what : Then) (told : ActReply) (left : RequestTree) →
     then_left seat what (refusal told) left ≡ framed seat (then_tree what told left)
 then_same seat then.Goes told left = refl
 then_same seat (then.Gives last) told left = refl
 then_same seat then.Refuses told left = refl
 
-memory_same : (seat : HostSeat) (tree : Tree) (holds : List Hold) (marks : List ℕ) →
+memory_same : (seat : HostSeat) (tree : RequestTree) (holds : List Hold) (marks : List ℕ) →
     framed seat (with_memory tree) holds marks ≡ framed seat tree holds marks
 memory_same seat (Gives last) holds marks = refl
 memory_same seat (Refuses told) holds marks = refl
@@ -219,7 +221,7 @@ up_chosen true up rest chosen w e = inr (inr e)
 up_chosen false up rest chosen w e = absurd (cc)
 
 -- the body says what follows, or gives up
-follows_so : (seat : HostSeat) (tree left : Tree) (told : ActReply) (what : Next) (count : ℕ) (holds : List Hold)
+follows_so : (seat : HostSeat) (tree left : RequestTree) (told : ActReply) (what : Next) (count : ℕ) (holds : List Hold)
     (marks : List ℕ) (rest : Grammar) → IsNext tree told what left →
     rest ≡ next_left seat what (refusal told) left holds marks →
     IsChosen (or_gives_up (may_give_up told tree)
@@ -228,18 +230,18 @@ follows_so : (seat : HostSeat) (tree left : Tree) (told : ActReply) (what : Next
 follows_so seat tree left told (next.At what) count holds marks rest is e =
     rest_chosen (may_give_up told tree) _ _ _ (ap (closings count holds)
     (e ∙ ap (λ (f : List Hold → List ℕ → Grammar). f holds marks) (then_same seat what told left)
-    ∙ ap (λ (t : Tree). framed seat t holds marks) (sym is) ∙ memory_same seat tree holds marks))
+    ∙ ap (λ (t : RequestTree). framed seat t holds marks) (sym is) ∙ memory_same seat tree holds marks))
 follows_so seat tree left told (next.Over edges what) count holds marks rest is e =
     rest_chosen (may_give_up told tree) _ _ _ (ap (closings count holds)
     (e ∙ ap (λ (f : List Hold → List ℕ → Grammar). edges_left seat edges f holds marks)
     (then_same seat what told left)
     ∙ edges_same seat edges.bares edges.shuts edges.brackets (then_tree what told left) holds marks
-    ∙ ap (λ (t : Tree). framed seat t holds marks) (sym is) ∙ memory_same seat tree holds marks))
+    ∙ ap (λ (t : RequestTree). framed seat t holds marks) (sym is) ∙ memory_same seat tree holds marks))
 follows_so seat tree left told next.NoMemory count holds marks rest is e =
     up_chosen (may_give_up told tree) _ _ _ is (ap (closings count holds) e)
 
 -- a step of the body
-pub body_went : (seat : HostSeat) (tree left : Tree) (wanted : Act) (opens : Option Hold) (told : ActReply)
+pub body_went : (seat : HostSeat) (tree left : RequestTree) (wanted : Act) (opens : Option Hold) (told : ActReply)
     (refused : Answer) (what : Next) (holds new : List Hold) (marks : List ℕ) (count : ℕ) (rest : Grammar) →
     AsksFor tree wanted opens → refused ≡ refusal told → IsNext (asked tree told) told what left →
     new ≡ held_by (deed_of wanted) opens told holds → count ≡ closings_in (deed_of wanted) told →
@@ -270,7 +272,7 @@ body_went seat (Opens call scope more) left wanted
     (λ e. follows_so seat (more told) left told what 0 (opened scope told holds) marks rest is e) l')
 body_went seat tree left wanted opens told refused what holds new marks count rest asks r is h n l = absurd asks
 
-pub asks_closings : (seat : HostSeat) (tree : Tree) (wanted : Act) (opens : Option Hold) (told : ActReply)
+pub asks_closings : (seat : HostSeat) (tree : RequestTree) (wanted : Act) (opens : Option Hold) (told : ActReply)
     (holds : List Hold) (marks : List ℕ) → AsksFor tree wanted opens →
     closings_in (deed_of wanted) told ≡ told_closings (framed seat tree holds marks) told
 asks_closings seat (Asks deed more) wanted None told holds marks asks = ap (λ (d : Deed). closings_in d told) asks
@@ -278,14 +280,14 @@ asks_closings seat (Opens call scope more) wanted (Some laid) told holds marks a
     ap (λ (d : Deed). closings_in d told) asks.0
 asks_closings seat tree wanted opens told holds marks asks = absurd asks
 
-pub asks_inserted : (seat : HostSeat) (tree : Tree) (wanted : Act) (opens : Option Hold) (told : ActReply)
+pub asks_inserted : (seat : HostSeat) (tree : RequestTree) (wanted : Act) (opens : Option Hold) (told : ActReply)
     (holds : List Hold) (marks : List ℕ) → AsksFor tree wanted opens →
     inserted_by (deed_in tree) told ≡ told_inserted (framed seat tree holds marks) told
 asks_inserted seat (Asks deed more) wanted None told holds marks asks = refl
 asks_inserted seat (Opens call scope more) wanted (Some laid) told holds marks asks = refl
 asks_inserted seat tree wanted opens told holds marks asks = absurd asks
 
-pub asks_brings : (tree : Tree) (wanted : Act) (opens : Option Hold) → AsksFor tree wanted opens →
+pub asks_brings : (tree : RequestTree) (wanted : Act) (opens : Option Hold) → AsksFor tree wanted opens →
     act_brings (deed_of wanted) opens ≡ brings tree
 asks_brings (Asks deed more) wanted None asks = ap deed_brings asks
 asks_brings (Opens call scope more) wanted (Some laid) asks = refl
@@ -338,7 +340,7 @@ edge_gives seat false (Some it) holds marks more ready =
     (λ left. more left (outer marks)) ready (whole it.passes holds)
 
 -- what gives back gives one back, or is over
-pub gives : (seat : HostSeat) (at : Mode) (tree : Tree) (holds : List Hold) (marks : List ℕ) → at ≢ mode.Body →
+pub gives : (seat : HostSeat) (at : Mode) (tree : RequestTree) (holds : List Hold) (marks : List ℕ) → at ≢ mode.Body →
     is_ready at holds marks ≡ true → is_over at holds ≡ false →
     GivesOne seat (mode_left seat at tree holds marks) holds (behind (passes_at at) holds)
 gives seat mode.Body tree holds marks other ready over = absurd (other refl)
@@ -361,7 +363,7 @@ gives seat (mode.Leave last) tree (one ∷ rest) marks other ready over = record
 }
 
 -- a mode that is over is left with its end, and nothing is given back in it
-pub over_left : (seat : HostSeat) (at : Mode) (tree : Tree) (holds : List Hold) (marks : List ℕ) →
+pub over_left : (seat : HostSeat) (at : Mode) (tree : RequestTree) (holds : List Hold) (marks : List ℕ) →
     is_ready at holds marks ≡ true → is_over at holds ≡ true →
     (mode_left seat at tree holds marks ≡ End (end_of at)) × (behind (passes_at at) holds ≡ [])
 over_left seat mode.Body tree holds marks ready over = absurd (cc)
@@ -381,7 +383,7 @@ pub record Stands (seat : HostSeat) (at : Mode) (grammar : Grammar) (holds : Lis
   pub owes_all : is_over at holds ≡ false →
       owed_by grammar ≡ owing (is_giving_scope at holds) taken.Nothing 0 holds
 
-asks_stands : (seat : HostSeat) (tree : Tree) (holds : List Hold) (marks : List ℕ) → IsAsks tree →
+asks_stands : (seat : HostSeat) (tree : RequestTree) (holds : List Hold) (marks : List ℕ) → IsAsks tree →
     Stands seat mode.Body (framed seat tree holds marks) holds
 asks_stands seat (Asks deed more) holds marks asks =
     record { over = refl; restoring = refl; settled = tt; going = λ e. tt; owes_all = λ e. refl }
@@ -421,8 +423,8 @@ over_stands seat at grammar holds last other over is none = record {
   owes_all = λ e. absurd (cc);
 }
 
-other_stands : (seat : HostSeat) (at : Mode) (tree : Tree) (holds : List Hold) (marks : List ℕ) → at ≢ mode.Body →
-    is_ready at holds marks ≡ true → (over : Bool) → is_over at holds ≡ over →
+other_stands : (seat : HostSeat) (at : Mode) (tree : RequestTree) (holds : List Hold) (marks : List ℕ) →
+    at ≢ mode.Body → is_ready at holds marks ≡ true → (over : Bool) → is_over at holds ≡ over →
     Stands seat at (mode_left seat at tree holds marks) holds
 other_stands seat at tree holds marks other ready true e =
     let o = over_left seat at tree holds marks ready e in
@@ -431,8 +433,8 @@ other_stands seat at tree holds marks other ready false e =
     gives_stands seat at (mode_left seat at tree holds marks) holds other e
     (gives seat at tree holds marks other ready e)
 
-pub mode_stands : (seat : HostSeat) (at : Mode) (tree : Tree) (holds : List Hold) (marks : List ℕ) → IsAsks tree →
-    is_ready at holds marks ≡ true → Stands seat at (mode_left seat at tree holds marks) holds
+pub mode_stands : (seat : HostSeat) (at : Mode) (tree : RequestTree) (holds : List Hold) (marks : List ℕ) →
+    IsAsks tree → is_ready at holds marks ≡ true → Stands seat at (mode_left seat at tree holds marks) holds
 mode_stands seat mode.Body tree holds marks asks ready = asks_stands seat tree holds marks asks
 mode_stands seat (mode.Edge edges more) tree holds marks asks ready =
     other_stands seat (mode.Edge edges more) tree holds marks (λ e. absurd (cc)) ready false refl
@@ -450,7 +452,7 @@ over_now taken.Slot count at holds b c = absurd (cc)
 over_now taken.Nothing (suc count) at holds b c = absurd (omega (arith, c))
 over_now taken.Nothing zero at holds b c = refl
 
-pub left_now : (seat : HostSeat) (brings : Taken) (count : ℕ) (at : Mode) (tree : Tree) (holds : List Hold)
+pub left_now : (seat : HostSeat) (brings : Taken) (count : ℕ) (at : Mode) (tree : RequestTree) (holds : List Hold)
     (marks : List ℕ) → brings ≡ taken.Nothing → count ≤ 0 →
     left_of seat brings count at tree holds marks ≡ mode_left seat at tree holds marks
 left_now seat (taken.Fd fd slot) count at tree holds marks b c = absurd (cc)
@@ -466,7 +468,7 @@ restoring_now taken.Nothing (suc count) at holds b c = absurd (omega (arith, c))
 restoring_now taken.Nothing zero at holds b c = refl
 
 -- a job has ended just where its fields say so
-pub end_over : (seat : HostSeat) (brings : Taken) (count : ℕ) (at : Mode) (tree : Tree) (holds : List Hold)
+pub end_over : (seat : HostSeat) (brings : Taken) (count : ℕ) (at : Mode) (tree : RequestTree) (holds : List Hold)
     (marks : List ℕ) → IsAsks tree → is_ready at holds marks ≡ true →
     is_end (left_of seat brings count at tree holds marks) ≡ is_all_over brings count at holds
 end_over seat (taken.Fd fd slot) count at tree holds marks asks ready = refl
@@ -476,7 +478,7 @@ end_over seat taken.Nothing zero at tree holds marks asks ready =
     (mode_stands seat at tree holds marks asks ready).over
 
 -- a step is to be made of one that has not
-pub stood : (seat : HostSeat) (brings : Taken) (count : ℕ) (at : Mode) (tree : Tree) (holds : List Hold)
+pub stood : (seat : HostSeat) (brings : Taken) (count : ℕ) (at : Mode) (tree : RequestTree) (holds : List Hold)
     (marks : List ℕ) → IsAsks tree → is_ready at holds marks ≡ true → is_all_over brings count at holds ≡ false →
     IsDo (left_of seat brings count at tree holds marks)
 stood seat (taken.Fd fd slot) count at tree holds marks asks ready e = tt
@@ -486,7 +488,7 @@ stood seat taken.Nothing zero at tree holds marks asks ready e =
     (mode_stands seat at tree holds marks asks ready).going e
 
 -- no choice is open between two steps
-pub settles : (seat : HostSeat) (brings : Taken) (count : ℕ) (at : Mode) (tree : Tree) (holds : List Hold)
+pub settles : (seat : HostSeat) (brings : Taken) (count : ℕ) (at : Mode) (tree : RequestTree) (holds : List Hold)
     (marks : List ℕ) → IsAsks tree → is_ready at holds marks ≡ true →
     IsSettled (left_of seat brings count at tree holds marks)
 settles seat (taken.Fd fd slot) count at tree holds marks asks ready = tt
@@ -496,7 +498,7 @@ settles seat taken.Nothing zero at tree holds marks asks ready =
     (mode_stands seat at tree holds marks asks ready).settled
 
 -- a step restores the seat just where the fields say so
-pub restores_so : (seat : HostSeat) (brings : Taken) (count : ℕ) (at : Mode) (tree : Tree) (holds : List Hold)
+pub restores_so : (seat : HostSeat) (brings : Taken) (count : ℕ) (at : Mode) (tree : RequestTree) (holds : List Hold)
     (marks : List ℕ) → IsAsks tree → is_ready at holds marks ≡ true →
     restores (left_of seat brings count at tree holds marks) ≡ is_restoring_now brings count at holds
 restores_so seat (taken.Fd fd slot) count at tree holds marks asks ready = refl
@@ -527,7 +529,7 @@ restoring_goes taken.Nothing zero at holds e = go (is_over at holds) refl
     go true o = let n = over_rests at holds o in absurd (cc)
 
 -- a job that is cut is left with what it owed
-pub cut_left : (seat : HostSeat) (brings : Taken) (count : ℕ) (at : Mode) (tree : Tree) (holds : List Hold)
+pub cut_left : (seat : HostSeat) (brings : Taken) (count : ℕ) (at : Mode) (tree : RequestTree) (holds : List Hold)
     (marks : List ℕ) → IsAsks tree → is_ready at holds marks ≡ true → is_all_over brings count at holds ≡ false →
     close_first brings count holds (leave seat holds (finish.Answer answer.Cut))
     ≡ cut seat (owed_by (left_of seat brings count at tree holds marks))
@@ -538,7 +540,7 @@ cut_left seat taken.Nothing zero at tree holds marks asks ready e =
     ap (cut seat) (sym ((mode_stands seat at tree holds marks asks ready).owes_all e))
 
 -- what is finished ends
-pub ends_over : (seat : HostSeat) (brings : Taken) (count : ℕ) (at : Mode) (tree : Tree) (holds : List Hold)
+pub ends_over : (seat : HostSeat) (brings : Taken) (count : ℕ) (at : Mode) (tree : RequestTree) (holds : List Hold)
     (marks : List ℕ) → is_ready at holds marks ≡ true → is_all_over brings count at holds ≡ true →
     left_of seat brings count at tree holds marks ≡ End (end_of at)
 ends_over seat (taken.Fd fd slot) count at tree holds marks ready e = absurd (cc)
@@ -562,7 +564,7 @@ told_end taken.Nothing zero (mode.Out last) holds lost e t = none_unless (is_cut
 told_end taken.Nothing zero (mode.Leave last) holds lost e t = t
 
 -- what is wanted is what gives the next one back
-pub gives_wanted : (seat : HostSeat) (at : Mode) (tree : Tree) (holds : List Hold) (marks : List ℕ) (one : Hold)
+pub gives_wanted : (seat : HostSeat) (at : Mode) (tree : RequestTree) (holds : List Hold) (marks : List ℕ) (one : Hold)
     (rest : List Hold) (act : Act) → at ≢ mode.Body → is_ready at holds marks ≡ true →
     behind (passes_at at) holds ≡ one ∷ rest → deed_of act ≡ giving seat one →
     Wants (mode_left seat at tree holds marks) (want.Step act)

@@ -18,7 +18,7 @@ use Rattle.pt_frame.specs.Frame.{giving, give_slot, give_taken, closings, give, 
 use Rattle.pt_frame.specs.Frame.{front, behind, under, mark_in, outer, answered_by, answered}
 use Rattle.pt_frame.specs.Memory.{RanOut}
 use Rattle.pt_frame.specs.Sparing.{IsNoMemory, IsSparing}
-use Rattle.pt_frame.specs.Tree.{Tree, Gives, Refuses, Asks, Opens, Bares, Brackets, Shuts, Allocates, framed}
+use Rattle.pt_frame.specs.Tree.{RequestTree, Gives, Refuses, Asks, Opens, Bares, Brackets, Shuts, Allocates, framed}
 use Rattle.pt_frame.specs.Tree.{allocates, may_give_up, follows}
 use Rattle.pt_frame.specs.declared.act.ActReply.{ActReply}
 use Rattle.pt_frame.specs.declared.act.ActReply.TheVariants as told
@@ -179,7 +179,7 @@ out_asked lacked deed owed next so (step ∷ steps) end b out =
     here true is (inl e) = inr (inl is)
     here false is (inl e) = inl e
 
-takes_none : (lacked : Bool) (tree : Tree) → IsSparing lacked tree → allocates tree ≡ false
+takes_none : (lacked : Bool) (tree : RequestTree) → IsSparing lacked tree → allocates tree ≡ false
 takes_none lacked (Gives last) so = refl
 takes_none lacked (Refuses reply) so = refl
 takes_none lacked (Asks deed next) so = refl
@@ -189,7 +189,7 @@ takes_none lacked (Brackets rest) so = refl
 takes_none lacked (Shuts passes rest) so = refl
 takes_none lacked (Allocates rest) so = absurd so
 
-out_framed : (lacked : Bool) (seat : HostSeat) (tree : Tree) (holds : List Hold) (marks : List ℕ) →
+out_framed : (lacked : Bool) (seat : HostSeat) (tree : RequestTree) (holds : List Hold) (marks : List ℕ) →
     IsSparing lacked tree → OutOr (lacked ≡ true) (framed seat tree holds marks)
 out_framed lacked seat (Gives last) holds marks so = out_answered seat (passes_with last) holds last so
 out_framed lacked seat (Refuses reply) holds marks so =
@@ -218,7 +218,7 @@ out_framed lacked seat (Shuts passes rest) holds marks so =
     (λ left. framed seat rest left (outer marks)) (λ left. out_framed lacked seat rest left (outer marks) so)
 out_framed lacked seat (Allocates rest) holds marks so = absurd so
 
-pub ran_out : (seat : HostSeat) (tree : Tree) (steps : List Step) → IsSparing false tree →
+pub ran_out : (seat : HostSeat) (tree : RequestTree) (steps : List Step) → IsSparing false tree →
     Belongs (framed seat tree [] []) steps (finish.Answer answer.NoMemory) → RanOut steps
 ran_out seat tree steps so b =
     at_step (out_framed false seat tree [] [] so steps (finish.Answer answer.NoMemory) b tt)

@@ -28,7 +28,7 @@ use Rattle.pt_frame.specs.Replies.{passes_with, taken_in}
 use Rattle.pt_frame.specs.Grammar.{Grammar, End, Do, May, Owed, owing, IsChosen, IsDo, owed_by}
 use Rattle.pt_frame.specs.Frame.{giving, give_slot, give_taken, closings, give, leave, or_lost, bare, bare_one, shut}
 use Rattle.pt_frame.specs.Frame.{front, behind, under, mark_in, outer, answered_by, answered, close_first, cut}
-use Rattle.pt_frame.specs.Tree.{Tree, Gives, Refuses, Asks, Opens, Bares, Brackets, Shuts, Allocates, framed}
+use Rattle.pt_frame.specs.Tree.{RequestTree, Gives, Refuses, Asks, Opens, Bares, Brackets, Shuts, Allocates, framed}
 use Rattle.pt_frame.specs.Tree.{may_give_up, or_gives_up, follows}
 use Rattle.pt_frame.specs.Past.{ends_scope, is_open, is_restoring, ended, worn_called, worn_after, or_first}
 use Rattle.pt_frame.specs.Past.{lost_after, Past, past_at, past_after}
@@ -650,7 +650,7 @@ wears_parted seat false holds c = c
 wears_parted seat true [] c = c
 wears_parted seat true (top ∷ holds) c = c
 
-pub tended_framed : (seat : HostSeat) (tree : Tree) (holds : List Hold) (marks : List ℕ) (worn : List Call) →
+pub tended_framed : (seat : HostSeat) (tree : RequestTree) (holds : List Hold) (marks : List ℕ) (worn : List Call) →
     Wears seat holds worn → Tends seat tree worn →
     Tended seat false (framed seat tree holds marks) (past_at worn None)
 tended_framed seat (Gives last) holds marks worn w t = answered_so seat (passes_with last) last holds worn t.0 t.1 w

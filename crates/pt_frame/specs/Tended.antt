@@ -13,7 +13,7 @@ use Rattle.pt_frame.specs.Held.{is_scope}
 use Rattle.pt_frame.specs.Replies.{closings_in, passes_with, is_cut}
 use Rattle.pt_frame.specs.Grammar.{Grammar, End, Do, May}
 use Rattle.pt_frame.specs.Frame.{giving}
-use Rattle.pt_frame.specs.Tree.{Tree, Gives, Refuses, Asks, Opens, Bares, Brackets, Shuts, Allocates}
+use Rattle.pt_frame.specs.Tree.{RequestTree, Gives, Refuses, Asks, Opens, Bares, Brackets, Shuts, Allocates}
 use Rattle.pt_frame.specs.Past.{ends_scope, is_open, ended, is_restoring, worn_after, Past, past_after}
 use Rattle.pt_frame.specs.declared.act.ActReply.{ActReply}
 use Rattle.pt_frame.specs.declared.finish.Finish.{Finish}
@@ -116,7 +116,7 @@ PassesBare true worn = worn ≡ []
 PassesBare false worn = Unit {0}
 
 -- of a tree, under the open scopes
-abbrev pub Tends : HostSeat → Tree → List Call → Type 0
+abbrev pub Tends : HostSeat → RequestTree → List Call → Type 0
 Tends seat (Gives last) worn = IsUncut last × PassesBare (passes_with last) worn
 Tends seat (Refuses told) worn = Unit {0}
 Tends seat (Asks deed next) worn = IsAsked deed worn × ((told : ActReply) →

@@ -16,23 +16,23 @@ use Rattle.pt_frame.specs.declared.hold.Taken.TheVariants.{Nothing}
 
 -- What is held is said by the deeds and their replies: a tree says only what it asks, where scopes and brackets begin
 -- and end, and how it is answered.
-pub data Tree : Type 0 where
-  Gives : Answer → Tree
+pub data RequestTree : Type 0 where
+  Gives : Answer → RequestTree
   -- this reply is answered as a refusal
-  Refuses : ActReply → Tree
-  Asks : Deed → (ActReply → Tree) → Tree
+  Refuses : ActReply → RequestTree
+  Asks : Deed → (ActReply → RequestTree) → RequestTree
   -- a call on the seat: where it is Ok this scope is open
-  Opens : Call → Hold → (ActReply → Tree) → Tree
+  Opens : Call → Hold → (ActReply → RequestTree) → RequestTree
   -- the call of the open scopes was made, and they end
-  Bares : Tree → Tree
+  Bares : RequestTree → RequestTree
   -- a bracket begins
-  Brackets : Tree → Tree
+  Brackets : RequestTree → RequestTree
   -- the innermost bracket ends, and the last hold of all may pass its end
-  Shuts : Bool → Tree → Tree
+  Shuts : Bool → RequestTree → RequestTree
   -- what was told takes memory to go on with
-  Allocates : Tree → Tree
+  Allocates : RequestTree → RequestTree
 
-abbrev pub allocates : Tree → Bool
+abbrev pub allocates : RequestTree → Bool
 allocates (Allocates rest) = true
 allocates (Gives last) = false
 allocates (Refuses told) = false
@@ -47,7 +47,7 @@ abbrev pub or_gives_up : Bool → Grammar → Grammar → Grammar
 or_gives_up true up rest = May up rest
 or_gives_up false up rest = rest
 
-abbrev pub may_give_up : ActReply → Tree → Bool
+abbrev pub may_give_up : ActReply → RequestTree → Bool
 may_give_up told next = lacks_memory told || allocates next
 
 -- A reply is followed by its closings, and then by the rest. Where the job gives up, all that it holds goes back.
@@ -57,7 +57,7 @@ follows seat wants count holds rest =
     (closings count holds rest)
 
 -- the body in the frame, with what it holds, the last one first, and with the marks of its open brackets
-abbrev pub framed : HostSeat → Tree → List Hold → List ℕ → Grammar
+abbrev pub framed : HostSeat → RequestTree → List Hold → List ℕ → Grammar
 framed seat (Gives last) holds marks = answered seat last holds
 framed seat (Refuses told) holds marks = leave seat holds (finish.Answer (refusal told))
 framed seat (Asks deed next) holds marks = Do deed (owing false Nothing 0 holds) (λ told.
@@ -74,5 +74,5 @@ framed seat (Shuts passes rest) holds marks =
 framed seat (Allocates rest) holds marks = framed seat rest holds marks
 
 -- what a job with this tree may do from its start on
-abbrev pub grammar_of_tree : HostSeat → Tree → Grammar
+abbrev pub grammar_of_tree : HostSeat → RequestTree → Grammar
 grammar_of_tree seat tree = framed seat tree [] []

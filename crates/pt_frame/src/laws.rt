@@ -11,7 +11,7 @@ ghost use Rattle.pt_frame.specs.Memory.{RanOut};
 ghost use Rattle.pt_frame.specs.Past.{Past, no_past, past_from, is_restoring, KeepsGroups};
 ghost use Rattle.pt_frame.specs.Sparing.{IsSparing};
 ghost use Rattle.pt_frame.specs.Tended.{Tended, Tends, IsBack, IsFinish};
-ghost use Rattle.pt_frame.specs.Tree.{Tree, grammar_of_tree};
+ghost use Rattle.pt_frame.specs.Tree.{RequestTree, grammar_of_tree};
 ghost use Rattle.pt_frame.specs.declared.act.ActReply.{ActReply};
 ghost use Rattle.pt_frame.specs.declared.finish.Finish.{Finish};
 ghost use Rattle.pt_frame.specs.declared.finish.Finish.TheVariants.{Answer};
@@ -34,12 +34,12 @@ pub fn cut_says_no_more()
 
 /// A job has one outcome unless memory runs out.
 pub fn jobs_are_determined()
-    ensures { (seat : HostSeat) (tree : Tree) → IsDetermined (grammar_of_tree seat tree) }
+    ensures { (seat : HostSeat) (tree : RequestTree) → IsDetermined (grammar_of_tree seat tree) }
 {}
 
 /// A job whose tree takes no memory of its own is answered `NoMemory` only where memory ran out at one of its steps.
 pub fn memory_ran_out_at_a_step()
-    ensures { (seat : HostSeat) (tree : Tree) (steps : List Step) → IsSparing false tree →
+    ensures { (seat : HostSeat) (tree : RequestTree) (steps : List Step) → IsSparing false tree →
         Belongs (grammar_of_tree seat tree) steps (Answer NoMemory) → RanOut steps }
 {}
 
@@ -59,7 +59,7 @@ pub fn losses_are_told()
 
 /// A tree that opens its scopes rightly makes a job that restores its seat, whole and cut, and goes on so.
 pub fn seats_are_tended()
-    ensures whole { (seat : HostSeat) (tree : Tree) → Tends seat tree [] →
+    ensures whole { (seat : HostSeat) (tree : RequestTree) → Tends seat tree [] →
         Tended seat false (grammar_of_tree seat tree) no_past }
     ensures cut { (seat : HostSeat) (grammar : Grammar) (past : Past) → IsDo grammar → past.lost ≡ None →
         Tended seat false grammar past → Tended seat true (cut seat (owed_by grammar)) past }

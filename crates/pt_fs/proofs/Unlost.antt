@@ -16,7 +16,8 @@ use Rattle.pt_frame.specs.Grammar.{Grammar, End, Do, Belongs, Owed, owing}
 use Rattle.pt_frame.specs.Held.{is_scope, held}
 use Rattle.pt_frame.specs.Replies.{closings_in, fault_if, restored, refusal, passes_with}
 use Rattle.pt_frame.specs.Tended.{Wears, WearsTop}
-use Rattle.pt_frame.specs.Tree.{Tree, Gives, Refuses, Asks, Opens, Bares, Brackets, Shuts, Allocates, framed, follows}
+use Rattle.pt_frame.specs.Tree.{RequestTree, Gives, Refuses, Asks, Opens, Bares, Brackets, Shuts, Allocates, framed}
+use Rattle.pt_frame.specs.Tree.{follows}
 use Rattle.pt_frame.specs.Tree.{may_give_up}
 use Rattle.pt_frame.specs.declared.act.ActReply.{ActReply}
 use Rattle.pt_frame.specs.declared.finish.Finish.{Finish}
@@ -134,7 +135,7 @@ clear_behind true [] c = c
 clear_behind true (top ∷ holds) c = c
 
 -- a tree that opens no scope
-abbrev Quiet : Tree → Type 0
+abbrev Quiet : RequestTree → Type 0
 Quiet (Gives last) = Unit {0}
 Quiet (Refuses told) = Unit {0}
 Quiet (Asks deed next) = (told : ActReply) → Quiet (next told)
@@ -144,7 +145,7 @@ Quiet (Brackets rest) = Quiet rest
 Quiet (Shuts passes rest) = Quiet rest
 Quiet (Allocates rest) = ⊥
 
-ends_framed : (seat : HostSeat) (tree : Tree) (holds : List Hold) (marks : List ℕ) → Quiet tree → Clear holds →
+ends_framed : (seat : HostSeat) (tree : RequestTree) (holds : List Hold) (marks : List ℕ) → Quiet tree → Clear holds →
     EndsAnswered (framed seat tree holds marks)
 ends_framed seat (Gives last) holds marks q c = ends_answered seat (passes_with last) holds last c
 ends_framed seat (Refuses told) holds marks q c = ends_leave seat holds (refusal told) c

@@ -16,7 +16,8 @@ use Rattle.pt_frame.specs.Grammar.{Grammar, End, Belongs}
 use Rattle.pt_frame.specs.Frame.{giving, closings, give_taken, give, leave, or_lost, bare_one, bare, shut, front}
 use Rattle.pt_frame.specs.Frame.{behind}
 use Rattle.pt_frame.specs.Frame.{under, mark_in, outer, answered_by}
-use Rattle.pt_frame.specs.Tree.{Tree, Gives, Refuses, Asks, Opens, Bares, Brackets, Shuts, Allocates, framed, follows}
+use Rattle.pt_frame.specs.Tree.{RequestTree, Gives, Refuses, Asks, Opens, Bares, Brackets, Shuts, Allocates, framed}
+use Rattle.pt_frame.specs.Tree.{follows}
 use Rattle.pt_frame.specs.Tree.{may_give_up, allocates}
 use Rattle.pt_frame.specs.declared.act.ActReply.{ActReply}
 use Rattle.pt_frame.specs.declared.act.ActReply.TheVariants.{NoCopy}
@@ -255,16 +256,17 @@ at_end last [] end b = (b, none)
 at_end last (step ∷ steps) end b = absurd b
 
 -- how a job with this tree may come to its end
-abbrev pub Comes : Tree → List Step → Finish → Type 0
+abbrev pub Comes : RequestTree → List Step → Finish → Type 0
 Comes tree steps end = IsLost end ⊎ (GaveUp tree steps end ⊎ IsOfBranch tree end steps)
 
 -- an end is the answer of a leaf, or a lost seat
-at_leaf : (tree : Tree) (last : Answer) (steps : List Step) (end : Finish) → Along tree [] last →
+at_leaf : (tree : RequestTree) (last : Answer) (steps : List Step) (end : Finish) → Along tree [] last →
     Ended (finish.Answer last) end → AreOwn [] steps → Comes tree steps end
 at_leaf tree last steps end a (inl e) own = inr (inr ([], last, own, e, a))
 at_leaf tree last steps end a (inr g) own = inl g
 
-at_answer : (seat : HostSeat) (passes : Bool) (holds : List Hold) (tree : Tree) (last : Answer) (steps : List Step)
+at_answer : (seat : HostSeat) (passes : Bool) (holds : List Hold) (tree : RequestTree) (last : Answer)
+    (steps : List Step)
     (end : Finish) → Along tree [] last → Belongs (answered_by seat passes holds (finish.Answer last)) steps end →
     Comes tree steps end
 at_answer seat true [] tree last steps end a b = let l = end_leave seat [] (finish.Answer last) steps end b in
@@ -280,7 +282,7 @@ at_answer seat false holds tree last steps end a b =
     at_leaf tree last steps end a l.0 l.1
 
 -- the tree allocates at once
-allocates_now : (tree : Tree) → allocates tree ≡ true → AllocatesAfter tree []
+allocates_now : (tree : RequestTree) → allocates tree ≡ true → AllocatesAfter tree []
 allocates_now (Allocates rest) e = inl refl
 allocates_now (Gives last) e = absurd (cc)
 allocates_now (Refuses told) e = absurd (cc)
@@ -290,7 +292,7 @@ allocates_now (Bares rest) e = absurd (cc)
 allocates_now (Brackets rest) e = absurd (cc)
 allocates_now (Shuts passes rest) e = absurd (cc)
 
-why_gave_up : (told : ActReply) (next : Tree) → may_give_up told next ≡ true →
+why_gave_up : (told : ActReply) (next : RequestTree) → may_give_up told next ≡ true →
     LacksMemory told ⊎ (allocates next ≡ true)
 why_gave_up told next e = go (lacks_memory told) refl e
   where
@@ -310,7 +312,7 @@ end_follows seat true count holds rest steps end (inl b) =
 end_follows seat true count holds rest steps end (inr b) = inr (pass_closings count holds rest steps end b)
 
 -- a step of the tree's own comes before
-comes_after : (tree next : Tree) (step : Step) (later steps : List Step) (end : Finish) →
+comes_after : (tree next : RequestTree) (step : Step) (later steps : List Step) (end : Finish) →
     ((path : List Step) (last : Answer) → Along next path last → Along tree (step ∷ path) last) →
     ((path : List Step) → AllocatesAfter next path → AllocatesAfter tree (step ∷ path)) → Backs later steps →
     Comes next later end → Comes tree (step ∷ steps) end
@@ -326,7 +328,7 @@ comes_after tree next step later steps end f g b (inr (inr r)) =
     inr (inr (step ∷ r.0, r.1, keep (b.own r.0 r.2), r.3, f r.0 r.1 r.4))
 
 -- nothing of the tree's own comes before
-comes_still : (tree next : Tree) (later steps : List Step) (end : Finish) →
+comes_still : (tree next : RequestTree) (later steps : List Step) (end : Finish) →
     ((path : List Step) (last : Answer) → Along next path last → Along tree path last) →
     ((path : List Step) → AllocatesAfter next path → AllocatesAfter tree path) → Backs later steps →
     Comes next later end → Comes tree steps end
@@ -342,7 +344,7 @@ comes_still tree next later steps end f g b (inr (inr r)) =
     inr (inr (r.0, r.1, b.own r.0 r.2, r.3, f r.0 r.1 r.4))
 
 -- the job gave up after a step
-gives_up : (tree next : Tree) (step : Step) (steps : List Step) (end : Finish) →
+gives_up : (tree next : RequestTree) (step : Step) (steps : List Step) (end : Finish) →
     ((path : List Step) → AllocatesAfter next path → AllocatesAfter tree (step ∷ path)) →
     may_give_up step.reply next ≡ true → Ended (finish.Answer answer.NoMemory) end → Comes tree (step ∷ steps) end
 gives_up tree next step steps end g m (inl e) = inr (inl (record { answered = e; why = why }))
@@ -354,8 +356,8 @@ gives_up tree next step steps end g m (inl e) = inr (inl (record { answered = e;
     ]
 gives_up tree next step steps end g m (inr lost) = inl lost
 
-pub branch : (seat : HostSeat) (tree : Tree) (holds : List Hold) (marks : List ℕ) (steps : List Step) (end : Finish) →
-    Belongs (framed seat tree holds marks) steps end → Comes tree steps end
+pub branch : (seat : HostSeat) (tree : RequestTree) (holds : List Hold) (marks : List ℕ) (steps : List Step)
+    (end : Finish) → Belongs (framed seat tree holds marks) steps end → Comes tree steps end
 branch seat (Gives last) holds marks steps end b =
     at_answer seat (passes_with last) holds (Gives last) last steps end refl b
 branch seat (Refuses told) holds marks steps end b =

@@ -4,7 +4,7 @@ use Rattle.pt_host.specs.declared.seat.HostSeat.{HostSeat}
 use Rattle.pt_frame.specs.Deed.{Step}
 use Rattle.pt_frame.specs.Grammar.{Grammar, End, Do, May, Belongs}
 use Rattle.pt_frame.specs.Frame.{CutAfter, cut}
-use Rattle.pt_frame.specs.Tree.{Tree, grammar_of_tree}
+use Rattle.pt_frame.specs.Tree.{RequestTree, grammar_of_tree}
 use Rattle.pt_frame.specs.declared.finish.Finish.{Finish}
 use Rattle.pt_law.specs.Discipline.{Job, idle, blank, ComesToEnd}
 use Rattle.pt_law.specs.Told.{AllMayBeTold}
@@ -41,12 +41,12 @@ ends_cut seat (May one other) job so_far steps last s u t (inl b) =
 ends_cut seat (May one other) job so_far steps last s u t (inr b) =
     ends_cut seat other job so_far steps last s.1 u t b
 
-pub keeps_ends : (seat : HostSeat) (tree : Tree) (steps : List Step) (last : Finish) → Keeps tree [] [] blank →
+pub keeps_ends : (seat : HostSeat) (tree : RequestTree) (steps : List Step) (last : Finish) → Keeps tree [] [] blank →
     AllMayBeTold steps → Belongs (grammar_of_tree seat tree) steps last → ComesToEnd idle steps last
 keeps_ends seat tree steps last f t b =
     ends (grammar_of_tree seat tree) idle steps last (sound_framed seat tree [] [] blank f) t b
 
-pub keeps_ends_cut : (seat : HostSeat) (tree : Tree) (so_far steps : List Step) (last : Finish) →
+pub keeps_ends_cut : (seat : HostSeat) (tree : RequestTree) (so_far steps : List Step) (last : Finish) →
     Keeps tree [] [] blank → AllMayBeTold so_far → AllMayBeTold steps →
     CutAfter seat (grammar_of_tree seat tree) so_far steps last → ComesToEnd idle (so_far ++ steps) last
 keeps_ends_cut seat tree so_far steps last f u t b =

@@ -12,7 +12,8 @@ use Rattle.pt_frame.specs.Grammar.{Grammar, End, Do, May}
 use Rattle.pt_frame.specs.Frame.{giving, closings, give_taken, give, leave, or_lost, bare_one, bare, shut, front}
 use Rattle.pt_frame.specs.Frame.{behind}
 use Rattle.pt_frame.specs.Frame.{under, mark_in, outer, answered_by, CutAfter, CutInFull}
-use Rattle.pt_frame.specs.Tree.{Tree, Gives, Refuses, Asks, Opens, Bares, Brackets, Shuts, Allocates, framed, follows}
+use Rattle.pt_frame.specs.Tree.{RequestTree, Gives, Refuses, Asks, Opens, Bares, Brackets, Shuts, Allocates, framed}
+use Rattle.pt_frame.specs.Tree.{follows}
 use Rattle.pt_frame.specs.Tree.{may_give_up, allocates, grammar_of_tree}
 use Rattle.pt_frame.specs.declared.act.ActReply.{ActReply}
 use Rattle.pt_frame.specs.declared.finish.Finish.{Finish}
@@ -102,7 +103,7 @@ answered_lasts seat false holds last = leave_lasts seat holds last
 answered_lasts seat true [] last = leave_lasts seat [] last
 answered_lasts seat true (one ∷ holds) last = shut_lasts seat (Some one) 0 holds (λ left. End last) (λ left. tt)
 
-none_allocates : (tree : Tree) → TakesNone tree → allocates tree ≡ false
+none_allocates : (tree : RequestTree) → TakesNone tree → allocates tree ≡ false
 none_allocates (Allocates rest) s = absurd s
 none_allocates (Gives last) s = refl
 none_allocates (Refuses told) s = refl
@@ -112,7 +113,7 @@ none_allocates (Bares rest) s = refl
 none_allocates (Brackets rest) s = refl
 none_allocates (Shuts passes rest) s = refl
 
-goes_on : (told : ActReply) (next : Tree) → (LacksMemory told → ⊥) → TakesNone next →
+goes_on : (told : ActReply) (next : RequestTree) → (LacksMemory told → ⊥) → TakesNone next →
     may_give_up told next ≡ false
 goes_on told next n s = go (lacks_memory told) refl
   where
@@ -125,7 +126,7 @@ follows_last : (seat : HostSeat) (wants : Bool) (count : ℕ) (holds : List Hold
 follows_last seat wants count holds rest e g =
     subst (λ (w : Bool). Lasting (follows seat w count holds rest)) (sym e) (closings_last count holds rest g)
 
-framed_lasts : (seat : HostSeat) (tree : Tree) (holds : List Hold) (marks : List ℕ) → TakesNone tree →
+framed_lasts : (seat : HostSeat) (tree : RequestTree) (holds : List Hold) (marks : List ℕ) → TakesNone tree →
     Lasting (framed seat tree holds marks)
 framed_lasts seat (Gives last) holds marks s = answered_lasts seat (passes_with last) holds (finish.Answer last)
 framed_lasts seat (Refuses told) holds marks s = leave_lasts seat holds (finish.Answer (refusal told))
@@ -145,7 +146,7 @@ framed_lasts seat (Shuts passes rest) holds marks s =
     framed seat rest left (outer marks)) (λ left. framed_lasts seat rest left (outer marks) s)
 framed_lasts seat (Allocates rest) holds marks s = absurd s
 
-pub cut_in_full : (seat : HostSeat) (tree : Tree) (so_far steps : List Step) (end : Finish) → TakesNone tree →
+pub cut_in_full : (seat : HostSeat) (tree : RequestTree) (so_far steps : List Step) (end : Finish) → TakesNone tree →
     AllMayBeTold so_far → (RanOut so_far → ⊥) → CutAfter seat (grammar_of_tree seat tree) so_far steps end →
     CutInFull seat (grammar_of_tree seat tree) so_far steps end
 cut_in_full seat tree so_far steps end s t n b =

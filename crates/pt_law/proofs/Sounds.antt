@@ -19,7 +19,8 @@ use Rattle.pt_frame.specs.Replies.{closings_in, taken_in, brought, restored, ref
 use Rattle.pt_frame.specs.Grammar.{Grammar, End, Owed}
 use Rattle.pt_frame.specs.Frame.{giving, give_slot, give_taken, closings, give, leave, or_lost, bare_one, bare, front}
 use Rattle.pt_frame.specs.Frame.{behind, under, mark_in, outer, shut, answered, cut}
-use Rattle.pt_frame.specs.Tree.{Tree, Gives, Refuses, Asks, Opens, Bares, Brackets, Shuts, Allocates, framed, follows}
+use Rattle.pt_frame.specs.Tree.{RequestTree, Gives, Refuses, Asks, Opens, Bares, Brackets, Shuts, Allocates, framed}
+use Rattle.pt_frame.specs.Tree.{follows}
 use Rattle.pt_frame.specs.Tree.{may_give_up}
 use Rattle.pt_frame.specs.declared.act.ActReply.{ActReply}
 use Rattle.pt_frame.specs.declared.act.ActReply.TheVariants.{Event, Host, NoCopy}
@@ -297,7 +298,7 @@ sound_follows seat true count holds rest notes k = (
   sound_closings count holds rest notes k,
 )
 
-pub sound_framed : (seat : HostSeat) (tree : Tree) (holds : List Hold) (marks : List ℕ) (notes : Notes) →
+pub sound_framed : (seat : HostSeat) (tree : RequestTree) (holds : List Hold) (marks : List ℕ) (notes : Notes) →
     Keeps tree holds marks notes → Sound (framed seat tree holds marks) (at_job (unscoped holds) notes)
 sound_framed seat (Gives last) holds marks notes f = sound_answered seat last holds notes f
 sound_framed seat (Refuses told) holds marks notes f =

@@ -9,14 +9,14 @@ use Rattle.pt_iface.specs.declared.answer.Answer.TheVariants as answer
 use Rattle.pt_frame.specs.Deed.{Deed, Calls, Changes, Step, IsStepOf}
 use Rattle.pt_frame.specs.Memory.{RanOut}
 use Rattle.pt_frame.specs.Replies.{refusal}
-use Rattle.pt_frame.specs.Tree.{Tree, Gives, Refuses, Asks, Opens, Bares, Brackets, Shuts, Allocates}
+use Rattle.pt_frame.specs.Tree.{RequestTree, Gives, Refuses, Asks, Opens, Bares, Brackets, Shuts, Allocates}
 use Rattle.pt_frame.specs.declared.act.ActReply.{ActReply}
 use Rattle.pt_frame.specs.declared.finish.Finish.{Finish}
 use Rattle.pt_frame.specs.declared.finish.Finish.TheVariants as finish
 use Rattle.pt_law.specs.Told.{MayBeTold}
 
 -- by these steps the tree comes to this answer
-abbrev pub Along : Tree → List Step → Answer → Type 0
+abbrev pub Along : RequestTree → List Step → Answer → Type 0
 Along (Gives given) [] last = last ≡ given
 Along (Refuses told) [] last = last ≡ refusal told
 Along (Asks deed next) (step ∷ steps) last = IsStepOf deed step.deed step.reply × Along (next step.reply) steps last
@@ -29,7 +29,7 @@ Along (Allocates rest) steps last = Along rest steps last
 Along tree steps last = ⊥
 
 -- after these steps the tree allocates
-abbrev pub AllocatesAfter : Tree → List Step → Type 0
+abbrev pub AllocatesAfter : RequestTree → List Step → Type 0
 AllocatesAfter (Asks deed next) (step ∷ steps) =
     IsStepOf deed step.deed step.reply × AllocatesAfter (next step.reply) steps
 AllocatesAfter (Opens asked scope next) (step ∷ steps) =
@@ -41,7 +41,7 @@ AllocatesAfter (Allocates rest) steps = (steps ≡ []) ⊎ AllocatesAfter rest s
 AllocatesAfter tree steps = ⊥
 
 -- by replies that may come no part of the tree takes memory of its own
-abbrev pub TakesNone : Tree → Type 0
+abbrev pub TakesNone : RequestTree → Type 0
 TakesNone (Gives last) = Unit {0}
 TakesNone (Refuses told) = Unit {0}
 TakesNone (Asks deed next) = (told : ActReply) → MayBeTold deed told → TakesNone (next told)
@@ -89,12 +89,12 @@ IsLost (finish.Lost errno) = Unit {0}
 IsLost (finish.Answer last) = ⊥
 
 -- the job gave up for memory that ran out: one of its steps lacked it, or the tree took some of its own
-pub record GaveUp (tree : Tree) (steps : List Step) (end : Finish) : Type 0 where
+pub record GaveUp (tree : RequestTree) (steps : List Step) (end : Finish) : Type 0 where
   pub answered : end ≡ finish.Answer answer.NoMemory
   pub why : RanOut steps ⊎ ((path : List Step) × AreFirst path steps × AllocatesAfter tree path)
 
 -- the answer is that of a branch, whose steps are these but for some that give back
-abbrev pub IsOfBranch : Tree → Finish → List Step → Type 0
+abbrev pub IsOfBranch : RequestTree → Finish → List Step → Type 0
 IsOfBranch tree end steps =
     (path : List Step) × (last : Answer) × AreOwn path steps × (end ≡ finish.Answer last) × Along tree path last
 

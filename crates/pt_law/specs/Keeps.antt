@@ -13,7 +13,7 @@ use Rattle.pt_frame.specs.Deed.{Deed, Calls, Changes}
 use Rattle.pt_frame.specs.Held.{is_scope, is_same_fd, fd_in, held, opened}
 use Rattle.pt_frame.specs.Replies.{closings_in}
 use Rattle.pt_frame.specs.Frame.{front, behind, under, mark_in, outer}
-use Rattle.pt_frame.specs.Tree.{Tree, Gives, Refuses, Asks, Opens, Bares, Brackets, Shuts, Allocates}
+use Rattle.pt_frame.specs.Tree.{RequestTree, Gives, Refuses, Asks, Opens, Bares, Brackets, Shuts, Allocates}
 use Rattle.pt_frame.specs.declared.act.ActReply.{ActReply}
 use Rattle.pt_frame.specs.declared.hold.Hold.{Hold}
 use Rattle.pt_frame.specs.declared.hold.Hold.TheVariants as hold
@@ -102,7 +102,7 @@ MayOpen sort scope = ⊥
 
 -- On each path through the tree, by replies that may come, each deed may be made; what is held says no more of the
 -- seat than where the scopes are.
-abbrev pub Keeps : Tree → List Hold → List ℕ → Notes → Type 0
+abbrev pub Keeps : RequestTree → List Hold → List ℕ → Notes → Type 0
 Keeps (Gives last) holds marks notes = HoldsEntry last holds
 Keeps (Refuses told) holds marks notes = Unit {0}
 Keeps (Asks deed next) holds marks notes =

@@ -7,7 +7,7 @@ ghost use Rattle.pt_frame.specs.Grammar.{Belongs};
 ghost use Rattle.pt_frame.specs.Made.{Made, RunsAlone};
 ghost use Rattle.pt_frame.specs.Memory.{RanOut};
 ghost use Rattle.pt_frame.specs.Seats.{seat_at, seat_by};
-ghost use Rattle.pt_frame.specs.Tree.{Tree, grammar_of_tree};
+ghost use Rattle.pt_frame.specs.Tree.{RequestTree, grammar_of_tree};
 ghost use Rattle.pt_frame.specs.declared.act.ActReply.{ActReply};
 ghost use Rattle.pt_frame.specs.declared.finish.Finish.{Finish};
 ghost use Rattle.pt_law.specs.Discipline.{idle, blank, ComesToEnd};
@@ -23,16 +23,16 @@ use pt_host::Host;
 /// loses its seat, or gives up for memory that ran out, or is answered by a branch of its tree. What a job was given
 /// it gave back by its end, or its answer has it.
 pub fn any_course()
-    ensures whole { (seat : HostSeat) (tree : Tree) (steps : List Step) (end : Finish) → Keeps tree [] [] blank →
+    ensures whole { (seat : HostSeat) (tree : RequestTree) (steps : List Step) (end : Finish) → Keeps tree [] [] blank →
         AllMayBeTold steps → Belongs (grammar_of_tree seat tree) steps end → ComesToEnd idle steps end }
-    ensures cut { (seat : HostSeat) (tree : Tree) (so_far steps : List Step) (end : Finish) →
+    ensures cut { (seat : HostSeat) (tree : RequestTree) (so_far steps : List Step) (end : Finish) →
         Keeps tree [] [] blank → AllMayBeTold so_far → AllMayBeTold steps →
         CutAfter seat (grammar_of_tree seat tree) so_far steps end → ComesToEnd idle (so_far ++ steps) end }
-    ensures full { (seat : HostSeat) (tree : Tree) (so_far steps : List Step) (end : Finish) → TakesNone tree →
+    ensures full { (seat : HostSeat) (tree : RequestTree) (so_far steps : List Step) (end : Finish) → TakesNone tree →
         AllMayBeTold so_far → (RanOut so_far → ⊥) →
         CutAfter seat (grammar_of_tree seat tree) so_far steps end →
         CutInFull seat (grammar_of_tree seat tree) so_far steps end }
-    ensures branch { (seat : HostSeat) (tree : Tree) (steps : List Step) (end : Finish) →
+    ensures branch { (seat : HostSeat) (tree : RequestTree) (steps : List Step) (end : Finish) →
         Belongs (grammar_of_tree seat tree) steps end →
         IsLost end ⊎ (GaveUp tree steps end ⊎ IsOfBranch tree end steps) }
     ensures settled { (steps : List Step) (end : Finish) → ComesToEnd idle steps end → IsSettled steps end }

@@ -12,6 +12,7 @@ ghost use Rattle.std.specs.Prelude.{
   IfOk,
   SomeIff,
   OnErr,
+  OnOk,
   length,
   nat_lt,
   position,
@@ -28,9 +29,13 @@ ghost use Rattle.pt_node.specs.Numbers.{
   given_up,
   given_up_where,
   having,
+  lowered,
+  passed,
   released,
   released_where,
+  swapped,
   table_in,
+  weight,
 };
 
 use crate::slots::{Descriptors, OpenFile};
@@ -51,6 +56,8 @@ pub struct Inodes {
     pub holds: Vec<usize>,
     /// How many names each object has.
     pub names: Vec<usize>,
+    /// How many directories there are in each object: so a status need not go over the names.
+    pub directories: Vec<usize>,
     pub tables: Vec<NumberTable>,
 }
 
@@ -118,16 +125,19 @@ impl Inodes {
     pub fn new(alloc: Global) -> Inodes
         ensures holds { result.holds.items ≡ [] }
         ensures names { result.names.items ≡ [] }
+        ensures directories { result.directories.items ≡ [] }
         ensures tables { result.tables.items ≡ [] }
     {
         Inodes {
             holds: Vec::new(alloc),
             names: Vec::new(alloc),
+            directories: Vec::new(alloc),
             tables: Vec::new(alloc),
         }
     }
 
-    /// One object more, which is held once, has so many names, and has the least number of the device that is free.
+    /// One object more, which is held once, has so many names and no directory in it, and has the least number of the
+    /// device that is free.
     pub fn add(
         &mut self,
         alloc: Global,
@@ -138,20 +148,25 @@ impl Inodes {
         ensures number { IfOk result (λ number. number ≡ least_free (table_in self.old.tables.items dev)) }
         ensures holds { IfOk result (λ number. self.new.holds.items ≡ self.old.holds.items ++ 1 ∷ []) }
         ensures names { IfOk result (λ number. self.new.names.items ≡ self.old.names.items ++ names ∷ []) }
+        ensures directories { IfOk result (λ number.
+            self.new.directories.items ≡ self.old.directories.items ++ 0 ∷ []) }
         ensures tables { IfOk result (λ number. (other : ℕ) →
             table_in self.new.tables.items other
             ≡ set_at dev (put_at number (Open (having object)) (table_in self.old.tables.items dev))
             (table_in self.old.tables.items) other) }
         ensures same_holds { OnErr result (self.new.holds.items ≡ self.old.holds.items) }
         ensures same_names { OnErr result (self.new.names.items ≡ self.old.names.items) }
+        ensures same_directories { OnErr result (self.new.directories.items ≡ self.old.directories.items) }
         ensures same_tables { OnErr result ((other : ℕ) →
             table_in self.new.tables.items other ≡ table_in self.old.tables.items other) }
     {
         self.holds.reserve(1)?;
         self.names.reserve(1)?;
+        self.directories.reserve(1)?;
         let number = give_number(alloc, &mut self.tables, dev, object)?;
         let _ = self.holds.push(1);
         let _ = self.names.push(names);
+        let _ = self.directories.push(0);
         Ok(number)
     }
 
@@ -159,11 +174,14 @@ impl Inodes {
     pub fn take_back(&mut self, dev: u64, number: u64)
         ensures holds { self.new.holds.items ≡ take (length self.old.holds.items - 1) self.old.holds.items }
         ensures names { self.new.names.items ≡ take (length self.old.names.items - 1) self.old.names.items }
+        ensures directories { self.new.directories.items
+            ≡ take (length self.old.directories.items - 1) self.old.directories.items }
         ensures tables { (other : ℕ) →
             table_in self.new.tables.items other ≡ freed dev number (table_in self.old.tables.items) other }
     {
         let _ = self.holds.pop();
         let _ = self.names.pop();
+        let _ = self.directories.pop();
         free_number(&mut self.tables, dev, number);
     }
 
@@ -209,10 +227,75 @@ impl Inodes {
         }
     }
 
+    /// How many directories there are in this one after the object, which is one or not, came into it, where that can
+    /// be counted.
+    pub fn directories_with(&self, dir: usize, is_directory: bool) -> Option<usize>
+        ensures { SomeIff result ((dir < length self.now.directories.items)
+            × (slice_index self.now.directories.items dir + weight is_directory < 2 ^ 64))
+            (slice_index self.now.directories.items dir + weight is_directory) }
+    {
+        match self.directories.get(dir) {
+            None => None,
+            Some(directories) => directories.checked_add(usize::from(is_directory)),
+        }
+    }
+
+    /// The object, which is a directory or not, is in this directory no more.
+    pub fn lose_directory(&mut self, dir: usize, is_directory: bool)
+        ensures directories { self.new.directories.items
+            ≡ lowered dir (weight is_directory) self.old.directories.items }
+        ensures holds { self.new.holds.items ≡ self.old.holds.items }
+        ensures names { self.new.names.items ≡ self.old.names.items }
+        ensures tables { self.new.tables.items ≡ self.old.tables.items }
+    {
+        if let Some(directories) = self.directories.get_mut(dir) {
+            *directories = directories.saturating_sub(usize::from(is_directory));
+        }
+    }
+
+    /// A directory goes from this one to the other.
+    fn pass_directory(&mut self, from: usize, to: usize) -> Result<(), AllocError>
+        ensures ok { OnOk result (self.new.directories.items ≡ passed from to self.old.directories.items) }
+        ensures err { OnErr result (self.new.directories.items ≡ self.old.directories.items) }
+        ensures holds { self.new.holds.items ≡ self.old.holds.items }
+        ensures names { self.new.names.items ≡ self.old.names.items }
+        ensures tables { self.new.tables.items ≡ self.old.tables.items }
+    {
+        let Some(directories) = self.directories_with(to, true) else {
+            return Err(AllocError);
+        };
+        self.directories[to] = directories;
+        self.lose_directory(from, true);
+        Ok(())
+    }
+
+    /// An object of the one directory and one of the other, each of which is a directory or not, change places.
+    pub fn swap_directories(
+        &mut self,
+        from: usize,
+        to: usize,
+        moved: bool,
+        back: bool,
+    ) -> Result<(), AllocError>
+        ensures ok { OnOk result (self.new.directories.items
+            ≡ swapped from to moved back self.old.directories.items) }
+        ensures err { OnErr result (self.new.directories.items ≡ self.old.directories.items) }
+        ensures holds { self.new.holds.items ≡ self.old.holds.items }
+        ensures names { self.new.names.items ≡ self.old.names.items }
+        ensures tables { self.new.tables.items ≡ self.old.tables.items }
+    {
+        match (moved, back) {
+            (true, false) => self.pass_directory(from, to),
+            (false, true) => self.pass_directory(to, from),
+            _ => Ok(()),
+        }
+    }
+
     /// The object has one name less.
     pub fn lose_name(&mut self, object: usize)
         ensures names { self.new.names.items ≡ released object self.old.names.items }
         ensures holds { self.new.holds.items ≡ self.old.holds.items }
+        ensures directories { self.new.directories.items ≡ self.old.directories.items }
         ensures tables { self.new.tables.items ≡ self.old.tables.items }
     {
         if let Some(names) = self.names.get_mut(object) {
@@ -224,6 +307,7 @@ impl Inodes {
     pub fn lose_name_where(&mut self, object: Option<usize>)
         ensures names { self.new.names.items ≡ released_where object self.old.names.items }
         ensures holds { self.new.holds.items ≡ self.old.holds.items }
+        ensures directories { self.new.directories.items ≡ self.old.directories.items }
         ensures tables { self.new.tables.items ≡ self.old.tables.items }
     {
         if let Some(object) = object {
@@ -235,6 +319,7 @@ impl Inodes {
     pub fn release(&mut self, object: usize, dev: u64, number: u64)
         ensures holds { self.new.holds.items ≡ released object self.old.holds.items }
         ensures names { self.new.names.items ≡ self.old.names.items }
+        ensures directories { self.new.directories.items ≡ self.old.directories.items }
         ensures tables { (other : ℕ) →
             table_in self.new.tables.items other
             ≡ given_up dev number object self.old.holds.items (table_in self.old.tables.items) other }
@@ -253,6 +338,7 @@ impl Inodes {
     pub fn release_where(&mut self, object: Option<usize>, dev: u64, number: u64)
         ensures holds { self.new.holds.items ≡ released_where object self.old.holds.items }
         ensures names { self.new.names.items ≡ self.old.names.items }
+        ensures directories { self.new.directories.items ≡ self.old.directories.items }
         ensures tables { (other : ℕ) →
             table_in self.new.tables.items other
             ≡ given_up_where dev number object self.old.holds.items (table_in self.old.tables.items) other }

@@ -1,6 +1,7 @@
 ghost use Rattle.std.specs.Prelude.{◌≡◌, ◌<◌};
 ghost use Rattle.pt_node.specs.Node.{
   bytes_in,
+  holds_names,
   is_directory,
   is_link,
   is_special,
@@ -96,6 +97,15 @@ impl Content {
         }
     }
 
+    pub fn is_directory(&self) -> bool
+        ensures { result ≡ holds_names self.now }
+    {
+        match self {
+            Content::Directory(_) => true,
+            Content::Regular(_) | Content::Link(_) | Content::Special(_) => false,
+        }
+    }
+
     pub fn size(&self) -> u64
         ensures { result ≡ size_of self.now }
     {
@@ -111,10 +121,7 @@ impl Node {
     pub fn is_directory(&self) -> bool
         ensures { result ≡ is_directory self.now }
     {
-        match self.content {
-            Content::Directory(_) => true,
-            Content::Regular(_) | Content::Link(_) | Content::Special(_) => false,
-        }
+        self.content.is_directory()
     }
 
     pub fn is_link(&self) -> bool

@@ -8,7 +8,7 @@ use Rattle.pt_host.specs.declared.reply.HostValue.TheVariants as value
 use Rattle.pt_session.specs.declared.form.RowForm.{RowForm}
 use Rattle.pt_session.specs.declared.form.Negotiated.{Negotiated}
 use Rattle.pt_session.specs.declared.reply.EventReply.TheVariants as event
-use Rattle.pt_frame.specs.Tree.{Tree, Refuses}
+use Rattle.pt_frame.specs.Tree.{RequestTree, Refuses}
 use Rattle.pt_frame.specs.declared.act.ActReply.{ActReply}
 use Rattle.pt_frame.specs.declared.act.ActReply.TheVariants.{Event, Host}
 use Rattle.pt_req.specs.Steps.{session_of, Resolved, on_began, on_cleared, on_resolved, on_fd, on_stat, on_bytes}
@@ -16,65 +16,65 @@ use Rattle.pt_req.specs.Steps.{on_claim, on_taken, on_drawn, on_inserted, on_roo
 use Rattle.pt_req.specs.declared.begun.BegunSession.{BegunSession}
 
 -- a fact of a reply and of what follows it, which holds of every refusal
-abbrev pub OfRefusals : (ActReply → Tree → Type 0) → Type 0
+abbrev pub OfRefusals : (ActReply → RequestTree → Type 0) → Type 0
 OfRefusals P = (told : ActReply) → P told (Refuses told)
 
-pub if_began : (P : ActReply → Tree → Type 0) (next : BegunSession → Tree) → OfRefusals P →
+pub if_began : (P : ActReply → RequestTree → Type 0) (next : BegunSession → RequestTree) → OfRefusals P →
     ((era : ℕ) (agreed : Negotiated) → P (Event (event.Began era agreed)) (next (session_of era agreed))) →
     (told : ActReply) → P told (on_began next told)
 if_began P next refused so (Event (event.Began era agreed)) = so era agreed
 if_began P next refused so told = refused told
 
-pub if_cleared : (P : ActReply → Tree → Type 0) (next : ℕ → Tree) → OfRefusals P →
+pub if_cleared : (P : ActReply → RequestTree → Type 0) (next : ℕ → RequestTree) → OfRefusals P →
     ((era closings : ℕ) → P (Event (event.Cleared era closings)) (next era)) →
     (told : ActReply) → P told (on_cleared next told)
 if_cleared P next refused so (Event (event.Cleared era closings)) = so era closings
 if_cleared P next refused so told = refused told
 
-pub if_resolved : (P : ActReply → Tree → Type 0) (next : Resolved → Tree) → OfRefusals P →
+pub if_resolved : (P : ActReply → RequestTree → Type 0) (next : Resolved → RequestTree) → OfRefusals P →
     ((row : ℕ) (form : RowForm) (ids : ObjIds) (mode : ℕ) → P (Event (event.Resolved row form ids mode))
     (next (record { row = row; form = form; ids = ids; mode = mode }))) →
     (told : ActReply) → P told (on_resolved next told)
 if_resolved P next refused so (Event (event.Resolved row form ids mode)) = so row form ids mode
 if_resolved P next refused so told = refused told
 
-pub if_fd : (P : ActReply → Tree → Type 0) (next : Fd → Tree) → OfRefusals P →
+pub if_fd : (P : ActReply → RequestTree → Type 0) (next : Fd → RequestTree) → OfRefusals P →
     ((fd : Fd) → P (Host (host.Ok (value.Fd fd))) (next fd)) →
     (told : ActReply) → P told (on_fd next told)
 if_fd P next refused so (Host (host.Ok (value.Fd fd))) = so fd
 if_fd P next refused so told = refused told
 
-pub if_stat : (P : ActReply → Tree → Type 0) (next : Stat → Tree) → OfRefusals P →
+pub if_stat : (P : ActReply → RequestTree → Type 0) (next : Stat → RequestTree) → OfRefusals P →
     ((stat : Stat) → P (Host (host.Ok (value.Stat stat))) (next stat)) →
     (told : ActReply) → P told (on_stat next told)
 if_stat P next refused so (Host (host.Ok (value.Stat stat))) = so stat
 if_stat P next refused so told = refused told
 
-pub if_bytes : (P : ActReply → Tree → Type 0) (next : List ℕ → Tree) → OfRefusals P →
+pub if_bytes : (P : ActReply → RequestTree → Type 0) (next : List ℕ → RequestTree) → OfRefusals P →
     ((bytes : List ℕ) → P (Host (host.Ok (value.Bytes bytes))) (next bytes)) →
     (told : ActReply) → P told (on_bytes next told)
 if_bytes P next refused so (Host (host.Ok (value.Bytes bytes))) = so bytes
 if_bytes P next refused so told = refused told
 
-pub if_claimed : (P : ActReply → Tree → Type 0) (next : ℕ → Tree) (absent : Tree) → OfRefusals P →
+pub if_claimed : (P : ActReply → RequestTree → Type 0) (next : ℕ → RequestTree) (absent : RequestTree) → OfRefusals P →
     ((number : ℕ) → P (Event (event.Claimed number)) (next number)) → P (Event event.Absent) absent →
     (told : ActReply) → P told (on_claim next absent told)
 if_claimed P next absent refused so other (Event (event.Claimed number)) = so number
 if_claimed P next absent refused so other (Event event.Absent) = other
 if_claimed P next absent refused so other told = refused told
 
-pub if_taken : (P : ActReply → Tree → Type 0) (next : Tree) → OfRefusals P → P (Event event.Taken) next →
+pub if_taken : (P : ActReply → RequestTree → Type 0) (next : RequestTree) → OfRefusals P → P (Event event.Taken) next →
     (told : ActReply) → P told (on_taken next told)
 if_taken P next refused so (Event event.Taken) = so
 if_taken P next refused so told = refused told
 
-pub if_drawn : (P : ActReply → Tree → Type 0) (next : ℕ → Tree) → OfRefusals P →
+pub if_drawn : (P : ActReply → RequestTree → Type 0) (next : ℕ → RequestTree) → OfRefusals P →
     ((number : ℕ) → P (Event (event.Drawn number)) (next number)) →
     (told : ActReply) → P told (on_drawn next told)
 if_drawn P next refused so (Event (event.Drawn number)) = so number
 if_drawn P next refused so told = refused told
 
-pub if_inserted : (P : ActReply → Tree → Type 0) (next : ℕ → Tree) → OfRefusals P →
+pub if_inserted : (P : ActReply → RequestTree → Type 0) (next : ℕ → RequestTree) → OfRefusals P →
     ((number : ℕ) → P (Event (event.Inserted number)) (next number)) →
     ((number : ℕ) → P (Event (event.Found number)) (next number)) →
     (told : ActReply) → P told (on_inserted next told)
@@ -82,25 +82,25 @@ if_inserted P next refused so found (Event (event.Inserted number)) = so number
 if_inserted P next refused so found (Event (event.Found number)) = found number
 if_inserted P next refused so found told = refused told
 
-pub if_root : (P : ActReply → Tree → Type 0) (next : Tree) → OfRefusals P →
+pub if_root : (P : ActReply → RequestTree → Type 0) (next : RequestTree) → OfRefusals P →
     ((number : ℕ) → P (Event (event.Inserted number)) next) →
     (told : ActReply) → P told (on_root next told)
 if_root P next refused so (Event (event.Inserted number)) = so number
 if_root P next refused so told = refused told
 
-pub if_handle : (P : ActReply → Tree → Type 0) (next : Tree) → OfRefusals P →
+pub if_handle : (P : ActReply → RequestTree → Type 0) (next : RequestTree) → OfRefusals P →
     ((handle : ℕ) → P (Event (event.Inserted handle)) next) →
     (told : ActReply) → P told (on_handle next told)
 if_handle P next refused so (Event (event.Inserted handle)) = so handle
 if_handle P next refused so told = refused told
 
-pub if_pinned : (P : ActReply → Tree → Type 0) (next : Fd → Tree) → OfRefusals P →
+pub if_pinned : (P : ActReply → RequestTree → Type 0) (next : Fd → RequestTree) → OfRefusals P →
     ((row : ℕ) (fd : Fd) → P (Event (event.Pinned row fd)) (next fd)) →
     (told : ActReply) → P told (on_pinned next told)
 if_pinned P next refused so (Event (event.Pinned row fd)) = so row fd
 if_pinned P next refused so told = refused told
 
-pub if_done : (P : ActReply → Tree → Type 0) (next : Tree) → OfRefusals P →
+pub if_done : (P : ActReply → RequestTree → Type 0) (next : RequestTree) → OfRefusals P →
     ((closings : ℕ) → P (Event (event.Done closings)) next) →
     (told : ActReply) → P told (on_done next told)
 if_done P next refused so (Event (event.Done closings)) = so closings

@@ -6,12 +6,10 @@ use Rattle.pt_host.specs.declared.seat.HostSeat.{HostSeat}
 use Rattle.pt_iface.specs.declared.request.Context.{Context}
 use Rattle.pt_iface.specs.declared.request.Request.{Request}
 use Rattle.pt_frame.specs.Deed.{Deed, Calls, Changes, lacks_memory}
-use Rattle.pt_frame.specs.Past.{worn_after}
 use Rattle.pt_frame.specs.Replies.{closings_in, passes_with}
 use Rattle.pt_frame.specs.Sparing.{IsSparing}
 use Rattle.pt_frame.specs.Tended.{is_seats_sort, is_of_seat, Tends, IsAskedOf, IsAsked, ClosesBare, PassesBare}
-use Rattle.pt_frame.specs.Tree.{Tree, Gives, Asks}
-use Rattle.pt_frame.specs.declared.act.ActReply.{ActReply}
+use Rattle.pt_frame.specs.Tree.{RequestTree}
 use Rattle.pt_frame.specs.declared.hold.Taken.TheVariants.{Nothing}
 use Rattle.pt_frame.proofs.Tending.{wears_same}
 use Rattle.pt_req.specs.Requests.{tree_of}
@@ -71,7 +69,8 @@ in_full = record {
   shuts = λ passes rest so. so;
 }
   where
-    found_so : (lacks : Bool) (tree : Tree) → lacks ≡ false → IsSparing false tree → IsSparing (lacks || false) tree
+    found_so : (lacks : Bool) (tree : RequestTree) → lacks ≡ false → IsSparing false tree →
+        IsSparing (lacks || false) tree
     found_so true tree e so = absurd (cc)
     found_so false tree e so = so
 

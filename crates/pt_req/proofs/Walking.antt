@@ -1,6 +1,6 @@
 -- What holds of plain answers and refusals, and passes through each step that is no call on the seat, holds of every
 -- request: today none calls on its seat, and none takes memory of its own.
-use Rattle.std.proofs.Common.{◌≡◌, ℕ, zero, suc, Bool, true, false, List, [], ◌∷◌, Option, Some, None, refl}
+use Rattle.std.proofs.Common.{◌≡◌, ℕ, Bool, true, false, List, [], ◌∷◌, Option, Some, None, refl}
 use Rattle.std.proofs.Common.{if◌then◌else◌}
 use Rattle.pt_host.specs.Errno.{ebadf, einval, errno_of}
 use Rattle.pt_host.specs.declared.ids.Errno.{Errno}
@@ -18,7 +18,6 @@ use Rattle.pt_session.specs.declared.form.Negotiated.{Negotiated}
 use Rattle.pt_session.specs.declared.event.KeptEvent.TheVariants as change
 use Rattle.pt_iface.specs.declared.answer.Answer.{Answer}
 use Rattle.pt_iface.specs.declared.answer.Answer.TheVariants as answer
-use Rattle.pt_iface.specs.declared.flags.FsOptions.{FsOptions}
 use Rattle.pt_iface.specs.declared.request.Context.{Context}
 use Rattle.pt_iface.specs.declared.request.Request.{Request}
 use Rattle.pt_iface.specs.declared.request.Request.TheVariants as request
@@ -26,7 +25,7 @@ use Rattle.pt_frame.specs.Deed.{Deed, Calls, Changes, lacks_memory}
 use Rattle.pt_frame.specs.Replies.{is_cut}
 use Rattle.pt_frame.specs.Sparing.{IsNoMemory}
 use Rattle.pt_frame.specs.Tended.{is_of_seat}
-use Rattle.pt_frame.specs.Tree.{Tree, Gives, Refuses, Asks, Brackets, Shuts}
+use Rattle.pt_frame.specs.Tree.{RequestTree, Gives, Refuses, Asks, Brackets, Shuts}
 use Rattle.pt_frame.specs.declared.act.ActReply.{ActReply}
 use Rattle.pt_session.specs.Tables.{nothing_agreed}
 use Rattle.pt_req.specs.Options.{cleaned, inode_flags, with_bits, agreed_with, init_options, open_options}
@@ -36,9 +35,9 @@ use Rattle.pt_req.specs.Steps.{begin, clear, resolve, open_root, open_at, reopen
 use Rattle.pt_req.specs.Steps.{draw_node, draw_handle, insert, insert_root, insert_handle, pin_handle, forget_all}
 use Rattle.pt_req.specs.Steps.{release_handle}
 use Rattle.pt_req.specs.Entries.{is_bad_name, is_bad_offset, can_open}
-use Rattle.pt_req.specs.Parts.{by_path, named, placed, file_of, open_form, open_row, open_inode, numbered, looked_of}
+use Rattle.pt_req.specs.Parts.{by_path, file_of, open_form, numbered, looked_of}
 use Rattle.pt_req.specs.Parts.{look_up, open_num, root_open}
-use Rattle.pt_req.specs.Requests.{init, destroy, root, lookup, batch_forget, open_file, release, read, unserved}
+use Rattle.pt_req.specs.Requests.{batch_forget, open_file, release, unserved}
 use Rattle.pt_req.specs.Requests.{tree_of}
 use Rattle.pt_req.specs.declared.begun.BegunSession.{BegunSession}
 use Rattle.pt_req.specs.declared.parts.looked.Looked.{Looked}
@@ -51,113 +50,115 @@ abbrev pub IsPlain : Answer → Type 0
 IsPlain last = (is_cut last ≡ false) × (IsNoMemory last → ⊥)
 
 -- such a fact: of trees, and of trees after a reply
-pub record Walk (Q : Tree → Type 0) (R : ActReply → Tree → Type 0) : Type 0 where
+pub record Walk (Q : RequestTree → Type 0) (R : ActReply → RequestTree → Type 0) : Type 0 where
   pub gives : (last : Answer) → IsPlain last → Q (Gives last)
   pub refuses : (told : ActReply) → R told (Refuses told)
-  pub had : (told : ActReply) (tree : Tree) → lacks_memory told ≡ false → Q tree → R told tree
-  pub asks : (deed : Deed) (next : ActReply → Tree) → is_of_seat deed ≡ false →
+  pub had : (told : ActReply) (tree : RequestTree) → lacks_memory told ≡ false → Q tree → R told tree
+  pub asks : (deed : Deed) (next : ActReply → RequestTree) → is_of_seat deed ≡ false →
       ((told : ActReply) → R told (next told)) → Q (Asks deed next)
-  pub brackets : (rest : Tree) → Q rest → Q (Brackets rest)
-  pub shuts : (passes : Bool) (rest : Tree) → Q rest → Q (Shuts passes rest)
+  pub brackets : (rest : RequestTree) → Q rest → Q (Brackets rest)
+  pub shuts : (passes : Bool) (rest : RequestTree) → Q rest → Q (Shuts passes rest)
 
-module _ {Q : Tree → Type 0} {R : ActReply → Tree → Type 0} (w : Walk Q R) where
-  begins : (next : BegunSession → Tree) → ((session : BegunSession) → Q (next session)) → Q (begin next)
+module _ {Q : RequestTree → Type 0} {R : ActReply → RequestTree → Type 0} (w : Walk Q R) where
+  begins : (next : BegunSession → RequestTree) → ((session : BegunSession) → Q (next session)) → Q (begin next)
   begins next so = w.asks (Changes change.Begin) (on_began next) refl
       (if_began R next w.refuses (λ era agreed. w.had _ _ refl (so (session_of era agreed))))
 
-  clears : (next : ℕ → Tree) → ((era : ℕ) → Q (next era)) → Q (clear next)
+  clears : (next : ℕ → RequestTree) → ((era : ℕ) → Q (next era)) → Q (clear next)
   clears next so = w.asks (Changes change.Clear) (on_cleared next) refl
       (if_cleared R next w.refuses (λ era closings. w.had _ _ refl (so era)))
 
-  resolves : (number : ℕ) (next : Resolved → Tree) → ((row : Resolved) → Q (next row)) → Q (resolve number next)
+  resolves : (number : ℕ) (next : Resolved → RequestTree) → ((row : Resolved) → Q (next row)) → Q (resolve number next)
   resolves number next so = w.asks (Changes (change.Resolve number)) (on_resolved next) refl
       (if_resolved R next w.refuses (λ row form ids mode.
       w.had _ _ refl (so (record { row = row; form = form; ids = ids; mode = mode }))))
 
-  opens_root : (dir : List ℕ) (flags : OpenFlags) (next : Fd → Tree) → ((fd : Fd) → Q (next fd)) →
+  opens_root : (dir : List ℕ) (flags : OpenFlags) (next : Fd → RequestTree) → ((fd : Fd) → Q (next fd)) →
       Q (open_root dir flags next)
   opens_root dir flags next so = w.asks (Calls (call.OpenRoot dir flags)) (on_fd next) refl
       (if_fd R next w.refuses (λ fd. w.had _ _ refl (so fd)))
 
-  opens_at : (dir : Fd) (name : List ℕ) (flags : OpenFlags) (next : Fd → Tree) → ((fd : Fd) → Q (next fd)) →
+  opens_at : (dir : Fd) (name : List ℕ) (flags : OpenFlags) (next : Fd → RequestTree) → ((fd : Fd) → Q (next fd)) →
       Q (open_at dir name flags next)
   opens_at dir name flags next so = w.asks (Calls (call.OpenAt dir name flags 0)) (on_fd next) refl
       (if_fd R next w.refuses (λ fd. w.had _ _ refl (so fd)))
 
-  reopens : (fd : Fd) (flags : OpenFlags) (next : Fd → Tree) → ((fd : Fd) → Q (next fd)) → Q (reopen fd flags next)
+  reopens : (fd : Fd) (flags : OpenFlags) (next : Fd → RequestTree) → ((fd : Fd) → Q (next fd)) →
+      Q (reopen fd flags next)
   reopens fd flags next so = w.asks (Calls (call.Reopen fd flags)) (on_fd next) refl
       (if_fd R next w.refuses (λ fd. w.had _ _ refl (so fd)))
 
-  stats : (fd : Fd) (next : Stat → Tree) → ((told : Stat) → Q (next told)) → Q (stat fd next)
+  stats : (fd : Fd) (next : Stat → RequestTree) → ((told : Stat) → Q (next told)) → Q (stat fd next)
   stats fd next so = w.asks (Calls (call.Stat fd)) (on_stat next) refl
       (if_stat R next w.refuses (λ told. w.had _ _ refl (so told)))
 
-  reads_at : (fd : Fd) (offset size : ℕ) (next : List ℕ → Tree) → ((bytes : List ℕ) → Q (next bytes)) →
+  reads_at : (fd : Fd) (offset size : ℕ) (next : List ℕ → RequestTree) → ((bytes : List ℕ) → Q (next bytes)) →
       Q (read_at fd offset size next)
   reads_at fd offset size next so = w.asks (Calls (call.ReadAt fd offset size)) (on_bytes next) refl
       (if_bytes R next w.refuses (λ bytes. w.had _ _ refl (so bytes)))
 
-  claims : (session : BegunSession) (handle : Option FileHandle) (ids : ObjIds) (next : ℕ → Tree) (absent : Tree) →
+  claims : (session : BegunSession) (handle : Option FileHandle) (ids : ObjIds)
+      (next : ℕ → RequestTree) (absent : RequestTree) →
       ((number : ℕ) → Q (next number)) → Q absent → Q (claim session handle ids next absent)
   claims session handle ids next absent so other =
       w.asks (Changes (change.Claim session.era handle ids)) (on_claim next absent) refl
       (if_claimed R next absent w.refuses (λ number. w.had _ _ refl (so number)) (w.had _ _ refl other))
 
-  takes : (next : Tree) → Q next → Q (take_fd next)
+  takes : (next : RequestTree) → Q next → Q (take_fd next)
   takes next so = w.asks (Changes change.TakeFd) (on_taken next) refl
       (if_taken R next w.refuses (w.had _ _ refl so))
 
-  draws_node : (next : ℕ → Tree) → ((number : ℕ) → Q (next number)) → Q (draw_node next)
+  draws_node : (next : ℕ → RequestTree) → ((number : ℕ) → Q (next number)) → Q (draw_node next)
   draws_node next so = w.asks (Changes change.DrawNode) (on_drawn next) refl
       (if_drawn R next w.refuses (λ number. w.had _ _ refl (so number)))
 
-  draws_handle : (next : ℕ → Tree) → ((number : ℕ) → Q (next number)) → Q (draw_handle next)
+  draws_handle : (next : ℕ → RequestTree) → ((number : ℕ) → Q (next number)) → Q (draw_handle next)
   draws_handle next so = w.asks (Changes change.DrawHandle) (on_drawn next) refl
       (if_drawn R next w.refuses (λ number. w.had _ _ refl (so number)))
 
-  inserts : (session : BegunSession) (fresh : ℕ) (form : RowForm) (told : Stat) (next : ℕ → Tree) →
+  inserts : (session : BegunSession) (fresh : ℕ) (form : RowForm) (told : Stat) (next : ℕ → RequestTree) →
       ((number : ℕ) → Q (next number)) → Q (insert session fresh form told next)
   inserts session fresh form told next so =
       w.asks (Changes (change.Insert session.era fresh form told.ids told.mode)) (on_inserted next) refl
       (if_inserted R next w.refuses (λ number. w.had _ _ refl (so number)) (λ number. w.had _ _ refl (so number)))
 
-  inserts_root : (session : BegunSession) (form : RowForm) (told : Stat) (agreed : Option Negotiated) (next : Tree) →
-      Q next → Q (insert_root session form told agreed next)
+  inserts_root : (session : BegunSession) (form : RowForm) (told : Stat) (agreed : Option Negotiated)
+      (next : RequestTree) → Q next → Q (insert_root session form told agreed next)
   inserts_root session form told agreed next so =
       w.asks (Changes (change.InsertRoot session.era form told.ids told.mode agreed)) (on_root next) refl
       (if_root R next w.refuses (λ number. w.had _ _ refl so))
 
-  inserts_handle : (session : BegunSession) (handle number : ℕ) (fd : Fd) (next : Tree) → Q next →
+  inserts_handle : (session : BegunSession) (handle number : ℕ) (fd : Fd) (next : RequestTree) → Q next →
       Q (insert_handle session handle number fd next)
   inserts_handle session handle number fd next so =
       w.asks (Changes (change.InsertHandle session.era handle number fd)) (on_handle next) refl
       (if_handle R next w.refuses (λ handle. w.had _ _ refl so))
 
-  pins : (handle number : ℕ) (next : Fd → Tree) → ((fd : Fd) → Q (next fd)) → Q (pin_handle handle number next)
+  pins : (handle number : ℕ) (next : Fd → RequestTree) → ((fd : Fd) → Q (next fd)) → Q (pin_handle handle number next)
   pins handle number next so = w.asks (Changes (change.PinHandle handle number)) (on_pinned next) refl
       (if_pinned R next w.refuses (λ row fd. w.had _ _ refl (so fd)))
 
-  forgets : (list : List (ℕ × ℕ)) (next : Tree) → Q next → Q (forget_all list next)
+  forgets : (list : List (ℕ × ℕ)) (next : RequestTree) → Q next → Q (forget_all list next)
   forgets list next so = w.asks (Changes (change.Forget list)) (on_done next) refl
       (if_done R next w.refuses (λ closings. w.had _ _ refl so))
 
-  releases : (handle number : ℕ) (next : Tree) → Q next → Q (release_handle handle number next)
+  releases : (handle number : ℕ) (next : RequestTree) → Q next → Q (release_handle handle number next)
   releases handle number next so = w.asks (Changes (change.Release handle number)) (on_done next) refl
       (if_done R next w.refuses (λ closings. w.had _ _ refl so))
 
   -- a check refuses at once
-  checks : (is_bad : Bool) (refused next : Tree) → Q refused → Q next → Q (if is_bad then refused else next)
+  checks : (is_bad : Bool) (refused next : RequestTree) → Q refused → Q next → Q (if is_bad then refused else next)
   checks true refused next bad so = bad
   checks false refused next bad so = so
 
-  files : (form : RowForm) (next : Fd → Tree) → ((fd : Fd) → Q (next fd)) → Q (file_of form next)
+  files : (form : RowForm) (next : Fd → RequestTree) → ((fd : Fd) → Q (next fd)) → Q (file_of form next)
   files (File fd) next so = so fd
 
-  opens_form : (form : RowForm) (flags : ℕ) (next : Fd → Tree) → ((fd : Fd) → Q (next fd)) →
+  opens_form : (form : RowForm) (flags : ℕ) (next : Fd → RequestTree) → ((fd : Fd) → Q (next fd)) →
       Q (open_form form flags next)
   opens_form (File fd) flags next so = reopens fd _ next so
 
-  numbers : (session : BegunSession) (form : RowForm) (told : Stat) (next : ℕ → Tree) →
+  numbers : (session : BegunSession) (form : RowForm) (told : Stat) (next : ℕ → RequestTree) →
       ((number : ℕ) → Q (next number)) → Q (numbered session form told next)
   numbers session form told next so =
       claims session None told.ids next _ so (
@@ -165,7 +166,7 @@ module _ {Q : Tree → Type 0} {R : ActReply → Tree → Type 0} (w : Walk Q R)
       draws_node _ (λ fresh.
       inserts session fresh form told next so)))
 
-  looks_up : (plan : Plan) (session : BegunSession) (parent : ℕ) (name : List ℕ) (next : Looked → Tree) →
+  looks_up : (plan : Plan) (session : BegunSession) (parent : ℕ) (name : List ℕ) (next : Looked → RequestTree) →
       ((looked : Looked) → Q (next looked)) → Q (look_up plan session parent name next)
   looks_up plan session parent name next so =
       w.brackets _ (
@@ -179,7 +180,7 @@ module _ {Q : Tree → Type 0} {R : ActReply → Tree → Type 0} (w : Walk Q R)
   refuses_so : (errno : Errno) → Q (Gives (answer.Refused errno))
   refuses_so errno = w.gives (answer.Refused errno) (refl, λ out. out)
 
-  opens_num : (plan : Plan) (session : BegunSession) (number flags : ℕ) (next : ℕ → Tree) →
+  opens_num : (plan : Plan) (session : BegunSession) (number flags : ℕ) (next : ℕ → RequestTree) →
       ((handle : ℕ) → Q (next handle)) → Q (open_num plan session number flags next)
   opens_num plan session number flags next so =
       w.brackets _ (
@@ -191,11 +192,11 @@ module _ {Q : Tree → Type 0} {R : ActReply → Tree → Type 0} (w : Walk Q R)
       inserts_handle session handle number fd _ (
       w.shuts false _ (so handle)))))) (refuses_so ebadf)))
     where
-      checked : (can : Bool) (one other : Tree) → Q one → Q other → Q (if can then one else other)
+      checked : (can : Bool) (one other : RequestTree) → Q one → Q other → Q (if can then one else other)
       checked true one other so bad = so
       checked false one other so bad = bad
 
-  opens_shared : (plan : Plan) (session : BegunSession) (agreed : Option Negotiated) (next : Tree) → Q next →
+  opens_shared : (plan : Plan) (session : BegunSession) (agreed : Option Negotiated) (next : RequestTree) → Q next →
       Q (root_open plan session agreed next)
   opens_shared plan session agreed next so =
       opens_root plan.config.root_dir by_path _ (λ fd.
@@ -218,7 +219,8 @@ module _ {Q : Tree → Type 0} {R : ActReply → Tree → Type 0} (w : Walk Q R)
   unserves : Q unserved
   unserves = begins _ (λ session. refuses_so (errno_of 38))
 
-  pub each_request : (plan : Plan) (seat : HostSeat) (who : Context) (asked : Request) → Q (tree_of plan seat who asked)
+  pub each_request : (plan : Plan) (seat : HostSeat) (who : Context) (asked : Request) →
+      Q (tree_of plan seat who asked)
   each_request plan seat who (request.Init capable) =
       clears _ (λ era.
       opens_shared plan (session_of era nothing_agreed) (Some (agreed_with capable)) _ (

@@ -1,5 +1,5 @@
 -- Believed. Names and offsets that are none, and the entry that a lookup is answered with.
-use Rattle.std.specs.Prelude.{ℕ, ◌-◌, ◌^◌, Bool, true, ◌&&◌, ◌||◌, not, ◌==◌, nat_lt, if◌then◌else◌, List, []}
+use Rattle.std.specs.Prelude.{ℕ, ◌-◌, ◌^◌, Bool, true, false, ◌&&◌, ◌||◌, not, ◌==◌, nat_lt, if◌then◌else◌, List, []}
 use Rattle.std.specs.Prelude.{◌∷◌}
 use Rattle.std.specs.List.{list_any}
 use Rattle.pt_host.specs.Tree.{kind_of}
@@ -10,15 +10,20 @@ use Rattle.pt_iface.specs.declared.entry.Attr.{Attr}
 use Rattle.pt_iface.specs.declared.entry.Entry.{Entry}
 use Rattle.pt_req.specs.declared.plan.Plan.{Plan}
 
--- a name that is no name of an entry: empty, a dot, two dots, or one with a slash or a NUL
+-- a slash or a NUL
 abbrev pub is_bad_byte : ℕ → Bool
 is_bad_byte byte = (byte == 47) || (byte == 0)
 
+-- `.` or `..`
+abbrev pub is_dots : List ℕ → Bool
+is_dots (first ∷ []) = first == 46
+is_dots (first ∷ second ∷ []) = (first == 46) && (second == 46)
+is_dots name = false
+
+-- a name that is no name of an entry: empty, `.`, `..`, or one with a slash or a NUL
 abbrev pub is_bad_name : List ℕ → Bool
 is_bad_name [] = true
-is_bad_name (first ∷ []) = (first == 46) || is_bad_byte first
-is_bad_name (first ∷ second ∷ []) = ((first == 46) && (second == 46)) || is_bad_byte first || is_bad_byte second
-is_bad_name name = list_any is_bad_byte name
+is_bad_name name = is_dots name || list_any is_bad_byte name
 
 -- an offset that is no `off_t`
 abbrev pub is_bad_offset : ℕ → Bool

@@ -11,7 +11,7 @@ use Rattle.pt_session.specs.declared.form.RowForm.{RowForm}
 use Rattle.pt_session.specs.declared.form.RowForm.TheVariants.{File}
 use Rattle.pt_session.specs.declared.form.Negotiated.{Negotiated}
 use Rattle.pt_iface.specs.declared.answer.Answer.TheVariants as answer
-use Rattle.pt_frame.specs.Tree.{Tree, Gives, Brackets, Shuts}
+use Rattle.pt_frame.specs.Tree.{RequestTree, Gives, Brackets, Shuts}
 use Rattle.pt_req.specs.Options.{cleaned, inode_flags, without_nofollow}
 use Rattle.pt_req.specs.Steps.{Resolved, resolve, open_root, open_at, reopen, stat, claim, take_fd, draw_node}
 use Rattle.pt_req.specs.Steps.{draw_handle, insert, insert_root, insert_handle}
@@ -25,31 +25,31 @@ abbrev pub by_path : OpenFlags
 by_path = record { 0 = path_flags }
 
 -- checks: a name that is none, an offset that is none
-abbrev pub named : List ℕ → Tree → Tree
+abbrev pub named : List ℕ → RequestTree → RequestTree
 named name next = if is_bad_name name then Gives (answer.Refused einval) else next
 
-abbrev pub placed : ℕ → Tree → Tree
+abbrev pub placed : ℕ → RequestTree → RequestTree
 placed offset next = if is_bad_offset offset then Gives (answer.Refused einval) else next
 
 -- the file of a row: the descriptor that stands for its object
-abbrev pub file_of : RowForm → (Fd → Tree) → Tree
+abbrev pub file_of : RowForm → (Fd → RequestTree) → RequestTree
 file_of (File fd) next = next fd
 
 -- a row's object is opened anew; its descriptor's link in `/proc` is to be followed
-abbrev pub open_form : RowForm → ℕ → (Fd → Tree) → Tree
+abbrev pub open_form : RowForm → ℕ → (Fd → RequestTree) → RequestTree
 open_form (File fd) flags next = reopen fd (without_nofollow flags) next
 
 -- what is neither a regular file nor a directory is not opened
-abbrev pub open_row : Resolved → ℕ → (Fd → Tree) → Tree
+abbrev pub open_row : Resolved → ℕ → (Fd → RequestTree) → RequestTree
 open_row row flags next = if can_open row.mode then open_form row.form flags next else Gives (answer.Refused ebadf)
 
 -- a number is opened
-abbrev pub open_inode : Plan → ℕ → ℕ → (Fd → Tree) → Tree
+abbrev pub open_inode : Plan → ℕ → ℕ → (Fd → RequestTree) → RequestTree
 open_inode plan number flags next =
     resolve number (λ row. open_row row (inode_flags plan.config flags) next)
 
 -- what was opened gets the number of its object, where it has one, or a new one
-abbrev pub numbered : BegunSession → RowForm → Stat → (ℕ → Tree) → Tree
+abbrev pub numbered : BegunSession → RowForm → Stat → (ℕ → RequestTree) → RequestTree
 numbered session form told next =
     claim session None told.ids next (
     take_fd (
@@ -65,7 +65,7 @@ looked_of plan session parent told form number = record {
 }
 
 -- A lookup: a name in a numbered directory becomes an entry, whose count passes the end of the bracket.
-abbrev pub look_up : Plan → BegunSession → ℕ → List ℕ → (Looked → Tree) → Tree
+abbrev pub look_up : Plan → BegunSession → ℕ → List ℕ → (Looked → RequestTree) → RequestTree
 look_up plan session parent name next = Brackets (
     resolve parent (λ directory.
     file_of directory.form (λ dir.
@@ -75,7 +75,7 @@ look_up plan session parent name next = Brackets (
     Shuts true (next (looked_of plan session directory.ids told (File fd) number))))))))
 
 -- a number is opened by a handle
-abbrev pub open_num : Plan → BegunSession → ℕ → ℕ → (ℕ → Tree) → Tree
+abbrev pub open_num : Plan → BegunSession → ℕ → ℕ → (ℕ → RequestTree) → RequestTree
 open_num plan session number flags next = Brackets (
     open_inode plan number (cleaned plan.config flags) (λ fd.
     draw_handle (λ handle.
@@ -84,7 +84,7 @@ open_num plan session number flags next = Brackets (
     Shuts false (next handle))))))
 
 -- the shared directory is opened and numbered 1; what is agreed on is said, or left
-abbrev pub root_open : Plan → BegunSession → Option Negotiated → Tree → Tree
+abbrev pub root_open : Plan → BegunSession → Option Negotiated → RequestTree → RequestTree
 root_open plan session agreed next =
     open_root plan.config.root_dir by_path (λ fd.
     stat fd (λ told.

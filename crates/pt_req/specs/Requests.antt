@@ -9,7 +9,7 @@ use Rattle.pt_iface.specs.declared.flags.FsOptions.{FsOptions}
 use Rattle.pt_iface.specs.declared.request.Context.{Context}
 use Rattle.pt_iface.specs.declared.request.Request.{Request}
 use Rattle.pt_iface.specs.declared.request.Request.TheVariants as request
-use Rattle.pt_frame.specs.Tree.{Tree, Gives}
+use Rattle.pt_frame.specs.Tree.{RequestTree, Gives}
 use Rattle.pt_session.specs.Tables.{nothing_agreed}
 use Rattle.pt_req.specs.Options.{with_bits, agreed_with, init_options, open_options}
 use Rattle.pt_req.specs.Steps.{session_of, begin, clear, read_at, pin_handle, forget_all, release_handle}
@@ -17,22 +17,22 @@ use Rattle.pt_req.specs.Parts.{named, placed, look_up, open_num, root_open}
 use Rattle.pt_req.specs.declared.plan.Plan.{Plan}
 
 -- the session begins anew, and what was agreed on is said with its root
-abbrev pub init : Plan → FsOptions → Tree
+abbrev pub init : Plan → FsOptions → RequestTree
 init plan capable =
     clear (λ era.
     root_open plan (session_of era nothing_agreed) (Some (agreed_with capable)) (
     Gives (answer.Inited (init_options plan.config))))
 
 -- the session ends, and one without a root begins
-abbrev pub destroy : Tree
+abbrev pub destroy : RequestTree
 destroy = clear (λ era. Gives answer.NoReply)
 
 -- the root is numbered in the session as it stands
-abbrev pub root : Plan → Tree
+abbrev pub root : Plan → RequestTree
 root plan = begin (λ session. root_open plan session None (Gives answer.Done))
 
 -- a name in a directory becomes an entry
-abbrev pub lookup : Plan → ℕ → List ℕ → Tree
+abbrev pub lookup : Plan → ℕ → List ℕ → RequestTree
 lookup plan parent name =
     begin (λ session.
     named name (
@@ -40,28 +40,28 @@ lookup plan parent name =
     Gives (answer.Entry looked.entry))))
 
 -- the guest forgets numbers, or so much of them
-abbrev pub batch_forget : List (ℕ × ℕ) → Tree
+abbrev pub batch_forget : List (ℕ × ℕ) → RequestTree
 batch_forget list = begin (λ session. forget_all list (Gives answer.NoReply))
 
-abbrev pub forget : ℕ → ℕ → Tree
+abbrev pub forget : ℕ → ℕ → RequestTree
 forget inode count = batch_forget ((inode, count) ∷ [])
 
 -- what a number stands for is opened by a handle, a directory or not
-abbrev pub open_file : Plan → ℕ → ℕ → Tree
+abbrev pub open_file : Plan → ℕ → ℕ → RequestTree
 open_file plan inode flags =
     begin (λ session.
     open_num plan session inode flags (λ handle.
     Gives (answer.Opened handle (open_options plan.config flags))))
 
-abbrev pub open_dir : Plan → ℕ → ℕ → Tree
+abbrev pub open_dir : Plan → ℕ → ℕ → RequestTree
 open_dir plan inode flags = open_file plan inode (with_bits flags o_directory)
 
 -- the guest gives a handle back
-abbrev pub release : ℕ → ℕ → Tree
+abbrev pub release : ℕ → ℕ → RequestTree
 release inode handle = begin (λ session. release_handle handle inode (Gives answer.Done))
 
 -- bytes by a handle
-abbrev pub read : ℕ → ℕ → ℕ → ℕ → Tree
+abbrev pub read : ℕ → ℕ → ℕ → ℕ → RequestTree
 read inode handle size offset =
     begin (λ session.
     placed offset (
@@ -70,7 +70,7 @@ read inode handle size offset =
     Gives (answer.Read bytes)))))
 
 -- the function is not implemented, `ENOSYS`
-abbrev pub unserved : Tree
+abbrev pub unserved : RequestTree
 unserved = begin (λ session. Gives (answer.Refused (errno_of 38)))
 
 -- The requests that are served today. Whether an opening clears set-id bits comes with a switch of its own.
@@ -90,7 +90,7 @@ IsServed _ = ⊥
 
 -- What a request does, its frame aside: by the seat that its job begins with and by who asks, though none of today
 -- takes these into account.
-abbrev pub tree_of : Plan → HostSeat → Context → Request → Tree
+abbrev pub tree_of : Plan → HostSeat → Context → Request → RequestTree
 tree_of plan seat who (request.Init capable) = init plan capable
 tree_of plan seat who request.Destroy = destroy
 tree_of plan seat who request.Root = root plan

@@ -9,7 +9,7 @@ mod options;
 mod part;
 mod root_open;
 
-pub use look_up::{LookUp, LookUpAt};
+pub use look_up::{EntryLookup, EntryLookupAt};
 pub use looked::Looked;
 pub use name::is_bad_name;
 pub use offset::is_bad_offset;

@@ -14,7 +14,7 @@ pub held_count : (state : State) (holds : Counts) (tables : ℕ → List Slot) (
     slice_get state.nodes place ≡ Some node → slice_index holds.holds place ≡ held_by state place
 held_count state holds tables place node kept there =
     get_or_from_slice_get holds.holds place (held_by state place) 0
-    (kept.held place (slice_get_within state.nodes place node there))
+    (kept.held.each place (slice_get_within state.nodes place node there))
 
 pub alive_is : (state : State) (holds : Counts) (tables : ℕ → List Slot) (place : ℕ) (node : Node) →
     IsKept state holds tables →

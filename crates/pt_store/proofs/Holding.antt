@@ -1,24 +1,11 @@
 -- How often an object is held, through each change of names and descriptors.
-use Rattle.std.proofs.Common.{◌≡◌, ◌<◌, ◌+◌, inl, inr, ℕ, zero, suc, Bool, List, [], ◌∷◌, ◌++◌, length, Option, Some}
-use Rattle.std.proofs.Common.{None, slice_get, refl, ap, sym, ◌∙◌, subst, arith}
-use Rattle.std.specs.Cmp.Lexicographic.{slice_cmp}
-use Rattle.std.specs.Map.{lookup}
-use Rattle.std.specs.BTreeMap.{is_at}
-use Rattle.std.specs.Ordering.{nat_cmp}
-use Rattle.std.specs.Str.{bytes_eq}
+use Rattle.std.proofs.Common.{◌≡◌, ◌<◌, ◌+◌, inl, inr, ℕ, zero, suc, List, [], ◌∷◌, length, Option, Some}
+use Rattle.std.proofs.Common.{None, slice_get, refl, ap, sym, ◌∙◌, arith}
 use Rattle.std.proofs.lemmas.Bool.Decides.{eqb_tells}
-use Rattle.std.proofs.lemmas.Cmp.{nat_list_cmp_total}
 use Rattle.std.proofs.lemmas.List.Sums.{sum_by-set, sum_by_push}
-use Rattle.std.proofs.lemmas.Map.Entries.{sum_by-insert_entry}
-use Rattle.std.proofs.lemmas.Map.Text.{is_eq-slice_cmp}
 use Rattle.std.proofs.lemmas.Option.{same_Some, slice_get_within, get_or_from_slice_get}
 use Rattle.pt_host.specs.Words.{is}
-use Rattle.pt_node.specs.Entries.{changed_at, changed_where}
-use Rattle.pt_node.specs.Names.{found, named}
-use Rattle.pt_node.specs.Node.{names_in}
 use Rattle.pt_node.specs.Slots.{closed, closed_where, file_of, least_free, open_at, put_at}
-use Rattle.pt_rules.specs.Sound.{AreOrdered}
-use Rattle.pt_node.specs.declared.node.Node.{Node}
 use Rattle.pt_node.specs.declared.slots.OpenFile.{OpenFile}
 use Rattle.pt_node.specs.declared.slots.Slot.{Slot}
 use Rattle.pt_node.specs.declared.slots.Slot.TheVariants.{Reserved, Free, Open}
@@ -28,64 +15,7 @@ use Rattle.pt_rules.specs.Laws.Opens.{least_free-closed}
 use Rattle.pt_rules.specs.Laws.SlotTable.{least_free-le-length}
 use Rattle.pt_node.specs.Laws.Updates.{open_slot}
 use Rattle.pt_node.specs.Laws.Updates.{put_before, put_end}
-use Rattle.pt_node.specs.Links.{names_of, names_to}
 use Rattle.pt_rules.specs.Living.{opens, opens_of}
-
--- ---- in one directory
-
-pub gained_names : (object : ℕ) (name : List ℕ) (v : ℕ) (names : List (List ℕ × ℕ)) → AreOrdered names →
-    names_to object (named name v names) + counts_where object (found name names) ≡ names_to object names + is object v
-gained_names object name v names ordered =
-    let tests : is_at (slice_cmp nat_cmp name) ≡ bytes_eq name = λ k key. is_eq-slice_cmp name key k in
-    subst (λ (test : List ℕ → Bool). names_to object (named name v names) + counts_where object (lookup test names)
-    ≡ names_to object names + is object v) tests
-    (sum_by-insert_entry (is object) nat_list_cmp_total names name v ordered)
-
--- ---- over all directories
-
-changed_weight : (found_node : Option Node) (place : ℕ) (f : Node →
-    Node) (nodes : List Node) (object : ℕ) (node : Node) → slice_get nodes place ≡ Some node →
-    found_node ≡ Some node →
-    names_of (changed_where found_node place f nodes) object + names_to object (names_in node.content)
-    ≡ names_of nodes object + names_to object (names_in (f node).content)
-changed_weight None place f nodes object node is there = cc
-changed_weight (Some other) place f nodes object node is there =
-    let same : other ≡ node = same_Some other node there in
-    let sums = sum_by-set (λ (n : Node).
-    names_to object (names_in n.content)) nodes place (f other) node (slice_get_within nodes place node is) in
-    let was = ap (λ (n : Node).
-    names_to object (names_in n.content)) (get_or_from_slice_get nodes place node node is) in
-    let now = ap (λ (n : Node). names_to object (names_in (f n).content)) same in
-    omega (arith, sums, was, now)
-
--- what one object's change does to the count
-pub names_of-changed : (place : ℕ) (f : Node → Node) (nodes : List Node) (object : ℕ) (node : Node) →
-    slice_get nodes place ≡ Some node →
-    names_of (changed_at place f nodes) object + names_to object (names_in node.content)
-    ≡ names_of nodes object + names_to object (names_in (f node).content)
-names_of-changed place f nodes object node is = changed_weight (slice_get nodes place) place f nodes object node is is
-
-same_weight : (found_node : Option Node) (place : ℕ) (f : Node → Node) (nodes : List Node) (object : ℕ) →
-    slice_get nodes place ≡ found_node →
-    ((node : Node) → found_node ≡ Some node → names_in (f node).content ≡ names_in node.content) →
-    names_of (changed_where found_node place f nodes) object ≡ names_of nodes object
-same_weight None place f nodes object is same = refl
-same_weight (Some node) place f nodes object is same =
-    let sums = changed_weight (Some node) place f nodes object node is refl in
-    let e = ap (names_to object) (same node refl) in
-    omega (arith, sums, e)
-
-pub names_of-same : (place : ℕ) (f : Node → Node) (nodes : List Node) (object : ℕ) →
-    ((node : Node) → slice_get nodes place ≡ Some node → names_in (f node).content ≡ names_in node.content) →
-    names_of (changed_at place f nodes) object ≡ names_of nodes object
-names_of-same place f nodes object same = same_weight (slice_get nodes place) place f nodes object refl same
-
-pub names_of-pushed : (nodes : List Node) (node : Node) (object : ℕ) → names_in node.content ≡ [] →
-    names_of (nodes ++ node ∷ []) object ≡ names_of nodes object
-names_of-pushed nodes node object none =
-    let sums = sum_by_push (λ (n : Node). names_to object (names_in n.content)) nodes node in
-    let e = ap (names_to object) none in
-    omega (arith, sums, e)
 
 -- ---- descriptors
 

@@ -1,16 +1,16 @@
 -- A store goes on knowing what lives.
 use Rattle.std.proofs.Common.{◌≡◌, ◌≢◌, ◌<◌, ◌+◌, ◌-◌, ◌⊎◌, inl, inr, ℕ, Bool, true, false, not, cond, ◌==◌, List, []}
-use Rattle.std.proofs.Common.{◌∷◌, length, Option, Some, None, slice_get, slice_set, get_or, refl, ap, sym, ◌∙◌}
-use Rattle.std.proofs.Common.{subst, arith, length-set}
+use Rattle.std.proofs.Common.{◌∷◌, length, Option, Some, None, slice_get, get_or, refl, ap, sym, ◌∙◌}
+use Rattle.std.proofs.Common.{subst, arith}
 use Rattle.std.specs.Prelude.{slice_index}
 use Rattle.std.proofs.lemmas.Bool.Decides.{eqb_tells}
 use Rattle.std.proofs.lemmas.List.Sums.{prefix_len_passes}
-use Rattle.std.proofs.lemmas.Option.{same_Some, slice_get_within, slice_get-get_or, get_or_from_slice_get}
+use Rattle.std.proofs.lemmas.Option.{same_Some, slice_get_within, slice_get-get_or}
 use Rattle.pt_host.specs.Words.{is, set_at}
-use Rattle.pt_store.specs.Kept.{AreNamed, AreNumbered, IsKept}
+use Rattle.pt_store.specs.Kept.{AreCounts, AreNumbered, IsKept, directories_of}
 use Rattle.pt_node.specs.Links.{names_of}
 use Rattle.pt_node.specs.Numbers.{Counts, freed, given_up, released}
-use Rattle.pt_rules.specs.Living.{AreLeastFree, IsLeastFree, IsTaken, held_by}
+use Rattle.pt_rules.specs.Living.{AreLeastFree, IsLeastFree, IsTaken, held_by, opens_of}
 use Rattle.pt_node.specs.Slots.{closed, closed_where, file_of, is_free, least_free, open_at}
 use Rattle.pt_rules.specs.Sound.{IsSound}
 use Rattle.pt_rules.specs.State.{State}
@@ -23,7 +23,10 @@ use Rattle.pt_rules.specs.Laws.Opens.{least_free-closed}
 use Rattle.pt_rules.specs.Laws.SlotTable.{least_free-le-length}
 use Rattle.pt_node.specs.Laws.Updates.{open_slot}
 use Rattle.pt_node.specs.Laws.Updates.{get-set_apart, get-set_cases, get-set_here}
+use Rattle.pt_store.proofs.Counting.{at, counts_as, counts_less, counts_more, index_is, is_at_one, once_more}
 use Rattle.pt_store.proofs.Holding.{is_none, is_one}
+use Rattle.pt_store.proofs.Weighing.{by_object, by_place, counted, directories_alike, directories_weigh, names_weigh}
+use Rattle.pt_store.proofs.Weighing.{weighed}
 
 -- what stood at a place, and has become alike
 pub alike_there : (before after : List Node) (place : ℕ) (node : Node) → AreAlike before after →
@@ -63,98 +66,68 @@ numbered_alike state after dev numbers are alike back on = record {
   no_other = are.no_other;
 }
 
--- ---- counts
+-- ---- the tables that follow the names
 
-index_is : (xs : List ℕ) (place value : ℕ) → slice_get xs place ≡ Some value → slice_index xs place ≡ value
-index_is xs place value is = get_or_from_slice_get xs place value 0 is
+pub record AreLinked (nodes : List Node) (names directories : List ℕ) : Type 0 where
+  pub named : AreCounts (names_of nodes) (length nodes) names
+  pub nested : AreCounts (directories_of nodes) (length nodes) directories
 
-held_value : (holds : List ℕ) (object value other count after : ℕ) → slice_get holds other ≡ Some count →
-    (other ≡ object → after ≡ value) →
-    (other ≢ object → after ≡ count) → slice_get (slice_set holds object value) other ≡ Some after
-held_value holds object value other count after is here there = elim (eqb_tells other object) [
-  | inl e ↦ ap (slice_get (slice_set holds object value)) e.1
-      ∙ get-set_here holds object value (slice_get_within holds object count (sym (ap (slice_get holds) e.1) ∙ is))
-      ∙ ap (λ n. Some n) (sym (here e.1))
-  | inr apart ↦ get-set_apart holds object value other apart.1 ∙ is ∙ ap (λ n. Some n) (sym (there apart.1))
-]
+pub linked_by : (state : State) (counts : Counts) (tables : ℕ → List Slot) → IsKept state counts tables →
+    AreLinked state.nodes counts.names counts.directories
+linked_by state counts tables kept = record { named = kept.named; nested = kept.nested }
 
--- one more at a place
-abbrev pub once_more : ℕ → List ℕ → List ℕ
-once_more place counts = slice_set counts place (slice_index counts place + 1)
-
--- ---- how many names each object has
-
-pub named_same : (nodes after : List Node) (names : List ℕ) → AreNamed nodes names → length after ≡ length nodes →
-    ((object : ℕ) → names_of after object ≡ names_of nodes object) → AreNamed after names
-named_same nodes after names named long same = record {
-  long = named.long ∙ sym long;
-  each = λ object within. named.each object (subst (λ n. object < n) long within) ∙ ap (λ n. Some n) (sym (same object));
-}
-
-pub named_more : (nodes after : List Node) (names : List ℕ) (object : ℕ) → AreNamed nodes names →
-    length after ≡ length nodes → object < length nodes →
-    ((o : ℕ) → names_of after o ≡ names_of nodes o + is o object) → AreNamed after (once_more object names)
-named_more nodes after names object named long within more = record {
-  long = length-set names object (slice_index names object + 1) ∙ named.long ∙ sym long;
-  each = λ o below.
-      let was = index_is names object (names_of nodes object) (named.each object within) in
-      held_value names object (slice_index names object + 1) o (names_of nodes o) (names_of after o)
-      (named.each o (subst (λ n. o < n) long below))
-      (λ same. let a = more o in let one = is_one o object same in let e = ap (names_of nodes) same in
-      omega (arith, a, one, e, was))
-      (λ apart. let a = more o in let none = is_none o object apart in omega (arith, a, none));
-}
-
-pub named_less : (nodes after : List Node) (names : List ℕ) (object : ℕ) → AreNamed nodes names →
-    length after ≡ length nodes → object < length nodes →
-    ((o : ℕ) → names_of after o + is o object ≡ names_of nodes o) → AreNamed after (released object names)
-named_less nodes after names object named long within less = record {
-  long = length-set names object (slice_index names object - 1) ∙ named.long ∙ sym long;
-  each = λ o below.
-      let was = index_is names object (names_of nodes object) (named.each object within) in
-      held_value names object (slice_index names object - 1) o (names_of nodes o) (names_of after o)
-      (named.each o (subst (λ n. o < n) long below))
-      (λ same. let a = less o in let one = is_one o object same in let e = ap (names_of nodes) same in
-      omega (arith, a, one, e, was))
-      (λ apart. let a = less o in let none = is_none o object apart in omega (arith, a, none));
+pub linked_same : (nodes after : List Node) (names directories : List ℕ) → AreLinked nodes names directories →
+    AreAlike nodes after →
+    ((w : ℕ → ℕ → ℕ) → weighed w after ≡ weighed w nodes) → AreLinked after names directories
+linked_same nodes after names directories linked alike same = record {
+  named = counts_as (names_of nodes) (names_of after) (length nodes) (length after) names linked.named alike.long
+      (λ o within. names_weigh after o ∙ same (by_object o) ∙ sym (names_weigh nodes o));
+  nested = counts_as (directories_of nodes) (directories_of after) (length nodes) (length after) directories
+      linked.nested alike.long
+      (λ o within. directories_alike nodes after o alike ∙ same (by_place o (counted nodes))
+      ∙ sym (directories_weigh nodes o));
 }
 
 pub kept_alike : (state after : State) (holds : Counts) (tables : ℕ → List Slot) → IsKept state holds tables →
     IsSound after → AreAlike state.nodes after.nodes →
-    ((object : ℕ) → held_by after object ≡ held_by state object) →
-    ((object : ℕ) → names_of after.nodes object ≡ names_of state.nodes object) → IsKept after holds tables
-kept_alike state after holds tables kept sound alike same names = record {
+    ((object : ℕ) → opens_of after.slots object ≡ opens_of state.slots object) →
+    ((w : ℕ → ℕ → ℕ) → weighed w after.nodes ≡ weighed w state.nodes) → IsKept after holds tables
+kept_alike state after holds tables kept sound alike opened same = record {
   sound = sound;
-  long = kept.long ∙ sym alike.long;
-  named = named_same state.nodes after.nodes holds.names kept.named alike.long names;
-  held = λ object within. kept.held object (subst (λ n. object < n) alike.long within)
-      ∙ ap (λ n. Some n) (sym (same object));
+  held = counts_as (held_by state) (held_by after) (length state.nodes) (length after.nodes) holds.holds kept.held
+      alike.long (λ o within. as_before o);
+  named = linked.named;
+  nested = linked.nested;
   numbered = λ dev. numbered_alike state after dev (tables dev) (kept.numbered dev) alike
-      (λ object node there of some. subst (λ n. 0 < n) (same object) some)
-      (λ object node there of some. subst (λ n. 0 < n) (sym (same object)) some);
+      (λ object node there of some. subst (λ n. 0 < n) (as_before object) some)
+      (λ object node there of some. subst (λ n. 0 < n) (sym (as_before object)) some);
 }
+  where
+    as_before : (object : ℕ) → held_by after object ≡ held_by state object
+    as_before object =
+        let opens = opened object in
+        let names = same (by_object object) in
+        omega (arith, opens, names, names_weigh after.nodes object, names_weigh state.nodes object)
+
+    linked : AreLinked after.nodes holds.names holds.directories
+    linked = linked_same state.nodes after.nodes holds.names holds.directories (linked_by state holds tables kept) alike
+        same
 
 -- ---- once more
 
 module _ (state after : State) (holds : Counts) (tables : ℕ → List Slot) (object : ℕ)
     (kept : IsKept state holds tables) (sound : IsSound after)
-    (alike : AreAlike state.nodes after.nodes) (within : object < length state.nodes) where
-  held_before : slice_index holds.holds object ≡ held_by state object
-  held_before = index_is holds.holds object (held_by state object) (kept.held object within)
-
-  pub kept_more : (names : List ℕ) → AreNamed after.nodes names → 0 < held_by state object →
+    (alike : AreAlike state.nodes after.nodes) where
+  pub kept_more : (names directories : List ℕ) → AreLinked after.nodes names directories → 0 < held_by state object →
       ((o : ℕ) → held_by after o ≡ held_by state o + is o object) →
-      IsKept after (record { holds = once_more object holds.holds; names = names }) tables
-  kept_more names named lives more = record {
+      IsKept after (record { holds = once_more object holds.holds; names = names; directories = directories }) tables
+  kept_more names directories linked lives more = record {
     sound = sound;
-    long = length-set holds.holds object (slice_index holds.holds object + 1) ∙ kept.long ∙ sym alike.long;
-    named = named;
-    held = λ o below.
-        held_value holds.holds object (slice_index holds.holds object
-        + 1) o (held_by state o) (held_by after o) (kept.held o (subst (λ n. o < n) alike.long below))
-        (λ same. let a = more o in let one = is_one o object same in let e = ap (held_by state) same in
-        let h = held_before in omega arith)
-        (λ apart. let a = more o in let none = is_none o object apart in omega arith);
+    held = counts_as (λ o. held_by state o + at o object 1) (held_by after) (length state.nodes) (length after.nodes)
+        (once_more object holds.holds) (counts_more (held_by state) (length state.nodes) holds.holds object 1 kept.held)
+        alike.long (λ o below. let a = more o in let one = is_at_one o object in omega (arith, a, one));
+    named = linked.named;
+    nested = linked.nested;
     numbered = λ dev. numbered_alike state after dev (tables dev) (kept.numbered dev) alike
         (λ o node there of some. still_held o some)
         (λ o node there of some. let a = more o in omega arith);
@@ -224,38 +197,30 @@ numbered_put state dev table tables here there other = elim (eqb_tells other dev
 module _ (state after : State) (holds : Counts) (tables : ℕ → List Slot) (object : ℕ) (node : Node)
     (kept : IsKept state holds tables) (sound : IsSound after)
     (alike : AreAlike state.nodes after.nodes) (here : slice_get state.nodes object ≡ Some node)
-    (names : List ℕ) (named : AreNamed after.nodes names)
+    (names directories : List ℕ) (linked : AreLinked after.nodes names directories)
     (less : (o : ℕ) → held_by after o + is o object ≡ held_by state o) where
-  below : object < length state.nodes
-  below = slice_get_within state.nodes object node here
-
-  abbrev counted : Counts
-  counted = record { holds = released object holds.holds; names = names }
+  abbrev fewer : Counts
+  fewer = record { holds = released object holds.holds; names = names; directories = directories }
 
   count_is : slice_index holds.holds object ≡ held_by state object
-  count_is = index_is holds.holds object (held_by state object) (kept.held object below)
+  count_is = index_is holds.holds object (held_by state object)
+      (kept.held.each object (slice_get_within state.nodes object node here))
 
-  long_less : length (released object holds.holds) ≡ length after.nodes
-  long_less = length-set holds.holds object (slice_index holds.holds object - 1) ∙ kept.long ∙ sym alike.long
-
-  held_less : (o : ℕ) → o < length after.nodes → slice_get (released object holds.holds) o ≡ Some (held_by after o)
-  held_less o within =
-      held_value holds.holds object (slice_index holds.holds object
-      - 1) o (held_by state o) (held_by after o) (kept.held o (subst (λ n. o < n) alike.long within))
-      (λ same. let a = less o in let one = is_one o object same in let e = ap (held_by state) same in
-      let h = count_is in omega arith)
-      (λ apart. let a = less o in let none = is_none o object apart in omega arith)
+  held_less : AreCounts (held_by after) (length after.nodes) (released object holds.holds)
+  held_less = counts_as (λ o. held_by state o - at o object 1) (held_by after) (length state.nodes) (length after.nodes)
+      (released object holds.holds) (counts_less (held_by state) (length state.nodes) holds.holds object 1 kept.held)
+      alike.long (λ o within. let a = less o in let one = is_at_one o object in omega (arith, a, one))
 
   more_before : (o : ℕ) → 0 < held_by after o → 0 < held_by state o
   more_before o some = let a = less o in omega arith
 
   -- it is still held
-  kept_less : held_by state object ≢ 1 → IsKept after counted tables
+  kept_less : held_by state object ≢ 1 → IsKept after fewer tables
   kept_less many = record {
     sound = sound;
-    long = long_less;
     held = held_less;
-    named = named;
+    named = linked.named;
+    nested = linked.nested;
     numbered = λ dev. numbered_alike state after dev (tables dev) (kept.numbered dev) alike
         (λ o that there of some. more_before o some)
         (λ o that there of some. still_held o some);
@@ -319,12 +284,12 @@ module _ (state after : State) (holds : Counts) (tables : ℕ → List Slot) (ob
       other_object o some same = let a = less o in let one = is_one o object same in
           let e = ap (held_by state) same in omega arith
 
-  kept_dead : held_by state object ≡ 1 → IsKept after counted (freed node.ids.dev node.ids.ino tables)
+  kept_dead : held_by state object ≡ 1 → IsKept after fewer (freed node.ids.dev node.ids.ino tables)
   kept_dead last = record {
     sound = sound;
-    long = long_less;
     held = held_less;
-    named = named;
+    named = linked.named;
+    nested = linked.nested;
     numbered = numbered_put after node.ids.dev (closed node.ids.ino (tables node.ids.dev)) tables (numbered_dead last)
         (λ dev apart. numbered_alike state after dev (tables dev) (kept.numbered dev) alike
         (λ o that there of some. more_before o some)
@@ -333,11 +298,12 @@ module _ (state after : State) (holds : Counts) (tables : ℕ → List Slot) (ob
   }
 
   by_count : (b : Bool) → (b ≡ true → held_by state object ≡ 1) → (b ≡ false → held_by state object ≢ 1) →
-      IsKept after counted (cond b (freed node.ids.dev node.ids.ino tables) tables)
+      IsKept after fewer (cond b (freed node.ids.dev node.ids.ino tables) tables)
   by_count true last many = kept_dead (last refl)
   by_count false last many = kept_less (many refl)
 
-  pub kept_released : IsKept after (record { holds = released object holds.holds; names = names })
+  pub kept_released : IsKept after
+      (record { holds = released object holds.holds; names = names; directories = directories })
       (given_up node.ids.dev node.ids.ino object holds.holds tables)
   kept_released = elim (eqb_tells (slice_index holds.holds object) 1) [
     | inl e ↦ by_count (slice_index holds.holds object == 1) (λ _. sym count_is

@@ -30,8 +30,8 @@ use Rattle.pt_rules.specs.Laws.PlainCalls.{keeps_refilled}
 use Rattle.pt_rules.specs.Laws.Soundness.{alike_set, sound-counted, sound-with_node}
 use Rattle.pt_node.specs.Laws.Updates.{open_slot}
 use Rattle.pt_store.proofs.Kept.{kept_alike}
-use Rattle.pt_store.proofs.KeptEdits.{names_of-set}
 use Rattle.pt_store.proofs.KeptStore.{nodes_in}
+use Rattle.pt_store.proofs.Weighing.{weighed-set_same}
 use Rattle.pt_rules.specs.Living.{opens, opens_of}
 
 -- ---- what an answer leaves is kept where what the table leaves is
@@ -71,14 +71,14 @@ module _ (state : State) (holds : Counts) (tables : ℕ → List Slot) (kept : I
       kept_alike state (with_node state object after) holds tables kept
       (sound-with_node state object node after kept.sound there keeps)
       (alike_set state.nodes object node after there keeps)
-      (λ o. let names = names_of-set state.nodes object node after o there keeps.names in omega (arith, names))
-      (λ o. names_of-set state.nodes object node after o there keeps.names)
+      (λ o. refl)
+      (λ w. weighed-set_same w state.nodes object node after there keeps.names)
 
   pub kept_placed : (fd position : ℕ) → IsKept (with_position state fd position) holds tables
   kept_placed fd position =
       kept_alike state (with_position state fd position) holds tables kept
       (sound-with_position state fd position kept.sound) (alike_itself state.nodes)
-      (λ o. let opens = opens_of-placed (open_at state.slots fd) fd position state.slots o refl in omega (arith, opens)) (λ o. refl)
+      (λ o. opens_of-placed (open_at state.slots fd) fd position state.slots o refl) (λ w. refl)
 
   kept_where : (object : ℕ) (f : Node → Node) → ((node : Node) → KeepsNode node (f node)) → (at : Option Node) →
       slice_get state.nodes object ≡ at → IsKept (nodes_in state (changed_where at object f state.nodes)) holds tables

@@ -1,18 +1,19 @@
 -- A store goes on knowing what lives where an object is made, or was nearly made.
-use Rattle.std.proofs.Common.{◌≡◌, ◌≢◌, ◌<◌, ◌+◌, ◌-◌, ◌^◌, inl, inr, ℕ, true, cond, List, [], ◌∷◌, ◌++◌}
-use Rattle.std.proofs.Common.{length, take, Some, None, slice_get, refl, ap, sym, ◌∙◌, subst, arith}
+use Rattle.std.proofs.Common.{◌≡◌, ◌≢◌, ◌<◌, ◌+◌, ◌-◌, ◌^◌, inl, inr, ℕ, true, false, cond, List, [], ◌∷◌, ◌++◌}
+use Rattle.std.proofs.Common.{length, take, Some, None, slice_get, slice_set, refl, ap, sym, ◌∙◌, subst, arith}
+use Rattle.std.specs.Prelude.{slice_index}
 use Rattle.std.proofs.lemmas.Bool.Decides.{eqb_tells, leb_tells}
 use Rattle.std.proofs.lemmas.List.{length_push}
-use Rattle.std.proofs.lemmas.Option.{same_Some, slice_get_within}
+use Rattle.std.proofs.lemmas.Option.{same_Some, slice_get_past, slice_get_within}
 use Rattle.pt_host.specs.Words.{is, set_at}
 use Rattle.pt_rules.specs.Edits.{with_made}
-use Rattle.pt_node.specs.Entries.{is_directory_at, touched, with_entry}
-use Rattle.pt_store.specs.Kept.{AreNamed, AreNumbered, IsKept}
+use Rattle.pt_node.specs.Entries.{is_directory_at, is_directory_where, touched, with_entry}
+use Rattle.pt_store.specs.Kept.{AreCounts, AreNumbered, IsKept, directories_of, directories_where}
 use Rattle.pt_node.specs.Links.{names_of}
-use Rattle.pt_node.specs.Numbers.{Counts, freed, having}
+use Rattle.pt_node.specs.Numbers.{Counts, freed, having, weight}
 use Rattle.pt_rules.specs.Living.{IsLeastFree, held_by}
 use Rattle.pt_rules.specs.Holds.{HasHold}
-use Rattle.pt_node.specs.Node.{name_at, names_in}
+use Rattle.pt_node.specs.Node.{is_directory, name_at, names_in}
 use Rattle.pt_node.specs.Slots.{closed, file_of, least_free, open_at, put_at}
 use Rattle.pt_rules.specs.Sound.{IsSound}
 use Rattle.pt_rules.specs.State.{State, time_of}
@@ -20,17 +21,19 @@ use Rattle.pt_node.specs.declared.node.Node.{Node}
 use Rattle.pt_node.specs.declared.slots.OpenFile.{OpenFile}
 use Rattle.pt_node.specs.declared.slots.Slot.{Slot}
 use Rattle.pt_node.specs.declared.slots.Slot.TheVariants.{Reserved, Open}
-use Rattle.pt_rules.specs.Laws.EditShapes.{entered}
+use Rattle.pt_rules.specs.Laws.EditShapes.{alike_entered, entered}
 use Rattle.pt_rules.specs.Laws.EditSound.{all_ordered, at_place, length_made, sound_made}
 use Rattle.pt_rules.specs.Laws.Opens.{least_free-closed}
 use Rattle.pt_rules.specs.Laws.SlotTable.{least_free-le-length}
 use Rattle.pt_node.specs.Laws.Updates.{open_slot}
 use Rattle.pt_node.specs.Laws.Updates.{get-push_apart, get-push_here, get-put_apart, get-put_cases, get-put_here}
 use Rattle.pt_rules.specs.Laws.Held.{held_lives}
-use Rattle.pt_store.proofs.Holding.{get_there, is_none, is_one, names_of-pushed}
+use Rattle.pt_store.proofs.Counting.{at, at_none, counts_as, counts_pushed, counts_raised, index_is}
+use Rattle.pt_store.proofs.Holding.{get_there, is_none, is_one}
 use Rattle.pt_store.proofs.Kept.{closed_apart, least_not_0, next_least, numbered_put, reserved_before, shut}
-use Rattle.pt_store.proofs.KeptEdits.{names_of-gained}
 use Rattle.pt_store.proofs.KeptStore.{same_counts, with_counts}
+use Rattle.pt_store.proofs.Weighing.{by_object, by_place, counted, directories_weigh, directory_alike, names_weigh}
+use Rattle.pt_store.proofs.Weighing.{weighed, weighed-apart, weighed-gained, weighed-pushed}
 
 module _ (state : State) (holds : Counts) (tables : ℕ → List Slot) (kept : IsKept state holds tables) (dir : ℕ)
     (name : List ℕ) (node parent : Node)
@@ -49,13 +52,24 @@ module _ (state : State) (holds : Counts) (tables : ℕ → List Slot) (kept : I
   long_made : length (with_made state dir name node).nodes ≡ length state.nodes + 1
   long_made = length_made state dir name node kept.sound into empty serial small least
 
-  held_made : (o : ℕ) → held_by (with_made state dir name node) o ≡ held_by state o + is o (length state.nodes)
-  held_made o =
-      let pushed = names_of-pushed (entered (time_of state) dir name node state.nodes) node o empty in
-      let gained = names_of-gained state.nodes dir name (length state.nodes)
-      (λ at. touched (time_of state) (with_entry name (length state.nodes) at)) o None (λ n.
+  weighed_made : (w : ℕ → ℕ → ℕ) →
+      weighed w (with_made state dir name node).nodes ≡ weighed w state.nodes + w dir (length state.nodes)
+  weighed_made w =
+      let pushed = weighed-pushed w (entered (time_of state) dir name node state.nodes) node empty in
+      let gained = weighed-gained w state.nodes dir name (length state.nodes)
+      (λ at_dir. touched (time_of state) (with_entry name (length state.nodes) at_dir)) None (λ n.
       refl) (all_ordered state kept.sound) into free in
       omega (arith, pushed, gained)
+
+  names_made : (o : ℕ) →
+      names_of (with_made state dir name node).nodes o ≡ names_of state.nodes o + is o (length state.nodes)
+  names_made o =
+      let more = weighed_made (by_object o) in
+      omega (arith, more, names_weigh (with_made state dir name node).nodes o, names_weigh state.nodes o)
+
+  held_made : (o : ℕ) → held_by (with_made state dir name node) o ≡ held_by state o + is o (length state.nodes)
+  held_made o =
+      let names = names_made o in omega (arith, names)
 
   not_there : HasHold state (length state.nodes) → ⊥
   not_there (inl root) = let some = slice_get_within state.nodes dir parent at_dir in absurd (omega arith)
@@ -79,16 +93,6 @@ module _ (state : State) (holds : Counts) (tables : ℕ → List Slot) (kept : I
       let apart : o ≢ length state.nodes = omega arith in
       let none = is_none o (length state.nodes) apart in
       omega arith
-
-  count_made : (o : ℕ) → o < length (with_made state dir name node).nodes →
-      slice_get (holds.holds ++ 1 ∷ []) o ≡ Some (held_by (with_made state dir name node) o)
-  count_made o within = elim (eqb_tells o (length holds.holds)) [
-    | inl e ↦ ap (slice_get (holds.holds ++ 1 ∷ [])) e.1 ∙ get-push_here holds.holds 1
-        ∙ ap (λ n. Some n) (sym new_held ∙ ap (held_by (with_made state dir name node)) (sym kept.long ∙ sym e.1))
-    | inr apart ↦ (let longer = long_made in let long = kept.long in
-        let old : o < length state.nodes = (let a = apart.1 in omega arith) in
-        get-push_apart holds.holds 1 o apart.1 ∙ kept.held o old ∙ ap (λ n. Some n) (sym (old_held o old)))
-  ]
 
   table : List Slot
   table = put_at (least_free (tables node.ids.dev)) (Open (having (length state.nodes))) (tables node.ids.dev)
@@ -214,45 +218,86 @@ module _ (state : State) (holds : Counts) (tables : ℕ → List Slot) (kept : I
     no_other = (kept.numbered dev).no_other;
   }
 
-  names_made : (o : ℕ) →
-      names_of (with_made state dir name node).nodes o ≡ names_of state.nodes o + is o (length state.nodes)
-  names_made o =
-      let pushed = names_of-pushed (entered (time_of state) dir name node state.nodes) node o empty in
-      let gained = names_of-gained state.nodes dir name (length state.nodes)
-      (λ at. touched (time_of state) (with_entry name (length state.nodes) at)) o None (λ n.
-      refl) (all_ordered state kept.sound) into free in
-      omega (arith, pushed, gained)
+  -- ---- how many directories there are in each
 
-  named_made : AreNamed (with_made state dir name node).nodes (holds.names ++ 1 ∷ [])
-  named_made = record {
-    long = (let pushed = length_push holds.names 1 in let longer = long_made in let long = kept.named.long in
-        omega (arith, pushed, longer, long));
-    each = λ o within. elim (eqb_tells o (length holds.names)) [
-      | inl e ↦ (let more = names_made o in let none = unheld in let long = kept.named.long in
-          let one = is_one o (length state.nodes) (e.1 ∙ long) in
-          let here = ap (names_of state.nodes) (e.1 ∙ long) in
-          let once : names_of (with_made state dir name node).nodes o ≡ 1 = omega (arith, more, none, one, here) in
-          ap (slice_get (holds.names ++ 1 ∷ [])) e.1 ∙ get-push_here holds.names 1 ∙ ap (λ n. Some n) (sym once))
-      | inr apart ↦ (let longer = long_made in let long = kept.named.long in let more = names_made o in
-          let other = apart.1 in
-          let old : o < length state.nodes = omega (arith, longer, long, other, within) in
-          let none = is_none o (length state.nodes) (omega (arith, old)) in
-          let same : names_of (with_made state dir name node).nodes o ≡ names_of state.nodes o =
-          omega (arith, more, none) in
-          get-push_apart holds.names 1 o apart.1 ∙ kept.named.each o old ∙ ap (λ n. Some n) (sym same))
-    ];
-  }
+  unnamed : weighed (by_object (length state.nodes)) state.nodes ≡ 0
+  unnamed =
+      let none = unheld in
+      omega (arith, none, names_weigh state.nodes (length state.nodes))
 
-  pub kept_made : IsKept (with_made state dir name node)
-      (record { holds = holds.holds ++ 1 ∷ []; names = holds.names ++ 1 ∷ [] })
+  directory_before : (o : ℕ) → o ≢ length state.nodes →
+      is_directory_at (with_made state dir name node).nodes o ≡ is_directory_at state.nodes o
+  directory_before o apart =
+      let before = entered (time_of state) dir name node state.nodes in
+      let alike = alike_entered (time_of state) dir name node state.nodes in
+      ap is_directory_where (get-push_apart before node o (λ e. apart (e ∙ alike.long)))
+      ∙ directory_alike state.nodes before o alike
+
+  directories_made : (o : ℕ) →
+      directories_of (with_made state dir name node).nodes o
+      ≡ directories_of state.nodes o + at o dir (weight (is_directory node))
+  directories_made o =
+      let grown = (with_made state dir name node).nodes in
+      let more = weighed_made (by_place o (counted grown)) in
+      let same = weighed-apart (by_place o (counted grown)) (by_place o (counted state.nodes)) (length state.nodes)
+      state.nodes (λ d v apart. ap (λ b. at o d (weight b)) (directory_before v apart)) unnamed in
+      let here = ap (λ n. at o dir (weight (is_directory_where n))) new_there in
+      omega (arith, more, same, here, directories_weigh grown o, directories_weigh state.nodes o)
+
+  nested_before : AreCounts (directories_of state.nodes) (length (with_made state dir name node).nodes)
+      (holds.directories ++ 0 ∷ [])
+  nested_before =
+      counts_pushed (directories_of state.nodes) (directories_of state.nodes) (length state.nodes)
+      (length (with_made state dir name node).nodes) holds.directories 0 kept.nested long_made
+      (ap (directories_where state.nodes) (slice_get_past state.nodes (length state.nodes) (omega arith)))
+      (λ o within. refl)
+
+  -- the count of the directory where the new object is, as code comes to it
+  pub nested_made : (value : ℕ) → value ≡ slice_index holds.directories dir + weight (is_directory node) →
+      AreCounts (directories_of (with_made state dir name node).nodes) (length (with_made state dir name node).nodes)
+      (slice_set (holds.directories ++ 0 ∷ []) dir value)
+  nested_made value is =
+      let was = index_is holds.directories dir (directories_of state.nodes dir)
+      (kept.nested.each dir (slice_get_within state.nodes dir parent at_dir)) in
+      counts_as (λ o. directories_of state.nodes o + at o dir (weight (is_directory node)))
+      (directories_of (with_made state dir name node).nodes) (length (with_made state dir name node).nodes)
+      (length (with_made state dir name node).nodes) (slice_set (holds.directories ++ 0 ∷ []) dir value)
+      (counts_raised (directories_of state.nodes) (length (with_made state dir name node).nodes)
+      (holds.directories ++ 0 ∷ []) dir (weight (is_directory node)) value nested_before
+      (λ within. omega (arith, was, is)))
+      refl (λ o within. directories_made o)
+
+  -- a new object that is no directory changes no count
+  pub nested_file : is_directory node ≡ false →
+      AreCounts (directories_of (with_made state dir name node).nodes) (length (with_made state dir name node).nodes)
+      (holds.directories ++ 0 ∷ [])
+  nested_file file =
+      counts_as (directories_of state.nodes) (directories_of (with_made state dir name node).nodes)
+      (length (with_made state dir name node).nodes) (length (with_made state dir name node).nodes)
+      (holds.directories ++ 0 ∷ []) nested_before refl
+      (λ o within. let more = directories_made o in let none = ap (λ b. at o dir (weight b)) file in
+      omega (arith, more, none, at_none o dir))
+
+  pub kept_made : (directories : List ℕ) →
+      AreCounts (directories_of (with_made state dir name node).nodes) (length (with_made state dir name node).nodes)
+      directories →
+      IsKept (with_made state dir name node)
+      (record { holds = holds.holds ++ 1 ∷ []; names = holds.names ++ 1 ∷ []; directories = directories })
       (set_at node.ids.dev
       (put_at (least_free (tables node.ids.dev)) (Open (having (length state.nodes))) (tables node.ids.dev)) tables)
   unfolding table
-  kept_made = record {
+  kept_made directories nested = record {
     sound = sound;
-    long = (let pushed = length_push holds.holds 1 in let longer = long_made in let long = kept.long in omega arith);
-    held = count_made;
-    named = named_made;
+    held = counts_pushed (held_by state) (held_by (with_made state dir name node)) (length state.nodes)
+        (length (with_made state dir name node).nodes) holds.holds 1 kept.held long_made new_held
+        (λ o within. old_held o within);
+    named = counts_pushed (names_of state.nodes) (names_of (with_made state dir name node).nodes) (length state.nodes)
+        (length (with_made state dir name node).nodes) holds.names 1 kept.named long_made
+        (let more = names_made (length state.nodes) in let none = unheld in
+        let one = is_one (length state.nodes) (length state.nodes) refl in omega (arith, more, none, one))
+        (λ o within. let more = names_made o in let none = is_none o (length state.nodes) (omega (arith, within)) in
+        omega (arith, more, none));
+    nested = nested;
     numbered = numbered_put (with_made state dir name node) node.ids.dev table tables numbered_here numbered_there;
   }
 
@@ -314,16 +359,18 @@ given dev file tables = set_at dev (put_at (least_free (tables dev)) (Open file)
 pub kept_back : (state : State) (holds : Counts) (tables : ℕ → List Slot) (dev : ℕ) (file : OpenFile) →
     IsKept state holds tables →
     IsKept state (with_counts (take (length (holds.holds ++ 1 ∷ []) - 1) (holds.holds ++ 1 ∷ []))
-    (take (length (holds.names ++ 1 ∷ []) - 1) (holds.names ++ 1 ∷ [])))
+    (take (length (holds.names ++ 1 ∷ []) - 1) (holds.names ++ 1 ∷ []))
+    (take (length (holds.directories ++ 0 ∷ []) - 1) (holds.directories ++ 0 ∷ [])))
     (freed dev (least_free (tables dev)) (given dev file tables))
 kept_back state holds tables dev file kept =
     subst (λ (xs : Counts).
     IsKept state xs (freed dev (least_free (tables dev)) (given dev file tables)))
-    (sym (same_counts holds.holds _ holds.names _ (front holds.holds) (front holds.names))) (record {
+    (sym (same_counts holds.holds _ holds.names _ holds.directories _ (front 1 holds.holds) (front 1 holds.names)
+    (front 0 holds.directories))) (record {
       sound = kept.sound;
-      long = kept.long;
       held = kept.held;
       named = kept.named;
+      nested = kept.nested;
       numbered = numbered_put state dev (closed (least_free (tables dev)) (given dev file tables dev))
           (given dev file tables)
           (subst (λ (xs : List Slot). AreNumbered state dev (closed (least_free (tables dev)) xs))
@@ -334,12 +381,12 @@ kept_back state holds tables dev file kept =
           (kept.numbered other));
     })
   where
-    all_of : (xs : List ℕ) → take (length xs) (xs ++ 1 ∷ []) ≡ xs
-    all_of [] = refl
-    all_of (x ∷ xs) = ap (λ more. x ∷ more) (all_of xs)
+    all_of : (last : ℕ) (xs : List ℕ) → take (length xs) (xs ++ last ∷ []) ≡ xs
+    all_of last [] = refl
+    all_of last (x ∷ xs) = ap (λ more. x ∷ more) (all_of last xs)
 
-    front : (xs : List ℕ) → take (length (xs ++ 1 ∷ []) - 1) (xs ++ 1 ∷ []) ≡ xs
-    front xs =
-        let pushed = length_push xs 1 in
-        let e : length (xs ++ 1 ∷ []) - 1 ≡ length xs = omega arith in
-        ap (λ k. take k (xs ++ 1 ∷ [])) e ∙ all_of xs
+    front : (last : ℕ) (xs : List ℕ) → take (length (xs ++ last ∷ []) - 1) (xs ++ last ∷ []) ≡ xs
+    front last xs =
+        let pushed = length_push xs last in
+        let e : length (xs ++ last ∷ []) - 1 ≡ length xs = omega arith in
+        ap (λ k. take k (xs ++ last ∷ [])) e ∙ all_of last xs

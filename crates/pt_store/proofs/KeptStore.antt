@@ -6,8 +6,8 @@ use Rattle.pt_rules.specs.State.{State}
 use Rattle.pt_node.specs.declared.node.Node.{Node}
 use Rattle.pt_node.specs.declared.slots.Slot.{Slot}
 
-abbrev pub with_counts : List ℕ → List ℕ → Counts
-with_counts holds names = record { holds = holds; names = names }
+abbrev pub with_counts : List ℕ → List ℕ → List ℕ → Counts
+with_counts holds names directories = record { holds = holds; names = names; directories = directories }
 
 pub kept_as : (state after : State) (holds held : Counts) (tables others : ℕ → List Slot) → after ≡ state →
     held ≡ holds → others ≡ tables → IsKept state holds tables → IsKept after held others
@@ -17,9 +17,10 @@ kept_as state after holds held tables others same counts numbers kept =
     IsKept state xs others) (sym counts) (subst (λ (xs : ℕ → List Slot). IsKept state holds xs) (sym numbers) kept))
 
 -- counts, part by part
-pub same_counts : (holds held names named : List ℕ) → held ≡ holds → named ≡ names → with_counts held named
-    ≡ with_counts holds names
-same_counts holds held names named e f = ap (λ xs. with_counts xs named) e ∙ ap (with_counts holds) f
+pub same_counts : (holds held names named directories nested : List ℕ) → held ≡ holds → named ≡ names →
+    nested ≡ directories → with_counts held named nested ≡ with_counts holds names directories
+same_counts holds held names named directories nested e f g =
+    ap (λ xs. with_counts xs named nested) e ∙ ap (λ xs. with_counts holds xs nested) f ∙ ap (with_counts holds names) g
 
 -- the state with other objects
 abbrev pub nodes_in : State → List Node → State

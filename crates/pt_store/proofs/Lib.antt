@@ -1,7 +1,9 @@
 pub mod Contents
 pub mod Copied
+pub mod Counting
 pub mod Created
 pub mod Enumerated
+pub mod Found
 pub mod Handles
 pub mod HeldCount
 pub mod Holding
@@ -17,3 +19,4 @@ pub mod StartKept
 pub mod OldPaths
 pub mod StartMounts
 pub mod StartRoot
+pub mod Weighing

@@ -1,8 +1,8 @@
 -- A store whose tree is described line by line goes on knowing what lives, and gives the numbers of each device
 -- without a gap.
 use Rattle.std.proofs.Common.{◌≡◌, ◌<◌, ◌+◌, ◌^◌, ◌==◌, inl, inr, ℕ, suc, Bool, true, false, cond, eqb, List, [], ◌∷◌}
-use Rattle.std.proofs.Common.{◌++◌, length, Some, None, slice_get, refl, ap, sym, ◌∙◌, subst, arith}
-use Rattle.std.specs.Prelude.{count_by}
+use Rattle.std.proofs.Common.{◌++◌, length, Some, None, slice_get, slice_set, refl, ap, sym, ◌∙◌, subst, arith}
+use Rattle.std.specs.Prelude.{count_by, slice_index}
 use Rattle.std.proofs.lemmas.Bool.{true≢false}
 use Rattle.std.proofs.lemmas.Bool.Decides.{eqb_tells}
 use Rattle.std.proofs.lemmas.List.{length_push}
@@ -13,11 +13,11 @@ use Rattle.pt_host.specs.Words.{set_at}
 use Rattle.pt_rules.specs.Edits.{with_made}
 use Rattle.pt_node.specs.Entries.{is_directory_at}
 use Rattle.pt_store.specs.Kept.{IsKept}
-use Rattle.pt_node.specs.Numbers.{Counts, having}
+use Rattle.pt_node.specs.Numbers.{Counts, having, raised, weight}
 use Rattle.pt_rules.specs.Holds.{HasHold}
 use Rattle.pt_node.specs.Mounts.{has_device}
 use Rattle.pt_rules.specs.NameCalls.{with_linked}
-use Rattle.pt_node.specs.Node.{name_at, names_in}
+use Rattle.pt_node.specs.Node.{is_directory, name_at, names_in}
 use Rattle.pt_node.specs.Slots.{is_free, least_free, put_at}
 use Rattle.pt_node.specs.Attributes.{with_value}
 use Rattle.pt_rules.specs.Building.{next_number, with_xattr}
@@ -30,13 +30,11 @@ use Rattle.pt_rules.specs.Laws.Changed.{AreAlike, alike_changed}
 use Rattle.pt_rules.specs.Laws.EditShapes.{alike_entered, entered}
 use Rattle.pt_rules.specs.Laws.NamesLed.{alike_linked}
 use Rattle.pt_node.specs.Laws.Updates.{get-push_cases, put_end}
-use Rattle.pt_store.proofs.Kept.{once_more}
+use Rattle.pt_store.proofs.Counting.{once_more}
 use Rattle.pt_store.proofs.KeptCalls.{kept_changed}
 use Rattle.pt_store.proofs.KeptLinks.{kept_linked}
-use Rattle.pt_store.proofs.KeptMade.{given, kept_made}
-
-abbrev weight : Bool → ℕ
-weight b = cond b 1 0
+use Rattle.pt_store.proofs.KeptMade.{given, kept_made, nested_made}
+use Rattle.pt_store.proofs.Weighing.{counted}
 
 abbrev is_on : ℕ → Node → Bool
 is_on dev node = node.ids.dev == dev
@@ -95,10 +93,18 @@ module _ (state : State) (holds : Counts) (tables : ℕ → List Slot) (started 
   pub started_linked : (dir : ℕ) (name : List ℕ) (object : ℕ) → is_directory_at state.nodes dir ≡ true →
       name_at state.nodes dir name ≡ None → HasHold state object →
       IsStarted (with_linked state dir name object)
-      (record { holds = once_more object holds.holds; names = once_more object holds.names }) tables
+      (record {
+        holds = once_more object holds.holds;
+        names = once_more object holds.names;
+        directories = raised dir (counted state.nodes object) holds.directories;
+      }) tables
   started_linked dir name object into free lives =
       started_alike (with_linked state dir name object)
-      (record { holds = once_more object holds.holds; names = once_more object holds.names })
+      (record {
+        holds = once_more object holds.holds;
+        names = once_more object holds.names;
+        directories = raised dir (counted state.nodes object) holds.directories;
+      })
       (kept_linked state holds tables dir name object started.kept into free lives) started.begun refl
       (alike_linked (time_of state) dir name object state.nodes)
 
@@ -190,10 +196,18 @@ module _ (state : State) (holds : Counts) (tables : ℕ → List Slot) (started 
       node.serial ≡ length state.nodes + 1 → node.permissions < 4096 → slice_get state.nodes dir ≡ Some parent →
       node.ids.ino ≡ least_free (tables node.ids.dev) → length (with_made state dir name node).nodes < 2 ^ 63 →
       has_device node.ids.dev state.mounts ≡ true →
+      (value : ℕ) → value ≡ slice_index holds.directories dir + weight (is_directory node) →
       IsStarted (with_made state dir name node)
-      (record { holds = holds.holds ++ 1 ∷ []; names = holds.names ++ 1 ∷ [] }) (given node.ids.dev (having (length state.nodes)) tables)
-  started_made parent into free empty serial small at_dir number few on_device = record {
-    kept = kept_made state holds tables started.kept dir name node parent into free empty serial small at_dir number few;
+      (record {
+        holds = holds.holds ++ 1 ∷ [];
+        names = holds.names ++ 1 ∷ [];
+        directories = slice_set (holds.directories ++ 0 ∷ []) dir value;
+      }) (given node.ids.dev (having (length state.nodes)) tables)
+  started_made parent into free empty serial small at_dir number few on_device value is = record {
+    kept = kept_made state holds tables started.kept dir name node parent into free empty serial small at_dir number few
+        (slice_set (holds.directories ++ 0 ∷ []) dir value)
+        (nested_made state holds tables started.kept dir name node parent into free empty serial small at_dir number few
+        value is);
     begun = started.begun;
     dense = dense_made;
     mounted = λ place that there.

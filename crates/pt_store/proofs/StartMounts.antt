@@ -113,7 +113,7 @@ module _ (state : State) (holds : Counts) (tables : ℕ → List Slot) (parent i
       opened = started.kept.sound.opened;
       apart = started.kept.sound.apart;
     })
-        (alike_itself state.nodes) (λ o. refl) (λ o. refl);
+        (alike_itself state.nodes) (λ o. refl) (λ w. refl);
     begun = started.begun;
     dense = started.dense;
     mounted = λ place node there.

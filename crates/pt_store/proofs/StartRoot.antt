@@ -4,7 +4,7 @@ use Rattle.std.proofs.Common.{◌∷◌, Some, slice_get, refl, ap, sym, ◌∙�
 use Rattle.std.proofs.lemmas.Bool.Decides.{eqb_tells}
 use Rattle.std.proofs.lemmas.Option.{same_Some}
 use Rattle.pt_host.specs.Words.{set_at}
-use Rattle.pt_store.specs.Kept.{AreNumbered, IsKept}
+use Rattle.pt_store.specs.Kept.{AreNumbered, IsKept, directories_of}
 use Rattle.pt_node.specs.Numbers.{having}
 use Rattle.pt_node.specs.Mounts.{has_device}
 use Rattle.pt_node.specs.Node.{name_at, names_in}
@@ -123,13 +123,17 @@ module _ (id dev : ℕ) (path : List ℕ) (handles : Bool) where
   unnamed zero within = refl
   unnamed (suc object) within = absurd (omega arith)
 
-  kept : IsKept state (record { holds = 1 ∷ []; names = 0 ∷ [] }) root_tables
+  unnested : (object : ℕ) → object < 1 → slice_get (0 ∷ []) object ≡ Some (directories_of state.nodes object)
+  unnested zero within = refl
+  unnested (suc object) within = absurd (omega arith)
+
+  kept : IsKept state (record { holds = 1 ∷ []; names = 0 ∷ []; directories = 0 ∷ [] }) root_tables
   unfolding set_at
   kept = record {
     sound = sound;
-    long = refl;
-    held = held_all;
+    held = record { long = refl; each = held_all };
     named = record { long = refl; each = unnamed };
+    nested = record { long = refl; each = unnested };
     numbered = λ other. elim (eqb_tells other dev) [
       | inl e ↦ subst (λ b. AreNumbered state other (cond b (Reserved ∷ Open (having 0) ∷ []) no_numbers)) (sym e.0)
           (subst (λ d. AreNumbered state d (Reserved ∷ Open (having 0) ∷ [])) (sym e.1) numbered_here)
@@ -160,7 +164,7 @@ module _ (id dev : ℕ) (path : List ℕ) (handles : Bool) where
     ]
   ]
 
-  pub started_root : IsStarted state (record { holds = 1 ∷ []; names = 0 ∷ [] }) root_tables
+  pub started_root : IsStarted state (record { holds = 1 ∷ []; names = 0 ∷ []; directories = 0 ∷ [] }) root_tables
   started_root = record {
     kept = kept;
     begun = refl;

@@ -113,6 +113,9 @@ impl Store {
         let Some(parent) = self.nodes.get(dir) else {
             return Ok(false);
         };
+        let Some(directories) = self.inodes.directories_with(dir, content.is_directory()) else {
+            return Err(AllocError);
+        };
         let name = name.to_vec(self.alloc)?;
         let number = self.inodes.add(self.alloc, parent.ids.dev, object, 1)?;
         let node = new_object(
@@ -128,6 +131,7 @@ impl Store {
             content,
         );
         add_node(&mut self.nodes, dir, name, node, NEVER)?;
+        self.inodes.directories[dir] = directories;
         Ok(true)
     }
 
@@ -282,11 +286,15 @@ impl Store {
             dev,
             path: path.copy(self.alloc)?,
         };
+        let Some(directories) = self.inodes.directories_with(dir, true) else {
+            return Err(AllocError);
+        };
         let object = self.nodes.len();
         let name = name.to_vec(self.alloc)?;
         let _ = self.inodes.add(self.alloc, dev, object, 1)?;
         let root = mount_root(self.alloc, id, dev, object as u64 + 1, handles);
         add_node(&mut self.nodes, dir, name, root, NEVER)?;
+        self.inodes.directories[dir] = directories;
         self.mounts.insert(id, mount)?;
         Ok(true)
     }

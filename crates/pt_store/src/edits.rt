@@ -4,13 +4,14 @@ ghost use Rattle.pt_store.specs.StoreState.{IsKeptBy, device_where, number_where
 ghost use Rattle.pt_node.specs.Node.{name_at, names_in};
 ghost use Rattle.pt_node.specs.NewPlace.{seen_place};
 ghost use Rattle.pt_rules.specs.Does.{AnswersAs};
-ghost use Rattle.pt_node.specs.Entries.{is_directory_at};
+ghost use Rattle.pt_node.specs.Entries.{is_directory_at, is_directory_where};
 ghost use Rattle.pt_rules.specs.EditPaths.{judged};
 ghost use Rattle.pt_rules.specs.Edits.{
   at_place,
   edited,
   make_at,
   make_in,
+  node_at,
   rename_judged,
   rename_object,
   rename_onto,
@@ -27,6 +28,7 @@ use pt_change::node_edits::{
 };
 use pt_host::{Bytes, Edit, Errno, HostReply, HostValue};
 use pt_node::entries::new_object;
+use pt_node::links::is_directory_at;
 use pt_node::names::Names;
 use pt_node::node::{Content, FILE_MAX, Node};
 use pt_node::path::name_at;
@@ -52,6 +54,16 @@ fn number_where(nodes: &[Node], object: Option<usize>) -> u64
     }
 }
 
+/// Whether an object that may be none is a directory.
+fn is_directory_where(nodes: &[Node], object: Option<usize>) -> bool
+    ensures { result ≡ is_directory_where (node_at nodes.now object) }
+{
+    match object {
+        None => false,
+        Some(object) => is_directory_at(nodes, object),
+    }
+}
+
 impl Store {
     /// The object loses this name, which leads to it.
     pub fn take_name(&mut self, dir: usize, name: &[u8], object: usize)
@@ -63,7 +75,9 @@ impl Store {
         let now = self.now();
         let dev = device_at(&self.nodes, object);
         let number = number_at(&self.nodes, object);
+        let is_directory = is_directory_at(&self.nodes, object);
         unlink(&mut self.nodes, now, dir, name, object);
+        self.inodes.lose_directory(dir, is_directory);
         self.inodes.lose_name(object);
         self.inodes.release(object, dev, number);
     }
@@ -122,7 +136,15 @@ impl Store {
         let now = self.now();
         let dev = device_where(&self.nodes, target);
         let number = number_where(&self.nodes, target);
+        let moved = is_directory_at(&self.nodes, object);
+        let replaced = is_directory_where(&self.nodes, target);
+        let Some(directories) = self.inodes.directories_with(to.0, moved) else {
+            return Err(AllocError);
+        };
         rename(self.alloc, &mut self.nodes, now, from, to, object, target)?;
+        self.inodes.directories[to.0] = directories;
+        self.inodes.lose_directory(from.0, moved);
+        self.inodes.lose_directory(to.0, replaced);
         self.inodes.lose_name_where(target);
         self.inodes.release_where(target, dev, number);
         Ok(())
@@ -243,6 +265,9 @@ impl Store {
         let Ok(name) = name.to_vec(self.alloc) else {
             return HostReply::NoMemory;
         };
+        let Some(directories) = self.inodes.directories_with(dir, content.is_directory()) else {
+            return HostReply::NoMemory;
+        };
         let dev = parent.ids.dev;
         let Ok(number) = self.inodes.add(self.alloc, dev, object, 1) else {
             return HostReply::NoMemory;
@@ -261,7 +286,10 @@ impl Store {
             content,
         );
         match add_node(&mut self.nodes, dir, name, node, now) {
-            Ok(()) => HostReply::Ok(HostValue::Unit),
+            Ok(()) => {
+                self.inodes.directories[dir] = directories;
+                HostReply::Ok(HostValue::Unit)
+            }
             Err(_) => {
                 self.inodes.take_back(dev, number);
                 HostReply::NoMemory

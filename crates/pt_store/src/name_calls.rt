@@ -21,7 +21,7 @@ use pt_change::name_checks::{
 };
 use pt_change::node_edits::link;
 use pt_host::{Bytes, Errno, Fd, HostReply, HostSeat, HostValue};
-use pt_node::links::links_of;
+use pt_node::links::{is_directory_at, links_of};
 use pt_node::names::Names;
 use pt_node::node::Content;
 use std::alloc::AllocError;
@@ -154,11 +154,16 @@ impl Store {
         let Some(names) = self.inodes.one_name_more(object) else {
             return Err(AllocError);
         };
+        let is_directory = is_directory_at(&self.nodes, object);
+        let Some(directories) = self.inodes.directories_with(dir, is_directory) else {
+            return Err(AllocError);
+        };
         let now = self.now();
         let name = name.to_vec(self.alloc)?;
         link(&mut self.nodes, now, dir, name, object)?;
         self.inodes.holds[object] = holds;
         self.inodes.names[object] = names;
+        self.inodes.directories[dir] = directories;
         Ok(())
     }
 
@@ -184,7 +189,8 @@ impl Store {
             return HostReply::Refused(errno);
         }
         let names = self.inodes.names[linked.object];
-        let links = links_of(&self.nodes, linked.object, node, names);
+        let directories = self.inodes.directories[linked.object];
+        let links = links_of(node, names, directories);
         if let Some(errno) = link_refusal(seat, links, node, dir, name) {
             return HostReply::Refused(errno);
         }

@@ -1,4 +1,4 @@
-ghost use Rattle.std.specs.Prelude.{◌≡◌, ◌≢◌, ◌<◌, Some, None, true};
+ghost use Rattle.std.specs.Prelude.{◌≡◌, ◌≢◌, ◌<◌, OnErr, OnOk, Some, None, true};
 ghost use Rattle.pt_store.specs.StoreState.{IsKeptBy, state_of};
 ghost use Rattle.pt_rules.specs.Does.{AnswersAs};
 ghost use Rattle.pt_node.specs.Entries.{is_directory_at};
@@ -23,7 +23,9 @@ use pt_change::rename_checks::{
     EXCHANGE, first_refusal, is_mount_moved, is_unwritable, moves_into_itself,
 };
 use pt_host::{Errno, Fd, HostReply, HostSeat, HostValue};
+use pt_node::links::is_directory_at;
 use pt_node::path::name_at;
+use std::alloc::AllocError;
 
 impl Store {
     /// The error for which no name is moved between these directories, up to where it is seen whether both names lead
@@ -59,17 +61,22 @@ impl Store {
         to: (usize, &[u8]),
         object: usize,
         other: usize,
-    )
+    ) -> Result<(), AllocError>
         requires kept { IsKeptBy self.old }
         requires there { name_at self.old.nodes.items from.0 from.1.now ≡ Some object }
         requires too { name_at self.old.nodes.items to.0 to.1.now ≡ Some other }
         requires apart { other ≢ object }
-        ensures state { state_of self.new
-            ≡ with_exchanged (state_of self.old) (seen_place from.entry) (seen_place to.entry) object other }
+        ensures ok { OnOk result (state_of self.new
+            ≡ with_exchanged (state_of self.old) (seen_place from.entry) (seen_place to.entry) object other) }
+        ensures err { OnErr result (state_of self.new ≡ state_of self.old) }
         ensures kept { IsKeptBy self.new }
     {
         let now = self.now();
+        let moved = is_directory_at(&self.nodes, object);
+        let back = is_directory_at(&self.nodes, other);
+        self.inodes.swap_directories(from.0, to.0, moved, back)?;
         exchange(&mut self.nodes, now, from, to, object, other);
+        Ok(())
     }
 
     fn rename_to(
@@ -91,8 +98,10 @@ impl Store {
     {
         match target {
             Some(other) if other != object && flags == EXCHANGE => {
-                self.exchange_names(from, to, object, other);
-                HostReply::Ok(HostValue::Unit)
+                match self.exchange_names(from, to, object, other) {
+                    Ok(()) => HostReply::Ok(HostValue::Unit),
+                    Err(_) => HostReply::NoMemory,
+                }
             }
             _ => self.rename_onto(from, to, object, target),
         }

@@ -137,7 +137,8 @@ impl Store {
         ensures { result ≡ links_of self.now.nodes.items object node.now }
     {
         let names = self.inodes.names[object];
-        links_of(&self.nodes, object, node, names)
+        let directories = self.inodes.directories[object];
+        links_of(node, names, directories)
     }
 
     pub fn stat(&self, fd: Fd) -> HostReply

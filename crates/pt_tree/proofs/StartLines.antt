@@ -1,13 +1,13 @@
 -- No line of a tree opens a descriptor or is a failure.
 use Rattle.std.proofs.Common.{◌≡◌, ◌+◌, ◌%◌, ◌/◌, nat_lt, nat_le, ◌&&◌, ℕ, zero, suc, Bool, true, false, cond, List}
 use Rattle.std.proofs.Common.{[], ◌∷◌, length, Option, Some, None, option_map, option_and_then, Result, Ok, slice_get}
-use Rattle.std.proofs.Common.{refl, ap, sym, ◌∙◌}
+use Rattle.std.proofs.Common.{◌<◌, not, drop, get_or, refl, ap, sym, ◌∙◌, arith, drop-cons, add-one}
 use Rattle.std.specs.Str.{bytes_eq}
 use Rattle.std.proofs.lemmas.Option.{same_Some}
 use Rattle.pt_rules.specs.NameCalls.{special_kind, with_linked}
 use Rattle.pt_node.specs.NewPlace.{place_of}
 use Rattle.pt_node.specs.Slots.{no_files, open_at}
-use Rattle.pt_rules.specs.Building.{add_hard, add_link, add_mount, add_object, add_of_mode, add_special, add_xattr}
+use Rattle.pt_rules.specs.Building.{AddsIf, add_hard, add_link, add_mount, add_object, add_of_mode, add_special, add_xattr}
 use Rattle.pt_rules.specs.Building.{is_linkable, is_new_mount, mount_in, mount_root, mounted, start_with, started}
 use Rattle.pt_rules.specs.Building.{with_xattr}
 use Rattle.pt_tree.specs.Start.{add_line, add_lines, first_line, going_on, start_of}
@@ -154,3 +154,25 @@ none_open lines state fd is =
 
 pub none_failed : (lines : List TreeLine) (state : State) → start_of lines ≡ Ok state → state.faults ≡ 0
 none_failed lines state is = ap (λ (b : List Slot × ℕ). b.1) (start_beside lines state is)
+
+-- ---- on by one line
+
+added_is : (b : Bool) (told : Option State) (after : State) → AddsIf b told after → not b ≡ false →
+    told ≡ Some after
+added_is true told after adds is = adds
+added_is false told after adds is = cc
+
+pub one_line_on : (k : ℕ) (rest : List TreeLine) (line : TreeLine) (b : Bool) (state after : State)
+    (whole : Result State ℕ) →
+    k < length rest → line ≡ get_or rest k line → AddsIf b (add_line state line) after → not b ≡ false →
+    add_lines (k + 2) (drop k rest) state ≡ whole → add_lines (k + 1 + 2) (drop (k + 1) rest) after ≡ whole
+one_line_on k rest line b state after whole within here adds goes before =
+    let next : k + 2 + 1 ≡ k + 1 + 2 = omega arith in
+    let at : drop k rest ≡ line ∷ drop (suc k) rest =
+    drop-cons rest k line within ∙ ap (λ (l : TreeLine). l ∷ drop (suc k) rest) (sym here) in
+    let more : drop (suc k) rest ≡ drop (k + 1) rest = ap (λ n. drop n rest) (sym (add-one k)) in
+    ap (λ n. add_lines n (drop (k + 1) rest) after) (sym next)
+    ∙ ap (λ ls. add_lines (k + 2 + 1) ls after) (sym more)
+    ∙ sym (ap (λ held. going_on held (k + 2) (add_lines (k + 2 + 1) (drop (suc k) rest)))
+    (added_is b (add_line state line) after adds goes))
+    ∙ sym (ap (λ ls. add_lines (k + 2) ls state) at) ∙ before

@@ -1,14 +1,14 @@
 -- Inner. What is left of the body of any request.
 use Rattle.std.specs.Prelude.{ℕ}
 use Rattle.pt_host.specs.declared.seat.HostSeat.{HostSeat}
-use Rattle.pt_frame.specs.Tree.{Tree}
+use Rattle.pt_frame.specs.Tree.{RequestTree}
 use Rattle.pt_frame.specs.Machine.Next.{IsAsks}
 use Rattle.pt_req.specs.Machine.Bodies.{request_left, request_acts, request_room, request_inserts, request_asks}
 use Rattle.pt_req.specs.declared.plan.Plan.{Plan}
 use Rattle.pt_attr.specs.declared.body.AnyBody.{AnyBody}
 use Rattle.pt_attr.specs.declared.body.AnyBody.TheVariants as body
 
-abbrev pub any_left : AnyBody → Plan → HostSeat → Tree
+abbrev pub any_left : AnyBody → Plan → HostSeat → RequestTree
 any_left (body.Request it) plan seat = request_left it plan seat
 
 abbrev pub any_acts : AnyBody → ℕ

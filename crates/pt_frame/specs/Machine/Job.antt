@@ -4,7 +4,7 @@ use Rattle.pt_host.specs.declared.ids.Errno.{Errno}
 use Rattle.pt_host.specs.declared.seat.HostSeat.{HostSeat}
 use Rattle.pt_frame.specs.Replies.{slots_in}
 use Rattle.pt_frame.specs.Grammar.{Grammar}
-use Rattle.pt_frame.specs.Tree.{Tree}
+use Rattle.pt_frame.specs.Tree.{RequestTree}
 use Rattle.pt_frame.specs.Machine.Left.{left_of, is_all_over, is_restoring_now, mode_counts, bound_left, measure_left}
 use Rattle.pt_frame.specs.declared.hold.Hold.{Hold}
 use Rattle.pt_frame.specs.declared.hold.Taken.{Taken}
@@ -25,7 +25,7 @@ pub record Job (B : Type 0) : Type 0 where
   pub at : Stand
 
 -- what it may do from here on, if this is left of its body
-abbrev pub owes : HostSeat → Stand → Tree → Grammar
+abbrev pub owes : HostSeat → Stand → RequestTree → Grammar
 owes seat at tree = left_of seat at.taken at.closings at.mode tree at.holds at.marks
 
 -- its holds, and of this count of its body what still counts

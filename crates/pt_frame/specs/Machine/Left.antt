@@ -11,7 +11,7 @@ use Rattle.pt_frame.specs.Replies.{is_cut, restored}
 use Rattle.pt_frame.specs.Grammar.{Grammar, End}
 use Rattle.pt_frame.specs.Frame.{close_first, leave, or_lost, bare, shut, front, behind, mark_in, outer}
 use Rattle.pt_frame.specs.Frame.{answered}
-use Rattle.pt_frame.specs.Tree.{Tree, framed}
+use Rattle.pt_frame.specs.Tree.{RequestTree, framed}
 use Rattle.pt_frame.specs.Machine.Next.{begun_by}
 use Rattle.pt_frame.specs.declared.act.ActReply.{ActReply}
 use Rattle.pt_frame.specs.declared.finish.Finish.{Finish}
@@ -60,12 +60,12 @@ edges_left seat edges more holds marks =
     ended seat edges.shuts left marks (λ kept above. more kept (marked edges.brackets kept above)))
 
 -- the body, or an answer
-abbrev pub tail_left : HostSeat → Tail → Tree → List Hold → List ℕ → Grammar
+abbrev pub tail_left : HostSeat → Tail → RequestTree → List Hold → List ℕ → Grammar
 tail_left seat tail.Goes tree holds marks = framed seat tree holds marks
 tail_left seat (tail.Gives last) tree holds marks = answered seat last holds
 tail_left seat (tail.Refuses last) tree holds marks = leave seat holds (finish.Answer last)
 
-abbrev pub mode_left : HostSeat → Mode → Tree → List Hold → List ℕ → Grammar
+abbrev pub mode_left : HostSeat → Mode → RequestTree → List Hold → List ℕ → Grammar
 mode_left seat mode.Body tree holds marks = framed seat tree holds marks
 mode_left seat (mode.Edge edges more) tree holds marks =
     edges_left seat edges (tail_left seat more tree) holds marks
@@ -74,7 +74,7 @@ mode_left seat (mode.Out last) tree holds marks =
 mode_left seat (mode.Leave last) tree holds marks = leave seat holds last
 
 -- what a closing brought and the closings that are owed come first
-abbrev pub left_of : HostSeat → Taken → ℕ → Mode → Tree → List Hold → List ℕ → Grammar
+abbrev pub left_of : HostSeat → Taken → ℕ → Mode → RequestTree → List Hold → List ℕ → Grammar
 left_of seat brings count at tree holds marks = close_first brings count holds (mode_left seat at tree holds marks)
 
 -- the last hold passes what is given back next
@@ -191,19 +191,19 @@ abbrev pub measure_left : Taken → ℕ → ℕ → ℕ
 measure_left brings count more = taken_steps brings + 3 * count + 2 ^ 66 * more
 
 -- what is left where a body has answered so, and a refusal is answered so
-abbrev pub then_left : HostSeat → Then → Answer → Tree → List Hold → List ℕ → Grammar
+abbrev pub then_left : HostSeat → Then → Answer → RequestTree → List Hold → List ℕ → Grammar
 then_left seat then.Goes refused tree holds marks = framed seat tree holds marks
 then_left seat (then.Gives last) refused tree holds marks = answered seat last holds
 then_left seat then.Refuses refused tree holds marks = leave seat holds (finish.Answer refused)
 
-abbrev pub next_left : HostSeat → Next → Answer → Tree → List Hold → List ℕ → Grammar
+abbrev pub next_left : HostSeat → Next → Answer → RequestTree → List Hold → List ℕ → Grammar
 next_left seat (next.At what) refused tree holds marks = then_left seat what refused tree holds marks
 next_left seat (next.Over edges what) refused tree holds marks =
     edges_left seat edges (then_left seat what refused tree) holds marks
 next_left seat next.NoMemory refused tree holds marks = leave seat holds (finish.Answer answer.NoMemory)
 
 -- what is left where a hold was given back in this mode, and the seat was lost by it or not
-abbrev pub given_left : HostSeat → Mode → Option Errno → Tree → List Hold → List ℕ → Grammar
+abbrev pub given_left : HostSeat → Mode → Option Errno → RequestTree → List Hold → List ℕ → Grammar
 given_left seat mode.Body fault tree holds marks = framed seat tree holds marks
 given_left seat (mode.Edge edges more) fault tree holds marks =
     or_lost seat fault holds (edges_left seat edges (tail_left seat more tree) holds marks)

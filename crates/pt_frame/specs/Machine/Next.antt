@@ -2,7 +2,8 @@
 use Rattle.std.specs.Prelude.{◌≡◌, ℕ, ◌+◌, Bool, true, false, Option, Some, None}
 use Rattle.pt_session.specs.declared.event.KeptEvent.TheVariants as change
 use Rattle.pt_frame.specs.Deed.{Deed, Calls, Changes, deed_of}
-use Rattle.pt_frame.specs.Tree.{Tree, Gives, Refuses, Asks, Opens, Bares, Brackets, Shuts, Allocates, may_give_up}
+use Rattle.pt_frame.specs.Tree.{RequestTree, Gives, Refuses, Asks, Opens, Bares, Brackets, Shuts, Allocates}
+use Rattle.pt_frame.specs.Tree.{may_give_up}
 use Rattle.pt_frame.specs.declared.act.Act.{Act}
 use Rattle.pt_frame.specs.declared.act.ActReply.{ActReply}
 use Rattle.pt_frame.specs.declared.hold.Hold.{Hold}
@@ -14,55 +15,55 @@ use Rattle.pt_frame.specs.declared.machine.body.Next.{Next}
 use Rattle.pt_frame.specs.declared.machine.body.Next.TheVariants as next
 
 -- what the tree is after this reply
-abbrev pub asked : Tree → ActReply → Tree
+abbrev pub asked : RequestTree → ActReply → RequestTree
 asked (Asks deed more) told = more told
 asked (Opens call scope more) told = more told
 asked tree told = tree
 
 -- what is wanted is what the tree asks, with the scope that it opens
-abbrev pub AsksFor : Tree → Act → Option Hold → Type 0
+abbrev pub AsksFor : RequestTree → Act → Option Hold → Type 0
 AsksFor (Asks deed more) wanted None = deed_of wanted ≡ deed
 AsksFor (Opens call scope more) wanted (Some laid) = (deed_of wanted ≡ Calls call) × (laid ≡ scope)
 AsksFor _ _ _ = ⊥
 
-abbrev pub deed_in : Tree → Deed
+abbrev pub deed_in : RequestTree → Deed
 deed_in (Asks deed more) = deed
 deed_in (Opens call scope more) = Calls call
 deed_in _ = Changes change.Begin
 
-abbrev pub IsAsks : Tree → Type 0
+abbrev pub IsAsks : RequestTree → Type 0
 IsAsks (Asks deed more) = Unit {0}
 IsAsks (Opens call scope more) = Unit {0}
 IsAsks _ = ⊥
 
 -- what follows, where there was memory for it
-abbrev pub with_memory : Tree → Tree
+abbrev pub with_memory : RequestTree → RequestTree
 with_memory (Allocates rest) = rest
 with_memory tree = tree
 
-abbrev pub then_tree : Then → ActReply → Tree → Tree
+abbrev pub then_tree : Then → ActReply → RequestTree → RequestTree
 then_tree then.Goes told left = left
 then_tree (then.Gives last) told left = Gives last
 then_tree then.Refuses told left = Refuses told
 
 -- scopes end, a bracket ends, a bracket begins
-abbrev pub bares_if : Bool → Tree → Tree
+abbrev pub bares_if : Bool → RequestTree → RequestTree
 bares_if true rest = Bares rest
 bares_if false rest = rest
 
-abbrev pub shuts_if : Option Shut → Tree → Tree
+abbrev pub shuts_if : Option Shut → RequestTree → RequestTree
 shuts_if None rest = rest
 shuts_if (Some shut) rest = Shuts shut.passes rest
 
-abbrev pub brackets_if : Bool → Tree → Tree
+abbrev pub brackets_if : Bool → RequestTree → RequestTree
 brackets_if true rest = Brackets rest
 brackets_if false rest = rest
 
-abbrev pub edged : Edges → Tree → Tree
+abbrev pub edged : Edges → RequestTree → RequestTree
 edged edges rest = bares_if edges.bares (shuts_if edges.shuts (brackets_if edges.brackets rest))
 
 -- what is left is what the tree says; a body gives up only where memory ran out, or may have run out
-abbrev pub IsNext : Tree → ActReply → Next → Tree → Type 0
+abbrev pub IsNext : RequestTree → ActReply → Next → RequestTree → Type 0
 IsNext tree told (next.At what) left = with_memory tree ≡ then_tree what told left
 IsNext tree told (next.Over edges what) left = with_memory tree ≡ edged edges (then_tree what told left)
 IsNext tree told next.NoMemory left = may_give_up told tree ≡ true

@@ -4,7 +4,7 @@ use Rattle.pt_host.specs.Sorts.{Sort, OpensWith, EndsFd, OfSeat, Plain, sort_of}
 use Rattle.pt_session.specs.Change.{Change}
 use Rattle.pt_session.specs.declared.event.KeptEvent.TheVariants as change
 use Rattle.pt_frame.specs.Deed.{Deed, Calls, Changes}
-use Rattle.pt_frame.specs.Tree.{Tree, Gives, Refuses, Asks, Opens, Bares, Brackets, Shuts, Allocates}
+use Rattle.pt_frame.specs.Tree.{RequestTree, Gives, Refuses, Asks, Opens, Bares, Brackets, Shuts, Allocates}
 use Rattle.pt_frame.specs.declared.hold.Hold.{Hold}
 
 -- The largest request brings 17 holds on one way, where a making finds its name taken, looks it up and opens it.
@@ -47,7 +47,7 @@ abbrev pub act_brings : Deed → Option Hold → ℕ
 act_brings deed None = deed_brings deed
 act_brings deed (Some scope) = 1
 
-abbrev pub brings : Tree → ℕ
+abbrev pub brings : RequestTree → ℕ
 brings (Asks deed more) = deed_brings deed
 brings (Opens call scope more) = 1
 brings (Gives last) = 0

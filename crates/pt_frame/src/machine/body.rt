@@ -3,7 +3,7 @@ ghost use Rattle.pt_host.specs.declared.seat.HostSeat.{HostSeat};
 ghost use Rattle.pt_frame.specs.Replies.{inserted_by};
 ghost use Rattle.pt_frame.specs.Machine.Next.{asked, deed_in, AsksFor, IsNext, IsAsks, counts_after, begun_in};
 ghost use Rattle.pt_frame.specs.Machine.Room.{brings};
-ghost use Rattle.pt_frame.specs.Tree.{Tree};
+ghost use Rattle.pt_frame.specs.Tree.{RequestTree};
 
 use crate::act::{Act, ActReply};
 use crate::hold::Hold;
@@ -85,7 +85,7 @@ pub struct Wanted<'a> {
 pub trait Body: Drop {
     type Plan;
 
-    ghost left: { Self → Self.Plan → HostSeat → Tree };
+    ghost left: { Self → Self.Plan → HostSeat → RequestTree };
 
     /// A bound on its acts, and on the holds that they bring.
     ghost acts: { Self → ℕ };

@@ -148,7 +148,7 @@ impl<B: Body> Framed<B> {
     ghost use Rattle.pt_frame.specs.Frame.{cut};
     ghost use Rattle.pt_frame.specs.Grammar.{End, IsDo, IsSettled, Wants, owed_by, is_end, restores, events_first};
     ghost use Rattle.pt_frame.specs.Grammar.{told_slots};
-    ghost use Rattle.pt_frame.specs.Tree.{Tree, grammar_of_tree};
+    ghost use Rattle.pt_frame.specs.Tree.{RequestTree, grammar_of_tree};
     ghost use Rattle.pt_frame.specs.Machine.Job.{owes, steps_left, steps_bound, own_left, events_left, inserts_left};
     ghost use Rattle.pt_frame.specs.Machine.Job.{is_finished, restores_now};
     ghost use Rattle.pt_frame.specs.Machine.Left.{IsTold};
@@ -157,7 +157,7 @@ impl<B: Body> Framed<B> {
     pub fn start(body: B) -> Self
         requires { B.room body ≤ most_holds }
         ensures body { result.body ≡ body }
-        ensures left { (seat : HostSeat) (tree : Tree) → owes seat result.at tree ≡ grammar_of_tree seat tree }
+        ensures left { (seat : HostSeat) (tree : RequestTree) → owes seat result.at tree ≡ grammar_of_tree seat tree }
         ensures bound { (acts : ℕ) → steps_bound result.at acts ≡ acts }
         ensures own { (acts : ℕ) → own_left result.at acts ≡ acts }
         ensures events { (acts : ℕ) → events_left result.at acts ≡ acts }

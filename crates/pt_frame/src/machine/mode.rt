@@ -6,7 +6,7 @@ ghost use Rattle.pt_frame.specs.Grammar.{after, told_closings, told_inserted};
 ghost use Rattle.pt_host.specs.declared.ids.Errno.{Errno};
 ghost use Rattle.std.specs.Prelude.{Option};
 ghost use Rattle.pt_frame.specs.Past.{lost_after, or_first};
-ghost use Rattle.pt_frame.specs.Tree.{Tree};
+ghost use Rattle.pt_frame.specs.Tree.{RequestTree};
 ghost use Rattle.pt_frame.specs.Machine.Left.{tops, is_above, marked, ended, edges_left, tail_left, then_left};
 ghost use Rattle.pt_frame.specs.Machine.Left.{next_left, mode_left, passes_at, is_ready, is_over, is_giving_scope};
 ghost use Rattle.pt_frame.specs.Machine.Left.{Tells, end_of, given_left, tail_counts, mode_counts, mode_begins};
@@ -130,7 +130,7 @@ pub fn take_next(passes: bool, holds: &mut Holds) -> Option<Hold>
 
 /// A request is answered: all is given back, but what passes with the answer.
 fn answered(answer: Answer, holds: &Holds) -> Mode
-    ensures left { (seat : HostSeat) (tree : Tree) (marks : List ℕ) →
+    ensures left { (seat : HostSeat) (tree : RequestTree) (marks : List ℕ) →
         mode_left seat result tree holds.now marks ≡ answered seat answer holds.now }
     ensures ready { (marks : List ℕ) → is_ready result holds.now marks ≡ true }
     ensures tells { Tells result None }
@@ -145,7 +145,7 @@ fn answered(answer: Answer, holds: &Holds) -> Mode
 
 /// What follows where nothing ends any more.
 fn followed(tail: Tail, holds: &Holds) -> Mode
-    ensures left { (seat : HostSeat) (tree : Tree) (marks : List ℕ) →
+    ensures left { (seat : HostSeat) (tree : RequestTree) (marks : List ℕ) →
         mode_left seat result tree holds.now marks ≡ tail_left seat tail tree holds.now marks }
     ensures ready { (marks : List ℕ) → is_ready result holds.now marks ≡ true }
     ensures tells { Tells result None }
@@ -163,7 +163,7 @@ fn followed(tail: Tail, holds: &Holds) -> Mode
 fn begun(brackets: bool, tail: Tail, holds: &Holds, marks: &mut Marks) -> Mode
     requires holds { length holds.now ≤ most_holds }
     requires marks { length marks.old + begun_by brackets ≤ most_holds }
-    ensures left { (seat : HostSeat) (tree : Tree) →
+    ensures left { (seat : HostSeat) (tree : RequestTree) →
         mode_left seat result tree holds.now marks.new
         ≡ tail_left seat tail tree holds.now (marked brackets holds.now marks.old) }
     ensures ready { is_ready result holds.now marks.new ≡ true }
@@ -193,7 +193,7 @@ fn is_above(shut: Shut, holds: &Holds, marks: &Marks) -> bool
 fn shut_on(edges: Edges, tail: Tail, holds: &Holds, marks: &mut Marks) -> Mode
     requires holds { length holds.now ≤ most_holds }
     requires marks { length marks.old + begun_by edges.brackets ≤ most_holds }
-    ensures left { (seat : HostSeat) (tree : Tree) →
+    ensures left { (seat : HostSeat) (tree : RequestTree) →
         mode_left seat result tree holds.now marks.new
         ≡ ended seat edges.shuts holds.now marks.old (λ kept above.
         tail_left seat tail tree kept (marked edges.brackets kept above)) }
@@ -220,7 +220,7 @@ fn shut_on(edges: Edges, tail: Tail, holds: &Holds, marks: &mut Marks) -> Mode
 fn go_over(edges: Edges, tail: Tail, holds: &Holds, marks: &mut Marks) -> Mode
     requires holds { length holds.now ≤ most_holds }
     requires marks { length marks.old + begun_by edges.brackets ≤ most_holds }
-    ensures left { (seat : HostSeat) (tree : Tree) →
+    ensures left { (seat : HostSeat) (tree : RequestTree) →
         mode_left seat result tree holds.now marks.new
         ≡ edges_left seat edges (tail_left seat tail tree) holds.now marks.old }
     ensures ready { is_ready result holds.now marks.new ≡ true }
@@ -240,7 +240,7 @@ fn given(mode: Mode, fault: Option<Errno>, holds: &Holds, marks: &mut Marks) -> 
     requires holds { length holds.now ≤ most_holds }
     requires marks { length marks.old + mode_begins mode ≤ most_holds }
     requires some { passes_at mode ≡ true → 0 < length holds.now }
-    ensures left { (seat : HostSeat) (tree : Tree) →
+    ensures left { (seat : HostSeat) (tree : RequestTree) →
         mode_left seat result tree holds.now marks.new ≡ given_left seat mode fault tree holds.now marks.old }
     ensures ready { is_ready result holds.now marks.new ≡ true }
     ensures tells { (lost : Option Errno) → Tells mode lost → Tells result (or_first fault lost) }
@@ -274,12 +274,12 @@ pub fn hold_given(
     requires ready { is_ready mode holds.old marks.old ≡ true }
     requires holds { length holds.old ≤ most_holds }
     requires marks { length marks.old + mode_begins mode ≤ most_holds }
-    ensures left { (tree : Tree) →
+    ensures left { (tree : RequestTree) →
         after reply.now (mode_left seat.now mode tree holds.old marks.old)
         ≡ closings result.1 holds.new (mode_left seat.now result.0 tree holds.new marks.new) }
-    ensures told { (tree : Tree) →
+    ensures told { (tree : RequestTree) →
         result.1 ≡ told_closings (mode_left seat.now mode tree holds.old marks.old) reply.now }
-    ensures inserted { (tree : Tree) →
+    ensures inserted { (tree : RequestTree) →
         told_inserted (mode_left seat.now mode tree holds.old marks.old) reply.now ≡ 0 }
     ensures ready { is_ready result.0 holds.new marks.new ≡ true }
     ensures tells { (lost : Option Errno) → Tells mode lost →
@@ -301,7 +301,7 @@ pub fn hold_given(
 
 /// What follows, if a refusal is answered so.
 fn tail_of(then: Then, refused: Answer) -> Tail
-    ensures left { (seat : HostSeat) (tree : Tree) (holds : List Hold) (marks : List ℕ) →
+    ensures left { (seat : HostSeat) (tree : RequestTree) (holds : List Hold) (marks : List ℕ) →
         tail_left seat result tree holds marks ≡ then_left seat then refused tree holds marks }
     ensures counts { (count : ℕ) → tail_counts result count ≡ then_counts then count }
 {
@@ -316,7 +316,7 @@ fn tail_of(then: Then, refused: Answer) -> Tail
 pub fn entered(next: Next, refused: Answer, holds: &Holds, marks: &mut Marks) -> Mode
     requires holds { length holds.now ≤ most_holds }
     requires marks { length marks.old + begun_in next ≤ most_holds }
-    ensures left { (seat : HostSeat) (tree : Tree) →
+    ensures left { (seat : HostSeat) (tree : RequestTree) →
         mode_left seat result tree holds.now marks.new ≡ next_left seat next refused tree holds.now marks.old }
     ensures ready { is_ready result holds.now marks.new ≡ true }
     ensures tells { Tells result None }

@@ -2,7 +2,7 @@
 use Rattle.std.specs.Prelude.{ℕ, List}
 use Rattle.pt_host.specs.declared.seat.HostSeat.{HostSeat}
 use Rattle.pt_iface.specs.declared.answer.Answer.TheVariants as answer
-use Rattle.pt_frame.specs.Tree.{Tree, Gives}
+use Rattle.pt_frame.specs.Tree.{RequestTree, Gives}
 use Rattle.pt_frame.specs.Machine.Next.{IsAsks}
 use Rattle.pt_req.specs.Options.{init_options, open_options}
 use Rattle.pt_req.specs.Steps.{begin, read_at, pin_handle, forget_all, release_handle}
@@ -38,7 +38,7 @@ use Rattle.pt_req.specs.declared.requests.unknown.Unknown.{Unknown}
 use Rattle.pt_req.specs.declared.requests.any.RequestBody.{RequestBody}
 use Rattle.pt_req.specs.declared.requests.any.RequestBody.TheVariants as body
 
-abbrev pub root_left : Root → Plan → HostSeat → Tree
+abbrev pub root_left : Root → Plan → HostSeat → RequestTree
 root_left at_root.Begin plan seat = root plan
 root_left (at_root.Open it) plan seat = root_open_left it plan (Gives answer.Done)
 
@@ -57,14 +57,14 @@ pub root_asks : (it : Root) (plan : Plan) (seat : HostSeat) → IsAsks (root_lef
 root_asks at_root.Begin plan seat = tt
 root_asks (at_root.Open it) plan seat = root_open_asks it plan (Gives answer.Done)
 
-abbrev pub answers_entry : Looked → Tree
+abbrev pub answers_entry : Looked → RequestTree
 answers_entry looked = Gives (answer.Entry looked.entry)
 
-abbrev pub lookup_at_left : LookupAt → List ℕ → Plan → Tree
+abbrev pub lookup_at_left : LookupAt → List ℕ → Plan → RequestTree
 lookup_at_left (at_lookup.Begin parent) name plan = lookup plan parent name
 lookup_at_left (at_lookup.LookUp it) name plan = look_up_left it name plan answers_entry
 
-abbrev pub lookup_left : Lookup → Plan → HostSeat → Tree
+abbrev pub lookup_left : Lookup → Plan → HostSeat → RequestTree
 lookup_left it plan seat = lookup_at_left it.at it.name plan
 
 abbrev pub lookup_at_acts : LookupAt → ℕ
@@ -96,14 +96,14 @@ abbrev pub pairs_of : Forgotten → List (ℕ × ℕ)
 pairs_of (forgotten.One pair) = pair
 pairs_of (forgotten.Many list) = list
 
-abbrev pub forgetting : Forget → Tree
+abbrev pub forgetting : Forget → RequestTree
 forgetting it = forget_all (pairs_of it.list) (Gives answer.NoReply)
 
-abbrev pub forget_at_left : ForgetAt → Forget → Tree
+abbrev pub forget_at_left : ForgetAt → Forget → RequestTree
 forget_at_left at_forget.Begin it = begin (λ session. forgetting it)
 forget_at_left at_forget.Forget it = forgetting it
 
-abbrev pub forget_left : Forget → Plan → HostSeat → Tree
+abbrev pub forget_left : Forget → Plan → HostSeat → RequestTree
 forget_left it plan seat = forget_at_left it.at it
 
 abbrev pub forget_at_acts : ForgetAt → ℕ
@@ -126,7 +126,7 @@ forget_at_asks at_forget.Forget it = tt
 pub forget_asks : (it : Forget) (plan : Plan) (seat : HostSeat) → IsAsks (forget_left it plan seat)
 forget_asks it plan seat = forget_at_asks it.at it
 
-abbrev pub init_left : Init → Plan → HostSeat → Tree
+abbrev pub init_left : Init → Plan → HostSeat → RequestTree
 init_left (at_init.Clear capable) plan seat = init plan capable
 init_left (at_init.Open it) plan seat = root_open_left it plan (Gives (answer.Inited (init_options plan.config)))
 
@@ -145,7 +145,7 @@ pub init_asks : (it : Init) (plan : Plan) (seat : HostSeat) → IsAsks (init_lef
 init_asks (at_init.Clear capable) plan seat = tt
 init_asks (at_init.Open it) plan seat = root_open_asks it plan (Gives (answer.Inited (init_options plan.config)))
 
-abbrev pub destroy_left : Destroy → Plan → HostSeat → Tree
+abbrev pub destroy_left : Destroy → Plan → HostSeat → RequestTree
 destroy_left it plan seat = destroy
 
 abbrev pub destroy_acts : Destroy → ℕ
@@ -160,14 +160,14 @@ destroy_inserts it = 0
 pub destroy_asks : (it : Destroy) (plan : Plan) (seat : HostSeat) → IsAsks (destroy_left it plan seat)
 destroy_asks it plan seat = tt
 
-abbrev pub answers_opened : Plan → ℕ → ℕ → Tree
+abbrev pub answers_opened : Plan → ℕ → ℕ → RequestTree
 answers_opened plan flags handle = Gives (answer.Opened handle (open_options plan.config flags))
 
-abbrev pub open_at_left : OpeningAt → ℕ → Plan → Tree
+abbrev pub open_at_left : OpeningAt → ℕ → Plan → RequestTree
 open_at_left (at_open.Begin inode) flags plan = open_file plan inode flags
 open_at_left (at_open.Open it) flags plan = handle_open_left it plan (answers_opened plan flags)
 
-abbrev pub open_left : Open → Plan → HostSeat → Tree
+abbrev pub open_left : Open → Plan → HostSeat → RequestTree
 open_left it plan seat = open_at_left it.at it.flags plan
 
 abbrev pub open_at_acts : OpeningAt → ℕ
@@ -195,11 +195,11 @@ open_at_asks (at_open.Open it) flags plan = handle_open_asks it plan (answers_op
 pub open_asks : (it : Open) (plan : Plan) (seat : HostSeat) → IsAsks (open_left it plan seat)
 open_asks it plan seat = open_at_asks it.at it.flags plan
 
-abbrev pub release_at_left : ReleaseAt → Release → Tree
+abbrev pub release_at_left : ReleaseAt → Release → RequestTree
 release_at_left at_release.Begin it = release it.inode it.handle
 release_at_left at_release.Release it = release_handle it.handle it.inode (Gives answer.Done)
 
-abbrev pub release_left : Release → Plan → HostSeat → Tree
+abbrev pub release_left : Release → Plan → HostSeat → RequestTree
 release_left it plan seat = release_at_left it.at it
 
 abbrev pub release_at_acts : ReleaseAt → ℕ
@@ -222,13 +222,13 @@ release_at_asks at_release.Release it = tt
 pub release_asks : (it : Release) (plan : Plan) (seat : HostSeat) → IsAsks (release_left it plan seat)
 release_asks it plan seat = release_at_asks it.at it
 
-abbrev pub reading_left : Reading → Read → Tree
+abbrev pub reading_left : Reading → Read → RequestTree
 reading_left at_read.Begin it = read it.inode it.handle it.size it.offset
 reading_left at_read.Pin it =
     pin_handle it.handle it.inode (λ fd. read_at fd it.offset it.size (λ bytes. Gives (answer.Read bytes)))
 reading_left (at_read.Read fd) it = read_at fd it.offset it.size (λ bytes. Gives (answer.Read bytes))
 
-abbrev pub read_left : Read → Plan → HostSeat → Tree
+abbrev pub read_left : Read → Plan → HostSeat → RequestTree
 read_left it plan seat = reading_left it.at it
 
 abbrev pub reading_acts : Reading → ℕ
@@ -258,7 +258,7 @@ reading_asks (at_read.Read fd) it = tt
 pub read_asks : (it : Read) (plan : Plan) (seat : HostSeat) → IsAsks (read_left it plan seat)
 read_asks it plan seat = reading_asks it.at it
 
-abbrev pub unknown_left : Unknown → Plan → HostSeat → Tree
+abbrev pub unknown_left : Unknown → Plan → HostSeat → RequestTree
 unknown_left it plan seat = unserved
 
 abbrev pub unknown_acts : Unknown → ℕ
@@ -273,7 +273,7 @@ unknown_inserts it = 0
 pub unknown_asks : (it : Unknown) (plan : Plan) (seat : HostSeat) → IsAsks (unknown_left it plan seat)
 unknown_asks it plan seat = tt
 
-abbrev pub request_left : RequestBody → Plan → HostSeat → Tree
+abbrev pub request_left : RequestBody → Plan → HostSeat → RequestTree
 request_left (body.Init it) plan seat = init_left it plan seat
 request_left (body.Destroy it) plan seat = destroy_left it plan seat
 request_left (body.Root it) plan seat = root_left it plan seat

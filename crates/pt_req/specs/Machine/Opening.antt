@@ -1,7 +1,7 @@
 -- Inner. What is left of the opening of a number by a handle, inside its bracket.
 use Rattle.std.specs.Prelude.{ℕ, false}
 use Rattle.pt_host.specs.declared.ids.Fd.{Fd}
-use Rattle.pt_frame.specs.Tree.{Tree, Shuts}
+use Rattle.pt_frame.specs.Tree.{RequestTree, Shuts}
 use Rattle.pt_frame.specs.Machine.Next.{IsAsks}
 use Rattle.pt_req.specs.Options.{cleaned, host_flags, without_nofollow}
 use Rattle.pt_req.specs.Steps.{reopen, take_fd, draw_handle, insert_handle}
@@ -11,13 +11,13 @@ use Rattle.pt_req.specs.declared.parts.open.HandleOpen.{HandleOpen}
 use Rattle.pt_req.specs.declared.parts.open.HandleOpenAt.{HandleOpenAt}
 use Rattle.pt_req.specs.declared.parts.open.HandleOpenAt.TheVariants as at
 
-abbrev pub handle_inserted : HandleOpen → (ℕ → Tree) → Fd → ℕ → Tree
+abbrev pub handle_inserted : HandleOpen → (ℕ → RequestTree) → Fd → ℕ → RequestTree
 handle_inserted it next fd handle = insert_handle it.session handle it.inode fd (Shuts false (next handle))
 
-abbrev pub handle_drawn : HandleOpen → (ℕ → Tree) → Fd → Tree
+abbrev pub handle_drawn : HandleOpen → (ℕ → RequestTree) → Fd → RequestTree
 handle_drawn it next fd = draw_handle (λ handle. take_fd (handle_inserted it next fd handle))
 
-abbrev pub handle_open_at_left : HandleOpenAt → HandleOpen → Plan → (ℕ → Tree) → Tree
+abbrev pub handle_open_at_left : HandleOpenAt → HandleOpen → Plan → (ℕ → RequestTree) → RequestTree
 handle_open_at_left at.Resolve it plan next =
     open_inode plan it.inode (cleaned plan.config it.flags) (handle_drawn it next)
 handle_open_at_left (at.Reopen path) it plan next =
@@ -26,7 +26,7 @@ handle_open_at_left (at.Draw fd) it plan next = handle_drawn it next fd
 handle_open_at_left (at.Take fd handle) it plan next = take_fd (handle_inserted it next fd handle)
 handle_open_at_left (at.Insert fd handle) it plan next = handle_inserted it next fd handle
 
-abbrev pub handle_open_left : HandleOpen → Plan → (ℕ → Tree) → Tree
+abbrev pub handle_open_left : HandleOpen → Plan → (ℕ → RequestTree) → RequestTree
 handle_open_left it plan next = handle_open_at_left it.at it plan next
 
 -- an act that brings a hold counts twice
@@ -50,7 +50,7 @@ handle_open_at_room (at.Insert fd handle) = 0
 abbrev pub handle_open_room : HandleOpen → ℕ
 handle_open_room it = handle_open_at_room it.at
 
-handle_open_at_asks : (at : HandleOpenAt) (it : HandleOpen) (plan : Plan) (next : ℕ → Tree) →
+handle_open_at_asks : (at : HandleOpenAt) (it : HandleOpen) (plan : Plan) (next : ℕ → RequestTree) →
     IsAsks (handle_open_at_left at it plan next)
 handle_open_at_asks at.Resolve it plan next = tt
 handle_open_at_asks (at.Reopen path) it plan next = tt
@@ -58,5 +58,5 @@ handle_open_at_asks (at.Draw fd) it plan next = tt
 handle_open_at_asks (at.Take fd handle) it plan next = tt
 handle_open_at_asks (at.Insert fd handle) it plan next = tt
 
-pub handle_open_asks : (it : HandleOpen) (plan : Plan) (next : ℕ → Tree) → IsAsks (handle_open_left it plan next)
+pub handle_open_asks : (it : HandleOpen) (plan : Plan) (next : ℕ → RequestTree) → IsAsks (handle_open_left it plan next)
 handle_open_asks it plan next = handle_open_at_asks it.at it plan next

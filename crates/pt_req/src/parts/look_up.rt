@@ -2,7 +2,7 @@ ghost use Rattle.std.specs.Prelude.{◌≡◌, ◌+◌, ◌<◌, ◌≤◌, ℕ,
 ghost use Rattle.pt_frame.specs.Machine.Next.{asked, deed_in, with_memory, AsksFor};
 ghost use Rattle.pt_frame.specs.Machine.Room.{brings};
 ghost use Rattle.pt_frame.specs.Replies.{inserted_by};
-ghost use Rattle.pt_frame.specs.Tree.{Tree, Shuts};
+ghost use Rattle.pt_frame.specs.Tree.{RequestTree, Shuts};
 ghost use Rattle.pt_req.specs.Machine.Parts.{look_up_left, look_up_acts, look_up_room, part_tree, part_counts};
 ghost use Rattle.pt_req.specs.Parts.{looked_of};
 ghost use Rattle.pt_req.specs.declared.parts.looked.Looked.{Looked};
@@ -20,7 +20,7 @@ use pt_session::{Event, EventReply, RowForm};
 
 /// The act that a lookup wants next. The name is its request's.
 #[derive(Drop)]
-pub enum LookUpAt {
+pub enum EntryLookupAt {
     Resolve {
         parent: u64,
     },
@@ -42,9 +42,9 @@ pub enum LookUpAt {
 
 /// A lookup on its way, in its bracket.
 #[derive(Drop)]
-pub struct LookUp {
+pub struct EntryLookup {
     pub session: BegunSession,
-    pub at: LookUpAt,
+    pub at: EntryLookupAt,
 }
 
 /// What a lookup hands on, in a directory of these ids.
@@ -65,63 +65,63 @@ fn looked_of(
     }
 }
 
-impl LookUp {
+impl EntryLookup {
     pub fn want<'a>(&'a self, name: &'a [u8]) -> Act<'a>
-        ensures asks { (plan : Plan) (next : Looked → Tree) →
+        ensures asks { (plan : Plan) (next : Looked → RequestTree) →
             AsksFor (look_up_left self.now name.now plan next) result None }
-        ensures fits { (plan : Plan) (next : Looked → Tree) →
+        ensures fits { (plan : Plan) (next : Looked → RequestTree) →
             brings (look_up_left self.now name.now plan next) ≤ look_up_room self.now }
     {
         match &self.at {
-            LookUpAt::Resolve { parent } => Act::Event(Event::Resolve { number: *parent }),
-            LookUpAt::Open { dir, .. } => Act::Host(HostOp::OpenAt {
+            EntryLookupAt::Resolve { parent } => Act::Event(Event::Resolve { number: *parent }),
+            EntryLookupAt::Open { dir, .. } => Act::Host(HostOp::OpenAt {
                 fd: *dir,
                 name,
                 flags: OpenFlags::PATH,
                 mode: 0,
             }),
-            LookUpAt::Stat { fd, .. } => Act::Host(HostOp::Stat { fd: *fd }),
-            LookUpAt::Number { form, stat, at, .. } => at.want(&self.session, form, stat),
+            EntryLookupAt::Stat { fd, .. } => Act::Host(HostOp::Stat { fd: *fd }),
+            EntryLookupAt::Number { form, stat, at, .. } => at.want(&self.session, form, stat),
         }
     }
 
     /// Goes on from the reply of the act that was wanted.
     pub fn take(&mut self, plan: &Plan, reply: ActReply) -> Part<Looked>
-        ensures left { (name : List ℕ) (next : Looked → Tree) →
+        ensures left { (name : List ℕ) (next : Looked → RequestTree) →
             with_memory (asked (look_up_left self.old name plan.now next) reply)
             ≡ part_tree result reply (look_up_left self.new name plan.now next) (λ looked. Shuts true (next looked)) }
-        ensures fewer { (name : List ℕ) (next : Looked → Tree) →
+        ensures fewer { (name : List ℕ) (next : Looked → RequestTree) →
             brings (look_up_left self.old name plan.now next) + part_counts result (look_up_acts self.new)
             < look_up_acts self.old }
-        ensures room { (name : List ℕ) (next : Looked → Tree) →
+        ensures room { (name : List ℕ) (next : Looked → RequestTree) →
             brings (look_up_left self.old name plan.now next) + part_counts result (look_up_room self.new)
             ≤ look_up_room self.old }
-        ensures inserts { (name : List ℕ) (next : Looked → Tree) →
+        ensures inserts { (name : List ℕ) (next : Looked → RequestTree) →
             inserted_by (deed_in (look_up_left self.old name plan.now next)) reply + part_counts result 1 ≤ 1 }
     {
         match &mut self.at {
-            LookUpAt::Resolve { .. } => match reply {
+            EntryLookupAt::Resolve { .. } => match reply {
                 ActReply::Event(EventReply::Resolved { form, ids, .. }) => {
                     let RowForm::File(dir) = form;
-                    self.at = LookUpAt::Open { parent: ids, dir };
+                    self.at = EntryLookupAt::Open { parent: ids, dir };
                     Part::Goes
                 }
                 _ => Part::Refuses,
             },
-            LookUpAt::Open { parent, .. } => match reply {
+            EntryLookupAt::Open { parent, .. } => match reply {
                 ActReply::Host(HostReply::Ok(HostValue::Fd(fd))) => {
                     let parent = *parent;
-                    self.at = LookUpAt::Stat { parent, fd };
+                    self.at = EntryLookupAt::Stat { parent, fd };
                     Part::Goes
                 }
                 _ => Part::Refuses,
             },
-            LookUpAt::Stat { parent, fd } => match reply {
+            EntryLookupAt::Stat { parent, fd } => match reply {
                 ActReply::Host(HostReply::Ok(HostValue::Stat(stat))) => {
                     let parent = *parent;
                     let form = RowForm::File(*fd);
                     let at = NumberAt::Claim;
-                    self.at = LookUpAt::Number {
+                    self.at = EntryLookupAt::Number {
                         parent,
                         form,
                         stat,
@@ -131,7 +131,7 @@ impl LookUp {
                 }
                 _ => Part::Refuses,
             },
-            LookUpAt::Number {
+            EntryLookupAt::Number {
                 parent,
                 form,
                 stat,

@@ -1,6 +1,6 @@
 ghost use Rattle.std.specs.Prelude.{◌≡◌};
 ghost use Rattle.std.specs.List.{list_any};
-ghost use Rattle.pt_req.specs.Entries.{is_bad_byte, is_bad_name};
+ghost use Rattle.pt_req.specs.Entries.{is_bad_byte, is_dots, is_bad_name};
 
 fn is_bad_byte(byte: u8) -> bool
     ensures { result ≡ is_bad_byte byte }
@@ -14,16 +14,19 @@ fn has_bad_byte(name: &[u8]) -> bool
     name.iter().any(|byte| is_bad_byte(*byte))
 }
 
+fn is_dots(name: &[u8]) -> bool
+    ensures { result ≡ is_dots name.now }
+{
+    match name {
+        [first] => *first == b'.',
+        [first, second] => *first == b'.' && *second == b'.',
+        _ => false,
+    }
+}
+
 /// Whether it is no name of an entry: empty, `.`, `..`, or with a slash or a NUL.
 pub fn is_bad_name(name: &[u8]) -> bool
     ensures { result ≡ is_bad_name name.now }
 {
-    match name {
-        [] => true,
-        [first] => *first == b'.' || is_bad_byte(*first),
-        [first, second] => {
-            (*first == b'.' && *second == b'.') || is_bad_byte(*first) || is_bad_byte(*second)
-        }
-        _ => has_bad_byte(name),
-    }
+    name.is_empty() || is_dots(name) || has_bad_byte(name)
 }

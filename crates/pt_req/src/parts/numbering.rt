@@ -2,7 +2,7 @@ ghost use Rattle.std.specs.Prelude.{◌≡◌, ◌+◌, ◌<◌, ◌≤◌, ℕ,
 ghost use Rattle.pt_frame.specs.Machine.Next.{asked, deed_in, with_memory, AsksFor};
 ghost use Rattle.pt_frame.specs.Machine.Room.{brings};
 ghost use Rattle.pt_frame.specs.Replies.{inserted_by};
-ghost use Rattle.pt_frame.specs.Tree.{Tree};
+ghost use Rattle.pt_frame.specs.Tree.{RequestTree};
 ghost use Rattle.pt_host.specs.declared.stat.Stat.{Stat};
 ghost use Rattle.pt_req.specs.Machine.Parts.{numbering_left, numbering_acts, numbering_room, part_tree, part_counts};
 ghost use Rattle.pt_req.specs.declared.begun.BegunSession.{BegunSession};
@@ -26,9 +26,9 @@ pub enum NumberAt {
 
 impl NumberAt {
     pub fn want<'a>(&self, session: &BegunSession, form: &'a RowForm, stat: &Stat) -> Act<'a>
-        ensures asks { (next : ℕ → Tree) →
+        ensures asks { (next : ℕ → RequestTree) →
             AsksFor (numbering_left self.now form.now stat.now session.now next) result None }
-        ensures fits { (next : ℕ → Tree) →
+        ensures fits { (next : ℕ → RequestTree) →
             brings (numbering_left self.now form.now stat.now session.now next) ≤ numbering_room self.now }
     {
         match self {
@@ -51,17 +51,17 @@ impl NumberAt {
 
     /// Goes on from the reply of the act that was wanted.
     pub fn take(&mut self, reply: ActReply) -> Part<u64>
-        ensures left { (form : RowForm) (stat : Stat) (session : BegunSession) (next : ℕ → Tree) →
+        ensures left { (form : RowForm) (stat : Stat) (session : BegunSession) (next : ℕ → RequestTree) →
             with_memory (asked (numbering_left self.old form stat session next) reply)
             ≡ part_tree result reply (numbering_left self.new form stat session next)
             (λ number. with_memory (next number)) }
-        ensures fewer { (form : RowForm) (stat : Stat) (session : BegunSession) (next : ℕ → Tree) →
+        ensures fewer { (form : RowForm) (stat : Stat) (session : BegunSession) (next : ℕ → RequestTree) →
             brings (numbering_left self.old form stat session next) + part_counts result (numbering_acts self.new)
             < numbering_acts self.old }
-        ensures room { (form : RowForm) (stat : Stat) (session : BegunSession) (next : ℕ → Tree) →
+        ensures room { (form : RowForm) (stat : Stat) (session : BegunSession) (next : ℕ → RequestTree) →
             brings (numbering_left self.old form stat session next) + part_counts result (numbering_room self.new)
             ≤ numbering_room self.old }
-        ensures inserts { (form : RowForm) (stat : Stat) (session : BegunSession) (next : ℕ → Tree) →
+        ensures inserts { (form : RowForm) (stat : Stat) (session : BegunSession) (next : ℕ → RequestTree) →
             inserted_by (deed_in (numbering_left self.old form stat session next)) reply + part_counts result 1 ≤ 1 }
     {
         match (*self, reply) {

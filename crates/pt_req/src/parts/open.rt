@@ -2,7 +2,7 @@ ghost use Rattle.std.specs.Prelude.{◌≡◌, ◌+◌, ◌<◌, ◌≤◌, ℕ,
 ghost use Rattle.pt_frame.specs.Machine.Next.{asked, deed_in, with_memory, AsksFor};
 ghost use Rattle.pt_frame.specs.Machine.Room.{brings};
 ghost use Rattle.pt_frame.specs.Replies.{inserted_by};
-ghost use Rattle.pt_frame.specs.Tree.{Tree, Shuts};
+ghost use Rattle.pt_frame.specs.Tree.{RequestTree, Shuts};
 ghost use Rattle.pt_req.specs.Entries.{can_open};
 ghost use Rattle.pt_req.specs.Machine.Opening.{handle_open_left, handle_open_acts, handle_open_room};
 ghost use Rattle.pt_req.specs.Machine.Parts.{part_tree, part_counts};
@@ -50,8 +50,8 @@ fn can_open(mode: u32) -> bool
 
 impl HandleOpen {
     pub fn want<'a>(&self, plan: &Plan) -> Act<'a>
-        ensures asks { (next : ℕ → Tree) → AsksFor (handle_open_left self.now plan.now next) result None }
-        ensures fits { (next : ℕ → Tree) →
+        ensures asks { (next : ℕ → RequestTree) → AsksFor (handle_open_left self.now plan.now next) result None }
+        ensures fits { (next : ℕ → RequestTree) →
             brings (handle_open_left self.now plan.now next) ≤ handle_open_room self.now }
     {
         match self.at {
@@ -73,16 +73,16 @@ impl HandleOpen {
 
     /// Goes on from the reply of the act that was wanted.
     pub fn take(&mut self, reply: ActReply) -> Part<u64>
-        ensures left { (plan : Plan) (next : ℕ → Tree) →
+        ensures left { (plan : Plan) (next : ℕ → RequestTree) →
             with_memory (asked (handle_open_left self.old plan next) reply)
             ≡ part_tree result reply (handle_open_left self.new plan next) (λ handle. Shuts false (next handle)) }
-        ensures fewer { (plan : Plan) (next : ℕ → Tree) →
+        ensures fewer { (plan : Plan) (next : ℕ → RequestTree) →
             brings (handle_open_left self.old plan next) + part_counts result (handle_open_acts self.new)
             < handle_open_acts self.old }
-        ensures room { (plan : Plan) (next : ℕ → Tree) →
+        ensures room { (plan : Plan) (next : ℕ → RequestTree) →
             brings (handle_open_left self.old plan next) + part_counts result (handle_open_room self.new)
             ≤ handle_open_room self.old }
-        ensures inserts { (plan : Plan) (next : ℕ → Tree) →
+        ensures inserts { (plan : Plan) (next : ℕ → RequestTree) →
             inserted_by (deed_in (handle_open_left self.old plan next)) reply + part_counts result 1 ≤ 1 }
     {
         match (self.at, reply) {

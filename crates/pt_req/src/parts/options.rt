@@ -1,6 +1,6 @@
 ghost use Rattle.std.specs.Prelude.{◌≡◌};
-ghost use Rattle.pt_req.specs.Options.{without_bits, cleaned, inode_flags, host_flags, without_nofollow, cache_options};
-ghost use Rattle.pt_req.specs.Options.{open_options, agreed_with, init_options};
+ghost use Rattle.pt_req.specs.Options.{without_bits, cleaned, inode_flags, host_flags, without_nofollow};
+ghost use Rattle.pt_req.specs.Options.{cache_options, open_options, agreed_with, init_options};
 
 use crate::plan::{CachePolicy, Config};
 use pt_host::OpenFlags;

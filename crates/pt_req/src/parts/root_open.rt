@@ -2,7 +2,7 @@ ghost use Rattle.std.specs.Prelude.{◌≡◌, ◌+◌, ◌<◌, ◌≤◌, ℕ,
 ghost use Rattle.pt_frame.specs.Machine.Next.{asked, deed_in, with_memory, AsksFor};
 ghost use Rattle.pt_frame.specs.Machine.Room.{brings};
 ghost use Rattle.pt_frame.specs.Replies.{inserted_by};
-ghost use Rattle.pt_frame.specs.Tree.{Tree};
+ghost use Rattle.pt_frame.specs.Tree.{RequestTree};
 ghost use Rattle.pt_req.specs.Machine.Parts.{root_open_left, root_open_acts, root_open_room, part_tree, part_counts};
 
 use crate::begun::BegunSession;
@@ -37,8 +37,8 @@ pub struct RootOpen {
 
 impl RootOpen {
     pub fn want<'a>(&'a self, plan: &'a Plan) -> Act<'a>
-        ensures asks { (next : Tree) → AsksFor (root_open_left self.now plan.now next) result None }
-        ensures fits { (next : Tree) → brings (root_open_left self.now plan.now next) ≤ root_open_room self.now }
+        ensures asks { (next : RequestTree) → AsksFor (root_open_left self.now plan.now next) result None }
+        ensures fits { (next : RequestTree) → brings (root_open_left self.now plan.now next) ≤ root_open_room self.now }
     {
         match &self.at {
             RootOpenAt::Open => Act::Host(HostOp::OpenRoot {
@@ -68,16 +68,16 @@ impl RootOpen {
 
     /// Goes on from the reply of the act that was wanted.
     pub fn take(&mut self, reply: ActReply) -> Part<()>
-        ensures left { (plan : Plan) (next : Tree) →
+        ensures left { (plan : Plan) (next : RequestTree) →
             with_memory (asked (root_open_left self.old plan next) reply)
             ≡ part_tree result reply (root_open_left self.new plan next) (λ done. with_memory next) }
-        ensures fewer { (plan : Plan) (next : Tree) →
+        ensures fewer { (plan : Plan) (next : RequestTree) →
             brings (root_open_left self.old plan next) + part_counts result (root_open_acts self.new)
             < root_open_acts self.old }
-        ensures room { (plan : Plan) (next : Tree) →
+        ensures room { (plan : Plan) (next : RequestTree) →
             brings (root_open_left self.old plan next) + part_counts result (root_open_room self.new)
             ≤ root_open_room self.old }
-        ensures inserts { (plan : Plan) (next : Tree) →
+        ensures inserts { (plan : Plan) (next : RequestTree) →
             inserted_by (deed_in (root_open_left self.old plan next)) reply + part_counts result 1 ≤ 1 }
     {
         match &mut self.at {

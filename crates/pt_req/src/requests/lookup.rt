@@ -1,5 +1,5 @@
 use crate::begun::BegunSession;
-use crate::parts::{LookUp, LookUpAt, is_bad_name};
+use crate::parts::{EntryLookup, EntryLookupAt, is_bad_name};
 use crate::plan::Plan;
 use pt_frame::{Act, ActReply, Body, Edges, Next, Then, Wanted};
 use pt_host::{Bytes, Errno, HostSeat};
@@ -10,7 +10,7 @@ use pt_session::{Event, EventReply};
 #[derive(Drop)]
 pub enum LookupAt {
     Begin { parent: u64 },
-    LookUp(LookUp),
+    LookUp(EntryLookup),
 }
 
 /// The request `lookup`, with its name.
@@ -50,8 +50,8 @@ impl Body for Lookup {
                     }
                     let agreed = negotiated;
                     let session = BegunSession { era, agreed };
-                    let at = LookUpAt::Resolve { parent: *parent };
-                    self.at = LookupAt::LookUp(LookUp { session, at });
+                    let at = EntryLookupAt::Resolve { parent: *parent };
+                    self.at = LookupAt::LookUp(EntryLookup { session, at });
                     Next::Over {
                         edges: Edges::BEGIN,
                         then: Then::Goes,

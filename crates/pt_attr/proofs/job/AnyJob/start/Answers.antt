@@ -1,5 +1,5 @@
 use Rattle.std.proofs.Common.{◌≡◌, ◌∙◌, ap}
-use Rattle.pt_frame.specs.Tree.{Tree, grammar_of_tree}
+use Rattle.pt_frame.specs.Tree.{RequestTree, grammar_of_tree}
 use Rattle.pt_attr.specs.Machine.Bodies.{any_left}
 use Rattle.pt_attr.specs.Machine.Job.{owes}
 use Rattle.pt_attr.specs.declared.body.AnyBody.{AnyBody}
@@ -10,4 +10,4 @@ unfolding owes
 returns-clause-left c = λ plan seat.
     c.start.ensures.left seat (any_left c.start.result.body plan seat)
     ∙ ap (λ (body : AnyBody). grammar_of_tree seat (any_left body plan seat)) c.start.ensures.body
-    ∙ ap (λ (tree : Tree). grammar_of_tree seat tree) (c.of.ensures.left plan seat c.args.who)
+    ∙ ap (λ (tree : RequestTree). grammar_of_tree seat tree) (c.of.ensures.left plan seat c.args.who)

@@ -1,4 +1,4 @@
-use Rattle.std.proofs.Common.{◌≡◌, ◌<◌, ◌+◌, ◌^◌, ℕ, List, [], ◌∷◌, ◌++◌, length, Some, true, pos, refl, slice_get}
+use Rattle.std.proofs.Common.{◌≡◌, ◌<◌, ◌+◌, ◌^◌, ℕ, List, [], ◌∷◌, ◌++◌, length, Some, true, pos, refl, slice_get, slice_set}
 use Rattle.std.proofs.Common.{ap, sym, ◌∙◌, arith, rules}
 use Rattle.std.proofs.lemmas.Option.{slice_get-get_or}
 use Rattle.pt_host.specs.Words.{set_at}
@@ -64,14 +64,16 @@ returns-clause-starting c = λ added.
     ∙ ap (λ (p : List ℕ).
     with_mount id (record { parent = mnt; dev = dev; path = p }) state.mounts) c.in_ok-copy.ensures in
     started_as (with_made with_mount_in dir name node) _
-    (with_counts (holds.holds ++ 1 ∷ []) (holds.names ++ 1 ∷ [])) _ (given dev (having (length state.nodes)) tables) _
+    (with_counts (holds.holds ++ 1 ∷ []) (holds.names ++ 1 ∷ [])
+    (slice_set (holds.directories ++ 0 ∷ []) dir c.in-Some-directories_with.directories)) _ (given dev (having (length state.nodes)) tables) _
     (ap (λ (ns : List Node). with_both state ns c.insert.new.self) nodes
     ∙ ap (λ (ms : List (ℕ × Mount)). with_both state (with_made with_mount_in dir name node).nodes ms) mounts)
-    (same_counts _ _ _ _ c.in_ok-add.ensures.holds c.in_ok-add.ensures.names)
+    (same_counts _ _ _ _ _ _ c.in_ok-add.ensures.holds c.in_ok-add.ensures.names
+    (ap (λ (ds : List ℕ). slice_set ds dir c.in-Some-directories_with.directories) c.in_ok-add.ensures.directories))
     (same_function _ _ c.in_ok-add.ensures.tables
     ∙ ap (λ (n : ℕ). set_at dev
     (put_at n (Open (having c.len-object.result)) (tables dev)) tables) c.in_ok-add.ensures.number
     ∙ ap (λ (o : ℕ). given dev (having o) tables) object)
     (started_made with_mount_in holds tables starting dir name node parent free.0 free.1 refl refl
     (omega arith) at_dir (sym number) few
-    (own_device state holds tables mnt id dev path own.0))
+    (own_device state holds tables mnt id dev path own.0) _ c.in-Some-directories_with.ensures.1)

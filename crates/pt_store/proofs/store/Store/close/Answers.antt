@@ -18,10 +18,10 @@ returns-clause-kept c =
     let dev = c.device_at-dev.ensures ∙ ap (λ (ns : List Node). device_at ns object) c.deref.ensures.value in
     let number = c.number_at-number.ensures ∙ ap (λ (ns : List Node). number_at ns object) c.deref-2.ensures.value in
     kept_as (parts_in state state.nodes (closed c.args.fd.0 state.slots)) _
-    (with_counts (released object holds.holds) holds.names) _
+    (with_counts (released object holds.holds) holds.names holds.directories) _
     (given_up (device_at state.nodes object) (number_at state.nodes object) object holds.holds tables) _
     (ap (λ (slots : List Slot). parts_in state state.nodes slots) c.close.ensures)
-    (same_counts _ _ _ _ c.release.ensures.holds c.release.ensures.names)
+    (same_counts _ _ _ _ _ _ c.release.ensures.holds c.release.ensures.names c.release.ensures.directories)
     (same_function _ _ c.release.ensures.tables
     ∙ ap (λ n. given_up n c.number_at-number.result object holds.holds tables) dev
     ∙ ap (λ n. given_up (device_at state.nodes object) n object holds.holds tables) number)

@@ -11,7 +11,7 @@ use Rattle.pt_node.specs.declared.node.Node.{Node}
 use Rattle.pt_node.specs.declared.slots.OpenFile.{OpenFile}
 use Rattle.pt_node.specs.declared.slots.Slot.{Slot}
 use Rattle.pt_node.specs.declared.slots.Slot.TheVariants.{Open}
-use Rattle.pt_store.proofs.Kept.{once_more}
+use Rattle.pt_store.proofs.Counting.{once_more}
 use Rattle.pt_store.proofs.KeptEdits.{kept_opened}
 use Rattle.pt_store.proofs.KeptStore.{kept_as, parts_in, same_counts, with_counts}
 use Rattle.pt_store.proofs.store.Store.open.Goals as goal
@@ -36,10 +36,10 @@ returns-in-Ok-clause-kept c =
     ∙ ap (λ n. put_at n (Open (begun_on c.args.flags object)) state.slots) c.in-Ok.ensures.fd in
     let nodes = ap (slice_set state.nodes object) opened in
     kept_as (with_opened state c.args.seat.now c.args.flags object node) _
-    (with_counts (once_more object holds.holds) holds.names) _ tables _
+    (with_counts (once_more object holds.holds) holds.names holds.directories) _ tables _
     (ap (λ (ns : List Node). parts_in state ns c.open.new.self) nodes
     ∙ ap (λ (ss : List Slot).
     parts_in state (slice_set state.nodes object
     (after_opening c.args.seat.now (time_of state) c.args.flags.0 node)) ss) slots)
-    (same_counts _ _ _ _ (ap (slice_set holds.holds object) c.in-Some-one_more.ensures.1) refl) refl
+    (same_counts _ _ _ _ _ _ (ap (slice_set holds.holds object) c.in-Some-one_more.ensures.1) refl refl) refl
     (kept_opened state holds tables c.args.seat.now c.args.flags object node c.requires.kept there c.requires.lives)

@@ -70,17 +70,19 @@ returns-in-Ok-add_node-clause-kept c =
     ∙ ap (λ (n : ℕ). put_at n (Open (begun_on flags c.len-object.result)) state.slots) c.in-Ok-open.ensures.fd
     ∙ ap (λ (o : ℕ). put_at (least_free state.slots) (Open (begun_on flags o)) state.slots) object in
     kept_as (with_descriptor grows flags (length state.nodes)) _
-    (with_counts (slice_set (holds.holds ++ 1 ∷ []) (length state.nodes) 2) (holds.names ++ 1 ∷ [])) _ (given dev (having (length state.nodes)) tables) _
+    (with_counts (slice_set (holds.holds ++ 1 ∷ []) (length state.nodes) 2) (holds.names ++ 1 ∷ [])
+    (holds.directories ++ 0 ∷ [])) _ (given dev (having (length state.nodes)) tables) _
     (ap (λ (ns : List Node). parts_in state ns c.open.new.self) nodes
     ∙ ap (λ (ss : List Slot). parts_in state grows.nodes ss) slots)
-    (same_counts _ _ _ _ (ap (λ (hs : List ℕ). slice_set hs c.len-object.result 2) c.in-Ok-add.ensures.holds
-    ∙ ap (λ (o : ℕ). slice_set (holds.holds ++ 1 ∷ []) o 2) object) c.in-Ok-add.ensures.names)
+    (same_counts _ _ _ _ _ _ (ap (λ (hs : List ℕ). slice_set hs c.len-object.result 2) c.in-Ok-add.ensures.holds
+    ∙ ap (λ (o : ℕ). slice_set (holds.holds ++ 1 ∷ []) o 2) object) c.in-Ok-add.ensures.names
+    c.in-Ok-add.ensures.directories)
     (same_function _ _ c.in-Ok-add.ensures.tables
     ∙ ap (λ (n : ℕ). set_at dev
     (put_at n (Open (having c.len-object.result)) (tables dev)) tables) c.in-Ok-add.ensures.number
     ∙ ap (λ (o : ℕ). given dev (having o) tables) object)
     (kept_open_made state holds tables c.requires.kept c.args.dir c.args.name.now node parent c.requires.into c.requires.free refl refl c.requires.small at_dir
-    refl few seat flags)
+    refl few seat flags refl)
 
 pub returns-in-Ok-add_node-clause-answers : goal.returns-in-Ok-add_node-clause-answers
 returns-in-Ok-add_node-clause-answers c =
@@ -144,13 +146,16 @@ returns-in-Err-clause-kept c =
     (put_at n (Open c.begun_on.result) state.slots)) c.in-Ok-open.ensures.fd
     ∙ taken_back-put state.slots c.begun_on.result in
     kept_as state _ (with_counts (take (length (holds.holds ++ 1 ∷ []) - 1) (holds.holds ++ 1 ∷ []))
-    (take (length (holds.names ++ 1 ∷ []) - 1) (holds.names ++ 1 ∷ []))) _
+    (take (length (holds.names ++ 1 ∷ []) - 1) (holds.names ++ 1 ∷ []))
+    (take (length (holds.directories ++ 0 ∷ []) - 1) (holds.directories ++ 0 ∷ []))) _
     (freed dev (least_free (tables dev)) (given dev file tables)) _
     (ap (λ (ns : List Node). parts_in state ns c.take_back-in-Err-2.new.self) c.in-Err.ensures.err
     ∙ ap (parts_in state state.nodes) slots)
-    (same_counts _ _ _ _
+    (same_counts _ _ _ _ _ _
     (c.take_back-in-Err.ensures.holds ∙ ap (λ (xs : List ℕ). take (length xs - 1) xs) c.in-Ok-add.ensures.holds)
-    (c.take_back-in-Err.ensures.names ∙ ap (λ (xs : List ℕ). take (length xs - 1) xs) c.in-Ok-add.ensures.names))
+    (c.take_back-in-Err.ensures.names ∙ ap (λ (xs : List ℕ). take (length xs - 1) xs) c.in-Ok-add.ensures.names)
+    (c.take_back-in-Err.ensures.directories
+    ∙ ap (λ (xs : List ℕ). take (length xs - 1) xs) c.in-Ok-add.ensures.directories))
     (same_function _ _ c.take_back-in-Err.ensures.tables
     ∙ ap (freed dev c.in-Ok-add.number)
     (same_function _ _ c.in-Ok-add.ensures.tables
@@ -194,7 +199,8 @@ returns-in_default-add-clause-kept c =
     (put_at n (Open c.begun_on.result) state.slots)) c.in-Ok-open.ensures.fd
     ∙ taken_back-put state.slots c.begun_on.result in
     kept_as state _ holds _ tables _ (ap (parts_in state state.nodes) slots)
-    (same_counts _ _ _ _ c.in_default-add.ensures.same_holds c.in_default-add.ensures.same_names)
+    (same_counts _ _ _ _ _ _ c.in_default-add.ensures.same_holds c.in_default-add.ensures.same_names
+    c.in_default-add.ensures.same_directories)
     (same_function _ _ c.in_default-add.ensures.same_tables) c.requires.kept
 
 pub returns-in_default-add-clause-answers : goal.returns-in_default-add-clause-answers

@@ -35,14 +35,15 @@ returns-clause-starting c =
     with_mount id (record { parent = 0; dev = dev; path = p }) c.new-mounts.result) c.in_ok-copy.ensures
     ∙ ap (with_mount id (record { parent = 0; dev = dev; path = path })) c.new-mounts.ensures in
     let state = mounted (start_with root) 0 id dev path in
-    started_as state _ (with_counts (1 ∷ []) (0 ∷ [])) _ (root_tables id dev path c.args.handles) _
+    started_as state _ (with_counts (1 ∷ []) (0 ∷ []) (0 ∷ [])) _ (root_tables id dev path c.args.handles) _
     (ap (λ (ns : List Node). in_all ns c.in_ok-new.field-0 c.insert.new.self c.new-2.result) nodes
     ∙ ap (λ (ss : List Slot). in_all (root ∷ []) ss c.insert.new.self c.new-2.result) c.in_ok-new.ensures
     ∙ ap (λ (ms : List (ℕ × Mount)). in_all (root ∷ []) no_files ms c.new-2.result) mounts
     ∙ ap (λ (ps : List (ℕ × Errno)). in_all (root ∷ []) no_files state.mounts ps) c.new-2.ensures)
-    (same_counts _ _ _ _
+    (same_counts _ _ _ _ _ _
     (c.in_ok-add.ensures.holds ∙ ap (λ (hs : List ℕ). hs ++ 1 ∷ []) c.new-inodes.ensures.holds)
-    (c.in_ok-add.ensures.names ∙ ap (λ (ns : List ℕ). ns ++ 0 ∷ []) c.new-inodes.ensures.names))
+    (c.in_ok-add.ensures.names ∙ ap (λ (ns : List ℕ). ns ++ 0 ∷ []) c.new-inodes.ensures.names)
+    (c.in_ok-add.ensures.directories ∙ ap (λ (ds : List ℕ). ds ++ 0 ∷ []) c.new-inodes.ensures.directories))
     (same_function _ _ c.in_ok-add.ensures.tables
     ∙ ap (λ (n : ℕ). set_at dev (put_at n (Open (having 0)) (table_in c.new-inodes.result.tables.items dev))
     (table_in c.new-inodes.result.tables.items)) c.in_ok-add.ensures.number
