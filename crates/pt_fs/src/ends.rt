@@ -6,7 +6,7 @@ ghost use Rattle.pt_fs.specs.Trace.{seated};
 
 use crate::fs::SteppedFs;
 use crate::job::Job;
-use crate::room::push_within;
+use crate::room::{push_within, with_room};
 use crate::running::{Running, no_seat};
 use pt_attr::AnyJob;
 use pt_frame::Finish;
@@ -47,10 +47,10 @@ pub fn start_all<F: SteppedFs>(
 ) -> Result<Vec<Running>, AllocError>
     ensures { IfOk result (λ running. EachStarted (F.plan_of fs.now) jobs.items running.items) }
 {
-    let mut running = Vec::new(alloc);
+    let mut running = with_room(alloc, jobs.len())?;
     for job in jobs {
         let run = start_one(alloc, fs, job)?;
-        running.push(run)?;
+        push_within(&mut running, run);
     }
     Ok(running)
 }

@@ -70,43 +70,48 @@ fn make_from<H: Host, F: SteppedFs>(
     }
 }
 
-/// The reply for the trace and for the job; where its bytes cannot be copied, both are told so.
-fn told_twice(alloc: Global, reply: ActReply) -> (ActReply, ActReply)
-    ensures told { IsShown reply result.0 }
-    ensures same { result.1 ≡ result.0 }
+/// The job's reply once more, for the trace; where its bytes cannot be copied, both are told so.
+fn shown(alloc: Global, reply: &mut ActReply) -> ActReply
+    ensures told { IsShown reply.old result }
+    ensures same { reply.new ≡ result }
 {
     match reply.copy(alloc) {
-        Ok(copy) => (copy, reply),
-        Err(_) => (ActReply::NoCopy, ActReply::NoCopy),
+        Ok(copy) => copy,
+        Err(_) => {
+            *reply = ActReply::NoCopy;
+            ActReply::NoCopy
+        }
     }
 }
 
-/// Takes the next step of a job.
+/// Takes the next step of a job, that of this number.
 fn advance<H: Host, F: SteppedFs>(
     alloc: Global,
     host: &mut H,
     fs: &mut F,
     running: &mut Running,
-) -> (KeptAct, ActReply)
+    job: u32,
+) -> TraceStep
     requires unfinished { is_finished running.old.state ≡ false }
     requires going { is_end (owes (F.plan_of fs.old) running.old.start running.old.state) ≡ false }
-    ensures made { MadeFrom H.does (kept_deed_of result.0) result.1 host.old running.old.seat
+    ensures owner { result.job ≡ job }
+    ensures made { MadeFrom H.does (kept_deed_of result.act) result.reply host.old running.old.seat
         (F.tables fs.old) host.new running.new.seat (F.tables fs.new) }
     ensures plan { F.plan_of fs.new ≡ F.plan_of fs.old }
     ensures root { F.root fs.new ≡ F.root fs.old }
     ensures advances { Advances (owes (F.plan_of fs.old) running.old.start running.old.state)
-        (kept_deed_of result.0) result.1 (owes (F.plan_of fs.old) running.new.start running.new.state) }
+        (kept_deed_of result.act) result.reply (owes (F.plan_of fs.old) running.new.start running.new.state) }
     ensures fewer { steps_left running.new.state < steps_left running.old.state }
     ensures within { steps_bound running.new.state + 1
-        ≤ steps_bound running.old.state + 3 * told_by (kept_deed_of result.0) result.1 }
-    ensures inserts { inserts_left running.new.state + inserted_in (kept_deed_of result.0) result.1
+        ≤ steps_bound running.old.state + 3 * told_by (kept_deed_of result.act) result.reply }
+    ensures inserts { inserts_left running.new.state + inserted_in (kept_deed_of result.act) result.reply
         ≤ inserts_left running.old.state }
 {
     let act = wanted(alloc, fs, running);
-    let reply = make_from(host, fs, &mut running.seat, &act);
-    let (shown, told) = told_twice(alloc, reply);
+    let mut told = make_from(host, fs, &mut running.seat, &act);
+    let reply = shown(alloc, &mut told);
     running.state.take(fs.plan(), told, &running.start);
-    (act, shown)
+    TraceStep { job, act, reply }
 }
 
 /// Takes the next step of the job of this number, and writes it down.
@@ -128,13 +133,6 @@ pub fn take_step<H: Host, F: SteppedFs>(
     ensures capacity { vec_capacity trace.old ≤ vec_capacity trace.new }
     ensures room { length trace.new.items + work running.new (F.tables fs.new) ≤ vec_capacity trace.new }
 {
-    let (act, reply) = advance(alloc, host, fs, &mut running[place as usize]);
-    push_within(
-        trace,
-        TraceStep {
-            job: place,
-            act,
-            reply,
-        },
-    );
+    let step = advance(alloc, host, fs, &mut running[place as usize], place);
+    push_within(trace, step);
 }

@@ -117,6 +117,8 @@ fn report_on(
         driven.now.fs.tables host.now)) }
 {
     let mut out = Vec::new(alloc);
+    // A line of a step has about so many bytes. Where there is no room for all, it is had as the lines come.
+    let _room = out.reserve(driven.trace.len().saturating_mul(64));
     push_steps(&mut out, driven.trace.as_slice())?;
     push_answers(&mut out, driven.answers.as_slice())?;
     push_tables(&mut out, &driven.fs)?;
