@@ -1,5 +1,5 @@
 -- What holds of every job, by what it asks: a request, or an edit.
-use Rattle.std.proofs.Common.{◌≡◌, false, List, [], None, refl}
+use Rattle.std.proofs.Common.{false, List, [], refl}
 use Rattle.pt_host.specs.declared.edit.Edit.{Edit}
 use Rattle.pt_host.specs.declared.reply.HostReply.TheVariants as host
 use Rattle.pt_host.specs.declared.seat.HostSeat.{HostSeat}

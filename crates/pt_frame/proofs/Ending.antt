@@ -1,23 +1,21 @@
 -- How the lists of a grammar end.
 use Rattle.std.proofs.Common.{◌≡◌, inl, inr, ℕ, zero, suc, nat_lt, Bool, true, false, List, [], ◌∷◌, Option, Some}
 use Rattle.std.proofs.Common.{None}
-use Rattle.std.proofs.Common.{refl, sym, subst, ap, length, cond}
+use Rattle.std.proofs.Common.{refl, sym, subst, length, cond}
 use Rattle.pt_host.specs.declared.ids.Errno.{Errno}
 use Rattle.pt_host.specs.declared.seat.HostSeat.{HostSeat}
-use Rattle.pt_iface.specs.declared.answer.Answer.{Answer}
 use Rattle.pt_iface.specs.declared.answer.Answer.TheVariants as answer
 use Rattle.pt_frame.specs.Deed.{Step}
 use Rattle.pt_frame.specs.Held.{is_scope, held, opened}
 use Rattle.pt_frame.specs.Replies.{closings_in, taken_in, fault_if, restored, is_cut, passes_with, refusal}
-use Rattle.pt_frame.specs.Grammar.{Grammar, End, Do, May, Belongs, Owed, owing, after, IsChosen}
+use Rattle.pt_frame.specs.Grammar.{Grammar, End, Do, May, Belongs, Owed, IsChosen}
 use Rattle.pt_frame.specs.Frame.{giving, give_slot, give_taken, closings, give, leave, or_lost, bare, bare_one, shut}
-use Rattle.pt_frame.specs.Frame.{front, behind, under, mark_in, outer, answered_by, answered, close_first, cut}
+use Rattle.pt_frame.specs.Frame.{front, behind, under, mark_in, outer, answered_by, close_first, cut}
 use Rattle.pt_frame.specs.Frame.{CutAfter}
 use Rattle.pt_frame.specs.Frame.{CutInFull}
 use Rattle.pt_frame.specs.Tree.{RequestTree, Gives, Refuses, Asks, Opens, Bares, Brackets, Shuts, Allocates, framed}
-use Rattle.pt_frame.specs.Tree.{may_give_up, or_gives_up, follows}
+use Rattle.pt_frame.specs.Tree.{may_give_up, follows}
 use Rattle.pt_frame.specs.Determined.{EndsSo, IsAnsweredInFull, IsDetermined}
-use Rattle.pt_frame.specs.declared.act.ActReply.{ActReply}
 use Rattle.pt_frame.specs.declared.finish.Finish.{Finish}
 use Rattle.pt_frame.specs.declared.finish.Finish.TheVariants as finish
 use Rattle.pt_frame.specs.declared.hold.Hold.{Hold}

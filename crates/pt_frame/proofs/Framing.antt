@@ -1,25 +1,24 @@
 -- What is left of a job, step by step.
-use Rattle.std.proofs.Common.{◌≡◌, ◌≢◌, ◌≤◌, inl, inr, ℕ, zero, suc, nat_lt, Bool, true, false, ◌||◌, List, [], ◌∷◌}
+use Rattle.std.proofs.Common.{◌≡◌, ◌≢◌, ◌≤◌, inl, inr, ℕ, zero, suc, nat_lt, Bool, true, false, List, [], ◌∷◌}
 use Rattle.std.proofs.Common.{length}
 use Rattle.std.proofs.Common.{Option, Some, None, refl, ap, sym, ◌∙◌, subst, cond, arith}
 use Rattle.std.proofs.lemmas.Bool.{lt-ltb, ltb-true}
-use Rattle.pt_host.specs.Call.{Call}
 use Rattle.pt_host.specs.declared.ids.Errno.{Errno}
 use Rattle.pt_host.specs.declared.seat.HostSeat.{HostSeat}
 use Rattle.pt_iface.specs.declared.answer.Answer.{Answer}
 use Rattle.pt_iface.specs.declared.answer.Answer.TheVariants as answer
-use Rattle.pt_frame.specs.Deed.{Deed, Calls, deed_of}
+use Rattle.pt_frame.specs.Deed.{Deed, deed_of}
 use Rattle.pt_frame.specs.Held.{held, opened, is_scope}
 use Rattle.pt_frame.specs.Replies.{closings_in, inserted_by, fault_if, refusal, restored, is_cut}
-use Rattle.pt_frame.specs.Grammar.{Grammar, End, Do, May, owing, owed_by, is_end, after, IsChosen, IsDo, IsSettled}
+use Rattle.pt_frame.specs.Grammar.{Grammar, End, Do, owing, owed_by, is_end, after, IsChosen, IsDo, IsSettled}
 use Rattle.pt_frame.specs.Grammar.{restores, told_closings, told_inserted, Wants}
-use Rattle.pt_frame.specs.Frame.{giving, closings, give, leave, or_lost, bare, bare_one, shut, front, behind, under}
+use Rattle.pt_frame.specs.Frame.{giving, closings, leave, or_lost, bare, bare_one, shut, front, behind, under}
 use Rattle.pt_frame.specs.Frame.{mark_in}
-use Rattle.pt_frame.specs.Frame.{outer, cut, close_first, answered}
+use Rattle.pt_frame.specs.Frame.{outer, cut, close_first}
 use Rattle.pt_frame.specs.Past.{or_first}
 use Rattle.pt_frame.specs.Tree.{RequestTree, Asks, Opens, Gives, Refuses, Bares, Brackets, Shuts, Allocates, framed}
 use Rattle.pt_frame.specs.Tree.{may_give_up, or_gives_up}
-use Rattle.pt_frame.specs.Machine.Next.{IsAsks, AsksFor, IsNext, asked, deed_in, with_memory, then_tree, edged}
+use Rattle.pt_frame.specs.Machine.Next.{IsAsks, AsksFor, IsNext, asked, deed_in, with_memory, then_tree}
 use Rattle.pt_frame.specs.Machine.Next.{bares_if, shuts_if, brackets_if}
 use Rattle.pt_frame.specs.Machine.Room.{act_brings, brings, deed_brings}
 use Rattle.pt_frame.specs.Machine.Left.{held_by, tops, bared, ended, marked, edges_left, mode_left, left_of}
@@ -39,7 +38,6 @@ use Rattle.pt_frame.specs.declared.hold.Taken.TheVariants as taken
 use Rattle.pt_frame.specs.declared.machine.body.Then.{Then}
 use Rattle.pt_frame.specs.declared.machine.body.Then.TheVariants as then
 use Rattle.pt_frame.specs.declared.machine.body.Shut.{Shut}
-use Rattle.pt_frame.specs.declared.machine.body.Edges.{Edges}
 use Rattle.pt_frame.specs.declared.machine.body.Next.{Next}
 use Rattle.pt_frame.specs.declared.machine.body.Next.TheVariants as next
 use Rattle.pt_frame.specs.declared.machine.mode.Mode.{Mode}

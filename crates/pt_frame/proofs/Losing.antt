@@ -1,15 +1,14 @@
 -- What the steps of a job that tends its seat did to it.
 use Rattle.std.proofs.Common.{◌≡◌, inl, inr, Bool, true, false, List, [], ◌∷◌, Option, Some, None, refl, ap, sym, ◌∙◌}
 use Rattle.std.proofs.Common.{subst}
-use Rattle.pt_host.specs.Call.{Call, HoldsBytes}
+use Rattle.pt_host.specs.Call.{Call}
 use Rattle.pt_host.specs.Sorts.{Sort, OpensWith, EndsFd, OfSeat, Plain, sort_of}
-use Rattle.pt_host.specs.declared.ids.Errno.{Errno}
 use Rattle.pt_host.specs.declared.seat.HostSeat.{HostSeat}
 use Rattle.pt_frame.specs.Deed.{Deed, Calls, Changes, Step, IsStepOf, MayFailToCopy}
 use Rattle.pt_frame.specs.Held.{is_scope}
 use Rattle.pt_frame.specs.Grammar.{Grammar, End, Do, May, Owed, Belongs}
 use Rattle.pt_frame.specs.Frame.{giving, cut, CutAfter}
-use Rattle.pt_frame.specs.Past.{is_open, is_restoring, ended, worn_called, worn_after, lost_after, Past, past_at}
+use Rattle.pt_frame.specs.Past.{is_open, is_restoring, worn_called, lost_after, Past}
 use Rattle.pt_frame.specs.Past.{past_after, past_made, past_from, KeepsGroups}
 use Rattle.pt_frame.specs.Tended.{IsFinish, IsBack, Tended}
 use Rattle.pt_frame.specs.declared.act.ActReply.{ActReply}

@@ -1,6 +1,6 @@
 -- The hold behind the last one, in the order in which holds are kept.
 use Rattle.std.proofs.Common.{◌≡◌, ◌≤◌, ◌<◌, ◌-◌, ℕ, List, [], ◌∷◌, length, reverse, drop, get_or, Option, Some, None}
-use Rattle.std.proofs.Common.{true, IfSome, Bor, refl, ap, sym, ◌∙◌, subst, arith}
+use Rattle.std.proofs.Common.{true, IfSome, Bor, ap, sym, ◌∙◌, subst, arith}
 use Rattle.std.specs.Option.{option_copied}
 use Rattle.std.proofs.lemmas.List.{get_or-reverse, length-reverse}
 use Rattle.pt_frame.specs.Frame.{behind}

@@ -15,7 +15,7 @@ use Rattle.pt_frame.specs.Held.{is_scope, held, opened}
 use Rattle.pt_frame.specs.Replies.{closings_in, taken_in, fault_if, is_cut, refusal, restored, passes_with}
 use Rattle.pt_frame.specs.Grammar.{Grammar, End, Do, May, Owed, owing, Belongs}
 use Rattle.pt_frame.specs.Frame.{giving, give_slot, give_taken, closings, give, leave, or_lost, bare_one, bare, shut}
-use Rattle.pt_frame.specs.Frame.{front, behind, under, mark_in, outer, answered_by, answered}
+use Rattle.pt_frame.specs.Frame.{front, behind, under, mark_in, outer, answered_by}
 use Rattle.pt_frame.specs.Memory.{RanOut}
 use Rattle.pt_frame.specs.Sparing.{IsNoMemory, IsSparing}
 use Rattle.pt_frame.specs.Tree.{RequestTree, Gives, Refuses, Asks, Opens, Bares, Brackets, Shuts, Allocates, framed}

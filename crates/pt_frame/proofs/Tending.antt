@@ -1,5 +1,5 @@
 -- A tree that tends its seat has a grammar that restores what it changed, whole and cut.
-use Rattle.std.proofs.Common.{◌≡◌, ◌≤◌, inl, inr, ℕ, zero, suc, nat_lt, Bool, true, false, ◌||◌, List, [], ◌∷◌}
+use Rattle.std.proofs.Common.{◌≡◌, ◌≤◌, inl, inr, ℕ, zero, suc, nat_lt, Bool, true, false, List, [], ◌∷◌}
 use Rattle.std.proofs.Common.{length}
 use Rattle.std.proofs.Common.{Option, Some, None, refl, ap, sym, ◌∙◌, subst, cond, arith}
 use Rattle.pt_host.specs.Call.{Call}
@@ -23,13 +23,13 @@ use Rattle.pt_frame.specs.Deed.{Deed, Calls, Changes}
 use Rattle.pt_frame.specs.Held.{is_scope, laid, fd_in, is_some_fd, is_same_fd, is_slot, noted, closed, slotted}
 use Rattle.pt_frame.specs.Held.{unslotted, handed, handed_of, row_fd, statted, held_called, held_changed, held}
 use Rattle.pt_frame.specs.Held.{opened}
-use Rattle.pt_frame.specs.Replies.{closings_in, event_refusal, fault_in, fault_if, refusal, restored, is_cut}
+use Rattle.pt_frame.specs.Replies.{closings_in, event_refusal, fault_in, fault_if, refusal, restored}
 use Rattle.pt_frame.specs.Replies.{passes_with, taken_in}
-use Rattle.pt_frame.specs.Grammar.{Grammar, End, Do, May, Owed, owing, IsChosen, IsDo, owed_by}
-use Rattle.pt_frame.specs.Frame.{giving, give_slot, give_taken, closings, give, leave, or_lost, bare, bare_one, shut}
-use Rattle.pt_frame.specs.Frame.{front, behind, under, mark_in, outer, answered_by, answered, close_first, cut}
+use Rattle.pt_frame.specs.Grammar.{Grammar, End, Do, May, owing, IsChosen, IsDo, owed_by}
+use Rattle.pt_frame.specs.Frame.{giving, give_slot, give_taken, closings, leave, or_lost, bare, bare_one, shut}
+use Rattle.pt_frame.specs.Frame.{front, behind, under, mark_in, outer, answered_by, close_first, cut}
 use Rattle.pt_frame.specs.Tree.{RequestTree, Gives, Refuses, Asks, Opens, Bares, Brackets, Shuts, Allocates, framed}
-use Rattle.pt_frame.specs.Tree.{may_give_up, or_gives_up, follows}
+use Rattle.pt_frame.specs.Tree.{may_give_up, follows}
 use Rattle.pt_frame.specs.Past.{ends_scope, is_open, is_restoring, ended, worn_called, worn_after, or_first}
 use Rattle.pt_frame.specs.Past.{lost_after, Past, past_at, past_after}
 use Rattle.pt_frame.specs.Tended.{IsUncut, IsFinish, is_seats_sort, is_of_seat, WearsTop, Wears, IsBack, IsRested}

@@ -9,7 +9,7 @@ use Rattle.pt_host.specs.declared.reply.HostReply.TheVariants as host
 use Rattle.pt_frame.specs.Deed.{Deed, Calls, Changes, Step}
 use Rattle.pt_frame.specs.Replies.{fault_if}
 use Rattle.pt_frame.specs.declared.act.ActReply.{ActReply}
-use Rattle.pt_frame.specs.declared.act.ActReply.TheVariants.{Event, Host, NoCopy}
+use Rattle.pt_frame.specs.declared.act.ActReply.TheVariants.{Host}
 
 -- the first call, made while the second is in effect, puts back what that one changed
 abbrev pub ends_scope : Call → Call → Bool

@@ -1,4 +1,4 @@
-use Rattle.std.proofs.Common.{◌≡◌, ◌∙◌, ap}
+use Rattle.std.proofs.Common.{◌∙◌, ap}
 use Rattle.pt_frame.specs.Tree.{RequestTree, grammar_of_tree}
 use Rattle.pt_attr.specs.Machine.Bodies.{any_left}
 use Rattle.pt_attr.specs.Machine.Job.{owes}

@@ -1,4 +1,4 @@
-use Rattle.std.proofs.Common.{◌≡◌, ◌-◌, IfSome, get_or, subst, sym}
+use Rattle.std.proofs.Common.{◌≡◌, ◌-◌, IfSome, get_or, subst}
 use Rattle.pt_frame.proofs.Second.{second_copied}
 use Rattle.pt_frame.proofs.hold.Holds.second.Goals as goal
 

@@ -1,5 +1,4 @@
-use Rattle.std.proofs.Common.{◌≤◌, ◌+◌, ◌∙◌, ap, length, arith}
-use Rattle.pt_frame.specs.Machine.Room.{most_holds}
+use Rattle.std.proofs.Common.{◌∙◌, arith}
 use Rattle.pt_frame.proofs.Framing.{body_went, asks_closings, asks_inserted, asks_brings}
 use Rattle.pt_frame.proofs.machine.framed.body_stepped.Goals as goal
 

@@ -1,5 +1,3 @@
-use Rattle.std.proofs.Common.{◌∙◌, sym, ap}
-use Rattle.pt_frame.specs.Machine.Job.{is_finished}
 use Rattle.pt_frame.proofs.Framing.{cut_left, stood}
 use Rattle.pt_frame.proofs.machine.framed.Framed.cut.Goals as goal
 

@@ -1,4 +1,4 @@
-use Rattle.std.proofs.Common.{◌≡◌, ◌∷◌, ◌∙◌, sym, subst, ap, drop}
+use Rattle.std.proofs.Common.{◌≡◌, ◌∷◌, sym, subst, drop}
 use Rattle.pt_frame.specs.Grammar.{Wants}
 use Rattle.pt_frame.specs.Frame.{behind}
 use Rattle.pt_frame.specs.declared.act.Want.TheVariants as want
