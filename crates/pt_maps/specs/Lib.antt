@@ -1,0 +1,6 @@
+-- Inner. The files of definitions, lowest first.
+pub mod Rule
+pub mod Refusal
+pub mod Translated
+pub mod Index
+pub mod Laws
