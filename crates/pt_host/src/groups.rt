@@ -46,7 +46,8 @@ impl Groups {
     }
 
     pub fn as_slice(&self) -> &[u32]
-        ensures { result.now ≡ self.now }
+        ensures groups { result.now ≡ self.now }
+        ensures most { length result.now ≤ 32 }
     {
         self.kept.as_slice()
     }
