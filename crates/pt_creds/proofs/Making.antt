@@ -8,7 +8,6 @@ use Rattle.pt_host.specs.SeatCalls.{seat_row}
 use Rattle.pt_host.specs.SeatStep.{SeatStep, RowAnswers, row_left}
 use Rattle.pt_host.specs.declared.ids.Errno.{Errno}
 use Rattle.pt_host.specs.declared.seat.HostSeat.{HostSeat}
-use Rattle.pt_host.specs.declared.op.KeptHostOp.TheVariants as call
 use Rattle.pt_host.specs.declared.reply.HostReply.{HostReply}
 use Rattle.pt_host.specs.declared.reply.HostReply.TheVariants as reply
 use Rattle.pt_creds.specs.Calls.{Does, Made, Makes, asked_in, IsDone, AllDone, FailsWith, FirstFails, FirstFaults}

@@ -1,5 +1,5 @@
 -- The calls back of a `set` lead to the seat from before, and none of them is refused.
-use Rattle.std.proofs.Common.{◌≡◌, ◌≢◌, ℕ, Bool, true, false, ◌==◌, ◌&&◌, not, cond, List, [], ◌∷◌, ◌++◌, Option}
+use Rattle.std.proofs.Common.{◌≡◌, ℕ, Bool, true, false, ◌==◌, ◌&&◌, not, cond, List, [], ◌∷◌, ◌++◌, Option}
 use Rattle.std.proofs.Common.{Some, None, is_some, length, refl, sym, ap, ap₂, ◌∙◌, subst, le-leb, ne_eqb, eq-eqb}
 use Rattle.std.specs.Prelude.{nat_le}
 use Rattle.pt_host.specs.Call.{Call}

@@ -4,3 +4,6 @@ pub mod Apart
 pub mod Indexing
 pub mod Whole
 pub mod Unambiguous
+pub mod NameRules
+pub mod ListedNames
+pub mod Terminated

@@ -1,5 +1,5 @@
 -- Believed. What rules mean, whatever code looks them up.
-use Rattle.std.specs.Prelude.{◌≡◌, ◌↔◌, ℕ, ◌+◌, ◌-◌, List, true, Some, None, slice_get}
+use Rattle.std.specs.Prelude.{◌≡◌, ◌↔◌, ℕ, ◌+◌, ◌-◌, List, true, Some, None, IsSome, slice_get}
 use Rattle.pt_maps.specs.declared.range.IdRange.{IdRange}
 use Rattle.pt_maps.specs.declared.rule.IdRule.{IdRule}
 use Rattle.pt_maps.specs.declared.rule.IdRule.TheVariants.{ForbidGuest, Map}
@@ -7,6 +7,9 @@ use Rattle.pt_maps.specs.declared.rule.Direction.{Direction}
 use Rattle.pt_maps.specs.Rule.{ids_from, holds, meets, source}
 use Rattle.pt_maps.specs.Refusal.{AreAccepted}
 use Rattle.pt_maps.specs.Translated.{to_host, to_guest}
+use Rattle.pt_maps.specs.declared.xattr_rule.XattrRule.{XattrRule}
+use Rattle.pt_maps.specs.NameRules.{is_terminated}
+use Rattle.pt_maps.specs.MappedNames.{client_name, server_list}
 
 -- some id lies in both ranges
 pub record HaveCommonId (one other : IdRange) : Type 0 where
@@ -46,3 +49,8 @@ abbrev pub MapBothWays : Type 0
 MapBothWays = (rules : List IdRule) (place guest host count id : ℕ) → AreAccepted rules →
     slice_get rules place ≡ Some (Map guest host count) → holds (ids_from guest count) id ≡ true →
     (to_host rules id ≡ Some (host + (id - guest))) × (to_guest rules (host + (id - guest)) ≡ id)
+
+-- rules of which some meets every name say something of each of the client's, and of each list of the host's
+abbrev pub TerminatedMeetAll : Type 0
+TerminatedMeetAll = (rules : List XattrRule) → is_terminated rules ≡ true →
+    ((name : List ℕ) → IsSome (client_name rules name)) × ((list : List ℕ) → IsSome (server_list rules list))

@@ -2,5 +2,7 @@
 pub mod Rule
 pub mod Refusal
 pub mod Translated
+pub mod NameRules
+pub mod MappedNames
 pub mod Index
 pub mod Laws

@@ -10,6 +10,8 @@ pub enum MapError {
     PastEnd(u64),
     /// The guest may not use this id.
     Forbidden(u32),
+    /// No rule meets the name.
+    Unmet,
     Memory,
 }
 

@@ -1,4 +1,4 @@
-ghost use Rattle.pt_maps.specs.Laws.{MeetInAnId, HaveOneRule, ForbiddenAlone, MapBothWays};
+ghost use Rattle.pt_maps.specs.Laws.{MeetInAnId, HaveOneRule, ForbiddenAlone, MapBothWays, TerminatedMeetAll};
 
 /// Accepted rules say of each id one thing in each direction.
 pub fn rules_are_unambiguous()
@@ -6,4 +6,9 @@ pub fn rules_are_unambiguous()
     ensures one_rule { HaveOneRule }
     ensures forbidden { ForbiddenAlone }
     ensures both_ways { MapBothWays }
+{}
+
+/// Terminated rules for names leave none unmet.
+pub fn terminated_rules_meet_all()
+    ensures { TerminatedMeetAll }
 {}
