@@ -1,6 +1,6 @@
 -- The names of a list, told one after another.
-use Rattle.std.proofs.Common.{◌≡◌, ℕ, zero, suc, ◌+◌, ◌<◌, ◌≤◌, List, [], ◌∷◌, ◌++◌, length, take, drop, get_or, map, Option, Some}
-use Rattle.std.proofs.Common.{None, refl, sym, ap, ◌∙◌, append-nil, append_assoc}
+use Rattle.std.proofs.Common.{◌≡◌, ℕ, zero, suc, ◌+◌, ◌<◌, ◌≤◌, List, [], ◌∷◌, ◌++◌, length, take, drop, get_or, map}
+use Rattle.std.proofs.Common.{Option, Some, None, refl, sym, ap, ◌∙◌, append-nil, append_assoc}
 use Rattle.std.specs.Prelude.{option_map, option_and_then}
 use Rattle.std.specs.Borrow.{Bor}
 use Rattle.std.proofs.lemmas.List.{take_more, take_all, take-append-drop}
@@ -14,7 +14,8 @@ alone (Some one) = ap (λ names. Some names) (append-nil one)
 
 behind : (one : List ℕ) (front last : Option (List ℕ)) →
     option_map (λ others. one ++ others) (option_and_then (λ before. option_map (λ name. before ++ name) last) front)
-    ≡ option_and_then (λ before. option_map (λ name. before ++ name) last) (option_map (λ others. one ++ others) front)
+    ≡ option_and_then (λ before. option_map (λ name. before ++ name) last)
+    (option_map (λ others. one ++ others) front)
 behind one None last = refl
 behind one (Some before) None = refl
 behind one (Some before) (Some name) = ap (λ names. Some names) (sym (append_assoc one before name))
@@ -30,7 +31,8 @@ first_and_behind (Some one) front last = behind one front last
 -- a name more
 listed_on : (rules : List XattrRule) (front : List (List ℕ)) (name : List ℕ) →
     listed_names rules (front ++ name ∷ [])
-    ≡ option_and_then (λ before. option_map (λ one. before ++ one) (listed_name rules name)) (listed_names rules front)
+    ≡ option_and_then (λ before. option_map (λ one. before ++ one) (listed_name rules name))
+    (listed_names rules front)
 listed_on rules [] name = alone (listed_name rules name)
 listed_on rules (first ∷ front) name =
     ap (λ rest. option_and_then (λ one. option_map (λ others. one ++ others) rest) (listed_name rules first))

@@ -70,9 +70,11 @@ terminated_meet_all rules is =
     (list_any (meets_all OfServer) (all_rules rules)) is in (
       λ name. mapped_some (λ rule. for_client name rule.kind rule.prepend)
           (find (meets_name OfClient name) (all_rules rules))
-          (finds (meets_all OfClient) (meets_name OfClient name) (meets_each OfClient name) (all_rules rules) sides.0),
+          (finds (meets_all OfClient) (meets_name OfClient name) (meets_each OfClient name) (all_rules rules)
+          sides.0),
       λ list. all_listed rules (λ name. mapped_some (λ rule. for_list name rule.kind rule.prepend)
           (find (meets_name OfServer name) (all_rules rules))
-          (finds (meets_all OfServer) (meets_name OfServer name) (meets_each OfServer name) (all_rules rules) sides.1))
+          (finds (meets_all OfServer) (meets_name OfServer name) (meets_each OfServer name) (all_rules rules)
+          sides.1))
           (names_in list),
     )

@@ -21,8 +21,8 @@ pub record NameRule : Type 0 where
 abbrev pub name_rule : RuleKind → RuleScope → List ℕ → List ℕ → NameRule
 name_rule kind scope key prepend = record { kind = kind; scope = scope; key = key; prepend = prepend }
 
--- `map`: names get the prepend. Without a key all do, and the host's other names are hidden. With a key the client may
--- not use names that begin with the prepend, nor see such as begin with the key; all others pass.
+-- `map`: names get the prepend. Without a key all do, and the host's other names are hidden. With a key the client
+-- may not use names that begin with the prepend, nor see such as begin with the key; all others pass.
 abbrev pub mapped : List ℕ → List ℕ → List NameRule
 mapped [] prepend =
     name_rule kind.Prefix scope.All [] prepend
@@ -66,4 +66,5 @@ meets_all side rule = covers rule.scope side && length (front_of side rule) == 0
 
 -- a rule meets every name from the client, and one every name that the host lists
 abbrev pub is_terminated : List XattrRule → Bool
-is_terminated rules = list_any (meets_all OfClient) (all_rules rules) && list_any (meets_all OfServer) (all_rules rules)
+is_terminated rules =
+    list_any (meets_all OfClient) (all_rules rules) && list_any (meets_all OfServer) (all_rules rules)

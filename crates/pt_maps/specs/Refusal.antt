@@ -1,5 +1,5 @@
--- Believed. Which rules are refused: the source ranges of one direction must not overlap, as virtiofsd's documentation
--- of `--translate-uid` asks, and ranges end at 2^32, the number of ids, at most.
+-- Believed. Which rules are refused: the source ranges of one direction must not overlap, as the documentation of
+-- `--translate-uid` asks, and ranges end at 2^32, the number of ids, at most.
 use Rattle.std.specs.Prelude.{◌≡◌, ℕ, ◌<◌, List, Bool, ◌||◌, if◌then◌else◌, Option, Some, None, length, take}
 use Rattle.std.specs.Prelude.{slice_get, option_and_then}
 use Rattle.std.specs.List.{list_any}

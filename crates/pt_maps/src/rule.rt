@@ -6,8 +6,7 @@ ghost use Rattle.pt_maps.specs.declared.rule.IdRule.TheVariants.{ForbidGuest};
 use crate::range::IdRange;
 
 /// A rule for ids, as the options `--translate-uid` and `--translate-gid` of virtiofsd give it. Its numbers are the
-/// first id of a range, what
-/// that id becomes, and how many ids the range has.
+/// first id of a range, what that id becomes, and how many ids the range has.
 #[derive(Clone, Copy, Debug, PartialEq, Eq)]
 pub enum IdRule {
     /// The guest's ids become ids of the host, one for one.

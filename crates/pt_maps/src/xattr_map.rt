@@ -1,4 +1,5 @@
-ghost use Rattle.std.specs.Prelude.{◌≡◌, ◌≢◌, ◌++◌, Some, None, IfOk, IfErr, IfSome, OnOk, IsTrue, true, map, option_map};
+ghost use Rattle.std.specs.Prelude.{◌≡◌, ◌≢◌, ◌++◌, Some, None, IfOk, IfErr, IfSome, OnOk, IsTrue, map};
+ghost use Rattle.std.specs.Prelude.{option_map};
 ghost use Rattle.std.specs.List.{list_any};
 ghost use Rattle.pt_maps.specs.NameRules.{all_rules, is_terminated, meets_name, meets_all};
 ghost use Rattle.pt_maps.specs.MappedNames.{met_rule, client_name, listed_name, names_in, server_list, ended};

@@ -149,8 +149,8 @@ impl XattrRule {
             }
         }
     }
-    /// Whether one of the plain rules that it stands for meets every name from this side. That of a `map` which stands
-    /// last always does.
+
+    /// Whether one of the plain rules that it stands for meets every name from this side, as the last of a `map` does.
     pub(crate) fn any_meets_all(&self, side: Side) -> bool
         ensures { result ≡ list_any (meets_all side) (rules_of self.now) }
     {
