@@ -10,7 +10,8 @@ use Rattle.pt_host.specs.declared.ids.Errno.{Errno}
 use Rattle.pt_host.specs.declared.seat.HostSeat.{HostSeat}
 use Rattle.pt_host.specs.declared.reply.HostReply.{HostReply}
 use Rattle.pt_host.specs.declared.reply.HostReply.TheVariants as reply
-use Rattle.pt_creds.specs.Calls.{Does, Made, Makes, asked_in, IsDone, AllDone, FailsWith, FirstFails, FirstFaults}
+use Rattle.pt_creds.specs.Calls.{Does, CallMade, CallsLead, asked_in, IsDone, AllDone, FailsWith, FirstFails}
+use Rattle.pt_creds.specs.Calls.{FirstFaults}
 use Rattle.pt_creds.specs.Calls.{IsOutcome, IsOutcomeOf}
 use Rattle.pt_creds.specs.Guard.{Guarded, calls_back}
 use Rattle.pt_creds.specs.Progress.{Plays, FitsSeat, TellsWhy, IsUndone}
@@ -22,32 +23,33 @@ Law {H} does faults =
     (host : H) (seat : HostSeat) (asked : Call) (told : HostReply) (after : H) (seat_after : HostSeat) →
     does host seat asked told after seat_after → IsPromised (faults host) seat asked told (faults after) seat_after
 
-pub makes_on : {H : Type 0} (does : Does H) (first second : List Made) (h0 h1 h2 : H) (s0 s1 s2 : HostSeat) →
-    Makes does first h0 s0 h1 s1 → Makes does second h1 s1 h2 s2 → Makes does (first ++ second) h0 s0 h2 s2
+pub makes_on : {H : Type 0} (does : Does H) (first second : List CallMade) (h0 h1 h2 : H) (s0 s1 s2 : HostSeat) →
+    CallsLead does first h0 s0 h1 s1 → CallsLead does second h1 s1 h2 s2 →
+    CallsLead does (first ++ second) h0 s0 h2 s2
 makes_on does [] second h0 h1 h2 s0 s1 s2 before after = rw (← before.0, ← before.1) after
 makes_on does (made ∷ first) second h0 h1 h2 s0 s1 s2 before after =
     (before.0, before.1, before.2, makes_on does first second before.0 h1 h2 before.1 s1 s2 before.3 after)
 
-pub asked_on : (first second : List Made) → asked_in (first ++ second) ≡ asked_in first ++ asked_in second
+pub asked_on : (first second : List CallMade) → asked_in (first ++ second) ≡ asked_in first ++ asked_in second
 asked_on [] second = refl
 asked_on (made ∷ first) second = ap (λ asked. made.asked ∷ asked) (asked_on first second)
 
-pub done_on : (first second : List Made) → AllDone first → AllDone second → AllDone (first ++ second)
+pub done_on : (first second : List CallMade) → AllDone first → AllDone second → AllDone (first ++ second)
 done_on [] second done also = also
 done_on (made ∷ first) second done also = (done.0, done_on first second done.1 also)
 
-fails_before : (first second : List Made) (errno : Errno) → FirstFails first errno →
+fails_before : (first second : List CallMade) (errno : Errno) → FirstFails first errno →
     FirstFails (first ++ second) errno
 fails_before [] second errno fails = absurd fails
 fails_before (made ∷ first) second errno (inl fails) = inl fails
 fails_before (made ∷ first) second errno (inr later) = inr (later.0, fails_before first second errno later.1)
 
-fails_behind : (first second : List Made) (errno : Errno) → AllDone first → FirstFails second errno →
+fails_behind : (first second : List CallMade) (errno : Errno) → AllDone first → FirstFails second errno →
     FirstFails (first ++ second) errno
 fails_behind [] second errno done fails = fails
 fails_behind (made ∷ first) second errno done fails = inr (done.0, fails_behind first second errno done.1 fails)
 
-outcome_on : (first second : List Made) (one other : Result Unit Errno) → IsOutcomeOf first one →
+outcome_on : (first second : List CallMade) (one other : Result Unit Errno) → IsOutcomeOf first one →
     IsOutcomeOf second other →
     IsOutcomeOf (first ++ second) (result_and one other)
 outcome_on first second (Ok done) (Ok also) one other = done_on first second one other
@@ -66,7 +68,7 @@ plays_on does first second h0 h1 h2 s0 s1 s2 one other before after = (
   outcome_on before.0 after.0 one other before.3 after.3,
 )
 
-outcome_of_one : (made : Made) (result : Result Unit Errno) → IsOutcome made.told result →
+outcome_of_one : (made : CallMade) (result : Result Unit Errno) → IsOutcome made.told result →
     IsOutcomeOf (made ∷ []) result
 outcome_of_one made (Ok done) is = (is, tt)
 outcome_of_one made (Err errno) is = inl is
@@ -77,7 +79,7 @@ pub plays_one : {H : Type 0} (does : Does H) (asked : Call) (h0 h1 : H) (s0 s1 :
     ((told : HostReply) × does h0 s0 asked told h1 s1 × IsOutcome told result) →
     Plays does (asked ∷ []) h0 s0 h1 s1 result
 plays_one does asked h0 h1 s0 s1 result made =
-    let only : Made = record { asked = asked; told = made.0 } in
+    let only : CallMade = record { asked = asked; told = made.0 } in
     (only ∷ [], (h1, s1, made.1, (refl, refl)), refl, outcome_of_one only result made.2)
 
 pub plays_none : {H : Type 0} (does : Does H) (h0 : H) (s0 : HostSeat) → Plays does [] h0 s0 h0 s0 (Ok tt)
@@ -87,7 +89,8 @@ plays_none does h0 s0 = ([], (refl, refl), refl, tt)
 pub undoes : {H : Type 0} (does : Does H) (asked : Call) (guard : Guarded) (h0 h1 h2 : H) (s0 s1 s2 : HostSeat)
     (errno : Errno) (why : CredError) →
     ((told : HostReply) × does h0 s0 asked told h1 s1 × IsOutcome told (Err errno)) →
-    ((back : List Made) × Makes does back h1 s1 h2 s2 × (asked_in back ≡ calls_back guard) × TellsWhy back errno why ×
+    ((back : List CallMade) × CallsLead does back h1 s1 h2 s2 × (asked_in back ≡ calls_back guard) ×
+    TellsWhy back errno why ×
     FitsSeat guard.groups) →
     IsUndone does (asked ∷ []) guard h0 s0 h2 s2 why
 undoes does asked guard h0 h1 h2 s0 s1 s2 errno why refused back = record {
@@ -127,8 +130,8 @@ stayed seat asked reply.NoMemory after errno step fails = absurd fails
 
 -- calls that are all Ok lead the seat
 pub leads : {H : Type 0} (does : Does H) (faults : H → ℕ) → Law does faults →
-    (made : List Made) (h0 h1 : H) (s0 s1 : HostSeat) →
-    Makes does made h0 s0 h1 s1 → AllDone made → s1 ≡ led s0 (asked_in made)
+    (made : List CallMade) (h0 h1 : H) (s0 s1 : HostSeat) →
+    CallsLead does made h0 s0 h1 s1 → AllDone made → s1 ≡ led s0 (asked_in made)
 leads does faults law [] h0 h1 s0 s1 makes done = makes.1
 leads does faults law (made ∷ rest) h0 h1 s0 s1 makes done =
     let first = went s0 made.asked made.told makes.1 (law h0 s0 made.asked made.told makes.0 makes.1 makes.2).seats
@@ -137,8 +140,8 @@ leads does faults law (made ∷ rest) h0 h1 s0 s1 makes done =
 
 -- the count of faults never falls
 pub never_falls : {H : Type 0} (does : Does H) (faults : H → ℕ) → Law does faults →
-    (made : List Made) (h0 h1 : H) (s0 s1 : HostSeat) →
-    Makes does made h0 s0 h1 s1 → faults h0 ≤ faults h1
+    (made : List CallMade) (h0 h1 : H) (s0 s1 : HostSeat) →
+    CallsLead does made h0 s0 h1 s1 → faults h0 ≤ faults h1
 never_falls does faults law [] h0 h1 s0 s1 makes = let e = ap faults makes.0 in omega arith
 never_falls does faults law (made ∷ rest) h0 h1 s0 s1 makes =
     let first = (law h0 s0 made.asked made.told makes.0 makes.1 makes.2).never_falls in
@@ -184,8 +187,8 @@ fault_at before mid after seat asked reply.NoMemory between errno Later Then law
 
 -- Where none of the calls may be refused, the first that is not Ok is a fault, and the host's count shows it.
 pub fails_by_fault : {H : Type 0} (does : Does H) (faults : H → ℕ) → Law does faults →
-    (made : List Made) (h0 h1 : H) (s0 s1 : HostSeat) (errno : Errno) →
-    Makes does made h0 s0 h1 s1 → IsSure s0 (asked_in made) → FirstFails made errno →
+    (made : List CallMade) (h0 h1 : H) (s0 s1 : HostSeat) (errno : Errno) →
+    CallsLead does made h0 s0 h1 s1 → IsSure s0 (asked_in made) → FirstFails made errno →
     FirstFaults made errno × HasRisen (faults h0) (faults h1)
 fails_by_fault does faults law [] h0 h1 s0 s1 errno makes sure fails = absurd fails
 fails_by_fault does faults law (made ∷ rest) h0 h1 s0 s1 errno makes sure fails =

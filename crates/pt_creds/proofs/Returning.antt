@@ -8,9 +8,9 @@ use Rattle.pt_host.specs.Seat.{with_euid, caps_as, may_set_groups}
 use Rattle.pt_host.specs.declared.flags.Caps.{Caps}
 use Rattle.pt_host.specs.declared.seat.HostSeat.{HostSeat}
 use Rattle.pt_creds.specs.Identity.{Credentials, IsWhole, uid_under, id_under, groups_under, caps_under, seat_under}
-use Rattle.pt_creds.specs.Identity.{dac_override}
+use Rattle.pt_creds.specs.Identity.{override_cap}
 use Rattle.pt_creds.specs.Guard.{euid_calls, egid_calls, groups_calls, calls_back}
-use Rattle.pt_creds.specs.Steps.{id_to_set, steps_of, was, changes_of}
+use Rattle.pt_creds.specs.Steps.{id_to_set, cred_steps, was, changes_of}
 use Rattle.pt_creds.specs.Progress.{FitsSeat}
 use Rattle.pt_creds.proofs.Making.{led, IsSure, goes_to}
 use Rattle.pt_creds.proofs.Seats.{IdCase, left, kept, other, id_case, own_taken}
@@ -30,7 +30,7 @@ not_left true = refl
 not_left false = refl
 
 abbrev caps_if : Bool → Bool → Caps → Caps
-caps_if leaves raised caps = cond leaves (cond raised dac_override (record { 0 = 0 })) caps
+caps_if leaves raised caps = cond leaves (cond raised override_cap (record { 0 = 0 })) caps
 
 pub caps_same : (creds : Credentials) (raised : Bool) (before : HostSeat) →
     uid_under creds before ≡ before.eff_uid →
@@ -131,7 +131,7 @@ way_back creds raised before whole = record {
 }
 
 pub comes_back : (creds : Credentials) (raised : Bool) (before : HostSeat) → IsWhole before →
-    led (seat_under creds raised before) (calls_back (changes_of (steps_of creds before) before)) ≡ before
+    led (seat_under creds raised before) (calls_back (changes_of (cred_steps creds before) before)) ≡ before
 comes_back creds raised before whole =
     let seat : HostSeat = seat_under creds raised before in
     let euid : List Call = euid_calls (was (id_to_set creds.uid before.eff_uid) before.eff_uid) in
@@ -175,7 +175,7 @@ sure_groups (Some group) before seat allowed fits = (
 pub sure_back : (creds : Credentials) (raised : Bool) (before : HostSeat) → IsWhole before →
     (is_some creds.sup_gid ≡ true → includes before.eff_caps.0 cap_setgid ≡ true) →
     FitsSeat (was creds.sup_gid before.groups) →
-    IsSure (seat_under creds raised before) (calls_back (changes_of (steps_of creds before) before))
+    IsSure (seat_under creds raised before) (calls_back (changes_of (cred_steps creds before) before))
 sure_back creds raised before whole allowed fits =
     let seat : HostSeat = seat_under creds raised before in
     let euid : List Call = euid_calls (was (id_to_set creds.uid before.eff_uid) before.eff_uid) in

@@ -14,14 +14,14 @@ use Rattle.pt_host.specs.declared.seat.HostSeat.{HostSeat}
 use Rattle.pt_host.specs.declared.op.KeptHostOp.TheVariants as call
 use Rattle.pt_host.specs.declared.reply.HostReply.{HostReply}
 use Rattle.pt_host.specs.declared.reply.HostReply.TheVariants as reply
-use Rattle.pt_creds.specs.Calls.{Does, Made, Makes, asked_in, IsDone, AllDone, FirstFaults}
+use Rattle.pt_creds.specs.Calls.{Does, CallMade, CallsLead, asked_in, IsDone, AllDone, FirstFaults}
 use Rattle.pt_creds.specs.Identity.{Credentials, IsWhole, uid_under, gid_under, id_under, groups_under, leaves_root}
 use Rattle.pt_creds.specs.Identity.{caps_under}
-use Rattle.pt_creds.specs.Identity.{seat_under, dac_override}
+use Rattle.pt_creds.specs.Identity.{seat_under, override_cap}
 use Rattle.pt_creds.specs.Guard.{Guarded, no_change, if_any, euid_calls, egid_calls, calls_back}
-use Rattle.pt_creds.specs.Steps.{id_to_set, steps_of, group_calls, raise_calls, calls_of, was, changes_of, guard_of}
+use Rattle.pt_creds.specs.Steps.{id_to_set, cred_steps, group_calls, raise_calls, calls_of, was, changes_of, guard_of}
 use Rattle.pt_creds.specs.Steps.{back_from}
-use Rattle.pt_creds.specs.Progress.{Plays, FitsSeat, IsUndone, with_uid, with_gid, with_groups}
+use Rattle.pt_creds.specs.Progress.{Plays, FitsSeat, IsUndone, keeping_uid, keeping_gid, keeping_groups}
 use Rattle.pt_creds.specs.Setting.{MayFail, AllPass, IsTakenBack, Sets, raises, has_raised, LeavesSeat}
 use Rattle.pt_creds.specs.Setting.{RisesWhereLost, IsLeftBy}
 use Rattle.pt_creds.specs.declared.error.CredError.{CredError}
@@ -146,8 +146,8 @@ may_at seat list reply.NoMemory after step done = absurd done
 
 -- groups were set by the capability for it
 pub allowed : {H : Type 0} (does : Does H) (faults : H → ℕ) → Law does faults →
-    (o : Option ℕ) (made : List Made) (h0 h1 : H) (s0 s1 : HostSeat) →
-    Makes does made h0 s0 h1 s1 → asked_in made ≡ group_calls o → AllDone made → is_some o ≡ true →
+    (o : Option ℕ) (made : List CallMade) (h0 h1 : H) (s0 s1 : HostSeat) →
+    CallsLead does made h0 s0 h1 s1 → asked_in made ≡ group_calls o → AllDone made → is_some o ≡ true →
     includes s0.eff_caps.0 cap_setgid ≡ true
 allowed does faults law None made h0 h1 s0 s1 makes asked done some = absurd (cc)
 allowed does faults law (Some group) [] h0 h1 s0 s1 makes asked done some = absurd (cc)
@@ -158,25 +158,31 @@ allowed does faults law (Some group) (one ∷ rest) h0 h1 s0 s1 makes asked done
     may_at s0 (group ∷ []) one.told makes.1 (subst (λ a. SeatStep s0 a one.told makes.1) head step) done.0
 
 -- a refused step whose earlier ones were taken back
-pub record Undone {H : Type 0} (faults : H →
-    ℕ) (before : HostSeat) (h0 h1 : H) (s1 : HostSeat) (back : List Made) (errno : Errno) (why : CredError) : Type 0
-  where
-    pub taken : IsTakenBack back errno why
-    pub seat : (e : Errno) → why ≡ error.Host e → s1 ≡ before
-    pub lost : RisesWhereLost (faults h0) (faults h1) why
+pub record Undone {H : Type 0}
+    (faults : H → ℕ)
+    (before : HostSeat)
+    (h0 h1 : H)
+    (s1 : HostSeat)
+    (back : List CallMade)
+    (errno : Errno)
+    (why : CredError)
+    : Type 0 where
+  pub taken : IsTakenBack back errno why
+  pub seat : (e : Errno) → why ≡ error.Host e → s1 ≡ before
+  pub lost : RisesWhereLost (faults h0) (faults h1) why
 
 pub undone : {H : Type 0} (does : Does H) (faults : H → ℕ) → Law does faults →
     (creds : Credentials) (before : HostSeat) → IsWhole before →
     (is_some creds.sup_gid ≡ true → includes before.eff_caps.0 cap_setgid ≡ true) →
     (calls : List Call) (guard : Guarded) (h0 h1 : H) (s0 s1 : HostSeat) (why : CredError) →
-    s0 ≡ seat_under creds false before → guard ≡ changes_of (steps_of creds before) before →
+    s0 ≡ seat_under creds false before → guard ≡ changes_of (cred_steps creds before) before →
     (u : IsUndone does calls guard h0 s0 h1 s1 why) → Undone faults before h0 h1 s1 u.back u.errno why
 undone does faults law creds before whole may calls guard h0 h1 s0 s1 (error.Host told) seat is u =
     let m = u.makes in
     let stays : m.1 ≡ seat_under creds false before =
     stayed s0 u.refused.asked u.refused.told m.1 u.errno
     (law h0 s0 u.refused.asked u.refused.told m.0 m.1 m.2).seats u.refusal ∙ seat in
-    let asked : asked_in u.back ≡ calls_back (changes_of (steps_of creds before) before) =
+    let asked : asked_in u.back ≡ calls_back (changes_of (cred_steps creds before) before) =
     u.taken_back ∙ ap calls_back is in
     record {
       taken = u.tells;
@@ -189,9 +195,9 @@ undone does faults law creds before whole may calls guard h0 h1 s0 s1 (error.Los
     let first = law h0 s0 u.refused.asked u.refused.told m.0 m.1 m.2 in
     let stays : m.1 ≡ seat_under creds false before =
     stayed s0 u.refused.asked u.refused.told m.1 u.errno first.seats u.refusal ∙ seat in
-    let asked : asked_in u.back ≡ calls_back (changes_of (steps_of creds before) before) =
+    let asked : asked_in u.back ≡ calls_back (changes_of (cred_steps creds before) before) =
     u.taken_back ∙ ap calls_back is in
-    let sure : IsSure (seat_under creds false before) (calls_back (changes_of (steps_of creds before) before)) =
+    let sure : IsSure (seat_under creds false before) (calls_back (changes_of (cred_steps creds before) before)) =
     sure_back creds false before whole may (subst (λ (g : Guarded). FitsSeat g.groups) is u.fits) in
     let sure_there : IsSure m.1 (asked_in u.back) =
     subst (λ s. IsSure s (asked_in u.back)) (sym stays)
@@ -232,12 +238,12 @@ back_gid (Some group) (Some gid) seat = refl
 
 -- what is kept, step by step
 kept_group : (o : Option ℕ) (seat : HostSeat) →
-    with_groups o seat no_change ≡ record { uid = None; gid = None; groups = was o seat.groups }
+    keeping_groups o seat no_change ≡ record { uid = None; gid = None; groups = was o seat.groups }
 kept_group None seat = refl
 kept_group (Some group) seat = refl
 
 kept_gid : (o p : Option ℕ) (before seat : HostSeat) → seat.eff_gid ≡ before.eff_gid →
-    with_gid p seat (with_groups o before no_change)
+    keeping_gid p seat (keeping_groups o before no_change)
     ≡ record { uid = None; gid = was p before.eff_gid; groups = was o before.groups }
 kept_gid None None before seat same = refl
 kept_gid (Some group) None before seat same = refl
@@ -247,7 +253,7 @@ kept_gid (Some group) (Some gid) before seat same = let G : ℕ → Guarded =
     λ g. record { uid = None; gid = Some g; groups = Some before.groups } in ap G same
 
 kept_uid : (o p q : Option ℕ) (before seat : HostSeat) → seat.eff_uid ≡ before.eff_uid →
-    with_uid q seat (record { uid = None; gid = was p before.eff_gid; groups = was o before.groups })
+    keeping_uid q seat (record { uid = None; gid = was p before.eff_gid; groups = was o before.groups })
     ≡ record { uid = was q before.eff_uid; gid = was p before.eff_gid; groups = was o before.groups }
 kept_uid o p None before seat same = refl
 kept_uid o p (Some uid) before seat same =
@@ -258,13 +264,13 @@ kept_uid o p (Some uid) before seat same =
 pub record Settled {H : Type 0} (does : Does H) (faults : H →
     ℕ) (creds : Credentials) (h0 : H) (s0 : HostSeat) (h1 : H) (s1 : HostSeat)
     (result : Result (Option Guarded) CredError) : Type 0 where
-  pub made : (made : List Made) × Makes does made h0 s0 h1 s1 × Sets (steps_of creds s0) s0 made result ×
+  pub made : (made : List CallMade) × CallsLead does made h0 s0 h1 s1 × Sets (cred_steps creds s0) s0 made result ×
       LeavesSeat creds made s0 s1 result
   pub guard : IfOk result (λ guard. IfSome guard (λ g. IsLeftBy s0 g s1))
   pub unchanged : IfOk result (λ guard. IfNone guard ((h1 ≡ h0) × (s1 ≡ s0)))
   pub lost : IfErr result (λ why. RisesWhereLost (faults h0) (faults h1) why)
 
-leaves_as : (creds : Credentials) (made : List Made) (s0 s1 : HostSeat) (why : CredError) →
+leaves_as : (creds : Credentials) (made : List CallMade) (s0 s1 : HostSeat) (why : CredError) →
     ((e : Errno) → why ≡ error.Host e → s1 ≡ s0) →
     LeavesSeat creds made s0 s1 (Err why)
 leaves_as creds made s0 s1 (error.Host e) seat = seat e refl
@@ -276,18 +282,19 @@ rises_from a b c (error.Lost e) falls rises = risen_before a b c falls rises
 
 -- a step of these was refused: those before it were done, and they are what the guard takes back
 pub failed : {H : Type 0} (does : Does H) (faults : H → ℕ) → Law does faults →
-    (creds part : Credentials) (done : List Made) (calls later : List Call) (guard : Guarded)
+    (creds part : Credentials) (done : List CallMade) (calls later : List Call) (guard : Guarded)
     (h0 h1 h2 : H) (s0 s1 s2 : HostSeat) (why : CredError) → IsWhole s0 →
     (is_some part.sup_gid ≡ true → includes s0.eff_caps.0 cap_setgid ≡ true) →
-    Makes does done h0 s0 h1 s1 → AllDone done → calls_of (steps_of creds s0) ≡ asked_in done ++ (calls ++ later) →
+    CallsLead does done h0 s0 h1 s1 → AllDone done →
+    calls_of (cred_steps creds s0) ≡ asked_in done ++ (calls ++ later) →
     ((asked : Call) → calls ≡ asked ∷ [] → MayFail asked → ⊥) → s1 ≡ seat_under part false s0 →
-    guard ≡ changes_of (steps_of part s0) s0 →
+    guard ≡ changes_of (cred_steps part s0) s0 →
     calls_back guard ≡ back_from s0 (asked_in done) → IsUndone does calls guard h1 s1 h2 s2 why →
     Settled does faults creds h0 s0 h2 s2 (Err why)
 failed does faults law creds part done calls later guard h0 h1 h2 s0 s1 s2 why whole may makes were order quiet seat
     is back u =
     let end = undone does faults law part s0 whole may calls guard h1 h2 s1 s2 why seat is u in
-    let made : List Made = done ++ u.refused ∷ u.back in
+    let made : List CallMade = done ++ u.refused ∷ u.back in
     record {
       made = (
         made,
@@ -321,7 +328,7 @@ pub failed_at_group : {H : Type 0} (does : Does H) (faults : H → ℕ) → Law 
     Settled does faults creds h0 s0 h1 s1 (Err why)
 failed_at_group does faults law creds h0 h1 s0 s1 why whole u =
     let part : Credentials = record { uid = 0; gid = 0; sup_gid = None; keep_capability = false } in
-    let steps = steps_of creds s0 in
+    let steps = cred_steps creds s0 in
     let G : List Call = group_calls creds.sup_gid in
     let E : List Call = egid_calls steps.egid in
     let U : List Call = euid_calls steps.euid in
@@ -334,11 +341,11 @@ failed_at_group does faults law creds h0 h1 s0 s1 why whole u =
 pub failed_at_gid : {H : Type 0} (does : Does H) (faults : H → ℕ) → Law does faults →
     (creds : Credentials) (guard : Guarded) (h0 h1 h2 : H) (s0 s1 s2 : HostSeat) (why : CredError) →
     IsWhole s0 → Plays does (group_calls creds.sup_gid) h0 s0 h1 s1 (Ok tt) →
-    guard ≡ with_groups creds.sup_gid s0 no_change →
+    guard ≡ keeping_groups creds.sup_gid s0 no_change →
     IsUndone does (egid_calls (id_to_set creds.gid s0.eff_gid)) guard h1 s1 h2 s2 why →
     Settled does faults creds h0 s0 h2 s2 (Err why)
 failed_at_gid does faults law creds guard h0 h1 h2 s0 s1 s2 why whole group is u =
-    let steps = steps_of creds s0 in
+    let steps = cred_steps creds s0 in
     let G : List Call = group_calls creds.sup_gid in
     let E : List Call = egid_calls steps.egid in
     let U : List Call = euid_calls steps.euid in
@@ -355,8 +362,8 @@ failed_at_gid does faults law creds guard h0 h1 h2 s0 s1 s2 why whole group is u
 -- group and gid were taken on
 pub record Halfway {H : Type 0} (does : Does H) (creds : Credentials) (guard : Guarded) (h0 h1 : H) (s0 s1 : HostSeat)
     : Type 0 where
-  pub made : List Made
-  pub makes : Makes does made h0 s0 h1 s1
+  pub made : List CallMade
+  pub makes : CallsLead does made h0 s0 h1 s1
   pub done : AllDone made
   pub asked : asked_in made ≡ group_calls creds.sup_gid ++ egid_calls (id_to_set creds.gid s0.eff_gid)
   pub seat : s1 ≡ seated s0 s0.eff_uid (gid_under creds s0) (groups_under creds.sup_gid s0.groups)
@@ -371,9 +378,9 @@ pub record Halfway {H : Type 0} (does : Does H) (creds : Credentials) (guard : G
 
 pub halfway : {H : Type 0} (does : Does H) (faults : H → ℕ) → Law does faults →
     (creds : Credentials) (first guard : Guarded) (h0 h1 h2 : H) (s0 s1 s2 : HostSeat) →
-    Plays does (group_calls creds.sup_gid) h0 s0 h1 s1 (Ok tt) → first ≡ with_groups creds.sup_gid s0 no_change →
+    Plays does (group_calls creds.sup_gid) h0 s0 h1 s1 (Ok tt) → first ≡ keeping_groups creds.sup_gid s0 no_change →
     Plays does (egid_calls (id_to_set creds.gid s0.eff_gid)) h1 s1 h2 s2 (Ok tt) →
-    guard ≡ with_gid (id_to_set creds.gid s0.eff_gid) s1 first →
+    guard ≡ keeping_gid (id_to_set creds.gid s0.eff_gid) s1 first →
     Halfway does creds guard h0 h2 s0 s2
 halfway does faults law creds first guard h0 h1 h2 s0 s1 s2 group was_first gid is =
     let o : Option ℕ = id_to_set creds.gid s0.eff_gid in
@@ -388,7 +395,7 @@ halfway does faults law creds first guard h0 h1 h2 s0 s1 s2 group was_first gid 
           ∙ gid_leads creds.gid s0.eff_gid
           (seated s0 s0.eff_uid s0.eff_gid (groups_under creds.sup_gid s0.groups) s0.eff_caps) refl
           (id_case s0.real_gid creds.gid s0.eff_gid);
-      guarded = is ∙ ap (λ g. with_gid o s1 g) was_first
+      guarded = is ∙ ap (λ g. keeping_gid o s1 g) was_first
           ∙ kept_gid creds.sup_gid o s0 s1 (ap (λ (s : HostSeat). s.eff_gid) there);
       may = allowed does faults law creds.sup_gid group.0 h0 h1 s0 s1 group.1 group.2 group.3;
     }
@@ -399,7 +406,7 @@ pub failed_at_uid : {H : Type 0} (does : Does H) (faults : H → ℕ) → Law do
     IsUndone does (euid_calls (id_to_set creds.uid s0.eff_uid)) guard h1 s1 h2 s2 why →
     Settled does faults creds h0 s0 h2 s2 (Err why)
 failed_at_uid does faults law creds guard h0 h1 h2 s0 s1 s2 why whole half u =
-    let steps = steps_of creds s0 in
+    let steps = cred_steps creds s0 in
     let G : List Call = group_calls creds.sup_gid in
     let E : List Call = egid_calls steps.egid in
     let U : List Call = euid_calls steps.euid in
@@ -410,19 +417,19 @@ failed_at_uid does faults law creds guard h0 h1 h2 s0 s1 s2 why whole half u =
     (half.seat ∙ under_gid creds s0) half.guarded
     (ap calls_back half.guarded ∙ back_gid creds.sup_gid steps.egid s0 ∙ ap (λ c. back_from s0 c) (sym half.asked)) u
 
-pass_done : (made : List Made) → AllDone made → AllPass made
+pass_done : (made : List CallMade) → AllDone made → AllPass made
 pass_done [] done = tt
 pass_done (one ∷ made) done = (inl done.0, pass_done made done.1)
 
-pass_on : (first second : List Made) → AllPass first → AllPass second → AllPass (first ++ second)
+pass_on : (first second : List CallMade) → AllPass first → AllPass second → AllPass (first ++ second)
 pass_on [] second pass also = also
 pass_on (one ∷ first) second pass also = (pass.0, pass_on first second pass.1 also)
 
-pass_raise : (raise : Bool) (made : List Made) → asked_in made ≡ raise_calls raise → AllPass made
+pass_raise : (raise : Bool) (made : List CallMade) → asked_in made ≡ raise_calls raise → AllPass made
 pass_raise raise [] asked = tt
 pass_raise false (one ∷ made) asked = absurd (cc)
 pass_raise true (one ∷ []) asked =
-    (inr (subst MayFail (sym (same_head one.asked (call.RaiseCap dac_override) [] [] asked)) tt), tt)
+    (inr (subst MayFail (sym (same_head one.asked (call.RaiseCap override_cap) [] [] asked)) tt), tt)
 pass_raise true (one ∷ two ∷ made) asked = absurd (cc)
 
 -- none of these raises a capability
@@ -454,7 +461,7 @@ raises_none : (asked : Call) (told : HostReply) → (MayFail asked → ⊥) → 
 raises_none (call.RaiseCap caps) told quiet = absurd (quiet tt)
 raises_none asked told quiet = refl
 
-raised_behind : (first second : List Made) → IsQuiet (asked_in first) →
+raised_behind : (first second : List CallMade) → IsQuiet (asked_in first) →
     has_raised (first ++ second) ≡ has_raised second
 raised_behind [] second quiet = refl
 raised_behind (one ∷ first) second quiet =
@@ -462,15 +469,15 @@ raised_behind (one ∷ first) second quiet =
     ∙ raised_behind first second quiet.1
 
 raised_caps : (leaves : Bool) (permitted caps : Caps) → caps ≡ permitted → includes permitted.0 2 ≡ true →
-    bit_or (cond leaves (cond false dac_override no_caps) caps).0 2
-    ≡ (cond leaves (cond true dac_override no_caps) caps).0
+    bit_or (cond leaves (cond false override_cap no_caps) caps).0 2
+    ≡ (cond leaves (cond true override_cap no_caps) caps).0
 raised_caps true permitted caps same has = refl
 raised_caps false permitted caps same has =
     absorbed caps.0 2 (subst (λ (c : Caps). includes c.0 2 ≡ true) (sym same) has)
 
 raised_step : (creds : Credentials) (before : HostSeat) → IsWhole before → (told : HostReply) (after : HostSeat) →
-    SeatStep (seat_under creds false before) (call.RaiseCap dac_override) told after →
-    after ≡ seat_under creds (raises (call.RaiseCap dac_override) told || false) before
+    SeatStep (seat_under creds false before) (call.RaiseCap override_cap) told after →
+    after ≡ seat_under creds (raises (call.RaiseCap override_cap) told || false) before
 raised_step creds before whole (reply.Ok told) after step =
     let seat : HostSeat = seat_under creds false before in
     let C : ℕ → Caps = λ bits. record { 0 = bits } in
@@ -482,19 +489,19 @@ raised_step creds before whole reply.NoMemory after step = step.leaves
 
 -- the capability that is raised last, or not
 raised_last : {H : Type 0} (does : Does H) (faults : H → ℕ) → Law does faults →
-    (creds : Credentials) (before : HostSeat) → IsWhole before → (raise : Bool) (made : List Made)
-    (h0 h1 : H) (s0 s1 : HostSeat) → s0 ≡ seat_under creds false before → Makes does made h0 s0 h1 s1 →
+    (creds : Credentials) (before : HostSeat) → IsWhole before → (raise : Bool) (made : List CallMade)
+    (h0 h1 : H) (s0 s1 : HostSeat) → s0 ≡ seat_under creds false before → CallsLead does made h0 s0 h1 s1 →
     asked_in made ≡ raise_calls raise →
     s1 ≡ seat_under creds (has_raised made) before
 raised_last does faults law creds before whole raise [] h0 h1 s0 s1 is makes asked = makes.1 ∙ is
 raised_last does faults law creds before whole false (one ∷ made) h0 h1 s0 s1 is makes asked = absurd (cc)
 raised_last does faults law creds before whole true (one ∷ two ∷ made) h0 h1 s0 s1 is makes asked = absurd (cc)
 raised_last does faults law creds before whole true (one ∷ []) h0 h1 s0 s1 is makes asked =
-    let head : one.asked ≡ call.RaiseCap dac_override =
-    same_head one.asked (call.RaiseCap dac_override) [] [] asked in
+    let head : one.asked ≡ call.RaiseCap override_cap =
+    same_head one.asked (call.RaiseCap override_cap) [] [] asked in
     let step = (law h0 s0 one.asked one.told makes.0 makes.1 makes.2).seats in
-    let there : SeatStep (seat_under creds false before) (call.RaiseCap dac_override) one.told makes.1 =
-    subst (λ s. SeatStep s (call.RaiseCap dac_override) one.told makes.1) is
+    let there : SeatStep (seat_under creds false before) (call.RaiseCap override_cap) one.told makes.1 =
+    subst (λ s. SeatStep s (call.RaiseCap override_cap) one.told makes.1) is
     (subst (λ a. SeatStep s0 a one.told makes.1) head step) in
     makes.3.1 ∙ raised_step creds before whole one.told makes.1 there
     ∙ ap (λ a. seat_under creds (raises a one.told || false) before) (sym head)
@@ -509,9 +516,9 @@ some_was (Some value) now = refl
 
 -- where nothing is to come back, no call was made
 nothing : {H : Type 0} (does : Does H) (o p q : Option ℕ) (keep : Bool) (uid gid : ℕ) (groups : List ℕ)
-    (made : List Made) (h0 h1 : H) (s0 s1 : HostSeat) →
+    (made : List CallMade) (h0 h1 : H) (s0 s1 : HostSeat) →
     asked_in made ≡ group_calls o ++ egid_calls p ++ euid_calls q ++ raise_calls (keep && is_some q) →
-    Makes does made h0 s0 h1 s1 →
+    CallsLead does made h0 s0 h1 s1 →
     IfNone (if_any (record { uid = was q uid; gid = was p gid; groups = was o groups })) ((h1 ≡ h0) × (s1 ≡ s0))
 nothing does None None None true uid gid groups [] h0 h1 s0 s1 asked makes = makes
 nothing does None None None false uid gid groups [] h0 h1 s0 s1 asked makes = makes
@@ -527,16 +534,16 @@ nothing does (Some z) (Some y) (Some x) keep uid gid groups made h0 h1 s0 s1 ask
 
 -- all steps were taken
 pub succeeded : {H : Type 0} (does : Does H) (faults : H → ℕ) → Law does faults →
-    (creds : Credentials) (second guard : Guarded) (result : Option Guarded) (last : List Made) (h0 h1 h2 h3 : H)
+    (creds : Credentials) (second guard : Guarded) (result : Option Guarded) (last : List CallMade) (h0 h1 h2 h3 : H)
     (s0 s1 s2 s3 : HostSeat) → IsWhole s0 → Halfway does creds second h0 h1 s0 s1 →
     Plays does (euid_calls (id_to_set creds.uid s0.eff_uid)) h1 s1 h2 s2 (Ok tt) →
-    guard ≡ with_uid (id_to_set creds.uid s0.eff_uid) s1 second →
-    Makes does last h2 s2 h3 s3 →
+    guard ≡ keeping_uid (id_to_set creds.uid s0.eff_uid) s1 second →
+    CallsLead does last h2 s2 h3 s3 →
     asked_in last ≡ raise_calls (creds.keep_capability && is_some (id_to_set creds.uid s0.eff_uid)) →
     result ≡ if_any guard →
     Settled does faults creds h0 s0 h3 s3 (Ok result)
 succeeded does faults law creds second guard result last h0 h1 h2 h3 s0 s1 s2 s3 whole half uid is makes asked any =
-    let steps = steps_of creds s0 in
+    let steps = cred_steps creds s0 in
     let o : Option ℕ = id_to_set creds.uid s0.eff_uid in
     let G : List Call = group_calls creds.sup_gid in
     let E : List Call = egid_calls steps.egid in
@@ -544,12 +551,13 @@ succeeded does faults law creds second guard result last h0 h1 h2 h3 s0 s1 s2 s3
     let R : List Call = raise_calls steps.raise in
     let gid : ℕ = gid_under creds s0 in
     let groups : List ℕ = groups_under creds.sup_gid s0.groups in
-    let ids : List Made = half.made ++ uid.0 in
-    let made : List Made = ids ++ last in
-    let ids_make : Makes does ids h0 s0 h2 s2 = makes_on does half.made uid.0 h0 h1 h2 s0 s1 s2 half.makes uid.1 in
+    let ids : List CallMade = half.made ++ uid.0 in
+    let made : List CallMade = ids ++ last in
+    let ids_make : CallsLead does ids h0 s0 h2 s2 =
+    makes_on does half.made uid.0 h0 h1 h2 s0 s1 s2 half.makes uid.1 in
     let ids_done : AllDone ids = done_on half.made uid.0 half.done uid.3 in
     let ids_asked : asked_in ids ≡ G ++ E ++ U = asked_on half.made uid.0 ∙ ap₂ (λ a b. a ++ b) half.asked uid.2 in
-    let all_make : Makes does made h0 s0 h3 s3 = makes_on does ids last h0 h2 h3 s0 s2 s3 ids_make makes in
+    let all_make : CallsLead does made h0 s0 h3 s3 = makes_on does ids last h0 h2 h3 s0 s2 s3 ids_make makes in
     let all_asked : asked_in made ≡ calls_of steps = asked_on ids last ∙ ap₂ (λ a b. a ++ b) ids_asked asked in
     let seat : s2 ≡ seat_under creds false s0 =
     played does faults law U h1 h2 s1 s2 uid ∙ ap (λ s. led s U) half.seat
@@ -559,7 +567,7 @@ succeeded does faults law creds second guard result last h0 h1 h2 h3 s0 s1 s2 s3
     let end : s3 ≡ seat_under creds (has_raised last) s0 =
     raised_last does faults law creds s0 whole steps.raise last h2 h3 s2 s3 seat makes asked in
     let changes : guard ≡ changes_of steps s0 =
-    is ∙ ap (λ g. with_uid o s1 g) half.guarded
+    is ∙ ap (λ g. keeping_uid o s1 g) half.guarded
     ∙ kept_uid creds.sup_gid steps.egid o s0 s1 (ap (λ (s : HostSeat). s.eff_uid) half.seat) in
     let answered : result ≡ guard_of steps s0 = any ∙ ap if_any changes in
     let by : IsLeftBy s0 (changes_of steps s0) s3 = record {
@@ -605,7 +613,7 @@ restored_lost does faults law guard before h0 h1 s0 s1 errno by fits p =
     λ some. by.allowed (ap (λ (g : Guarded). is_some g.groups) by.guarded ∙ some_was by.creds.sup_gid before.groups
     ∙ some) in
     let sure : IsSure (seat_under by.creds by.raised before)
-    (calls_back (changes_of (steps_of by.creds before) before)) =
+    (calls_back (changes_of (cred_steps by.creds before) before)) =
     sure_back by.creds by.raised before by.whole may (subst (λ (g : Guarded). FitsSeat g.groups) by.guarded fits) in
     let there : IsSure s0 (asked_in p.0) =
     subst (λ s. IsSure s (asked_in p.0)) (sym by.seated)

@@ -11,19 +11,19 @@ abbrev pub Does : Type 0 → Type 1
 Does H = H → HostSeat → Call → HostReply → H → HostSeat → Type 0
 
 -- a call that was made, and what was answered
-pub record Made : Type 0 where
+pub record CallMade : Type 0 where
   pub asked : Call
   pub told : HostReply
 
 -- these calls and no others lead from host and seat to these, each from where the one before it led
-abbrev pub Makes : {H : Type 0} → Does H → List Made → H → HostSeat → H → HostSeat → Type 0
-Makes does [] host seat host' seat' = (host' ≡ host) × (seat' ≡ seat)
-Makes {H} does (made ∷ rest) host seat host' seat' =
+abbrev pub CallsLead : {H : Type 0} → Does H → List CallMade → H → HostSeat → H → HostSeat → Type 0
+CallsLead does [] host seat host' seat' = (host' ≡ host) × (seat' ≡ seat)
+CallsLead {H} does (made ∷ rest) host seat host' seat' =
     (mid : H) × (between : HostSeat) × does host seat made.asked made.told mid between ×
-    Makes does rest mid between host' seat'
+    CallsLead does rest mid between host' seat'
 
 -- what was asked, in order
-abbrev pub asked_in : List Made → List Call
+abbrev pub asked_in : List CallMade → List Call
 asked_in [] = []
 asked_in (made ∷ rest) = made.asked ∷ asked_in rest
 
@@ -31,7 +31,7 @@ abbrev pub IsDone : HostReply → Type 0
 IsDone (reply.Ok told) = Unit {0}
 IsDone _ = ⊥
 
-abbrev pub AllDone : List Made → Type 0
+abbrev pub AllDone : List CallMade → Type 0
 AllDone [] = Unit {0}
 AllDone (made ∷ rest) = IsDone made.told × AllDone rest
 
@@ -47,16 +47,16 @@ IsOutcome told (Ok done) = IsDone told
 IsOutcome told (Err errno) = FailsWith told errno
 
 -- the first that was not Ok failed so
-abbrev pub FirstFails : List Made → Errno → Type 0
+abbrev pub FirstFails : List CallMade → Errno → Type 0
 FirstFails [] errno = ⊥
 FirstFails (made ∷ rest) errno = FailsWith made.told errno ⊎ (IsDone made.told × FirstFails rest errno)
 
 -- the first that was not Ok is a fault, with this error
-abbrev pub FirstFaults : List Made → Errno → Type 0
+abbrev pub FirstFaults : List CallMade → Errno → Type 0
 FirstFaults [] errno = ⊥
 FirstFaults (made ∷ rest) errno = (made.told ≡ reply.Fault errno) ⊎ (IsDone made.told × FirstFaults rest errno)
 
 -- all were Ok, or this is why the first was not that was not
-abbrev pub IsOutcomeOf : List Made → Result Unit Errno → Type 0
+abbrev pub IsOutcomeOf : List CallMade → Result Unit Errno → Type 0
 IsOutcomeOf made (Ok done) = AllDone made
 IsOutcomeOf made (Err errno) = FirstFails made errno

@@ -5,12 +5,12 @@ use Rattle.pt_host.specs.Seat.{with_dropped}
 use Rattle.pt_host.specs.declared.flags.Caps.{Caps}
 use Rattle.pt_host.specs.declared.op.KeptHostOp.TheVariants as call
 use Rattle.pt_host.specs.declared.seat.HostSeat.{HostSeat}
-use Rattle.pt_creds.specs.Calls.{Made, IsDone, FailsWith}
+use Rattle.pt_creds.specs.Calls.{CallMade, IsDone, FailsWith}
 use Rattle.pt_creds.specs.declared.error.CredError.{CredError}
 use Rattle.pt_creds.specs.declared.error.CredError.TheVariants as error
 
 -- It makes no call where the capability is not effective, and else one, whose refusal is its own.
-abbrev pub Drops : HostSeat → Caps → List Made → Result (Option Caps) CredError → Type 0
+abbrev pub Drops : HostSeat → Caps → List CallMade → Result (Option Caps) CredError → Type 0
 Drops seat cap [] (Ok None) = includes seat.eff_caps.0 cap.0 ≡ false
 Drops seat cap (made ∷ []) (Ok (Some guard)) =
     (includes seat.eff_caps.0 cap.0 ≡ true) × (made.asked ≡ call.DropCap cap) × IsDone made.told × (guard ≡ cap)

@@ -20,8 +20,8 @@ pub record IsWhole (seat : HostSeat) : Type 0 where
   pub saved_gid : seat.saved_gid ≡ seat.real_gid
   pub caps : seat.eff_caps ≡ seat.perm_caps
 
-abbrev pub dac_override : Caps
-dac_override = record { 0 = 2 }
+abbrev pub override_cap : Caps
+override_cap = record { 0 = 2 }
 
 -- the effective id under another one: root's leaves it, and so does the id that leaves ids as they are
 abbrev pub id_under : ℕ → ℕ → ℕ → ℕ
@@ -45,7 +45,7 @@ leaves_root creds seat = seat.eff_uid == 0 && not (uid_under creds seat == 0)
 -- where root is left no capability is effective but the one that was raised
 abbrev pub caps_under : Credentials → Bool → HostSeat → Caps
 caps_under creds raised seat =
-    if leaves_root creds seat then (if raised then dac_override else record { 0 = 0 }) else seat.eff_caps
+    if leaves_root creds seat then (if raised then override_cap else record { 0 = 0 }) else seat.eff_caps
 
 -- The seat under these credentials, with the capability raised or not. All else stays.
 abbrev pub seat_under : Credentials → Bool → HostSeat → HostSeat

@@ -3,7 +3,7 @@ use Rattle.std.specs.Prelude.{◌≡◌, ◌≤◌, ℕ, List, [], ◌∷◌, Op
 use Rattle.pt_host.specs.Call.{Call}
 use Rattle.pt_host.specs.declared.ids.Errno.{Errno}
 use Rattle.pt_host.specs.declared.seat.HostSeat.{HostSeat}
-use Rattle.pt_creds.specs.Calls.{Does, Made, Makes, asked_in, AllDone, FailsWith, FirstFails, IsOutcomeOf}
+use Rattle.pt_creds.specs.Calls.{Does, CallMade, CallsLead, asked_in, AllDone, FailsWith, FirstFails, IsOutcomeOf}
 use Rattle.pt_creds.specs.Guard.{Guarded, calls_back}
 use Rattle.pt_creds.specs.declared.error.CredError.{CredError}
 use Rattle.pt_creds.specs.declared.error.CredError.TheVariants as error
@@ -11,7 +11,8 @@ use Rattle.pt_creds.specs.declared.error.CredError.TheVariants as error
 -- these calls were all made, each once and whatever the others were answered, and this became of them
 abbrev pub Plays : {H : Type 0} → Does H → List Call → H → HostSeat → H → HostSeat → Result Unit Errno → Type 0
 Plays does calls host seat host' seat' result =
-    (made : List Made) × Makes does made host seat host' seat' × (asked_in made ≡ calls) × IsOutcomeOf made result
+    (made : List CallMade) × CallsLead does made host seat host' seat' × (asked_in made ≡ calls) ×
+    IsOutcomeOf made result
 
 -- no seat has more groups
 abbrev pub FitsSeat : Option (List ℕ) → Type 0
@@ -19,7 +20,7 @@ FitsSeat None = Unit {0}
 FitsSeat (Some list) = length list ≤ 32
 
 -- why the step was refused where all calls back were Ok, else why the first of them was not
-abbrev pub TellsWhy : List Made → Errno → CredError → Type 0
+abbrev pub TellsWhy : List CallMade → Errno → CredError → Type 0
 TellsWhy back errno (error.Host told) = AllDone back × (told ≡ errno)
 TellsWhy back errno (error.Lost told) = FirstFails back told
 
@@ -34,10 +35,10 @@ pub record IsUndone {H : Type 0}
     (seat' : HostSeat)
     (why : CredError)
     : Type 0 where
-  pub refused : Made
-  pub back : List Made
+  pub refused : CallMade
+  pub back : List CallMade
   pub errno : Errno
-  pub makes : Makes does (refused ∷ back) host seat host' seat'
+  pub makes : CallsLead does (refused ∷ back) host seat host' seat'
   pub only : calls ≡ refused.asked ∷ []
   pub refusal : FailsWith refused.told errno
   pub taken_back : asked_in back ≡ calls_back before
@@ -46,20 +47,21 @@ pub record IsUndone {H : Type 0}
 
 -- One step of a `set`, where it is to be made: what it changed is kept besides what was changed before, or that was
 -- taken back.
-abbrev pub Goes : {H : Type 0} → Does H → List Call → Guarded → Guarded → H → HostSeat → H → HostSeat →
+abbrev pub TakesStep : {H : Type 0} → Does H → List Call → Guarded → Guarded → H → HostSeat → H → HostSeat →
     Result Guarded CredError → Type 0
-Goes does calls before after host seat host' seat' (Ok guard) =
+TakesStep does calls before after host seat host' seat' (Ok guard) =
     Plays does calls host seat host' seat' (Ok tt) × (guard ≡ after)
-Goes does calls before after host seat host' seat' (Err why) = IsUndone does calls before host seat host' seat' why
+TakesStep does calls before after host seat host' seat' (Err why) =
+    IsUndone does calls before host seat host' seat' why
 
-abbrev pub with_uid : Option ℕ → HostSeat → Guarded → Guarded
-with_uid None seat guard = guard
-with_uid (Some uid) seat guard = record guard { uid = Some seat.eff_uid }
+abbrev pub keeping_uid : Option ℕ → HostSeat → Guarded → Guarded
+keeping_uid None seat guard = guard
+keeping_uid (Some uid) seat guard = record guard { uid = Some seat.eff_uid }
 
-abbrev pub with_gid : Option ℕ → HostSeat → Guarded → Guarded
-with_gid None seat guard = guard
-with_gid (Some gid) seat guard = record guard { gid = Some seat.eff_gid }
+abbrev pub keeping_gid : Option ℕ → HostSeat → Guarded → Guarded
+keeping_gid None seat guard = guard
+keeping_gid (Some gid) seat guard = record guard { gid = Some seat.eff_gid }
 
-abbrev pub with_groups : Option ℕ → HostSeat → Guarded → Guarded
-with_groups None seat guard = guard
-with_groups (Some group) seat guard = record guard { groups = Some seat.groups }
+abbrev pub keeping_groups : Option ℕ → HostSeat → Guarded → Guarded
+keeping_groups None seat guard = guard
+keeping_groups (Some group) seat guard = record guard { groups = Some seat.groups }

@@ -4,7 +4,7 @@ use Rattle.std.specs.Prelude.{is_some, if◌then◌else◌}
 use Rattle.pt_host.specs.Call.{Call}
 use Rattle.pt_host.specs.declared.op.KeptHostOp.TheVariants as call
 use Rattle.pt_host.specs.declared.seat.HostSeat.{HostSeat}
-use Rattle.pt_creds.specs.Identity.{Credentials, dac_override}
+use Rattle.pt_creds.specs.Identity.{Credentials, override_cap}
 use Rattle.pt_creds.specs.Guard.{Guarded, if_any, euid_calls, egid_calls}
 use Rattle.pt_creds.specs.declared.credentials.CredSteps.{CredSteps}
 
@@ -12,8 +12,8 @@ use Rattle.pt_creds.specs.declared.credentials.CredSteps.{CredSteps}
 abbrev pub id_to_set : ℕ → ℕ → Option ℕ
 id_to_set id now = if id == 0 || id == now then None else Some id
 
-abbrev pub steps_of : Credentials → HostSeat → CredSteps
-steps_of creds seat = record {
+abbrev pub cred_steps : Credentials → HostSeat → CredSteps
+cred_steps creds seat = record {
   groups = creds.sup_gid;
   egid = id_to_set creds.gid seat.eff_gid;
   euid = id_to_set creds.uid seat.eff_uid;
@@ -26,7 +26,7 @@ group_calls (Some group) = call.SetGroups (group ∷ []) ∷ []
 
 abbrev pub raise_calls : Bool → List Call
 raise_calls false = []
-raise_calls true = call.RaiseCap dac_override ∷ []
+raise_calls true = call.RaiseCap override_cap ∷ []
 
 -- the calls of these steps, in their order
 abbrev pub calls_of : CredSteps → List Call

@@ -2,7 +2,7 @@ ghost use Rattle.std.specs.Prelude.{◌≡◌, List};
 ghost use Rattle.pt_host.specs.Call.{call_of};
 ghost use Rattle.pt_host.specs.Promises.{MayLackMemory};
 ghost use Rattle.pt_host.specs.declared.reply.HostReply.{HostReply};
-ghost use Rattle.pt_creds.specs.Calls.{Made, Makes, asked_in, IsOutcome};
+ghost use Rattle.pt_creds.specs.Calls.{CallMade, CallsLead, asked_in, IsOutcome};
 ghost use Rattle.pt_creds.specs.Guard.{euid_calls, egid_calls, groups_calls};
 ghost use Rattle.pt_creds.specs.Steps.{raise_calls};
 ghost use Rattle.pt_creds.specs.Progress.{Plays, FitsSeat};

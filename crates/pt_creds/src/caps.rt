@@ -3,7 +3,7 @@ ghost use Rattle.pt_host.specs.declared.op.KeptHostOp.TheVariants as call;
 ghost use Rattle.pt_host.specs.declared.reply.HostReply.{HostReply};
 ghost use Rattle.pt_host.specs.declared.seat.HostSeat.{HostSeat};
 ghost use Rattle.pt_host.specs.Promises.{HasRisen};
-ghost use Rattle.pt_creds.specs.Calls.{Made, Makes};
+ghost use Rattle.pt_creds.specs.Calls.{CallMade, CallsLead};
 ghost use Rattle.pt_creds.specs.Caps.{Drops, SeatDropped, IsDroppedFrom};
 ghost use Rattle.pt_creds.specs.Setting.{Restores};
 
@@ -32,7 +32,7 @@ pub fn drop_effective_cap<H: Host>(
     cap: Caps,
 ) -> Result<Option<ScopedCaps>, CredError>
     requires caps { seat.old.eff_caps ≡ seat.old.perm_caps }
-    ensures made { (made : List Made) × Makes H.does made host.old seat.old host.new seat.new
+    ensures made { (made : List CallMade) × CallsLead H.does made host.old seat.old host.new seat.new
         × Drops seat.old cap made result }
     ensures seat { SeatDropped seat.old cap seat.new result }
     ensures guard { IfOk result (λ scope. IfSome scope (λ scope. IsDroppedFrom seat.old scope seat.new)) }

@@ -1,8 +1,8 @@
 ghost use Rattle.std.specs.Prelude.{◌≡◌, List, None, IfOk, IfErr, IfSome, IfNone, false, not};
 ghost use Rattle.pt_host.specs.declared.seat.HostSeat.{HostSeat};
-ghost use Rattle.pt_creds.specs.Calls.{Made, Makes};
+ghost use Rattle.pt_creds.specs.Calls.{CallMade, CallsLead};
 ghost use Rattle.pt_creds.specs.Identity.{IsWhole};
-ghost use Rattle.pt_creds.specs.Steps.{id_to_set, steps_of};
+ghost use Rattle.pt_creds.specs.Steps.{id_to_set, cred_steps};
 ghost use Rattle.pt_creds.specs.Setting.{Sets, LeavesSeat, IsLeftBy, RisesWhereLost};
 
 use crate::calls::raise_if;
@@ -84,7 +84,7 @@ impl UnixCredentials {
 
     /// The calls that a `set` makes from this seat. Root's ids are never taken on.
     pub fn steps(&self, seat: &HostSeat) -> CredSteps
-        ensures { result ≡ steps_of self.now seat.now }
+        ensures { result ≡ cred_steps self.now seat.now }
     {
         let euid = id_to_set(self.uid, seat.eff_uid);
         CredSteps {
@@ -106,8 +106,8 @@ impl UnixCredentials {
         requires { IsWhole seat.old }
         // The calls made, what the seat is afterwards and what is answered; a seat that was lost shows in the host's
         // count of faults.
-        ensures made { (made : List Made) × Makes H.does made host.old seat.old host.new seat.new
-            × Sets (steps_of self seat.old) seat.old made result × LeavesSeat self made seat.old seat.new result }
+        ensures made { (made : List CallMade) × CallsLead H.does made host.old seat.old host.new seat.new
+            × Sets (cred_steps self seat.old) seat.old made result × LeavesSeat self made seat.old seat.new result }
         ensures guard { IfOk result (λ guard. IfSome guard (λ guard. IsLeftBy seat.old guard seat.new)) }
         ensures unchanged { IfOk result (λ guard. IfNone guard ((host.new ≡ host.old) × (seat.new ≡ seat.old))) }
         ensures lost { IfErr result (λ why. RisesWhereLost (H.faults host.old) (H.faults host.new) why) }

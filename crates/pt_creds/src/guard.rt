@@ -1,11 +1,12 @@
 ghost use Rattle.std.specs.Prelude.{◌≡◌, List, IfErr, OnOk, OnErr};
 ghost use Rattle.pt_host.specs.declared.seat.HostSeat.{HostSeat};
 ghost use Rattle.pt_host.specs.Promises.{HasRisen};
-ghost use Rattle.pt_creds.specs.Calls.{Made, Makes, asked_in};
+ghost use Rattle.pt_creds.specs.Calls.{CallMade, CallsLead, asked_in};
 ghost use Rattle.pt_creds.specs.Guard.{no_change, if_any, euid_calls, egid_calls, calls_back};
 ghost use Rattle.pt_creds.specs.Setting.{Restores, IsLeftBy};
 ghost use Rattle.pt_creds.specs.Steps.{group_calls};
-ghost use Rattle.pt_creds.specs.Progress.{Plays, FitsSeat, Goes, with_uid, with_gid, with_groups, TellsWhy};
+ghost use Rattle.pt_creds.specs.Progress.{Plays, FitsSeat, TakesStep, keeping_uid, keeping_gid};
+ghost use Rattle.pt_creds.specs.Progress.{keeping_groups, TellsWhy};
 
 use crate::calls::{make, set_egid, set_euid, set_groups};
 use crate::error::CredError;
@@ -46,7 +47,7 @@ impl UnixCredentialsGuard {
         seat: &mut HostSeat,
         group: Option<u32>,
     ) -> Result<UnixCredentialsGuard, CredError>
-        ensures { Goes H.does (group_calls group) self (with_groups group seat.old self)
+        ensures { TakesStep H.does (group_calls group) self (keeping_groups group seat.old self)
             host.old seat.old host.new seat.new result }
     {
         let Some(group) = group else {
@@ -69,7 +70,7 @@ impl UnixCredentialsGuard {
         seat: &mut HostSeat,
         gid: Option<u32>,
     ) -> Result<UnixCredentialsGuard, CredError>
-        ensures { Goes H.does (egid_calls gid) self (with_gid gid seat.old self)
+        ensures { TakesStep H.does (egid_calls gid) self (keeping_gid gid seat.old self)
             host.old seat.old host.new seat.new result }
     {
         let Some(gid) = gid else {
@@ -92,7 +93,7 @@ impl UnixCredentialsGuard {
         seat: &mut HostSeat,
         uid: Option<u32>,
     ) -> Result<UnixCredentialsGuard, CredError>
-        ensures { Goes H.does (euid_calls uid) self (with_uid uid seat.old self)
+        ensures { TakesStep H.does (euid_calls uid) self (keeping_uid uid seat.old self)
             host.old seat.old host.new seat.new result }
     {
         let Some(uid) = uid else {
@@ -147,7 +148,7 @@ impl UnixCredentialsGuard {
 
     /// Takes everything back after a step was refused with this error.
     pub(crate) fn undo<H: Host>(self, host: &mut H, seat: &mut HostSeat, errno: Errno) -> CredError
-        ensures { (back : List Made) × Makes H.does back host.old seat.old host.new seat.new
+        ensures { (back : List CallMade) × CallsLead H.does back host.old seat.old host.new seat.new
             × (asked_in back ≡ calls_back self) × TellsWhy back errno result × FitsSeat self.groups }
     {
         let undone = self.go_back(host, seat);
@@ -160,7 +161,7 @@ impl UnixCredentialsGuard {
     /// Gives the identity back: uid, gid and groups, in this order.
     pub fn restore<H: Host>(self, host: &mut H, seat: &mut HostSeat) -> Result<(), CredError>
         requires { (before : HostSeat) × IsLeftBy before self seat.old }
-        ensures made { (made : List Made) × Makes H.does made host.old seat.old host.new seat.new
+        ensures made { (made : List CallMade) × CallsLead H.does made host.old seat.old host.new seat.new
             × (asked_in made ≡ calls_back self) × Restores made result }
         ensures back { OnOk result ((before : HostSeat) → IsLeftBy before self seat.old → seat.new ≡ before) }
         ensures lost { OnErr result (HasRisen (H.faults host.old) (H.faults host.new)) }

@@ -11,28 +11,28 @@ use Rattle.pt_maps.specs.declared.rule.IdRule.{IdRule}
 use Rattle.pt_maps.specs.declared.rule.IdRule.TheVariants.{Guest, Host, SquashGuest, SquashHost, ForbidGuest, Map}
 use Rattle.pt_maps.specs.declared.rule.Direction.{Direction}
 use Rattle.pt_maps.specs.declared.rule.Direction.TheVariants.{ToHost, ToGuest}
-use Rattle.pt_maps.specs.Rule.{holds, meets, end_of, source, is_past_end}
+use Rattle.pt_maps.specs.Rule.{holds, meets, range_end, source, is_past_end}
 use Rattle.pt_maps.specs.Refusal.{overlaps, refusal_behind, refusal_at, AreAccepted, IsFirstRefusal}
 use Rattle.pt_maps.proofs.Lists.{any_false_at, slice_get-take, take-take, slice_get-push, take-push, take_all, Old}
 use Rattle.pt_maps.proofs.Lists.{New}
 
 -- in numbers: one ends where the other starts, or before
 pub record IsClear (one other : IdRange) : Type 0 where
-  pub clear : min (end_of one) (end_of other) ≤ max one.start other.start
+  pub clear : min (range_end one) (range_end other) ≤ max one.start other.start
 
 pub clear_from : (one other : IdRange) → meets one other ≡ false → IsClear one other
 clear_from one other h = record { clear = ltb-false _ _ h }
 
 -- what a common id shows
 pub record AreMeeting (one other : IdRange) : Type 0 where
-  pub meeting : max one.start other.start < min (end_of one) (end_of other)
+  pub meeting : max one.start other.start < min (range_end one) (range_end other)
 
 pub meeting_from : (one other : IdRange) → meets one other ≡ true → AreMeeting one other
 meeting_from one other h = record { meeting = ltb-true _ _ h }
 
 pub record IsIn (range : IdRange) (id : ℕ) : Type 0 where
   pub from : range.start ≤ id
-  pub before : id < end_of range
+  pub before : id < range_end range
 
 pub is_in : (range : IdRange) (id : ℕ) → holds range id ≡ true → IsIn range id
 is_in range id h = record { from = grind (arith, nat_tests); before = grind (arith, nat_tests) }
@@ -102,7 +102,7 @@ apart direction rules i j one other accepted differ first second = elim (cases_o
 ]
 
 -- a source range ends at the number of ids at most
-fits : (direction : Direction) (rule : IdRule) → is_past_end rule ≡ false → end_of (source direction rule) ≤ 2 ^ 32
+fits : (direction : Direction) (rule : IdRule) → is_past_end rule ≡ false → range_end (source direction rule) ≤ 2 ^ 32
 fits ToHost (Guest first target count) h = ltb-false _ _ (or_false _ _ h).0
 fits ToHost (SquashGuest first target count) h = ltb-false _ _ (or_false _ _ h).0
 fits ToHost (ForbidGuest first count) h = ltb-false _ _ (or_false _ _ h).0
@@ -118,7 +118,7 @@ fits ToGuest (ForbidGuest first count) h = lit≤ tt
 
 pub fits_at : (direction : Direction) (rules : List IdRule) (place : ℕ) (rule : IdRule) → AreAccepted rules →
     slice_get rules place ≡ Some rule →
-    end_of (source direction rule) ≤ 2 ^ 32
+    range_end (source direction rule) ≤ 2 ^ 32
 fits_at direction rules place rule accepted here =
     fits direction rule (accepted_at rules place rule accepted here).ends
 

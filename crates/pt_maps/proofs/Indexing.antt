@@ -14,7 +14,7 @@ use Rattle.std.proofs.lemmas.Bool.Decides.{nat_tests}
 use Rattle.pt_maps.specs.declared.range.IdRange.{IdRange}
 use Rattle.pt_maps.specs.declared.rule.IdRule.{IdRule}
 use Rattle.pt_maps.specs.declared.rule.Direction.{Direction}
-use Rattle.pt_maps.specs.Rule.{holds, meets, end_of, source}
+use Rattle.pt_maps.specs.Rule.{holds, meets, range_end, source}
 use Rattle.pt_maps.specs.Refusal.{AreAccepted}
 use Rattle.pt_maps.specs.Translated.{rule_of}
 use Rattle.pt_maps.specs.Index.{StartsAt, IsIndexOf, IsNearest, IsNearestRule, last_of}
@@ -56,7 +56,7 @@ is_told rules starts id place near (Some rule) e = record { place = place; near 
 pub before_nearest : (direction : Direction) (rules : List IdRule) (starts : BTreeMap ℕ ℕ) (id place : ℕ) →
     AreAccepted rules → IsIndexOf direction rules starts → (near : IsNearest starts id place) →
     (k : ℕ) (other : IdRule) → k ≢ place → slice_get rules k ≡ Some other → 0 < (source direction other).count →
-    (source direction other).start ≤ id → end_of (source direction other) ≤ near.start
+    (source direction other).start ≤ id → range_end (source direction other) ≤ near.start
 before_nearest direction rules starts id place accepted indexed near k other differs here some low =
     let nearest = indexed.places near.start place near.here in
     let order : (source direction other).start ≤ near.start =
@@ -71,7 +71,7 @@ other_is_out : (direction : Direction) (rules : List IdRule) (starts : BTreeMap 
     (k : ℕ) (other : IdRule) → k ≢ place → slice_get rules k ≡ Some other → holds (source direction other) id ≡ false
 other_is_out direction rules starts id place accepted indexed near k other differs here = not_true _ (λ held.
     let is = is_in _ _ held in
-    let early : end_of (source direction other) ≤ near.start =
+    let early : range_end (source direction other) ≤ near.start =
     before_nearest direction rules starts id place accepted indexed near k other differs here (omega arith) is.from in
     omega (arith, near.below))
 
@@ -116,8 +116,8 @@ meets_nearest : (direction : Direction) (rules : List IdRule) (starts : BTreeMap
 meets_nearest direction rules starts range place rule accepted indexed near here clear k other differs at =
     not_true _ (λ met.
     let meeting = (meeting_from _ _ met).meeting in
-    let fits : end_of (source direction other) ≤ 2 ^ 32 = fits_at direction rules k other accepted at in
-    let early : end_of (source direction other) ≤ near.start =
+    let fits : range_end (source direction other) ≤ 2 ^ 32 = fits_at direction rules k other accepted at in
+    let early : range_end (source direction other) ≤ near.start =
     before_nearest direction rules starts (last_of range) place accepted indexed near k other differs at (omega arith)
     (omega arith) in
     let nearest = indexed.places near.start place near.here in
@@ -150,7 +150,7 @@ pub overlap_is_far : (direction : Direction) (rules : List IdRule) (starts : BTr
 overlap_is_far direction rules starts range accepted indexed far =
     any_none (λ other. meets range (source direction other)) rules (λ k other at. not_true _ (λ met.
     let meeting = (meeting_from _ _ met).meeting in
-    let fits : end_of (source direction other) ≤ 2 ^ 32 = fits_at direction rules k other accepted at in
+    let fits : range_end (source direction other) ≤ 2 ^ 32 = fits_at direction rules k other accepted at in
     let there = is_there direction rules starts indexed k other at (omega arith) in
     let none = far (source direction other).start (omega arith) in
     cc))

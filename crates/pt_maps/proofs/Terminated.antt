@@ -8,7 +8,7 @@ use Rattle.pt_maps.specs.declared.xattr_rule.XattrRule.{XattrRule}
 use Rattle.pt_maps.specs.declared.xattr_rule.Side.{Side}
 use Rattle.pt_maps.specs.declared.xattr_rule.Side.TheVariants.{OfClient, OfServer}
 use Rattle.pt_maps.specs.NameRules.{NameRule, all_rules, covers, front_of, meets_name, meets_all}
-use Rattle.pt_maps.specs.MappedNames.{for_client, for_list, listed_name, listed_names, names_in}
+use Rattle.pt_maps.specs.MappedNames.{for_client, for_list, listed_name, listed_names, names_of_list}
 use Rattle.pt_maps.specs.Laws.{TerminatedMeetAll}
 
 -- no bytes begin every name
@@ -76,5 +76,5 @@ terminated_meet_all rules is =
           (find (meets_name OfServer name) (all_rules rules))
           (finds (meets_all OfServer) (meets_name OfServer name) (meets_each OfServer name) (all_rules rules)
           sides.1))
-          (names_in list),
+          (names_of_list list),
     )

@@ -8,14 +8,14 @@ use Rattle.pt_maps.specs.declared.rule.IdRule.{IdRule}
 use Rattle.pt_maps.specs.declared.rule.IdRule.TheVariants.{Guest, Host, SquashGuest, SquashHost, ForbidGuest, Map}
 use Rattle.pt_maps.specs.declared.rule.Direction.{Direction}
 use Rattle.pt_maps.specs.declared.rule.Direction.TheVariants.{ToHost, ToGuest}
-use Rattle.pt_maps.specs.Rule.{ids_from, holds, meets, source, end_of, host_id}
+use Rattle.pt_maps.specs.Rule.{ids_from, holds, meets, source, range_end, host_id}
 use Rattle.pt_maps.specs.Refusal.{AreAccepted}
 use Rattle.pt_maps.specs.Translated.{rule_of, to_host, to_guest}
 use Rattle.pt_maps.specs.Laws.{HaveCommonId, IsForbidden, MeetInAnId, HaveOneRule, ForbiddenAlone, MapBothWays}
 use Rattle.pt_maps.proofs.Lists.{find_only, find_some}
 use Rattle.pt_maps.proofs.Apart.{IsClear, IsIn, is_in, meeting_from, apart, not_true, not_same}
 
-holds_from : (range : IdRange) (id : ℕ) → range.start ≤ id → id < end_of range → holds range id ≡ true
+holds_from : (range : IdRange) (id : ℕ) → range.start ≤ id → id < range_end range → holds range id ≡ true
 holds_from range id from before = rw (le-leb _ _ from) (lt-ltb _ _ before)
 
 meet_there : (one other : IdRange) → meets one other ≡ true → HaveCommonId one other

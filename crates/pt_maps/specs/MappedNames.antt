@@ -28,13 +28,13 @@ abbrev pub client_name : List XattrRule → List ℕ → Option AppliedRule
 client_name rules name = option_map (λ rule. for_client name rule.kind rule.prepend) (met_rule rules OfClient name)
 
 -- a name in a list: a NUL ends it
-abbrev pub ended : List ℕ → List ℕ
-ended name = name ++ 0 ∷ []
+abbrev pub nul_ended : List ℕ → List ℕ
+nul_ended name = name ++ 0 ∷ []
 
 -- what becomes of a name that the host lists: nothing where it is hidden
 abbrev pub for_list : List ℕ → RuleKind → List ℕ → List ℕ
-for_list name kind.Prefix prepend = ended (drop (length prepend) name)
-for_list name kind.Okay prepend = ended name
+for_list name kind.Prefix prepend = nul_ended (drop (length prepend) name)
+for_list name kind.Okay prepend = nul_ended name
 for_list name kind.Bad prepend = []
 for_list name kind.Unsupported prepend = []
 
@@ -49,9 +49,9 @@ listed_names rules (name ∷ names) =
     option_and_then (λ one. option_map (λ others. one ++ others) (listed_names rules names)) (listed_name rules name)
 
 -- the names that a list has; empty ones are passed over
-abbrev pub names_in : List ℕ → List (List ℕ)
-names_in list = filter (λ name. not (length name == 0)) (slice_split (λ byte. byte == 0) list)
+abbrev pub names_of_list : List ℕ → List (List ℕ)
+names_of_list list = filter (λ name. not (length name == 0)) (slice_split (λ byte. byte == 0) list)
 
 -- what the client is told of a list of the host's
 abbrev pub server_list : List XattrRule → List ℕ → Option (List ℕ)
-server_list rules list = listed_names rules (names_in list)
+server_list rules list = listed_names rules (names_of_list list)

@@ -14,16 +14,16 @@ abbrev pub ids_from : ℕ → ℕ → IdRange
 ids_from start count = record { start = start; count = count }
 
 -- the first id behind a range
-abbrev pub end_of : IdRange → ℕ
-end_of range = range.start + range.count
+abbrev pub range_end : IdRange → ℕ
+range_end range = range.start + range.count
 
 -- whether an id lies in a range
 abbrev pub holds : IdRange → ℕ → Bool
-holds range id = nat_le range.start id && nat_lt id (end_of range)
+holds range id = nat_le range.start id && nat_lt id (range_end range)
 
 -- whether two ranges have an id in common: the later one starts before the earlier one ends
 abbrev pub meets : IdRange → IdRange → Bool
-meets one other = nat_lt (max one.start other.start) (min (end_of one) (end_of other))
+meets one other = nat_lt (max one.start other.start) (min (range_end one) (range_end other))
 
 -- the guest's ids of which a rule says what they become on the host
 abbrev pub guest_ids : IdRule → IdRange
@@ -77,4 +77,4 @@ named_ranges (Map guest host count) = ids_from guest count ∷ ids_from host cou
 
 -- whether one of them goes past the last id
 abbrev pub is_past_end : IdRule → Bool
-is_past_end rule = list_any (λ range. nat_lt (2 ^ 32) (end_of range)) (named_ranges rule)
+is_past_end rule = list_any (λ range. nat_lt (2 ^ 32) (range_end range)) (named_ranges rule)

@@ -1,5 +1,5 @@
 ghost use Rattle.std.specs.Prelude.{◌≡◌};
-ghost use Rattle.pt_maps.specs.Rule.{end_of, holds, meets};
+ghost use Rattle.pt_maps.specs.Rule.{range_end, holds, meets};
 ghost use Rattle.pt_maps.specs.Index.{last_of};
 
 /// So many ids from the first one on.
@@ -12,7 +12,7 @@ pub(crate) struct IdRange {
 impl IdRange {
     /// The first id behind it.
     pub fn end(self) -> u64
-        ensures { result ≡ end_of self }
+        ensures { result ≡ range_end self }
     {
         u64::from(self.start) + u64::from(self.count)
     }

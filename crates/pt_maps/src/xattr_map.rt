@@ -2,7 +2,8 @@ ghost use Rattle.std.specs.Prelude.{◌≡◌, ◌≢◌, ◌++◌, Some, None, 
 ghost use Rattle.std.specs.Prelude.{option_map};
 ghost use Rattle.std.specs.List.{list_any};
 ghost use Rattle.pt_maps.specs.NameRules.{all_rules, is_terminated, meets_name, meets_all};
-ghost use Rattle.pt_maps.specs.MappedNames.{met_rule, client_name, listed_name, names_in, server_list, ended};
+ghost use Rattle.pt_maps.specs.MappedNames.{met_rule, client_name, listed_name, names_of_list, server_list};
+ghost use Rattle.pt_maps.specs.MappedNames.{nul_ended};
 ghost use Rattle.pt_maps.specs.declared.xattr_rule.Side.TheVariants.{OfClient, OfServer};
 
 use crate::error::MapError;
@@ -61,8 +62,8 @@ fn joined(alloc: Global, front: &[u8], rest: &[u8]) -> Result<Bytes, AllocError>
 }
 
 /// The names of a list, without the empty ones.
-fn names_in(alloc: Global, list: &[u8]) -> Result<Vec<&[u8]>, AllocError>
-    ensures { IfOk result (λ names. map (λ name. name.now) names.items ≡ names_in list.now) }
+fn names_of_list(alloc: Global, list: &[u8]) -> Result<Vec<&[u8]>, AllocError>
+    ensures { IfOk result (λ names. map (λ name. name.now) names.items ≡ names_of_list list.now) }
 {
     list.split(|byte| *byte == 0)
         .filter(|name| !name.is_empty())
@@ -71,7 +72,7 @@ fn names_in(alloc: Global, list: &[u8]) -> Result<Vec<&[u8]>, AllocError>
 
 /// Puts a name and its end behind others.
 fn push_name(kept: &mut Vec<u8>, name: &[u8]) -> Result<(), AllocError>
-    ensures { OnOk result (kept.new.items ≡ kept.old.items ++ ended name.now) }
+    ensures { OnOk result (kept.new.items ≡ kept.old.items ++ nul_ended name.now) }
 {
     kept.extend_from_slice(name)?;
     kept.push(0)?;
@@ -129,7 +130,7 @@ impl XattrMap {
             (error ≡ MapError.Unmet) × (server_list self.now list.now ≡ None)) }
     {
         let mut kept = Vec::new(alloc);
-        let names = names_in(alloc, list)?;
+        let names = names_of_list(alloc, list)?;
         for name in &names {
             self.push_listed(&mut kept, name)?;
         }

@@ -150,7 +150,7 @@ impl XattrRule {
         }
     }
 
-    /// Whether one of the plain rules that it stands for meets every name from this side, as the last of a `map` does.
+    /// Whether a plain rule that it stands for meets every name from this side, as the last one of a `map` does.
     pub(crate) fn any_meets_all(&self, side: Side) -> bool
         ensures { result ≡ list_any (meets_all side) (rules_of self.now) }
     {

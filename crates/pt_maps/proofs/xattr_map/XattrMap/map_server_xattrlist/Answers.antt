@@ -3,7 +3,7 @@ use Rattle.std.specs.Prelude.{option_map}
 use Rattle.std.specs.Borrow.{Bor}
 use Rattle.std.proofs.lemmas.List.{length-map}
 use Rattle.pt_maps.specs.declared.error.MapError.TheVariants.{Memory, Unmet}
-use Rattle.pt_maps.specs.MappedNames.{listed_name, listed_names, names_in, server_list}
+use Rattle.pt_maps.specs.MappedNames.{listed_name, listed_names, names_of_list, server_list}
 use Rattle.pt_maps.proofs.ListedNames.{texts, text_at, listed_next, unmet_here, listed_whole}
 use Rattle.pt_maps.proofs.Whole.{passed}
 use Rattle.pt_maps.proofs.xattr_map.XattrMap.map_server_xattrlist.Goals as goal
@@ -30,7 +30,7 @@ returns-in_err-push_listed-clause-unmet c =
     let place = c.loop-name.name-index in
     let rules = c.args.self.now in
     let within : place < length (texts items) = rw length-map c.loop-name-test.true in
-    let all : texts items ≡ names_in c.args.list.now =
+    let all : texts items ≡ names_of_list c.args.list.now =
     ap texts c.deref-name-items.ensures.value ∙ c.in_ok-names.ensures in
     passed (λ error. error ≢ Memory → (error ≡ Unmet) × (server_list rules c.args.list.now ≡ None)) _ _
     c.from_residual-in_err-push_listed.ensures.1
@@ -45,7 +45,7 @@ pub returns-clause-names : goal.returns-clause-names
 returns-clause-names c =
     let items = c.deref-name-items.result.now in
     let rules = c.args.self.now in
-    let all : texts items ≡ names_in c.args.list.now =
+    let all : texts items ≡ names_of_list c.args.list.now =
     ap texts c.deref-name-items.ensures.value ∙ c.in_ok-names.ensures in
     let past : length (texts items) ≤ c.loop-name.name-index = rw length-map c.loop-name-test.false in
     ap (λ names. listed_names rules names) (sym all)

@@ -2,7 +2,7 @@ use Rattle.std.proofs.Common.{◌==◌, not, length, List, ℕ, rules}
 use borrow.Author.Tests.{tests}
 use Rattle.std.proofs.lemmas.Iterator.Consumers.{map_from_collect, YieldsList-from_filter, YieldsList-at}
 use Rattle.std.proofs.lemmas.Iterator.Splits.{YieldsList-from_slice_split}
-use Rattle.pt_maps.proofs.xattr_map.names_in.Goals as goal
+use Rattle.pt_maps.proofs.xattr_map.names_of_list.Goals as goal
 
 pub returns : goal.returns
 returns c = map_from_collect _ c.collect.ensures.ran (YieldsList-from_filter _
