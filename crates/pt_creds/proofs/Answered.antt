@@ -3,9 +3,9 @@ use Rattle.std.proofs.Common.{◌≡◌, ℕ, List, Option, Result, Ok, Err, sym
 use Rattle.pt_host.specs.declared.seat.HostSeat.{HostSeat}
 use Rattle.pt_creds.specs.Calls.{Does, CallMade, CallsLead, asked_in}
 use Rattle.pt_creds.specs.Identity.{Credentials, IsWhole}
-use Rattle.pt_creds.specs.Guard.{Guarded, no_change, if_any, euid_calls, egid_calls}
+use Rattle.pt_creds.specs.Guard.{Guarded, if_any, euid_calls, egid_calls}
 use Rattle.pt_creds.specs.Steps.{cred_steps, group_calls, raise_calls}
-use Rattle.pt_creds.specs.Progress.{TakesStep, IsUndone, keeping_uid, keeping_gid, keeping_groups}
+use Rattle.pt_creds.specs.Progress.{no_change, TakesStep, IsUndone, keeping_uid, keeping_gid, keeping_groups}
 use Rattle.pt_creds.specs.declared.credentials.CredSteps.{CredSteps}
 use Rattle.pt_creds.specs.declared.error.CredError.{CredError}
 use Rattle.pt_creds.proofs.Making.{Law}

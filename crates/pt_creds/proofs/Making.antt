@@ -10,9 +10,9 @@ use Rattle.pt_host.specs.declared.ids.Errno.{Errno}
 use Rattle.pt_host.specs.declared.seat.HostSeat.{HostSeat}
 use Rattle.pt_host.specs.declared.reply.HostReply.{HostReply}
 use Rattle.pt_host.specs.declared.reply.HostReply.TheVariants as reply
-use Rattle.pt_creds.specs.Calls.{Does, CallMade, CallsLead, asked_in, IsDone, AllDone, FailsWith, FirstFails}
+use Rattle.pt_creds.specs.Calls.{Does, CallMade, CallsLead, asked_in, IsDone, AllDone, FailsWith}
 use Rattle.pt_creds.specs.Calls.{FirstFaults}
-use Rattle.pt_creds.specs.Calls.{IsOutcome, IsOutcomeOf}
+use Rattle.pt_creds.specs.Progress.{IsOutcome, FirstFails, IsOutcomeOf}
 use Rattle.pt_creds.specs.Guard.{Guarded, calls_back}
 use Rattle.pt_creds.specs.Progress.{Plays, FitsSeat, TellsWhy, IsUndone}
 use Rattle.pt_creds.specs.declared.error.CredError.{CredError}

@@ -18,10 +18,10 @@ use Rattle.pt_creds.specs.Calls.{Does, CallMade, CallsLead, asked_in, IsDone, Al
 use Rattle.pt_creds.specs.Identity.{Credentials, IsWhole, uid_under, gid_under, id_under, groups_under, leaves_root}
 use Rattle.pt_creds.specs.Identity.{caps_under}
 use Rattle.pt_creds.specs.Identity.{seat_under, override_cap}
-use Rattle.pt_creds.specs.Guard.{Guarded, no_change, if_any, euid_calls, egid_calls, calls_back}
+use Rattle.pt_creds.specs.Guard.{Guarded, if_any, euid_calls, egid_calls, calls_back}
 use Rattle.pt_creds.specs.Steps.{id_to_set, cred_steps, group_calls, raise_calls, calls_of, was, changes_of, guard_of}
 use Rattle.pt_creds.specs.Steps.{back_from}
-use Rattle.pt_creds.specs.Progress.{Plays, FitsSeat, IsUndone, keeping_uid, keeping_gid, keeping_groups}
+use Rattle.pt_creds.specs.Progress.{no_change, Plays, FitsSeat, IsUndone, keeping_uid, keeping_gid, keeping_groups}
 use Rattle.pt_creds.specs.Setting.{MayFail, AllPass, IsTakenBack, Sets, raises, has_raised, LeavesSeat}
 use Rattle.pt_creds.specs.Setting.{RisesWhereLost, IsLeftBy}
 use Rattle.pt_creds.specs.declared.error.CredError.{CredError}

@@ -1,5 +1,5 @@
 -- Believed. Calls that were made of a host one after another, and what they were answered.
-use Rattle.std.specs.Prelude.{◌≡◌, ◌⊎◌, List, [], ◌∷◌, Result, Ok, Err}
+use Rattle.std.specs.Prelude.{◌≡◌, ◌⊎◌, List, [], ◌∷◌}
 use Rattle.pt_host.specs.Call.{Call}
 use Rattle.pt_host.specs.declared.ids.Errno.{Errno}
 use Rattle.pt_host.specs.declared.seat.HostSeat.{HostSeat}
@@ -41,22 +41,7 @@ FailsWith (reply.Refused errno) told = told ≡ errno
 FailsWith (reply.Fault errno) told = told ≡ errno
 FailsWith _ told = ⊥
 
--- what became of one call
-abbrev pub IsOutcome : HostReply → Result Unit Errno → Type 0
-IsOutcome told (Ok done) = IsDone told
-IsOutcome told (Err errno) = FailsWith told errno
-
--- the first that was not Ok failed so
-abbrev pub FirstFails : List CallMade → Errno → Type 0
-FirstFails [] errno = ⊥
-FirstFails (made ∷ rest) errno = FailsWith made.told errno ⊎ (IsDone made.told × FirstFails rest errno)
-
 -- the first that was not Ok is a fault, with this error
 abbrev pub FirstFaults : List CallMade → Errno → Type 0
 FirstFaults [] errno = ⊥
 FirstFaults (made ∷ rest) errno = (made.told ≡ reply.Fault errno) ⊎ (IsDone made.told × FirstFaults rest errno)
-
--- all were Ok, or this is why the first was not that was not
-abbrev pub IsOutcomeOf : List CallMade → Result Unit Errno → Type 0
-IsOutcomeOf made (Ok done) = AllDone made
-IsOutcomeOf made (Err errno) = FirstFails made errno

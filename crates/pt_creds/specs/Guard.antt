@@ -9,9 +9,6 @@ pub record Guarded : Type 0 where
   pub gid : Option ℕ
   pub groups : Option (List ℕ)
 
-abbrev pub no_change : Guarded
-no_change = record { uid = None; gid = None; groups = None }
-
 -- none where there is nothing to come back to
 abbrev pub if_any : Guarded → Option Guarded
 if_any guard = if is_some guard.uid || is_some guard.gid || is_some guard.groups then Some guard else None

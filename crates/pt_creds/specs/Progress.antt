@@ -1,12 +1,32 @@
 -- Inner. How far a `set` or a `restore` has come: what the parts of them make.
-use Rattle.std.specs.Prelude.{◌≡◌, ◌≤◌, ℕ, List, [], ◌∷◌, Option, Some, None, Result, Ok, Err, length}
+use Rattle.std.specs.Prelude.{◌≡◌, ◌⊎◌, ◌≤◌, ℕ, List, [], ◌∷◌, Option, Some, None, Result, Ok, Err, length}
 use Rattle.pt_host.specs.Call.{Call}
 use Rattle.pt_host.specs.declared.ids.Errno.{Errno}
 use Rattle.pt_host.specs.declared.seat.HostSeat.{HostSeat}
-use Rattle.pt_creds.specs.Calls.{Does, CallMade, CallsLead, asked_in, AllDone, FailsWith, FirstFails, IsOutcomeOf}
+use Rattle.pt_creds.specs.Calls.{Does, CallMade, CallsLead, asked_in, IsDone, AllDone, FailsWith}
+use Rattle.pt_host.specs.declared.reply.HostReply.{HostReply}
 use Rattle.pt_creds.specs.Guard.{Guarded, calls_back}
 use Rattle.pt_creds.specs.declared.error.CredError.{CredError}
 use Rattle.pt_creds.specs.declared.error.CredError.TheVariants as error
+
+-- what became of one call
+abbrev pub IsOutcome : HostReply → Result Unit Errno → Type 0
+IsOutcome told (Ok done) = IsDone told
+IsOutcome told (Err errno) = FailsWith told errno
+
+-- the first that was not Ok failed so
+abbrev pub FirstFails : List CallMade → Errno → Type 0
+FirstFails [] errno = ⊥
+FirstFails (made ∷ rest) errno = FailsWith made.told errno ⊎ (IsDone made.told × FirstFails rest errno)
+
+-- all were Ok, or this is why the first was not
+abbrev pub IsOutcomeOf : List CallMade → Result Unit Errno → Type 0
+IsOutcomeOf made (Ok done) = AllDone made
+IsOutcomeOf made (Err errno) = FirstFails made errno
+
+-- nothing was changed yet
+abbrev pub no_change : Guarded
+no_change = record { uid = None; gid = None; groups = None }
 
 -- these calls were all made, each once and whatever the others were answered, and this became of them
 abbrev pub Plays : {H : Type 0} → Does H → List Call → H → HostSeat → H → HostSeat → Result Unit Errno → Type 0

@@ -2,10 +2,10 @@ ghost use Rattle.std.specs.Prelude.{◌≡◌, List};
 ghost use Rattle.pt_host.specs.Call.{call_of};
 ghost use Rattle.pt_host.specs.Promises.{MayLackMemory};
 ghost use Rattle.pt_host.specs.declared.reply.HostReply.{HostReply};
-ghost use Rattle.pt_creds.specs.Calls.{CallMade, CallsLead, asked_in, IsOutcome};
+ghost use Rattle.pt_creds.specs.Calls.{CallMade, CallsLead, asked_in};
 ghost use Rattle.pt_creds.specs.Guard.{euid_calls, egid_calls, groups_calls};
 ghost use Rattle.pt_creds.specs.Steps.{raise_calls};
-ghost use Rattle.pt_creds.specs.Progress.{Plays, FitsSeat};
+ghost use Rattle.pt_creds.specs.Progress.{IsOutcome, Plays, FitsSeat};
 
 use pt_host::{Caps, Errno, Groups, Host, HostOp, HostReply, HostSeat};
 

@@ -2,11 +2,11 @@ ghost use Rattle.std.specs.Prelude.{◌≡◌, List, IfErr, OnOk, OnErr};
 ghost use Rattle.pt_host.specs.declared.seat.HostSeat.{HostSeat};
 ghost use Rattle.pt_host.specs.Promises.{HasRisen};
 ghost use Rattle.pt_creds.specs.Calls.{CallMade, CallsLead, asked_in};
-ghost use Rattle.pt_creds.specs.Guard.{no_change, if_any, euid_calls, egid_calls, calls_back};
+ghost use Rattle.pt_creds.specs.Guard.{if_any, euid_calls, egid_calls, calls_back};
 ghost use Rattle.pt_creds.specs.Setting.{Restores, IsLeftBy};
 ghost use Rattle.pt_creds.specs.Steps.{group_calls};
 ghost use Rattle.pt_creds.specs.Progress.{Plays, FitsSeat, TakesStep, keeping_uid, keeping_gid};
-ghost use Rattle.pt_creds.specs.Progress.{keeping_groups, TellsWhy};
+ghost use Rattle.pt_creds.specs.Progress.{keeping_groups, no_change, TellsWhy};
 
 use crate::calls::{make, set_egid, set_euid, set_groups};
 use crate::error::CredError;
