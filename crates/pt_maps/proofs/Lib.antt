@@ -1,0 +1,9 @@
+pub mod Nearest
+pub mod Lists
+pub mod Apart
+pub mod Indexing
+pub mod Whole
+pub mod Unambiguous
+pub mod NameRules
+pub mod ListedNames
+pub mod Terminated
