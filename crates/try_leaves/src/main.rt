@@ -2,8 +2,12 @@
 #![tactic(auto)]
 
 mod copies;
+mod creds;
 mod flags;
+mod ids;
 mod lengths;
+mod names;
+mod planned;
 mod seats;
 mod texts;
 
@@ -19,6 +23,11 @@ fn answer(alloc: Global, seat: &mut HostSeat, words: &[&str]) -> Result<String, 
         ["length", rest @ ..] => lengths::answer(alloc, rest),
         ["copy", rest @ ..] => copies::answer(alloc, rest),
         ["seat", rest @ ..] => seats::answer(alloc, seat, rest),
+        ["ids", rest @ ..] => ids::answer(alloc, rest),
+        ["names", rest @ ..] => names::answer(alloc, rest),
+        ["creds", rest @ ..] => creds::creds(alloc, rest),
+        ["cap", rest @ ..] => creds::cap(alloc, rest),
+        ["mask", rest @ ..] => creds::mask(alloc, rest),
         _ => String::from_str(alloc, "no call"),
     }
 }
