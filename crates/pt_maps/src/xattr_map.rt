@@ -15,6 +15,7 @@ use std::marker::Model;
 /// Rules by which names of extended attributes are translated: the first that meets a name says what becomes of it.
 #[derive(Debug, Drop)]
 pub struct XattrMap {
+    alloc: Global,
     rules: Vec<XattrRule>,
 }
 
@@ -93,10 +94,10 @@ fn any_meets_all(rules: &[XattrRule], side: Side) -> bool
 
 impl XattrMap {
     /// These rules. Takes no memory.
-    pub fn from_rules(rules: Vec<XattrRule>) -> XattrMap
+    pub fn from_rules(alloc: Global, rules: Vec<XattrRule>) -> XattrMap
         ensures { result ≡ rules.items }
     {
-        XattrMap { rules }
+        XattrMap { alloc, rules }
     }
 
     /// Whether some rule meets every name of the client, and some every name that the host lists.
@@ -107,7 +108,7 @@ impl XattrMap {
     }
 
     /// What becomes of a name that the client asks for.
-    pub fn map_client_xattr(&self, alloc: Global, name: &[u8]) -> Result<AppliedRule, MapError>
+    pub fn map_client_xattr(&self, name: &[u8]) -> Result<AppliedRule, MapError>
         ensures applied { IfOk result (λ applied. client_name self.now name.now ≡ Some applied) }
         ensures unmet { IfErr result (λ error. error ≢ MapError.Memory →
             (error ≡ MapError.Unmet) × (client_name self.now name.now ≡ None)) }
@@ -116,21 +117,21 @@ impl XattrMap {
             return Err(MapError::Unmet);
         };
         match rule.kind {
-            RuleKind::Prefix => Ok(AppliedRule::Pass(joined(alloc, rule.prepend, name)?)),
-            RuleKind::Okay => Ok(AppliedRule::Pass(Bytes::from_slice(alloc, name)?)),
+            RuleKind::Prefix => Ok(AppliedRule::Pass(joined(self.alloc, rule.prepend, name)?)),
+            RuleKind::Okay => Ok(AppliedRule::Pass(Bytes::from_slice(self.alloc, name)?)),
             RuleKind::Bad => Ok(AppliedRule::Deny),
             RuleKind::Unsupported => Ok(AppliedRule::Unsupported),
         }
     }
 
     /// What the client is told of a list of names of the host's, a NUL behind each.
-    pub fn map_server_xattrlist(&self, alloc: Global, list: &[u8]) -> Result<Bytes, MapError>
+    pub fn map_server_xattrlist(&self, list: &[u8]) -> Result<Bytes, MapError>
         ensures names { IfOk result (λ names. server_list self.now list.now ≡ Some names) }
         ensures unmet { IfErr result (λ error. error ≢ MapError.Memory →
             (error ≡ MapError.Unmet) × (server_list self.now list.now ≡ None)) }
     {
-        let mut kept = Vec::new(alloc);
-        let names = names_of_list(alloc, list)?;
+        let mut kept = Vec::new(self.alloc);
+        let names = names_of_list(self.alloc, list)?;
         for name in &names {
             self.push_listed(&mut kept, name)?;
         }

@@ -54,7 +54,7 @@ fn text_of(alloc: Global, bytes: &[u8]) -> Result<String, AllocError> {
 }
 
 fn client(alloc: Global, map: &XattrMap, name: &str) -> Result<String, AllocError> {
-    match map.map_client_xattr(alloc, name.as_bytes()) {
+    match map.map_client_xattr(name.as_bytes()) {
         Ok(AppliedRule::Pass(name)) => {
             let name = text_of(alloc, name.as_slice())?;
             format!(in alloc; "Pass {name}")
@@ -72,7 +72,7 @@ fn listed(alloc: Global, map: &XattrMap, names: &[&str]) -> Result<String, Alloc
         list.extend_from_slice(name.as_bytes())?;
         list.push(0)?;
     }
-    match map.map_server_xattrlist(alloc, list.as_slice()) {
+    match map.map_server_xattrlist(list.as_slice()) {
         Ok(names) => text_of(alloc, names.as_slice()),
         Err(error) => format!(in alloc; "{error:?}"),
     }
@@ -89,7 +89,7 @@ pub fn answer(alloc: Global, words: &[&str]) -> Result<String, AllocError> {
         }
     }
     let rest = words.get(rules.len()..).unwrap_or(&[]);
-    let map = XattrMap::from_rules(rules);
+    let map = XattrMap::from_rules(alloc, rules);
     match rest {
         ["client", name] => client(alloc, &map, name),
         ["listed", names @ ..] => listed(alloc, &map, names),
