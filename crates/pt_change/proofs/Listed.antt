@@ -1,5 +1,6 @@
 -- The records of a directory, entry by entry.
-use Rattle.std.proofs.Common.{◌≡◌, ◌≤◌, ◌+◌, ◌-◌, ◌%◌, ◌/◌, ◌++◌, ◌∷◌, [], ℕ, zero, suc, true, false, cond, List, Some, drop}
+use Rattle.std.proofs.Common.{◌≡◌, ◌≤◌, ◌+◌, ◌-◌, ◌%◌, ◌/◌, ◌++◌, ◌∷◌, [], ℕ, zero, suc, true, false, cond, List}
+use Rattle.std.proofs.Common.{Some, drop}
 use Rattle.std.proofs.Common.{length, nat_le, refl, ap, sym, ◌∙◌, arith, append_assoc, slice_get}
 use Rattle.std.specs.Int.{to_le_bytes, w16}
 use Rattle.pt_rules.specs.ListCalls.{before_others, record_at, record_size, records}

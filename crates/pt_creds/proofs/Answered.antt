@@ -1,7 +1,8 @@
 -- How a `set` ends, by how far it came.
 use Rattle.std.proofs.Common.{◌≡◌, ℕ, List, Option, Result, Ok, Err, sym, ap, ◌∙◌, subst, subst₂}
 use Rattle.pt_host.specs.declared.seat.HostSeat.{HostSeat}
-use Rattle.pt_creds.specs.Calls.{Does, CallMade, CallsLead, asked_in}
+use Rattle.pt_host.specs.Relation.{HostRelation}
+use Rattle.pt_creds.specs.Calls.{CallMade, CallsLead, asked_in}
 use Rattle.pt_creds.specs.Identity.{Credentials, IsWhole}
 use Rattle.pt_creds.specs.Guard.{Guarded, if_any, euid_calls, egid_calls}
 use Rattle.pt_creds.specs.Steps.{cred_steps, group_calls, raise_calls}
@@ -12,7 +13,7 @@ use Rattle.pt_creds.proofs.Making.{Law}
 use Rattle.pt_creds.proofs.Settings.{Settled, Halfway, halfway, failed_at_group, failed_at_gid, failed_at_uid}
 use Rattle.pt_creds.proofs.Settings.{succeeded}
 
-module _ {H : Type 0} (does : Does H) (faults : H →
+module _ {H : Type 0} (does : HostRelation H) (faults : H →
     ℕ) (law : Law does faults) (creds : Credentials) (steps : CredSteps) (h0 : H) (s0 : HostSeat) (whole : IsWhole s0)
     (planned : steps ≡ cred_steps creds s0) (new : Guarded) (empty : new ≡ no_change) where
   pub no_group : (h1 : H) (s1 : HostSeat) (why : CredError) (result : Result (Option Guarded) CredError) →

@@ -10,7 +10,8 @@ use Rattle.pt_host.specs.declared.ids.Errno.{Errno}
 use Rattle.pt_host.specs.declared.seat.HostSeat.{HostSeat}
 use Rattle.pt_host.specs.declared.reply.HostReply.{HostReply}
 use Rattle.pt_host.specs.declared.reply.HostReply.TheVariants as reply
-use Rattle.pt_creds.specs.Calls.{Does, CallMade, CallsLead, asked_in, IsDone, AllDone, FailsWith}
+use Rattle.pt_host.specs.Relation.{HostRelation}
+use Rattle.pt_creds.specs.Calls.{CallMade, CallsLead, asked_in, IsDone, AllDone, FailsWith}
 use Rattle.pt_creds.specs.Calls.{FirstFaults}
 use Rattle.pt_creds.specs.Progress.{IsOutcome, FirstFails, IsOutcomeOf}
 use Rattle.pt_creds.specs.Guard.{Guarded, calls_back}
@@ -18,13 +19,13 @@ use Rattle.pt_creds.specs.Progress.{Plays, FitsSeat, TellsWhy, IsUndone}
 use Rattle.pt_creds.specs.declared.error.CredError.{CredError}
 
 -- what every host keeps
-abbrev pub Law : {H : Type 0} → Does H → (H → ℕ) → Type 0
+abbrev pub Law : {H : Type 0} → HostRelation H → (H → ℕ) → Type 0
 Law {H} does faults =
     (host : H) (seat : HostSeat) (asked : Call) (told : HostReply) (after : H) (seat_after : HostSeat) →
     does host seat asked told after seat_after → IsPromised (faults host) seat asked told (faults after) seat_after
 
-pub makes_on : {H : Type 0} (does : Does H) (first second : List CallMade) (h0 h1 h2 : H) (s0 s1 s2 : HostSeat) →
-    CallsLead does first h0 s0 h1 s1 → CallsLead does second h1 s1 h2 s2 →
+pub makes_on : {H : Type 0} (does : HostRelation H) (first second : List CallMade) (h0 h1 h2 : H)
+    (s0 s1 s2 : HostSeat) → CallsLead does first h0 s0 h1 s1 → CallsLead does second h1 s1 h2 s2 →
     CallsLead does (first ++ second) h0 s0 h2 s2
 makes_on does [] second h0 h1 h2 s0 s1 s2 before after = rw (← before.0, ← before.1) after
 makes_on does (made ∷ first) second h0 h1 h2 s0 s1 s2 before after =
@@ -57,7 +58,7 @@ outcome_on first second (Ok done) (Err errno) one other = fails_behind first sec
 outcome_on first second (Err errno) other one then = fails_before first second errno one
 
 -- calls that were all made, and then others
-pub plays_on : {H : Type 0} (does : Does H) (first second : List Call) (h0 h1 h2 : H) (s0 s1 s2 : HostSeat)
+pub plays_on : {H : Type 0} (does : HostRelation H) (first second : List Call) (h0 h1 h2 : H) (s0 s1 s2 : HostSeat)
     (one other : Result Unit Errno) →
     Plays does first h0 s0 h1 s1 one → Plays does second h1 s1 h2 s2 other →
     Plays does (first ++ second) h0 s0 h2 s2 (result_and one other)
@@ -74,7 +75,7 @@ outcome_of_one made (Ok done) is = (is, tt)
 outcome_of_one made (Err errno) is = inl is
 
 -- one call that was made
-pub plays_one : {H : Type 0} (does : Does H) (asked : Call) (h0 h1 : H) (s0 s1 : HostSeat)
+pub plays_one : {H : Type 0} (does : HostRelation H) (asked : Call) (h0 h1 : H) (s0 s1 : HostSeat)
     (result : Result Unit Errno) →
     ((told : HostReply) × does h0 s0 asked told h1 s1 × IsOutcome told result) →
     Plays does (asked ∷ []) h0 s0 h1 s1 result
@@ -82,11 +83,11 @@ plays_one does asked h0 h1 s0 s1 result made =
     let only : CallMade = record { asked = asked; told = made.0 } in
     (only ∷ [], (h1, s1, made.1, (refl, refl)), refl, outcome_of_one only result made.2)
 
-pub plays_none : {H : Type 0} (does : Does H) (h0 : H) (s0 : HostSeat) → Plays does [] h0 s0 h0 s0 (Ok tt)
+pub plays_none : {H : Type 0} (does : HostRelation H) (h0 : H) (s0 : HostSeat) → Plays does [] h0 s0 h0 s0 (Ok tt)
 plays_none does h0 s0 = ([], (refl, refl), refl, tt)
 
 -- a step was refused, and then everything was taken back
-pub undoes : {H : Type 0} (does : Does H) (asked : Call) (guard : Guarded) (h0 h1 h2 : H) (s0 s1 s2 : HostSeat)
+pub undoes : {H : Type 0} (does : HostRelation H) (asked : Call) (guard : Guarded) (h0 h1 h2 : H) (s0 s1 s2 : HostSeat)
     (errno : Errno) (why : CredError) →
     ((told : HostReply) × does h0 s0 asked told h1 s1 × IsOutcome told (Err errno)) →
     ((back : List CallMade) × CallsLead does back h1 s1 h2 s2 × (asked_in back ≡ calls_back guard) ×
@@ -129,7 +130,7 @@ stayed seat asked (reply.Fault why) after errno step fails = step.leaves
 stayed seat asked reply.NoMemory after errno step fails = absurd fails
 
 -- calls that are all Ok lead the seat
-pub leads : {H : Type 0} (does : Does H) (faults : H → ℕ) → Law does faults →
+pub leads : {H : Type 0} (does : HostRelation H) (faults : H → ℕ) → Law does faults →
     (made : List CallMade) (h0 h1 : H) (s0 s1 : HostSeat) →
     CallsLead does made h0 s0 h1 s1 → AllDone made → s1 ≡ led s0 (asked_in made)
 leads does faults law [] h0 h1 s0 s1 makes done = makes.1
@@ -139,7 +140,7 @@ leads does faults law (made ∷ rest) h0 h1 s0 s1 makes done =
     leads does faults law rest makes.0 h1 makes.1 s1 makes.3 done.1 ∙ ap (λ seat. led seat (asked_in rest)) first
 
 -- the count of faults never falls
-pub never_falls : {H : Type 0} (does : Does H) (faults : H → ℕ) → Law does faults →
+pub never_falls : {H : Type 0} (does : HostRelation H) (faults : H → ℕ) → Law does faults →
     (made : List CallMade) (h0 h1 : H) (s0 s1 : HostSeat) →
     CallsLead does made h0 s0 h1 s1 → faults h0 ≤ faults h1
 never_falls does faults law [] h0 h1 s0 s1 makes = let e = ap faults makes.0 in omega arith
@@ -186,7 +187,7 @@ fault_at before mid after seat asked reply.NoMemory between errno Later Then law
     absurd next.0
 
 -- Where none of the calls may be refused, the first that is not Ok is a fault, and the host's count shows it.
-pub fails_by_fault : {H : Type 0} (does : Does H) (faults : H → ℕ) → Law does faults →
+pub fails_by_fault : {H : Type 0} (does : HostRelation H) (faults : H → ℕ) → Law does faults →
     (made : List CallMade) (h0 h1 : H) (s0 s1 : HostSeat) (errno : Errno) →
     CallsLead does made h0 s0 h1 s1 → IsSure s0 (asked_in made) → FirstFails made errno →
     FirstFaults made errno × HasRisen (faults h0) (faults h1)

@@ -14,7 +14,8 @@ use Rattle.pt_host.specs.declared.seat.HostSeat.{HostSeat}
 use Rattle.pt_host.specs.declared.op.KeptHostOp.TheVariants as call
 use Rattle.pt_host.specs.declared.reply.HostReply.{HostReply}
 use Rattle.pt_host.specs.declared.reply.HostReply.TheVariants as reply
-use Rattle.pt_creds.specs.Calls.{Does, CallMade, CallsLead, asked_in, IsDone, AllDone, FirstFaults}
+use Rattle.pt_host.specs.Relation.{HostRelation}
+use Rattle.pt_creds.specs.Calls.{CallMade, CallsLead, asked_in, IsDone, AllDone, FirstFaults}
 use Rattle.pt_creds.specs.Identity.{Credentials, IsWhole, uid_under, gid_under, id_under, groups_under, leaves_root}
 use Rattle.pt_creds.specs.Identity.{caps_under}
 use Rattle.pt_creds.specs.Identity.{seat_under, override_cap}
@@ -126,7 +127,7 @@ under_gid creds seat =
     (sym (caps_same (with_ids creds 0 creds.gid) false seat refl))
 
 -- the seat where calls that were all Ok lead
-played : {H : Type 0} (does : Does H) (faults : H → ℕ) → Law does faults →
+played : {H : Type 0} (does : HostRelation H) (faults : H → ℕ) → Law does faults →
     (calls : List Call) (h0 h1 : H) (s0 s1 : HostSeat) →
     Plays does calls h0 s0 h1 s1 (Ok tt) → s1 ≡ led s0 calls
 played does faults law calls h0 h1 s0 s1 p = leads does faults law p.0 h0 h1 s0 s1 p.1 p.3 ∙ ap (λ c. led s0 c) p.2
@@ -145,7 +146,7 @@ may_at seat list (reply.Fault errno) after step done = absurd done
 may_at seat list reply.NoMemory after step done = absurd done
 
 -- groups were set by the capability for it
-pub allowed : {H : Type 0} (does : Does H) (faults : H → ℕ) → Law does faults →
+pub allowed : {H : Type 0} (does : HostRelation H) (faults : H → ℕ) → Law does faults →
     (o : Option ℕ) (made : List CallMade) (h0 h1 : H) (s0 s1 : HostSeat) →
     CallsLead does made h0 s0 h1 s1 → asked_in made ≡ group_calls o → AllDone made → is_some o ≡ true →
     includes s0.eff_caps.0 cap_setgid ≡ true
@@ -171,7 +172,7 @@ pub record Undone {H : Type 0}
   pub seat : (e : Errno) → why ≡ error.Host e → s1 ≡ before
   pub lost : RisesWhereLost (faults h0) (faults h1) why
 
-pub undone : {H : Type 0} (does : Does H) (faults : H → ℕ) → Law does faults →
+pub undone : {H : Type 0} (does : HostRelation H) (faults : H → ℕ) → Law does faults →
     (creds : Credentials) (before : HostSeat) → IsWhole before →
     (is_some creds.sup_gid ≡ true → includes before.eff_caps.0 cap_setgid ≡ true) →
     (calls : List Call) (guard : Guarded) (h0 h1 : H) (s0 s1 : HostSeat) (why : CredError) →
@@ -261,7 +262,7 @@ kept_uid o p (Some uid) before seat same =
     ap G same
 
 -- What a `set` ensures, of host and seat as it began and as it ended.
-pub record Settled {H : Type 0} (does : Does H) (faults : H →
+pub record Settled {H : Type 0} (does : HostRelation H) (faults : H →
     ℕ) (creds : Credentials) (h0 : H) (s0 : HostSeat) (h1 : H) (s1 : HostSeat)
     (result : Result (Option Guarded) CredError) : Type 0 where
   pub made : (made : List CallMade) × CallsLead does made h0 s0 h1 s1 × Sets (cred_steps creds s0) s0 made result ×
@@ -281,7 +282,7 @@ rises_from a b c (error.Host e) falls rises = tt
 rises_from a b c (error.Lost e) falls rises = risen_before a b c falls rises
 
 -- a step of these was refused: those before it were done, and they are what the guard takes back
-pub failed : {H : Type 0} (does : Does H) (faults : H → ℕ) → Law does faults →
+pub failed : {H : Type 0} (does : HostRelation H) (faults : H → ℕ) → Law does faults →
     (creds part : Credentials) (done : List CallMade) (calls later : List Call) (guard : Guarded)
     (h0 h1 h2 : H) (s0 s1 s2 : HostSeat) (why : CredError) → IsWhole s0 →
     (is_some part.sup_gid ≡ true → includes s0.eff_caps.0 cap_setgid ≡ true) →
@@ -322,7 +323,7 @@ failed does faults law creds part done calls later guard h0 h1 h2 s0 s1 s2 why w
           end.lost;
     }
 
-pub failed_at_group : {H : Type 0} (does : Does H) (faults : H → ℕ) → Law does faults →
+pub failed_at_group : {H : Type 0} (does : HostRelation H) (faults : H → ℕ) → Law does faults →
     (creds : Credentials) (h0 h1 : H) (s0 s1 : HostSeat) (why : CredError) → IsWhole s0 →
     IsUndone does (group_calls creds.sup_gid) no_change h0 s0 h1 s1 why →
     Settled does faults creds h0 s0 h1 s1 (Err why)
@@ -338,7 +339,7 @@ failed_at_group does faults law creds h0 h1 s0 s1 why whole u =
     (append_assoc (G ++ E) U R ∙ append_assoc G E (U ++ R)) (quiet_group creds.sup_gid)
     (ap (λ c. seated s0 s0.eff_uid s0.eff_gid s0.groups c) (sym (caps_same part false s0 refl))) refl refl u
 
-pub failed_at_gid : {H : Type 0} (does : Does H) (faults : H → ℕ) → Law does faults →
+pub failed_at_gid : {H : Type 0} (does : HostRelation H) (faults : H → ℕ) → Law does faults →
     (creds : Credentials) (guard : Guarded) (h0 h1 h2 : H) (s0 s1 s2 : HostSeat) (why : CredError) →
     IsWhole s0 → Plays does (group_calls creds.sup_gid) h0 s0 h1 s1 (Ok tt) →
     guard ≡ keeping_groups creds.sup_gid s0 no_change →
@@ -360,7 +361,8 @@ failed_at_gid does faults law creds guard h0 h1 h2 s0 s1 s2 why whole group is u
     (ap calls_back kept_now ∙ back_group creds.sup_gid s0 ∙ ap (λ c. back_from s0 c) (sym group.2)) u
 
 -- group and gid were taken on
-pub record Halfway {H : Type 0} (does : Does H) (creds : Credentials) (guard : Guarded) (h0 h1 : H) (s0 s1 : HostSeat)
+pub record Halfway {H : Type 0} (does : HostRelation H) (creds : Credentials) (guard : Guarded) (h0 h1 : H)
+    (s0 s1 : HostSeat)
     : Type 0 where
   pub made : List CallMade
   pub makes : CallsLead does made h0 s0 h1 s1
@@ -376,7 +378,7 @@ pub record Halfway {H : Type 0} (does : Does H) (creds : Credentials) (guard : G
   }
   pub may : is_some creds.sup_gid ≡ true → includes s0.eff_caps.0 cap_setgid ≡ true
 
-pub halfway : {H : Type 0} (does : Does H) (faults : H → ℕ) → Law does faults →
+pub halfway : {H : Type 0} (does : HostRelation H) (faults : H → ℕ) → Law does faults →
     (creds : Credentials) (first guard : Guarded) (h0 h1 h2 : H) (s0 s1 s2 : HostSeat) →
     Plays does (group_calls creds.sup_gid) h0 s0 h1 s1 (Ok tt) → first ≡ keeping_groups creds.sup_gid s0 no_change →
     Plays does (egid_calls (id_to_set creds.gid s0.eff_gid)) h1 s1 h2 s2 (Ok tt) →
@@ -400,7 +402,7 @@ halfway does faults law creds first guard h0 h1 h2 s0 s1 s2 group was_first gid 
       may = allowed does faults law creds.sup_gid group.0 h0 h1 s0 s1 group.1 group.2 group.3;
     }
 
-pub failed_at_uid : {H : Type 0} (does : Does H) (faults : H → ℕ) → Law does faults →
+pub failed_at_uid : {H : Type 0} (does : HostRelation H) (faults : H → ℕ) → Law does faults →
     (creds : Credentials) (guard : Guarded) (h0 h1 h2 : H) (s0 s1 s2 : HostSeat) (why : CredError) →
     IsWhole s0 → Halfway does creds guard h0 h1 s0 s1 →
     IsUndone does (euid_calls (id_to_set creds.uid s0.eff_uid)) guard h1 s1 h2 s2 why →
@@ -488,7 +490,7 @@ raised_step creds before whole (reply.Fault errno) after step = step.leaves
 raised_step creds before whole reply.NoMemory after step = step.leaves
 
 -- the capability that is raised last, or not
-raised_last : {H : Type 0} (does : Does H) (faults : H → ℕ) → Law does faults →
+raised_last : {H : Type 0} (does : HostRelation H) (faults : H → ℕ) → Law does faults →
     (creds : Credentials) (before : HostSeat) → IsWhole before → (raise : Bool) (made : List CallMade)
     (h0 h1 : H) (s0 s1 : HostSeat) → s0 ≡ seat_under creds false before → CallsLead does made h0 s0 h1 s1 →
     asked_in made ≡ raise_calls raise →
@@ -515,7 +517,7 @@ some_was None now = refl
 some_was (Some value) now = refl
 
 -- where nothing is to come back, no call was made
-nothing : {H : Type 0} (does : Does H) (o p q : Option ℕ) (keep : Bool) (uid gid : ℕ) (groups : List ℕ)
+nothing : {H : Type 0} (does : HostRelation H) (o p q : Option ℕ) (keep : Bool) (uid gid : ℕ) (groups : List ℕ)
     (made : List CallMade) (h0 h1 : H) (s0 s1 : HostSeat) →
     asked_in made ≡ group_calls o ++ egid_calls p ++ euid_calls q ++ raise_calls (keep && is_some q) →
     CallsLead does made h0 s0 h1 s1 →
@@ -533,7 +535,7 @@ nothing does None (Some y) (Some x) keep uid gid groups made h0 h1 s0 s1 asked m
 nothing does (Some z) (Some y) (Some x) keep uid gid groups made h0 h1 s0 s1 asked makes = tt
 
 -- all steps were taken
-pub succeeded : {H : Type 0} (does : Does H) (faults : H → ℕ) → Law does faults →
+pub succeeded : {H : Type 0} (does : HostRelation H) (faults : H → ℕ) → Law does faults →
     (creds : Credentials) (second guard : Guarded) (result : Option Guarded) (last : List CallMade) (h0 h1 h2 h3 : H)
     (s0 s1 s2 s3 : HostSeat) → IsWhole s0 → Halfway does creds second h0 h1 s0 s1 →
     Plays does (euid_calls (id_to_set creds.uid s0.eff_uid)) h1 s1 h2 s2 (Ok tt) →
@@ -596,7 +598,7 @@ succeeded does faults law creds second guard result last h0 h1 h2 h3 s0 s1 s2 s3
     }
 
 -- the calls of a `restore` were all Ok
-pub restored_back : {H : Type 0} (does : Does H) (faults : H → ℕ) → Law does faults →
+pub restored_back : {H : Type 0} (does : HostRelation H) (faults : H → ℕ) → Law does faults →
     (guard : Guarded) (before : HostSeat) (h0 h1 : H) (s0 s1 : HostSeat) → IsLeftBy before guard s0 →
     Plays does (calls_back guard) h0 s0 h1 s1 (Ok tt) → s1 ≡ before
 restored_back does faults law guard before h0 h1 s0 s1 by plays =
@@ -604,7 +606,7 @@ restored_back does faults law guard before h0 h1 s0 s1 by plays =
     ∙ ap₂ (λ s g. led s (calls_back g)) by.seated by.guarded ∙ comes_back by.creds by.raised before by.whole
 
 -- or one was not
-pub restored_lost : {H : Type 0} (does : Does H) (faults : H → ℕ) → Law does faults →
+pub restored_lost : {H : Type 0} (does : HostRelation H) (faults : H → ℕ) → Law does faults →
     (guard : Guarded) (before : HostSeat) (h0 h1 : H) (s0 s1 : HostSeat) (errno : Errno) → IsLeftBy before guard s0 →
     FitsSeat guard.groups → (p : Plays does (calls_back guard) h0 s0 h1 s1 (Err errno)) →
     FirstFaults p.0 errno × HasRisen (faults h0) (faults h1)

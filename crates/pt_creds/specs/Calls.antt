@@ -1,14 +1,11 @@
 -- Believed. Calls that were made of a host one after another, and what they were answered.
 use Rattle.std.specs.Prelude.{◌≡◌, ◌⊎◌, List, [], ◌∷◌}
+use Rattle.pt_host.specs.Relation.{HostRelation}
 use Rattle.pt_host.specs.Call.{Call}
 use Rattle.pt_host.specs.declared.ids.Errno.{Errno}
 use Rattle.pt_host.specs.declared.seat.HostSeat.{HostSeat}
 use Rattle.pt_host.specs.declared.reply.HostReply.{HostReply}
 use Rattle.pt_host.specs.declared.reply.HostReply.TheVariants as reply
-
--- what a host does: from host and seat a call may be answered so, and leaves host and seat
-abbrev pub Does : Type 0 → Type 1
-Does H = H → HostSeat → Call → HostReply → H → HostSeat → Type 0
 
 -- a call that was made, and what was answered
 pub record CallMade : Type 0 where
@@ -16,7 +13,7 @@ pub record CallMade : Type 0 where
   pub told : HostReply
 
 -- these calls and no others lead from host and seat to these, each from where the one before it led
-abbrev pub CallsLead : {H : Type 0} → Does H → List CallMade → H → HostSeat → H → HostSeat → Type 0
+abbrev pub CallsLead : {H : Type 0} → HostRelation H → List CallMade → H → HostSeat → H → HostSeat → Type 0
 CallsLead does [] host seat host' seat' = (host' ≡ host) × (seat' ≡ seat)
 CallsLead {H} does (made ∷ rest) host seat host' seat' =
     (mid : H) × (between : HostSeat) × does host seat made.asked made.told mid between ×

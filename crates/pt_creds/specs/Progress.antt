@@ -3,7 +3,8 @@ use Rattle.std.specs.Prelude.{◌≡◌, ◌⊎◌, ◌≤◌, ℕ, List, [], �
 use Rattle.pt_host.specs.Call.{Call}
 use Rattle.pt_host.specs.declared.ids.Errno.{Errno}
 use Rattle.pt_host.specs.declared.seat.HostSeat.{HostSeat}
-use Rattle.pt_creds.specs.Calls.{Does, CallMade, CallsLead, asked_in, IsDone, AllDone, FailsWith}
+use Rattle.pt_host.specs.Relation.{HostRelation}
+use Rattle.pt_creds.specs.Calls.{CallMade, CallsLead, asked_in, IsDone, AllDone, FailsWith}
 use Rattle.pt_host.specs.declared.reply.HostReply.{HostReply}
 use Rattle.pt_creds.specs.Guard.{Guarded, calls_back}
 use Rattle.pt_creds.specs.declared.error.CredError.{CredError}
@@ -29,7 +30,7 @@ abbrev pub no_change : Guarded
 no_change = record { uid = None; gid = None; groups = None }
 
 -- these calls were all made, each once and whatever the others were answered, and this became of them
-abbrev pub Plays : {H : Type 0} → Does H → List Call → H → HostSeat → H → HostSeat → Result Unit Errno → Type 0
+abbrev pub Plays : {H : Type 0} → HostRelation H → List Call → H → HostSeat → H → HostSeat → Result Unit Errno → Type 0
 Plays does calls host seat host' seat' result =
     (made : List CallMade) × CallsLead does made host seat host' seat' × (asked_in made ≡ calls) ×
     IsOutcomeOf made result
@@ -46,7 +47,7 @@ TellsWhy back errno (error.Lost told) = FirstFails back told
 
 -- the call was refused, and what was changed before it was taken back
 pub record IsUndone {H : Type 0}
-    (does : Does H)
+    (does : HostRelation H)
     (calls : List Call)
     (before : Guarded)
     (host : H)
@@ -67,7 +68,7 @@ pub record IsUndone {H : Type 0}
 
 -- One step of a `set`, where it is to be made: what it changed is kept besides what was changed before, or that was
 -- taken back.
-abbrev pub TakesStep : {H : Type 0} → Does H → List Call → Guarded → Guarded → H → HostSeat → H → HostSeat →
+abbrev pub TakesStep : {H : Type 0} → HostRelation H → List Call → Guarded → Guarded → H → HostSeat → H → HostSeat →
     Result Guarded CredError → Type 0
 TakesStep does calls before after host seat host' seat' (Ok guard) =
     Plays does calls host seat host' seat' (Ok tt) × (guard ≡ after)

@@ -5,10 +5,10 @@ use Rattle.pt_host.specs.declared.op.KeptHostOp.TheVariants as call
 use Rattle.pt_host.specs.declared.reply.HostReply.TheVariants as reply
 use Rattle.pt_host.specs.declared.reply.HostValue.TheVariants as value
 use Rattle.pt_host.specs.declared.seat.HostSeat.{HostSeat}
-use Rattle.pt_creds.specs.Calls.{Does}
+use Rattle.pt_host.specs.Relation.{HostRelation}
 
 -- the one call, which is told the old mask
-abbrev pub SetsMask : {H : Type 0} → Does H → ℕ → H → HostSeat → H → HostSeat → Type 0
+abbrev pub SetsMask : {H : Type 0} → HostRelation H → ℕ → H → HostSeat → H → HostSeat → Type 0
 SetsMask does mask host seat host' seat' =
     does host seat (call.SetUmask mask) (reply.Ok (value.Count seat.umask)) host' seat'
 

@@ -2,7 +2,7 @@
 use Rattle.std.proofs.Common.{ℕ, List}
 use Rattle.pt_host.specs.declared.seat.HostSeat.{HostSeat}
 use Rattle.pt_session.specs.Tables.{Tables}
-use Rattle.pt_frame.specs.Made.{Does}
+use Rattle.pt_host.specs.Relation.{HostRelation}
 use Rattle.pt_frame.specs.declared.finish.Finish.{Finish}
 use Rattle.pt_req.specs.declared.plan.Plan.{Plan}
 use Rattle.pt_attr.specs.Pattern.{Asked}
@@ -25,7 +25,7 @@ answered_ended plan bound seats asked ends turns told a = record {
   );
 }
 
-pub hosts_ended : {H : Type 0} (does : Does H) (faults : H → ℕ) → Promises does faults →
+pub hosts_ended : {H : Type 0} (does : HostRelation H) (faults : H → ℕ) → Promises does faults →
     (plan : Plan) (bound : ℕ) (seats : ℕ → HostSeat) (asked : ℕ → Asked) (ends : ℕ → Finish) (turns : List Turn)
     (from : H) (t : Tables) (to : H) (t' : Tables) → HostRuns does turns from t to t' →
     AreAnswered plan bound seats asked ends turns → AreEnded bound turns

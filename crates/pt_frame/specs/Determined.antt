@@ -7,7 +7,7 @@ use Rattle.pt_host.specs.declared.reply.HostReply.TheVariants as host
 use Rattle.pt_iface.specs.declared.answer.Answer.TheVariants as answer
 use Rattle.pt_frame.specs.Deed.{Step}
 use Rattle.pt_frame.specs.Grammar.{Grammar, End, Do, May, Belongs}
-use Rattle.pt_frame.specs.Made.{Does}
+use Rattle.pt_host.specs.Relation.{HostRelation}
 use Rattle.pt_frame.specs.declared.act.ActReply.{ActReply}
 use Rattle.pt_frame.specs.declared.finish.Finish.{Finish}
 use Rattle.pt_frame.specs.declared.finish.Finish.TheVariants as finish
@@ -29,7 +29,7 @@ IsDetermined (Do deed owed next) = (told : ActReply) → IsDetermined (next told
 IsDetermined (May one other) = EndsSo (λ end. IsAnsweredInFull end → ⊥) one × IsDetermined other
 
 -- two steps of a host that make the same call from the same place are alike
-abbrev pub IsDeterminedHost : {H : Type 0} → Does H → Type 0
+abbrev pub IsDeterminedHost : {H : Type 0} → HostRelation H → Type 0
 IsDeterminedHost {H} does =
     (before after after' : H) (seat left left' : HostSeat) (asked : Call) (told told' : HostReply) →
     told ≢ host.NoMemory → told' ≢ host.NoMemory →

@@ -1,6 +1,7 @@
 -- Believed. What a step does to host, seat and tables, and where a list of steps leads. The relation of events is a
 -- parameter, as that of the host is: the same jobs run over tables that are shared.
 use Rattle.std.specs.Prelude.{◌≡◌, List, [], ◌∷◌, Option, Some, None}
+use Rattle.pt_host.specs.Relation.{HostRelation}
 use Rattle.pt_host.specs.Call.{Call}
 use Rattle.pt_host.specs.Reply.{ReplyHoldsBytes}
 use Rattle.pt_host.specs.declared.reply.HostReply.{HostReply}
@@ -13,18 +14,14 @@ use Rattle.pt_frame.specs.Deed.{Deed, Calls, Changes, Step}
 use Rattle.pt_frame.specs.declared.act.ActReply.{ActReply}
 use Rattle.pt_frame.specs.declared.act.ActReply.TheVariants.{Event, Host, NoCopy}
 
--- what a host does: from host and seat a call may be answered so, and leaves host and seat
-abbrev pub Does : Type 0 → Type 1
-Does H = H → HostSeat → Call → HostReply → H → HostSeat → Type 0
-
 -- what an access to the tables makes: from it an event may be answered so, and leaves it so
 abbrev pub Makes : Type 0 → Type 1
 Makes A = A → Change → EventReply → A → Type 0
 
 -- The step led from host, seat and access to these, and nothing else changed. One that could not be copied was not
 -- made; where the reply alone could not be copied, it held bytes.
-abbrev pub MadeBy : {H A : Type 0} → Does H → Makes A → Option Deed → ActReply → H → HostSeat → A → H → HostSeat →
-    A → Type 0
+abbrev pub MadeBy : {H A : Type 0} → HostRelation H → Makes A → Option Deed → ActReply → H → HostSeat → A → H →
+    HostSeat → A → Type 0
 MadeBy does makes (Some (Changes asked)) (Event reply) host seat access host' seat' access' =
     makes access asked reply access' × (host' ≡ host) × (seat' ≡ seat)
 MadeBy does makes (Some (Calls asked)) (Host reply) host seat access host' seat' access' =
@@ -36,7 +33,7 @@ MadeBy does makes None NoCopy host seat access host' seat' access' =
 MadeBy does makes deed reply host seat access host' seat' access' = ⊥
 
 -- the steps of one job, with no other step between, lead from host, seat and access to these
-abbrev pub RunsBy : {H A : Type 0} → Does H → Makes A → List Step → H → HostSeat → A → H → HostSeat → A → Type 0
+abbrev pub RunsBy : {H A : Type 0} → HostRelation H → Makes A → List Step → H → HostSeat → A → H → HostSeat → A → Type 0
 RunsBy does makes [] host seat access host' seat' access' = (host' ≡ host) × (seat' ≡ seat) × (access' ≡ access)
 RunsBy {H} {A} does makes (step ∷ steps) host seat access host' seat' access' =
     (host1 : H) × (seat1 : HostSeat) × (access1 : A)
@@ -44,9 +41,10 @@ RunsBy {H} {A} does makes (step ∷ steps) host seat access host' seat' access' 
     × RunsBy does makes steps host1 seat1 access1 host' seat' access'
 
 -- over the session's own tables
-abbrev pub Made : {H : Type 0} → Does H → Option Deed → ActReply → H → HostSeat → Tables → H → HostSeat → Tables →
-    Type 0
+abbrev pub Made : {H : Type 0} → HostRelation H → Option Deed → ActReply → H → HostSeat → Tables → H → HostSeat →
+    Tables → Type 0
 Made does = MadeBy does Happens
 
-abbrev pub RunsAlone : {H : Type 0} → Does H → List Step → H → HostSeat → Tables → H → HostSeat → Tables → Type 0
+abbrev pub RunsAlone : {H : Type 0} → HostRelation H → List Step → H → HostSeat → Tables → H → HostSeat → Tables →
+    Type 0
 RunsAlone does = RunsBy does Happens

@@ -4,7 +4,8 @@ use Rattle.pt_host.specs.declared.seat.HostSeat.{HostSeat}
 use Rattle.pt_session.specs.Tables.{Tables}
 use Rattle.pt_frame.specs.Deed.{Deed, Calls, Changes, Step, IsStepOf, MayTellBytes, HoldsReplyBytes}
 use Rattle.pt_frame.specs.Grammar.{Grammar, End, Do, May, Belongs, after, Owed}
-use Rattle.pt_frame.specs.Made.{Does, Made}
+use Rattle.pt_host.specs.Relation.{HostRelation}
+use Rattle.pt_frame.specs.Made.{Made}
 use Rattle.pt_frame.specs.declared.act.ActReply.{ActReply}
 use Rattle.pt_frame.specs.declared.act.ActReply.TheVariants.{Event, Host, NoCopy}
 use Rattle.pt_frame.specs.declared.finish.Finish.{Finish}
@@ -13,7 +14,7 @@ use Rattle.pt_fs.specs.Advances.{IsWanted, IsShown, Advances}
 use Rattle.pt_fs.specs.Jobs.{no_seat}
 use Rattle.pt_fs.specs.Trace.{MadeFrom}
 
-module _ {H : Type 0} (does : Does H) (faults : H → ℕ) (promises : Promises does faults) where
+module _ {H : Type 0} (does : HostRelation H) (faults : H → ℕ) (promises : Promises does faults) where
   -- a reply that held bytes came to a call that may tell some
   tells_bytes : (deed : Deed) (reply : ActReply) (host : H) (seat : HostSeat) (tables : Tables) (host' : H)
       (seat' : HostSeat) (tables' : Tables) →

@@ -11,7 +11,7 @@ use Rattle.pt_iface.specs.declared.answer.Answer.{Answer}
 use Rattle.pt_iface.specs.declared.answer.Answer.TheVariants as answer
 use Rattle.pt_frame.specs.Determined.{IsAnsweredInFull, IsDetermined, IsDeterminedHost}
 use Rattle.pt_frame.specs.Grammar.{Grammar, End, Belongs}
-use Rattle.pt_frame.specs.Made.{Does}
+use Rattle.pt_host.specs.Relation.{HostRelation}
 use Rattle.pt_attr.proofs.Answering.{is_determined}
 use Rattle.pt_frame.specs.declared.finish.Finish.{Finish}
 use Rattle.pt_frame.specs.declared.finish.Finish.TheVariants as finish
@@ -53,7 +53,7 @@ full_at (told ∷ answers) w zero = in_full told w.0
 full_at (told ∷ answers) w (suc j) = full_at answers w.1 j
 
 -- a place past the seats makes no step
-none_beyond : {H : Type 0} (does : Does H) (trace : List TraceStep) (host host' : H)
+none_beyond : {H : Type 0} (does : HostRelation H) (trace : List TraceStep) (host host' : H)
     (seats seats' : List (Option HostSeat)) (tables tables' : Tables) →
     TraceRuns does trace host seats tables host' seats' tables' → (j : ℕ) → length seats ≤ j → steps_by j trace ≡ []
 none_beyond does [] host host' seats seats' tables tables' r j past = refl
@@ -91,7 +91,7 @@ abbrev stops : {H : Type 0} → List (Option HostSeat) → H → Tables → Plac
 stops seats host tables = record { host = host; seats = seats; tables = tables }
 
 -- a whole run is the rest of one from its start on
-whole_rest : {H : Type 0} (does : Does H) (plan : Plan) (schedule : List ℕ) (jobs : List Job) (host host' : H)
+whole_rest : {H : Type 0} (does : HostRelation H) (plan : Plan) (schedule : List ℕ) (jobs : List Job) (host host' : H)
     (tables tables' : Tables) (trace : List TraceStep) (answers : List Answer) (seats' : List HostSeat) →
     (ran : RanInOrder does plan schedule jobs host tables trace answers host' seats' tables') →
     IsRest does (λ j. grammar_at plan (slice_get jobs j)) (λ j.
@@ -118,7 +118,7 @@ same_answers (told ∷ answers) (other ∷ others) l h =
     let more = same_answers answers others (omega arith) (λ j. h (suc j)) in
     ap (λ (a : Answer). a ∷ answers) same ∙ ap (λ (l : List Answer). other ∷ l) more
 
-pub turns_determined : {H : Type 0} (does : Does H) → IsDeterminedHost does → TurnsAreDetermined does
+pub turns_determined : {H : Type 0} (does : HostRelation H) → IsDeterminedHost does → TurnsAreDetermined does
 turns_determined {H} does one plan schedule jobs host tables trace trace' answers answers' after after' seats seats'
     left left' agree ran ran' =
     let alike = only_order does one schedule (length jobs) trace (λ j. grammar_at plan (slice_get jobs j)) (λ j.

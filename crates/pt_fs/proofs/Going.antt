@@ -10,7 +10,7 @@ use Rattle.pt_session.specs.Tables.{Tables}
 use Rattle.pt_frame.specs.Deed.{Step}
 use Rattle.pt_frame.specs.Grammar.{Belongs, is_end}
 use Rattle.pt_attr.specs.Machine.Job.{owes, is_finished, steps_bound}
-use Rattle.pt_frame.specs.Made.{Does}
+use Rattle.pt_host.specs.Relation.{HostRelation}
 use Rattle.pt_attr.specs.Pattern.{bound_for}
 use Rattle.pt_req.specs.declared.plan.Plan.{Plan}
 use Rattle.pt_fs.specs.Jobs.{asked_of, job_grammar}
@@ -37,7 +37,7 @@ bounded_more steps step old new bound so_far within =
     omega arith
 
 -- a step of one job leaves each with what it owes
-pub owing_took : {H : Type 0} (does : Does H) (plan : Plan) (place : ℕ) (host host' : H)
+pub owing_took : {H : Type 0} (does : HostRelation H) (plan : Plan) (place : ℕ) (host host' : H)
     (running running' : List Running) (tables tables' : Tables) (trace trace' : List TraceStep) →
     Took does plan place host running tables trace host' running' tables' trace' → (jobs : List Job) →
     Owing plan jobs running trace → Owing plan jobs running' trace'
@@ -92,7 +92,7 @@ owing_took does plan place host host' running running' tables tables' trace trac
 same_work : (left : ℕ) → 0 + left ≤ left
 same_work left = omega arith
 
-pub goes_none : {H : Type 0} (does : Does H) (plan : Plan) (order : (ℕ → ℕ) →
+pub goes_none : {H : Type 0} (does : HostRelation H) (plan : Plan) (order : (ℕ → ℕ) →
     List ℕ) (host : H) (running : List Running) (tables : Tables) (trace : List TraceStep) →
     GoesOn does plan order host running tables trace order host running tables trace
 goes_none does plan order host running tables trace =
@@ -105,7 +105,7 @@ goes_none does plan order host running tables trace =
       spent = omega arith;
     }
 
-pub goes_on : {H : Type 0} (does : Does H) (plan plan1 : Plan) (o0 o1 o2 : (ℕ → ℕ) →
+pub goes_on : {H : Type 0} (does : HostRelation H) (plan plan1 : Plan) (o0 o1 o2 : (ℕ → ℕ) →
     List ℕ) (h0 h1 h2 : H) (s0 s1 s2 : List Running) (r0 r1 r2 : Tables) (t0 t1 t2 : List TraceStep) → plan1 ≡ plan →
     GoesOn does plan o0 h0 s0 r0 t0 o1 h1 s1 r1 t1 → GoesOn does plan1 o1 h1 s1 r1 t1 o2 h2 s2 r2 t2 →
     GoesOn does plan o0 h0 s0 r0 t0 o2 h2 s2 r2 t2
@@ -127,7 +127,7 @@ goes_on does plan plan1 o0 o1 o2 h0 h1 h2 s0 s1 s2 r0 r1 r2 t0 t1 t2 same first 
 }
 
 -- a step that was taken, where the orders before and after it agree with it
-pub goes_took : {H : Type 0} (does : Does H) (plan : Plan) (place : ℕ) (o o' : (ℕ → ℕ) →
+pub goes_took : {H : Type 0} (does : HostRelation H) (plan : Plan) (place : ℕ) (o o' : (ℕ → ℕ) →
     List ℕ) (host host' : H) (running running' : List Running) (tables tables' : Tables)
     (trace trace' : List TraceStep)
     (took : Took does plan place host running tables trace host' running' tables' trace') →
@@ -157,7 +157,8 @@ goes_took does plan place o o' host host' running running' tables tables' trace 
 }
 
 -- a place of the schedule, whether it names an unfinished job or not
-pub goes_place : {H : Type 0} (does : Does H) (plan : Plan) (place : ℕ) (places : List ℕ) (jobs : ℕ) (host host' : H)
+pub goes_place : {H : Type 0} (does : HostRelation H) (plan : Plan) (place : ℕ) (places : List ℕ) (jobs : ℕ)
+    (host host' : H)
     (running running' : List Running) (tables tables' : Tables) (trace trace' : List TraceStep)
     → TookOrStays does plan place host running tables trace host' running' tables' trace' →
     GoesOn does plan (order (place ∷ places) jobs) host running tables trace
@@ -176,7 +177,7 @@ goes_place does plan place places jobs host host' running running' tables tables
 }
 
 -- a step of the first of the jobs that take all their steps
-pub goes_first : {H : Type 0} (does : Does H) (plan : Plan) (place jobs : ℕ) (host host' : H)
+pub goes_first : {H : Type 0} (does : HostRelation H) (plan : Plan) (place jobs : ℕ) (host host' : H)
     (running running' : List Running) (tables tables' : Tables) (trace trace' : List TraceStep)
     → Took does plan place host running tables trace host' running' tables' trace' →
     GoesOn does plan (rest_of (suc jobs) place) host running tables trace
@@ -187,7 +188,7 @@ goes_first does plan place jobs host host' running running' tables tables' trace
     (owns_first jobs place running took.run took.run' took.step took.was took.owner took.unfinished)
 
 -- the first has finished
-pub goes_next : {H : Type 0} (does : Does H) (plan : Plan) (place jobs : ℕ) (host : H) (running : List Running)
+pub goes_next : {H : Type 0} (does : HostRelation H) (plan : Plan) (place jobs : ℕ) (host : H) (running : List Running)
     (tables : Tables) (trace : List TraceStep)
     → IsFinishedAt running place →
     GoesOn does plan (rest_of (suc jobs) place) host running tables trace
@@ -202,7 +203,7 @@ goes_next does plan place jobs host running tables trace finished = record {
 }
 
 -- who has finished stays so
-pub finished_took : {H : Type 0} (does : Does H) (plan : Plan) (place : ℕ) (host host' : H)
+pub finished_took : {H : Type 0} (does : HostRelation H) (plan : Plan) (place : ℕ) (host host' : H)
     (running running' : List Running) (tables tables' : Tables) (trace trace' : List TraceStep)
     → Took does plan place host running tables trace host' running' tables' trace' → (j : ℕ) →
     IsFinishedAt running j → IsFinishedAt running' j
@@ -214,7 +215,7 @@ finished_took does plan place host host' running running' tables tables' trace t
           ∙ ap (λ r. slice_get r j) (sym took.is) ∙ at)
     ]
 
-pub fewer_took : {H : Type 0} (does : Does H) (plan : Plan) (place : ℕ) (host host' : H)
+pub fewer_took : {H : Type 0} (does : HostRelation H) (plan : Plan) (place : ℕ) (host host' : H)
     (running running' : List Running) (tables tables' : Tables) (trace trace' : List TraceStep)
     → Took does plan place host running tables trace host' running' tables' trace' →
     steps_left_at running' place < steps_left_at running place
@@ -223,7 +224,7 @@ fewer_took does plan place host host' running running' tables tables' trace trac
     ap (λ r. slice_get r place) took.is ∙ get-set_same running place took.run took.run' took.was in
     rw (there, took.was) took.fewer
 
-pub length_took : {H : Type 0} (does : Does H) (plan : Plan) (place : ℕ) (host host' : H)
+pub length_took : {H : Type 0} (does : HostRelation H) (plan : Plan) (place : ℕ) (host host' : H)
     (running running' : List Running) (tables tables' : Tables) (trace trace' : List TraceStep)
     → Took does plan place host running tables trace host' running' tables' trace' → place < length running →
     place < length running'

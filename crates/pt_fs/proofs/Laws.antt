@@ -14,7 +14,7 @@ use Rattle.pt_iface.specs.declared.answer.Answer.TheVariants as answer
 use Rattle.pt_iface.specs.declared.request.Request.TheVariants as request
 use Rattle.pt_frame.specs.Deed.{Step, kept_deed_of}
 use Rattle.pt_frame.specs.Grammar.{Belongs}
-use Rattle.pt_frame.specs.Made.{Does}
+use Rattle.pt_host.specs.Relation.{HostRelation}
 use Rattle.pt_attr.specs.Pattern.{Asked, Requests, grammar_for}
 use Rattle.pt_frame.specs.declared.finish.Finish.{Finish}
 use Rattle.pt_frame.specs.declared.finish.Finish.TheVariants as finish
@@ -51,7 +51,8 @@ use Rattle.pt_fs.specs.Owing.{run_seat}
 use Rattle.pt_fs.specs.declared.running.Running.{Running}
 
 -- the seats aside, a trace is a run of its host
-pub host_runs : {H : Type 0} (does : Does H) (trace : List TraceStep) (host : H) (seats : List (Option HostSeat))
+pub host_runs : {H : Type 0} (does : HostRelation H) (trace : List TraceStep) (host : H)
+    (seats : List (Option HostSeat))
     (tables : Tables) (host' : H) (seats' : List (Option HostSeat)) (tables' : Tables) →
     TraceRuns does trace host seats tables host' seats' tables' →
     HostRuns does (turns_of trace) host tables host' tables'
@@ -62,7 +63,7 @@ host_runs does (step ∷ trace) host seats tables host' seats' tables' r =
     (r.0, r.2, from.0, from.1, from.2, host_runs does trace r.0 r.1 r.2 host' seats' tables' r.4)
 
 -- each step is one of the jobs'
-pub owners_below : {H : Type 0} (does : Does H) (bound : ℕ) (trace : List TraceStep) (host : H)
+pub owners_below : {H : Type 0} (does : HostRelation H) (bound : ℕ) (trace : List TraceStep) (host : H)
     (seats : List (Option HostSeat)) (tables : Tables) (host' : H) (seats' : List (Option HostSeat))
     (tables' : Tables) →
     length seats ≡ bound → TraceRuns does trace host seats tables host' seats' tables' →
@@ -92,7 +93,8 @@ end_by None = finish.Answer answer.Done
 end_by (Some told) = finish.Answer told
 
 -- a trace, and what is known of it
-pub record Ran {H : Type 0} (does : Does H) (plan : Plan) (limit : ℕ) (jobs : List Job) (host : H) (tables : Tables)
+pub record Ran {H : Type 0} (does : HostRelation H) (plan : Plan) (limit : ℕ) (jobs : List Job) (host : H)
+    (tables : Tables)
     (trace : List TraceStep) (answers : List Answer) (host' : H) (tables' : Tables) : Type 0 where
   pub seats : List (Option HostSeat)
   pub seats' : List (Option HostSeat)
@@ -133,7 +135,7 @@ answered_in plan jobs trace answers each owners = record {
   jobs = λ j below. inl (belongs_in plan jobs trace answers each j below);
 }
 
-pub ended_of : {H : Type 0} (does : Does H) (faults : H → ℕ) → Promises does faults →
+pub ended_of : {H : Type 0} (does : HostRelation H) (faults : H → ℕ) → Promises does faults →
     (plan : Plan) (limit : ℕ) (jobs : List Job) (host : H) (tables : Tables) (trace : List TraceStep)
     (answers : List Answer) (host' : H) (tables' : Tables) →
     Ran does plan limit jobs host tables trace answers host' tables' → AreEnded (length jobs) (turns_of trace)
@@ -175,7 +177,7 @@ first_of plan jobs trace answers each j below =
     job_first plan (start_at jobs j) (asked_at jobs j) (steps_of j (turns_of trace)) (end_at answers j)
     (belongs_in plan jobs trace answers each j below)
 
-pub keeps : {H : Type 0} (does : Does H) (faults : H → ℕ) → Promises does faults →
+pub keeps : {H : Type 0} (does : HostRelation H) (faults : H → ℕ) → Promises does faults →
     (plan : Plan) (limit : ℕ) (jobs : List Job) (host : H) (tables : Tables) (trace : List TraceStep)
     (answers : List Answer) (host' : H) (tables' : Tables) →
     Ran does plan limit jobs host tables trace answers host' tables' → Keeps limit jobs tables trace answers tables'
@@ -260,7 +262,7 @@ keeps does faults p plan limit jobs host tables trace answers host' tables' ran 
     }
 
 -- what is known of a whole run
-pub ran_whole : {H : Type 0} {does : Does H} {plan : Plan} {schedule : List ℕ} {h h' : H} {jobs : List Job}
+pub ran_whole : {H : Type 0} {does : HostRelation H} {plan : Plan} {schedule : List ℕ} {h h' : H} {jobs : List Job}
     {running running' : List Running} {tables tables' : Tables} {trace : List TraceStep} {answers : List Answer}
     → Whole does plan schedule h jobs running tables h' running' tables' trace answers →
     ((limit : ℕ) × (tables ≡ empty_tables limit)) →

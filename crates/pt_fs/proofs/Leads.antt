@@ -14,7 +14,8 @@ use Rattle.pt_session.proofs.Determined.{determined as event_determined}
 use Rattle.pt_session.proofs.Effects.{keeps_agree}
 use Rattle.pt_frame.specs.Deed.{Deed, Calls, Changes, IsStepOf, LacksMemory}
 use Rattle.pt_frame.specs.Determined.{IsDeterminedHost}
-use Rattle.pt_frame.specs.Made.{Does, Made}
+use Rattle.pt_host.specs.Relation.{HostRelation}
+use Rattle.pt_frame.specs.Made.{Made}
 use Rattle.pt_frame.specs.declared.act.ActReply.{ActReply}
 use Rattle.pt_frame.specs.declared.act.ActReply.TheVariants as told
 
@@ -43,7 +44,7 @@ pub record Leads {H : Type 0} (reply reply' : ActReply) (host host' : H) (seat s
   pub left : tables ≡ tables'
   pub agree : Agree tables
 
-made_event : {H : Type 0} (does : Does H) (asked : Change) (reply : ActReply) (host : H) (seat : HostSeat)
+made_event : {H : Type 0} (does : HostRelation H) (asked : Change) (reply : ActReply) (host : H) (seat : HostSeat)
     (tables : Tables) (host' : H) (seat' : HostSeat) (tables' : Tables) →
     Made does (Some (Changes asked)) reply host seat tables host' seat' tables' →
     (back : EventReply) × (reply ≡ told.Event back) × Happens tables asked back tables' × (host' ≡ host)
@@ -51,7 +52,7 @@ made_event : {H : Type 0} (does : Does H) (asked : Change) (reply : ActReply) (h
 made_event does asked (told.Event back) host seat tables host' seat' tables' m = (back, refl, m.0, m.1, m.2)
 made_event does asked _ host seat tables host' seat' tables' m = absurd m
 
-made_call : {H : Type 0} (does : Does H) (asked : Call) (reply : ActReply) (host : H) (seat : HostSeat)
+made_call : {H : Type 0} (does : HostRelation H) (asked : Call) (reply : ActReply) (host : H) (seat : HostSeat)
     (tables : Tables) (host' : H) (seat' : HostSeat) (tables' : Tables) → (LacksMemory reply → ⊥) →
     Made does (Some (Calls asked)) reply host seat tables host' seat' tables' →
     (back : HostReply) × (reply ≡ told.Host back) × does host seat asked back host' seat' × (tables' ≡ tables)
@@ -59,7 +60,7 @@ made_call does asked (told.Host back) host seat tables host' seat' tables' w m =
 made_call does asked (told.Event back) host seat tables host' seat' tables' w m = absurd m
 made_call does asked told.NoCopy host seat tables host' seat' tables' w m = absurd (w refl)
 
-pub leads : {H : Type 0} (does : Does H) → IsDeterminedHost does →
+pub leads : {H : Type 0} (does : HostRelation H) → IsDeterminedHost does →
     (deed : Deed) (reply reply' : ActReply) (host : H) (seat : HostSeat) (tables : Tables) (host1 host2 : H)
     (seat1 seat2 : HostSeat) (tables1 tables2 : Tables) →
     (LacksMemory reply → ⊥) → (LacksMemory reply' → ⊥) → Agree tables →

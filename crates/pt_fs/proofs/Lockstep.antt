@@ -13,7 +13,7 @@ use Rattle.pt_session.specs.declared.event.KeptEvent.{KeptEvent}
 use Rattle.pt_frame.specs.Deed.{Deed, Calls, Changes, Step, IsStepOf, kept_deed_of, LacksMemory}
 use Rattle.pt_frame.specs.Determined.{IsAnsweredInFull, IsDetermined, IsDeterminedHost}
 use Rattle.pt_frame.specs.Grammar.{Grammar, End, Do, May, Belongs}
-use Rattle.pt_frame.specs.Made.{Does}
+use Rattle.pt_host.specs.Relation.{HostRelation}
 use Rattle.pt_frame.specs.declared.act.ActReply.{ActReply}
 use Rattle.pt_frame.specs.declared.act.KeptAct.{KeptAct}
 use Rattle.pt_frame.specs.declared.act.KeptAct.TheVariants as kept
@@ -65,7 +65,7 @@ place_same : {H : Type 0} (from to : Place H) → from.host ≡ to.host → from
 place_same from to h s t = λ i. record { host = h i; seats = s i; tables = t i }
 
 -- the step leads from one place to another
-abbrev Makes : {H : Type 0} → Does H → TraceStep → Place H → Place H → Type 0
+abbrev Makes : {H : Type 0} → HostRelation H → TraceStep → Place H → Place H → Type 0
 Makes does step from to = MadeAt does step from.host from.seats from.tables to.host to.seats to.tables
 
 -- two steps lead to one place
@@ -83,7 +83,7 @@ record Led {H : Type 0} (reply reply' : ActReply) (host host' : H) (seat seat' :
   left : tables ≡ tables'
   agree : Agree tables
 
-led_from : {H : Type 0} (does : Does H) → IsDeterminedHost does →
+led_from : {H : Type 0} (does : HostRelation H) → IsDeterminedHost does →
     (deed : Deed) (reply reply' : ActReply) (host : H) (seat : Option HostSeat) (tables : Tables) (host1 host2 : H)
     (seat1 seat2 : Option HostSeat) (tables1 tables2 : Tables) →
     (LacksMemory reply → ⊥) → (LacksMemory reply' → ⊥) → Agree tables →
@@ -115,7 +115,7 @@ led_from does one deed reply reply' host None tables host1 host2 (Some seat1) se
     absurd m
 
 -- two steps of one job by one deed
-one_step : {H : Type 0} (does : Does H) → IsDeterminedHost does →
+one_step : {H : Type 0} (does : HostRelation H) → IsDeterminedHost does →
     (deed : Deed) (x y : TraceStep) (from to to' : Place H) → x.job ≡ y.job → Found x → Found y → Agree from.tables →
     IsStepOf deed (kept_deed_of x.act) x.reply → IsStepOf deed (kept_deed_of y.act) y.reply → Makes does x from to →
     Makes does y from to' → AreOneStep x y to to'
@@ -193,7 +193,7 @@ one_end (May one other) det end end' full full' (inr b) (inl b') = absurd (det.0
 one_end (May one other) det end end' full full' (inr b) (inr b') = one_end other det.1 end end' full full' b b'
 
 -- The trace is the rest of a run from one place to another: of each job what is left of its grammar, up to its end.
-pub record IsRest {H : Type 0} (does : Does H) (left : ℕ → Grammar) (ends : ℕ → Finish) (trace : List TraceStep)
+pub record IsRest {H : Type 0} (does : HostRelation H) (left : ℕ → Grammar) (ends : ℕ → Finish) (trace : List TraceStep)
     (from to : Place H) : Type 0 where
   pub belongs : (j : ℕ) → Belongs (left j) (steps_by j trace) (ends j)
   pub full : (j : ℕ) → IsAnsweredInFull (ends j)
@@ -227,14 +227,15 @@ det_after step left det j = elim (cases_eq step.job j) [
 ]
 
 -- a step was made by what its job does next, and the rest of the run goes on from there
-record GoesOn {H : Type 0} (does : Does H) (deed : Deed) (left : ℕ → Grammar) (ends : ℕ → Finish) (step : TraceStep)
+record GoesOn {H : Type 0} (does : HostRelation H) (deed : Deed) (left : ℕ → Grammar) (ends : ℕ → Finish)
+    (step : TraceStep)
     (trace : List TraceStep) (from to : Place H) : Type 0 where
   by : IsStepOf deed (kept_deed_of step.act) step.reply
   after : Place H
   makes : Makes does step from after
   rest : IsRest does (left_after step left) ends trace after to
 
-first_of_rest : {H : Type 0} (does : Does H) (deed : Deed) (left : ℕ → Grammar) (ends : ℕ →
+first_of_rest : {H : Type 0} (does : HostRelation H) (deed : Deed) (left : ℕ → Grammar) (ends : ℕ →
     Finish) (step : TraceStep) (trace : List TraceStep) (from to : Place H) → ((j : ℕ) → IsDetermined (left j)) →
     next_deed (left step.job) ≡ Some deed →
     IsRest does left ends (step ∷ trace) from to → (j : ℕ) → step.job ≡ j →
@@ -246,7 +247,7 @@ first_of_rest does deed left ends step trace from to det is it j same =
     begins (left j) (det j) deed (ap (λ (k : ℕ). next_deed (left k)) (sym same)
     ∙ is) (step_of step) (steps_by j trace) (ends j) (it.full j) here
 
-belongs_after : {H : Type 0} (does : Does H) (deed : Deed) (left : ℕ → Grammar) (ends : ℕ →
+belongs_after : {H : Type 0} (does : HostRelation H) (deed : Deed) (left : ℕ → Grammar) (ends : ℕ →
     Finish) (step : TraceStep) (trace : List TraceStep) (from to : Place H) → ((j : ℕ) → IsDetermined (left j)) →
     next_deed (left step.job) ≡ Some deed →
     IsRest does left ends (step ∷ trace) from to → (j : ℕ) →
@@ -260,7 +261,7 @@ belongs_after does deed left ends step trace from to det is it j = elim (cases_e
       (subst (λ (steps : List Step). Belongs (left j) steps (ends j)) (first_other step trace j other) (it.belongs j))
 ]
 
-rest_on : {H : Type 0} (does : Does H) (deed : Deed) (left : ℕ → Grammar) (ends : ℕ →
+rest_on : {H : Type 0} (does : HostRelation H) (deed : Deed) (left : ℕ → Grammar) (ends : ℕ →
     Finish) (step : TraceStep) (trace : List TraceStep) (from to : Place H) → ((j : ℕ) → IsDetermined (left j)) →
     next_deed (left step.job) ≡ Some deed →
     IsRest does left ends (step ∷ trace) from to → GoesOn does deed left ends step trace from to
@@ -286,7 +287,7 @@ pub record AreAlike {H : Type 0} (trace trace' : List TraceStep) (ends ends' : �
   pub places : to ≡ to'
 
 -- from where this rest of a run starts there is no other whose steps have such owners
-abbrev pub HasNoOther : {H : Type 0} → Does H → ((ℕ → ℕ) → List ℕ) → List TraceStep → Type 0
+abbrev pub HasNoOther : {H : Type 0} → HostRelation H → ((ℕ → ℕ) → List ℕ) → List TraceStep → Type 0
 HasNoOther {H} does owners trace =
     (left : ℕ → Grammar) (ends ends' : ℕ → Finish) (trace' : List TraceStep) (from to to' : Place H) →
     ((j : ℕ) → IsDetermined (left j)) → Agree from.tables → IsRest does left ends trace from to →
@@ -295,7 +296,7 @@ HasNoOther {H} does owners trace =
     AreAlike trace trace' ends ends' to to'
 
 -- two runs that both make a step of one job
-only_step : {H : Type 0} (does : Does H) → IsDeterminedHost does →
+only_step : {H : Type 0} (does : HostRelation H) → IsDeterminedHost does →
     (owners : (ℕ → ℕ) → List ℕ) (deed : Deed) (x y : TraceStep) (trace trace' : List TraceStep) (left : ℕ →
     Grammar) (ends ends' : ℕ → Finish) (from to to' : Place H) → ((j : ℕ) → IsDetermined (left j)) →
     Agree from.tables →
@@ -344,7 +345,7 @@ some_or_none : (n : ℕ) → (n ≡ 0) ⊎ (0 < n)
 some_or_none zero = inl refl
 some_or_none (suc n) = inr (omega arith)
 
-has_step : {H : Type 0} (does : Does H) (left : ℕ → Grammar) (ends : ℕ →
+has_step : {H : Type 0} (does : HostRelation H) (left : ℕ → Grammar) (ends : ℕ →
     Finish) (trace : List TraceStep) (from to : Place H) (place : ℕ) (deed : Deed) → IsDetermined (left place) →
     next_deed (left place) ≡ Some deed → IsRest does left ends trace from to → 0 < count_of trace place
 has_step does left ends trace from to place deed det is it = elim (some_or_none (count_of trace place)) [
@@ -356,7 +357,7 @@ has_step does left ends trace from to place deed det is it = elim (some_or_none 
   | inr some ↦ some
 ]
 
-has_none : {H : Type 0} (does : Does H) (left : ℕ → Grammar) (ended : ℕ →
+has_none : {H : Type 0} (does : HostRelation H) (left : ℕ → Grammar) (ended : ℕ →
     Finish) (trace : List TraceStep) (from to : Place H) (place : ℕ) → IsDetermined (left place) →
     next_deed (left place) ≡ None → IsRest does left ended trace from to → count_of trace place ≡ 0
 has_none does left ended trace from to place det is it =
@@ -369,7 +370,7 @@ deed_or_none (Some asked) = inl (asked, refl)
 deed_or_none None = inr refl
 
 -- a place of the schedule
-only_place : {H : Type 0} (does : Does H) → IsDeterminedHost does →
+only_place : {H : Type 0} (does : HostRelation H) → IsDeterminedHost does →
     (owners served passed : (ℕ → ℕ) → List ℕ) (place : ℕ) → Serves owners place served → Passes owners place passed →
     (trace : List TraceStep) →
     ((step : TraceStep) (rest : List TraceStep) → trace ≡ step ∷ rest → HasNoOther does served rest) →
@@ -450,7 +451,7 @@ serves_first jobs first (step ∷ trace) some is =
     record { step = step; rest = trace; whole = refl; own = own; owned = cc }
 
 -- nothing is left
-only_none : {H : Type 0} (does : Does H) (first : ℕ) (trace : List TraceStep) →
+only_none : {H : Type 0} (does : HostRelation H) (first : ℕ) (trace : List TraceStep) →
     HasNoOther does (rest_of zero first) trace
 only_none does first [] left ends ends' [] from to to' det agree here there own own' = record {
   traces = refl;
@@ -463,7 +464,7 @@ only_none does first [] left ends ends' (y ∷ trace') from to to' det agree her
 only_none does first (x ∷ trace) left ends ends' trace' from to to' det agree here there own own' = absurd (cc)
 
 -- the first of the jobs that take all their steps
-only_first : {H : Type 0} (does : Does H) → IsDeterminedHost does → (jobs first : ℕ) →
+only_first : {H : Type 0} (does : HostRelation H) → IsDeterminedHost does → (jobs first : ℕ) →
     ((trace : List TraceStep) → HasNoOther does (rest_of jobs (first + 1)) trace) → (trace : List TraceStep) →
     HasNoOther does (rest_of (suc jobs) first) trace
 only_first does one jobs first later [] =
@@ -475,14 +476,14 @@ only_first does one jobs first later (x ∷ trace) =
     (λ step rest e. subst (HasNoOther does (rest_of (suc jobs) first)) (let same : trace ≡ rest = cc in
     same) (only_first does one jobs first later trace)) (later (x ∷ trace))
 
-only_rest : {H : Type 0} (does : Does H) → IsDeterminedHost does → (jobs first : ℕ) (trace : List TraceStep) →
+only_rest : {H : Type 0} (does : HostRelation H) → IsDeterminedHost does → (jobs first : ℕ) (trace : List TraceStep) →
     HasNoOther does (rest_of jobs first) trace
 only_rest does one zero first trace = only_none does first trace
 only_rest does one (suc jobs) first trace =
     only_first does one jobs first (λ t. only_rest does one jobs (first + 1) t) trace
 
 -- one schedule gives one run
-pub only_order : {H : Type 0} (does : Does H) → IsDeterminedHost does →
+pub only_order : {H : Type 0} (does : HostRelation H) → IsDeterminedHost does →
     (schedule : List ℕ) (jobs : ℕ) (trace : List TraceStep) → HasNoOther does (order schedule jobs) trace
 only_order does one [] jobs trace = only_rest does one jobs 0 trace
 only_order does one (place ∷ places) jobs trace =

@@ -11,7 +11,7 @@ use Rattle.pt_iface.specs.declared.request.Context.{Context}
 use Rattle.pt_iface.specs.declared.request.Request.TheVariants as request
 use Rattle.pt_frame.specs.Deed.{kept_deed_of}
 use Rattle.pt_frame.specs.Grammar.{Belongs}
-use Rattle.pt_frame.specs.Made.{Does}
+use Rattle.pt_host.specs.Relation.{HostRelation}
 use Rattle.pt_frame.specs.declared.finish.Finish.TheVariants as finish
 use Rattle.pt_req.specs.declared.plan.Plan.{Plan}
 use Rattle.pt_attr.specs.Pattern.{Asked, Requests, grammar_of, grammar_for}
@@ -170,7 +170,7 @@ agree_from limit bound turns start first second job other parent folder name chi
     two_lookups_law limit bound turns [] start first second job other parent folder name child number another ids its
     between object one two (record { tables = begins; well_formed = well; past = past }) (rw append-nil d)
 
-pub keeps_told : {H : Type 0} (does : Does H) (tree : H → Option Tree) (faults : H → ℕ) → Promises does faults →
+pub keeps_told : {H : Type 0} (does : HostRelation H) (tree : H → Option Tree) (faults : H → ℕ) → Promises does faults →
     Tells does tree → (plan : Plan) (limit : ℕ) (jobs : List Job) (host : H) (tables : Tables)
     (trace : List TraceStep) (answers : List Answer) (host' : H) (tables' : Tables) →
     Ran does plan limit jobs host tables trace answers host' tables' →

@@ -5,7 +5,7 @@ use Rattle.std.proofs.lemmas.Option.{same_Some}
 use Rattle.pt_host.specs.declared.seat.HostSeat.{HostSeat}
 use Rattle.pt_session.specs.Tables.{Tables}
 use Rattle.pt_frame.specs.Deed.{Deed, kept_deed_of}
-use Rattle.pt_frame.specs.Made.{Does}
+use Rattle.pt_host.specs.Relation.{HostRelation}
 use Rattle.pt_frame.specs.Seats.{seat_at, seat_by}
 use Rattle.pt_frame.specs.declared.act.ActReply.{ActReply}
 use Rattle.pt_law.proofs.Seats.{made_seat}
@@ -17,7 +17,7 @@ use Rattle.pt_fs.specs.declared.trace.TraceStep.{TraceStep}
 abbrev has_seat : HostSeat → Option (Option HostSeat)
 has_seat seat = Some (Some seat)
 
-module _ {H : Type 0} (does : Does H) (faults : H → ℕ) (p : Promises does faults) where
+module _ {H : Type 0} (does : HostRelation H) (faults : H → ℕ) (p : Promises does faults) where
   -- a step of a job that has this seat
   seat_made : (deed : Option Deed) (told : ActReply) (from : H) (was : Option HostSeat) (tables : Tables) (to : H)
       (now : Option HostSeat) (tables_after : Tables) (seat : HostSeat) →

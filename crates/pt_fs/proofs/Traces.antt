@@ -6,7 +6,8 @@ use Rattle.std.proofs.lemmas.Option.{same_Some}
 use Rattle.pt_host.specs.declared.seat.HostSeat.{HostSeat}
 use Rattle.pt_session.specs.Tables.{Tables}
 use Rattle.pt_frame.specs.Deed.{Deed, Step}
-use Rattle.pt_frame.specs.Made.{Does, Made}
+use Rattle.pt_host.specs.Relation.{HostRelation}
+use Rattle.pt_frame.specs.Made.{Made}
 use Rattle.pt_frame.specs.declared.act.ActReply.{ActReply}
 use Rattle.pt_fs.specs.Order.{count_of}
 use Rattle.pt_fs.specs.Jobs.{no_seat}
@@ -14,7 +15,8 @@ use Rattle.pt_fs.specs.Trace.{MadeFrom, TraceRuns, seated, steps_by, step_of, cl
 use Rattle.pt_fs.specs.declared.trace.TraceStep.{TraceStep}
 
 -- two traces that meet are one
-pub runs_on : {H : Type 0} (does : Does H) (xs ys : List TraceStep) (h0 h1 h2 : H) (s0 s1 s2 : List (Option HostSeat))
+pub runs_on : {H : Type 0} (does : HostRelation H) (xs ys : List TraceStep) (h0 h1 h2 : H)
+    (s0 s1 s2 : List (Option HostSeat))
     (r0 r1 r2 : Tables) → TraceRuns does xs h0 s0 r0 h1 s1 r1 → TraceRuns does ys h1 s1 r1 h2 s2 r2 →
     TraceRuns does (xs ++ ys) h0 s0 r0 h2 s2 r2
 runs_on does [] ys h0 h1 h2 s0 s1 s2 r0 r1 r2 first second = rw (← first.0, ← first.1, ← first.2) second
@@ -22,7 +24,7 @@ runs_on does (x ∷ xs) ys h0 h1 h2 s0 s1 s2 r0 r1 r2 first second =
     (first.0, first.1, first.2, first.3, runs_on does xs ys first.0 h1 h2 first.1 s1 s2 first.2 r1 r2 first.4 second)
 
 -- a step is made from some seat, a job's or none's
-pub made_from : {H : Type 0} (does : Does H) (deed : Option Deed) (reply : ActReply) (host : H)
+pub made_from : {H : Type 0} (does : HostRelation H) (deed : Option Deed) (reply : ActReply) (host : H)
     (seat : Option HostSeat) (tables : Tables) (host' : H) (seat' : Option HostSeat) (tables' : Tables) →
     MadeFrom does deed reply host seat tables host' seat' tables' →
     (here : HostSeat) × (there : HostSeat) × Made does deed reply host here tables host' there tables'
@@ -45,7 +47,8 @@ seat_count : Option HostSeat → ℕ
 seat_count None = 0
 seat_count (Some seat) = 1
 
-same_count : {H : Type 0} (does : Does H) (deed : Option Deed) (reply : ActReply) (host : H) (seat : Option HostSeat)
+same_count : {H : Type 0} (does : HostRelation H) (deed : Option Deed) (reply : ActReply) (host : H)
+    (seat : Option HostSeat)
     (tables : Tables) (host' : H) (seat' : Option HostSeat) (tables' : Tables) →
     MadeFrom does deed reply host seat tables host' seat' tables' → seat_count seat' ≡ seat_count seat
 unfolding seat_count
@@ -71,7 +74,7 @@ seated-set (first ∷ seats) (suc place) seat seat' at same =
     let new = seated_more first (slice_set seats place seat') in omega arith
 
 -- as many seats are left as there were
-pub seats_left : {H : Type 0} (does : Does H) (xs : List TraceStep) (h0 h1 : H) (s0 s1 : List (Option HostSeat))
+pub seats_left : {H : Type 0} (does : HostRelation H) (xs : List TraceStep) (h0 h1 : H) (s0 s1 : List (Option HostSeat))
     (r0 r1 : Tables) → TraceRuns does xs h0 s0 r0 h1 s1 r1 → length (seated s1) ≡ length (seated s0)
 seats_left does [] h0 h1 s0 s1 r0 r1 runs = ap (λ s. length (seated s)) runs.1
 seats_left does (x ∷ xs) h0 h1 s0 s1 r0 r1 runs =

@@ -3,7 +3,7 @@ use Rattle.std.proofs.Common.{◌≡◌, ◌≤◌, ℕ, List, [], ◌++◌, ◌
 use Rattle.pt_host.specs.declared.seat.HostSeat.{HostSeat}
 use Rattle.pt_session.specs.Tables.{Tables}
 use Rattle.pt_iface.specs.declared.answer.Answer.{Answer}
-use Rattle.pt_frame.specs.Made.{Does}
+use Rattle.pt_host.specs.Relation.{HostRelation}
 use Rattle.pt_req.specs.declared.plan.Plan.{Plan}
 use Rattle.pt_fs.specs.Each.{EachStarted, EachAnswered}
 use Rattle.pt_fs.specs.GoesOn.{GoesOn}
@@ -21,7 +21,7 @@ use Rattle.pt_fs.proofs.Ended.{started_seats, started_length, started_owing, ans
 use Rattle.pt_fs.proofs.Ended.{order_kept}
 
 -- a whole run, from the jobs that were started to those that have finished
-pub record Whole {H : Type 0} (does : Does H) (plan : Plan) (schedule : List ℕ) (h : H) (jobs : List Job)
+pub record Whole {H : Type 0} (does : HostRelation H) (plan : Plan) (schedule : List ℕ) (h : H) (jobs : List Job)
     (running : List Running) (tables : Tables) (h' : H) (running' : List Running) (tables' : Tables)
     (trace : List TraceStep) (answers : List Answer) : Type 0 where
   pub none : List TraceStep
@@ -32,13 +32,13 @@ pub record Whole {H : Type 0} (does : Does H) (plan : Plan) (schedule : List ℕ
   pub finished : (j : ℕ) → IsFinishedAt running' j
   pub answered : EachAnswered running' answers
 
-pub whole_steps : {H : Type 0} {does : Does H} {plan : Plan} {schedule : List ℕ} {h h' : H} {jobs : List Job}
+pub whole_steps : {H : Type 0} {does : HostRelation H} {plan : Plan} {schedule : List ℕ} {h h' : H} {jobs : List Job}
     {running running' : List Running} {tables tables' : Tables} {trace : List TraceStep} {answers : List Answer}
     (whole : Whole does plan schedule h jobs running tables h' running' tables' trace answers) →
     trace ≡ whole.goes.steps
 whole_steps whole = whole.goes.longer ∙ ap (λ t. t ++ whole.goes.steps) whole.empty
 
-pub runs_whole : {H : Type 0} {does : Does H} {plan : Plan} {schedule : List ℕ} {h h' : H} {jobs : List Job}
+pub runs_whole : {H : Type 0} {does : HostRelation H} {plan : Plan} {schedule : List ℕ} {h h' : H} {jobs : List Job}
     {running running' : List Running} {tables tables' : Tables} {trace : List TraceStep} {answers : List Answer}
     → Whole does plan schedule h jobs running tables h' running' tables' trace answers →
     TraceRuns does trace h (map job_seat jobs) tables h' (map run_seat running') tables'
@@ -46,7 +46,7 @@ runs_whole {plan = plan} {jobs = jobs} {running = running} whole =
     rw (whole_steps whole, ← started_seats plan jobs running whole.started) whole.goes.runs
 
 -- and the seats that are left
-pub jobs_whole : {H : Type 0} {does : Does H} {plan : Plan} {schedule : List ℕ} {h h' : H} {jobs : List Job}
+pub jobs_whole : {H : Type 0} {does : HostRelation H} {plan : Plan} {schedule : List ℕ} {h h' : H} {jobs : List Job}
     {running running' : List Running} {tables tables' : Tables} {trace : List TraceStep} {answers : List Answer}
     (left : List HostSeat)
     → Whole does plan schedule h jobs running tables h' running' tables' trace answers →
@@ -63,7 +63,7 @@ jobs_whole {does = does} {h =
           ∙ seats_left does trace h h' (map job_seat jobs) (map run_seat running') tables tables' runs;
     }
 
-pub owing_whole : {H : Type 0} {does : Does H} {plan : Plan} {schedule : List ℕ} {h h' : H} {jobs : List Job}
+pub owing_whole : {H : Type 0} {does : HostRelation H} {plan : Plan} {schedule : List ℕ} {h h' : H} {jobs : List Job}
     {running running' : List Running} {tables tables' : Tables} {trace : List TraceStep} {answers : List Answer}
     → Whole does plan schedule h jobs running tables h' running' tables' trace answers →
     Owing plan jobs running' trace
@@ -72,20 +72,20 @@ owing_whole {plan = plan} {jobs = jobs} {running = running} whole =
     (subst (λ (t : List TraceStep).
     Owing plan jobs running t) (sym whole.empty) (started_owing plan jobs running whole.started))
 
-pub answers_whole : {H : Type 0} {does : Does H} {plan : Plan} {schedule : List ℕ} {h h' : H} {jobs : List Job}
+pub answers_whole : {H : Type 0} {does : HostRelation H} {plan : Plan} {schedule : List ℕ} {h h' : H} {jobs : List Job}
     {running running' : List Running} {tables tables' : Tables} {trace : List TraceStep} {answers : List Answer}
     → Whole does plan schedule h jobs running tables h' running' tables' trace answers →
     AnswersEach plan jobs trace answers
 answers_whole {plan = plan} {jobs = jobs} {running' = running'} {trace = trace} {answers = answers} whole =
     answers_each plan jobs running' trace answers (owing_whole whole) whole.answered
 
-pub bounded_whole : {H : Type 0} {does : Does H} {plan : Plan} {schedule : List ℕ} {h h' : H} {jobs : List Job}
+pub bounded_whole : {H : Type 0} {does : HostRelation H} {plan : Plan} {schedule : List ℕ} {h h' : H} {jobs : List Job}
     {running running' : List Running} {tables tables' : Tables} {trace : List TraceStep} {answers : List Answer}
     → Whole does plan schedule h jobs running tables h' running' tables' trace answers → IsBounded jobs trace
 bounded_whole {plan = plan} {jobs = jobs} {running' = running'} {trace = trace} whole =
     bounded_each plan jobs running' trace (owing_whole whole)
 
-pub order_whole : {H : Type 0} {does : Does H} {plan : Plan} {schedule : List ℕ} {h h' : H} {jobs : List Job}
+pub order_whole : {H : Type 0} {does : HostRelation H} {plan : Plan} {schedule : List ℕ} {h h' : H} {jobs : List Job}
     {running running' : List Running} {tables tables' : Tables} {trace : List TraceStep} {answers : List Answer}
     → Whole does plan schedule h jobs running tables h' running' tables' trace answers →
     IsInOrder schedule (length jobs) trace
@@ -99,7 +99,7 @@ order_whole {plan =
     }
 
 -- the trace has no more steps than there was work
-pub spent_whole : {H : Type 0} {does : Does H} {plan : Plan} {schedule : List ℕ} {h h' : H} {jobs : List Job}
+pub spent_whole : {H : Type 0} {does : HostRelation H} {plan : Plan} {schedule : List ℕ} {h h' : H} {jobs : List Job}
     {running running' : List Running} {tables tables' : Tables} {trace : List TraceStep} {answers : List Answer}
     → Whole does plan schedule h jobs running tables h' running' tables' trace answers →
     length trace ≤ work running tables

@@ -7,7 +7,8 @@ use Rattle.pt_session.specs.Pending.{pending_in}
 use Rattle.pt_session.specs.Tables.{Tables}
 use Rattle.pt_frame.specs.Deed.{Deed, Changes, Calls}
 use Rattle.pt_attr.specs.Machine.Job.{steps_bound, inserts_left}
-use Rattle.pt_frame.specs.Made.{Does, Made}
+use Rattle.pt_host.specs.Relation.{HostRelation}
+use Rattle.pt_frame.specs.Made.{Made}
 use Rattle.pt_frame.specs.declared.act.ActReply.{ActReply}
 use Rattle.pt_frame.specs.declared.act.ActReply.TheVariants.{Event, Host, NoCopy}
 use Rattle.pt_req.specs.declared.plan.Plan.{Plan}
@@ -32,7 +33,7 @@ bounds-set (first ∷ running) (suc place) run run' there =
     let e = bounds-set running place run run' there in omega arith
 
 -- a step that was made tells no more closings than rows went
-pub made_puts : {H : Type 0} (does : Does H) (kept : Option Deed) (told : ActReply) (host host' : H)
+pub made_puts : {H : Type 0} (does : HostRelation H) (kept : Option Deed) (told : ActReply) (host host' : H)
     (seat seat' : HostSeat) (tables tables' : Tables)
     → Made does kept told host seat tables host' seat' tables' →
     pending_in tables' + told_by kept told ≤ pending_in tables + inserted_in kept told
@@ -49,7 +50,7 @@ made_puts does (Some (Calls asked)) (Event told) host host' seat seat' tables ta
 made_puts does None (Event told) host host' seat seat' tables tables' made = absurd made
 made_puts does None (Host told) host host' seat seat' tables tables' made = absurd made
 
-puts_from : {H : Type 0} (does : Does H) (kept : Option Deed) (told : ActReply) (host host' : H)
+puts_from : {H : Type 0} (does : HostRelation H) (kept : Option Deed) (told : ActReply) (host host' : H)
     (seat seat' : Option HostSeat) (tables tables' : Tables)
     → MadeFrom does kept told host seat tables host' seat' tables' →
     pending_in tables' + told_by kept told ≤ pending_in tables + inserted_in kept told
@@ -58,7 +59,8 @@ puts_from does kept told host host' seat seat' tables tables' made =
     made_puts does kept told host host' from.0 from.1 tables tables' from.2
 
 -- each step leaves less work
-pub advance_falls : {H : Type 0} (does : Does H) (place : ℕ) (kept : Option Deed) (told : ActReply) (host host' : H)
+pub advance_falls : {H : Type 0} (does : HostRelation H) (place : ℕ) (kept : Option Deed) (told : ActReply)
+    (host host' : H)
     (running : List Running) (run run' : Running) (tables tables' : Tables) (seat' : Option HostSeat)
     → slice_get running place ≡ Some run → MadeFrom does kept told host run.seat tables host' seat' tables'
     → steps_bound run'.state + 1 ≤ steps_bound run.state + 3 * told_by kept told →

@@ -6,7 +6,7 @@ use Rattle.pt_session.specs.Tables.{Tables, Agree}
 use Rattle.pt_iface.specs.declared.answer.Answer.{Answer}
 use Rattle.pt_iface.specs.declared.answer.Answer.TheVariants.{NoMemory}
 use Rattle.pt_frame.specs.Deed.{LacksMemory}
-use Rattle.pt_frame.specs.Made.{Does}
+use Rattle.pt_host.specs.Relation.{HostRelation}
 use Rattle.pt_req.specs.declared.plan.Plan.{Plan}
 use Rattle.pt_fs.specs.Order.{IsInOrder}
 use Rattle.pt_fs.specs.Trace.{RunsJobs, AnswersEach}
@@ -21,7 +21,7 @@ pub record FoundMemory (trace : List TraceStep) (answers : List Answer) : Type 0
 -- the jobs ran in the order of the schedule, and never lacked memory
 pub record RanInOrder
     {H : Type 0}
-    (does : Does H)
+    (does : HostRelation H)
     (plan : Plan)
     (schedule : List ℕ)
     (jobs : List Job)
@@ -53,7 +53,7 @@ pub record AreOneRun
   pub sat : seats ≡ seats'
   pub left : tables ≡ tables'
 
-abbrev pub TurnsAreDetermined : {H : Type 0} → Does H → Type 0
+abbrev pub TurnsAreDetermined : {H : Type 0} → HostRelation H → Type 0
 TurnsAreDetermined {H} does =
     (plan : Plan) (schedule : List ℕ) (jobs : List Job) (host : H) (tables : Tables) (trace trace' : List TraceStep)
     (answers answers' : List Answer) (after after' : H) (seats seats' : List HostSeat) (left left' : Tables) →

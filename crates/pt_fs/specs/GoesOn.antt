@@ -1,7 +1,7 @@
 -- Inner. What any number of steps does to host, jobs, tables and trace.
 use Rattle.std.specs.Prelude.{◌≡◌, ◌≤◌, ◌+◌, ℕ, List, ◌++◌, length, map}
 use Rattle.pt_session.specs.Tables.{Tables}
-use Rattle.pt_frame.specs.Made.{Does}
+use Rattle.pt_host.specs.Relation.{HostRelation}
 use Rattle.pt_req.specs.declared.plan.Plan.{Plan}
 use Rattle.pt_fs.specs.Order.{Owns}
 use Rattle.pt_fs.specs.Owing.{Owing, run_seat}
@@ -14,7 +14,7 @@ use Rattle.pt_fs.specs.declared.running.Running.{Running}
 -- the trace went on by steps that led from the first host, jobs and tables to the last, by those owners
 pub record GoesOn
     {H : Type 0}
-    (does : Does H)
+    (does : HostRelation H)
     (plan : Plan)
     (before : (ℕ → ℕ) → List ℕ)
     (host : H)

@@ -4,7 +4,7 @@ use Rattle.pt_host.specs.Tree.{Tree}
 use Rattle.pt_host.specs.declared.seat.HostSeat.{HostSeat}
 use Rattle.pt_session.specs.Tables.{Tables, Agree}
 use Rattle.pt_iface.specs.declared.answer.Answer.{Answer}
-use Rattle.pt_frame.specs.Made.{Does}
+use Rattle.pt_host.specs.Relation.{HostRelation}
 use Rattle.pt_req.specs.declared.plan.Plan.{Plan}
 use Rattle.pt_law.specs.Laws.{SlotsAddUp, IsAtRest, AreKept}
 use Rattle.pt_fs.specs.Keeps.{turns_of, AfterEach, AfterEachTold, ReachesEach, LeadsOn, KeepsObjects, KeepsCounts}
@@ -20,7 +20,7 @@ use Rattle.pt_fs.specs.declared.trace.TraceStep.{TraceStep}
 -- trace, the answers, the host, the tree that it tells, the seats and the tables came of it.
 pub record IsRun
     {H : Type 0}
-    (does : Does H)
+    (does : HostRelation H)
     (plan : Plan)
     (jobs : List Job)
     (schedule : List ℕ)

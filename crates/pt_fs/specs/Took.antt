@@ -5,7 +5,7 @@ use Rattle.pt_session.specs.Tables.{Tables}
 use Rattle.pt_frame.specs.Deed.{kept_deed_of}
 use Rattle.pt_frame.specs.Grammar.{is_end}
 use Rattle.pt_attr.specs.Machine.Job.{owes, steps_left, steps_bound, is_finished}
-use Rattle.pt_frame.specs.Made.{Does}
+use Rattle.pt_host.specs.Relation.{HostRelation}
 use Rattle.pt_req.specs.declared.plan.Plan.{Plan}
 use Rattle.pt_fs.specs.Advances.{Advances}
 use Rattle.pt_fs.specs.Trace.{MadeFrom, told_by}
@@ -22,7 +22,7 @@ IsUnfinished plan running place =
 -- the job of this number took its next step, which is the last of the trace
 pub record Took
     {H : Type 0}
-    (does : Does H)
+    (does : HostRelation H)
     (plan : Plan)
     (place : ℕ)
     (host : H)
@@ -54,7 +54,7 @@ abbrev pub IsFinishedAt : List Running → ℕ → Type 0
 IsFinishedAt running place = (run : Running) → slice_get running place ≡ Some run → is_finished run.state ≡ true
 
 -- the job of this number took its next step, or has none and nothing changed
-abbrev pub TookOrStays : {H : Type 0} → Does H → Plan → ℕ → H → List Running → Tables → List TraceStep → H →
+abbrev pub TookOrStays : {H : Type 0} → HostRelation H → Plan → ℕ → H → List Running → Tables → List TraceStep → H →
     List Running → Tables → List TraceStep → Type 0
 TookOrStays does plan place host running tables trace host' running' tables' trace' =
     Took does plan place host running tables trace host' running' tables' trace'

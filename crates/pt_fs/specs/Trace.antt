@@ -6,7 +6,8 @@ use Rattle.pt_session.specs.Tables.{Tables}
 use Rattle.pt_iface.specs.declared.answer.Answer.{Answer}
 use Rattle.pt_frame.specs.Deed.{Deed, Step, kept_deed_of}
 use Rattle.pt_frame.specs.Replies.{closings_in}
-use Rattle.pt_frame.specs.Made.{Does, Made}
+use Rattle.pt_host.specs.Relation.{HostRelation}
+use Rattle.pt_frame.specs.Made.{Made}
 use Rattle.pt_attr.specs.Pattern.{bound_for, most_inserted}
 use Rattle.pt_frame.specs.declared.act.ActReply.{ActReply}
 use Rattle.pt_req.specs.declared.plan.Plan.{Plan}
@@ -19,7 +20,7 @@ abbrev pub step_of : TraceStep → Step
 step_of step = record { deed = kept_deed_of step.act; reply = step.reply }
 
 -- a step of a job that has a seat, which may be another after it, or of one that has none
-abbrev pub MadeFrom : {H : Type 0} → Does H → Option Deed → ActReply → H → Option HostSeat → Tables → H →
+abbrev pub MadeFrom : {H : Type 0} → HostRelation H → Option Deed → ActReply → H → Option HostSeat → Tables → H →
     Option HostSeat → Tables → Type 0
 MadeFrom does deed reply host (Some seat) tables host' (Some seat') tables' =
     Made does deed reply host seat tables host' seat' tables'
@@ -28,7 +29,7 @@ MadeFrom does deed reply host None tables host' None tables' =
 MadeFrom does deed reply host seat tables host' seat' tables' = ⊥
 
 -- the step was made from the seat of the job that owns it, and no other seat changed
-abbrev pub MadeAt : {H : Type 0} → Does H → TraceStep → H → List (Option HostSeat) → Tables → H →
+abbrev pub MadeAt : {H : Type 0} → HostRelation H → TraceStep → H → List (Option HostSeat) → Tables → H →
     List (Option HostSeat) → Tables → Type 0
 MadeAt does step host seats tables host' seats' tables' =
     (seat : Option HostSeat) × (seat' : Option HostSeat) × (slice_get seats step.job ≡ Some seat)
@@ -36,7 +37,7 @@ MadeAt does step host seats tables host' seats' tables' =
     × MadeFrom does (kept_deed_of step.act) step.reply host seat tables host' seat' tables'
 
 -- the trace leads from host, seats and tables to these, each step from where the one before it led
-abbrev pub TraceRuns : {H : Type 0} → Does H → List TraceStep → H → List (Option HostSeat) → Tables → H →
+abbrev pub TraceRuns : {H : Type 0} → HostRelation H → List TraceStep → H → List (Option HostSeat) → Tables → H →
     List (Option HostSeat) → Tables → Type 0
 TraceRuns does [] host seats tables host' seats' tables' = (host' ≡ host) × (seats' ≡ seats) × (tables' ≡ tables)
 TraceRuns {H} does (step ∷ steps) host seats tables host' seats' tables' =
@@ -54,7 +55,7 @@ seated (Some seat ∷ seats) = seat ∷ seated seats
 -- are no edit, in job order.
 pub record RunsJobs
     {H : Type 0}
-    (does : Does H)
+    (does : HostRelation H)
     (jobs : List Job)
     (trace : List TraceStep)
     (host : H)

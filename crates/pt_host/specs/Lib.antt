@@ -7,6 +7,7 @@ pub mod Call
 pub mod Sorts
 pub mod Reply
 pub mod Seat
+pub mod Relation
 pub mod SeatCalls
 pub mod SeatStep
 pub mod SeatAnswer

@@ -8,7 +8,8 @@ use Rattle.pt_host.specs.declared.reply.HostReply.{HostReply}
 use Rattle.pt_host.specs.declared.seat.HostSeat.{HostSeat}
 use Rattle.pt_session.specs.Tables.{Tables}
 use Rattle.pt_frame.specs.Deed.{Deed, Calls, Changes, Step}
-use Rattle.pt_frame.specs.Made.{Does, Made}
+use Rattle.pt_host.specs.Relation.{HostRelation}
+use Rattle.pt_frame.specs.Made.{Made}
 use Rattle.pt_frame.specs.declared.act.ActReply.{ActReply}
 use Rattle.pt_frame.specs.declared.act.ActReply.TheVariants.{Event, Host, NoCopy}
 use Rattle.pt_law.specs.Told.{StepMayBeTold, AllMayBeTold}
@@ -16,8 +17,8 @@ use Rattle.pt_law.specs.World.{World, Turn, IsLawful, Runs, HostRuns, TablesRun,
 use Rattle.pt_law.proofs.Told.{Promises, made_told, call_told, bytes_told}
 use Rattle.pt_law.proofs.Steps.{turned}
 
-pub hosts_tables : {H : Type 0} (does : Does H) (turns : List Turn) (from : H) (t : Tables) (to : H) (t' : Tables) →
-    HostRuns does turns from t to t' → TablesRun t turns t'
+pub hosts_tables : {H : Type 0} (does : HostRelation H) (turns : List Turn) (from : H) (t : Tables) (to : H)
+    (t' : Tables) → HostRuns does turns from t to t' → TablesRun t turns t'
 hosts_tables does [] from t to t' r = r.1
 hosts_tables does (s ∷ ss) from t to t' r =
     (r.1, turned does s.step.deed s.step.reply from r.2 t r.0 r.3 r.1 r.4, hosts_tables does ss r.0 r.1 to t' r.5)
@@ -28,7 +29,7 @@ told_if : (b : Bool) (step : Step) (steps : List Step) → StepMayBeTold step.de
 told_if true step steps one more = (one, more)
 told_if false step steps one more = more
 
-pub hosts_told : {H : Type 0} (does : Does H) (faults : H → ℕ) → Promises does faults →
+pub hosts_told : {H : Type 0} (does : HostRelation H) (faults : H → ℕ) → Promises does faults →
     (job : ℕ) (turns : List Turn) (from : H) (t : Tables) (to : H) (t' : Tables) → HostRuns does turns from t to t' →
     AllMayBeTold (steps_of job turns)
 hosts_told does faults p job [] from t to t' r = tt
@@ -59,13 +60,13 @@ run_told job (s ∷ ss) start end r =
     (run_told job ss r.0 end r.2)
 
 -- the host goes on telling its tree, and its steps are lawful
-abbrev pub Tells : {H : Type 0} → Does H → (H → Option Tree) → Type 0
+abbrev pub Tells : {H : Type 0} → HostRelation H → (H → Option Tree) → Type 0
 Tells {H} does tree =
     (from : H) (seat : HostSeat) (asked : Call) (told : HostReply) (to : H) (seat' : HostSeat) →
     does from seat asked told to seat' → (before : Tree) → tree from ≡ Some before →
     (later : Tree) × (tree to ≡ Some later) × LawfulStep before seat asked told later seat'
 
-made_lawful : {H : Type 0} (does : Does H) (tree : H → Option Tree) (faults : H → ℕ) → Promises does faults →
+made_lawful : {H : Type 0} (does : HostRelation H) (tree : H → Option Tree) (faults : H → ℕ) → Promises does faults →
     Tells does tree → (deed : Option Deed) (told : ActReply) (from : H) (seat : HostSeat) (t : Tables) (to : H)
     (seat' : HostSeat) (t' : Tables)
     (before : Tree) → tree from ≡ Some before → Made does deed told from seat t to seat' t' →
@@ -82,7 +83,8 @@ made_lawful does tree faults p l None NoCopy from seat t to seat' t' before is m
     (before, ap tree m.0 ∙ is, (refl, m.1, m.2))
 made_lawful does tree faults p l _ _ from seat t to seat' t' before is m = absurd m
 
-pub hosts_world : {H : Type 0} (does : Does H) (tree : H → Option Tree) (faults : H → ℕ) → Promises does faults →
+pub hosts_world : {H : Type 0} (does : HostRelation H) (tree : H → Option Tree) (faults : H → ℕ) →
+    Promises does faults →
     Tells does tree → (turns : List Turn) (start : World) (from to : H) (t' : Tables) → tree from ≡ Some start.tree →
     HostRuns does turns from start.tables to t' →
     (end : World) × (tree to ≡ Some end.tree) × (end.tables ≡ t') × Runs start turns end

@@ -12,7 +12,8 @@ use Rattle.pt_host.specs.declared.seat.HostSeat.{HostSeat}
 use Rattle.pt_session.specs.Tables.{Tables}
 use Rattle.pt_session.specs.Happens.{Happens}
 use Rattle.pt_frame.specs.Deed.{Deed, Calls, Changes, Step}
-use Rattle.pt_frame.specs.Made.{Does, Makes, Made, MadeBy, RunsAlone, RunsBy}
+use Rattle.pt_host.specs.Relation.{HostRelation}
+use Rattle.pt_frame.specs.Made.{Makes, Made, MadeBy, RunsAlone, RunsBy}
 use Rattle.pt_frame.specs.Seats.{seat_at, seat_by}
 use Rattle.pt_frame.specs.declared.act.ActReply.{ActReply}
 use Rattle.pt_frame.specs.declared.act.ActReply.TheVariants.{Event, Host, NoCopy}
@@ -31,7 +32,7 @@ bytes_leave before after seat asked (host.Ok (value.Bytes bytes)) holds fits = r
 bytes_leave before after seat asked told holds fits = absurd holds
 
 -- whatever makes the events
-pub made_seat_by : {H A : Type 0} (does : Does H) (makes : Makes A) (faults : H → ℕ) → Promises does faults →
+pub made_seat_by : {H A : Type 0} (does : HostRelation H) (makes : Makes A) (faults : H → ℕ) → Promises does faults →
     (deed : Option Deed) (told : ActReply) (from : H) (seat : HostSeat) (access : A) (to : H) (seat_after : HostSeat)
     (access_after : A) → MadeBy does makes deed told from seat access to seat_after access_after →
     seat_after ≡ seat_by seat deed told
@@ -46,7 +47,7 @@ made_seat_by does makes faults p (Some (Calls asked)) told from seat access to s
 made_seat_by does makes faults p None NoCopy from seat access to seat_after after m = m.1
 made_seat_by does makes faults p None told from seat access to seat_after after m = absurd m
 
-pub alone_seat_by : {H A : Type 0} (does : Does H) (makes : Makes A) (faults : H → ℕ) → Promises does faults →
+pub alone_seat_by : {H A : Type 0} (does : HostRelation H) (makes : Makes A) (faults : H → ℕ) → Promises does faults →
     (steps : List Step) (from : H) (seat : HostSeat) (access : A) (to : H) (seat_after : HostSeat)
     (access_after : A) → RunsBy does makes steps from seat access to seat_after access_after →
     seat_after ≡ seat_at seat steps
@@ -57,13 +58,13 @@ alone_seat_by does makes faults p (step ∷ steps) from seat access to seat_afte
     (made_seat_by does makes faults p step.deed step.reply from seat access r.0 r.1 r.2 r.3)
 
 -- over the session's own tables
-pub made_seat : {H : Type 0} (does : Does H) (faults : H → ℕ) → Promises does faults →
+pub made_seat : {H : Type 0} (does : HostRelation H) (faults : H → ℕ) → Promises does faults →
     (deed : Option Deed) (told : ActReply) (from : H) (seat : HostSeat) (tables : Tables) (to : H)
     (seat_after : HostSeat) (tables_after : Tables) →
     Made does deed told from seat tables to seat_after tables_after → seat_after ≡ seat_by seat deed told
 made_seat does faults p = made_seat_by does Happens faults p
 
-pub alone_seat : {H : Type 0} (does : Does H) (faults : H → ℕ) → Promises does faults →
+pub alone_seat : {H : Type 0} (does : HostRelation H) (faults : H → ℕ) → Promises does faults →
     (steps : List Step) (from : H) (seat : HostSeat) (tables : Tables) (to : H) (seat_after : HostSeat)
     (tables_after : Tables) → RunsAlone does steps from seat tables to seat_after tables_after →
     seat_after ≡ seat_at seat steps

@@ -25,7 +25,8 @@ use Rattle.pt_session.specs.declared.event.KeptEvent.TheVariants as change
 use Rattle.pt_session.specs.declared.reply.EventReply.{EventReply}
 use Rattle.pt_session.specs.declared.reply.EventReply.TheVariants as event
 use Rattle.pt_frame.specs.Deed.{Deed, Calls, Changes}
-use Rattle.pt_frame.specs.Made.{Does, Made}
+use Rattle.pt_host.specs.Relation.{HostRelation}
+use Rattle.pt_frame.specs.Made.{Made}
 use Rattle.pt_frame.specs.declared.act.ActReply.{ActReply}
 use Rattle.pt_frame.specs.declared.act.ActReply.TheVariants.{Event, Host, NoCopy}
 use Rattle.pt_frame.specs.Held.{statted}
@@ -129,7 +130,7 @@ has_flows bound had t js j None NoCopy t' after lt v g m = refl
 has_flows bound had t js j _ _ t' after lt v g m = absurd g
 
 -- what a made step does to the tables
-pub turned : {H : Type 0} (does : Does H) (deed : Option Deed) (told : ActReply) (from : H) (seat : HostSeat)
+pub turned : {H : Type 0} (does : HostRelation H) (deed : Option Deed) (told : ActReply) (from : H) (seat : HostSeat)
     (t : Tables) (to : H) (seat' : HostSeat) (t' : Tables) → Made does deed told from seat t to seat' t' →
     TablesGo t deed told t'
 turned does (Some (Changes e)) (Event r) from seat t to seat' t' h = h.0

@@ -12,13 +12,14 @@ use Rattle.pt_session.specs.Tables.{Tables}
 use Rattle.pt_session.specs.Happens.{Happens}
 use Rattle.pt_session.specs.declared.reply.EventReply.{EventReply}
 use Rattle.pt_frame.specs.Deed.{Deed, Calls, Changes, Step, MayTellBytes}
-use Rattle.pt_frame.specs.Made.{Does, Makes, Made, MadeBy, RunsAlone, RunsBy}
+use Rattle.pt_host.specs.Relation.{HostRelation}
+use Rattle.pt_frame.specs.Made.{Makes, Made, MadeBy, RunsAlone, RunsBy}
 use Rattle.pt_frame.specs.declared.act.ActReply.{ActReply}
 use Rattle.pt_frame.specs.declared.act.ActReply.TheVariants.{Event, Host, NoCopy}
 use Rattle.pt_law.specs.Told.{MayBeTold, StepMayBeTold, AllMayBeTold}
 
 -- the host keeps its promises
-abbrev pub Promises : {H : Type 0} → Does H → (H → ℕ) → Type 0
+abbrev pub Promises : {H : Type 0} → HostRelation H → (H → ℕ) → Type 0
 Promises {H} does faults =
     (from : H) (seat : HostSeat) (asked : Call) (told : HostReply) (to : H) (seat_after : HostSeat) →
     does from seat asked told to seat_after → IsPromised (faults from) seat asked told (faults to) seat_after
@@ -42,7 +43,7 @@ TellsEvents {A} makes =
     (access : A) (asked : Change) (told : EventReply) (after : A) → makes access asked told after →
     MayBeTold (Changes asked) (Event told)
 
-pub made_told_by : {H A : Type 0} (does : Does H) (makes : Makes A) (faults : H → ℕ) → Promises does faults →
+pub made_told_by : {H A : Type 0} (does : HostRelation H) (makes : Makes A) (faults : H → ℕ) → Promises does faults →
     TellsEvents makes → (deed : Option Deed) (told : ActReply) (from : H) (seat : HostSeat) (access : A) (to : H)
     (seat_after : HostSeat) (access_after : A) →
     MadeBy does makes deed told from seat access to seat_after access_after → StepMayBeTold deed told
@@ -56,7 +57,7 @@ made_told_by does makes faults p e (Some (Calls asked)) NoCopy from seat access 
 made_told_by does makes faults p e (Some (Calls asked)) told from seat access to seat_after after m = absurd m
 made_told_by does makes faults p e None told from seat access to seat_after after m = tt
 
-pub alone_told_by : {H A : Type 0} (does : Does H) (makes : Makes A) (faults : H → ℕ) → Promises does faults →
+pub alone_told_by : {H A : Type 0} (does : HostRelation H) (makes : Makes A) (faults : H → ℕ) → Promises does faults →
     TellsEvents makes → (steps : List Step) (from : H) (seat : HostSeat) (access : A) (to : H)
     (seat_after : HostSeat) (access_after : A) →
     RunsBy does makes steps from seat access to seat_after access_after → AllMayBeTold steps
@@ -70,13 +71,13 @@ alone_told_by does makes faults p e (step ∷ steps) from seat access to seat_af
 happens_told : TellsEvents Happens
 happens_told tables asked told after h = (tables, after, h)
 
-pub made_told : {H : Type 0} (does : Does H) (faults : H → ℕ) → Promises does faults →
+pub made_told : {H : Type 0} (does : HostRelation H) (faults : H → ℕ) → Promises does faults →
     (deed : Option Deed) (told : ActReply) (from : H) (seat : HostSeat) (tables : Tables) (to : H)
     (seat_after : HostSeat) (tables_after : Tables) →
     Made does deed told from seat tables to seat_after tables_after → StepMayBeTold deed told
 made_told does faults p = made_told_by does Happens faults p happens_told
 
-pub alone_told : {H : Type 0} (does : Does H) (faults : H → ℕ) → Promises does faults →
+pub alone_told : {H : Type 0} (does : HostRelation H) (faults : H → ℕ) → Promises does faults →
     (steps : List Step) (from : H) (seat : HostSeat) (tables : Tables) (to : H) (seat_after : HostSeat)
     (tables_after : Tables) → RunsAlone does steps from seat tables to seat_after tables_after → AllMayBeTold steps
 alone_told does faults p = alone_told_by does Happens faults p happens_told

@@ -16,7 +16,8 @@ use Rattle.pt_session.specs.declared.form.RowForm.TheVariants.{File}
 use Rattle.pt_session.specs.declared.event.KeptEvent.TheVariants as change
 use Rattle.pt_session.specs.declared.reply.EventReply.TheVariants as event
 use Rattle.pt_frame.specs.Deed.{Deed, Calls, Changes, Step}
-use Rattle.pt_frame.specs.Made.{Does, Made}
+use Rattle.pt_host.specs.Relation.{HostRelation}
+use Rattle.pt_frame.specs.Made.{Made}
 use Rattle.pt_frame.specs.declared.act.ActReply.{ActReply}
 use Rattle.pt_frame.specs.declared.act.ActReply.TheVariants.{Event, Host, NoCopy}
 
@@ -109,7 +110,7 @@ pub record World : Type 0 where
   pub past : Past
 
 -- a host that is its tree: it does what is lawful, and what every host promises
-abbrev pub IsLawful : Does Tree
+abbrev pub IsLawful : HostRelation Tree
 IsLawful tree seat asked told after seat' =
     LawfulStep tree seat asked told after seat' × (before : ℕ) × (later : ℕ)
     × IsPromised before seat asked told later seat'
@@ -128,7 +129,7 @@ Runs world [] after = after ≡ world
 Runs world (turn ∷ turns) after = (mid : World) × Goes world turn mid × Runs mid turns after
 
 -- The steps lead from this host and these tables to those, by what the host does; the seats are whatever they are.
-abbrev pub HostRuns : {H : Type 0} → Does H → List Turn → H → Tables → H → Tables → Type 0
+abbrev pub HostRuns : {H : Type 0} → HostRelation H → List Turn → H → Tables → H → Tables → Type 0
 HostRuns does [] host tables host' tables' = (host' ≡ host) × (tables' ≡ tables)
 HostRuns {H} does (turn ∷ turns) host tables host' tables' =
     (host1 : H) × (tables1 : Tables) × (seat : HostSeat) × (seat1 : HostSeat)

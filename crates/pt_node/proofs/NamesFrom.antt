@@ -1,5 +1,6 @@
 -- The names from a place on, by the name that stands there.
-use Rattle.std.proofs.Common.{◌≡◌, ◌&&◌, ℕ, zero, suc, Bool, true, false, cond, List, [], ◌∷◌, drop, filter, Some, None, Vec}
+use Rattle.std.proofs.Common.{◌≡◌, ◌&&◌, ℕ, zero, suc, Bool, true, false, cond, List, [], ◌∷◌, drop, filter, Some}
+use Rattle.std.proofs.Common.{None, Vec}
 use Rattle.std.proofs.Common.{option_map, slice_get, refl, ap, sym, ◌∙◌, subst}
 use Rattle.std.specs.declared.alloc.Global.{Global}
 use Rattle.std.specs.declared.ops.Bound.TheVariants.{Included, Unbounded}

@@ -402,15 +402,16 @@ pub IsScriptOf-read : (bytes : List ℕ) (begun : Begun) (bad : Option ℕ) (set
     record { begun = begun; bad = bad } ≡ scan_of bytes → bad ≡ None → settings ≡ begun.settings →
     lines ≡ begun.tree → faults ≡ begun.faults → StartsAs lines start → host ≡ planned_all faults start →
     jobs ≡ begun.jobs → schedule ≡ begun.order → IsScriptOf bytes settings host jobs schedule
-IsScriptOf-read bytes begun bad settings lines faults jobs schedule start host read is set same same_faults starts plans same_jobs same_order = (
-  begun,
-  script_of-good bytes begun start (ap (λ (o : Option ℕ). record { begun = begun; bad = o }) (sym is)
-      ∙ read) (ap start_of (sym same) ∙ starts),
-  set,
-  (start, ap start_of (sym same) ∙ starts, plans ∙ ap (λ (l : List PlannedFault). planned_all l start) same_faults),
-  same_jobs,
-  same_order,
-)
+IsScriptOf-read bytes begun bad settings lines faults jobs schedule start host read is set same same_faults starts
+    plans same_jobs same_order = (
+      begun,
+      script_of-good bytes begun start (ap (λ (o : Option ℕ). record { begun = begun; bad = o }) (sym is)
+          ∙ read) (ap start_of (sym same) ∙ starts),
+      set,
+      (start, ap start_of (sym same) ∙ starts, plans ∙ ap (λ (l : List PlannedFault). planned_all l start) same_faults),
+      same_jobs,
+      same_order,
+    )
 
 -- a place at which lines break the rules is that of one of them, or the first
 add_lines-within : (line : ℕ) (xs : List TreeLine) (nodes : State) (n : ℕ) → add_lines line xs nodes ≡ Err n →

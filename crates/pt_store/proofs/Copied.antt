@@ -1,5 +1,6 @@
 -- What a copy between files and a seek are answered, as the code comes to it.
-use Rattle.std.proofs.Common.{◌≡◌, ◌<◌, ℕ, ℤ, List, [], length, Option, Some, None, option_map, Result, Bool, get_or, ap, sym}
+use Rattle.std.proofs.Common.{◌≡◌, ◌<◌, ℕ, ℤ, List, [], length, Option, Some, None, option_map, Result, Bool, get_or}
+use Rattle.std.proofs.Common.{ap, sym}
 use Rattle.std.proofs.Common.{◌∙◌, inl, inr, arith, slice_get, slice_set, length-set}
 use Rattle.std.proofs.lemmas.Option.{same_Some, slice_get-get_or, slice_get_within}
 use Rattle.pt_host.specs.declared.ids.Errno.{Errno}
@@ -29,7 +30,8 @@ pub told_on : (state : State) (fd : Fd) (file : OpenFile) (node : Node) (checks 
     first_refusal (checks file node) ≡ None →
     on_fd state fd (λ at dir. checked state (checks at dir) (rest at dir)) ≡ rest file node
 told_on state fd file node checks rest is at none =
-    ap (λ (f : Option OpenFile). on_open state (open_on state.nodes f) (λ o n. checked state (checks o n) (rest o n))) is
+    ap (λ (f : Option OpenFile).
+    on_open state (open_on state.nodes f) (λ o n. checked state (checks o n) (rest o n))) is
     ∙ ap (λ (n : Option Node). on_open state (option_map (λ n. (file, n)) n)
     (λ o n. checked state (checks o n) (rest o n))) at
     ∙ ap (λ (refusal : Option Errno). unless state refusal (rest file node)) none

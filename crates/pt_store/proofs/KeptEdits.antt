@@ -140,7 +140,8 @@ module _ (state : State) (holds : Counts) (tables : ℕ → List Slot) (dir : �
       (lowered dir (counted state.nodes object) holds.directories)
   linked_left = record {
     named = counts_as (λ o. names_of state.nodes o - at o object 1) (names_of left) (length state.nodes) (length left)
-        (released object holds.names) (counts_less (names_of state.nodes) (length state.nodes) holds.names object 1 kept.named)
+        (released object holds.names)
+        (counts_less (names_of state.nodes) (length state.nodes) holds.names object 1 kept.named)
         alike_left.long (λ o within. let less = named_left o in let one = is_at_one o object in
         omega (arith, less, one));
     nested = counts_as (λ o. directories_of state.nodes o - at o dir (counted state.nodes object)) (directories_of left)

@@ -1,6 +1,7 @@
 -- A store goes on knowing what lives where an object gets one name more, two objects change places, and a new file is
 -- opened.
-use Rattle.std.proofs.Common.{◌≡◌, ◌<◌, ◌≤◌, ◌+◌, ◌-◌, ◌^◌, inl, inr, ℕ, zero, suc, Bool, true, false, cond, List, [], ◌∷◌}
+use Rattle.std.proofs.Common.{◌≡◌, ◌<◌, ◌≤◌, ◌+◌, ◌-◌, ◌^◌, inl, inr, ℕ, zero, suc, Bool, true, false, cond, List, []}
+use Rattle.std.proofs.Common.{◌∷◌}
 use Rattle.std.proofs.Common.{◌++◌, length, take, Option, Some, None, slice_get, slice_set, refl, ap, sym, ◌∙◌, subst}
 use Rattle.std.proofs.Common.{arith, length-set}
 use Rattle.std.specs.Option.{is_some}
@@ -151,7 +152,8 @@ module _ (state : State) (holds : Counts) (tables : ℕ → List Slot) (from to 
       refl)
       (ordered_one now from to object other nodes (all_ordered state kept.sound))
       (leads_from one from.0 from.1 object still) still in
-      let d = weighed-gained w nodes to.0 to.1 object (put_there now from to object other nodes) (Some other) (λ n. refl)
+      let d = weighed-gained w nodes to.0 to.1 object (put_there now from to object other nodes) (Some other) (λ n.
+      refl)
       (all_ordered state kept.sound) (leads_from nodes to.0 to.1 other too) too in
       omega (arith, a, b, c, d)
 
@@ -202,7 +204,8 @@ pub kept_open_made : (state : State) (holds : Counts) (tables : ℕ →
       names = holds.names ++ 1 ∷ [];
       directories = holds.directories ++ 0 ∷ [];
     }) (given node.ids.dev (having (length state.nodes)) tables)
-kept_open_made state holds tables kept dir name node parent into free empty serial small at_dir number few seat flags file =
+kept_open_made state holds tables kept dir name node parent into free empty serial small at_dir number few seat flags
+    file =
     let made = kept_made state holds tables kept dir name node parent into free empty serial small at_dir number few
     (holds.directories ++ 0 ∷ [])
     (nested_file state holds tables kept dir name node parent into free empty serial small at_dir number few file) in

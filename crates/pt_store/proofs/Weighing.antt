@@ -1,6 +1,7 @@
 -- The names of all directories, each weighed by the directory that it stands in and by what it leads to.
 use Rattle.std.proofs.Common.{◌≡◌, ◌≢◌, ◌≤◌, ◌+◌, ◌==◌, inl, inr, ℕ, zero, suc, Bool, true, List, [], ◌∷◌, ◌++◌}
-use Rattle.std.proofs.Common.{length, Option, Some, None, option_map, option_and_then, slice_get, slice_set, sum_by, refl, ap, sym}
+use Rattle.std.proofs.Common.{length, Option, Some, None, option_map, option_and_then, slice_get, slice_set, sum_by}
+use Rattle.std.proofs.Common.{refl, ap, sym}
 use Rattle.std.proofs.Common.{◌∙◌, subst, arith}
 use Rattle.std.specs.Cmp.Lexicographic.{slice_cmp}
 use Rattle.std.specs.Map.{lookup, values_of}
@@ -15,7 +16,8 @@ use Rattle.std.proofs.lemmas.Map.Entries.{sum_by-insert_entry, sum_by-remove_ent
 use Rattle.std.proofs.lemmas.Map.Text.{is_eq-slice_cmp}
 use Rattle.std.proofs.lemmas.Option.{same_Some, slice_get_past}
 use Rattle.pt_host.specs.Words.{is}
-use Rattle.pt_node.specs.Entries.{changed_at, changed_where, is_directory_at, is_directory_where, with_name, without_name}
+use Rattle.pt_node.specs.Entries.{changed_at, changed_where, is_directory_at, is_directory_where, with_name}
+use Rattle.pt_node.specs.Entries.{without_name}
 use Rattle.pt_node.specs.Laws.Updates.{same_function}
 use Rattle.pt_node.specs.Links.{names_of, names_to}
 use Rattle.pt_node.specs.Names.{found, named}

@@ -7,7 +7,8 @@ use Rattle.std.proofs.lemmas.Option.{same_Some}
 use Rattle.pt_rules.specs.NameCalls.{special_kind, with_linked}
 use Rattle.pt_node.specs.NewPlace.{place_of}
 use Rattle.pt_node.specs.Slots.{no_files, open_at}
-use Rattle.pt_rules.specs.Building.{AddsIf, add_hard, add_link, add_mount, add_object, add_of_mode, add_special, add_xattr}
+use Rattle.pt_rules.specs.Building.{AddsIf, add_hard, add_link, add_mount, add_object, add_of_mode, add_special}
+use Rattle.pt_rules.specs.Building.{add_xattr}
 use Rattle.pt_rules.specs.Building.{is_linkable, is_new_mount, mount_in, mount_root, mounted, start_with, started}
 use Rattle.pt_rules.specs.Building.{with_xattr}
 use Rattle.pt_tree.specs.Start.{add_line, add_lines, first_line, going_on, start_of}

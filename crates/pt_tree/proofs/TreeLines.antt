@@ -8,7 +8,8 @@ use Rattle.pt_node.specs.declared.node.Node.{Node}
 -- the lines of one entry of the directory with this path
 abbrev pub entry_lines : ℕ → List Node → List ℕ → List ℕ × ℕ → List ℕ
 entry_lines depth nodes path entry =
-    line_at nodes (path ++ 47 ∷ entry.0) entry.1 (slice_get nodes entry.1) ++ lines_below depth nodes (path ++ 47 ∷ entry.0) entry.1
+    line_at nodes (path ++ 47 ∷ entry.0) entry.1 (slice_get nodes entry.1)
+    ++ lines_below depth nodes (path ++ 47 ∷ entry.0) entry.1
 
 pub lines_below-more : (depth : ℕ) (nodes : List Node) (path : List ℕ) (dir : ℕ) → 0 < depth →
     lines_below depth nodes path dir ≡ flat_map (entry_lines (depth - 1) nodes path) (names_at (slice_get nodes dir))

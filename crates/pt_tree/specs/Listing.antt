@@ -43,4 +43,5 @@ lines_below (suc depth) nodes path dir =
 
 -- nothing lies deeper than there are objects
 abbrev pub listing_of : State → List ℕ
-listing_of state = line_at state.nodes (47 ∷ []) 0 (slice_get state.nodes 0) ++ lines_below (length state.nodes) state.nodes [] 0
+listing_of state = line_at state.nodes (47 ∷ []) 0 (slice_get state.nodes 0)
+    ++ lines_below (length state.nodes) state.nodes [] 0

@@ -51,6 +51,7 @@ pub determined : (before after after' : State) (seat left left' : HostSeat) (ask
 determined before after after' seat left left' asked told told' w w' h k =
     let same = same_numbers before h.answers.numbers k.answers.numbers h.answers.least k.answers.least in
     let alike = same_outcome
-    (failure_of before asked) before h.answers.numbers k.answers.numbers seat asked told told' h.answers.state k.answers.state left left'
+    (failure_of before asked) before h.answers.numbers k.answers.numbers seat asked told told' h.answers.state
+    k.answers.state left left'
     w w' same h.answers.answered k.answers.answered in
     (alike.0, h.answers.counts ∙ ap (λ (s : State). counted (past_plan s)) alike.1 ∙ sym k.answers.counts, alike.2)

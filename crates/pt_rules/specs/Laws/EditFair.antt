@@ -29,8 +29,8 @@ moves_beside state after from to object target (inl same) =
 moves_beside state after from to object target (inr other) =
     stays_as state after _ other.1 (record { slots = refl; faults = refl })
 
-effect_beside : (state : State) (numbers : ℕ → ℕ) (asked : Edit) (after : State) → EditEffect state numbers asked after →
-    StaysBeside state after
+effect_beside : (state : State) (numbers : ℕ → ℕ) (asked : Edit) (after : State) →
+    EditEffect state numbers asked after → StaysBeside state after
 effect_beside state numbers (edit.Unlink path) after does =
     stays_as state after _ does.leaves (record { slots = refl; faults = refl })
 effect_beside state numbers (edit.Rename old new) after does =

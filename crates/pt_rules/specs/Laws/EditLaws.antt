@@ -19,7 +19,8 @@ use Rattle.pt_rules.specs.Laws.Changed.{led, same_tree}
 use Rattle.pt_rules.specs.Laws.EditShapes.{names_grown, names_moved, names_rewritten, names_unlinked, objects_grown}
 use Rattle.pt_rules.specs.Laws.EditShapes.{objects_moved, objects_rewritten, objects_unlinked}
 use Rattle.pt_rules.specs.Laws.EditSound.{all_ordered}
-use Rattle.pt_rules.specs.Laws.Outcomes.{EditEffect, Makes, MovesTo, Outcome, RenamesEntry, Rewrites, Unlinks, edit_outcome}
+use Rattle.pt_rules.specs.Laws.Outcomes.{EditEffect, Makes, MovesTo, Outcome, RenamesEntry, Rewrites, Unlinks}
+use Rattle.pt_rules.specs.Laws.Outcomes.{edit_outcome}
 
 abbrev pub takes_name : (state after : State) → IsSound state → (does : Unlinks state after) →
     TakesName (tree_of state) does.dir does.name (tree_of after)
@@ -104,4 +105,5 @@ edit_changes state numbers asked given after sound (inl same) =
     subst (λ (both : Answered). TreeChanges (tree_of state) (call.Edit asked) both.0 (tree_of both.1)) (sym same)
     (outcome_changes state numbers asked (edited state numbers asked) sound (edit_outcome state numbers asked))
 edit_changes state numbers asked given after sound (inr none) =
-    subst (λ reply. TreeChanges (tree_of state) (call.Edit asked) reply (tree_of after)) (sym none.0) (ap tree_of none.1)
+    subst (λ reply. TreeChanges (tree_of state) (call.Edit asked) reply (tree_of after)) (sym none.0)
+    (ap tree_of none.1)

@@ -144,7 +144,8 @@ pub fair_new : (state : State) (numbers : ℕ →
     open_at state.slots fd.0 ≡ Some file → slice_get state.nodes file.object ≡ Some dir →
     name_refusal seat dir name ≡ None → there_in dir name ≡ None →
     IsFair state asked (make_in_dir state numbers seat file.object name permissions rdev content dir)
-fair_new state numbers seat asked fd name permissions rdev content file dir sound least small empty opens fits passes may is there asks free =
+fair_new state numbers seat asked fd name permissions rdev content file dir sound least small empty opens fits passes
+    may is there asks free =
     let node = made state numbers permissions seat.eff_uid seat.eff_gid rdev content dir in
     fair_makes state numbers asked fd file (with_made state file.object name node) (record {
       dir = file.object;

@@ -50,7 +50,8 @@ use Rattle.pt_node.specs.Laws.Updates.{get-put_apart, get-put_here, get-set_apar
 -- what an opening of this object by the call has to come to
 pub record OpensBy (state : State) (asked : Call) (flags : OpenFlags) (object : ℕ) : Type 0 where
   pub asks : opening_flags asked ≡ Some flags
-  pub refuses : (errno : Errno) → errno ≢ enoent → TreeChanges (tree_of state) asked (reply.Refused errno) (tree_of state)
+  pub refuses : (errno : Errno) → errno ≢ enoent →
+      TreeChanges (tree_of state) asked (reply.Refused errno) (tree_of state)
   pub passes : (fd : Fd) (after : Tree) → Opens (tree_of state) object flags fd after →
       TreeChanges (tree_of state) asked (reply.Ok (value.Fd fd)) after
   pub fits : (fd : Fd) → FitsCall asked (value.Fd fd)

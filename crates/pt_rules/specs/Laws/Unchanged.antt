@@ -103,7 +103,8 @@ pub does_count : (host : State) (seat : HostSeat) (asked : Call) (given : HostRe
     Does host seat asked given after seat_after → after.faults ≡ faults_with given host.faults
 does_count host seat asked given after seat_after does =
     ap (λ (s : State). s.faults) does.answers.counts
-    ∙ counts_faults host seat asked does.answers.numbers does.sound does.answers.least given does.answers.state seat_after does.answers.answered
+    ∙ counts_faults host seat asked does.answers.numbers does.sound does.answers.least given does.answers.state
+    seat_after does.answers.answered
 
 -- a call that is planned to fail does so, and no other
 pub does_fail : (host : State) (seat : HostSeat) (asked : Call) (given : HostReply) (after : State)
@@ -111,12 +112,13 @@ pub does_fail : (host : State) (seat : HostSeat) (asked : Call) (given : HostRep
     Does host seat asked given after seat_after → (errno : Errno) →
     (given ≡ reply.Fault errno) ↔ (failure_of host asked ≡ Some errno)
 does_fail host seat asked given after seat_after does =
-    fails_as_planned host seat asked does.answers.numbers does.sound does.answers.least given does.answers.state seat_after does.answers.answered
+    fails_as_planned host seat asked does.answers.numbers does.sound does.answers.least given does.answers.state
+    seat_after does.answers.answered
 
 -- ---- what a call that is not Ok leaves
 
-left_tree : (tree after : Tree) (asked : Call) (given : HostReply) → IsNotOk given → TreeChanges tree asked given after →
-    after ≡ tree_left tree asked
+left_tree : (tree after : Tree) (asked : Call) (given : HostReply) → IsNotOk given →
+    TreeChanges tree asked given after → after ≡ tree_left tree asked
 left_tree tree after (call.Close fd) given not_ok changes = changes
 left_tree tree after asked (reply.Ok told) not_ok changes = absurd not_ok
 left_tree tree after asked (reply.Refused errno) not_ok changes = changes.1

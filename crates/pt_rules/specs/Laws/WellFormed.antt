@@ -1,5 +1,6 @@
 -- Proof. A sound state tells a well-formed tree.
-use Rattle.std.proofs.Common.{◌≡◌, ◌<◌, ◌^◌, ℕ, Bool, true, false, cond, refl, List, length, Some, None, slice_get, subst, ap}
+use Rattle.std.proofs.Common.{◌≡◌, ◌<◌, ◌^◌, ℕ, Bool, true, false, cond, refl, List, length, Some, None, slice_get}
+use Rattle.std.proofs.Common.{subst, ap}
 use Rattle.std.proofs.Common.{sym, ◌∙◌, arith, drop, inr}
 use Rattle.std.proofs.lemmas.List.{length-map}
 use Rattle.std.proofs.lemmas.Option.{same_Some, slice_get_within, slice_get-map}
@@ -107,5 +108,6 @@ well_formed state sound = record {
       sound.apart object another one.0 two.0 one.1 two.1 (lives_held state object (open_on_lives state fd object on))
       (lives_held state another (open_on_lives state other another also))
       (ap (λ i. i.dev) ids) (ap (λ i. i.ino) ids);
-  handles = λ object another what that handle is too mount told also. same_handle state object another what that handle sound is too told also;
+  handles = λ object another what that handle is too mount told also. same_handle state object another what that
+      handle sound is too told also;
 }

@@ -7,7 +7,8 @@ pub returns-then-dir-nodes : goal.returns-then-dir-nodes
 returns-then-dir-nodes c =
     ap (slice_set c.args.nodes.now c.args.dir) c.lose_entry.ensures
     ∙ sym (changed_there c.args.dir (λ at.
-    touched c.args.now (without_entry c.args.name.now at)) c.args.nodes.now c.index-nodes-dir.result c.if-dir-nodes.true)
+    touched c.args.now (without_entry c.args.name.now at)) c.args.nodes.now c.index-nodes-dir.result
+    c.if-dir-nodes.true)
 
 pub returns-else-dir-nodes : goal.returns-else-dir-nodes
 returns-else-dir-nodes c =

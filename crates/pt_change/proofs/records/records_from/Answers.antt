@@ -39,7 +39,8 @@ loop-name-preserved c =
       few = (let few = c.loop-name.invariant.few in let one = ap length c.in-Some-2.ensures.steps in
           omega (arith, few, one));
       stands = stands_on names place entry more (sym steps ∙ c.loop-name.invariant.stands);
-      rest = ap (λ (bs : List ℕ). before_others bs (records (left - c.record_size-record.result) (place + 1) nodes more))
+      rest = ap (λ (bs : List ℕ).
+          before_others bs (records (left - c.record_size-record.result) (place + 1) nodes more))
           pushed
           ∙ ap (λ (n : ℕ). before_others (bytes ++ record_at (place + 1) entry.0 (slice_get nodes entry.1))
           (records (left - n) (place + 1) nodes more)) size

@@ -14,7 +14,8 @@ pub returns-in-None : goal.returns-in-None
 returns-in-None c =
     let first : parts c.loop-name.left.now ≡ c.cut.result.0.now ∷ parts c.in-Some.rest.now =
     rw c.in-Some.is at c.cut.ensures.parts in
-    let goes = place-next c.args.nodes.now c.loop-name.dir c.loop-name.left.now c.cut.result.0.now c.in-Some.rest.now first
+    let goes = place-next c.args.nodes.now c.loop-name.dir c.loop-name.left.now c.cut.result.0.now c.in-Some.rest.now
+    first
     (sym c.is_good_name.ensures ∙ c.if-not-is_good_name.false) in
     sym (goes ∙ ap (option_and_then (λ child. place_in c.args.nodes.now child (parts c.in-Some.rest.now)))
     (sym c.in-None.ensures))

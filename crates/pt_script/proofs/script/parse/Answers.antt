@@ -11,8 +11,12 @@ returns-in-Err-clause-bad c =
 
 pub returns-in-Some-clause-bad : goal.returns-in-Some-clause-bad
 returns-in-Some-clause-bad c =
-    IsBadLine-line c.args.bytes.now c.in-Ok.scan.lines c.in-Ok.scan.bad _ c.in-Some.line _ c.in-Ok.ensures.scanned c.in-Some.is c.into_parts-tree.ensures.tree c.in-Ok-host_of.ensures.ok
+    IsBadLine-line c.args.bytes.now c.in-Ok.scan.lines c.in-Ok.scan.bad _ c.in-Some.line _ c.in-Ok.ensures.scanned
+    c.in-Some.is c.into_parts-tree.ensures.tree c.in-Ok-host_of.ensures.ok
 
 pub returns-in-Ok-plan_faults-clause-ok : goal.returns-in-Ok-plan_faults-clause-ok
 returns-in-Ok-plan_faults-clause-ok c =
-    IsScriptOf-read c.args.bytes.now c.in-Ok.scan.lines c.in-Ok.scan.bad _ _ _ _ _ _ _ c.in-Ok.ensures.scanned c.in-None.is c.settings-settings.ensures c.into_parts-tree.ensures.tree (c.as_slice.ensures.value ∙ c.into_parts-tree.ensures.faults) c.in-Ok-host_of.ensures.ok c.in-Ok-plan_faults.ensures c.into_parts-tree.ensures.jobs c.into_parts-tree.ensures.schedule
+    IsScriptOf-read c.args.bytes.now c.in-Ok.scan.lines c.in-Ok.scan.bad _ _ _ _ _ _ _ c.in-Ok.ensures.scanned
+    c.in-None.is c.settings-settings.ensures c.into_parts-tree.ensures.tree
+    (c.as_slice.ensures.value ∙ c.into_parts-tree.ensures.faults) c.in-Ok-host_of.ensures.ok
+    c.in-Ok-plan_faults.ensures c.into_parts-tree.ensures.jobs c.into_parts-tree.ensures.schedule

@@ -11,7 +11,8 @@ returns-in_err-number c =
     let small : c.in_ok-digit.digit < c.args.base =
     omega (arith, c.in_ok-digit.ensures.value.0, c.in_ok-digit.ensures.value.1) in
     c.from_residual-in_err-number.ensures
-    ∙ sym (numeral_after_overflow c.args.base c.loop-c.number c.loop-c.c-index _ c.in_ok-digit.digit c.args.digits.now _ (omega arith) within told small c.in_err-number.ensures c.loop-c.invariant.0)
+    ∙ sym (numeral_after_overflow c.args.base c.loop-c.number c.loop-c.c-index _ c.in_ok-digit.digit
+    c.args.digits.now _ (omega arith) within told small c.in_err-number.ensures c.loop-c.invariant.0)
 
 pub returns : goal.returns
 returns c =

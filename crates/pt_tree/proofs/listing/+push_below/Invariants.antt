@@ -14,6 +14,7 @@ invariant-loop-name l = record {
   from : l.length ≡ length l.fn.path.items;
   deep : 0 < l.depth;
   lines : l.out.items
-      ++ flat_map (entry_lines (l.depth - 1) l.store.nodes.items l.fn.path.items) (seen l.name-iterator) ≡ l.fn.out.items
+      ++ flat_map (entry_lines (l.depth - 1) l.store.nodes.items l.fn.path.items) (seen l.name-iterator)
+      ≡ l.fn.out.items
       ++ lines_below l.depth l.store.nodes.items l.fn.path.items l.dir;
 }

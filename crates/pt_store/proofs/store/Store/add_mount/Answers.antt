@@ -1,4 +1,5 @@
-use Rattle.std.proofs.Common.{◌≡◌, ◌<◌, ◌+◌, ◌^◌, ℕ, List, [], ◌∷◌, ◌++◌, length, Some, true, pos, refl, slice_get, slice_set}
+use Rattle.std.proofs.Common.{◌≡◌, ◌<◌, ◌+◌, ◌^◌, ℕ, List, [], ◌∷◌, ◌++◌, length, Some, true, pos, refl, slice_get}
+use Rattle.std.proofs.Common.{slice_set}
 use Rattle.std.proofs.Common.{ap, sym, ◌∙◌, arith, rules}
 use Rattle.std.proofs.lemmas.Option.{slice_get-get_or}
 use Rattle.pt_host.specs.Words.{set_at}
@@ -65,7 +66,8 @@ returns-clause-starting c = λ added.
     with_mount id (record { parent = mnt; dev = dev; path = p }) state.mounts) c.in_ok-copy.ensures in
     started_as (with_made with_mount_in dir name node) _
     (with_counts (holds.holds ++ 1 ∷ []) (holds.names ++ 1 ∷ [])
-    (slice_set (holds.directories ++ 0 ∷ []) dir c.in-Some-directories_with.directories)) _ (given dev (having (length state.nodes)) tables) _
+    (slice_set (holds.directories ++ 0 ∷ []) dir c.in-Some-directories_with.directories)) _
+    (given dev (having (length state.nodes)) tables) _
     (ap (λ (ns : List Node). with_both state ns c.insert.new.self) nodes
     ∙ ap (λ (ms : List (ℕ × Mount)). with_both state (with_made with_mount_in dir name node).nodes ms) mounts)
     (same_counts _ _ _ _ _ _ c.in_ok-add.ensures.holds c.in_ok-add.ensures.names

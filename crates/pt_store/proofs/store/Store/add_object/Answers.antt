@@ -1,4 +1,5 @@
-use Rattle.std.proofs.Common.{◌≡◌, ◌<◌, ◌+◌, ◌^◌, ℕ, Bool, List, [], ◌∷◌, ◌++◌, length, Some, pos, refl, slice_get, slice_set, ap, sym}
+use Rattle.std.proofs.Common.{◌≡◌, ◌<◌, ◌+◌, ◌^◌, ℕ, Bool, List, [], ◌∷◌, ◌++◌, length, Some, pos, refl, slice_get}
+use Rattle.std.proofs.Common.{slice_set, ap, sym}
 use Rattle.std.proofs.Common.{◌∙◌, arith, rules}
 use Rattle.std.specs.Prelude.{slice_index}
 use Rattle.std.proofs.lemmas.Option.{slice_get-get_or}
@@ -54,13 +55,15 @@ returns-clause-starting c = λ added.
     let few : length (with_made state dir name node).nodes < 2 ^ 63 =
     omega (arith, long, c.add_node.new.nodes.ok.0, c.add_node.new.nodes.ok.1, c.add_node.new.nodes.small) in
     started_as (with_made state dir name node) _ (with_counts (holds.holds ++ 1 ∷ []) (holds.names ++ 1 ∷ [])
-    (slice_set (holds.directories ++ 0 ∷ []) dir c.in-Some-directories_with.directories)) _ (given dev (having (length state.nodes)) tables) _
+    (slice_set (holds.directories ++ 0 ∷ []) dir c.in-Some-directories_with.directories)) _
+    (given dev (having (length state.nodes)) tables) _
     (ap (nodes_in state) nodes) (same_counts _ _ _ _ _ _ c.in_ok-number.ensures.holds c.in_ok-number.ensures.names
     (ap (λ (ds : List ℕ). slice_set ds dir c.in-Some-directories_with.directories) c.in_ok-number.ensures.directories))
     (same_function _ _ c.in_ok-number.ensures.tables
     ∙ ap (λ (n : ℕ). set_at dev
     (put_at n (Open (having c.len-object.result)) (tables dev)) tables) c.in_ok-number.ensures.number
     ∙ ap (λ (o : ℕ). given dev (having o) tables) object)
-    (started_made state holds tables starting dir name node parent free.0 free.1 c.requires.empty refl c.requires.small at_dir (sym full) few (starting.mounted dir parent at_dir) _
+    (started_made state holds tables starting dir name node parent free.0 free.1 c.requires.empty refl
+    c.requires.small at_dir (sym full) few (starting.mounted dir parent at_dir) _
     (c.in-Some-directories_with.ensures.1
     ∙ ap (λ (b : Bool). slice_index holds.directories dir + weight b) c.is_directory.ensures))

@@ -34,9 +34,11 @@ returns-in-Ok-clause-answers c =
     let becomes = c.refill.ensures
     ∙ ap (λ (now : Time).
     refilled c.args.seat.now now c.in-Ok.bytes c.index_mut-in-Ok-2.result.now) c.now-now.ensures in
-    inl (copy_some state c.args.seat.now c.args.from.0 c.args.to.0 c.args.from.1 c.args.to.1 c.args.size c.args.flags file file2 node target
+    inl (copy_some state c.args.seat.now c.args.from.0 c.args.to.0 c.args.from.1 c.args.to.1 c.args.size c.args.flags
+    file file2 node target
     (open_is _ _ file node c.in-Some.ensures.found) at
-    (open_is _ _ file2 target c.in-Some-open_on.ensures.found) at2 part takes none some _ c.index_mut-in-Ok-2.result.now c.refill.new.self c.in-Ok.bytes _
+    (open_is _ _ file2 target c.in-Some-open_on.ensures.found) at2 part takes none some _
+    c.index_mut-in-Ok-2.result.now c.refill.new.self c.in-Ok.bytes _
     same c.index_mut-in-Ok-2.ensures.value bytes becomes)
 
 pub returns-in-Ok-clause-kept : goal.returns-in-Ok-clause-kept
@@ -44,9 +46,11 @@ returns-in-Ok-clause-kept c =
     let state = state_of c.args.self.now in
     let holds = counts_of c.args.self.now.inodes in
     let tables = table_in c.args.self.now.inodes.tables.items in
-    kept_answer (copy_range state c.args.seat.now c.args.from.0 c.args.from.1 c.args.to.0 c.args.to.1 c.args.size c.args.flags) state _ _ holds tables
+    kept_answer (copy_range state c.args.seat.now c.args.from.0 c.args.from.1 c.args.to.0 c.args.to.1 c.args.size
+    c.args.flags) state _ _ holds tables
     (returns-in-Ok-clause-answers c) c.requires
-    (kept_copy_range state holds tables c.requires c.args.seat.now c.args.from.0 c.args.from.1 c.args.to.0 c.args.to.1 c.args.size c.args.flags)
+    (kept_copy_range state holds tables c.requires c.args.seat.now c.args.from.0 c.args.from.1 c.args.to.0
+    c.args.to.1 c.args.size c.args.flags)
 
 pub returns-then-is_empty-clause-answers : goal.returns-then-is_empty-clause-answers
 returns-then-is_empty-clause-answers c =
@@ -65,14 +69,18 @@ returns-then-is_empty-clause-answers c =
     let was = c.index_mut.ensures.value ∙ get_or_from_slice_get state.nodes file.object node _ at in
     let same = ap (λ (n : Node). slice_set state.nodes file.object (after_reading c.now-now.result n)) was
     ∙ ap (λ (now : Time). slice_set state.nodes file.object (after_reading now node)) c.now-now.ensures in
-    inl (copy_nothing state c.args.seat.now c.args.from.0 c.args.to.0 c.args.from.1 c.args.to.1 c.args.size c.args.flags file file2 node target
-    (open_is _ _ file node c.in-Some.ensures.found) at (open_is _ _ file2 target c.in-Some-open_on.ensures.found) at2 part takes none nothing _ same)
+    inl (copy_nothing state c.args.seat.now c.args.from.0 c.args.to.0 c.args.from.1 c.args.to.1 c.args.size
+    c.args.flags file file2 node target
+    (open_is _ _ file node c.in-Some.ensures.found) at
+    (open_is _ _ file2 target c.in-Some-open_on.ensures.found) at2 part takes none nothing _ same)
 
 pub returns-then-is_empty-clause-kept : goal.returns-then-is_empty-clause-kept
 returns-then-is_empty-clause-kept c =
     let state = state_of c.args.self.now in
     let holds = counts_of c.args.self.now.inodes in
     let tables = table_in c.args.self.now.inodes.tables.items in
-    kept_answer (copy_range state c.args.seat.now c.args.from.0 c.args.from.1 c.args.to.0 c.args.to.1 c.args.size c.args.flags) state _ _ holds tables
+    kept_answer (copy_range state c.args.seat.now c.args.from.0 c.args.from.1 c.args.to.0 c.args.to.1 c.args.size
+    c.args.flags) state _ _ holds tables
     (returns-then-is_empty-clause-answers c) c.requires
-    (kept_copy_range state holds tables c.requires c.args.seat.now c.args.from.0 c.args.from.1 c.args.to.0 c.args.to.1 c.args.size c.args.flags)
+    (kept_copy_range state holds tables c.requires c.args.seat.now c.args.from.0 c.args.from.1 c.args.to.0
+    c.args.to.1 c.args.size c.args.flags)

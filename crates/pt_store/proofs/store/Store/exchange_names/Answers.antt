@@ -38,4 +38,5 @@ returns-clause-kept c =
     ∙ ap (λ (b : Bool). swapped from.0 to.0 b c.is_directory_at-back.result holds.directories) moved
     ∙ ap (λ (b : Bool). swapped from.0 to.0 (is_directory_at state.nodes c.args.object) b holds.directories) back))
     (ap (λ (ts : List NumberTable). table_in ts) c.swap_directories.ensures.tables)
-    (kept_exchanged state holds tables from to c.args.object c.args.other c.requires.kept c.requires.there c.requires.too)
+    (kept_exchanged state holds tables from to c.args.object c.args.other c.requires.kept c.requires.there
+    c.requires.too)

@@ -49,7 +49,8 @@ returns-in-Ok-add_node-clause-kept c =
     omega (arith, long, c.add_node.new.nodes.ok.0, c.add_node.new.nodes.ok.1, c.add_node.new.nodes.small) in
     kept_as (with_made state c.args.dir c.args.name.now node) _
     (with_counts (holds.holds ++ 1 ∷ []) (holds.names ++ 1 ∷ [])
-    (slice_set (holds.directories ++ 0 ∷ []) c.args.dir c.in-Some-directories_with.directories)) _ (given dev (having (length state.nodes)) tables) _
+    (slice_set (holds.directories ++ 0 ∷ []) c.args.dir c.in-Some-directories_with.directories)) _
+    (given dev (having (length state.nodes)) tables) _
     (ap (nodes_in state) nodes) (same_counts _ _ _ _ _ _ c.in-Ok-add.ensures.holds c.in-Ok-add.ensures.names
     (ap (λ (ds : List ℕ). slice_set ds c.args.dir c.in-Some-directories_with.directories)
     c.in-Ok-add.ensures.directories))
@@ -57,7 +58,8 @@ returns-in-Ok-add_node-clause-kept c =
     ∙ ap (λ (n : ℕ). set_at dev
     (put_at n (Open (having c.len-object.result)) (tables dev)) tables) c.in-Ok-add.ensures.number
     ∙ ap (λ (o : ℕ). given dev (having o) tables) object)
-    (kept_made state holds tables c.requires.kept c.args.dir c.args.name.now node parent c.requires.into c.requires.free c.requires.empty refl c.requires.small at_dir
+    (kept_made state holds tables c.requires.kept c.args.dir c.args.name.now node parent c.requires.into
+    c.requires.free c.requires.empty refl c.requires.small at_dir
     refl few _ (nested_made state holds tables c.requires.kept c.args.dir c.args.name.now node parent c.requires.into
     c.requires.free c.requires.empty refl c.requires.small at_dir refl few _ (c.in-Some-directories_with.ensures.1
     ∙ ap (λ (b : Bool). slice_index holds.directories c.args.dir + weight b) c.is_directory.ensures)))

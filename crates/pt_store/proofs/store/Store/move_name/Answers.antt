@@ -61,4 +61,5 @@ returns-clause-kept c =
     (c.lose_name_where.ensures.tables ∙ c.lose_directory-2.ensures.tables ∙ c.lose_directory.ensures.tables)
     ∙ ap (λ n. given_up_where n c.number_where-number.result c.args.target holds.holds tables) dev
     ∙ ap (λ n. given_up_where (device_where state.nodes c.args.target) n c.args.target holds.holds tables) number)
-    (kept_moved state holds tables from to c.args.object c.args.target c.requires.kept c.requires.leads c.requires.into c.requires.target)
+    (kept_moved state holds tables from to c.args.object c.args.target c.requires.kept c.requires.leads
+    c.requires.into c.requires.target)

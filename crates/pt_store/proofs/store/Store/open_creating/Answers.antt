@@ -31,7 +31,8 @@ returns-in-Some-there-clause-answers c =
     subst (λ (told : Answered). AnswersAs told state c.open.result (state_of c.open.new.self))
     (sym (opens_there state
     (numbers_of c.args.self.now) c.args.seat.now c.args.fd name c.args.flags c.args.mode c.in-Some.file dir
-    (open_is _ _ c.in-Some.file c.in-Some.dir.now c.in-Some.ensures.found) at (sym c.in_default-name_refusal.ensures) passes c.in-Some-there.object
+    (open_is _ _ c.in-Some.file c.in-Some.dir.now c.in-Some.ensures.found) at
+    (sym c.in_default-name_refusal.ensures) passes c.in-Some-there.object
     (sym c.in-Some-there.ensures)))
     c.open.ensures.answers
 
@@ -47,7 +48,8 @@ returns-in-Some-created_refusal-clause-answers c =
     ∙ sym (c.in_default-creating_refusal.ensures) in
     inl (sym (refuses_new state
     (numbers_of c.args.self.now) c.args.seat.now c.args.fd name c.args.flags c.args.mode c.in-Some.file dir
-    (open_is _ _ c.in-Some.file c.in-Some.dir.now c.in-Some.ensures.found) at (sym c.in_default-name_refusal.ensures) passes c.in-Some-created_refusal.errno
+    (open_is _ _ c.in-Some.file c.in-Some.dir.now c.in-Some.ensures.found) at
+    (sym c.in_default-name_refusal.ensures) passes c.in-Some-created_refusal.errno
     (sym c.in_default-there.ensures)
     (sym c.in-Some-created_refusal.ensures)))
 
@@ -64,7 +66,8 @@ returns-clause-answers c =
     subst (λ (told : Answered). AnswersAs told state c.open_made.result (state_of c.open_made.new.self))
     (sym (makes_new state
     (numbers_of c.args.self.now) c.args.seat.now c.args.fd name c.args.flags c.args.mode c.in-Some.file dir
-    (open_is _ _ c.in-Some.file c.in-Some.dir.now c.in-Some.ensures.found) at (sym c.in_default-name_refusal.ensures) passes c.masked.result
+    (open_is _ _ c.in-Some.file c.in-Some.dir.now c.in-Some.ensures.found) at
+    (sym c.in_default-name_refusal.ensures) passes c.masked.result
     (sym c.in_default-there.ensures)
     (sym c.in_default-created_refusal.ensures) c.masked.ensures.masked))
     c.open_made.ensures.answers

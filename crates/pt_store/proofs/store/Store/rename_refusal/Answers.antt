@@ -34,7 +34,8 @@ returns c =
     let that = node_at nodes target in
     c.first_refusal.ensures
     ∙ ap (λ (b : Bool).
-    first_refusal (rename_tests b apart c.is_mount_moved-mounted.result c.moves_into_itself-into_itself.result target flags)) c.is_unwritable-unwritable.ensures
+    first_refusal (rename_tests b apart c.is_mount_moved-mounted.result c.moves_into_itself-into_itself.result target
+    flags)) c.is_unwritable-unwritable.ensures
     ∙ ap (λ (b : Bool).
     first_refusal (rename_tests
     (is_unwritable seat source dir) apart b c.moves_into_itself-into_itself.result target flags)) mounted

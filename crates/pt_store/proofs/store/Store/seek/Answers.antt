@@ -36,7 +36,8 @@ returns-in-Ok-clause-answers c =
     ∙ ap (λ (s : ℕ). sought file.position s c.args.offset c.args.whence) c.size.ensures) in
     ap (λ (slots : List Slot).
     (reply.Ok (value.Count c.in-Ok.position), parts_in state state.nodes slots)) c.go_to.ensures
-    ∙ sym (seek_is state c.args.fd c.args.offset c.args.whence file node _ (open_is _ _ c.in-Some.file c.in-Some.node.now c.in-Some.ensures.found) at none place)
+    ∙ sym (seek_is state c.args.fd c.args.offset c.args.whence file node _
+    (open_is _ _ c.in-Some.file c.in-Some.node.now c.in-Some.ensures.found) at none place)
 
 pub returns-in-Err-clause-answers : goal.returns-in-Err-clause-answers
 returns-in-Err-clause-answers c =
@@ -48,4 +49,5 @@ returns-in-Err-clause-answers c =
     let place = sym (sym c.in-Err.is ∙ c.sought.ensures
     ∙ ap (λ (z : ℤ). sought file.position c.size.result z c.args.whence) (to_z-of_z w64 c.args.offset c.ranges.offset)
     ∙ ap (λ (s : ℕ). sought file.position s c.args.offset c.args.whence) c.size.ensures) in
-    sym (seek_is state c.args.fd c.args.offset c.args.whence file node _ (open_is _ _ c.in-Some.file c.in-Some.node.now c.in-Some.ensures.found) at none place)
+    sym (seek_is state c.args.fd c.args.offset c.args.whence file node _
+    (open_is _ _ c.in-Some.file c.in-Some.node.now c.in-Some.ensures.found) at none place)

@@ -29,7 +29,8 @@ returns-clause-kept c =
     kept_as (with_unlinked state c.args.dir c.args.name.now c.args.object) _
     (with_counts (released c.args.object holds.holds) (released c.args.object holds.names)
     (lowered c.args.dir (counted state.nodes c.args.object) holds.directories)) _
-    (given_up (device_at state.nodes c.args.object) (number_at state.nodes c.args.object) c.args.object holds.holds tables) _
+    (given_up (device_at state.nodes c.args.object)
+    (number_at state.nodes c.args.object) c.args.object holds.holds tables) _
     (ap (nodes_in state) (with_items_is c.args.self.now.nodes c.unlink.new.nodes (c.unlink.auto.nodes
     ∙ c.deref_mut.ensures.len) ∙ nodes))
     (same_counts _ _ _ _ _ _

@@ -16,11 +16,13 @@ returns-in-Ok-clause-answers c =
       | then-append w ↦ (let left =
           c.in-Ok.ensures.ok ∙ ap (λ (s : Store).
           with_written (state_of s) c.args.seat.now object c.if-append.start c.args.bytes.now) w.self-is
-          ∙ written_left (state_of c.args.self.now) c.args.seat.now object c.if-append.start c.args.bytes.now node there in
+          ∙ written_left (state_of c.args.self.now) c.args.seat.now object c.if-append.start c.args.bytes.now node
+          there in
           search (rules, there, left))
       | else-append w ↦ (let left =
           c.in-Ok.ensures.ok ∙ ap (λ (s : Store).
           with_written (state_of s) c.args.seat.now object c.if-append.start c.args.bytes.now) w.self-is
-          ∙ written_left (state_of c.args.self.now) c.args.seat.now object c.if-append.start c.args.bytes.now node there in
+          ∙ written_left (state_of c.args.self.now) c.args.seat.now object c.if-append.start c.args.bytes.now node
+          there in
           search (rules, there, left))
     ]
