@@ -215,9 +215,8 @@ def object_line(tree: Tree, words: list[str]) -> None:
             ids_of(words[3:])
             number(words[5], U32, "RDEV")
             if mode & ~0o7777 not in KINDS:
-                raise Bad(
-                    f"MODE wants the bits of one kind beside 0o7777: {', '.join(f'{kind:#o}' for kind in sorted(KINDS))}"
-                )
+                kinds = ", ".join(f"{kind:#o}" for kind in sorted(KINDS))
+                raise Bad(f"MODE wants the bits of one kind beside 0o7777: {kinds}")
             tree.put(path, "spec")
         case "hard":
             wants(words, 3, "hard PATH OLD")
