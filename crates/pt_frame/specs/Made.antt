@@ -2,7 +2,6 @@
 -- parameter, as that of the host is: the same jobs run over tables that are shared.
 use Rattle.std.specs.Prelude.{◌≡◌, List, [], ◌∷◌, Option, Some, None}
 use Rattle.pt_host.specs.Relation.{HostRelation}
-use Rattle.pt_host.specs.Call.{Call}
 use Rattle.pt_host.specs.Reply.{ReplyHoldsBytes}
 use Rattle.pt_host.specs.declared.reply.HostReply.{HostReply}
 use Rattle.pt_host.specs.declared.seat.HostSeat.{HostSeat}

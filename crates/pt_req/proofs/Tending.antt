@@ -11,7 +11,7 @@ use Rattle.pt_frame.specs.Sparing.{IsSparing}
 use Rattle.pt_frame.specs.Tended.{is_seats_sort, is_of_seat, Tends, IsAskedOf, IsAsked, ClosesBare, PassesBare}
 use Rattle.pt_frame.specs.Tree.{RequestTree}
 use Rattle.pt_frame.specs.declared.hold.Taken.TheVariants.{Nothing}
-use Rattle.pt_frame.proofs.Tending.{wears_same}
+use Rattle.pt_frame.proofs.Wearing.{wears_same}
 use Rattle.pt_req.specs.Requests.{tree_of}
 use Rattle.pt_req.specs.declared.plan.Plan.{Plan}
 use Rattle.pt_req.proofs.Walking.{Walk, each_request}

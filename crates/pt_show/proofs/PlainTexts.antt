@@ -134,6 +134,15 @@ pub digits_are_decimal : (n : ℕ) → n < 2 ^ 64 → all_digits n ≡ decimal n
 unfolding all_digits digits
 digits_are_decimal n small = sym (onto-room 64 (suc n) n [] (omega arith) (omega arith) (omega arith))
 
+pub one_digit : (n : ℕ) → n < 10 → all_digits n ≡ (48 + n) ∷ []
+unfolding all_digits
+one_digit n small =
+    let none : n / 10 ≡ 0 = omega arith in
+    let same : n % 10 ≡ n = omega arith in
+    ap (λ (m : ℕ). cond (m == 0) (digit_glyph false (n % 10) ∷ [])
+    (digits_onto n 10 false (n / 10) (digit_glyph false (n % 10) ∷ []))) none
+    ∙ ap (λ (c : ℕ). c ∷ []) (ap (λ (m : ℕ). digit_glyph false m) same ∙ glyph n small)
+
 pub signed_digits_are_decimal : (n : ℤ) → mag n < 2 ^ 63 → signed_digits n ≡ signed_decimal n
 signed_digits_are_decimal (pos n) small = digits_are_decimal n (omega arith)
 signed_digits_are_decimal (negsuc n) small = ap (λ (text : List ℕ). 45 ∷ text)

@@ -1,5 +1,6 @@
-ghost use Rattle.std.specs.Prelude.{◌≡◌, ◌++◌, OnOk};
-ghost use Rattle.pt_show.specs.Texts.{word, number_text, signed_text, bytes_text, switch_text, option_text};
+ghost use Rattle.std.specs.Prelude.{◌≡◌, ◌++◌, ◌<◌, OnOk};
+ghost use Rattle.pt_show.specs.Texts.{word, all_digits, number_text, signed_text, bytes_text, switch_text};
+ghost use Rattle.pt_show.specs.Texts.{option_text};
 
 use crate::text::Text;
 use pt_host::Bytes;
@@ -10,7 +11,7 @@ use std::alloc::AllocError;
 pub(crate) fn push_word(out: &mut Vec<u8>, text: &[u8]) -> Result<(), AllocError>
     ensures { OnOk result (out.new.items ≡ out.old.items ++ word text.now) }
 {
-    push_text(out, b" ")?;
+    out.push(b' ')?;
     push_text(out, text)
 }
 
@@ -91,13 +92,32 @@ pub(crate) fn push_five<A: Text, B: Text, C: Text, D: Text, E: Text>(
     fifth.write(out)
 }
 
+/// Appends the one digit of a number, as most have.
+fn push_digit(out: &mut Vec<u8>, number: u8) -> Result<(), AllocError>
+    requires { number < 10 }
+    ensures { OnOk result (out.new.items ≡ out.old.items ++ all_digits number) }
+{
+    out.push(b'0' + number)?;
+    Ok(())
+}
+
+/// Appends a number in decimal.
+fn push_digits(out: &mut Vec<u8>, number: u64) -> Result<(), AllocError>
+    ensures { OnOk result (out.new.items ≡ out.old.items ++ all_digits number) }
+{
+    if number < 10 {
+        return push_digit(out, number as u8);
+    }
+    push_decimal(out, number)
+}
+
 impl Text for u64 {
     ghost text = { number_text };
 
     fn write(&self, out: &mut Vec<u8>) -> Result<(), AllocError> {
         let number = *self;
-        push_text(out, b" ")?;
-        push_decimal(out, number)
+        out.push(b' ')?;
+        push_digits(out, number)
     }
 }
 
@@ -114,7 +134,7 @@ impl Text for i64 {
 
     fn write(&self, out: &mut Vec<u8>) -> Result<(), AllocError> {
         let number = *self;
-        push_text(out, b" ")?;
+        out.push(b' ')?;
         push_signed(out, number)
     }
 }
@@ -139,7 +159,7 @@ impl Text for bool {
 pub(crate) fn push_bytes(out: &mut Vec<u8>, bytes: &[u8]) -> Result<(), AllocError>
     ensures { OnOk result (out.new.items ≡ out.old.items ++ bytes_text bytes.now) }
 {
-    push_text(out, b" ")?;
+    out.push(b' ')?;
     push_byte_word(out, bytes)
 }
 

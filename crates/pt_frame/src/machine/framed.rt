@@ -10,6 +10,7 @@ ghost use Rattle.pt_frame.specs.Machine.Left.{mode_left, mode_counts, mode_begin
 ghost use Rattle.pt_frame.specs.Machine.Left.{is_giving_scope};
 ghost use Rattle.pt_frame.specs.Machine.Left.{Tells};
 ghost use Rattle.pt_frame.specs.Machine.Room.{most_holds};
+ghost use Rattle.pt_frame.specs.declared.machine.mode.Mode.TheVariants.{Body as in_body};
 
 use crate::act::{Act, ActReply, Want};
 use crate::finish::Finish;
@@ -18,14 +19,13 @@ use crate::machine::body::Body;
 use crate::machine::giving::{closings_in, fault_if, giving, or_first, refusal, taken_in};
 use crate::machine::holding::hold;
 use crate::machine::mode::{
-    Mode, end_of, entered, hold_given, is_giving_scope, is_over, passes_at,
+    Mode, end_of, enter, go_to, hold_given, is_giving_scope, is_over, passes_at,
 };
 use crate::marks::Marks;
 use pt_host::{Errno, HostOp, HostSeat};
 use pt_iface::Answer;
 use pt_session::Event;
 use std::marker::Model;
-use std::mem;
 
 /// A request on its way: its body, and what the frame owes. All calls of one job are given one plan, and the seat
 /// with which the job began.
@@ -67,79 +67,75 @@ impl<B: Body> Model for Framed<B> {
         × Tells framed.mode framed.lost };
 }
 
-fn go_to(mode: &mut Mode, next: Mode)
-    ensures { mode.new ≡ next }
-{
-    *mode = next;
-}
-
-/// After a step of the body: the mode, and how many closings the reply told.
+/// After a step of the body: how many closings the reply told.
 fn body_stepped<B: Body>(
+    mode: &mut Mode,
     body: &mut B,
     holds: &mut Holds,
     marks: &mut Marks,
     plan: &B::Plan,
     seat: &HostSeat,
     reply: ActReply,
-) -> (Mode, u64)
+) -> u64
+    requires at_body { mode.old ≡ in_body }
     requires room { length holds.old + length marks.old + B.room body.old ≤ most_holds }
     ensures left { IsChosen (after reply
         (framed seat.now (B.left body.old plan.now seat.now) holds.old marks.old))
-        (closings result.1 holds.new
-        (mode_left seat.now result.0 (B.left body.new plan.now seat.now) holds.new marks.new)) }
-    ensures told { result.1 ≡ told_closings
+        (closings result holds.new
+        (mode_left seat.now mode.new (B.left body.new plan.now seat.now) holds.new marks.new)) }
+    ensures told { result ≡ told_closings
         (framed seat.now (B.left body.old plan.now seat.now) holds.old marks.old) reply }
-    ensures fewer { length holds.new + mode_counts result.0 (B.acts body.new) < length holds.old + B.acts body.old }
-    ensures inserts { mode_counts result.0 (B.inserts body.new)
+    ensures fewer { length holds.new + mode_counts mode.new (B.acts body.new) < length holds.old + B.acts body.old }
+    ensures inserts { mode_counts mode.new (B.inserts body.new)
         + told_inserted (framed seat.now (B.left body.old plan.now seat.now) holds.old marks.old) reply
         ≤ B.inserts body.old }
-    ensures room { length holds.new + length marks.new + mode_begins result.0
-        + mode_counts result.0 (B.room body.new) ≤ most_holds }
-    ensures ready { is_ready result.0 holds.new marks.new ≡ true }
-    ensures tells { Tells result.0 None }
+    ensures room { length holds.new + length marks.new + mode_begins mode.new
+        + mode_counts mode.new (B.room body.new) ≤ most_holds }
+    ensures ready { is_ready mode.new holds.new marks.new ≡ true }
+    ensures tells { Tells mode.new None }
 {
     let wanted = body.want(plan, seat);
     let closings = closings_in(&wanted.act, &reply);
     let refused = refusal(&reply);
     hold(&wanted.act, wanted.opens, &reply, holds);
     let next = body.take(plan, seat, reply);
-    let mode = entered(next, refused, holds, marks);
-    (mode, closings)
+    enter(mode, next, refused, holds, marks);
+    closings
 }
 
-/// After the reply to what this mode wanted: the mode, and how many closings it told.
+/// After the reply to what this mode wanted: how many closings it told.
 fn moved<B: Body>(
-    mode: Mode,
+    mode: &mut Mode,
     body: &mut B,
     holds: &mut Holds,
     marks: &mut Marks,
     plan: &B::Plan,
     seat: &HostSeat,
     reply: ActReply,
-) -> (Mode, u64)
-    requires going { is_over mode holds.old ≡ false }
-    requires ready { is_ready mode holds.old marks.old ≡ true }
-    requires room { length holds.old + length marks.old + mode_begins mode
-        + mode_counts mode (B.room body.old) ≤ most_holds }
+) -> u64
+    requires going { is_over mode.old holds.old ≡ false }
+    requires ready { is_ready mode.old holds.old marks.old ≡ true }
+    requires room { length holds.old + length marks.old + mode_begins mode.old
+        + mode_counts mode.old (B.room body.old) ≤ most_holds }
     ensures left { IsChosen (after reply
-        (mode_left seat.now mode (B.left body.old plan.now seat.now) holds.old marks.old))
-        (closings result.1 holds.new
-        (mode_left seat.now result.0 (B.left body.new plan.now seat.now) holds.new marks.new)) }
-    ensures told { result.1 ≡ told_closings
-        (mode_left seat.now mode (B.left body.old plan.now seat.now) holds.old marks.old) reply }
-    ensures fewer { length holds.new + mode_counts result.0 (B.acts body.new)
-        < length holds.old + mode_counts mode (B.acts body.old) }
-    ensures inserts { mode_counts result.0 (B.inserts body.new)
-        + told_inserted (mode_left seat.now mode (B.left body.old plan.now seat.now) holds.old marks.old) reply
-        ≤ mode_counts mode (B.inserts body.old) }
-    ensures room { length holds.new + length marks.new + mode_begins result.0
-        + mode_counts result.0 (B.room body.new) ≤ most_holds }
-    ensures ready { is_ready result.0 holds.new marks.new ≡ true }
-    ensures tells { (lost : Option Errno) → Tells mode lost →
-        Tells result.0 (lost_after lost (is_giving_scope mode holds.old) reply) }
+        (mode_left seat.now mode.old (B.left body.old plan.now seat.now) holds.old marks.old))
+        (closings result holds.new
+        (mode_left seat.now mode.new (B.left body.new plan.now seat.now) holds.new marks.new)) }
+    ensures told { result ≡ told_closings
+        (mode_left seat.now mode.old (B.left body.old plan.now seat.now) holds.old marks.old) reply }
+    ensures fewer { length holds.new + mode_counts mode.new (B.acts body.new)
+        < length holds.old + mode_counts mode.old (B.acts body.old) }
+    ensures inserts { mode_counts mode.new (B.inserts body.new)
+        + told_inserted (mode_left seat.now mode.old (B.left body.old plan.now seat.now) holds.old marks.old) reply
+        ≤ mode_counts mode.old (B.inserts body.old) }
+    ensures room { length holds.new + length marks.new + mode_begins mode.new
+        + mode_counts mode.new (B.room body.new) ≤ most_holds }
+    ensures ready { is_ready mode.new holds.new marks.new ≡ true }
+    ensures tells { (lost : Option Errno) → Tells mode.old lost →
+        Tells mode.new (lost_after lost (is_giving_scope mode.old holds.old) reply) }
 {
     match mode {
-        Mode::Body => body_stepped(body, holds, marks, plan, seat, reply),
+        Mode::Body => body_stepped(mode, body, holds, marks, plan, seat, reply),
         _ => hold_given(mode, holds, marks, seat, &reply),
     }
 }
@@ -238,9 +234,8 @@ impl<B: Body> Framed<B> {
         }
         let restores = is_giving_scope(&self.mode, &self.holds);
         self.lost = or_first(fault_if(restores, &reply), self.lost);
-        let mode = mem::replace(&mut self.mode, Mode::Body);
-        let (mode, closings) = moved(
-            mode,
+        let closings = moved(
+            &mut self.mode,
             &mut self.body,
             &mut self.holds,
             &mut self.marks,
@@ -248,7 +243,6 @@ impl<B: Body> Framed<B> {
             seat,
             reply,
         );
-        go_to(&mut self.mode, mode);
         self.closings = closings;
     }
 

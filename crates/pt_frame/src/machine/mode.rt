@@ -23,6 +23,7 @@ use crate::machine::giving::{closings_in, fault_if, giving, is_scope, passes_wit
 use crate::marks::Marks;
 use pt_host::{Errno, HostSeat};
 use pt_iface::Answer;
+use std::mem;
 
 /// What follows the end of scopes and of a bracket.
 #[derive(Debug, Drop)]
@@ -234,67 +235,108 @@ fn go_over(edges: Edges, tail: Tail, holds: &Holds, marks: &mut Marks) -> Mode
     shut_on(edges, tail, holds, marks)
 }
 
-/// After a hold was given back in this mode.
-fn given(mode: Mode, fault: Option<Errno>, holds: &Holds, marks: &mut Marks) -> Mode
+/// Goes on in another mode.
+pub fn go_to(mode: &mut Mode, next: Mode)
+    ensures { mode.new ≡ next }
+{
+    *mode = next;
+}
+
+/// What a mode becomes in which the seat was lost.
+fn lost(mode: Mode, errno: Errno) -> Mode
     requires other { mode ≢ Body }
-    requires holds { length holds.now ≤ most_holds }
-    requires marks { length marks.old + mode_begins mode ≤ most_holds }
-    requires some { passes_at mode ≡ true → 0 < length holds.now }
-    ensures left { (seat : HostSeat) (tree : RequestTree) →
-        mode_left seat result tree holds.now marks.new ≡ given_left seat mode fault tree holds.now marks.old }
-    ensures ready { is_ready result holds.now marks.new ≡ true }
-    ensures tells { (lost : Option Errno) → Tells mode lost → Tells result (or_first fault lost) }
-    ensures counts { (count : ℕ) → mode_counts result count ≤ mode_counts mode count }
-    ensures begins { length marks.new + mode_begins result ≤ length marks.old + mode_begins mode }
+    ensures left { (seat : HostSeat) (tree : RequestTree) (holds : List Hold) (marks : List ℕ) →
+        mode_left seat result tree holds marks ≡ given_left seat mode (Some errno) tree holds marks }
+    ensures ready { (holds : List Hold) (marks : List ℕ) → is_ready result holds marks ≡ true }
+    ensures tells { (lost : Option Errno) → Tells mode lost → Tells result (or_first (Some errno) lost) }
+    ensures counts { (count : ℕ) → mode_counts result count ≡ 0 }
+    ensures begins { mode_begins result ≡ 0 }
 {
     match mode {
-        Mode::Body => Mode::Body,
-        Mode::Leave(last) => Mode::Leave(restored(last, fault)),
-        Mode::Edge { edges, tail } => match fault {
-            Some(errno) => Mode::Leave(Finish::Lost(errno)),
-            None => go_over(edges, tail, holds, marks),
-        },
-        Mode::Out(answer) => match fault {
-            Some(errno) => Mode::Leave(Finish::Lost(errno)),
-            None => Mode::Out(answer),
-        },
+        Mode::Body => Mode::Leave(Finish::Lost(errno)),
+        Mode::Leave(last) => Mode::Leave(restored(last, Some(errno))),
+        Mode::Edge { .. } => Mode::Leave(Finish::Lost(errno)),
+        Mode::Out(_) => Mode::Leave(Finish::Lost(errno)),
     }
 }
 
-/// After the hold was given back that this mode gives back next.
+/// After a hold was given back at an edge.
+fn go_on(mode: &mut Mode, holds: &Holds, marks: &mut Marks)
+    requires holds { length holds.now ≤ most_holds }
+    requires marks { length marks.old + mode_begins mode.old ≤ most_holds }
+    requires some { passes_at mode.old ≡ true → 0 < length holds.now }
+    requires other { mode.old ≢ Body }
+    ensures left { (seat : HostSeat) (tree : RequestTree) →
+        mode_left seat mode.new tree holds.now marks.new ≡ given_left seat mode.old None tree holds.now marks.old }
+    ensures ready { is_ready mode.new holds.now marks.new ≡ true }
+    ensures tells { (lost : Option Errno) → Tells mode.old lost → Tells mode.new (or_first None lost) }
+    ensures counts { (count : ℕ) → mode_counts mode.new count ≤ mode_counts mode.old count }
+    ensures begins { length marks.new + mode_begins mode.new ≤ length marks.old + mode_begins mode.old }
+{
+    if let Mode::Edge { .. } = mode {
+        *mode = match mem::replace(mode, Mode::Body) {
+            Mode::Edge { edges, tail } => go_over(edges, tail, holds, marks),
+            other => other,
+        };
+    }
+}
+
+/// After a hold was given back in this mode.
+fn give(mode: &mut Mode, fault: Option<Errno>, holds: &Holds, marks: &mut Marks)
+    requires other { mode.old ≢ Body }
+    requires holds { length holds.now ≤ most_holds }
+    requires marks { length marks.old + mode_begins mode.old ≤ most_holds }
+    requires some { passes_at mode.old ≡ true → 0 < length holds.now }
+    ensures left { (seat : HostSeat) (tree : RequestTree) →
+        mode_left seat mode.new tree holds.now marks.new ≡ given_left seat mode.old fault tree holds.now marks.old }
+    ensures ready { is_ready mode.new holds.now marks.new ≡ true }
+    ensures tells { (lost : Option Errno) → Tells mode.old lost → Tells mode.new (or_first fault lost) }
+    ensures counts { (count : ℕ) → mode_counts mode.new count ≤ mode_counts mode.old count }
+    ensures begins { length marks.new + mode_begins mode.new ≤ length marks.old + mode_begins mode.old }
+{
+    match fault {
+        Some(errno) => {
+            let given = mem::replace(mode, Mode::Body);
+            go_to(mode, lost(given, errno));
+        }
+        None => go_on(mode, holds, marks),
+    }
+}
+
+/// After the hold was given back that this mode gives back next: how many closings the reply told.
 pub fn hold_given(
-    mode: Mode,
+    mode: &mut Mode,
     holds: &mut Holds,
     marks: &mut Marks,
     seat: &HostSeat,
     reply: &ActReply,
-) -> (Mode, u64)
-    requires other { mode ≢ Body }
-    requires going { is_over mode holds.old ≡ false }
-    requires ready { is_ready mode holds.old marks.old ≡ true }
+) -> u64
+    requires other { mode.old ≢ Body }
+    requires going { is_over mode.old holds.old ≡ false }
+    requires ready { is_ready mode.old holds.old marks.old ≡ true }
     requires holds { length holds.old ≤ most_holds }
-    requires marks { length marks.old + mode_begins mode ≤ most_holds }
+    requires marks { length marks.old + mode_begins mode.old ≤ most_holds }
     ensures left { (tree : RequestTree) →
-        after reply.now (mode_left seat.now mode tree holds.old marks.old)
-        ≡ closings result.1 holds.new (mode_left seat.now result.0 tree holds.new marks.new) }
+        after reply.now (mode_left seat.now mode.old tree holds.old marks.old)
+        ≡ closings result holds.new (mode_left seat.now mode.new tree holds.new marks.new) }
     ensures told { (tree : RequestTree) →
-        result.1 ≡ told_closings (mode_left seat.now mode tree holds.old marks.old) reply.now }
+        result ≡ told_closings (mode_left seat.now mode.old tree holds.old marks.old) reply.now }
     ensures inserted { (tree : RequestTree) →
-        told_inserted (mode_left seat.now mode tree holds.old marks.old) reply.now ≡ 0 }
-    ensures ready { is_ready result.0 holds.new marks.new ≡ true }
-    ensures tells { (lost : Option Errno) → Tells mode lost →
-        Tells result.0 (lost_after lost (is_giving_scope mode holds.old) reply.now) }
+        told_inserted (mode_left seat.now mode.old tree holds.old marks.old) reply.now ≡ 0 }
+    ensures ready { is_ready mode.new holds.new marks.new ≡ true }
+    ensures tells { (lost : Option Errno) → Tells mode.old lost →
+        Tells mode.new (lost_after lost (is_giving_scope mode.old holds.old) reply.now) }
     ensures fewer { length holds.new + 1 ≡ length holds.old }
-    ensures counts { (count : ℕ) → mode_counts result.0 count ≤ mode_counts mode count }
-    ensures begins { length marks.new + mode_begins result.0 ≤ length marks.old + mode_begins mode }
+    ensures counts { (count : ℕ) → mode_counts mode.new count ≤ mode_counts mode.old count }
+    ensures begins { length marks.new + mode_begins mode.new ≤ length marks.old + mode_begins mode.old }
 {
-    match take_next(passes_at(&mode), holds) {
-        None => (mode, 0),
+    match take_next(passes_at(mode), holds) {
+        None => 0,
         Some(hold) => {
             let fault = fault_if(is_scope(hold), reply);
             let count = closings_in(&giving(hold, seat), reply);
-            let mode = given(mode, fault, holds, marks);
-            (mode, count)
+            give(mode, fault, holds, marks);
+            count
         }
     }
 }
@@ -313,7 +355,7 @@ fn tail_of(then: Then, refused: Answer) -> Tail
 }
 
 /// After a step of the body, where its reply's holds are held, if a refusal is answered so.
-pub fn entered(next: Next, refused: Answer, holds: &Holds, marks: &mut Marks) -> Mode
+fn entered(next: Next, refused: Answer, holds: &Holds, marks: &mut Marks) -> Mode
     requires holds { length holds.now ≤ most_holds }
     requires marks { length marks.old + begun_in next ≤ most_holds }
     ensures left { (seat : HostSeat) (tree : RequestTree) →
@@ -327,5 +369,23 @@ pub fn entered(next: Next, refused: Answer, holds: &Holds, marks: &mut Marks) ->
         Next::At(then) => followed(tail_of(then, refused), holds),
         Next::Over { edges, then } => go_over(edges, tail_of(then, refused), holds, marks),
         Next::NoMemory => Mode::Leave(Finish::Answer(Answer::NoMemory)),
+    }
+}
+
+/// The same where the mode is the body's, and mostly stays so.
+pub fn enter(mode: &mut Mode, next: Next, refused: Answer, holds: &Holds, marks: &mut Marks)
+    requires at_body { mode.old ≡ Body }
+    requires holds { length holds.now ≤ most_holds }
+    requires marks { length marks.old + begun_in next ≤ most_holds }
+    ensures left { (seat : HostSeat) (tree : RequestTree) →
+        mode_left seat mode.new tree holds.now marks.new ≡ next_left seat next refused tree holds.now marks.old }
+    ensures ready { is_ready mode.new holds.now marks.new ≡ true }
+    ensures tells { Tells mode.new None }
+    ensures counts { (count : ℕ) → mode_counts mode.new count ≤ counts_after next count }
+    ensures begins { length marks.new + mode_begins mode.new ≤ length marks.old + begun_in next }
+{
+    match next {
+        Next::At(Then::Goes) => {}
+        other => *mode = entered(other, refused, holds, marks),
     }
 }

@@ -1,9 +1,0 @@
-use Rattle.pt_frame.proofs.Framing.{told_restored}
-use Rattle.pt_frame.proofs.machine.mode.given.Goals as goal
-
-pub returns-in-Body-clause-tells : goal.returns-in-Body-clause-tells
-returns-in-Body-clause-tells c = absurd (c.requires.other c.in-Body.is)
-
-pub returns-in-Leave-clause-tells : goal.returns-in-Leave-clause-tells
-returns-in-Leave-clause-tells c = λ lost t.
-    rw c.restored.ensures (told_restored c.in-Leave.last c.args.fault lost (rw c.in-Leave.is at t))
