@@ -37,9 +37,44 @@ impl<'a> Words<'a> {
         self.parts.next().ok_or(ReadError::Bad)
     }
 
+    /// A word that is a name.
+    pub(crate) fn name(&mut self) -> Result<&'a str, ReadError> {
+        str::from_utf8(self.word()?).map_err(|_| ReadError::Bad)
+    }
+
     /// The value that the next words are.
     pub fn next<T: Read>(&mut self) -> Result<T, ReadError> {
         T::read(self)
+    }
+
+    /// The two values that the next words are.
+    pub(crate) fn two<A: Read, B: Read>(&mut self) -> Result<(A, B), ReadError> {
+        let first = self.next()?;
+        let second = self.next()?;
+        Ok((first, second))
+    }
+
+    /// Three values; so below.
+    pub(crate) fn three<A: Read, B: Read, C: Read>(&mut self) -> Result<(A, B, C), ReadError> {
+        let (first, second) = self.two()?;
+        let third = self.next()?;
+        Ok((first, second, third))
+    }
+
+    pub(crate) fn four<A: Read, B: Read, C: Read, D: Read>(
+        &mut self,
+    ) -> Result<(A, B, C, D), ReadError> {
+        let (first, second, third) = self.three()?;
+        let fourth = self.next()?;
+        Ok((first, second, third, fourth))
+    }
+
+    pub(crate) fn five<A: Read, B: Read, C: Read, D: Read, E: Read>(
+        &mut self,
+    ) -> Result<(A, B, C, D, E), ReadError> {
+        let (first, second, third, fourth) = self.four()?;
+        let fifth = self.next()?;
+        Ok((first, second, third, fourth, fifth))
     }
 
     /// So many values as the next word says.

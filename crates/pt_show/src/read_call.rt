@@ -3,212 +3,228 @@ use crate::read::{Read, ReadError, Words};
 use pt_host::{Edit, KeptHostOp};
 
 // The calls that open and close descriptors. None where the name is of another call; so below.
-fn next_opening(name: &[u8], words: &mut Words<'_>) -> Result<Option<KeptHostOp>, ReadError> {
+fn next_opening(name: &str, words: &mut Words<'_>) -> Result<Option<KeptHostOp>, ReadError> {
     let call = match name {
-        b"OpenRoot" => KeptHostOp::OpenRoot {
-            path: words.next()?,
-            flags: words.next()?,
-        },
-        b"OpenPath" => KeptHostOp::OpenPath {
-            fd: words.next()?,
-            path: words.next()?,
-            flags: words.next()?,
-        },
-        b"OpenAt" => KeptHostOp::OpenAt {
-            fd: words.next()?,
-            name: words.next()?,
-            flags: words.next()?,
-            mode: words.next()?,
-        },
-        b"Reopen" => KeptHostOp::Reopen {
-            fd: words.next()?,
-            flags: words.next()?,
-        },
-        b"OpenByHandle" => KeptHostOp::OpenByHandle {
-            fd: words.next()?,
-            handle: words.next()?,
-            flags: words.next()?,
-        },
-        b"Close" => KeptHostOp::Close { fd: words.next()? },
+        "OpenRoot" => {
+            let (path, flags) = words.two()?;
+            KeptHostOp::OpenRoot { path, flags }
+        }
+        "OpenPath" => {
+            let (fd, path, flags) = words.three()?;
+            KeptHostOp::OpenPath { fd, path, flags }
+        }
+        "OpenAt" => {
+            let (fd, name, flags, mode) = words.four()?;
+            KeptHostOp::OpenAt {
+                fd,
+                name,
+                flags,
+                mode,
+            }
+        }
+        "Reopen" => {
+            let (fd, flags) = words.two()?;
+            KeptHostOp::Reopen { fd, flags }
+        }
+        "OpenByHandle" => {
+            let (fd, handle, flags) = words.three()?;
+            KeptHostOp::OpenByHandle { fd, handle, flags }
+        }
+        "Close" => KeptHostOp::Close { fd: words.next()? },
         _ => return Ok(None),
     };
     Ok(Some(call))
 }
 
 // The calls that ask.
-fn next_question(name: &[u8], words: &mut Words<'_>) -> Result<Option<KeptHostOp>, ReadError> {
+fn next_question(name: &str, words: &mut Words<'_>) -> Result<Option<KeptHostOp>, ReadError> {
     let call = match name {
-        b"Stat" => KeptHostOp::Stat { fd: words.next()? },
-        b"HandleOf" => KeptHostOp::HandleOf { fd: words.next()? },
-        b"StatFs" => KeptHostOp::StatFs { fd: words.next()? },
-        b"ReadLink" => KeptHostOp::ReadLink { fd: words.next()? },
-        b"FdPath" => KeptHostOp::FdPath { fd: words.next()? },
-        b"MountInfo" => KeptHostOp::MountInfo,
-        b"ReadAt" => KeptHostOp::ReadAt {
-            fd: words.next()?,
-            offset: words.next()?,
-            size: words.next()?,
-        },
-        b"ListAt" => KeptHostOp::ListAt {
-            fd: words.next()?,
-            offset: words.next()?,
-            size: words.next()?,
-        },
-        b"GetXattr" => KeptHostOp::GetXattr {
-            fd: words.next()?,
-            through: words.next()?,
-            name: words.next()?,
-            size: words.next()?,
-        },
-        b"ListXattr" => KeptHostOp::ListXattr {
-            fd: words.next()?,
-            through: words.next()?,
-            size: words.next()?,
-        },
+        "Stat" => KeptHostOp::Stat { fd: words.next()? },
+        "HandleOf" => KeptHostOp::HandleOf { fd: words.next()? },
+        "StatFs" => KeptHostOp::StatFs { fd: words.next()? },
+        "ReadLink" => KeptHostOp::ReadLink { fd: words.next()? },
+        "FdPath" => KeptHostOp::FdPath { fd: words.next()? },
+        "MountInfo" => KeptHostOp::MountInfo,
+        "ReadAt" => {
+            let (fd, offset, size) = words.three()?;
+            KeptHostOp::ReadAt { fd, offset, size }
+        }
+        "ListAt" => {
+            let (fd, offset, size) = words.three()?;
+            KeptHostOp::ListAt { fd, offset, size }
+        }
+        "GetXattr" => {
+            let (fd, through, name, size) = words.four()?;
+            KeptHostOp::GetXattr {
+                fd,
+                through,
+                name,
+                size,
+            }
+        }
+        "ListXattr" => {
+            let (fd, through, size) = words.three()?;
+            KeptHostOp::ListXattr { fd, through, size }
+        }
         _ => return Ok(None),
     };
     Ok(Some(call))
 }
 
 // The calls that change the names of a directory.
-fn next_naming(name: &[u8], words: &mut Words<'_>) -> Result<Option<KeptHostOp>, ReadError> {
+fn next_naming(name: &str, words: &mut Words<'_>) -> Result<Option<KeptHostOp>, ReadError> {
     let call = match name {
-        b"MakeDir" => KeptHostOp::MakeDir {
-            fd: words.next()?,
-            name: words.next()?,
-            mode: words.next()?,
-        },
-        b"MakeNode" => KeptHostOp::MakeNode {
-            fd: words.next()?,
-            name: words.next()?,
-            mode: words.next()?,
-            rdev: words.next()?,
-        },
-        b"MakeLink" => KeptHostOp::MakeLink {
-            from: words.next()?,
-            fd: words.next()?,
-            name: words.next()?,
-        },
-        b"SymLink" => KeptHostOp::SymLink {
-            fd: words.next()?,
-            name: words.next()?,
-            target: words.next()?,
-        },
-        b"Unlink" => KeptHostOp::Unlink {
-            fd: words.next()?,
-            name: words.next()?,
-        },
-        b"RemoveDir" => KeptHostOp::RemoveDir {
-            fd: words.next()?,
-            name: words.next()?,
-        },
-        b"Rename" => KeptHostOp::Rename {
-            fd: words.next()?,
-            name: words.next()?,
-            fd2: words.next()?,
-            name2: words.next()?,
-            flags: words.next()?,
-        },
-        b"Edit" => KeptHostOp::Edit(words.next()?),
+        "MakeDir" => {
+            let (fd, name, mode) = words.three()?;
+            KeptHostOp::MakeDir { fd, name, mode }
+        }
+        "MakeNode" => {
+            let (fd, name, mode, rdev) = words.four()?;
+            KeptHostOp::MakeNode {
+                fd,
+                name,
+                mode,
+                rdev,
+            }
+        }
+        "MakeLink" => {
+            let (from, fd, name) = words.three()?;
+            KeptHostOp::MakeLink { from, fd, name }
+        }
+        "SymLink" => {
+            let (fd, name, target) = words.three()?;
+            KeptHostOp::SymLink { fd, name, target }
+        }
+        "Unlink" => {
+            let (fd, name) = words.two()?;
+            KeptHostOp::Unlink { fd, name }
+        }
+        "RemoveDir" => {
+            let (fd, name) = words.two()?;
+            KeptHostOp::RemoveDir { fd, name }
+        }
+        "Rename" => {
+            let (fd, name, fd2, name2, flags) = words.five()?;
+            KeptHostOp::Rename {
+                fd,
+                name,
+                fd2,
+                name2,
+                flags,
+            }
+        }
+        "Edit" => KeptHostOp::Edit(words.next()?),
         _ => return Ok(None),
     };
     Ok(Some(call))
 }
 
 // The calls that change contents, the position of a descriptor, or nothing that can be seen.
-fn next_writing(name: &[u8], words: &mut Words<'_>) -> Result<Option<KeptHostOp>, ReadError> {
+fn next_writing(name: &str, words: &mut Words<'_>) -> Result<Option<KeptHostOp>, ReadError> {
     let call = match name {
-        b"WriteAt" => KeptHostOp::WriteAt {
-            fd: words.next()?,
-            offset: words.next()?,
-            bytes: words.next()?,
-            append: words.next()?,
-        },
-        b"Truncate" => KeptHostOp::Truncate {
-            fd: words.next()?,
-            size: words.next()?,
-        },
-        b"Allocate" => KeptHostOp::Allocate {
-            fd: words.next()?,
-            mode: words.next()?,
-            offset: words.next()?,
-            length: words.next()?,
-        },
-        b"Seek" => KeptHostOp::Seek {
-            fd: words.next()?,
-            offset: words.next()?,
-            whence: words.next()?,
-        },
-        b"CopyRange" => KeptHostOp::CopyRange {
-            fd: words.next()?,
-            offset: words.next()?,
-            fd2: words.next()?,
-            offset2: words.next()?,
-            length: words.next()?,
-            flags: words.next()?,
-        },
-        b"Flush" => KeptHostOp::Flush { fd: words.next()? },
-        b"Sync" => KeptHostOp::Sync {
-            fd: words.next()?,
-            datasync: words.next()?,
-        },
-        b"SyncFs" => KeptHostOp::SyncFs { fd: words.next()? },
+        "WriteAt" => {
+            let (fd, offset, bytes, append) = words.four()?;
+            KeptHostOp::WriteAt {
+                fd,
+                offset,
+                bytes,
+                append,
+            }
+        }
+        "Truncate" => {
+            let (fd, size) = words.two()?;
+            KeptHostOp::Truncate { fd, size }
+        }
+        "Allocate" => {
+            let (fd, mode, offset, length) = words.four()?;
+            KeptHostOp::Allocate {
+                fd,
+                mode,
+                offset,
+                length,
+            }
+        }
+        "Seek" => {
+            let (fd, offset, whence) = words.three()?;
+            KeptHostOp::Seek { fd, offset, whence }
+        }
+        "CopyRange" => {
+            let (fd, offset, fd2, offset2, length) = words.five()?;
+            let flags = words.next()?;
+            KeptHostOp::CopyRange {
+                fd,
+                offset,
+                fd2,
+                offset2,
+                length,
+                flags,
+            }
+        }
+        "Flush" => KeptHostOp::Flush { fd: words.next()? },
+        "Sync" => {
+            let (fd, datasync) = words.two()?;
+            KeptHostOp::Sync { fd, datasync }
+        }
+        "SyncFs" => KeptHostOp::SyncFs { fd: words.next()? },
         _ => return Ok(None),
     };
     Ok(Some(call))
 }
 
 // The calls that change attributes.
-fn next_attribute(name: &[u8], words: &mut Words<'_>) -> Result<Option<KeptHostOp>, ReadError> {
+fn next_attribute(name: &str, words: &mut Words<'_>) -> Result<Option<KeptHostOp>, ReadError> {
     let call = match name {
-        b"ChMod" => KeptHostOp::ChMod {
-            fd: words.next()?,
-            through: words.next()?,
-            mode: words.next()?,
-        },
-        b"ChOwn" => KeptHostOp::ChOwn {
-            fd: words.next()?,
-            uid: words.next()?,
-            gid: words.next()?,
-        },
-        b"SetTimes" => KeptHostOp::SetTimes {
-            fd: words.next()?,
-            through: words.next()?,
-            atime: words.next()?,
-            mtime: words.next()?,
-        },
-        b"SetXattr" => KeptHostOp::SetXattr {
-            fd: words.next()?,
-            through: words.next()?,
-            name: words.next()?,
-            value: words.next()?,
-            flags: words.next()?,
-        },
-        b"RemoveXattr" => KeptHostOp::RemoveXattr {
-            fd: words.next()?,
-            through: words.next()?,
-            name: words.next()?,
-        },
+        "ChMod" => {
+            let (fd, through, mode) = words.three()?;
+            KeptHostOp::ChMod { fd, through, mode }
+        }
+        "ChOwn" => {
+            let (fd, uid, gid) = words.three()?;
+            KeptHostOp::ChOwn { fd, uid, gid }
+        }
+        "SetTimes" => {
+            let (fd, through, atime, mtime) = words.four()?;
+            KeptHostOp::SetTimes {
+                fd,
+                through,
+                atime,
+                mtime,
+            }
+        }
+        "SetXattr" => {
+            let (fd, through, name, value, flags) = words.five()?;
+            KeptHostOp::SetXattr {
+                fd,
+                through,
+                name,
+                value,
+                flags,
+            }
+        }
+        "RemoveXattr" => {
+            let (fd, through, name) = words.three()?;
+            KeptHostOp::RemoveXattr { fd, through, name }
+        }
         _ => return Ok(None),
     };
     Ok(Some(call))
 }
 
 // The calls that change a seat.
-fn next_seat_call(name: &[u8], words: &mut Words<'_>) -> Result<Option<KeptHostOp>, ReadError> {
+fn next_seat_call(name: &str, words: &mut Words<'_>) -> Result<Option<KeptHostOp>, ReadError> {
     let call = match name {
-        b"SetGroups" => KeptHostOp::SetGroups {
+        "SetGroups" => KeptHostOp::SetGroups {
             list: words.next()?,
         },
-        b"SetEgid" => KeptHostOp::SetEgid { gid: words.next()? },
-        b"SetEuid" => KeptHostOp::SetEuid { uid: words.next()? },
-        b"RaiseCap" => KeptHostOp::RaiseCap {
+        "SetEgid" => KeptHostOp::SetEgid { gid: words.next()? },
+        "SetEuid" => KeptHostOp::SetEuid { uid: words.next()? },
+        "RaiseCap" => KeptHostOp::RaiseCap {
             caps: words.next()?,
         },
-        b"DropCap" => KeptHostOp::DropCap {
+        "DropCap" => KeptHostOp::DropCap {
             caps: words.next()?,
         },
-        b"SetUmask" => KeptHostOp::SetUmask {
+        "SetUmask" => KeptHostOp::SetUmask {
             mask: words.next()?,
         },
         _ => return Ok(None),
@@ -218,7 +234,7 @@ fn next_seat_call(name: &[u8], words: &mut Words<'_>) -> Result<Option<KeptHostO
 
 impl Read for KeptHostOp {
     fn read(words: &mut Words<'_>) -> Result<Self, ReadError> {
-        let name = words.word()?;
+        let name = words.name()?;
         if let Some(call) = next_opening(name, words)? {
             return Ok(call);
         }
@@ -240,31 +256,37 @@ impl Read for KeptHostOp {
 
 impl Read for Edit {
     fn read(words: &mut Words<'_>) -> Result<Self, ReadError> {
-        match words.word()? {
-            b"Unlink" => Ok(Edit::Unlink {
+        match words.name()? {
+            "Unlink" => Ok(Edit::Unlink {
                 path: words.next()?,
             }),
-            b"Rename" => Ok(Edit::Rename {
-                old: words.next()?,
-                new: words.next()?,
-            }),
-            b"File" => Ok(Edit::File {
-                path: words.next()?,
-                mode: words.next()?,
-                uid: words.next()?,
-                gid: words.next()?,
-                bytes: words.next()?,
-            }),
-            b"Dir" => Ok(Edit::Dir {
-                path: words.next()?,
-                mode: words.next()?,
-                uid: words.next()?,
-                gid: words.next()?,
-            }),
-            b"Write" => Ok(Edit::Write {
-                path: words.next()?,
-                bytes: words.next()?,
-            }),
+            "Rename" => {
+                let (old, new) = words.two()?;
+                Ok(Edit::Rename { old, new })
+            }
+            "File" => {
+                let (path, mode, uid, gid, bytes) = words.five()?;
+                Ok(Edit::File {
+                    path,
+                    mode,
+                    uid,
+                    gid,
+                    bytes,
+                })
+            }
+            "Dir" => {
+                let (path, mode, uid, gid) = words.four()?;
+                Ok(Edit::Dir {
+                    path,
+                    mode,
+                    uid,
+                    gid,
+                })
+            }
+            "Write" => {
+                let (path, bytes) = words.two()?;
+                Ok(Edit::Write { path, bytes })
+            }
             _ => Err(ReadError::Bad),
         }
     }

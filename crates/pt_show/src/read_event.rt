@@ -4,9 +4,7 @@ use pt_session::{ForgetPairs, KeptEvent, Negotiated, RowForm};
 
 impl Read for (u64, u64) {
     fn read(words: &mut Words<'_>) -> Result<Self, ReadError> {
-        let first = words.next()?;
-        let second = words.next()?;
-        Ok((first, second))
+        words.two()
     }
 }
 
@@ -18,8 +16,8 @@ impl Read for ForgetPairs {
 
 impl Read for RowForm {
     fn read(words: &mut Words<'_>) -> Result<Self, ReadError> {
-        match words.word()? {
-            b"File" => Ok(RowForm::File(words.next()?)),
+        match words.name()? {
+            "File" => Ok(RowForm::File(words.next()?)),
             _ => Err(ReadError::Bad),
         }
     }
@@ -27,93 +25,102 @@ impl Read for RowForm {
 
 impl Read for Negotiated {
     fn read(words: &mut Words<'_>) -> Result<Self, ReadError> {
+        let (writeback, announce_submounts, posix_acl, sup_group) = words.four()?;
         Ok(Negotiated {
-            writeback: words.next()?,
-            announce_submounts: words.next()?,
-            posix_acl: words.next()?,
-            sup_group: words.next()?,
+            writeback,
+            announce_submounts,
+            posix_acl,
+            sup_group,
         })
     }
 }
 
 // The events of numbers, whose rows are pinned, given and taken back. None where the name is of another event.
-fn next_of_numbers(name: &[u8], words: &mut Words<'_>) -> Result<Option<KeptEvent>, ReadError> {
+fn next_of_numbers(name: &str, words: &mut Words<'_>) -> Result<Option<KeptEvent>, ReadError> {
     let event = match name {
-        b"Resolve" => KeptEvent::Resolve {
+        "Resolve" => KeptEvent::Resolve {
             number: words.next()?,
         },
-        b"Unpin" => KeptEvent::Unpin { row: words.next()? },
-        b"Claim" => KeptEvent::Claim {
-            era: words.next()?,
-            handle: words.next()?,
-            ids: words.next()?,
-        },
-        b"Insert" => KeptEvent::Insert {
-            era: words.next()?,
-            number: words.next()?,
-            form: words.next()?,
-            ids: words.next()?,
-            mode: words.next()?,
-        },
-        b"InsertRoot" => KeptEvent::InsertRoot {
-            era: words.next()?,
-            form: words.next()?,
-            ids: words.next()?,
-            mode: words.next()?,
-            negotiated: words.next()?,
-        },
-        b"Forget" => KeptEvent::Forget {
+        "Unpin" => KeptEvent::Unpin { row: words.next()? },
+        "Claim" => {
+            let (era, handle, ids) = words.three()?;
+            KeptEvent::Claim { era, handle, ids }
+        }
+        "Insert" => {
+            let (era, number, form, ids, mode) = words.five()?;
+            KeptEvent::Insert {
+                era,
+                number,
+                form,
+                ids,
+                mode,
+            }
+        }
+        "InsertRoot" => {
+            let (era, form, ids, mode, negotiated) = words.five()?;
+            KeptEvent::InsertRoot {
+                era,
+                form,
+                ids,
+                mode,
+                negotiated,
+            }
+        }
+        "Forget" => KeptEvent::Forget {
             list: words.next()?,
         },
-        b"GiveBack" => KeptEvent::GiveBack {
-            era: words.next()?,
-            number: words.next()?,
-        },
+        "GiveBack" => {
+            let (era, number) = words.two()?;
+            KeptEvent::GiveBack { era, number }
+        }
         _ => return Ok(None),
     };
     Ok(Some(event))
 }
 
 // The events of handles.
-fn next_of_handles(name: &[u8], words: &mut Words<'_>) -> Result<Option<KeptEvent>, ReadError> {
+fn next_of_handles(name: &str, words: &mut Words<'_>) -> Result<Option<KeptEvent>, ReadError> {
     let event = match name {
-        b"InsertHandle" => KeptEvent::InsertHandle {
-            era: words.next()?,
-            handle: words.next()?,
-            number: words.next()?,
-            fd: words.next()?,
-        },
-        b"PinHandle" => KeptEvent::PinHandle {
-            handle: words.next()?,
-            number: words.next()?,
-        },
-        b"UnpinHandle" => KeptEvent::UnpinHandle { row: words.next()? },
-        b"Release" => KeptEvent::Release {
-            handle: words.next()?,
-            number: words.next()?,
-        },
+        "InsertHandle" => {
+            let (era, handle, number, fd) = words.four()?;
+            KeptEvent::InsertHandle {
+                era,
+                handle,
+                number,
+                fd,
+            }
+        }
+        "PinHandle" => {
+            let (handle, number) = words.two()?;
+            KeptEvent::PinHandle { handle, number }
+        }
+        "UnpinHandle" => KeptEvent::UnpinHandle { row: words.next()? },
+        "Release" => {
+            let (handle, number) = words.two()?;
+            KeptEvent::Release { handle, number }
+        }
         _ => return Ok(None),
     };
     Ok(Some(event))
 }
 
 // The events without fields.
-fn bare_event(name: &[u8]) -> Option<KeptEvent> {
+fn bare_event(name: &str) -> Option<KeptEvent> {
     match name {
-        b"Begin" => Some(KeptEvent::Begin),
-        b"TakeFd" => Some(KeptEvent::TakeFd),
-        b"GiveFd" => Some(KeptEvent::GiveFd),
-        b"DrawNode" => Some(KeptEvent::DrawNode),
-        b"DrawHandle" => Some(KeptEvent::DrawHandle),
-        b"Clear" => Some(KeptEvent::Clear),
-        b"TakeClosing" => Some(KeptEvent::TakeClosing),
+        "Begin" => Some(KeptEvent::Begin),
+        "TakeFd" => Some(KeptEvent::TakeFd),
+        "GiveFd" => Some(KeptEvent::GiveFd),
+        "DrawNode" => Some(KeptEvent::DrawNode),
+        "DrawHandle" => Some(KeptEvent::DrawHandle),
+        "Clear" => Some(KeptEvent::Clear),
+        "TakeClosing" => Some(KeptEvent::TakeClosing),
         _ => None,
     }
 }
 
 impl Read for KeptEvent {
     fn read(words: &mut Words<'_>) -> Result<Self, ReadError> {
-        let name = words.word()?;
+        let name = words.name()?;
         if let Some(event) = bare_event(name) {
             return Ok(event);
         }

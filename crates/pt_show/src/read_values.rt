@@ -91,27 +91,24 @@ impl Read for Caps {
 
 impl Read for ObjIds {
     fn read(words: &mut Words<'_>) -> Result<Self, ReadError> {
-        let ino = words.next()?;
-        let dev = words.next()?;
-        let mnt_id = words.next()?;
+        let (ino, dev, mnt_id) = words.three()?;
         Ok(ObjIds { ino, dev, mnt_id })
     }
 }
 
 impl Read for Time {
     fn read(words: &mut Words<'_>) -> Result<Self, ReadError> {
-        let sec = words.next()?;
-        let nsec = words.next()?;
+        let (sec, nsec) = words.two()?;
         Ok(Time { sec, nsec })
     }
 }
 
 impl Read for TimeSet {
     fn read(words: &mut Words<'_>) -> Result<Self, ReadError> {
-        match words.word()? {
-            b"Omit" => Ok(TimeSet::Omit),
-            b"Now" => Ok(TimeSet::Now),
-            b"At" => Ok(TimeSet::At(words.next()?)),
+        match words.name()? {
+            "Omit" => Ok(TimeSet::Omit),
+            "Now" => Ok(TimeSet::Now),
+            "At" => Ok(TimeSet::At(words.next()?)),
             _ => Err(ReadError::Bad),
         }
     }
@@ -130,8 +127,7 @@ impl Read for CFileHandle {
 
 impl Read for FileHandle {
     fn read(words: &mut Words<'_>) -> Result<Self, ReadError> {
-        let mnt_id = words.next()?;
-        let handle = words.next()?;
+        let (mnt_id, handle) = words.two()?;
         Ok(FileHandle { mnt_id, handle })
     }
 }
