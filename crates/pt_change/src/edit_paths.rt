@@ -1,32 +1,34 @@
-ghost use Rattle.std.specs.Prelude.{◌≡◌, slice_get};
-ghost use Rattle.pt_node.specs.Paths.{parts, then_on};
-ghost use Rattle.pt_node.specs.NewPlace.{seen_place};
+ghost use Rattle.std.specs.Prelude.{◌≡◌, [], IfOk};
+ghost use Rattle.pt_node.specs.Paths.{parts, seen_led};
 ghost use Rattle.pt_rules.specs.EditPaths.{
-  at_root,
   goes_through,
   judged,
-  judged_at,
+  judged_from,
   last_refusal,
   past,
   path_goes_through,
   place_from,
   seen_judged,
+  seen_site,
 };
+ghost use Rattle.pt_rules.specs.Finding.{IsPlaced};
 
 use pt_host::Errno;
-use pt_node::links::is_directory_at;
 use pt_node::names::NAME_MAX;
 use pt_node::new_place::{has_nul, is_dots};
 use pt_node::node::Node;
-use pt_node::path::{cut, step_from};
+use pt_node::path::{cut, from_root, step_from};
 
-/// On from a place, a directory and a name in it, by one part of a path.
-fn past<'a>(
-    nodes: &[Node],
-    at: (usize, &'a [u8]),
-    part: &'a [u8],
-) -> Result<(usize, &'a [u8]), Errno>
-    ensures { seen_judged result ≡ past nodes.now (seen_place at.entry) part.now }
+/// A directory and a name in it; the empty name stands for the directory itself.
+pub type Place<'a, 'b> = ((usize, &'a Node), &'b [u8]);
+
+/// On from a place by one part of a path.
+fn past<'a, 'b>(
+    nodes: &'a [Node],
+    at: Place<'a, 'b>,
+    part: &'b [u8],
+) -> Result<Place<'a, 'b>, Errno>
+    ensures { seen_judged result ≡ past nodes.now (seen_site at.entry) part.now }
 {
     if part.is_empty() {
         return Ok(at);
@@ -35,11 +37,15 @@ fn past<'a>(
     Ok((dir, part))
 }
 
-/// The place at which a path ends; no name where it ends at the root.
-fn place_in<'a>(nodes: &[Node], path: &'a [u8]) -> Result<(usize, &'a [u8]), Errno>
-    ensures { seen_judged result ≡ place_from nodes.now at_root (parts path.now) }
+/// The place at which a path ends that begins at the root; no name where it ends there.
+fn place_from<'a, 'b>(
+    nodes: &'a [Node],
+    root: (usize, &'a Node),
+    path: &'b [u8],
+) -> Result<Place<'a, 'b>, Errno>
+    ensures { seen_judged result ≡ place_from nodes.now (seen_led root.entry, []) (parts path.now) }
 {
-    let mut at = (0, &path[..0]);
+    let mut at = (root, &path[..0]);
     let mut left = path;
     loop {
         let (part, rest) = cut(left);
@@ -52,10 +58,10 @@ fn place_in<'a>(nodes: &[Node], path: &'a [u8]) -> Result<(usize, &'a [u8]), Err
 }
 
 /// The error for which a path does not end at this name.
-fn last_refusal(nodes: &[Node], dir: usize, name: &[u8]) -> Option<Errno>
-    ensures { result ≡ last_refusal (slice_get nodes.now dir) name.now }
+fn last_refusal(dir: &Node, name: &[u8]) -> Option<Errno>
+    ensures { result ≡ last_refusal dir.now name.now }
 {
-    if !is_directory_at(nodes, dir) {
+    if !dir.is_directory() {
         Some(Errno::ENOTDIR)
     } else if name.len() > NAME_MAX {
         Some(Errno::ENAMETOOLONG)
@@ -66,40 +72,39 @@ fn last_refusal(nodes: &[Node], dir: usize, name: &[u8]) -> Option<Errno>
     }
 }
 
-fn judged_in<'a>(nodes: &[Node], path: &'a [u8]) -> Result<(usize, &'a [u8]), Errno>
-    ensures { seen_judged result ≡ then_on (place_from nodes.now at_root (parts path.now)) (judged_at nodes.now) }
+fn judged_from<'a, 'b>(
+    nodes: &'a [Node],
+    root: (usize, &'a Node),
+    path: &'b [u8],
+) -> Result<Place<'a, 'b>, Errno>
+    ensures { seen_judged result ≡ judged_from nodes.now path.now (seen_led root.entry) }
 {
-    let (dir, name) = place_in(nodes, path)?;
-    match last_refusal(nodes, dir, name) {
+    let place = place_from(nodes, root, path)?;
+    match last_refusal(place.0.1, place.1) {
         Some(errno) => Err(errno),
-        None => Ok((dir, name)),
+        None => Ok(place),
     }
 }
 
 /// The place at the end of a path, which begins at the root with a slash.
-pub fn judged<'a>(nodes: &[Node], path: &'a [u8]) -> Result<(usize, &'a [u8]), Errno>
-    ensures { seen_judged result ≡ judged nodes.now path.now }
+pub fn judged<'a, 'b>(nodes: &'a [Node], path: &'b [u8]) -> Result<Place<'a, 'b>, Errno>
+    ensures judged { seen_judged result ≡ judged nodes.now path.now }
+    ensures placed { IfOk result (λ place. IsPlaced nodes.now (seen_site place)) }
 {
-    match path.split_first() {
+    match from_root(nodes, path) {
         None => Err(Errno::ENOENT),
-        Some((first, rest)) => {
-            if *first == b'/' {
-                judged_in(nodes, rest)
-            } else {
-                Err(Errno::ENOENT)
-            }
-        }
+        Some(root) => judged_from(nodes, root, path),
     }
 }
 
 /// Whether the way to the last name goes through this object.
-fn goes_through(nodes: &[Node], path: &[u8], object: usize) -> bool
-    ensures { result ≡ goes_through object nodes.now at_root (parts path.now) }
+fn goes_through(nodes: &[Node], root: (usize, &Node), path: &[u8], object: usize) -> bool
+    ensures { result ≡ goes_through object nodes.now (seen_led root.entry, []) (parts path.now) }
 {
-    let mut at = (0, &path[..0]);
+    let mut at = (root, &path[..0]);
     let mut left = path;
     loop {
-        if at.0 == object {
+        if at.0.0 == object {
             return true;
         }
         let (part, rest) = cut(left);
@@ -108,7 +113,7 @@ fn goes_through(nodes: &[Node], path: &[u8], object: usize) -> bool
             Err(_) => return false,
         }
         match rest {
-            None => return at.0 == object,
+            None => return at.0.0 == object,
             Some(rest) => left = rest,
         }
     }
@@ -118,8 +123,8 @@ fn goes_through(nodes: &[Node], path: &[u8], object: usize) -> bool
 pub fn path_goes_through(nodes: &[Node], path: &[u8], object: usize) -> bool
     ensures { result ≡ path_goes_through object nodes.now path.now }
 {
-    match path.split_first() {
+    match from_root(nodes, path) {
         None => false,
-        Some((_, rest)) => goes_through(nodes, rest, object),
+        Some(root) => goes_through(nodes, root, path, object),
     }
 }

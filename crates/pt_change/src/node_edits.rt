@@ -1,6 +1,7 @@
-ghost use Rattle.std.specs.Prelude.{◌≡◌, OnOk, OnErr, Some, false, true, is_some, slice_get, ◌<◌, None, Ok};
-ghost use Rattle.std.specs.Option.{option_map_or};
+ghost use Rattle.std.specs.Prelude.{◌≡◌, OnOk, OnErr, Some, true, is_some, option_map, ◌<◌, None, Ok};
 ghost use Rattle.pt_node.specs.Node.{name_at};
+ghost use Rattle.pt_node.specs.Opening.{first_refusal};
+ghost use Rattle.pt_node.specs.Paths.{seen_led};
 ghost use Rattle.pt_rules.specs.NameCalls.{exchanged, linked};
 ghost use Rattle.pt_node.specs.Entries.{
   changed_at,
@@ -12,17 +13,17 @@ ghost use Rattle.pt_node.specs.Entries.{
 };
 ghost use Rattle.pt_node.specs.NewPlace.{seen_place};
 ghost use Rattle.pt_rules.specs.Edits.{
+  grown,
   holds_any,
   is_mounted,
-  move_refusal,
+  is_mounted_where,
+  move_checks,
   moved,
-  node_at,
-  replace_refusal,
+  replace_checks,
   replaced,
-  unlink_refusal,
+  unlink_checks,
   unlinked,
-  write_refusal,
-  grown,
+  write_checks,
 };
 
 use pt_host::{Bytes, Errno, Time};
@@ -47,12 +48,9 @@ pub fn is_mounted(dir: &Node, node: &Node) -> bool
 }
 
 /// The error for which the object is not unlinked from this directory, where there is one.
-pub fn unlink_refusal(nodes: &[Node], dir: usize, object: usize) -> Option<Errno>
-    ensures { result ≡ unlink_refusal (slice_get nodes.now dir) (slice_get nodes.now object) }
+pub fn unlink_refusal(dir: &Node, node: &Node) -> Option<Errno>
+    ensures { result ≡ first_refusal (unlink_checks dir.now node.now) }
 {
-    let (Some(dir), Some(node)) = (nodes.get(dir), nodes.get(object)) else {
-        return Some(Errno::ENOENT);
-    };
     if is_mounted(dir, node) {
         Some(Errno::EBUSY)
     } else if holds_any(node) {
@@ -62,25 +60,30 @@ pub fn unlink_refusal(nodes: &[Node], dir: usize, object: usize) -> Option<Errno
     }
 }
 
+/// Whether what has the new name, if anything, is the root of another mount.
+pub fn is_mounted_where(dir: &Node, target: Option<(usize, &Node)>) -> bool
+    ensures { result ≡ is_mounted_where dir.now (option_map seen_led target.entry) }
+{
+    match target {
+        None => false,
+        Some((_, node)) => is_mounted(dir, node),
+    }
+}
+
 /// The error for which the object is not moved from the one directory to the other.
 pub fn move_refusal(
-    nodes: &[Node],
     into_itself: bool,
-    from: usize,
-    to: usize,
-    object: usize,
-    target: Option<usize>,
+    from: &Node,
+    to: &Node,
+    node: &Node,
+    target: Option<(usize, &Node)>,
 ) -> Option<Errno>
-    ensures { result ≡ move_refusal into_itself (slice_get nodes.now from) (slice_get nodes.now to)
-        (slice_get nodes.now object) (node_at nodes.now target) }
+    ensures { result
+        ≡ first_refusal (move_checks into_itself from.now to.now node.now (option_map seen_led target.entry)) }
 {
-    let (Some(from), Some(to), Some(node)) = (nodes.get(from), nodes.get(to), nodes.get(object))
-    else {
-        return Some(Errno::ENOENT);
-    };
     if from.ids.mnt_id != to.ids.mnt_id {
         Some(Errno::EXDEV)
-    } else if is_mounted(from, node) || is_mounted_at(nodes, to, target) {
+    } else if is_mounted(from, node) || is_mounted_where(to, target) {
         Some(Errno::EBUSY)
     } else if into_itself {
         Some(Errno::EINVAL)
@@ -89,25 +92,10 @@ pub fn move_refusal(
     }
 }
 
-pub fn is_mounted_at(nodes: &[Node], dir: &Node, target: Option<usize>) -> bool
-    ensures { result ≡ option_map_or (is_mounted dir.now) (node_at nodes.now target) false }
-{
-    match target {
-        None => false,
-        Some(target) => match nodes.get(target) {
-            None => false,
-            Some(node) => is_mounted(dir, node),
-        },
-    }
-}
-
 /// The error for which the object does not take the place of the target.
-pub fn replace_refusal(nodes: &[Node], object: usize, target: usize) -> Option<Errno>
-    ensures { result ≡ replace_refusal (slice_get nodes.now object) (slice_get nodes.now target) }
+pub fn replace_refusal(node: &Node, target: &Node) -> Option<Errno>
+    ensures { result ≡ first_refusal (replace_checks node.now target.now) }
 {
-    let (Some(node), Some(target)) = (nodes.get(object), nodes.get(target)) else {
-        return Some(Errno::ENOENT);
-    };
     if node.is_directory() && !target.is_directory() {
         Some(Errno::ENOTDIR)
     } else if !node.is_directory() && target.is_directory() {
@@ -120,12 +108,9 @@ pub fn replace_refusal(nodes: &[Node], object: usize, target: usize) -> Option<E
 }
 
 /// The error for which the object does not get new contents of this size.
-pub fn write_refusal(nodes: &[Node], object: usize, size: usize) -> Option<Errno>
-    ensures { result ≡ write_refusal (slice_get nodes.now object) size }
+pub fn write_refusal(node: &Node, size: usize) -> Option<Errno>
+    ensures { result ≡ first_refusal (write_checks node.now size) }
 {
-    let Some(node) = nodes.get(object) else {
-        return Some(Errno::ENOENT);
-    };
     if node.is_directory() {
         Some(Errno::EISDIR)
     } else if node.is_link() {

@@ -1,11 +1,12 @@
 ghost use Rattle.std.specs.Prelude.{◌≡◌, ◌<◌, ◌^◌, Some, None, ℕ};
 ghost use Rattle.pt_node.specs.Opening.{first_refusal};
 ghost use Rattle.pt_node.specs.Node.{handle_bytes, handle_of};
-ghost use Rattle.pt_rules.specs.OpeningCalls.{created_checks, creating_checks, same_handle};
+ghost use Rattle.pt_rules.specs.OpeningCalls.{created_checks, creating_checks, handle_checks, same_handle};
 
 use crate::name_checks::cannot_write;
-use pt_host::{CFileHandle, Errno, HandleBytes, HostSeat, OpenFlags};
+use pt_host::{CFileHandle, Caps, Errno, HandleBytes, HostSeat, OpenFlags};
 use pt_node::node::Node;
+use pt_node::slots::OpenFile;
 
 pub fn creating_refusal(flags: OpenFlags, there: Option<usize>) -> Option<Errno>
     ensures { result ≡ first_refusal (creating_checks flags.0 there) }
@@ -46,6 +47,19 @@ pub fn serial_in(handle: &CFileHandle) -> Option<u64>
             Some(u64::from_le_bytes([*a, *b, *c, *d, *e, *f, *g, *h]))
         }
         _ => None,
+    }
+}
+
+/// The error for which no object is opened by its handle on the mount of this descriptor's object.
+pub fn handle_refusal(seat: &HostSeat, file: OpenFile) -> Option<Errno>
+    ensures { result ≡ first_refusal (handle_checks seat.now file) }
+{
+    if file.flags.includes(OpenFlags::O_PATH) {
+        Some(Errno::EBADF)
+    } else if !seat.eff_caps.includes(Caps::DAC_READ_SEARCH) {
+        Some(Errno::EPERM)
+    } else {
+        None
     }
 }
 

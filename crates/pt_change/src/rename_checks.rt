@@ -1,10 +1,16 @@
-ghost use Rattle.std.specs.Prelude.{◌≡◌, ◌<◌, Some, None, true};
-ghost use Rattle.pt_rules.specs.Edits.{node_at};
+ghost use Rattle.std.specs.Prelude.{◌≡◌, ◌<◌, Some, None, true, option_map};
 ghost use Rattle.pt_node.specs.Opening.{first_refusal};
-ghost use Rattle.pt_rules.specs.NameCalls.{is_mount_moved, is_unwritable, moves_into_itself, rename_tests};
+ghost use Rattle.pt_node.specs.Paths.{seen_led};
+ghost use Rattle.pt_rules.specs.NameCalls.{
+  is_mount_moved,
+  is_unwritable,
+  moves_into_itself,
+  rename_checks,
+  rename_tests,
+};
 
 use crate::name_checks::{cannot_write, lies_in};
-use crate::node_edits::{exchange, is_mounted, is_mounted_at};
+use crate::node_edits::{is_mounted, is_mounted_where};
 use pt_host::{Errno, HostSeat};
 use pt_node::node::Node;
 
@@ -20,50 +26,45 @@ pub fn moves_into_itself(
     from: usize,
     to: usize,
     object: usize,
-    target: Option<usize>,
+    target: Option<(usize, &Node)>,
     flags: u32,
 ) -> bool
-    ensures { result ≡ moves_into_itself nodes.now from to object target flags }
+    ensures { result ≡ moves_into_itself nodes.now from to object (option_map seen_led target.entry) flags }
 {
     if lies_in(nodes, object, to) {
         return true;
     }
     match target {
-        Some(other) => flags == EXCHANGE && lies_in(nodes, other, from),
+        Some((other, _)) => flags == EXCHANGE && lies_in(nodes, other, from),
         None => false,
     }
 }
 
 /// Whether this seat may not write one of the two directories.
-pub fn is_unwritable(seat: &HostSeat, from: &Node, to: &Node) -> bool
+fn is_unwritable(seat: &HostSeat, from: &Node, to: &Node) -> bool
     ensures { result ≡ is_unwritable seat.now from.now to.now }
 {
     cannot_write(seat, from) || cannot_write(seat, to)
 }
 
 /// Whether one of the two objects is the root of another mount.
-pub fn is_mount_moved(
-    nodes: &[Node],
-    from: &Node,
-    to: &Node,
-    node: &Node,
-    target: Option<usize>,
-) -> bool
-    ensures { result ≡ is_mount_moved from.now to.now node.now (node_at nodes.now target) }
+fn is_mount_moved(from: &Node, to: &Node, node: &Node, target: Option<(usize, &Node)>) -> bool
+    ensures { result ≡ is_mount_moved from.now to.now node.now (option_map seen_led target.entry) }
 {
-    is_mounted(from, node) || is_mounted_at(nodes, to, target)
+    is_mounted(from, node) || is_mounted_where(to, target)
 }
 
 /// The error of the first of these tests that holds.
-pub fn first_refusal(
+fn first_refusal(
     unwritable: bool,
     apart: bool,
     mounted: bool,
     into_itself: bool,
-    target: Option<usize>,
+    target: Option<(usize, &Node)>,
     flags: u32,
 ) -> Option<Errno>
-    ensures { result ≡ first_refusal (rename_tests unwritable apart mounted into_itself target flags) }
+    ensures { result
+        ≡ first_refusal (rename_tests unwritable apart mounted into_itself (option_map seen_led target.entry) flags) }
 {
     if unwritable {
         Some(Errno::EACCES)
@@ -80,4 +81,25 @@ pub fn first_refusal(
     } else {
         None
     }
+}
+
+/// The error for which no name is moved between these directories, up to where it is seen whether both names lead to
+/// one object.
+pub fn rename_refusal(
+    into_itself: bool,
+    seat: &HostSeat,
+    from: &Node,
+    to: &Node,
+    node: &Node,
+    target: Option<(usize, &Node)>,
+    flags: u32,
+) -> Option<Errno>
+    ensures { result
+        ≡ first_refusal (rename_checks into_itself seat.now from.now to.now node.now
+        (option_map seen_led target.entry) flags) }
+{
+    let unwritable = is_unwritable(seat, from, to);
+    let apart = from.ids.mnt_id != to.ids.mnt_id;
+    let mounted = is_mount_moved(from, to, node, target);
+    first_refusal(unwritable, apart, mounted, into_itself, target, flags)
 }

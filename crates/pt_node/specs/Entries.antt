@@ -58,7 +58,17 @@ abbrev pub rewritten : Time → List ℕ → Node → Node
 rewritten now bytes node = touched now (record node { content = with_bytes bytes node.content })
 
 -- an object made at this time, with this number and serial, on the mount of this directory
-abbrev pub new_object : Time → ℕ → ℕ → Node → ℕ → ℕ → ℕ → ℕ → Content → Node
+abbrev pub new_object :
+    (now : Time) →
+    (number : ℕ) →
+    (serial : ℕ) →
+    (dir : Node) →
+    (permissions : ℕ) →
+    (uid : ℕ) →
+    (gid : ℕ) →
+    (rdev : ℕ) →
+    (content : Content) →
+    Node
 new_object now number serial dir permissions uid gid rdev content = record {
   ids = record { ino = number; dev = dir.ids.dev; mnt_id = dir.ids.mnt_id };
   serial = serial;

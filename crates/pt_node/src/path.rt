@@ -6,6 +6,7 @@ ghost use Rattle.std.specs.Prelude.{
   Ok,
   IfSome,
   length,
+  option_map,
   slice_get,
   position,
   unwrap_or,
@@ -15,18 +16,22 @@ ghost use Rattle.std.specs.Option.{option_copied};
 ghost use Rattle.pt_node.specs.Node.{name_at, names_in};
 ghost use Rattle.pt_node.specs.Names.{found};
 ghost use Rattle.pt_node.specs.Paths.{
-  walk_from,
+  from_here,
+  from_root,
+  led_on,
+  names_at,
   object_below,
   object_named,
   parts,
   parts_after,
+  seen_led,
+  seen_walked,
   step_from,
   walk,
+  walk_from,
   walk_root,
-  names_at,
 };
 
-use crate::links::is_directory_at;
 use crate::names::Names;
 use crate::node::{Content, Node};
 use pt_host::Errno;
@@ -90,21 +95,41 @@ pub fn name_at(nodes: &[Node], dir: usize, name: &[u8]) -> Option<usize>
     }
 }
 
-/// On from the object at this place by one part of a path.
-pub fn step_from(nodes: &[Node], at: usize, part: &[u8]) -> Result<usize, Errno>
-    ensures { result ≡ step_from at part.now (slice_get nodes.now at) }
+/// What a name leads to, with the object itself.
+pub fn led_on(nodes: &[Node], object: Option<usize>) -> Option<(usize, &Node)>
+    ensures { option_map seen_led result ≡ led_on nodes.now object }
+{
+    let object = object?;
+    let node = nodes.get(object)?;
+    Some((object, node))
+}
+
+/// On from an object by one part of a path.
+pub fn step_from<'a>(
+    nodes: &'a [Node],
+    at: (usize, &'a Node),
+    part: &[u8],
+) -> Result<(usize, &'a Node), Errno>
+    ensures { seen_walked result ≡ step_from nodes.now (seen_led at.entry) part.now }
 {
     if part.is_empty() {
         return Ok(at);
     }
-    if !is_directory_at(nodes, at) {
+    if !at.1.is_directory() {
         return Err(Errno::ENOTDIR);
     }
-    name_at(nodes, at, part).ok_or(Errno::ENOENT)
+    match led_on(nodes, at.1.content.lookup(part)) {
+        None => Err(Errno::ENOENT),
+        Some(next) => Ok(next),
+    }
 }
 
-fn walk(nodes: &[Node], from: usize, path: &[u8]) -> Result<usize, Errno>
-    ensures { result ≡ walk nodes.now from (parts path.now) }
+fn walk<'a>(
+    nodes: &'a [Node],
+    from: (usize, &'a Node),
+    path: &[u8],
+) -> Result<(usize, &'a Node), Errno>
+    ensures { seen_walked result ≡ walk nodes.now (seen_led from.entry) (parts path.now) }
 {
     let mut at = from;
     let mut left = path;
@@ -118,35 +143,55 @@ fn walk(nodes: &[Node], from: usize, path: &[u8]) -> Result<usize, Errno>
     }
 }
 
-/// The object that a path leads to, which begins at the root with a slash.
-pub fn walk_root(nodes: &[Node], path: &[u8]) -> Result<usize, Errno>
-    ensures { result ≡ walk_root nodes.now path.now }
+/// Where a path begins that has to begin with a slash: at the root.
+pub fn from_root<'a>(nodes: &'a [Node], path: &[u8]) -> Option<(usize, &'a Node)>
+    ensures { option_map seen_led result ≡ from_root nodes.now path.now }
 {
-    match path.split_first() {
+    let (first, _) = path.split_first()?;
+    if *first == b'/' {
+        led_on(nodes, Some(0))
+    } else {
+        None
+    }
+}
+
+/// The object that a path leads to, which begins at the root with a slash.
+pub fn walk_root<'a>(nodes: &'a [Node], path: &[u8]) -> Result<(usize, &'a Node), Errno>
+    ensures { seen_walked result ≡ walk_root nodes.now path.now }
+{
+    match from_root(nodes, path) {
         None => Err(Errno::ENOENT),
-        Some((first, rest)) => {
-            if *first == b'/' {
-                walk(nodes, 0, rest)
-            } else {
-                Err(Errno::ENOENT)
-            }
-        }
+        Some(root) => walk(nodes, root, path),
+    }
+}
+
+/// Where any path begins: at the root with a slash, and else here.
+fn from_here<'a>(
+    nodes: &'a [Node],
+    here: (usize, &'a Node),
+    path: &[u8],
+) -> Option<(usize, &'a Node)>
+    ensures { option_map seen_led result ≡ from_here nodes.now (seen_led here.entry) path.now }
+{
+    let (first, _) = path.split_first()?;
+    if *first == b'/' {
+        led_on(nodes, Some(0))
+    } else {
+        Some(here)
     }
 }
 
 /// The object that a path leads to, from the root where it begins with a slash, and else from here.
-pub fn walk_from(nodes: &[Node], here: usize, path: &[u8]) -> Result<usize, Errno>
-    ensures { result ≡ walk_from nodes.now here path.now }
+pub fn walk_from<'a>(
+    nodes: &'a [Node],
+    here: (usize, &'a Node),
+    path: &[u8],
+) -> Result<(usize, &'a Node), Errno>
+    ensures { seen_walked result ≡ walk_from nodes.now (seen_led here.entry) path.now }
 {
-    match path.split_first() {
+    match from_here(nodes, here, path) {
         None => Err(Errno::ENOENT),
-        Some((first, rest)) => {
-            if *first == b'/' {
-                walk(nodes, 0, rest)
-            } else {
-                walk(nodes, here, path)
-            }
-        }
+        Some(at) => walk(nodes, at, path),
     }
 }
 

@@ -60,7 +60,15 @@ times_checks seat file node through atime mtime =
     ∷ (not (owns seat node), eperm)
     ∷ []
 
-abbrev pub times_row : State → HostSeat → Bool → TimeSet → TimeSet → OpenFile → Node → Row
+abbrev pub times_row :
+    (state : State) →
+    (seat : HostSeat) →
+    (through : Bool) →
+    (atime : TimeSet) →
+    (mtime : TimeSet) →
+    (file : OpenFile) →
+    (node : Node) →
+    Row
 times_row state seat through atime mtime file node =
     row (times_checks seat file node through atime mtime) value.Unit
     (Becomes (restamped (time_of state) (timed (time_of state) atime mtime node)))
@@ -84,7 +92,15 @@ set_xattr_checks file through name bytes flags there =
     ∷ ((flags == xattr_replace) && is_none there, enodata)
     ∷ []
 
-abbrev pub set_xattr_row : State → Bool → List ℕ → List ℕ → ℕ → OpenFile → Node → Row
+abbrev pub set_xattr_row :
+    (state : State) →
+    (through : Bool) →
+    (name : List ℕ) →
+    (bytes : List ℕ) →
+    (flags : ℕ) →
+    (file : OpenFile) →
+    (node : Node) →
+    Row
 set_xattr_row state through name bytes flags file node =
     row (set_xattr_checks file through name bytes flags (value_of name node.xattrs)) value.Unit
     (Becomes (restamped (time_of state) (valued name bytes node)))

@@ -29,7 +29,15 @@ abbrev pub next_number : List Node → ℕ → ℕ
 next_number nodes dev = 1 + count_by (λ node. node.ids.dev == dev) nodes
 
 -- a new object in this directory
-abbrev pub started : List Node → Node → ℕ → ℕ → ℕ → ℕ → Content → Node
+abbrev pub started :
+    (nodes : List Node) →
+    (dir : Node) →
+    (permissions : ℕ) →
+    (uid : ℕ) →
+    (gid : ℕ) →
+    (rdev : ℕ) →
+    (content : Content) →
+    Node
 started nodes dir permissions uid gid rdev content =
     new_object never (next_number nodes dir.ids.dev) (length nodes + 1) dir permissions uid gid rdev content
 
@@ -38,7 +46,15 @@ abbrev pub put_object : State → Option (ℕ × List ℕ) → (Node → Node) �
 put_object state place object = option_and_then
     (λ (at : ℕ × List ℕ). option_map (λ dir. with_made state at.0 at.1 (object dir)) (slice_get state.nodes at.0)) place
 
-abbrev pub add_object : State → List ℕ → ℕ → ℕ → ℕ → ℕ → Content → Option State
+abbrev pub add_object :
+    (state : State) →
+    (path : List ℕ) →
+    (permissions : ℕ) →
+    (uid : ℕ) →
+    (gid : ℕ) →
+    (rdev : ℕ) →
+    (content : Content) →
+    Option State
 add_object state path permissions uid gid rdev content =
     put_object state (place_of state.nodes path) (λ dir. started state.nodes dir permissions uid gid rdev content)
 
@@ -56,7 +72,15 @@ abbrev pub add_symlink : State → List ℕ → ℕ → ℕ → List ℕ → Opt
 add_symlink state path uid gid target =
     if nat_le (length target) target_max then add_object state path 511 uid gid 0 (content.Link target) else None
 
-abbrev pub add_special : State → List ℕ → ℕ → ℕ → ℕ → ℕ → Option SpecialKind → Option State
+abbrev pub add_special :
+    (state : State) →
+    (path : List ℕ) →
+    (mode : ℕ) →
+    (uid : ℕ) →
+    (gid : ℕ) →
+    (rdev : ℕ) →
+    (special : Option SpecialKind) →
+    Option State
 add_special state path mode uid gid rdev None = None
 add_special state path mode uid gid rdev (Some kind) =
     add_object state path (mode % 4096) uid gid rdev (content.Special kind)

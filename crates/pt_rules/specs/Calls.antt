@@ -2,7 +2,7 @@
 use Rattle.std.specs.Prelude.{ℕ, nat_lt, not, ◌&&◌, Bool, List, [], ◌∷◌, length, Option, Some, None, Result, Ok, Err}
 use Rattle.std.specs.Prelude.{option_map, slice_get, slice_set}
 use Rattle.pt_host.specs.Flags.{includes, o_creat, o_excl}
-use Rattle.pt_host.specs.Errno.{ebadf, eacces, eexist, enotdir, enametoolong, estale}
+use Rattle.pt_host.specs.Errno.{ebadf, eacces, eexist, enoent, enotdir, enametoolong}
 use Rattle.pt_host.specs.declared.ids.Errno.{Errno}
 use Rattle.pt_host.specs.declared.ids.Fd.{Fd}
 use Rattle.pt_host.specs.declared.flags.OpenFlags.{OpenFlags}
@@ -12,7 +12,9 @@ use Rattle.pt_host.specs.declared.reply.HostReply.TheVariants as reply
 use Rattle.pt_host.specs.declared.reply.HostValue.{HostValue}
 use Rattle.pt_host.specs.declared.reply.HostValue.TheVariants as value
 use Rattle.pt_node.specs.Links.{links_of}
-use Rattle.pt_node.specs.Node.{is_directory, status_of}
+use Rattle.pt_node.specs.Names.{found}
+use Rattle.pt_node.specs.Node.{is_directory, names_in, status_of}
+use Rattle.pt_node.specs.Paths.{led_on}
 use Rattle.pt_node.specs.Permission.{may}
 use Rattle.pt_node.specs.Slots.{least_free, open_at, put_at, closed}
 use Rattle.pt_rules.specs.State.{State, time_of}
@@ -54,6 +56,18 @@ on_open state (Some at) rest = rest at.0 at.1
 abbrev pub on_fd : State → Fd → (OpenFile → Node → Answered) → Answered
 on_fd state fd rest = on_open state (open_on state.nodes (open_at state.slots fd.0)) rest
 
+-- what the name leads to from this directory
+abbrev pub there_in : Node → List ℕ → Option ℕ
+there_in dir name = found name (names_in dir.content)
+
+abbrev pub on_led : State → Option (ℕ × Node) → (ℕ → Node → Answered) → Answered
+on_led state None rest = refused state enoent
+on_led state (Some at) rest = rest at.0 at.1
+
+-- the call on what the name leads to in this directory
+abbrev pub on_found : State → Option ℕ → (ℕ → Node → Answered) → Answered
+on_found state there rest = on_led state (led_on state.nodes there) rest
+
 -- refused by the first of these tests that holds, else as said
 abbrev pub checked : State → List (Bool × Errno) → Answered → Answered
 checked state checks otherwise = unless state (first_refusal checks) otherwise
@@ -76,17 +90,13 @@ abbrev pub with_opened : State → HostSeat → OpenFlags → ℕ → Node → S
 with_opened state seat flags object node =
     with_descriptor (with_node state object (after_opening seat (time_of state) flags.0 node)) flags object
 
--- the opening of an object that was found and is there still
-abbrev pub opening_of : State → HostSeat → OpenFlags → ℕ → Option Node → Answered
-opening_of state seat flags object None = refused state estale
-opening_of state seat flags object (Some node) = unless state (opening_refusal seat node flags.0)
+-- the opening of an object that was found
+abbrev pub opening : State → HostSeat → OpenFlags → ℕ → Node → Answered
+opening state seat flags object node = unless state (opening_refusal seat node flags.0)
     (tells (with_opened state seat flags object node) (value.Fd (record { 0 = least_free state.slots })))
 
-abbrev pub opening : State → HostSeat → OpenFlags → ℕ → Answered
-opening state seat flags object = opening_of state seat flags object (slice_get state.nodes object)
-
-abbrev pub open_walked : State → HostSeat → OpenFlags → Result ℕ Errno → Answered
-open_walked state seat flags (Ok object) = opening state seat flags object
+abbrev pub open_walked : State → HostSeat → OpenFlags → Result (ℕ × Node) Errno → Answered
+open_walked state seat flags (Ok at) = opening state seat flags at.0 at.1
 open_walked state seat flags (Err errno) = refused state errno
 
 -- what every call on a name in a directory is refused for
@@ -107,16 +117,16 @@ on_name state seat fd name rest =
 
 -- ---- Reopen, Close, Stat
 
+-- `O_CREAT` with `O_EXCL` asks for a new object
+abbrev pub reopen : State → HostSeat → Fd → OpenFlags → Answered
+reopen state seat fd flags = on_fd state fd
+    (λ file node. checked state ((includes flags.0 o_creat && includes flags.0 o_excl, eexist)
+    ∷ []) (opening state seat flags file.object node))
+
 -- the call on what stands in the table of descriptors, if anything
 abbrev pub on_slot : State → Option OpenFile → (OpenFile → Answered) → Answered
 on_slot state None rest = refused state ebadf
 on_slot state (Some file) rest = rest file
-
--- `O_CREAT` with `O_EXCL` asks for a new object
-abbrev pub reopen : State → HostSeat → Fd → OpenFlags → Answered
-reopen state seat fd flags = on_slot state (open_at state.slots fd.0)
-    (λ file. checked state ((includes flags.0 o_creat && includes flags.0 o_excl, eexist)
-    ∷ []) (opening state seat flags file.object))
 
 abbrev pub close_file : State → Fd → Answered
 close_file state fd =

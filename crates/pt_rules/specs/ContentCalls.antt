@@ -63,7 +63,15 @@ becomes_written state seat start [] node = Stays
 becomes_written state seat start (byte ∷ bytes) node =
     Becomes (after_writing seat (time_of state) start (byte ∷ bytes) node)
 
-abbrev pub write_row : State → HostSeat → ℕ → List ℕ → Bool → OpenFile → Node → Row
+abbrev pub write_row :
+    (state : State) →
+    (seat : HostSeat) →
+    (offset : ℕ) →
+    (bytes : List ℕ) →
+    (append : Bool) →
+    (file : OpenFile) →
+    (node : Node) →
+    Row
 write_row state seat offset bytes append file node =
     row (write_checks file (write_start offset append node) (length bytes)) (value.Count (length bytes))
     (becomes_written state seat (write_start offset append node) bytes node)
@@ -162,7 +170,15 @@ copied offset size node = part_of offset size (bytes_in node.content)
 abbrev pub overlap : ℕ → ℕ → ℕ → Bool
 overlap offset offset2 size = nat_lt offset (offset2 + size) && nat_lt offset2 (offset + size)
 
-abbrev pub copy_checks : OpenFile → Node → OpenFile → ℕ → ℕ → ℕ → ℕ → List (Bool × Errno)
+abbrev pub copy_checks :
+    (file : OpenFile) →
+    (node : Node) →
+    (file2 : OpenFile) →
+    (offset : ℕ) →
+    (offset2 : ℕ) →
+    (size : ℕ) →
+    (flags : ℕ) →
+    List (Bool × Errno)
 copy_checks file node file2 offset offset2 size flags =
     (nat_lt 0 flags, einval)
     ∷ (is_unreadable file || is_unwritable file2, ebadf)
@@ -172,11 +188,28 @@ copy_checks file node file2 offset offset2 size flags =
     ∷ []
 
 -- the source is read, and the target written where there is something to write
-abbrev pub with_copied : State → HostSeat → ℕ → Node → ℕ → ℕ → List ℕ → State
+abbrev pub with_copied :
+    (state : State) →
+    (seat : HostSeat) →
+    (object : ℕ) →
+    (node : Node) →
+    (object2 : ℕ) →
+    (offset2 : ℕ) →
+    (bytes : List ℕ) →
+    State
 with_copied state seat object node object2 offset2 bytes =
     with_written (with_node state object (after_reading (time_of state) node)) seat object2 offset2 bytes
 
-abbrev pub copy_range : State → HostSeat → Fd → ℕ → Fd → ℕ → ℕ → ℕ → Answered
+abbrev pub copy_range :
+    (state : State) →
+    (seat : HostSeat) →
+    (fd : Fd) →
+    (offset : ℕ) →
+    (fd2 : Fd) →
+    (offset2 : ℕ) →
+    (size : ℕ) →
+    (flags : ℕ) →
+    Answered
 copy_range state seat fd offset fd2 offset2 size flags = on_fd state fd (λ file node. on_fd state fd2
     (λ file2 node2. checked state (copy_checks file node file2 offset offset2 (length (copied offset size node)) flags)
     (tells (with_copied state seat file.object node file2.object offset2 (copied offset size node))

@@ -52,7 +52,15 @@ abbrev pub without_memory : State → HostSeat → Outcome
 without_memory before seat = (reply.NoMemory, before, seat)
 
 -- by the table, or without memory
-abbrev pub ComesTo : State → HostSeat → Call → Outcome → HostReply → State → HostSeat → Type 0
+abbrev pub ComesTo :
+    (before : State) →
+    (seat : HostSeat) →
+    (asked : Call) →
+    (told : Outcome) →
+    (given : HostReply) →
+    (after : State) →
+    (seat_after : HostSeat) →
+    Type 0
 ComesTo before seat asked told given after seat_after =
     ((given, after, seat_after) ≡ told)
     ⊎ (TakesMemory asked × ((given, after, seat_after) ≡ without_memory before seat))

@@ -2,34 +2,37 @@
 -- call is, without a seat and without permission checks: unlink(2) and rmdir(2), rename(2), open(2) with O_CREAT and
 -- O_EXCL, mkdir(2), write(2).
 use Rattle.std.specs.Prelude.{ℕ, ◌+◌, ◌%◌, ◌==◌, nat_lt, not, ◌||◌, ◌&&◌, Bool, false, List, [], ◌∷◌, ◌++◌, length}
-use Rattle.std.specs.Prelude.{Option, Some, None, is_some, option_and_then, Result, Ok, Err, slice_get, if◌then◌else◌}
+use Rattle.std.specs.Prelude.{Option, Some, None, is_some, Result, Ok, Err, if◌then◌else◌}
 use Rattle.std.specs.Option.{option_map_or}
-use Rattle.pt_host.specs.Errno.{ebusy, eexist, efbig, einval, eisdir, eloop, enoent, enotdir, enotempty, enxio}
-use Rattle.pt_host.specs.Errno.{exdev}
+use Rattle.pt_host.specs.Errno.{ebusy, eexist, efbig, einval, eisdir, eloop, enotdir, enotempty, enxio, exdev}
 use Rattle.pt_host.specs.declared.edit.Edit.{Edit}
 use Rattle.pt_host.specs.declared.edit.Edit.TheVariants as edit
 use Rattle.pt_host.specs.declared.ids.Errno.{Errno}
 use Rattle.pt_host.specs.declared.ids.Time.{Time}
-use Rattle.pt_node.specs.Node.{is_directory, is_link, is_special, name_at, names_in, size_of}
+use Rattle.pt_node.specs.Node.{is_directory, is_link, is_special, names_in, size_of}
 use Rattle.pt_rules.specs.State.{State, time_of}
-use Rattle.pt_node.specs.Opening.{first_refusal}
-use Rattle.pt_rules.specs.Calls.{Answered, done, refused, unless}
+use Rattle.pt_node.specs.Paths.{led_on}
+use Rattle.pt_rules.specs.Calls.{Answered, checked, done, on_found, refused, there_in}
 use Rattle.pt_node.specs.Entries.{changed_at, new_object, restamped, rewritten}
 use Rattle.pt_node.specs.Entries.{touched, with_entry, without_entry}
-use Rattle.pt_rules.specs.EditPaths.{judged, path_goes_through}
+use Rattle.pt_rules.specs.EditPaths.{Place, judged, named_at, path_goes_through}
 use Rattle.pt_node.specs.declared.node.Node.{Node}
 use Rattle.pt_node.specs.declared.node.Content.{Content}
 use Rattle.pt_node.specs.declared.node.Content.TheVariants.{Directory, Regular}
 use Rattle.pt_node.specs.Limits.{file_max}
 
 -- an edit of what its path leads to, with the error that it is refused with where that is the root itself
-abbrev pub at_name : State → Errno → ℕ → List ℕ → (ℕ → List ℕ → Answered) → Answered
-at_name state root dir [] edited = refused state root
-at_name state root dir (first ∷ name) edited = edited dir (first ∷ name)
+abbrev pub at_name : State → Errno → Place → (Place → Answered) → Answered
+at_name state root (dir, []) edited = refused state root
+at_name state root (dir, first ∷ name) edited = edited (dir, first ∷ name)
 
-abbrev pub at_place : State → Errno → Result (ℕ × List ℕ) Errno → (ℕ → List ℕ → Answered) → Answered
+abbrev pub at_place : State → Errno → Result Place Errno → (Place → Answered) → Answered
 at_place state root (Err errno) edited = refused state errno
-at_place state root (Ok place) edited = at_name state root place.0 place.1 edited
+at_place state root (Ok place) edited = at_name state root place edited
+
+-- the edit of what the name of this place leads to
+abbrev pub on_placed : State → Place → (ℕ → Node → Answered) → Answered
+on_placed state place rest = on_found state (there_in place.0.1 place.1) rest
 
 -- ---- Unlink
 
@@ -43,10 +46,6 @@ is_mounted dir node = not (node.ids.mnt_id == dir.ids.mnt_id)
 abbrev pub unlink_checks : Node → Node → List (Bool × Errno)
 unlink_checks dir node = (is_mounted dir node, ebusy) ∷ (holds_any node, enotempty) ∷ []
 
-abbrev pub unlink_refusal : Option Node → Option Node → Option Errno
-unlink_refusal (Some dir) (Some node) = first_refusal (unlink_checks dir node)
-unlink_refusal _ _ = Some enoent
-
 -- the objects after this one lost this name
 abbrev pub unlinked : Time → ℕ → List ℕ → ℕ → List Node → List Node
 unlinked now dir name object nodes =
@@ -56,33 +55,23 @@ unlinked now dir name object nodes =
 abbrev pub with_unlinked : State → ℕ → List ℕ → ℕ → State
 with_unlinked state dir name object = record state { nodes = unlinked (time_of state) dir name object state.nodes }
 
-abbrev pub unlink_found : State → ℕ → List ℕ → Option ℕ → Answered
-unlink_found state dir name None = refused state enoent
-unlink_found state dir name (Some object) =
-    unless state (unlink_refusal (slice_get state.nodes dir) (slice_get state.nodes object))
-    (done (with_unlinked state dir name object))
-
-abbrev pub unlink_at : State → ℕ → List ℕ → Answered
-unlink_at state dir name = unlink_found state dir name (name_at state.nodes dir name)
+abbrev pub unlink_at : State → Place → Answered
+unlink_at state place = on_placed state place (λ object node. checked state (unlink_checks place.0.1 node)
+    (done (with_unlinked state place.0.0 place.1 object)))
 
 -- ---- Rename
 
--- the object at a place that may be none
-abbrev pub node_at : List Node → Option ℕ → Option Node
-node_at nodes object = option_and_then (slice_get nodes) object
+-- what has the new name, if anything, is the root of another mount
+abbrev pub is_mounted_where : Node → Option (ℕ × Node) → Bool
+is_mounted_where dir target = option_map_or (λ (at : ℕ × Node). is_mounted dir at.1) target false
 
 -- another mount; a mount's root on either side; a directory into itself
-abbrev pub move_checks : Bool → Node → Node → Node → Option Node → List (Bool × Errno)
+abbrev pub move_checks : Bool → Node → Node → Node → Option (ℕ × Node) → List (Bool × Errno)
 move_checks into_itself from to node target =
     (not (from.ids.mnt_id == to.ids.mnt_id), exdev)
-    ∷ (is_mounted from node || option_map_or (is_mounted to) target false, ebusy)
+    ∷ (is_mounted from node || is_mounted_where to target, ebusy)
     ∷ (into_itself, einval)
     ∷ []
-
-abbrev pub move_refusal : Bool → Option Node → Option Node → Option Node → Option Node → Option Errno
-move_refusal into_itself (Some from) (Some to) (Some node) target =
-    first_refusal (move_checks into_itself from to node target)
-move_refusal into_itself _ _ _ target = Some enoent
 
 abbrev pub replace_checks : Node → Node → List (Bool × Errno)
 replace_checks node target =
@@ -90,10 +79,6 @@ replace_checks node target =
     ∷ (not (is_directory node) && is_directory target, eisdir)
     ∷ (holds_any target, enotempty)
     ∷ []
-
-abbrev pub replace_refusal : Option Node → Option Node → Option Errno
-replace_refusal (Some node) (Some target) = first_refusal (replace_checks node target)
-replace_refusal _ _ = Some enoent
 
 -- the object that had the new name lost it
 abbrev pub replaced : Time → Option ℕ → List Node → List Node
@@ -114,36 +99,47 @@ with_moved state from to object target =
     record state { nodes = moved (time_of state) from to object target state.nodes }
 
 -- one object under both names stays as it is
-abbrev pub rename_onto : State → ℕ × List ℕ → ℕ × List ℕ → ℕ → Option ℕ → Answered
-rename_onto state from to object None = done (with_moved state from to object None)
-rename_onto state from to object (Some target) =
-    if target == object then done state
-    else unless state (replace_refusal (slice_get state.nodes object) (slice_get state.nodes target))
-    (done (with_moved state from to object (Some target)))
+abbrev pub rename_onto :
+    (state : State) →
+    (from : ℕ × List ℕ) →
+    (to : ℕ × List ℕ) →
+    (object : ℕ) →
+    (node : Node) →
+    (target : Option (ℕ × Node)) →
+    Answered
+rename_onto state from to object node None = done (with_moved state from to object None)
+rename_onto state from to object node (Some target) =
+    if target.0 == object then done state
+    else checked state (replace_checks node target.1) (done (with_moved state from to object (Some target.0)))
 
-abbrev pub rename_object : State → List ℕ → ℕ × List ℕ → ℕ × List ℕ → ℕ → Option ℕ → Answered
-rename_object state new from to object target =
-    unless state (move_refusal (path_goes_through object state.nodes new) (slice_get state.nodes from.0)
-    (slice_get state.nodes to.0)
-    (slice_get state.nodes object) (node_at state.nodes target)) (rename_onto state from to object target)
+abbrev pub rename_object :
+    (state : State) →
+    (new : List ℕ) →
+    (from : Place) →
+    (to : Place) →
+    (object : ℕ) →
+    (node : Node) →
+    (target : Option (ℕ × Node)) →
+    Answered
+rename_object state new from to object node target =
+    checked state (move_checks (path_goes_through object state.nodes new) from.0.1 to.0.1 node target)
+    (rename_onto state (named_at from) (named_at to) object node target)
 
-abbrev pub rename_found : State → List ℕ → ℕ × List ℕ → ℕ × List ℕ → Option ℕ → Answered
-rename_found state new from to None = refused state enoent
-rename_found state new from to (Some object) = rename_object state new from to object (name_at state.nodes to.0 to.1)
+abbrev pub rename_placed : State → List ℕ → Place → Place → Answered
+rename_placed state new from to = on_placed state from (λ object node.
+    rename_object state new from to object node (led_on state.nodes (there_in to.0.1 to.1)))
 
 -- both paths are judged whole before it is asked what they are
-abbrev pub rename_judged : State → List ℕ → Result (ℕ × List ℕ) Errno → Result (ℕ × List ℕ) Errno → Answered
+abbrev pub rename_judged : State → List ℕ → Result Place Errno → Result Place Errno → Answered
 rename_judged state new (Err errno) to = refused state errno
 rename_judged state new (Ok from) (Err errno) = refused state errno
 rename_judged state new (Ok from) (Ok to) =
-    if (length from.1 == 0)
-    || (length to.1 == 0) then refused state ebusy else rename_found state new from to
-    (name_at state.nodes from.0 from.1)
+    if (length from.1 == 0) || (length to.1 == 0) then refused state ebusy else rename_placed state new from to
 
 -- ---- File and Dir
 
-abbrev pub make_refusal : Option ℕ → ℕ → Option Errno
-make_refusal there size = first_refusal ((is_some there, eexist) ∷ (nat_lt file_max size, efbig) ∷ [])
+abbrev pub new_checks : Option ℕ → ℕ → List (Bool × Errno)
+new_checks there size = (is_some there, eexist) ∷ (nat_lt file_max size, efbig) ∷ []
 
 -- the objects with this new one, to which the name in the directory leads
 abbrev pub grown : Time → ℕ → List ℕ → Node → List Node → List Node
@@ -178,10 +174,9 @@ abbrev pub make_in :
     (gid : ℕ) →
     (rdev : ℕ) →
     (content : Content) →
-    (parent : Option Node) →
+    (parent : Node) →
     Answered
-make_in state numbers dir name permissions uid gid rdev content None = refused state enoent
-make_in state numbers dir name permissions uid gid rdev content (Some parent) =
+make_in state numbers dir name permissions uid gid rdev content parent =
     done (with_made state dir name (made state numbers permissions uid gid rdev content parent))
 
 -- the mode is cut to permissions
@@ -192,12 +187,11 @@ abbrev pub make_at :
     (uid : ℕ) →
     (gid : ℕ) →
     (content : Content) →
-    (dir : ℕ) →
-    (name : List ℕ) →
+    (place : Place) →
     Answered
-make_at state numbers mode uid gid content dir name =
-    unless state (make_refusal (name_at state.nodes dir name) (size_of content))
-    (make_in state numbers dir name (mode % 4096) uid gid 0 content (slice_get state.nodes dir))
+make_at state numbers mode uid gid content place =
+    checked state (new_checks (there_in place.0.1 place.1) (size_of content))
+    (make_in state numbers place.0.0 place.1 (mode % 4096) uid gid 0 content place.0.1)
 
 -- ---- Write
 
@@ -209,19 +203,14 @@ write_checks node size =
     ∷ (nat_lt file_max size, efbig)
     ∷ []
 
-abbrev pub write_refusal : Option Node → ℕ → Option Errno
-write_refusal None size = Some enoent
-write_refusal (Some node) size = first_refusal (write_checks node size)
-
 -- the permissions of the file stay
 abbrev pub with_rewritten : State → ℕ → List ℕ → State
 with_rewritten state object bytes =
     record state { nodes = changed_at object (rewritten (time_of state) bytes) state.nodes }
 
-abbrev pub write_found : State → List ℕ → Option ℕ → Answered
-write_found state bytes None = refused state enoent
-write_found state bytes (Some object) = unless state (write_refusal (slice_get state.nodes object) (length bytes))
-    (done (with_rewritten state object bytes))
+abbrev pub write_at : State → List ℕ → Place → Answered
+write_at state bytes place = on_placed state place (λ object node. checked state (write_checks node (length bytes))
+    (done (with_rewritten state object bytes)))
 
 -- ---- the table; `numbers` has for each device the number that a new object gets
 
@@ -233,4 +222,4 @@ edited state numbers (edit.File path mode uid gid bytes) =
 edited state numbers (edit.Dir path mode uid gid) =
     at_place state eexist (judged state.nodes path) (make_at state numbers mode uid gid (Directory []))
 edited state numbers (edit.Write path bytes) =
-    at_place state eisdir (judged state.nodes path) (λ dir name. write_found state bytes (name_at state.nodes dir name))
+    at_place state eisdir (judged state.nodes path) (write_at state bytes)

@@ -14,14 +14,15 @@ use Rattle.pt_host.specs.declared.ids.Fd.{Fd}
 use Rattle.pt_host.specs.declared.ids.Time.{Time}
 use Rattle.pt_host.specs.declared.seat.HostSeat.{HostSeat}
 use Rattle.pt_node.specs.Links.{links_of}
-use Rattle.pt_node.specs.Names.{found}
-use Rattle.pt_node.specs.Node.{is_directory, name_at, names_in}
+use Rattle.pt_node.specs.Node.{is_directory, names_in}
+use Rattle.pt_node.specs.Paths.{led_on}
 use Rattle.pt_node.specs.Permission.{may, mknod}
 use Rattle.pt_rules.specs.State.{State, time_of}
-use Rattle.pt_node.specs.Opening.{first_refusal}
-use Rattle.pt_rules.specs.Calls.{Answered, checked, done, on_fd, on_name, refused, unless}
+use Rattle.pt_rules.specs.Calls.{Answered, checked, done, on_fd, on_found, on_name, refused, there_in}
+use Rattle.pt_rules.specs.EditPaths.{Place, named_at}
 use Rattle.pt_node.specs.Entries.{changed_at, restamped, touched, with_entry}
-use Rattle.pt_rules.specs.Edits.{holds_any, is_mounted, make_in, node_at, rename_onto, with_unlinked}
+use Rattle.pt_rules.specs.Edits.{holds_any, is_mounted, is_mounted_where, make_in, on_placed, rename_onto}
+use Rattle.pt_rules.specs.Edits.{with_unlinked}
 use Rattle.pt_node.specs.declared.node.Node.{Node}
 use Rattle.pt_node.specs.declared.node.Content.{Content}
 use Rattle.pt_node.specs.declared.node.Content.TheVariants.{Directory, Regular, Link, Special}
@@ -32,10 +33,6 @@ use Rattle.pt_node.specs.Limits.{target_max}
 
 abbrev pub cannot_write : HostSeat → Node → Bool
 cannot_write seat dir = not (may seat dir Write)
-
--- what the name leads to from this directory
-abbrev pub there_in : Node → List ℕ → Option ℕ
-there_in dir name = found name (names_in dir.content)
 
 -- ---- MakeDir, MakeNode, SymLink
 
@@ -60,7 +57,7 @@ abbrev pub make_in_dir :
     (parent : Node) →
     Answered
 make_in_dir state numbers seat dir name permissions rdev content parent =
-    make_in state numbers dir name permissions seat.eff_uid seat.eff_gid rdev content (Some parent)
+    make_in state numbers dir name permissions seat.eff_uid seat.eff_gid rdev content parent
 
 abbrev pub make_dir : State → (ℕ → ℕ) → HostSeat → Fd → List ℕ → ℕ → Answered
 make_dir state numbers seat fd name mode = on_name state seat fd name
@@ -112,7 +109,15 @@ make_of_kind state numbers seat dir name permissions rdev None parent = refused 
 make_of_kind state numbers seat dir name permissions rdev (Some content) parent =
     make_in_dir state numbers seat dir name permissions rdev content parent
 
-abbrev pub make_node : State → (ℕ → ℕ) → HostSeat → Fd → List ℕ → ℕ → ℕ → Answered
+abbrev pub make_node :
+    (state : State) →
+    (numbers : ℕ → ℕ) →
+    (seat : HostSeat) →
+    (fd : Fd) →
+    (name : List ℕ) →
+    (mode : ℕ) →
+    (rdev : ℕ) →
+    Answered
 make_node state numbers seat fd name mode rdev = on_name state seat fd name
     (λ dir parent. checked state (node_checks seat parent name (kind_bits mode))
     (make_of_kind state numbers seat dir name (masked seat mode) rdev (content_of_kind (kind_bits mode)) parent))
@@ -161,19 +166,6 @@ make_link state seat from fd name = on_fd state from (λ file node. on_name stat
 
 -- ---- Unlink, RemoveDir
 
--- what a name leads to, with the object itself
-abbrev pub led_on : List Node → Option ℕ → Option (ℕ × Node)
-led_on nodes None = None
-led_on nodes (Some object) = option_map (λ node. (object, node)) (slice_get nodes object)
-
-abbrev pub on_led : State → Option (ℕ × Node) → (ℕ → Node → Answered) → Answered
-on_led state None rest = refused state enoent
-on_led state (Some at) rest = rest at.0 at.1
-
--- the call on what the name leads to in this directory
-abbrev pub on_found : State → Option ℕ → (ℕ → Node → Answered) → Answered
-on_found state there rest = on_led state (led_on state.nodes there) rest
-
 abbrev pub take_checks : HostSeat → Node → Node → List (Bool × Errno)
 take_checks seat dir node = (cannot_write seat dir, eacces) ∷ (is_directory node, eisdir) ∷ []
 
@@ -217,12 +209,27 @@ abbrev pub exchange : ℕ
 exchange = 2
 
 -- a directory into itself, or by an exchange the other one into itself
-abbrev pub moves_into_itself : List Node → ℕ → ℕ → ℕ → Option ℕ → ℕ → Bool
+abbrev pub moves_into_itself :
+    (nodes : List Node) →
+    (from : ℕ) →
+    (to : ℕ) →
+    (object : ℕ) →
+    (target : Option (ℕ × Node)) →
+    (flags : ℕ) →
+    Bool
 moves_into_itself nodes from to object target flags =
-    lies_in nodes object to || ((flags == exchange) && option_map_or (λ other. lies_in nodes other from) target false)
+    lies_in nodes object to
+    || ((flags == exchange) && option_map_or (λ (other : ℕ × Node). lies_in nodes other.0 from) target false)
 
 -- up to where it is seen that both names lead to one object
-abbrev pub rename_tests : Bool → Bool → Bool → Bool → Option ℕ → ℕ → List (Bool × Errno)
+abbrev pub rename_tests :
+    (unwritable : Bool) →
+    (apart : Bool) →
+    (mounted : Bool) →
+    (into_itself : Bool) →
+    (target : Option (ℕ × Node)) →
+    (flags : ℕ) →
+    List (Bool × Errno)
 rename_tests unwritable apart mounted into_itself target flags =
     (unwritable, eacces)
     ∷ (apart, exdev)
@@ -237,33 +244,21 @@ abbrev pub is_unwritable : HostSeat → Node → Node → Bool
 is_unwritable seat from to = cannot_write seat from || cannot_write seat to
 
 -- an object of the two that is the root of another mount
-abbrev pub is_mount_moved : Node → Node → Node → Option Node → Bool
-is_mount_moved from to node that = is_mounted from node || option_map_or (is_mounted to) that false
+abbrev pub is_mount_moved : Node → Node → Node → Option (ℕ × Node) → Bool
+is_mount_moved from to node target = is_mounted from node || is_mounted_where to target
 
-abbrev pub rename_checks : Bool → HostSeat → Node → Node → Node → Option ℕ → Option Node → ℕ → List (Bool × Errno)
-rename_checks into_itself seat from to node target that flags =
-    rename_tests (is_unwritable seat from to) (not (from.ids.mnt_id == to.ids.mnt_id))
-    (is_mount_moved from to node that) into_itself target flags
-
-abbrev pub rename_refusal_of :
+abbrev pub rename_checks :
     (into_itself : Bool) →
     (seat : HostSeat) →
-    (from : Option Node) →
-    (to : Option Node) →
-    (node : Option Node) →
-    (target : Option ℕ) →
-    (that : Option Node) →
+    (from : Node) →
+    (to : Node) →
+    (node : Node) →
+    (target : Option (ℕ × Node)) →
     (flags : ℕ) →
-    Option Errno
-rename_refusal_of into_itself seat (Some from) (Some to) (Some node) target that flags =
-    first_refusal (rename_checks into_itself seat from to node target that flags)
-rename_refusal_of into_itself seat _ _ _ target that flags = Some enoent
-
-abbrev pub rename_refusal : State → HostSeat → ℕ → ℕ → ℕ → Option ℕ → ℕ → Option Errno
-rename_refusal state seat from to object target flags =
-    rename_refusal_of (moves_into_itself state.nodes from to object target flags) seat (slice_get state.nodes from)
-    (slice_get state.nodes to)
-    (slice_get state.nodes object) target (node_at state.nodes target) flags
+    List (Bool × Errno)
+rename_checks into_itself seat from to node target flags =
+    rename_tests (is_unwritable seat from to) (not (from.ids.mnt_id == to.ids.mnt_id))
+    (is_mount_moved from to node target) into_itself target flags
 
 -- the objects after each of the two got the other's name
 abbrev pub exchanged : Time → ℕ × List ℕ → ℕ × List ℕ → ℕ → ℕ → List Node → List Node
@@ -280,26 +275,52 @@ with_exchanged state from to object other =
 
 -- Two objects change places by an exchange. All else is as of an edit: one object under both names stays as it is,
 -- and another one that had the new name may have to make way.
-abbrev pub rename_to : State → ℕ × List ℕ → ℕ × List ℕ → ℕ → Option ℕ → ℕ → Answered
-rename_to state from to object None flags = rename_onto state from to object None
-rename_to state from to object (Some other) flags =
-    if not (other == object)
-    && (flags == exchange) then done (with_exchanged state from to object other) else rename_onto state from to object
-    (Some other)
+abbrev pub rename_to :
+    (state : State) →
+    (from : ℕ × List ℕ) →
+    (to : ℕ × List ℕ) →
+    (object : ℕ) →
+    (node : Node) →
+    (target : Option (ℕ × Node)) →
+    (flags : ℕ) →
+    Answered
+rename_to state from to object node None flags = rename_onto state from to object node None
+rename_to state from to object node (Some other) flags =
+    if not (other.0 == object) && (flags == exchange) then done (with_exchanged state from to object other.0)
+    else rename_onto state from to object node (Some other)
 
-abbrev pub rename_found : State → HostSeat → ℕ × List ℕ → ℕ × List ℕ → ℕ → Option ℕ → Option ℕ → Answered
-rename_found state seat from to flags None target = refused state enoent
-rename_found state seat from to flags (Some object) target =
-    unless state (rename_refusal state seat from.0 to.0 object target flags)
-    (rename_to state from to object target flags)
+abbrev pub rename_found :
+    (state : State) →
+    (seat : HostSeat) →
+    (from : Place) →
+    (to : Place) →
+    (flags : ℕ) →
+    (object : ℕ) →
+    (node : Node) →
+    (target : Option (ℕ × Node)) →
+    Answered
+rename_found state seat from to flags object node target =
+    checked state
+    (rename_checks (moves_into_itself state.nodes from.0.0 to.0.0 object target flags) seat from.0.1 to.0.1 node
+    target flags)
+    (rename_to state (named_at from) (named_at to) object node target flags)
 
-abbrev pub rename_between : State → HostSeat → ℕ × List ℕ → ℕ × List ℕ → ℕ → Answered
+abbrev pub rename_between : State → HostSeat → Place → Place → ℕ → Answered
 rename_between state seat from to flags =
     if nat_lt exchange flags then refused state einval
-    else rename_found state seat from to flags (name_at state.nodes from.0 from.1) (name_at state.nodes to.0 to.1)
+    else on_placed state from (λ object node.
+    rename_found state seat from to flags object node (led_on state.nodes (there_in to.0.1 to.1)))
 
 -- both descriptors have to be open first; then the first name is judged, then the second
-abbrev pub rename : State → HostSeat → Fd → List ℕ → Fd → List ℕ → ℕ → Answered
+abbrev pub rename :
+    (state : State) →
+    (seat : HostSeat) →
+    (fd : Fd) →
+    (name : List ℕ) →
+    (fd2 : Fd) →
+    (name2 : List ℕ) →
+    (flags : ℕ) →
+    Answered
 rename state seat fd name fd2 name2 flags = on_fd state fd2 (λ other another. on_name state seat fd name
     (λ dir parent. on_name state seat fd2 name2 (λ dir2 parent2.
-    rename_between state seat (dir, name) (dir2, name2) flags)))
+    rename_between state seat ((dir, parent), name) ((dir2, parent2), name2) flags)))

@@ -8,7 +8,7 @@ use Rattle.std.specs.Ordering.{int_eq, is_lt, nat_cmp}
 use Rattle.std.specs.declared.alloc.Global.{Global}
 use Rattle.std.specs.Str.{bytes_eq}
 use Rattle.std.specs.Cmp.Lexicographic.{slice_cmp}
-use Rattle.pt_host.specs.Errno.{eacces, ebadf, eexist, einval, enoent, eopnotsupp, eperm, estale}
+use Rattle.pt_host.specs.Errno.{eacces, ebadf, eexist, einval, eopnotsupp, eperm, estale}
 use Rattle.pt_host.specs.Flags.{includes, o_creat, o_directory, o_excl, o_path}
 use Rattle.pt_host.specs.declared.flags.OpenFlags.{OpenFlags}
 use Rattle.pt_host.specs.declared.handle.CFileHandle.{CFileHandle}
@@ -25,14 +25,14 @@ use Rattle.pt_node.specs.Permission.{dac_read_search}
 use Rattle.pt_node.specs.Slots.{least_free}
 use Rattle.pt_rules.specs.State.{State, time_of}
 use Rattle.pt_node.specs.Reading.{after_reading}
-use Rattle.pt_rules.specs.Calls.{Answered, checked, on_fd, on_name, opening, open_walked, refused, tells}
+use Rattle.pt_rules.specs.Calls.{Answered, checked, on_fd, on_found, on_name, opening, open_walked, tells, there_in}
 use Rattle.pt_rules.specs.Calls.{with_descriptor}
 use Rattle.pt_rules.specs.Edits.{made, with_made}
-use Rattle.pt_rules.specs.NameCalls.{cannot_write, masked, names_where, there_in}
+use Rattle.pt_rules.specs.NameCalls.{cannot_write, masked, names_where}
 use Rattle.pt_node.specs.declared.node.Node.{Node}
 use Rattle.pt_node.specs.declared.node.Content.TheVariants.{Regular}
 use Rattle.pt_node.specs.declared.slots.OpenFile.{OpenFile}
-use Rattle.pt_node.specs.Paths.{walk_from}
+use Rattle.pt_node.specs.Paths.{led_on, walk_from}
 use Rattle.pt_node.specs.Limits.{name_max}
 use Rattle.pt_rules.specs.Rows.{Row, row, Becomes, Stays}
 
@@ -40,7 +40,7 @@ use Rattle.pt_rules.specs.Rows.{Row, row, Becomes, Stays}
 
 abbrev pub open_path : State → HostSeat → Fd → List ℕ → OpenFlags → Answered
 open_path state seat fd path flags =
-    on_fd state fd (λ file node. open_walked state seat flags (walk_from state.nodes file.object path))
+    on_fd state fd (λ file node. open_walked state seat flags (walk_from state.nodes (file.object, node) path))
 
 -- ---- OpenAt with O_CREAT
 
@@ -68,10 +68,9 @@ abbrev pub open_new :
     (permissions : ℕ) →
     (dir : ℕ) →
     (name : List ℕ) →
-    (parent : Option Node) →
+    (parent : Node) →
     Answered
-open_new state numbers seat flags permissions dir name None = refused state enoent
-open_new state numbers seat flags permissions dir name (Some parent) =
+open_new state numbers seat flags permissions dir name parent =
     open_made state flags dir name (made state numbers permissions seat.eff_uid seat.eff_gid 0 (Regular []) parent)
 
 -- what is there is opened by the rule
@@ -84,24 +83,40 @@ abbrev pub create_or_open :
     (dir : ℕ) →
     (parent : Node) →
     (name : List ℕ) →
-    (there : Option ℕ) →
+    (there : Option (ℕ × Node)) →
     Answered
-create_or_open state numbers seat flags mode dir parent name (Some object) = opening state seat flags object
+create_or_open state numbers seat flags mode dir parent name (Some at) = opening state seat flags at.0 at.1
 create_or_open state numbers seat flags mode dir parent name None =
     checked state (created_checks seat parent flags.0)
-    (open_new state numbers seat flags (masked seat mode) dir name (Some parent))
+    (open_new state numbers seat flags (masked seat mode) dir name parent)
 
-abbrev pub open_creating : State → (ℕ → ℕ) → HostSeat → Fd → List ℕ → OpenFlags → ℕ → Answered
-open_creating state numbers seat fd name flags mode = on_name state seat fd name
-    (λ dir parent. checked state (creating_checks flags.0 (there_in parent name))
-    (create_or_open state numbers seat flags mode dir parent name (there_in parent name)))
+abbrev pub open_creating :
+    (state : State) →
+    (numbers : ℕ → ℕ) →
+    (seat : HostSeat) →
+    (fd : Fd) →
+    (name : List ℕ) →
+    (flags : OpenFlags) →
+    (mode : ℕ) →
+    Answered
+open_creating state numbers seat fd name flags mode = on_name state seat fd name (λ dir parent.
+    checked state (creating_checks flags.0 (there_in parent name))
+    (create_or_open state numbers seat flags mode dir parent name (led_on state.nodes (there_in parent name))))
 
 -- what the name leads to is opened
 abbrev pub open_named : State → HostSeat → Fd → List ℕ → OpenFlags → Answered
-open_named state seat fd name flags =
-    on_name state seat fd name (λ dir parent. open_walked state seat flags (ok_or (there_in parent name) enoent))
+open_named state seat fd name flags = on_name state seat fd name (λ dir parent.
+    on_found state (there_in parent name) (opening state seat flags))
 
-abbrev pub open_at_name : State → (ℕ → ℕ) → HostSeat → Fd → List ℕ → OpenFlags → ℕ → Answered
+abbrev pub open_at_name :
+    (state : State) →
+    (numbers : ℕ → ℕ) →
+    (seat : HostSeat) →
+    (fd : Fd) →
+    (name : List ℕ) →
+    (flags : OpenFlags) →
+    (mode : ℕ) →
+    Answered
 open_at_name state numbers seat fd name flags mode =
     if includes flags.0 o_creat then open_creating state numbers seat fd name flags mode
     else open_named state seat fd name flags
@@ -117,9 +132,8 @@ is_handled state mount handle entry =
     (entry.1.ids.mnt_id == mount) && entry.1.has_handle && same_handle (handle_of entry.1) handle
     && is_alive state entry.0
 
-abbrev pub handled : State → ℕ → CFileHandle → Option ℕ
-handled state mount handle =
-    option_map (λ (entry : ℕ × Node). entry.0) (find (is_handled state mount handle) (enumerate_from 0 state.nodes))
+abbrev pub handled : State → ℕ → CFileHandle → Option (ℕ × Node)
+handled state mount handle = find (is_handled state mount handle) (enumerate_from 0 state.nodes)
 
 -- the same of what stands at a place, if anything
 abbrev pub handled_where : State → ℕ → CFileHandle → ℕ → Option Node → Bool

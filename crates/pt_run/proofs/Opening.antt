@@ -1,14 +1,16 @@
 -- The host's tree as the jobs of a script find it, and why there is none.
 use Rattle.std.proofs.Common.{◌≡◌, ◌⊎◌, inl, inr, ◌∙◌, ℕ, List, Option, Some, None, Result, Err, refl, ap, sym, subst}
-use Rattle.std.proofs.Common.{slice_get}
+use Rattle.std.proofs.Common.{◌∷◌, [], ok_or, option_map, slice_get}
 use Rattle.pt_host.specs.Tree.{IsWellFormed}
+use Rattle.pt_host.specs.Errno.{enoent}
 use Rattle.pt_host.specs.declared.ids.Errno.{Errno}
 use Rattle.pt_host.specs.declared.ids.Fd.{Fd}
 use Rattle.pt_host.specs.declared.seat.HostSeat.{HostSeat}
 use Rattle.pt_host.specs.declared.reply.HostReply.{HostReply}
 use Rattle.pt_host.specs.declared.reply.HostReply.TheVariants as reply
 use Rattle.pt_host.specs.declared.reply.HostValue.TheVariants as value
-use Rattle.pt_rules.specs.Calls.{opening_of}
+use Rattle.pt_node.specs.Paths.{parts, then_on, walk}
+use Rattle.pt_rules.specs.Calls.{open_walked}
 use Rattle.pt_rules.specs.Does.{Answers, AnswersCall}
 use Rattle.pt_rules.specs.Faults.{failure_of}
 use Rattle.pt_node.specs.Slots.{least_free}
@@ -39,12 +41,17 @@ opened_well settings before fs after opened =
     let lawful = does_lawful before seat opens_root call.0 after seat call.1 (tree_of before) refl in
     subst IsWellFormed (sym (some_same (tree_of after) lawful.0 lawful.1)) lawful.2.trees.formed_after
 
+abbrev as_root : Option Node → Option (ℕ × Node)
+as_root found = option_map (λ node. (0, node)) found
+
 -- the host's root is found and opened, where there is one
 root_opens : (start : State) (numbers : ℕ → ℕ) (seat : HostSeat) (node : Node) → slice_get start.nodes 0 ≡ Some node →
     (fd : Fd) × ((answer start numbers seat opens_root).0 ≡ reply.Ok (value.Fd fd))
 root_opens start numbers seat node is = (
   record { 0 = least_free start.slots },
-  ap (λ (found : Option Node). (opening_of start seat only_path 0 found).0) is,
+  ap (λ (found : Option Node).
+      (open_walked start seat only_path (then_on (ok_or (as_root found) enoent) (λ root.
+      walk start.nodes root (parts (47 ∷ []))))).0) is,
 )
 
 -- an answer that opened the root, or found no memory, is no refusal

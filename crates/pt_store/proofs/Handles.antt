@@ -24,6 +24,10 @@ serials_same ino serial other_ino other small small_too same =
     sym (from_le_bytes-to_le_bytes_8 serial small) ∙ ap (λ (bytes : List ℕ). from_le_bytes w64 (drop 8 bytes)) same
     ∙ from_le_bytes-to_le_bytes_8 other small_too
 
+-- the number of what has the handle
+abbrev pub handled_number : State → ℕ → CFileHandle → Option ℕ
+handled_number state mount handle = option_map (λ (at : ℕ × Node). at.0) (handled state mount handle)
+
 module _ (state : State) (mount : ℕ) (handle : CFileHandle) (sound : IsSound state) where
   -- an object that has the handle tells by it where it stands
   pub handle_tells : (place : ℕ) (node : Node) → slice_get state.nodes place ≡ Some node →
@@ -43,7 +47,7 @@ module _ (state : State) (mount : ℕ) (handle : CFileHandle) (sound : IsSound s
       omega (arith, within, few)
 
   pub handled_at : (place : ℕ) (node : Node) → slice_get state.nodes place ≡ Some node →
-      is_handled state mount handle (place, node) ≡ true → handled state mount handle ≡ Some place
+      is_handled state mount handle (place, node) ≡ true → handled_number state mount handle ≡ Some place
   handled_at place node there is =
       let z : 0 + place ≡ place = omega arith in
       ap (option_map (λ (entry : ℕ × Node). entry.0))
@@ -70,7 +74,7 @@ module _ (state : State) (mount : ℕ) (handle : CFileHandle) (sound : IsSound s
           ≡ false) (sym z) (apart j other less at (is_handled state mount handle (j, other)) refl)
 
   pub handled_none : ((place : ℕ) (node : Node) → slice_get state.nodes place ≡ Some node →
-      is_handled state mount handle (place, node) ≡ false) → handled state mount handle ≡ None
+      is_handled state mount handle (place, node) ≡ false) → handled_number state mount handle ≡ None
   handled_none none =
       ap (option_map (λ (entry : ℕ × Node). entry.0))
       (find_none (is_handled state mount handle) 0 state.nodes
@@ -96,10 +100,10 @@ module _ (state : State) (mount : ℕ) (handle : CFileHandle) (sound : IsSound s
           let f = otherwise (tells node.ids.ino (place + 1) (small_place place node there) e) in
           sym is ∙ f
 
-  pub handled_none_told : Tells None → handled state mount handle ≡ None
+  pub handled_none_told : Tells None → handled_number state mount handle ≡ None
   handled_none_told tells = handled_none (λ place node there. not_handled None tells place node there (λ e. cc))
 
-  pub handled_zero : Tells (Some 0) → handled state mount handle ≡ None
+  pub handled_zero : Tells (Some 0) → handled_number state mount handle ≡ None
   handled_zero tells =
       handled_none (λ place node there.
       not_handled (Some 0) tells place node there (λ e. absurd (let f : 0 ≡ place + 1 = cc in omega (arith, f))))
@@ -107,16 +111,17 @@ module _ (state : State) (mount : ℕ) (handle : CFileHandle) (sound : IsSound s
   -- the one place to which it leads
   pub handled_there : (serial place : ℕ) → Tells (Some serial) → place + 1 ≡ serial →
       handled_where state mount handle place (slice_get state.nodes place) ≡ true →
-      handled state mount handle ≡ Some place
+      handled_number state mount handle ≡ Some place
   handled_there serial place tells next is = by_node (slice_get state.nodes place) refl is
     where
       by_node : (at : Option Node) → slice_get state.nodes place ≡ at →
-          handled_where state mount handle place at ≡ true → handled state mount handle ≡ Some place
+          handled_where state mount handle place at ≡ true → handled_number state mount handle ≡ Some place
       by_node None there has = cc
       by_node (Some node) there has = handled_at place node there has
 
   pub handled_nowhere : (serial place : ℕ) → Tells (Some serial) → place + 1 ≡ serial →
-      handled_where state mount handle place (slice_get state.nodes place) ≡ false → handled state mount handle ≡ None
+      handled_where state mount handle place (slice_get state.nodes place) ≡ false →
+      handled_number state mount handle ≡ None
   handled_nowhere serial place tells next is =
       handled_none (λ other node there. not_handled (Some serial) tells other node there
       (λ e. (let f : serial ≡ other + 1 = cc in let same : other ≡ place = omega (arith, f, next) in

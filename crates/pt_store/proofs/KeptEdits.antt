@@ -18,7 +18,8 @@ use Rattle.pt_node.specs.Reading.{after_reading}
 use Rattle.pt_node.specs.Slots.{closed, open_at}
 use Rattle.pt_rules.specs.Sound.{IsSound}
 use Rattle.pt_rules.specs.State.{State, time_of}
-use Rattle.pt_store.specs.StoreState.{device_at, device_in, device_where, number_at, number_in, number_where}
+use Rattle.pt_store.specs.StoreState.{device_at, device_in, device_where, node_where, number_at, number_in}
+use Rattle.pt_store.specs.StoreState.{number_where}
 use Rattle.pt_node.specs.declared.node.Node.{Node}
 use Rattle.pt_node.specs.declared.slots.OpenFile.{OpenFile}
 use Rattle.pt_node.specs.declared.slots.Slot.{Slot}
@@ -30,7 +31,6 @@ use Rattle.pt_rules.specs.Laws.Keeping.{keeps_opening, keeps_reading}
 use Rattle.pt_rules.specs.Laws.Soundness.{alike_set, sound-closed, sound-with_descriptor, sound-with_node}
 use Rattle.pt_rules.specs.Laws.Soundness.{sound-with_opened}
 use Rattle.pt_rules.specs.Laws.Alive.{lives_held}
-use Rattle.pt_rules.specs.Edits.{node_at}
 use Rattle.pt_rules.specs.Laws.Changed.{AreAlike}
 use Rattle.pt_rules.specs.Living.{held_by}
 use Rattle.pt_store.specs.Kept.{AreCounts, directories_of}
@@ -189,7 +189,7 @@ replaced_names now (Some target) nodes = names-same target (restamped now) nodes
 -- the directories of the two, after an object went from the one to the other in the place of the target
 abbrev pub with_moved_in : List Node → ℕ → ℕ → ℕ → Option ℕ → List ℕ → List ℕ
 with_moved_in nodes from to object target counts =
-    lowered to (weight (is_directory_where (node_at nodes target)))
+    lowered to (weight (is_directory_where (node_where nodes target)))
     (lowered from (counted nodes object) (raised to (counted nodes object) counts))
 
 module _ (state : State) (holds : Counts) (tables : ℕ → List Slot) (from to : ℕ × List ℕ) (object : ℕ)
@@ -229,12 +229,12 @@ module _ (state : State) (holds : Counts) (tables : ℕ → List Slot) (from to 
 
   target_weighs : (o : ℕ) →
       weighed_where (by_place o (counted state.nodes) to.0) target
-      ≡ at o to.0 (weight (is_directory_where (node_at state.nodes target)))
+      ≡ at o to.0 (weight (is_directory_where (node_where state.nodes target)))
   target_weighs o = by_target target
     where
       by_target : (other : Option ℕ) →
           weighed_where (by_place o (counted state.nodes) to.0) other
-          ≡ at o to.0 (weight (is_directory_where (node_at state.nodes other)))
+          ≡ at o to.0 (weight (is_directory_where (node_where state.nodes other)))
       by_target None = sym (at_none o to.0)
       by_target (Some other) = refl
 
@@ -242,7 +242,7 @@ module _ (state : State) (holds : Counts) (tables : ℕ → List Slot) (from to 
       (with_moved_in state.nodes from.0 to.0 object target holds.directories)
   nested_gone =
       let much = counted state.nodes object in
-      let less = weight (is_directory_where (node_at state.nodes target)) in
+      let less = weight (is_directory_where (node_where state.nodes target)) in
       let long = length state.nodes in
       let f = directories_of state.nodes in
       let one = counts_more f long holds.directories to.0 much kept.nested in

@@ -17,6 +17,7 @@ pub mod LivingCount
 pub mod NewPlaces
 pub mod StartKept
 pub mod OldPaths
+pub mod Renamed
 pub mod StartMounts
 pub mod StartRoot
 pub mod Weighing

@@ -1,5 +1,5 @@
 -- Inner. What a store is seen as.
-use Rattle.std.specs.Prelude.{◌≡◌, ℕ, true, List, length, Option, Some, None, slice_get}
+use Rattle.std.specs.Prelude.{◌≡◌, ℕ, true, List, length, Option, Some, None, option_and_then, slice_get}
 use Rattle.pt_node.specs.Mounts.{has_device}
 use Rattle.pt_node.specs.Slots.{least_free}
 use Rattle.pt_rules.specs.Building.{next_number}
@@ -65,6 +65,10 @@ device_at nodes object = device_in (slice_get nodes object)
 abbrev pub device_where : List Node → Option ℕ → ℕ
 device_where nodes None = 0
 device_where nodes (Some object) = device_at nodes object
+
+-- the object of a number that may be none
+abbrev pub node_where : List Node → Option ℕ → Option Node
+node_where nodes object = option_and_then (slice_get nodes) object
 
 -- what the next new object of a device gets
 abbrev pub next_numbers : List NumberTable → ℕ → ℕ

@@ -1,8 +1,17 @@
-ghost use Rattle.std.specs.Prelude.{◌≡◌, ◌≢◌, ◌<◌, Some, None, Ok, OnErr, OnOk, [], slice_get, true};
+ghost use Rattle.std.specs.Prelude.{◌≡◌, ◌≢◌, ◌<◌, Some, None, Ok, OnErr, OnOk, [], is_some, slice_get, true};
 ghost use Rattle.pt_host.specs.Errno.{ebusy, eexist, eisdir};
-ghost use Rattle.pt_store.specs.StoreState.{IsKeptBy, device_where, number_where, numbers_of, state_of};
+ghost use Rattle.pt_store.specs.StoreState.{
+  IsKeptBy,
+  device_where,
+  node_where,
+  number_where,
+  numbers_of,
+  state_of,
+};
 ghost use Rattle.pt_node.specs.Node.{name_at, names_in};
 ghost use Rattle.pt_node.specs.NewPlace.{seen_place};
+ghost use Rattle.pt_node.specs.Paths.{led_on};
+ghost use Rattle.pt_node.specs.declared.node.Node.{Node};
 ghost use Rattle.pt_rules.specs.Does.{AnswersAs};
 ghost use Rattle.pt_node.specs.Entries.{is_directory_at, is_directory_where};
 ghost use Rattle.pt_rules.specs.EditPaths.{judged};
@@ -11,16 +20,17 @@ ghost use Rattle.pt_rules.specs.Edits.{
   edited,
   make_at,
   make_in,
-  node_at,
   rename_judged,
-  rename_object,
   rename_onto,
+  rename_placed,
   unlink_at,
   with_moved,
+  with_rewritten,
   with_unlinked,
-  write_found,
+  write_at,
 };
 
+use crate::finding::node_at;
 use crate::store::{Store, device_at, number_at};
 use pt_change::edit_paths::{judged, path_goes_through};
 use pt_change::node_edits::{
@@ -31,7 +41,7 @@ use pt_node::entries::new_object;
 use pt_node::links::is_directory_at;
 use pt_node::names::Names;
 use pt_node::node::{Content, FILE_MAX, Node};
-use pt_node::path::name_at;
+use pt_node::path::led_on;
 use std::alloc::AllocError;
 
 /// The device of an object that may be none.
@@ -56,7 +66,7 @@ fn number_where(nodes: &[Node], object: Option<usize>) -> u64
 
 /// Whether an object that may be none is a directory.
 fn is_directory_where(nodes: &[Node], object: Option<usize>) -> bool
-    ensures { result ≡ is_directory_where (node_at nodes.now object) }
+    ensures { result ≡ is_directory_where (node_where nodes.now object) }
 {
     match object {
         None => false,
@@ -82,15 +92,19 @@ impl Store {
         self.inodes.release(object, dev, number);
     }
 
+    /// Unlinks by a place whose path was judged.
     fn unlink_at(&mut self, dir: usize, name: &[u8]) -> HostReply
-        requires { IsKeptBy self.old }
-        ensures answers { (result, state_of self.new) ≡ unlink_at (state_of self.old) dir name.now }
+        requires kept { IsKeptBy self.old }
+        requires there { is_some (slice_get self.old.nodes.items dir) ≡ true }
+        ensures answers { (parent : Node) → slice_get self.old.nodes.items dir ≡ Some parent →
+            (result, state_of self.new) ≡ unlink_at (state_of self.old) ((dir, parent), name.now) }
         ensures kept { IsKeptBy self.new }
     {
-        let Some(object) = name_at(&self.nodes, dir, name) else {
+        let parent = node_at(&self.nodes, dir);
+        let Some((object, node)) = led_on(&self.nodes, parent.content.lookup(name)) else {
             return HostReply::Refused(Errno::ENOENT);
         };
-        if let Some(errno) = unlink_refusal(&self.nodes, dir, object) {
+        if let Some(errno) = unlink_refusal(parent, node) {
             return HostReply::Refused(errno);
         }
         self.take_name(dir, name, object);
@@ -106,7 +120,7 @@ impl Store {
     {
         match judged(&self.nodes, path) {
             Err(errno) => HostReply::Refused(errno),
-            Ok((dir, name)) => {
+            Ok(((dir, _), name)) => {
                 if name.is_empty() {
                     return HostReply::Refused(Errno::EBUSY);
                 }
@@ -161,16 +175,18 @@ impl Store {
         requires leads { name_at self.old.nodes.items from.0 from.1.now ≡ Some object }
         requires into { is_directory_at self.old.nodes.items to.0 ≡ true }
         requires target { name_at self.old.nodes.items to.0 to.1.now ≡ target }
-        ensures answers { AnswersAs
-            (rename_onto (state_of self.old) (seen_place from.entry) (seen_place to.entry) object target)
-            (state_of self.old) result (state_of self.new) }
+        ensures answers { (node : Node) → slice_get self.old.nodes.items object ≡ Some node →
+            AnswersAs
+            (rename_onto (state_of self.old) (seen_place from.entry) (seen_place to.entry) object node
+            (led_on self.old.nodes.items target)) (state_of self.old) result (state_of self.new) }
         ensures kept { IsKeptBy self.new }
     {
         if let Some(other) = target {
             if other == object {
                 return HostReply::Ok(HostValue::Unit);
             }
-            if let Some(errno) = replace_refusal(&self.nodes, object, other) {
+            let node = node_at(&self.nodes, object);
+            if let Some(errno) = replace_refusal(node, node_at(&self.nodes, other)) {
                 return HostReply::Refused(errno);
             }
         }
@@ -180,44 +196,31 @@ impl Store {
         }
     }
 
-    fn rename_object(
-        &mut self,
-        new: &[u8],
-        from: (usize, &[u8]),
-        to: (usize, &[u8]),
-        object: usize,
-    ) -> HostReply
+    /// Renames by two places whose paths were judged.
+    fn rename_placed(&mut self, new: &[u8], from: (usize, &[u8]), to: (usize, &[u8])) -> HostReply
         requires kept { IsKeptBy self.old }
-        requires leads { name_at self.old.nodes.items from.0 from.1.now ≡ Some object }
+        requires out { is_some (slice_get self.old.nodes.items from.0) ≡ true }
         requires into { is_directory_at self.old.nodes.items to.0 ≡ true }
-        ensures answers { AnswersAs
-            (rename_object (state_of self.old) new.now (seen_place from.entry) (seen_place to.entry) object
-            (name_at self.old.nodes.items to.entry.0 to.entry.1.now)) (state_of self.old) result (state_of self.new) }
+        ensures answers { (dir : Node) (dir2 : Node) →
+            slice_get self.old.nodes.items from.entry.0 ≡ Some dir →
+            slice_get self.old.nodes.items to.entry.0 ≡ Some dir2 →
+            AnswersAs
+            (rename_placed (state_of self.old) new.now ((from.entry.0, dir), from.entry.1.now)
+            ((to.entry.0, dir2), to.entry.1.now)) (state_of self.old) result (state_of self.new) }
         ensures kept { IsKeptBy self.new }
     {
-        let target = name_at(&self.nodes, to.0, to.1);
+        let dir = node_at(&self.nodes, from.0);
+        let into = node_at(&self.nodes, to.0);
+        let Some((object, node)) = led_on(&self.nodes, dir.content.lookup(from.1)) else {
+            return HostReply::Refused(Errno::ENOENT);
+        };
+        let there = into.content.lookup(to.1);
+        let target = led_on(&self.nodes, there);
         let into_itself = path_goes_through(&self.nodes, new, object);
-        match move_refusal(&self.nodes, into_itself, from.0, to.0, object, target) {
-            Some(errno) => HostReply::Refused(errno),
-            None => self.rename_onto(from, to, object, target),
+        if let Some(errno) = move_refusal(into_itself, dir, into, node, target) {
+            return HostReply::Refused(errno);
         }
-    }
-
-    fn rename_found(&mut self, new: &[u8], from: (usize, &[u8]), to: (usize, &[u8])) -> HostReply
-        requires kept { IsKeptBy self.old }
-        requires into { is_directory_at self.old.nodes.items to.0 ≡ true }
-        ensures answers { AnswersAs
-            (rename_judged (state_of self.old) new.now (Ok (seen_place from.entry)) (Ok (seen_place to.entry)))
-            (state_of self.old) result (state_of self.new) }
-        ensures kept { IsKeptBy self.new }
-    {
-        if from.1.is_empty() || to.1.is_empty() {
-            return HostReply::Refused(Errno::EBUSY);
-        }
-        match name_at(&self.nodes, from.0, from.1) {
-            None => HostReply::Refused(Errno::ENOENT),
-            Some(object) => self.rename_object(new, from, to, object),
-        }
+        self.rename_onto(from, to, object, there)
     }
 
     fn rename(&mut self, old: &[u8], new: &[u8]) -> HostReply
@@ -229,9 +232,14 @@ impl Store {
     {
         match judged(&self.nodes, old) {
             Err(errno) => HostReply::Refused(errno),
-            Ok(from) => match judged(&self.nodes, new) {
+            Ok(((dir, _), name)) => match judged(&self.nodes, new) {
                 Err(errno) => HostReply::Refused(errno),
-                Ok(to) => self.rename_found(new, from, to),
+                Ok(((into, _), name2)) => {
+                    if name.is_empty() || name2.is_empty() {
+                        return HostReply::Refused(Errno::EBUSY);
+                    }
+                    self.rename_placed(new, (dir, name), (into, name2))
+                }
             },
         }
     }
@@ -252,16 +260,15 @@ impl Store {
         requires free { name_at self.old.nodes.items dir name.now ≡ None }
         requires empty { names_in content ≡ [] }
         requires small { permissions < 4096 }
-        ensures answers { AnswersAs
-            (make_in (state_of self.old) (numbers_of self.old) dir name.now permissions uid gid rdev content
-            (slice_get self.old.nodes.items dir)) (state_of self.old) result (state_of self.new) }
+        ensures answers { (parent : Node) → slice_get self.old.nodes.items dir ≡ Some parent →
+            AnswersAs
+            (make_in (state_of self.old) (numbers_of self.old) dir name.now permissions uid gid rdev content parent)
+            (state_of self.old) result (state_of self.new) }
         ensures kept { IsKeptBy self.new }
     {
         let now = self.now();
         let object = self.nodes.len();
-        let Some(parent) = self.nodes.get(dir) else {
-            return HostReply::Refused(Errno::ENOENT);
-        };
+        let parent = node_at(&self.nodes, dir);
         let Ok(name) = name.to_vec(self.alloc) else {
             return HostReply::NoMemory;
         };
@@ -297,32 +304,6 @@ impl Store {
         }
     }
 
-    fn make_at(
-        &mut self,
-        dir: usize,
-        name: &[u8],
-        mode: u32,
-        uid: u32,
-        gid: u32,
-        content: Content,
-    ) -> HostReply
-        requires kept { IsKeptBy self.old }
-        requires into { is_directory_at self.old.nodes.items dir ≡ true }
-        requires empty { names_in content ≡ [] }
-        ensures answers { AnswersAs
-            (make_at (state_of self.old) (numbers_of self.old) mode uid gid content dir name.now)
-            (state_of self.old) result (state_of self.new) }
-        ensures kept { IsKeptBy self.new }
-    {
-        if name_at(&self.nodes, dir, name).is_some() {
-            return HostReply::Refused(Errno::EEXIST);
-        }
-        if content.size() > FILE_MAX as u64 {
-            return HostReply::Refused(Errno::EFBIG);
-        }
-        self.make_in(dir, name, mode % 4096, uid, gid, 0, content)
-    }
-
     fn make(&mut self, path: &[u8], mode: u32, uid: u32, gid: u32, content: Content) -> HostReply
         requires kept { IsKeptBy self.old }
         requires empty { names_in content ≡ [] }
@@ -334,34 +315,48 @@ impl Store {
     {
         match judged(&self.nodes, path) {
             Err(errno) => HostReply::Refused(errno),
-            Ok((dir, name)) => {
-                if name.is_empty() {
+            Ok(((dir, parent), name)) => {
+                if name.is_empty() || parent.content.lookup(name).is_some() {
                     return HostReply::Refused(Errno::EEXIST);
                 }
-                self.make_at(dir, name, mode, uid, gid, content)
+                if content.size() > FILE_MAX as u64 {
+                    return HostReply::Refused(Errno::EFBIG);
+                }
+                self.make_in(dir, name, mode % 4096, uid, gid, 0, content)
             }
         }
     }
 
-    fn write_at(&mut self, dir: usize, name: &[u8], bytes: &[u8]) -> HostReply
+    fn rewrite(&mut self, object: usize, bytes: &[u8]) -> Result<(), AllocError>
         requires { IsKeptBy self.old }
-        ensures answers { AnswersAs
-            (write_found (state_of self.old) bytes.now (name_at self.old.nodes.items dir name.now))
+        ensures ok { OnOk result (state_of self.new ≡ with_rewritten (state_of self.old) object bytes.now) }
+        ensures err { OnErr result (state_of self.new ≡ state_of self.old) }
+        ensures kept { IsKeptBy self.new }
+    {
+        let now = self.now();
+        let bytes = Bytes::from_slice(self.alloc, bytes)?;
+        rewrite(&mut self.nodes, object, bytes, now);
+        Ok(())
+    }
+
+    /// Writes by a place whose path was judged.
+    fn write_at(&mut self, dir: usize, name: &[u8], bytes: &[u8]) -> HostReply
+        requires kept { IsKeptBy self.old }
+        requires there { is_some (slice_get self.old.nodes.items dir) ≡ true }
+        ensures answers { (parent : Node) → slice_get self.old.nodes.items dir ≡ Some parent →
+            AnswersAs (write_at (state_of self.old) bytes.now ((dir, parent), name.now))
             (state_of self.old) result (state_of self.new) }
         ensures kept { IsKeptBy self.new }
     {
-        let Some(object) = name_at(&self.nodes, dir, name) else {
+        let parent = node_at(&self.nodes, dir);
+        let Some((object, node)) = led_on(&self.nodes, parent.content.lookup(name)) else {
             return HostReply::Refused(Errno::ENOENT);
         };
-        if let Some(errno) = write_refusal(&self.nodes, object, bytes.len()) {
+        if let Some(errno) = write_refusal(node, bytes.len()) {
             return HostReply::Refused(errno);
         }
-        let now = self.now();
-        match Bytes::from_slice(self.alloc, bytes) {
-            Ok(bytes) => {
-                rewrite(&mut self.nodes, object, bytes, now);
-                HostReply::Ok(HostValue::Unit)
-            }
+        match self.rewrite(object, bytes) {
+            Ok(()) => HostReply::Ok(HostValue::Unit),
             Err(_) => HostReply::NoMemory,
         }
     }
@@ -369,14 +364,13 @@ impl Store {
     fn write(&mut self, path: &[u8], bytes: &[u8]) -> HostReply
         requires { IsKeptBy self.old }
         ensures answers { AnswersAs
-            (at_place (state_of self.old) eisdir (judged self.old.nodes.items path.now) (λ dir name.
-            write_found (state_of self.old) bytes.now (name_at self.old.nodes.items dir name)))
-            (state_of self.old) result (state_of self.new) }
+            (at_place (state_of self.old) eisdir (judged self.old.nodes.items path.now)
+            (write_at (state_of self.old) bytes.now)) (state_of self.old) result (state_of self.new) }
         ensures kept { IsKeptBy self.new }
     {
         match judged(&self.nodes, path) {
             Err(errno) => HostReply::Refused(errno),
-            Ok((dir, name)) => {
+            Ok(((dir, _), name)) => {
                 if name.is_empty() {
                     return HostReply::Refused(Errno::EISDIR);
                 }

@@ -1,8 +1,7 @@
-ghost use Rattle.std.specs.Prelude.{◌≡◌, ◌<◌, IfSome, length, option_map};
+ghost use Rattle.std.specs.Prelude.{◌≡◌, ◌<◌, IfSome, Some, is_some, length, option_map, slice_get, true};
 ghost use Rattle.pt_node.specs.Slots.{open_at};
 ghost use Rattle.pt_rules.specs.Calls.{open_on};
-ghost use Rattle.pt_rules.specs.Finding.{seen_led, seen_open};
-ghost use Rattle.pt_rules.specs.NameCalls.{led_on};
+ghost use Rattle.pt_rules.specs.Finding.{seen_open};
 
 use pt_host::Fd;
 use pt_node::node::Node;
@@ -18,11 +17,10 @@ pub fn open_on<'a>(files: &Descriptors, nodes: &'a [Node], fd: Fd) -> Option<(Op
     Some((file, node))
 }
 
-/// What a name leads to, with the object itself.
-pub fn led_on(nodes: &[Node], object: Option<usize>) -> Option<(usize, &Node)>
-    ensures { option_map seen_led result ≡ led_on nodes.now object }
+/// The object of this number, which is there.
+pub fn node_at(nodes: &[Node], object: usize) -> &Node
+    requires { is_some (slice_get nodes.now object) ≡ true }
+    ensures { slice_get nodes.now object ≡ Some result.now }
 {
-    let object = object?;
-    let node = nodes.get(object)?;
-    Some((object, node))
+    &nodes[object]
 }

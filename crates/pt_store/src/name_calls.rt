@@ -14,7 +14,7 @@ ghost use Rattle.pt_rules.specs.NameCalls.{
   with_linked,
 };
 
-use crate::finding::{led_on, open_on};
+use crate::finding::open_on;
 use crate::store::Store;
 use pt_change::name_checks::{
     content_of_kind, kind_bits, link_refusal, make_refusal, masked, name_refusal, node_refusal,
@@ -25,6 +25,7 @@ use pt_host::{Bytes, Errno, Fd, HostReply, HostSeat, HostValue};
 use pt_node::links::{is_directory_at, links_of};
 use pt_node::names::Names;
 use pt_node::node::Content;
+use pt_node::path::led_on;
 use std::alloc::AllocError;
 
 impl Store {

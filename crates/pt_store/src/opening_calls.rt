@@ -1,4 +1,5 @@
-ghost use Rattle.std.specs.Prelude.{◌≡◌, ◌<◌, Some, None, Ok, slice_get, true};
+ghost use Rattle.std.specs.Prelude.{◌≡◌, ◌<◌, ℕ, Some, None, option_map, slice_get, true};
+ghost use Rattle.pt_node.specs.declared.node.Node.{Node};
 ghost use Rattle.pt_store.specs.StoreState.{IsKeptBy, numbers_of, state_of};
 ghost use Rattle.pt_rules.specs.Does.{AnswersAs};
 ghost use Rattle.pt_rules.specs.Rows.{on_row};
@@ -19,16 +20,15 @@ ghost use Rattle.pt_rules.specs.OpeningCalls.{
   tell_mounts,
 };
 
-use crate::finding::open_on;
+use crate::finding::{node_at, open_on};
 use crate::store::{Store, begun_on};
 use pt_change::name_checks::{masked, name_refusal};
 use pt_change::node_edits::add_node;
 use pt_change::opening_checks::{
-    created_refusal, creating_refusal, handle_of, same_handle, serial_in,
+    created_refusal, creating_refusal, handle_of, handle_refusal, same_handle, serial_in,
 };
 use pt_host::{
-    Bytes, CFileHandle, Caps, Errno, Fd, FileHandle, FsStat, HostReply, HostSeat, HostValue,
-    OpenFlags,
+    Bytes, CFileHandle, Errno, Fd, FileHandle, FsStat, HostReply, HostSeat, HostValue, OpenFlags,
 };
 use pt_node::entries::new_object;
 use pt_node::mounts::push_mounts;
@@ -43,11 +43,13 @@ impl Store {
             (state_of self.old) result (state_of self.new) }
         ensures kept { IsKeptBy self.new }
     {
-        let Some((file, _)) = open_on(&self.files, &self.nodes, fd) else {
+        let Some((file, node)) = open_on(&self.files, &self.nodes, fd) else {
             return HostReply::Refused(Errno::EBADF);
         };
-        let found = walk_from(&self.nodes, file.object, path);
-        self.open_found(seat, flags, found)
+        match walk_from(&self.nodes, (file.object, node), path) {
+            Ok((object, _)) => self.open(seat, flags, object),
+            Err(errno) => HostReply::Refused(errno),
+        }
     }
 
     /// A new file under a name that is free, opened.
@@ -63,17 +65,16 @@ impl Store {
         requires into { is_directory_at self.old.nodes.items dir ≡ true }
         requires free { name_at self.old.nodes.items dir name.now ≡ None }
         requires small { permissions < 4096 }
-        ensures answers { AnswersAs
-            (open_new (state_of self.old) (numbers_of self.old) seat.now flags permissions dir name.now
-            (slice_get self.old.nodes.items dir)) (state_of self.old) result (state_of self.new) }
+        ensures answers { (parent : Node) → slice_get self.old.nodes.items dir ≡ Some parent →
+            AnswersAs
+            (open_new (state_of self.old) (numbers_of self.old) seat.now flags permissions dir name.now parent)
+            (state_of self.old) result (state_of self.new) }
         ensures kept { IsKeptBy self.new }
     {
         let object = self.nodes.len();
         let length = self.files.len();
         let now = self.now();
-        let Some(parent) = self.nodes.get(dir) else {
-            return HostReply::Refused(Errno::ENOENT);
-        };
+        let parent = node_at(&self.nodes, dir);
         let dev = parent.ids.dev;
         let Ok(name) = name.to_vec(self.alloc) else {
             return HostReply::NoMemory;
@@ -161,7 +162,7 @@ impl Store {
         if flags.includes(OpenFlags::O_CREAT) {
             self.open_creating(seat, fd, name, flags, mode)
         } else {
-            self.open_found_name(seat, fd, name, flags)
+            self.open_named(seat, fd, name, flags)
         }
     }
 
@@ -185,7 +186,7 @@ impl Store {
     /// The object on this mount that has the handle and lives. The handle tells the serial, and that the place.
     fn handled(&self, mount: u64, handle: &CFileHandle) -> Option<usize>
         requires { IsKeptBy self.now }
-        ensures { result ≡ handled (state_of self.now) mount handle.now }
+        ensures { result ≡ option_map (λ (at : ℕ × Node). at.0) (handled (state_of self.now) mount handle.now) }
     {
         let Some(serial) = serial_in(handle) else {
             return None;
@@ -216,15 +217,14 @@ impl Store {
         let Some((file, node)) = open_on(&self.files, &self.nodes, fd) else {
             return HostReply::Refused(Errno::EBADF);
         };
-        if file.flags.includes(OpenFlags::O_PATH) {
-            return HostReply::Refused(Errno::EBADF);
-        }
-        if !seat.eff_caps.includes(Caps::DAC_READ_SEARCH) {
-            return HostReply::Refused(Errno::EPERM);
+        if let Some(errno) = handle_refusal(seat, file) {
+            return HostReply::Refused(errno);
         }
         let mount = node.ids.mnt_id;
-        let found = self.handled(mount, handle).ok_or(Errno::ESTALE);
-        self.open_found(seat, flags, found)
+        match self.handled(mount, handle) {
+            Some(object) => self.open(seat, flags, object),
+            None => HostReply::Refused(Errno::ESTALE),
+        }
     }
 
     pub fn handle_of(&self, fd: Fd) -> HostReply

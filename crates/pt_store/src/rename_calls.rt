@@ -1,60 +1,24 @@
-ghost use Rattle.std.specs.Prelude.{◌≡◌, ◌≢◌, ◌<◌, OnErr, OnOk, Some, None, true};
+ghost use Rattle.std.specs.Prelude.{◌≡◌, ◌≢◌, ◌<◌, OnErr, OnOk, Some, None, is_some, slice_get, true};
 ghost use Rattle.pt_store.specs.StoreState.{IsKeptBy, state_of};
 ghost use Rattle.pt_rules.specs.Does.{AnswersAs};
 ghost use Rattle.pt_node.specs.Entries.{is_directory_at};
 ghost use Rattle.pt_node.specs.Node.{name_at};
 ghost use Rattle.pt_node.specs.NewPlace.{seen_place};
-ghost use Rattle.pt_node.specs.Opening.{first_refusal};
-ghost use Rattle.pt_rules.specs.NameCalls.{
-  is_mount_moved,
-  is_unwritable,
-  moves_into_itself,
-  rename,
-  rename_between,
-  rename_refusal,
-  rename_to,
-  with_exchanged,
-};
+ghost use Rattle.pt_node.specs.Paths.{led_on};
+ghost use Rattle.pt_node.specs.declared.node.Node.{Node};
+ghost use Rattle.pt_rules.specs.NameCalls.{rename, rename_between, rename_to, with_exchanged};
 
-use crate::finding::open_on;
+use crate::finding::{node_at, open_on};
 use crate::store::Store;
 use pt_change::name_checks::name_refusal;
 use pt_change::node_edits::exchange;
-use pt_change::rename_checks::{
-    EXCHANGE, first_refusal, is_mount_moved, is_unwritable, moves_into_itself,
-};
+use pt_change::rename_checks::{EXCHANGE, moves_into_itself, rename_refusal};
 use pt_host::{Errno, Fd, HostReply, HostSeat, HostValue};
 use pt_node::links::is_directory_at;
-use pt_node::path::name_at;
+use pt_node::path::led_on;
 use std::alloc::AllocError;
 
 impl Store {
-    /// The error for which no name is moved between these directories, up to where it is seen whether both names lead
-    /// to one object.
-    fn rename_refusal(
-        &self,
-        seat: &HostSeat,
-        from: usize,
-        to: usize,
-        object: usize,
-        target: Option<usize>,
-        flags: u32,
-    ) -> Option<Errno>
-        ensures { result ≡ rename_refusal (state_of self.now) seat.now from to object target flags }
-    {
-        let Some(node) = self.nodes.get(object) else {
-            return Some(Errno::ENOENT);
-        };
-        let (Some(source), Some(dir)) = (self.nodes.get(from), self.nodes.get(to)) else {
-            return Some(Errno::ENOENT);
-        };
-        let unwritable = is_unwritable(seat, source, dir);
-        let apart = source.ids.mnt_id != dir.ids.mnt_id;
-        let mounted = is_mount_moved(&self.nodes, source, dir, node, target);
-        let into_itself = moves_into_itself(&self.nodes, from, to, object, target, flags);
-        first_refusal(unwritable, apart, mounted, into_itself, target, flags)
-    }
-
     /// The two objects, to which the names lead, get each other's names.
     fn exchange_names(
         &mut self,
@@ -92,19 +56,26 @@ impl Store {
         requires leads { name_at self.old.nodes.items from.0 from.1.now ≡ Some object }
         requires into { is_directory_at self.old.nodes.items to.0 ≡ true }
         requires target { name_at self.old.nodes.items to.0 to.1.now ≡ target }
-        ensures answers { AnswersAs
-            (rename_to (state_of self.old) (seen_place from.entry) (seen_place to.entry) object target flags)
-            (state_of self.old) result (state_of self.new) }
+        ensures answers { (node : Node) → slice_get self.old.nodes.items object ≡ Some node →
+            AnswersAs
+            (rename_to (state_of self.old) (seen_place from.entry) (seen_place to.entry) object node
+            (led_on self.old.nodes.items target) flags) (state_of self.old) result (state_of self.new) }
         ensures kept { IsKeptBy self.new }
     {
         match target {
-            Some(other) if other != object && flags == EXCHANGE => {
+            None => self.rename_onto(from, to, object, target),
+            Some(other) => {
+                if other == object {
+                    return self.rename_onto(from, to, object, target);
+                }
+                if flags != EXCHANGE {
+                    return self.rename_onto(from, to, object, target);
+                }
                 match self.exchange_names(from, to, object, other) {
                     Ok(()) => HostReply::Ok(HostValue::Unit),
                     Err(_) => HostReply::NoMemory,
                 }
             }
-            _ => self.rename_onto(from, to, object, target),
         }
     }
 
@@ -116,23 +87,31 @@ impl Store {
         flags: u32,
     ) -> HostReply
         requires kept { IsKeptBy self.old }
+        requires out { is_some (slice_get self.old.nodes.items from.0) ≡ true }
         requires into { is_directory_at self.old.nodes.items to.0 ≡ true }
-        ensures answers { AnswersAs
-            (rename_between (state_of self.old) seat.now (seen_place from.entry) (seen_place to.entry) flags)
-            (state_of self.old) result (state_of self.new) }
+        ensures answers { (dir : Node) (dir2 : Node) →
+            slice_get self.old.nodes.items from.entry.0 ≡ Some dir →
+            slice_get self.old.nodes.items to.entry.0 ≡ Some dir2 →
+            AnswersAs
+            (rename_between (state_of self.old) seat.now ((from.entry.0, dir), from.entry.1.now)
+            ((to.entry.0, dir2), to.entry.1.now) flags) (state_of self.old) result (state_of self.new) }
         ensures kept { IsKeptBy self.new }
     {
         if flags > EXCHANGE {
             return HostReply::Refused(Errno::EINVAL);
         }
-        let Some(object) = name_at(&self.nodes, from.0, from.1) else {
+        let dir = node_at(&self.nodes, from.0);
+        let into = node_at(&self.nodes, to.0);
+        let Some((object, node)) = led_on(&self.nodes, dir.content.lookup(from.1)) else {
             return HostReply::Refused(Errno::ENOENT);
         };
-        let target = name_at(&self.nodes, to.0, to.1);
-        match self.rename_refusal(seat, from.0, to.0, object, target, flags) {
-            Some(errno) => HostReply::Refused(errno),
-            None => self.rename_to(from, to, object, target, flags),
+        let there = into.content.lookup(to.1);
+        let target = led_on(&self.nodes, there);
+        let into_itself = moves_into_itself(&self.nodes, from.0, to.0, object, target, flags);
+        if let Some(errno) = rename_refusal(into_itself, seat, dir, into, node, target, flags) {
+            return HostReply::Refused(errno);
         }
+        self.rename_to(from, to, object, there, flags)
     }
 
     pub fn rename_names(

@@ -1,4 +1,4 @@
-ghost use Rattle.std.specs.Prelude.{◌≡◌, ℕ, Ok, Some, slice_get};
+ghost use Rattle.std.specs.Prelude.{◌≡◌, ℕ, Ok, Some, is_some, slice_get, true};
 ghost use Rattle.pt_store.specs.StoreState.{IsKeptBy, device_at, number_at, state_of};
 ghost use Rattle.pt_rules.specs.State.{time_of};
 ghost use Rattle.pt_rules.specs.Holds.{HasHold};
@@ -6,21 +6,19 @@ ghost use Rattle.pt_rules.specs.ContentCalls.{read_row};
 ghost use Rattle.pt_rules.specs.Rows.{on_row};
 ghost use Rattle.pt_rules.specs.Does.{AnswersAs};
 ghost use Rattle.pt_node.specs.Links.{links_of};
-ghost use Rattle.pt_node.specs.Slots.{open_at};
+ghost use Rattle.pt_node.specs.declared.node.Node.{Node};
 ghost use Rattle.pt_rules.specs.Calls.{
   begun_on,
   close_file,
-  name_refusal,
   open_walked,
   opening,
   reopen,
   tell_status,
 };
-ghost use Rattle.pt_rules.specs.Finding.{find_name};
 ghost use Rattle.pt_rules.specs.OpeningCalls.{open_named};
 ghost use Rattle.pt_node.specs.Paths.{walk_root};
 
-use crate::finding::open_on;
+use crate::finding::{node_at, open_on};
 use crate::plans::Plans;
 use pt_change::name_checks::name_refusal;
 use pt_host::{Bytes, Errno, Fd, HostReply, HostSeat, HostValue, OpenFlags, Time};
@@ -29,7 +27,7 @@ use pt_node::links::links_of;
 use pt_node::mounts::Mounts;
 use pt_node::node::Node;
 use pt_node::opening::{apply_opening, opening_refusal};
-use pt_node::path::walk_root;
+use pt_node::path::{led_on, walk_root};
 use pt_node::reading::{part_of, read_refusal};
 use pt_node::slots::{Descriptors, OpenFile};
 use std::alloc::Global;
@@ -73,17 +71,17 @@ impl Store {
         }
     }
 
-    /// Opens an object that lives.
+    /// Opens an object that is there and lives.
     pub fn open(&mut self, seat: &HostSeat, flags: OpenFlags, object: usize) -> HostReply
         requires kept { IsKeptBy self.old }
+        requires there { is_some (slice_get self.old.nodes.items object) ≡ true }
         requires lives { HasHold (state_of self.old) object }
-        ensures answers { AnswersAs (opening (state_of self.old) seat.now flags object) (state_of self.old) result
+        ensures answers { (node : Node) → slice_get self.old.nodes.items object ≡ Some node →
+            AnswersAs (opening (state_of self.old) seat.now flags object node) (state_of self.old) result
             (state_of self.new) }
         ensures kept { IsKeptBy self.new }
     {
-        let Some(node) = self.nodes.get(object) else {
-            return HostReply::Refused(Errno::ESTALE);
-        };
+        let node = node_at(&self.nodes, object);
         if let Some(errno) = opening_refusal(seat, node, flags) {
             return HostReply::Refused(errno);
         }
@@ -99,35 +97,6 @@ impl Store {
             }
             Err(_) => HostReply::NoMemory,
         }
-    }
-
-    pub fn open_found(
-        &mut self,
-        seat: &HostSeat,
-        flags: OpenFlags,
-        found: Result<usize, Errno>,
-    ) -> HostReply
-        requires kept { IsKeptBy self.old }
-        requires lives { (object : ℕ) → found ≡ Ok object → HasHold (state_of self.old) object }
-        ensures answers { AnswersAs (open_walked (state_of self.old) seat.now flags found) (state_of self.old) result
-            (state_of self.new) }
-        ensures kept { IsKeptBy self.new }
-    {
-        match found {
-            Ok(object) => self.open(seat, flags, object),
-            Err(errno) => HostReply::Refused(errno),
-        }
-    }
-
-    /// The object that a name leads to from a descriptor's directory.
-    fn find(&self, seat: &HostSeat, fd: Fd, name: &[u8]) -> Result<usize, Errno>
-        ensures { result ≡ find_name self.now.nodes.items seat.now name.now (open_at self.now.files fd.0) }
-    {
-        let (_, dir) = open_on(&self.files, &self.nodes, fd).ok_or(Errno::EBADF)?;
-        if let Some(errno) = name_refusal(seat, dir, name) {
-            return Err(errno);
-        }
-        dir.content.lookup(name).ok_or(Errno::ENOENT)
     }
 
     /// The links of this object.
@@ -199,12 +168,14 @@ impl Store {
             (state_of self.old) result (state_of self.new) }
         ensures kept { IsKeptBy self.new }
     {
-        let found = walk_root(&self.nodes, path);
-        self.open_found(seat, flags, found)
+        match walk_root(&self.nodes, path) {
+            Ok((object, _)) => self.open(seat, flags, object),
+            Err(errno) => HostReply::Refused(errno),
+        }
     }
 
     /// Opens what the name leads to.
-    pub fn open_found_name(
+    pub fn open_named(
         &mut self,
         seat: &HostSeat,
         fd: Fd,
@@ -216,8 +187,16 @@ impl Store {
             (state_of self.old) result (state_of self.new) }
         ensures kept { IsKeptBy self.new }
     {
-        let found = self.find(seat, fd, name);
-        self.open_found(seat, flags, found)
+        let Some((_, dir)) = open_on(&self.files, &self.nodes, fd) else {
+            return HostReply::Refused(Errno::EBADF);
+        };
+        if let Some(errno) = name_refusal(seat, dir, name) {
+            return HostReply::Refused(errno);
+        }
+        let Some((object, _)) = led_on(&self.nodes, dir.content.lookup(name)) else {
+            return HostReply::Refused(Errno::ENOENT);
+        };
+        self.open(seat, flags, object)
     }
 
     pub fn reopen(&mut self, seat: &HostSeat, fd: Fd, flags: OpenFlags) -> HostReply
@@ -226,7 +205,7 @@ impl Store {
             (state_of self.new) }
         ensures kept { IsKeptBy self.new }
     {
-        let Some(file) = self.files.get(fd) else {
+        let Some((file, _)) = open_on(&self.files, &self.nodes, fd) else {
             return HostReply::Refused(Errno::EBADF);
         };
         if flags.includes(OpenFlags::O_CREAT) && flags.includes(OpenFlags::O_EXCL) {

@@ -10,8 +10,7 @@ use Rattle.pt_node.specs.Slots.{open_at}
 use Rattle.pt_rules.specs.State.{State}
 use Rattle.pt_node.specs.Opening.{first_refusal}
 use Rattle.pt_rules.specs.Calls.{Answered, checked, name_checks, name_refusal, on_fd, on_name, on_open}
-use Rattle.pt_rules.specs.Calls.{open_on, refused, unless}
-use Rattle.pt_rules.specs.NameCalls.{on_found, on_led}
+use Rattle.pt_rules.specs.Calls.{on_found, on_led, open_on, refused, unless}
 use Rattle.pt_node.specs.declared.node.Node.{Node}
 use Rattle.pt_node.specs.declared.slots.OpenFile.{OpenFile}
 

@@ -44,7 +44,7 @@ effect_beside state numbers (edit.Write path bytes) after does =
 
 pub fair_edit : (state : State) (numbers : ℕ → ℕ) (asked : Edit) → IsSound state → AreLeastFree state numbers →
     IsFair state (call.Edit asked) (edited state numbers asked)
-fair_edit state numbers asked sound least = elim (edit_outcome state numbers asked) [
+fair_edit state numbers asked sound least = elim (edit_outcome state numbers asked sound) [
   | inl refused ↦ subst (IsFair state (call.Edit asked)) (sym refused.1)
       (fair_refused state (call.Edit asked) refused.0 sound (tt, refl))
   | inr does ↦ subst (IsFair state (call.Edit asked)) (sym does.1) (

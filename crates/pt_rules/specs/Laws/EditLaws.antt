@@ -103,7 +103,7 @@ pub edit_changes : (state : State) (numbers : ℕ → ℕ) (asked : Edit) (given
     TreeChanges (tree_of state) (call.Edit asked) given (tree_of after)
 edit_changes state numbers asked given after sound (inl same) =
     subst (λ (both : Answered). TreeChanges (tree_of state) (call.Edit asked) both.0 (tree_of both.1)) (sym same)
-    (outcome_changes state numbers asked (edited state numbers asked) sound (edit_outcome state numbers asked))
+    (outcome_changes state numbers asked (edited state numbers asked) sound (edit_outcome state numbers asked sound))
 edit_changes state numbers asked given after sound (inr none) =
     subst (λ reply. TreeChanges (tree_of state) (call.Edit asked) reply (tree_of after)) (sym none.0)
     (ap tree_of none.1)

@@ -213,7 +213,7 @@ sound_effect state numbers (edit.Write path bytes) after sound least few does =
 
 pub sound_edited : (state : State) (numbers : ℕ → ℕ) (asked : Edit) → IsSound state → AreLeastFree state numbers →
     length (edited state numbers asked).1.nodes < 2 ^ 63 → IsSound (edited state numbers asked).1
-sound_edited state numbers asked sound least few = elim (edit_outcome state numbers asked) [
+sound_edited state numbers asked sound least few = elim (edit_outcome state numbers asked sound) [
   | inl refused ↦ subst IsSound (sym (ap (λ both. both.1) refused.1)) sound
   | inr does ↦ subst IsSound (sym (ap (λ both. both.1) does.1))
       (sound_effect state numbers asked does.0 sound least

@@ -33,10 +33,10 @@ use Rattle.pt_node.specs.declared.node.Node.{Node}
 use Rattle.pt_node.specs.declared.slots.OpenFile.{OpenFile}
 use Rattle.pt_rules.specs.Laws.Cases.{by_checks, by_fd}
 use Rattle.pt_rules.specs.Laws.Fair.{IsFair, fair_refused, fair_same}
+use Rattle.pt_rules.specs.Finding.{IsThere}
 use Rattle.pt_rules.specs.Laws.Held.{held_lives}
 use Rattle.pt_rules.specs.Laws.OpenFair.{fair_open_walked}
 use Rattle.pt_rules.specs.Laws.Opens.{errnos_apart, open_there, same_open}
-use Rattle.pt_rules.specs.Laws.WellFormed.{map_some}
 
 abbrev handle_where : Bool → CFileHandle → Option CFileHandle
 handle_where has handle = cond has (Some handle) None
@@ -141,13 +141,12 @@ entry_of test from (node ∷ nodes) entry is =
     entry_of test (from + 1) nodes entry later)
 
 -- what is found for the handle lives, on the mount, and has it
-pub record IsHandled (state : State) (mount : ℕ) (handle : CFileHandle) (object : ℕ) : Type 0 where
-  node : Node
-  there : slice_get state.nodes object ≡ Some node
-  on_mount : node.ids.mnt_id ≡ mount
-  with_handle : node.has_handle ≡ true
-  same : handle_of node ≡ handle
-  pub lives : HasHold state object
+pub record IsHandled (state : State) (mount : ℕ) (handle : CFileHandle) (at : ℕ × Node) : Type 0 where
+  pub there : IsThere state.nodes at
+  on_mount : at.1.ids.mnt_id ≡ mount
+  with_handle : at.1.has_handle ≡ true
+  same : handle_of at.1 ≡ handle
+  pub lives : HasHold state at.0
 
 both_hold : (a b : Bool) → (a && b) ≡ true → (a ≡ true) × (b ≡ true)
 both_hold true b is = (refl, is)
@@ -163,54 +162,50 @@ is_same_handle one other is =
     same_fields one other ((signed_Decides one.handle_type other.handle_type).0 both.0)
     ((bytes_eq-Decides one.bytes other.bytes).0 both.1)
 
-found_ok : (held : Option ℕ) (errno : Errno) (object : ℕ) → ok_or held errno ≡ Ok object → held ≡ Some object
-found_ok None errno object is = cc
-found_ok (Some other) errno object is = (let e : other ≡ object = cc in ap (λ o. Some o) e)
+found_ok : (held : Option (ℕ × Node)) (errno : Errno) (at : ℕ × Node) → ok_or held errno ≡ Ok at → held ≡ Some at
+found_ok None errno at is = cc
+found_ok (Some other) errno at is = (let e : other ≡ at = cc in ap (λ o. Some o) e)
 
-handled_where : (state : State) (mount : ℕ) (handle : CFileHandle) (object : ℕ) (entry : ℕ × Node) → IsSound state →
-    IsEntry (is_handled state mount handle) 0 state.nodes entry → entry.0 ≡ object → IsHandled state mount handle object
-handled_where state mount handle object entry sound at is =
+handled_where : (state : State) (mount : ℕ) (handle : CFileHandle) (entry : ℕ × Node) → IsSound state →
+    IsEntry (is_handled state mount handle) 0 state.nodes entry → IsHandled state mount handle entry
+handled_where state mount handle entry sound at =
     let alive = both_hold ((entry.1.ids.mnt_id == mount) && entry.1.has_handle
     && same_handle (handle_of entry.1) handle) (is_alive state entry.0) at.passes in
     let same = both_hold ((entry.1.ids.mnt_id == mount)
     && entry.1.has_handle) (same_handle (handle_of entry.1) handle) alive.0 in
     let placed = both_hold (entry.1.ids.mnt_id == mount) entry.1.has_handle same.0 in
-    let place : at.place ≡ object = (let number = at.number in omega (arith, number, is)) in
+    let place : at.place ≡ entry.0 = (let number = at.number in omega (arith, number)) in
     let held : 0 < held_by state entry.0 = ltb-true 0 (held_by state entry.0) alive.1 in
     record {
-      node = entry.1;
       there = ap (slice_get state.nodes) (sym place) ∙ at.there;
       on_mount = eqb-true entry.1.ids.mnt_id mount placed.0;
       with_handle = placed.1;
       same = is_same_handle (handle_of entry.1) handle same.1;
-      lives = subst (HasHold state) is (held_lives state entry.0 sound held);
+      lives = held_lives state entry.0 sound held;
     }
 
-pub handled_there : (state : State) (mount : ℕ) (handle : CFileHandle) (object : ℕ) → IsSound state →
-    ok_or (handled state mount handle) estale ≡ Ok object → IsHandled state mount handle object
-handled_there state mount handle object sound is =
-    let entry = map_some (λ (e : ℕ × Node).
-    e.0) (find (is_handled state mount handle) (enumerate_from 0 state.nodes)) object
-    (found_ok (handled state mount handle) estale object is) in
-    handled_where state mount handle object entry.0 sound
-    (entry_of (is_handled state mount handle) 0 state.nodes entry.0 entry.1) entry.2
+pub handled_there : (state : State) (mount : ℕ) (handle : CFileHandle) (at : ℕ × Node) → IsSound state →
+    handled state mount handle ≡ Some at → IsHandled state mount handle at
+handled_there state mount handle at sound is =
+    handled_where state mount handle at sound
+    (entry_of (is_handled state mount handle) 0 state.nodes at is)
 
 module _ (state : State) (seat : HostSeat) (fd : Fd) (handle : CFileHandle) (flags : OpenFlags)
     (sound : IsSound state) where
   by_handle_refuses : (errno : Errno) → IsFair state (call.OpenByHandle fd handle flags) (refused state errno)
   by_handle_refuses errno = fair_refused state (call.OpenByHandle fd handle flags) errno sound (tt, refl)
 
-  has_handle : (file : OpenFile) (node : Node) (object : ℕ) → open_at state.slots fd.0 ≡ Some file →
+  has_handle : (file : OpenFile) (node : Node) (at : ℕ × Node) → open_at state.slots fd.0 ≡ Some file →
       slice_get state.nodes file.object ≡ Some node →
-      IsHandled state node.ids.mnt_id handle object → HasHandle (tree_of state) fd handle object
-  has_handle file node object is there held = record {
+      IsHandled state node.ids.mnt_id handle at → HasHandle (tree_of state) fd handle at.0
+  has_handle file node at is there held = record {
     on = file.object;
     place = object_of node;
-    what = object_of held.node;
+    what = object_of at.1;
     opened = open_there state fd file is;
     is_place = slice_get-map object_of state.nodes file.object ∙ ap (option_map object_of) there;
-    is_object = slice_get-map object_of state.nodes object ∙ ap (option_map object_of) held.there;
-    has = ap (λ b. handle_where b (handle_of held.node)) held.with_handle ∙ ap (λ (h : CFileHandle). Some h) held.same;
+    is_object = slice_get-map object_of state.nodes at.0 ∙ ap (option_map object_of) held.there;
+    has = ap (λ b. handle_where b (handle_of at.1)) held.with_handle ∙ ap (λ (h : CFileHandle). Some h) held.same;
     same_mount = held.on_mount;
   }
 
@@ -223,12 +218,14 @@ module _ (state : State) (seat : HostSeat) (fd : Fd) (handle : CFileHandle) (fla
       (λ none. fair_open_walked state seat (call.OpenByHandle fd handle flags) flags
       (ok_or (handled state node.ids.mnt_id handle) estale) sound
       (λ errno led. (tt, refl))
-      (λ object led. let held = handled_there state node.ids.mnt_id handle object sound led in (
-        held.lives,
+      (λ at led.
+      let held = handled_there state node.ids.mnt_id handle at sound
+      (found_ok (handled state node.ids.mnt_id handle) estale at led) in (
+        (held.there, held.lives),
         record {
           asks = refl;
           refuses = λ errno apart. (tt, refl);
-          passes = λ new after opens. (object, has_handle file node object is there held, opens);
+          passes = λ new after opens. (at.0, has_handle file node at is there held, opens);
           fits = λ new. tt;
           empties = λ new after o e. e;
         },

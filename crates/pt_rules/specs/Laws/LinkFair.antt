@@ -8,10 +8,10 @@ use Rattle.pt_host.specs.declared.ids.Time.{Time}
 use Rattle.pt_host.specs.declared.seat.HostSeat.{HostSeat}
 use Rattle.pt_host.specs.declared.op.KeptHostOp.TheVariants as call
 use Rattle.pt_host.specs.declared.reply.HostValue.TheVariants as value
-use Rattle.pt_rules.specs.Calls.{done, name_refusal, refused}
+use Rattle.pt_rules.specs.Calls.{done, name_refusal, refused, there_in}
 use Rattle.pt_node.specs.Entries.{changed_at, restamped, touched, with_entry}
 use Rattle.pt_node.specs.Links.{links_of}
-use Rattle.pt_rules.specs.NameCalls.{link_checks, linked, make_link, there_in, with_linked}
+use Rattle.pt_rules.specs.NameCalls.{link_checks, linked, make_link, with_linked}
 use Rattle.pt_node.specs.Node.{is_directory, object_of}
 use Rattle.pt_node.specs.Slots.{open_at}
 use Rattle.pt_rules.specs.Sound.{IsSound}

@@ -21,14 +21,14 @@ use Rattle.pt_host.specs.declared.reply.HostReply.TheVariants as reply
 use Rattle.pt_host.specs.declared.reply.HostValue.{HostValue}
 use Rattle.pt_host.specs.declared.reply.HostValue.TheVariants as value
 use Rattle.pt_rules.specs.Beside.{IsAt, LeavesBeside, MayTouch}
-use Rattle.pt_rules.specs.Calls.{done, name_refusal, refused}
+use Rattle.pt_rules.specs.Calls.{done, name_refusal, refused, there_in}
 use Rattle.pt_rules.specs.Edits.{made, with_made, with_unlinked}
 use Rattle.pt_node.specs.Entries.{changed_at, is_directory_at, is_directory_where, touched, with_entry}
 use Rattle.pt_rules.specs.Living.{AreLeastFree}
 use Rattle.pt_node.specs.Names.{found}
 use Rattle.pt_rules.specs.NameCalls.{content_of_kind, kind_bits, make_checks, make_dir, make_in_dir, make_node}
 use Rattle.pt_rules.specs.NameCalls.{make_of_kind, make_symlink, masked, node_checks, remove_checks, remove_dir}
-use Rattle.pt_rules.specs.NameCalls.{special_kind, symlink_checks, take_checks, there_in, unlink}
+use Rattle.pt_rules.specs.NameCalls.{special_kind, symlink_checks, take_checks, unlink}
 use Rattle.pt_node.specs.Node.{is_directory, name_at, names_in, object_of}
 use Rattle.pt_node.specs.Slots.{open_at}
 use Rattle.pt_rules.specs.Sound.{IsSound}

@@ -18,15 +18,15 @@ use Rattle.pt_host.specs.declared.ids.Fd.{Fd}
 use Rattle.pt_host.specs.declared.seat.HostSeat.{HostSeat}
 use Rattle.pt_host.specs.declared.op.KeptHostOp.TheVariants as call
 use Rattle.pt_host.specs.declared.reply.HostValue.TheVariants as value
-use Rattle.pt_rules.specs.Calls.{checked, name_refusal, open_walked, refused, tells, with_descriptor}
-use Rattle.pt_rules.specs.Finding.{find_name}
+use Rattle.pt_rules.specs.Calls.{checked, name_refusal, open_walked, refused, tells, there_in, with_descriptor}
 use Rattle.pt_rules.specs.Edits.{made, with_made}
 use Rattle.pt_node.specs.Entries.{changed_at, is_directory_at, touched, with_entry}
 use Rattle.pt_rules.specs.Living.{AreLeastFree}
 use Rattle.pt_rules.specs.Holds.{HasHold}
-use Rattle.pt_rules.specs.NameCalls.{masked, there_in}
+use Rattle.pt_rules.specs.NameCalls.{masked}
 use Rattle.pt_node.specs.Node.{name_at, object_of}
 use Rattle.pt_rules.specs.OpeningCalls.{open_named, create_or_open, created_checks, open_at_name, open_creating}
+use Rattle.pt_node.specs.Paths.{led_on}
 use Rattle.pt_node.specs.Slots.{open_at}
 use Rattle.pt_rules.specs.Sound.{IsSound}
 use Rattle.pt_rules.specs.State.{State, contents_where, opened_as, time_of, tree_of}
@@ -39,7 +39,7 @@ use Rattle.pt_rules.specs.Laws.EditLaws.{makes_object}
 use Rattle.pt_rules.specs.Laws.EditShapes.{names_grown}
 use Rattle.pt_rules.specs.Laws.EditSound.{sound_makes}
 use Rattle.pt_rules.specs.Laws.Fair.{IsFair, fair_refused, stays_same}
-use Rattle.pt_rules.specs.Laws.Finding.{found_name, name_lives, named_is}
+use Rattle.pt_rules.specs.Laws.Finding.{find_name, found_name, name_lives, named_is, there_within}
 use Rattle.pt_rules.specs.Laws.NameFair.{asked_there, changed_other, small_masked, there_at}
 use Rattle.pt_rules.specs.Laws.OpenFair.{fair_open_walked, fair_opening, free_fd, new_description, same_description}
 use Rattle.pt_rules.specs.Laws.Opens.{errnos_apart, least_free-closed, missing_name, open_there, same_open}
@@ -48,7 +48,7 @@ use Rattle.pt_rules.specs.Laws.Outcomes.{Makes}
 use Rattle.pt_rules.specs.Laws.Soundness.{sound-with_descriptor}
 use Rattle.pt_node.specs.Laws.Updates.{get-push_apart, get-push_here}
 
-abbrev failing : Errno → Result ℕ Errno
+abbrev failing : Errno → Result (ℕ × Node) Errno
 failing errno = Err errno
 
 not_both : (a b : Bool) → a ≡ false → (a && b) ≡ true → ⊥
@@ -78,7 +78,7 @@ module _ (state : State) (seat : HostSeat) (fd : Fd) (name : List ℕ) (flags : 
         let held = same_open state fd dir on in
         let e : find_name state.nodes seat name (open_at state.slots fd.0) ≡ Err enoent = led ∙ ap failing same in
         subst (λ (d : ℕ). name_at state.nodes d name ≡ None) held.2
-        (missing_name state.nodes seat name (open_at state.slots fd.0) e held.0 held.1);
+        (missing_name state seat name (open_at state.slots fd.0) sound e held.0 held.1);
     exists = λ new. absurd (not_both (includes flags.0 o_creat) (includes flags.0 o_excl) plain new);
   }
 
@@ -88,8 +88,11 @@ module _ (state : State) (seat : HostSeat) (fd : Fd) (name : List ℕ) (flags : 
       fair_open_walked state seat (call.OpenAt fd name flags mode) flags
       (find_name state.nodes seat name (open_at state.slots fd.0)) sound
       (λ errno led. (missing_refused errno led, refl))
-      (λ object led. (
-        name_lives state seat name object (open_at state.slots fd.0) led,
+      (λ at led. (
+        (
+          (found_name state.nodes seat name at (open_at state.slots fd.0) led).there,
+          name_lives state seat name at (open_at state.slots fd.0) led,
+        ),
         record {
           asks = refl;
           refuses = λ errno apart. (
@@ -100,11 +103,11 @@ module _ (state : State) (seat : HostSeat) (fd : Fd) (name : List ℕ) (flags : 
             refl,
           );
           passes = λ new after opens.
-              let there = found_name state.nodes seat name object (open_at state.slots fd.0) led in
+              let named = found_name state.nodes seat name at (open_at state.slots fd.0) led in
               inl (
-                object,
+                at.0,
                 ap (λ b. b && includes flags.0 o_excl) plain,
-                (there.0.object, open_there state fd there.0 there.1, there.2),
+                (named.dir.object, open_there state fd named.dir named.held, named.leads),
                 opens,
               );
           fits = λ new. tt;
@@ -286,10 +289,15 @@ module _ (state : State) (numbers : ℕ → ℕ) (seat : HostSeat) (fd : Fd) (na
       slice_get state.nodes file.object ≡ Some dir →
       there_in dir name ≡ Some object → includes flags.0 o_excl ≡ false →
       IsFair state (call.OpenAt fd name flags mode)
-      (create_or_open state numbers seat flags mode file.object dir name (Some object))
+      (create_or_open state numbers seat flags mode file.object dir name (led_on state.nodes (Some object)))
   fair_existing file dir object is there held shared =
       let leads = there_at state file.object dir name there ∙ held in
-      fair_opening state seat (call.OpenAt fd name flags mode) flags object sound
+      let at = there_within state.nodes object (sound.named file.object name object leads) in
+      subst (λ (led : Option (ℕ × Node)).
+      IsFair state (call.OpenAt fd name flags mode)
+      (create_or_open state numbers seat flags mode file.object dir name led))
+      (sym (ap (option_map (λ (n : Node). (object, n))) at.1))
+      (fair_opening state seat (call.OpenAt fd name flags mode) flags object at.0 sound at.1
       (inr (inl (file.object, name, leads))) (record {
         asks = refl;
         refuses = λ errno apart. (
@@ -309,7 +317,7 @@ module _ (state : State) (numbers : ℕ → ℕ) (seat : HostSeat) (fd : Fd) (na
             );
         fits = λ new. tt;
         empties = λ new after o e. inl e;
-      })
+      }))
 
   fair_new_file : (file : OpenFile) (dir : Node) → open_at state.slots fd.0 ≡ Some file →
       slice_get state.nodes file.object ≡ Some dir →
@@ -330,7 +338,7 @@ module _ (state : State) (numbers : ℕ → ℕ) (seat : HostSeat) (fd : Fd) (na
       (includes flags.0 o_path || includes flags.0 o_directory) ≡ misfits → includes flags.0 o_excl ≡ excludes →
       IsFair state (call.OpenAt fd name flags mode)
       (checked state ((misfits, einval) ∷ (is_some held && excludes, eexist)
-      ∷ []) (create_or_open state numbers seat flags mode file.object dir name held))
+      ∷ []) (create_or_open state numbers seat flags mode file.object dir name (led_on state.nodes held)))
   creates_or_opens file dir is there asks held at true excludes misfits shares =
       other_refused einval (errnos_apart 22 17 refl)
   creates_or_opens file dir is there asks (Some object) at false true misfits shares =

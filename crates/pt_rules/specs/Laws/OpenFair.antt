@@ -1,12 +1,12 @@
 -- Proof. Openings and closings: what they leave of the tree and beside it.
-use Rattle.std.proofs.Common.{◌≡◌, ◌≢◌, ◌<◌, ◌/◌, ◌+◌, ◌*◌, ◌⊎◌, inl, inr, ℕ, Bool, true, false, not, ◌&&◌, cond, eqb}
-use Rattle.std.proofs.Common.{◌==◌, List, [], ◌∷◌, Option, Some, None, Result, Ok, Err, option_map, slice_get, refl}
+use Rattle.std.proofs.Common.{◌≡◌, ◌≢◌, ◌<◌, ◌/◌, ◌+◌, ◌*◌, inl, inr, ℕ, Bool, true, false, not, ◌&&◌, cond, eqb}
+use Rattle.std.proofs.Common.{List, [], ◌∷◌, Option, Some, None, Result, Ok, Err, option_map, slice_get, refl}
 use Rattle.std.proofs.Common.{ap, sym, ◌∙◌, subst, arith}
 use Rattle.std.proofs.lemmas.Bool.Decides.{eqb_tells}
 use Rattle.std.proofs.lemmas.List.{length-map}
 use Rattle.std.proofs.lemmas.Option.{same_Some, slice_get_within, slice_get-map}
 use Rattle.pt_host.specs.Call.{Call}
-use Rattle.pt_host.specs.Errno.{ebadf, eexist, enoent, estale}
+use Rattle.pt_host.specs.Errno.{ebadf, eexist, enoent}
 use Rattle.pt_host.specs.Flags.{includes, o_creat, o_excl, o_path, o_trunc}
 use Rattle.pt_host.specs.LawfulContents.{LeftByOpening, StaysOpen, begun, empties}
 use Rattle.pt_host.specs.LawfulTree.{TreeChanges, Opens}
@@ -21,11 +21,11 @@ use Rattle.pt_host.specs.declared.seat.HostSeat.{HostSeat}
 use Rattle.pt_host.specs.declared.op.KeptHostOp.TheVariants as call
 use Rattle.pt_host.specs.declared.reply.HostReply.TheVariants as reply
 use Rattle.pt_host.specs.declared.reply.HostValue.TheVariants as value
-use Rattle.pt_node.specs.Paths.{parts, walk, walk_root, walk_from}
+use Rattle.pt_node.specs.Paths.{walk_root, walk_from}
 use Rattle.pt_rules.specs.Beside.{Empties, MayTouch}
-use Rattle.pt_rules.specs.Calls.{begun_on, checked, close_file, done, on_slot, opening, opening_of, open_walked}
+use Rattle.pt_rules.specs.Calls.{begun_on, close_file, done, on_slot, opening, open_walked}
 use Rattle.pt_rules.specs.Calls.{refused, reopen, tell_status, tells, unless, with_opened}
-use Rattle.pt_rules.specs.Holds.{HasName, HasHold}
+use Rattle.pt_rules.specs.Holds.{HasHold}
 use Rattle.pt_rules.specs.OpeningCalls.{open_path}
 use Rattle.pt_node.specs.Links.{links_of}
 use Rattle.pt_node.specs.Node.{kind_number, object_of, status_of}
@@ -40,8 +40,8 @@ use Rattle.pt_node.specs.declared.slots.Slot.TheVariants.{Free, Open}
 use Rattle.pt_rules.specs.Laws.Cases.{by_checks, by_fd}
 use Rattle.pt_rules.specs.Laws.Emptied.{left_by_opening}
 use Rattle.pt_rules.specs.Laws.Fair.{IsFair, fair_refused, fair_same, stays_same}
-use Rattle.pt_rules.specs.Laws.Finding.{root_lives, walk_lives}
-use Rattle.pt_rules.specs.Laws.Opens.{closed_tree, errnos_apart, least_free-closed, open_there, opening_allowed}
+use Rattle.pt_rules.specs.Laws.Finding.{IsLiving, path_lives, root_lives}
+use Rattle.pt_rules.specs.Laws.Opens.{closed_tree, least_free-closed, open_there, opening_allowed}
 use Rattle.pt_rules.specs.Laws.Opens.{opening_refused, opened-closed, tree-with_opened}
 use Rattle.pt_rules.specs.Laws.SlotTable.{least_free-le-length}
 use Rattle.pt_rules.specs.Laws.Soundness.{sound-closed, sound-with_opened}
@@ -182,31 +182,25 @@ module _ (state : State) (seat : HostSeat) (asked : Call) (flags : OpenFlags) (o
   fair_unless (Some errno) is =
       fair_refused state asked errno sound (by.refuses errno (opening_refused seat node flags.0 errno is))
 
-fair_opening_of : (state : State) (seat : HostSeat) (asked : Call) (flags : OpenFlags) (object : ℕ)
-    (node : Option Node) → IsSound state →
-    slice_get state.nodes object ≡ node → HasHold state object → OpensBy state asked flags object →
-    IsFair state asked (opening_of state seat flags object node)
-fair_opening_of state seat asked flags object None sound is lives by =
-    fair_refused state asked estale sound (by.refuses estale (errnos_apart 116 2 refl))
-fair_opening_of state seat asked flags object (Some node) sound is lives by =
+-- the opening of an object that lives
+pub fair_opening : (state : State) (seat : HostSeat) (asked : Call) (flags : OpenFlags) (object : ℕ) (node : Node) →
+    IsSound state → slice_get state.nodes object ≡ Some node → HasHold state object →
+    OpensBy state asked flags object → IsFair state asked (opening state seat flags object node)
+fair_opening state seat asked flags object node sound is lives by =
     fair_unless state seat asked flags object node sound is lives by (opening_refusal seat node flags.0) refl
 
--- the opening of an object that lives
-pub fair_opening : (state : State) (seat : HostSeat) (asked : Call) (flags : OpenFlags) (object : ℕ) → IsSound state →
-    HasHold state object → OpensBy state asked flags object → IsFair state asked (opening state seat flags object)
-fair_opening state seat asked flags object sound lives by =
-    fair_opening_of state seat asked flags object (slice_get state.nodes object) sound refl lives by
-
 -- the opening of what was found
-pub fair_open_walked : (state : State) (seat : HostSeat) (asked : Call) (flags : OpenFlags) (led : Result ℕ Errno) →
+pub fair_open_walked : (state : State) (seat : HostSeat) (asked : Call) (flags : OpenFlags)
+    (led : Result (ℕ × Node) Errno) →
     IsSound state →
     ((errno : Errno) → led ≡ Err errno → TreeChanges (tree_of state) asked (reply.Refused errno) (tree_of state)) →
-    ((object : ℕ) → led ≡ Ok object → HasHold state object × OpensBy state asked flags object) →
+    ((at : ℕ × Node) → led ≡ Ok at → IsLiving state at × OpensBy state asked flags at.0) →
     IsFair state asked (open_walked state seat flags led)
 fair_open_walked state seat asked flags (Err errno) sound refuses leads =
     fair_refused state asked errno sound (refuses errno refl)
-fair_open_walked state seat asked flags (Ok object) sound refuses leads =
-    fair_opening state seat asked flags object sound (leads object refl).0 (leads object refl).1
+fair_open_walked state seat asked flags (Ok at) sound refuses leads =
+    let found_at = leads at refl in
+    fair_opening state seat asked flags at.0 at.1 sound found_at.0.0 found_at.0.1 found_at.1
 
 -- ---- OpenRoot
 
@@ -215,12 +209,12 @@ pub fair_root : (state : State) (seat : HostSeat) (path : List ℕ) (flags : Ope
 fair_root state seat path flags sound =
     fair_open_walked state seat (call.OpenRoot path flags) flags (walk_root state.nodes path) sound (λ errno is.
     (tt, refl))
-    (λ object is. (
-      root_lives state path object is,
+    (λ at is. (
+      root_lives state path at is,
       record {
         asks = refl;
         refuses = λ errno apart. (tt, refl);
-        passes = λ fd after opens. (object, opens);
+        passes = λ fd after opens. (at.0, opens);
         fits = λ fd. tt;
         empties = λ fd after o e. e;
       },
@@ -232,29 +226,23 @@ module _ (state : State) (seat : HostSeat) (fd : Fd) (flags : OpenFlags) (sound 
   reopen_refuses : (errno : Errno) → IsFair state (call.Reopen fd flags) (refused state errno)
   reopen_refuses errno = fair_refused state (call.Reopen fd flags) errno sound (tt, refl)
 
-  fair_reopened : (file : Option OpenFile) → open_at state.slots fd.0 ≡ file →
-      IsFair state (call.Reopen fd flags)
-      (on_slot state file (λ held.
-      checked state ((includes flags.0 o_creat && includes flags.0 o_excl, eexist)
-      ∷ []) (opening state seat flags held.object)))
-  fair_reopened None is = reopen_refuses ebadf
-  fair_reopened (Some file) is =
+  pub fair_reopen : IsFair state (call.Reopen fd flags) (reopen state seat fd flags)
+  fair_reopen = by_fd state (IsFair state (call.Reopen fd flags)) reopen_refuses fd _
+      (λ file node is there.
       by_checks state (IsFair state (call.Reopen fd flags)) reopen_refuses ((
         includes flags.0 o_creat
             && includes flags.0 o_excl,
         eexist,
       ) ∷ []) _
-      (λ none. fair_opening state seat (call.Reopen fd flags) flags file.object sound (inr (inr (fd.0, file, is, refl)))
+      (λ none. fair_opening state seat (call.Reopen fd flags) flags file.object node sound there
+      (inr (inr (fd.0, file, is, refl)))
       (record {
         asks = refl;
         refuses = λ errno apart. (tt, refl);
         passes = λ new after opens. (file.object, open_there state fd file is, opens);
         fits = λ new. tt;
         empties = λ new after o e. e;
-      }))
-
-  pub fair_reopen : IsFair state (call.Reopen fd flags) (reopen state seat fd flags)
-  fair_reopen = fair_reopened (open_at state.slots fd.0) refl
+      })))
 
 -- ---- Close
 
@@ -331,41 +319,21 @@ fair_stat state fd sound =
 
 -- ---- OpenPath
 
-has_from_here : (state : State) (here object : ℕ) → HasHold state here →
-    (object ≡ here) ⊎ HasName state.nodes object → HasHold state object
-has_from_here state here object lives (inl same) = subst (HasHold state) (sym same) lives
-has_from_here state here object lives (inr has) = inr (inl has)
-
-abbrev led_there : ℕ → Result ℕ Errno
-led_there object = Ok object
-
-by_slash : (state : State) (slash : Bool) (here object : ℕ) (rest whole : List (List ℕ)) → HasHold state here →
-    cond slash (walk state.nodes 0 rest) (walk state.nodes here whole) ≡ led_there object → HasHold state object
-by_slash state true here object rest whole lives is =
-    has_from_here state 0 object (inl refl) (walk_lives state.nodes 0 rest object is)
-by_slash state false here object rest whole lives is =
-    has_from_here state here object lives (walk_lives state.nodes here whole object is)
-
-pub path_lives : (state : State) (here : ℕ) (path : List ℕ) (object : ℕ) → HasHold state here →
-    walk_from state.nodes here path ≡ led_there object → HasHold state object
-path_lives state here [] object lives is = cc
-path_lives state here (first ∷ path) object lives is =
-    by_slash state (first == 47) here object (parts path) (parts (first ∷ path)) lives is
-
 pub fair_open_path : (state : State) (seat : HostSeat) (fd : Fd) (path : List ℕ) (flags : OpenFlags) → IsSound state →
     IsFair state (call.OpenPath fd path flags) (open_path state seat fd path flags)
 fair_open_path state seat fd path flags sound =
     by_fd state (IsFair state (call.OpenPath fd path flags)) (λ errno.
     fair_refused state (call.OpenPath fd path flags) errno sound (tt, refl)) fd _
     (λ file node is there.
-    fair_open_walked state seat (call.OpenPath fd path flags) flags (walk_from state.nodes file.object path) sound
+    fair_open_walked state seat (call.OpenPath fd path flags) flags (walk_from state.nodes (file.object, node) path)
+    sound
     (λ errno led. (tt, refl))
-    (λ object led. (
-      path_lives state file.object path object (inr (inr (fd.0, file, is, refl))) led,
+    (λ at led. (
+      path_lives state (file.object, node) path at (there, inr (inr (fd.0, file, is, refl))) led,
       record {
         asks = refl;
         refuses = λ errno apart. (tt, refl);
-        passes = λ new after opens. (object, opens);
+        passes = λ new after opens. (at.0, opens);
         fits = λ new. tt;
         empties = λ new after o e. e;
       },

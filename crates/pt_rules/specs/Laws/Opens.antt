@@ -1,31 +1,26 @@
 -- Proof. What openings and closings leave of the tree, and what they are refused for.
-use Rattle.std.proofs.Common.{◌≡◌, ◌≢◌, ◌<◌, ◌+◌, ◌⊎◌, inl, inr, ℕ, suc, Bool, true, false, not, ◌&&◌, cond, eqb}
-use Rattle.std.proofs.Common.{List, [], ◌∷◌, Option, Some, None, Result, Ok, Err, ok_or, slice_get, slice_set}
+use Rattle.std.proofs.Common.{◌≡◌, ◌≢◌, ◌+◌, inl, inr, ℕ, suc, Bool, true, false, not, ◌&&◌, cond, eqb}
+use Rattle.std.proofs.Common.{List, [], ◌∷◌, Option, Some, None, Result, Err, ok_or, slice_get, slice_set}
 use Rattle.std.proofs.Common.{option_map, option_and_then, subst, refl, ap, sym, ◌∙◌, arith, pos}
-use Rattle.std.proofs.lemmas.List.{length-map}
 use Rattle.std.proofs.lemmas.Option.{same_Some, slice_get_within}
 use Rattle.std.proofs.lemmas.Bool.Decides.{eqb_tells}
 use Rattle.pt_host.specs.Words.{set_at}
 use Rattle.pt_host.specs.Flags.{includes, o_path, o_tmpfile}
-use Rattle.pt_host.specs.Errno.{errno_of, enoent, eopnotsupp, estale}
+use Rattle.pt_host.specs.Errno.{errno_of, enoent, eopnotsupp}
 use Rattle.pt_host.specs.Tree.{Opened, IsOpenOn}
-use Rattle.pt_host.specs.LawfulTree.{Opens, opened_on, closed_at}
+use Rattle.pt_host.specs.LawfulTree.{opened_on, closed_at}
 use Rattle.pt_host.specs.declared.ids.Errno.{Errno}
 use Rattle.pt_host.specs.declared.ids.Fd.{Fd}
 use Rattle.pt_host.specs.declared.flags.OpenFlags.{OpenFlags}
 use Rattle.pt_host.specs.declared.seat.HostSeat.{HostSeat}
-use Rattle.pt_host.specs.declared.reply.HostReply.{HostReply}
-use Rattle.pt_host.specs.declared.reply.HostReply.TheVariants as reply
-use Rattle.pt_host.specs.declared.reply.HostValue.TheVariants as value
 use Rattle.pt_node.specs.Names.{found}
 use Rattle.pt_node.specs.Node.{name_at, names_in, object_of}
 use Rattle.pt_node.specs.Slots.{open_at, file_of, least_free, put_at, closed_where}
 use Rattle.pt_rules.specs.State.{State, tree_of, opened_as, time_of}
 use Rattle.pt_node.specs.Opening.{first_refusal, path_checks, open_checks, opening_refusal, after_opening}
-use Rattle.pt_rules.specs.Calls.{begun_on, tells, unless, with_descriptor, with_opened, opening_of, open_walked}
-use Rattle.pt_rules.specs.Calls.{name_refusal, name_checks}
-use Rattle.pt_rules.specs.Finding.{find_in, find_name}
-use Rattle.pt_node.specs.Paths.{ok_unless}
+use Rattle.pt_rules.specs.Calls.{begun_on, with_descriptor, with_opened, name_refusal, name_checks}
+use Rattle.pt_rules.specs.Sound.{IsSound}
+use Rattle.pt_node.specs.Paths.{led_on, ok_unless}
 use Rattle.pt_node.specs.declared.node.Node.{Node}
 use Rattle.pt_node.specs.declared.slots.OpenFile.{OpenFile}
 use Rattle.pt_node.specs.declared.slots.Slot.{Slot}
@@ -36,6 +31,7 @@ use Rattle.pt_node.specs.Laws.Updates.{map-set_same, get-put_here, get-put_apart
 use Rattle.pt_node.specs.Laws.Updates.{same_function, open_slot}
 use Rattle.pt_rules.specs.Laws.Keeping.{KeepsNode, keeps_opening}
 use Rattle.pt_rules.specs.Laws.Changed.{same_tree}
+use Rattle.pt_rules.specs.Laws.Finding.{find_in, find_name, named_none}
 use Rattle.pt_rules.specs.Laws.Soundness.{same_names}
 use Rattle.pt_rules.specs.Laws.WellFormed.{file_of_open}
 
@@ -152,93 +148,39 @@ pub opening_allowed : (seat : HostSeat) (node : Node) (flags : ℕ) → opening_
     (includes flags o_tmpfile && not (includes flags o_path)) ≡ false
 opening_allowed seat node flags is = allowed_where (includes flags o_path) (includes flags o_tmpfile) _ _ eopnotsupp is
 
--- refused, with another error than that the name is not there
-abbrev pub Refuses : State → HostReply → State → Type 0
-Refuses before given after = (errno : Errno) × (given ≡ reply.Refused errno) × (errno ≢ enoent) × (after ≡ before)
-
-abbrev pub HasOpened : State → OpenFlags → ℕ → HostReply → State → Type 0
-HasOpened before flags object given after =
-    (fd : Fd) × (given ≡ reply.Ok (value.Fd fd)) × Opens (tree_of before) object flags fd (tree_of after)
-
-opened_unless : (before : State) (seat : HostSeat) (flags : OpenFlags) (object : ℕ) (node : Node)
-    (errno : Option Errno) (given : HostReply) (after : State) →
-    opening_refusal seat node flags.0 ≡ errno → slice_get before.nodes object ≡ Some node →
-    (given, after) ≡ unless before errno
-    (tells (with_opened before seat flags object node) (value.Fd (record { 0 = least_free before.slots }))) →
-    Refuses before given after ⊎ HasOpened before flags object given after
-opened_unless before seat flags object node (Some errno) given after refusal is told =
-    inl (errno, ap (λ both. both.0) told, opening_refused seat node flags.0 errno refusal, ap (λ both. both.1) told)
-opened_unless before seat flags object node None given after refusal is told =
-    inr (
-      record { 0 = least_free before.slots },
-      ap (λ both. both.0) told,
-      record {
-        listed = subst (λ n. object
-            < n) (sym (length-map before.nodes object_of)) (slice_get_within before.nodes object node is);
-        fresh = ap (option_map opened_as) (least_free-closed before.slots);
-        allowed = opening_allowed seat node flags.0 refusal;
-        adds = ap tree_of (ap (λ both. both.1) told) ∙ tree-with_opened before seat flags object node is;
-      },
-    )
-
-opened_cases : (before : State) (seat : HostSeat) (flags : OpenFlags) (object : ℕ) (node : Option Node)
-    (given : HostReply) (after : State) →
-    slice_get before.nodes object ≡ node → (given, after) ≡ opening_of before seat flags object node →
-    Refuses before given after ⊎ HasOpened before flags object given after
-opened_cases before seat flags object None given after is told =
-    inl (estale, ap (λ both. both.0) told, errnos_apart 116 2 refl, ap (λ both. both.1) told)
-opened_cases before seat flags object (Some node) given after is told =
-    opened_unless before seat flags object node (opening_refusal seat node flags.0) given after refl is told
-
--- where a walk led nowhere it is refused so
-abbrev pub LedNowhere : State → Result ℕ Errno → HostReply → State → Type 0
-LedNowhere before led given after =
-    (errno : Errno) × (led ≡ Err errno) × (given ≡ reply.Refused errno) × (after ≡ before)
-
-abbrev pub LedTo : State → OpenFlags → Result ℕ Errno → HostReply → State → Type 0
-LedTo before flags led given after =
-    (object : ℕ) × (led ≡ Ok object) × (Refuses before given after ⊎ HasOpened before flags object given after)
-
-pub walked_cases : (before : State) (seat : HostSeat) (flags : OpenFlags) (led : Result ℕ Errno) (given : HostReply)
-    (after : State) →
-    (given, after) ≡ open_walked before seat flags led →
-    LedNowhere before led given after ⊎ LedTo before flags led given after
-walked_cases before seat flags (Err errno) given after told =
-    inl (errno, refl, ap (λ both. both.0) told, ap (λ both. both.1) told)
-walked_cases before seat flags (Ok object) given after told =
-    inr (object, refl, opened_cases before seat flags object (slice_get before.nodes object) given after refl told)
-
-abbrev failed : Errno → Result ℕ Errno
+abbrev failed : Errno → Result (ℕ × Node) Errno
 failed errno = Err errno
 
 same_error : (errno other : Errno) → failed errno ≡ failed other → errno ≡ other
 same_error errno other is = cc
 
-missing_where : (checks : List (Bool × Errno)) (refusal : Option Errno) (held : Option ℕ) → NoneTells enoent checks →
-    first_refusal checks ≡ refusal → ok_unless refusal (ok_or held enoent) ≡ Err enoent → held ≡ None
+missing_where : (checks : List (Bool × Errno)) (refusal : Option Errno) (held : Option (ℕ × Node)) →
+    NoneTells enoent checks →
+    first_refusal checks ≡ refusal → ok_unless refusal (ok_or held enoent) ≡ failed enoent → held ≡ None
 missing_where checks (Some errno) held none first is =
     absurd (refused_otherwise enoent checks errno none first (same_error errno enoent is))
 missing_where checks None None none first is = refl
 missing_where checks None (Some other) none first is = cc
 
-missing_in : (seat : HostSeat) (name : List ℕ) (file : OpenFile) (dir : Option Node) →
-    find_in seat name (option_map (λ node. (file, node)) dir) ≡ Err enoent →
-    option_and_then (λ node. found name (names_in node.content)) dir ≡ None
-missing_in seat name file None is = refl
-missing_in seat name file (Some dir) is =
+missing_in : (nodes : List Node) (seat : HostSeat) (name : List ℕ) (file : OpenFile) (dir : Option Node) →
+    find_in nodes seat name (option_map (λ node. (file, node)) dir) ≡ failed enoent →
+    led_on nodes (option_and_then (λ node. found name (names_in node.content)) dir) ≡ None
+missing_in nodes seat name file None is = refl
+missing_in nodes seat name file (Some dir) is =
     let none : NoneTells enoent (name_checks seat dir name) =
     (errnos_apart 20 2 refl, (errnos_apart 36 2 refl, (errnos_apart 13 2 refl, tt))) in
     missing_where (name_checks seat dir name) (name_refusal seat dir name)
-    (found name (names_in dir.content)) none refl is
+    (led_on nodes (found name (names_in dir.content))) none refl is
 
-pub missing_name : (nodes : List Node) (seat : HostSeat) (name : List ℕ) (file : Option OpenFile) →
-    find_name nodes seat name file ≡ Err enoent →
-    (dir : OpenFile) → file ≡ Some dir → name_at nodes dir.object name ≡ None
-missing_name nodes seat name None is dir held = cc
-missing_name nodes seat name (Some other) is dir held =
+pub missing_name : (state : State) (seat : HostSeat) (name : List ℕ) (file : Option OpenFile) → IsSound state →
+    find_name state.nodes seat name file ≡ Err enoent →
+    (dir : OpenFile) → file ≡ Some dir → name_at state.nodes dir.object name ≡ None
+missing_name state seat name None sound is dir held = cc
+missing_name state seat name (Some other) sound is dir held =
     let same : other ≡ dir = same_Some other dir held in
-    subst (λ (file : OpenFile). name_at nodes file.object name
-    ≡ None) same (missing_in seat name other (slice_get nodes other.object) is)
+    subst (λ (file : OpenFile). name_at state.nodes file.object name ≡ None) same
+    (named_none state other.object name (name_at state.nodes other.object name) sound refl
+    (missing_in state.nodes seat name other (slice_get state.nodes other.object) is))
 
 -- the descriptor's own object
 pub open_there : (state : State) (fd : Fd) (file : OpenFile) → open_at state.slots fd.0 ≡ Some file →

@@ -1,23 +1,28 @@
 -- Proof. What an edit comes to: it is refused and changes nothing, or it is made and does as its like call.
 use Rattle.std.proofs.Common.{◌≡◌, ◌≢◌, ◌<◌, ◌+◌, ◌%◌, ◌⊎◌, inl, inr, ℕ, Bool, true, false, not, ◌||◌, cond, List, []}
-use Rattle.std.proofs.Common.{◌∷◌, length, Option, Some, None, Result, Ok, Err, is_some, slice_get, refl, ap, sym}
-use Rattle.std.proofs.Common.{◌∙◌, ◌==◌, subst, arith}
+use Rattle.std.proofs.Common.{◌∷◌, length, Option, Some, None, Result, Ok, Err, is_some, ok_or, option_map, slice_get}
+use Rattle.std.proofs.Common.{option_and_then, refl, ap, sym, ◌∙◌, ◌==◌, subst, arith}
 use Rattle.std.proofs.lemmas.Bool.Decides.{eqb_tells}
 use Rattle.std.proofs.lemmas.Option.{same_Some}
 use Rattle.pt_host.specs.Errno.{enoent, eexist}
 use Rattle.pt_host.specs.declared.edit.Edit.{Edit}
 use Rattle.pt_host.specs.declared.edit.Edit.TheVariants as edit
 use Rattle.pt_host.specs.declared.ids.Errno.{Errno}
-use Rattle.pt_node.specs.Node.{name_at, names_in, size_of}
-use Rattle.pt_rules.specs.State.{State}
-use Rattle.pt_rules.specs.Calls.{Answered, done, refused, unless}
-use Rattle.pt_node.specs.Paths.{then_on, ok_unless, parts}
 use Rattle.pt_node.specs.Entries.{is_directory_at, is_directory_where}
-use Rattle.pt_rules.specs.EditPaths.{at_root, judged, judged_at, last_refusal, place_from, path_goes_through}
-use Rattle.pt_rules.specs.Edits.{at_name, at_place, edited, make_at, make_in, make_refusal, made, move_refusal}
-use Rattle.pt_rules.specs.Edits.{node_at, rename_found, rename_judged, rename_onto, replace_refusal, unlink_at}
-use Rattle.pt_rules.specs.Edits.{unlink_found, unlink_refusal, with_made, with_moved, with_rewritten, with_unlinked}
-use Rattle.pt_rules.specs.Edits.{write_found, write_refusal}
+use Rattle.pt_node.specs.Names.{found}
+use Rattle.pt_node.specs.Node.{is_directory, name_at, names_in, size_of}
+use Rattle.pt_node.specs.Opening.{first_refusal}
+use Rattle.pt_node.specs.Paths.{from_root, led_on, ok_unless, parts, step_from, then_on}
+use Rattle.pt_rules.specs.Calls.{Answered, checked, done, on_led, refused, there_in, unless}
+use Rattle.pt_rules.specs.EditPaths.{Place, judged, judged_at, judged_from, last_refusal, named_at, past, place_from}
+use Rattle.pt_rules.specs.EditPaths.{path_goes_through}
+use Rattle.pt_rules.specs.Edits.{at_name, at_place, edited, made, make_at, make_in, move_checks, new_checks}
+use Rattle.pt_rules.specs.Edits.{rename_judged, rename_onto, rename_placed, replace_checks, unlink_at, unlink_checks}
+use Rattle.pt_rules.specs.Edits.{with_made, with_moved, with_rewritten, with_unlinked, write_at, write_checks}
+use Rattle.pt_rules.specs.Sound.{IsSound}
+use Rattle.pt_rules.specs.State.{State}
+use Rattle.pt_rules.specs.Finding.{IsPlaced, IsThere}
+use Rattle.pt_rules.specs.Laws.Finding.{led_is, named_none, root_begins, step_reaches}
 use Rattle.pt_node.specs.declared.node.Node.{Node}
 use Rattle.pt_node.specs.declared.node.Content.{Content}
 use Rattle.pt_node.specs.declared.node.Content.TheVariants.{Directory, Regular}
@@ -87,38 +92,35 @@ if_not : (state : State) (b : Bool) (errno : Errno) (told : Answered) (effect : 
 if_not state true errno told effect then = inl (errno, refl)
 if_not state false errno told effect then = then
 
-named_place : (state : State) (root : Errno) (dir : ℕ) (name : List ℕ) (next : ℕ → List ℕ →
-    Answered) (effect : State → Type 0) →
-    Outcome state (next dir name) effect → Outcome state (at_name state root dir name next) effect
-named_place state root dir [] next effect then = inl (root, refl)
-named_place state root dir (first ∷ name) next effect then = then
+by_name : (state : State) (root : Errno) (place : Place) (next : Place → Answered) (effect : State → Type 0) →
+    Outcome state (next place) effect → Outcome state (at_name state root place next) effect
+by_name state root (dir, []) next effect then = inl (root, refl)
+by_name state root (dir, first ∷ name) next effect then = then
 
-judged_place : (state : State) (root : Errno) (place : Result (ℕ × List ℕ) Errno) (next : ℕ → List ℕ →
+by_place : (state : State) (root : Errno) (place : Result Place Errno) (next : Place →
     Answered) (effect : State → Type 0) →
-    ((at : ℕ × List ℕ) → place ≡ Ok at → Outcome state (next at.0 at.1) effect) →
+    ((at : Place) → place ≡ Ok at → Outcome state (next at) effect) →
     Outcome state (at_place state root place next) effect
-judged_place state root (Err errno) next effect then = inl (errno, refl)
-judged_place state root (Ok at) next effect then = named_place state root at.0 at.1 next effect (then at refl)
+by_place state root (Err errno) next effect then = inl (errno, refl)
+by_place state root (Ok at) next effect then = by_name state root at next effect (then at refl)
 
--- ---- a place that was judged is in a directory
+by_led : (state : State) (held : Option (ℕ × Node)) (rest : ℕ → Node → Answered) (effect : State → Type 0) →
+    ((at : ℕ × Node) → held ≡ Some at → Outcome state (rest at.0 at.1) effect) →
+    Outcome state (on_led state held rest) effect
+by_led state None rest effect then = inl (enoent, refl)
+by_led state (Some at) rest effect then = then at refl
 
-abbrev placed : ℕ × List ℕ → Result (ℕ × List ℕ) Errno
+-- ---- a place that was judged is in a directory that is there
+
+abbrev placed : Place → Result Place Errno
 placed place = Ok place
 
-abbrev unplaced : Errno → Result (ℕ × List ℕ) Errno
-unplaced errno = Err errno
-
-if_placed : (b : Bool) (led : Result (ℕ × List ℕ) Errno) (errno : Errno) (place : ℕ × List ℕ) →
-    cond b led (unplaced errno) ≡ placed place → led ≡ placed place
-if_placed true led errno place is = is
-if_placed false led errno place is = cc
-
-then_placed : (led : Result (ℕ × List ℕ) Errno) (next : ℕ × List ℕ → Result (ℕ × List ℕ) Errno) (place : ℕ × List ℕ) →
-    then_on led next ≡ placed place → (at : ℕ × List ℕ) × (next at ≡ placed place)
-then_placed (Ok at) next place is = (at, is)
+then_placed : {A : Type 0} (led : Result A Errno) (next : A → Result Place Errno) (place : Place) →
+    then_on led next ≡ placed place → (at : A) × (led ≡ Ok at) × (next at ≡ placed place)
+then_placed (Ok at) next place is = (at, refl, is)
 then_placed (Err errno) next place is = cc
 
-none_refused : (refusal : Option Errno) (at place : ℕ × List ℕ) → ok_unless refusal (placed at) ≡ placed place →
+none_refused : (refusal : Option Errno) (at place : Place) → ok_unless refusal (placed at) ≡ placed place →
     (refusal ≡ None) × (at ≡ place)
 none_refused None at place is = (refl, cc)
 none_refused (Some errno) at place is = cc
@@ -132,41 +134,71 @@ not_not : (b : Bool) → not b ≡ false → b ≡ true
 not_not true is = refl
 not_not false is = cc
 
-last_directory : (dir : Option Node) (name : List ℕ) → last_refusal dir name ≡ None → is_directory_where dir ≡ true
-last_directory dir name is =
-    not_not (is_directory_where dir) (passes_first (not (is_directory_where dir)) _ _ is).0
+last_directory : (dir : Node) (name : List ℕ) → last_refusal dir name ≡ None → is_directory dir ≡ true
+last_directory dir name is = not_not (is_directory dir) (passes_first (not (is_directory dir)) _ _ is).0
 
-pub judged_directory : (nodes : List Node) (path : List ℕ) (place : ℕ × List ℕ) → judged nodes path ≡ Ok place →
-    is_directory_at nodes place.0 ≡ true
-judged_directory nodes [] place is = cc
-judged_directory nodes (first ∷ path) place is =
-    let led = if_placed (first == 47)
-    (then_on (place_from nodes at_root (parts path)) (judged_at nodes)) enoent place is in
-    let at = then_placed (place_from nodes at_root (parts path)) (judged_at nodes) place led in
-    let none = none_refused (last_refusal (slice_get nodes at.0.0) at.0.1) at.0 place at.1 in
-    subst (λ (p : ℕ × List ℕ). is_directory_at nodes p.0
-    ≡ true) none.1 (last_directory (slice_get nodes at.0.0) at.0.1 none.0)
+past_there : (nodes : List Node) (at : Place) (part : List ℕ) (next : Place) → IsThere nodes at.0 →
+    past nodes at part ≡ placed next → IsThere nodes next.0
+past_there nodes at [] next there is =
+    (let same : at ≡ next = cc in subst (λ (p : Place). IsThere nodes p.0) same there)
+past_there nodes at (first ∷ part) next there is =
+    let led = then_placed (step_from nodes at.0 at.1) (λ dir. Ok (dir, first ∷ part)) next is in
+    let same : led.0 ≡ next.0 = dir_of led.0 next led.2 in
+    subst (IsThere nodes) same (step_reaches nodes at.0 at.1 led.0 there led.1).1
+  where
+    dir_of : (dir : ℕ × Node) (next : Place) → placed (dir, first ∷ part) ≡ placed next → dir ≡ next.0
+    dir_of dir next is = (let e : (dir, first ∷ part) ≡ next = cc in ap (λ (p : Place). p.0) e)
+
+from_there : (nodes : List Node) (at : Place) (names : List (List ℕ)) (place : Place) → IsThere nodes at.0 →
+    place_from nodes at names ≡ placed place → IsThere nodes place.0
+from_there nodes at [] place there is =
+    (let same : at ≡ place = cc in subst (λ (p : Place). IsThere nodes p.0) same there)
+from_there nodes at (part ∷ more) place there is =
+    let next = then_placed (past nodes at part) (λ to. place_from nodes to more) place is in
+    from_there nodes next.0 more place (past_there nodes at part next.0 there next.1) next.2
+
+root_found : (held : Option (ℕ × Node)) (root : ℕ × Node) → ok_or held enoent ≡ Ok root → held ≡ Some root
+root_found None root is = cc
+root_found (Some other) root is = (let e : other ≡ root = cc in ap (λ o. Some o) e)
+
+pub judged_there : (nodes : List Node) (path : List ℕ) (place : Place) → judged nodes path ≡ Ok place →
+    IsPlaced nodes place
+judged_there nodes path place is =
+    let root = then_placed (ok_or (from_root nodes path) enoent) (judged_from nodes path) place is in
+    let begins = root_begins nodes path root.0 (root_found (from_root nodes path) root.0 root.1) in
+    let at = then_placed (place_from nodes (root.0, []) (parts path)) judged_at place root.2 in
+    let none = none_refused (last_refusal at.0.0.1 at.0.1) at.0 place at.2 in
+    subst (IsPlaced nodes) none.1 (
+      from_there nodes (root.0, []) (parts path) at.0 begins.1 at.1,
+      last_directory at.0.0.1 at.0.1 none.0,
+    )
 
 -- ---- each edit
 
-unlink_outcome : (state : State) (dir : ℕ) (name : List ℕ) (object : Option ℕ) → name_at state.nodes dir name ≡ object →
-    Outcome state (unlink_found state dir name object) (Unlinks state)
-unlink_outcome state dir name None is = inl (enoent, refl)
-unlink_outcome state dir name (Some object) is =
-    unless_refused state (unlink_refusal (slice_get state.nodes dir) (slice_get state.nodes object))
-    (done (with_unlinked state dir name object)) (Unlinks state)
+-- what a name leads to from a place that is there
+leads_from : (nodes : List Node) (place : Place) (held : Option ℕ) → IsThere nodes place.0 →
+    there_in place.0.1 place.1 ≡ held → name_at nodes place.0.0 place.1 ≡ held
+leads_from nodes place held there is =
+    ap (option_and_then (λ (node : Node). found place.1 (names_in node.content))) there ∙ is
+
+unlink_outcome : (state : State) (place : Place) → IsPlaced state.nodes place →
+    Outcome state (unlink_at state place) (Unlinks state)
+unlink_outcome state place at =
+    by_led state (led_on state.nodes (there_in place.0.1 place.1)) _ (Unlinks state)
+    (λ led is. unless_refused state (first_refusal (unlink_checks place.0.1 led.1))
+    (done (with_unlinked state place.0.0 place.1 led.0)) (Unlinks state)
     (λ _. inr (
-      with_unlinked state dir name object,
+      with_unlinked state place.0.0 place.1 led.0,
       refl,
       record {
-        dir =
-            dir;
-        name = name;
-        object = object;
-        there = is;
+        dir = place.0.0;
+        name = place.1;
+        object = led.0;
+        there = leads_from state.nodes place (Some led.0) at.0
+            (led_is state.nodes (there_in place.0.1 place.1) led is).0;
         leaves = refl;
       },
-    ))
+    )))
 
 module _ (state : State) (from to : ℕ × List ℕ) (object : ℕ) (there : name_at state.nodes from.0 from.1 ≡ Some object)
     (into : is_directory_at state.nodes to.0 ≡ true) where
@@ -184,82 +216,94 @@ module _ (state : State) (from to : ℕ × List ℕ) (object : ℕ) (there : nam
         moves = moves;
       }
 
-  onto_another : (target : ℕ) → name_at state.nodes to.0 to.1 ≡ Some target → (b : Bool) →
-      (b ≡ true → target ≡ object) → (b ≡ false → target ≢ object) →
+  onto_another : (node : Node) (target : ℕ × Node) → name_at state.nodes to.0 to.1 ≡ Some target.0 → (b : Bool) →
+      (b ≡ true → target.0 ≡ object) → (b ≡ false → target.0 ≢ object) →
       Outcome state (cond b (done state)
-      (unless state (replace_refusal (slice_get state.nodes object) (slice_get state.nodes target))
-      (done (with_moved state from to object (Some target))))) (RenamesEntry state)
-  onto_another target is true same apart =
-      inr (state, refl, renames (Some target) state is (inl (ap (λ t. Some t) (same refl), refl)))
-  onto_another target is false same apart =
-      unless_refused state (replace_refusal (slice_get state.nodes object) (slice_get state.nodes target))
-      (done (with_moved state from to object (Some target))) (RenamesEntry state)
+      (checked state (replace_checks node target.1)
+      (done (with_moved state from to object (Some target.0))))) (RenamesEntry state)
+  onto_another node target is true same apart =
+      inr (state, refl, renames (Some target.0) state is (inl (ap (λ t. Some t) (same refl), refl)))
+  onto_another node target is false same apart =
+      unless_refused state (first_refusal (replace_checks node target.1))
+      (done (with_moved state from to object (Some target.0))) (RenamesEntry state)
       (λ _. inr (
-        with_moved state from to object (Some target),
+        with_moved state from to object (Some target.0),
         refl,
-        renames (Some target) (with_moved state from to object (Some target)) is
-            (inr ((λ e. apart refl (same_Some target object e)), refl)),
+        renames (Some target.0) (with_moved state from to object (Some target.0)) is
+            (inr ((λ e. apart refl (same_Some target.0 object e)), refl)),
       ))
 
-  onto_outcome : (target : Option ℕ) → name_at state.nodes to.0 to.1 ≡ target →
-      Outcome state (rename_onto state from to object target) (RenamesEntry state)
-  onto_outcome None is =
+  onto_outcome : (node : Node) (target : Option (ℕ × Node)) →
+      name_at state.nodes to.0 to.1 ≡ option_map (λ (at : ℕ × Node). at.0) target →
+      Outcome state (rename_onto state from to object node target) (RenamesEntry state)
+  onto_outcome node None is =
       inr (
         with_moved state from to object None,
         refl,
         renames None (with_moved state from to object None) is (inr ((λ e. cc), refl)),
       )
-  onto_outcome (Some target) is = elim (eqb_tells target object) [
-    | inl same ↦ onto_another target is (target == object) (λ _. same.1) (λ e.
+  onto_outcome node (Some target) is = elim (eqb_tells target.0 object) [
+    | inl same ↦ onto_another node target is (target.0 == object) (λ _. same.1) (λ e.
         absurd (let f : true ≡ false = sym same.0 ∙ e in cc))
-    | inr apart ↦ onto_another target is (target == object) (λ e.
+    | inr apart ↦ onto_another node target is (target.0 == object) (λ e.
         absurd (let f : true ≡ false = sym e ∙ apart.0 in cc)) (λ _. apart.1)
   ]
 
-rename_outcome : (state : State) (new : List ℕ) (from to : ℕ × List ℕ) (object : Option ℕ) →
-    name_at state.nodes from.0 from.1 ≡ object →
-    is_directory_at state.nodes to.0 ≡ true → Outcome state (rename_found state new from to object) (RenamesEntry state)
-rename_outcome state new from to None is into = inl (enoent, refl)
-rename_outcome state new from to (Some object) is into =
-    unless_refused state
-    (move_refusal (path_goes_through object state.nodes new) (slice_get state.nodes from.0)
-    (slice_get state.nodes to.0) (slice_get state.nodes object)
-    (node_at state.nodes (name_at state.nodes to.0 to.1)))
-    (rename_onto state from to object (name_at state.nodes to.0 to.1)) (RenamesEntry state)
-    (λ _. onto_outcome state from to object is into (name_at state.nodes to.0 to.1) refl)
+-- the name of a place leads to what is there
+pub target_is : (state : State) (place : Place) (target : Option (ℕ × Node)) → IsSound state →
+    IsThere state.nodes place.0 →
+    led_on state.nodes (there_in place.0.1 place.1) ≡ target →
+    name_at state.nodes place.0.0 place.1 ≡ option_map (λ (at : ℕ × Node). at.0) target
+target_is state place None sound there is =
+    let leads = leads_from state.nodes place (there_in place.0.1 place.1) there refl in
+    leads ∙ named_none state place.0.0 place.1 (there_in place.0.1 place.1) sound leads is
+target_is state place (Some at) sound there is =
+    leads_from state.nodes place (Some at.0) there (led_is state.nodes (there_in place.0.1 place.1) at is).0
 
-renamed_outcome : (state : State) (new : List ℕ) (from to : Result (ℕ × List ℕ) Errno) →
-    ((place : ℕ × List ℕ) → to ≡ Ok place → is_directory_at state.nodes place.0 ≡ true) →
+rename_outcome : (state : State) (new : List ℕ) (from to : Place) → IsSound state →
+    IsPlaced state.nodes from → IsPlaced state.nodes to →
+    Outcome state (rename_placed state new from to) (RenamesEntry state)
+rename_outcome state new from to sound at into =
+    by_led state (led_on state.nodes (there_in from.0.1 from.1)) _ (RenamesEntry state)
+    (λ led is.
+    let target = led_on state.nodes (there_in to.0.1 to.1) in
+    unless_refused state
+    (first_refusal (move_checks (path_goes_through led.0 state.nodes new) from.0.1 to.0.1 led.1 target))
+    (rename_onto state (named_at from) (named_at to) led.0 led.1 target) (RenamesEntry state)
+    (λ _. onto_outcome state (named_at from) (named_at to) led.0
+    (leads_from state.nodes from (Some led.0) at.0 (led_is state.nodes (there_in from.0.1 from.1) led is).0)
+    (ap is_directory_where into.0 ∙ into.1) led.1 target (target_is state to target sound into.0 refl)))
+
+renamed_outcome : (state : State) (new : List ℕ) (from to : Result Place Errno) → IsSound state →
+    ((place : Place) → from ≡ Ok place → IsPlaced state.nodes place) →
+    ((place : Place) → to ≡ Ok place → IsPlaced state.nodes place) →
     Outcome state (rename_judged state new from to) (RenamesEntry state)
-renamed_outcome state new (Err errno) to into = inl (errno, refl)
-renamed_outcome state new (Ok from) (Err errno) into = inl (errno, refl)
-renamed_outcome state new (Ok from) (Ok to) into =
-    if_not state ((length from.1 == 0)
-    || (length to.1 == 0)) _ (rename_found state new from to (name_at state.nodes from.0 from.1)) (RenamesEntry state)
-    (rename_outcome state new from to (name_at state.nodes from.0 from.1) refl (into to refl))
+renamed_outcome state new (Err errno) to sound at into = inl (errno, refl)
+renamed_outcome state new (Ok from) (Err errno) sound at into = inl (errno, refl)
+renamed_outcome state new (Ok from) (Ok to) sound at into =
+    if_not state ((length from.1 == 0) || (length to.1 == 0)) _ (rename_placed state new from to) (RenamesEntry state)
+    (rename_outcome state new from to sound (at from refl) (into to refl))
 
 pub none_there : (there : Option ℕ) → is_some there ≡ false → there ≡ None
 none_there None is = refl
 none_there (Some object) is = cc
 
-pub made_in : (state : State) (numbers : ℕ →
-    ℕ) (permissions uid gid rdev : ℕ) (content : Content) (dir : ℕ) (name : List ℕ) (parent : Option Node) →
-    permissions < 4096 → slice_get state.nodes dir ≡ parent → is_directory_at state.nodes dir ≡ true →
-    name_at state.nodes dir name ≡ None → names_in content ≡ [] →
-    Outcome state (make_in state numbers dir name permissions uid gid rdev content parent) (Makes state numbers)
-made_in state numbers permissions uid gid rdev content dir name None small is into free empty = inl (_, refl)
-made_in state numbers permissions uid gid rdev content dir name (Some parent) small is into free empty =
+made_in : (state : State) (numbers : ℕ → ℕ) (permissions uid gid rdev : ℕ) (content : Content) (place : Place) →
+    permissions < 4096 → IsPlaced state.nodes place → there_in place.0.1 place.1 ≡ None → names_in content ≡ [] →
+    Outcome state (make_in state numbers place.0.0 place.1 permissions uid gid rdev content place.0.1)
+    (Makes state numbers)
+made_in state numbers permissions uid gid rdev content place small at free empty =
     inr (
-      with_made state dir name (made state numbers permissions uid gid rdev content parent),
+      with_made state place.0.0 place.1 (made state numbers permissions uid gid rdev content place.0.1),
       refl,
       record {
-        dir = dir;
-        name = name;
-        node = made state numbers permissions uid gid rdev content parent;
-        parent = parent;
-        into = into;
-        free = free;
-        at_dir = is;
+        dir = place.0.0;
+        name = place.1;
+        node = made state numbers permissions uid gid rdev content place.0.1;
+        parent = place.0.1;
+        into = ap is_directory_where at.0 ∙ at.1;
+        free = leads_from state.nodes place None at.0 free;
+        at_dir = at.0;
         empty = empty;
         serial = refl;
         small = small;
@@ -268,52 +312,48 @@ made_in state numbers permissions uid gid rdev content dir name (Some parent) sm
       },
     )
 
-make_outcome : (state : State) (numbers : ℕ → ℕ) (mode uid gid : ℕ) (content : Content) (dir : ℕ) (name : List ℕ) →
-    is_directory_at state.nodes dir ≡ true → names_in content ≡ [] →
-    Outcome state (make_at state numbers mode uid gid content dir name) (Makes state numbers)
-make_outcome state numbers mode uid gid content dir name into empty =
-    unless_refused state (make_refusal (name_at state.nodes dir name) (size_of content))
-    (make_in state numbers dir name (mode % 4096) uid gid 0 content (slice_get state.nodes dir)) (Makes state numbers)
-    (λ none. made_in state numbers (mode % 4096) uid gid 0 content dir name (slice_get state.nodes dir)
-    (omega arith) refl into
-    (none_there (name_at state.nodes dir name)
-    (passes_first (is_some (name_at state.nodes dir name)) eexist _ none).0) empty)
+make_outcome : (state : State) (numbers : ℕ → ℕ) (mode uid gid : ℕ) (content : Content) (place : Place) →
+    IsPlaced state.nodes place → names_in content ≡ [] →
+    Outcome state (make_at state numbers mode uid gid content place) (Makes state numbers)
+make_outcome state numbers mode uid gid content place at empty =
+    let there = there_in place.0.1 place.1 in
+    unless_refused state (first_refusal (new_checks there (size_of content)))
+    (make_in state numbers place.0.0 place.1 (mode % 4096) uid gid 0 content place.0.1) (Makes state numbers)
+    (λ none. made_in state numbers (mode % 4096) uid gid 0 content place (omega arith) at
+    (none_there there (passes_first (is_some there) eexist _ none).0) empty)
 
-write_outcome : (state : State) (bytes : List ℕ) (object : Option ℕ) →
-    Outcome state (write_found state bytes object) (Rewrites state)
-write_outcome state bytes None = inl (enoent, refl)
-write_outcome state bytes (Some object) =
-    unless_refused state (write_refusal (slice_get state.nodes object) (length bytes))
-    (done (with_rewritten state object bytes)) (Rewrites state)
+write_outcome : (state : State) (bytes : List ℕ) (place : Place) →
+    Outcome state (write_at state bytes place) (Rewrites state)
+write_outcome state bytes place =
+    by_led state (led_on state.nodes (there_in place.0.1 place.1)) _ (Rewrites state)
+    (λ led is. unless_refused state (first_refusal (write_checks led.1 (length bytes)))
+    (done (with_rewritten state led.0 bytes)) (Rewrites state)
     (λ none. inr (
-      with_rewritten state object bytes,
+      with_rewritten state led.0 bytes,
       refl,
       record {
-        object = object;
+        object = led.0;
         bytes = bytes;
         leaves = refl;
       },
-    ))
+    )))
 
-pub edit_outcome : (state : State) (numbers : ℕ → ℕ) (asked : Edit) →
+pub edit_outcome : (state : State) (numbers : ℕ → ℕ) (asked : Edit) → IsSound state →
     Outcome state (edited state numbers asked) (EditEffect state numbers asked)
-edit_outcome state numbers (edit.Unlink path) =
-    judged_place state _ (judged state.nodes path) (unlink_at state) (Unlinks state)
-    (λ at is. unlink_outcome state at.0 at.1 (name_at state.nodes at.0 at.1) refl)
-edit_outcome state numbers (edit.Rename old new) =
-    renamed_outcome state new (judged state.nodes old) (judged state.nodes new) (λ place is.
-    judged_directory state.nodes new place is)
-edit_outcome state numbers (edit.File path mode uid gid bytes) =
-    judged_place state _ (judged state.nodes path) (make_at state numbers mode uid gid (Regular bytes))
+edit_outcome state numbers (edit.Unlink path) sound =
+    by_place state _ (judged state.nodes path) (unlink_at state) (Unlinks state)
+    (λ at is. unlink_outcome state at (judged_there state.nodes path at is))
+edit_outcome state numbers (edit.Rename old new) sound =
+    renamed_outcome state new (judged state.nodes old) (judged state.nodes new) sound
+    (λ place is. judged_there state.nodes old place is) (λ place is. judged_there state.nodes new place is)
+edit_outcome state numbers (edit.File path mode uid gid bytes) sound =
+    by_place state _ (judged state.nodes path) (make_at state numbers mode uid gid (Regular bytes))
     (Makes state numbers)
-    (λ at is. make_outcome state numbers mode uid gid (Regular bytes) at.0 at.1
-    (judged_directory state.nodes path at is) refl)
-edit_outcome state numbers (edit.Dir path mode uid gid) =
-    judged_place state _ (judged state.nodes path) (make_at state numbers mode uid gid (Directory []))
+    (λ at is. make_outcome state numbers mode uid gid (Regular bytes) at (judged_there state.nodes path at is) refl)
+edit_outcome state numbers (edit.Dir path mode uid gid) sound =
+    by_place state _ (judged state.nodes path) (make_at state numbers mode uid gid (Directory []))
     (Makes state numbers)
-    (λ at is. make_outcome state numbers mode uid gid (Directory []) at.0 at.1
-    (judged_directory state.nodes path at is) refl)
-edit_outcome state numbers (edit.Write path bytes) =
-    judged_place state _ (judged state.nodes path) (λ dir name.
-    write_found state bytes (name_at state.nodes dir name)) (Rewrites state)
-    (λ at is. write_outcome state bytes (name_at state.nodes at.0 at.1))
+    (λ at is. make_outcome state numbers mode uid gid (Directory []) at (judged_there state.nodes path at is) refl)
+edit_outcome state numbers (edit.Write path bytes) sound =
+    by_place state _ (judged state.nodes path) (write_at state bytes) (Rewrites state)
+    (λ at is. write_outcome state bytes at)

@@ -1,6 +1,6 @@
 -- Proof. An attribute call by a path-only descriptor that does not go through it is refused with EBADF.
-use Rattle.std.proofs.Common.{◌≡◌, ◌<◌, ℕ, zero, suc, Bool, true, false, not, ◌&&◌, List, [], ◌∷◌, length, Option}
-use Rattle.std.proofs.Common.{Some, None, option_map, slice_get, refl, ap, sym, ◌∙◌, arith}
+use Rattle.std.proofs.Common.{◌≡◌, ℕ, Bool, true, false, not, ◌&&◌, List, [], ◌∷◌, Option, Some, None, option_map}
+use Rattle.std.proofs.Common.{slice_get, refl, ap, sym, ◌∙◌}
 use Rattle.std.proofs.lemmas.Option.{same_Some}
 use Rattle.pt_host.specs.Call.{Call}
 use Rattle.pt_host.specs.Errno.{ebadf}
@@ -20,6 +20,7 @@ use Rattle.pt_rules.specs.State.{State, tree_of}
 use Rattle.pt_rules.specs.Table.{answer}
 use Rattle.pt_node.specs.declared.node.Node.{Node}
 use Rattle.pt_node.specs.declared.slots.OpenFile.{OpenFile}
+use Rattle.pt_rules.specs.Laws.Finding.{there_within}
 use Rattle.pt_rules.specs.Laws.WellFormed.{file_of_open}
 use Rattle.pt_rules.specs.Rows.{Row, on_row, by_row}
 
@@ -38,11 +39,6 @@ bad_checks : (state : State) (checks : List (Bool × Errno)) (told : Answered) �
 bad_checks state [] told bad = absurd bad
 bad_checks state (check ∷ checks) told bad = bad_where state check.0 check.1 checks told bad.0 bad.1
 
-there_none : (nodes : List Node) (k : ℕ) → k < length nodes → slice_get nodes k ≡ None → ⊥
-there_none [] k within none = absurd (omega arith)
-there_none (node ∷ nodes) zero within none = cc
-there_none (node ∷ nodes) (suc k) within none = there_none nodes k (omega arith) none
-
 module _ (state : State) (fd : Fd) (through : Bool) (sound : IsSound state) (goes : through ≡ false)
     (only : IsPathOnly (tree_of state) fd) where
   serves_not : (file : OpenFile) → open_at state.slots fd.0 ≡ Some file → does_not_serve file through ≡ true
@@ -57,7 +53,9 @@ module _ (state : State) (fd : Fd) (through : Bool) (sound : IsSound state) (goe
       slice_get state.nodes file.object ≡ node →
       (rest : OpenFile → Node → Answered) → ((at : Node) → IsBadFd (rest file at).0) →
       IsBadFd (on_open state (option_map (λ at. (file, at)) node) rest).0
-  bad_node file is None there rest bad = absurd (there_none state.nodes file.object (sound.opened fd.0 file is) there)
+  bad_node file is None there rest bad =
+      absurd (let has = there_within state.nodes file.object (sound.opened fd.0 file is) in
+      let e : Some has.0 ≡ None = sym has.1 ∙ there in cc)
   bad_node file is (Some node) there rest bad = bad node
 
   bad_file : (file : Option OpenFile) → open_at state.slots fd.0 ≡ file → (rest : OpenFile → Node → Answered) →

@@ -1,14 +1,14 @@
 -- Proof. `Rename`: a name is moved, or two names are exchanged, and what that leaves beside the names.
 use Rattle.std.proofs.Common.{◌≡◌, ◌≢◌, ◌<◌, ◌≤◌, ◌^◌, ◌==◌, ◌&&◌, ◌||◌, ◌⊎◌, inl, inr, ℕ, Bool, true, false, not}
-use Rattle.std.proofs.Common.{cond, List, length, map, Option, Some, None, is_none, is_some, slice_get, refl, ap, sym}
-use Rattle.std.proofs.Common.{◌∙◌, subst, arith, nat_lt}
+use Rattle.std.proofs.Common.{cond, List, length, map, Option, Some, None, is_none, is_some, option_map, slice_get}
+use Rattle.std.proofs.Common.{refl, ap, sym, ◌∙◌, subst, arith, nat_lt}
 use Rattle.std.proofs.lemmas.Bool.{eqb-true, ltb-false}
 use Rattle.std.proofs.lemmas.Bool.Decides.{eqb_tells}
 use Rattle.std.proofs.lemmas.Option.{same_Some}
 use Rattle.pt_host.specs.LawfulTree.{LeadsTo}
 use Rattle.pt_host.specs.Names.{ExchangesNames, MovesName, Renames}
 use Rattle.pt_host.specs.Tree.{IsOpenOn}
-use Rattle.pt_host.specs.Errno.{einval, enoent}
+use Rattle.pt_host.specs.Errno.{einval}
 use Rattle.pt_host.specs.declared.ids.Errno.{Errno}
 use Rattle.pt_host.specs.declared.ids.Fd.{Fd}
 use Rattle.pt_host.specs.declared.ids.Time.{Time}
@@ -16,28 +16,31 @@ use Rattle.pt_host.specs.declared.seat.HostSeat.{HostSeat}
 use Rattle.pt_host.specs.declared.op.KeptHostOp.TheVariants as call
 use Rattle.pt_host.specs.declared.reply.HostValue.TheVariants as value
 use Rattle.pt_rules.specs.Beside.{IsAt}
-use Rattle.pt_rules.specs.Calls.{done, refused, unless}
-use Rattle.pt_rules.specs.Edits.{moved, node_at, replace_refusal, replaced, with_moved, rename_onto}
+use Rattle.pt_rules.specs.Calls.{checked, done, refused, there_in}
+use Rattle.pt_rules.specs.EditPaths.{Place}
+use Rattle.pt_rules.specs.Edits.{moved, on_placed, rename_onto, replace_checks, replaced, with_moved}
 use Rattle.pt_node.specs.Entries.{is_directory_at, restamped}
 use Rattle.pt_rules.specs.NameCalls.{cannot_write, exchange, exchanged, moves_into_itself, noreplace, rename}
-use Rattle.pt_rules.specs.NameCalls.{rename_found, rename_refusal, rename_refusal_of, rename_to, with_exchanged}
+use Rattle.pt_rules.specs.NameCalls.{rename_checks, rename_found, rename_to, with_exchanged}
 use Rattle.pt_node.specs.Node.{name_at, object_of}
+use Rattle.pt_node.specs.Opening.{first_refusal}
+use Rattle.pt_node.specs.Paths.{led_on}
 use Rattle.pt_node.specs.Slots.{open_at}
 use Rattle.pt_rules.specs.Sound.{IsSound}
 use Rattle.pt_rules.specs.State.{State, time_of, tree_of}
 use Rattle.pt_node.specs.declared.node.Node.{Node}
 use Rattle.pt_node.specs.declared.slots.OpenFile.{OpenFile}
-use Rattle.pt_rules.specs.Laws.Cases.{by_fd, by_name, by_refusal}
+use Rattle.pt_rules.specs.Laws.Cases.{by_checks, by_fd, by_found, by_name}
 use Rattle.pt_rules.specs.Laws.Changed.{led, led_same, objects-changed, same_tree}
 use Rattle.pt_rules.specs.Laws.EditLaws.{moves_name}
 use Rattle.pt_rules.specs.Laws.EditShapes.{first, object_gained, second, third}
 use Rattle.pt_rules.specs.Laws.EditSound.{sound_moved}
 use Rattle.pt_rules.specs.Laws.Fair.{IsFair, fair_refused}
-use Rattle.pt_rules.specs.Laws.NameFair.{asked_there, changed_other, keeps_others}
+use Rattle.pt_rules.specs.Laws.NameFair.{asked_there, changed_other, keeps_others, there_at}
 use Rattle.pt_rules.specs.Laws.NamesLed.{names_exchanged, put_back, put_there, sound_exchanged, with_both, with_one}
 use Rattle.pt_rules.specs.Laws.NamesLed.{with_stamp}
 use Rattle.pt_rules.specs.Laws.Opens.{open_there}
-use Rattle.pt_rules.specs.Laws.Outcomes.{MovesTo, RenamesEntry as Moved, none_there, passes_first}
+use Rattle.pt_rules.specs.Laws.Outcomes.{MovesTo, RenamesEntry as Moved, passes_first, target_is}
 
 -- ---- two names exchanged
 
@@ -106,20 +109,30 @@ other_than m n is same = (let e : true ≡ false = sym (ap (λ k. k == n) same �
     equal : (n : ℕ) → (n == n) ≡ true
     equal n = elim (eqb_tells n n) [ inl e ↦ e.0 | inr apart ↦ absurd (apart.1 refl) ]
 
-fits_flags : (into_itself : Bool) (seat : HostSeat) (from to node : Option Node) (target : Option ℕ)
-    (that : Option Node) (flags : ℕ) →
-    rename_refusal_of into_itself seat from to node target that flags ≡ None → FitsFlags target flags
-fits_flags into_itself seat (Some from) (Some to) (Some node) target that flags none =
+fits_flags : (into_itself : Bool) (seat : HostSeat) (from to node : Node) (target : Option (ℕ × Node)) (flags : ℕ) →
+    first_refusal (rename_checks into_itself seat from to node target flags) ≡ None →
+    FitsFlags (option_map (λ (at : ℕ × Node). at.0) target) flags
+fits_flags into_itself seat from to node target flags none =
     let writes = passes_first (cannot_write seat from || cannot_write seat to) _ _ none in
     let mount = passes_first (not (from.ids.mnt_id == to.ids.mnt_id)) _ _ writes.1 in
     let there = passes_first ((flags == noreplace) && is_some target) _ _ mount.1 in
     let absent = passes_first ((flags == exchange) && is_none target) _ _ there.1 in
     record {
-      keeps = λ one. none_there target
+      keeps = λ one. none_led target
           (second_false (flags == noreplace) (is_some target) (ap (λ n. n == noreplace) one) there.0);
-      trades = λ two. second_false (flags == exchange) (is_none target) (ap (λ n. n == exchange) two) absent.0;
+      trades = λ two. some_led target
+          (second_false (flags == exchange) (is_none target) (ap (λ n. n == exchange) two) absent.0);
     }
-fits_flags into_itself seat _ _ _ target that flags none = cc
+  where
+    none_led : (target : Option (ℕ × Node)) → is_some target ≡ false →
+        option_map (λ (at : ℕ × Node). at.0) target ≡ None
+    none_led None is = refl
+    none_led (Some at) is = cc
+
+    some_led : (target : Option (ℕ × Node)) → is_none target ≡ false →
+        is_none (option_map (λ (at : ℕ × Node). at.0) target) ≡ false
+    some_led None is = cc
+    some_led (Some at) is = refl
 
 -- ---- the call, from one name to another
 
@@ -263,62 +276,76 @@ module _ (state : State) (seat : HostSeat) (fd : Fd) (name : List ℕ) (fd2 : Fd
     rename_refuses errno = fair_refused state (call.Rename fd name fd2 name2 flags) errno sound (tt, refl)
 
     -- another object has to make way, unless both names lead to one
-    fair_onto : (other : ℕ) → flags ≤ 2 → FitsFlags (Some other) flags →
-        name_at state.nodes file2.object name2 ≡ Some other → (same : Bool) →
-        (other == object) ≡ same → (not same && (flags == exchange)) ≡ false →
+    fair_onto : (node : Node) (other : ℕ × Node) → flags ≤ 2 → FitsFlags (Some other.0) flags →
+        name_at state.nodes file2.object name2 ≡ Some other.0 → (same : Bool) →
+        (other.0 == object) ≡ same → (not same && (flags == exchange)) ≡ false →
         IsFair state (call.Rename fd name fd2 name2 flags)
         (cond same (done state)
-        (unless state (replace_refusal (slice_get state.nodes object) (slice_get state.nodes other))
-        (done (with_moved state from to object (Some other)))))
-    fair_onto other few fits at true is trades =
-        let same : other ≡ object = eqb-true other object is in
+        (checked state (replace_checks node other.1) (done (with_moved state from to object (Some other.0)))))
+    fair_onto node other few fits at true is trades =
+        let same : other.0 ≡ object = eqb-true other.0 object is in
         fair_same_object few (subst (λ o. FitsFlags (Some o) flags) same fits) (at ∙ ap (λ o. Some o) same)
-    fair_onto other few fits at false is trades =
-        by_refusal state (IsFair state (call.Rename fd name fd2 name2 flags)) rename_refuses
-        (replace_refusal (slice_get state.nodes object) (slice_get state.nodes other))
-        (done (with_moved state from to object (Some other)))
-        (λ none. fair_moved (Some other) few (other_than flags exchange trades) fits at
-        (λ same. other_than other object is (same_Some other object same)))
+    fair_onto node other few fits at false is trades =
+        by_checks state (IsFair state (call.Rename fd name fd2 name2 flags)) rename_refuses
+        (replace_checks node other.1)
+        (done (with_moved state from to object (Some other.0)))
+        (λ none. fair_moved (Some other.0) few (other_than flags exchange trades) fits at
+        (λ same. other_than other.0 object is (same_Some other.0 object same)))
 
-    fair_traded : (other : ℕ) → flags ≤ 2 → FitsFlags (Some other) flags →
-        name_at state.nodes file2.object name2 ≡ Some other → (trades : Bool) →
-        (not (other == object) && (flags == exchange)) ≡ trades →
+    fair_traded : (node : Node) (other : ℕ × Node) → flags ≤ 2 → FitsFlags (Some other.0) flags →
+        name_at state.nodes file2.object name2 ≡ Some other.0 → (trades : Bool) →
+        (not (other.0 == object) && (flags == exchange)) ≡ trades →
         IsFair state (call.Rename fd name fd2 name2 flags)
-        (cond trades (done (with_exchanged state from to object other)) (rename_onto state from to object (Some other)))
-    fair_traded other few fits at true is =
-        fair_exchanged other (eqb-true flags exchange (second_holds (not (other == object)) (flags == exchange) is)) at
-    fair_traded other few fits at false is = fair_onto other few fits at (other == object) refl is
+        (cond trades (done (with_exchanged state from to object other.0))
+        (rename_onto state from to object node (Some other)))
+    fair_traded node other few fits at true is =
+        fair_exchanged other.0
+        (eqb-true flags exchange (second_holds (not (other.0 == object)) (flags == exchange) is)) at
+    fair_traded node other few fits at false is = fair_onto node other few fits at (other.0 == object) refl is
 
-    fair_to : (target : Option ℕ) → flags ≤ 2 → FitsFlags target flags →
-        name_at state.nodes file2.object name2 ≡ target →
-        IsFair state (call.Rename fd name fd2 name2 flags) (rename_to state from to object target flags)
-    fair_to None few fits at =
+    fair_to : (node : Node) (target : Option (ℕ × Node)) → flags ≤ 2 →
+        FitsFlags (option_map (λ (at : ℕ × Node). at.0) target) flags →
+        name_at state.nodes file2.object name2 ≡ option_map (λ (at : ℕ × Node). at.0) target →
+        IsFair state (call.Rename fd name fd2 name2 flags) (rename_to state from to object node target flags)
+    fair_to node None few fits at =
         fair_moved None few (λ two. (let e : true ≡ false = fits.trades two in cc)) fits at (λ same. cc)
-    fair_to (Some other) few fits at = fair_traded other few fits at (not (other == object) && (flags == exchange)) refl
+    fair_to node (Some other) few fits at =
+        fair_traded node other few fits at (not (other.0 == object) && (flags == exchange)) refl
 
-  fair_rename_found : (object : Option ℕ) → flags ≤ 2 → name_at state.nodes file.object name ≡ object →
-      IsFair state (call.Rename fd name fd2 name2 flags)
-      (rename_found state seat from to flags object (name_at state.nodes file2.object name2))
-  fair_rename_found None few there = fair_refused state (call.Rename fd name fd2 name2 flags) enoent sound (tt, refl)
-  fair_rename_found (Some object) few there =
-      let target = name_at state.nodes file2.object name2 in
-      by_refusal state (IsFair state (call.Rename fd name fd2 name2 flags)) (λ errno.
-      fair_refused state (call.Rename fd name fd2 name2 flags) errno sound (tt, refl))
-      (rename_refusal state seat file.object file2.object object target flags)
-      (rename_to state from to object target flags)
-      (λ none. fair_to object there target few
-      (fits_flags (moves_into_itself state.nodes file.object file2.object object target flags) seat
-      (slice_get state.nodes file.object)
-      (slice_get state.nodes file2.object) (slice_get state.nodes object) target
-      (node_at state.nodes target) flags none) refl)
+  -- both directories are there
+  module _ (dir dir2 : Node) (there : slice_get state.nodes file.object ≡ Some dir)
+      (there2 : slice_get state.nodes file2.object ≡ Some dir2) where
+    abbrev place : Place
+    place = ((file.object, dir), name)
 
-  fair_between : (unknown : Bool) → nat_lt exchange flags ≡ unknown →
-      IsFair state (call.Rename fd name fd2 name2 flags)
-      (cond unknown (refused state einval)
-      (rename_found state seat from to flags (name_at state.nodes file.object name)
-      (name_at state.nodes file2.object name2)))
-  fair_between true is = fair_refused state (call.Rename fd name fd2 name2 flags) einval sound (tt, refl)
-  fair_between false is = fair_rename_found (name_at state.nodes file.object name) (ltb-false exchange flags is) refl
+    abbrev place2 : Place
+    place2 = ((file2.object, dir2), name2)
+
+    fair_rename_found : (object : ℕ) (node : Node) → flags ≤ 2 → name_at state.nodes file.object name ≡ Some object →
+        IsFair state (call.Rename fd name fd2 name2 flags)
+        (rename_found state seat place place2 flags object node (led_on state.nodes (there_in dir2 name2)))
+    fair_rename_found object node few leads =
+        let target = led_on state.nodes (there_in dir2 name2) in
+        by_checks state (IsFair state (call.Rename fd name fd2 name2 flags)) (λ errno.
+        fair_refused state (call.Rename fd name fd2 name2 flags) errno sound (tt, refl))
+        (rename_checks (moves_into_itself state.nodes file.object file2.object object target flags) seat dir dir2 node
+        target flags)
+        (rename_to state from to object node target flags)
+        (λ none. fair_to object leads node target few
+        (fits_flags (moves_into_itself state.nodes file.object file2.object object target flags) seat dir dir2 node
+        target flags none) (target_is state place2 target sound there2 refl))
+
+    fair_between : (unknown : Bool) → nat_lt exchange flags ≡ unknown →
+        IsFair state (call.Rename fd name fd2 name2 flags)
+        (cond unknown (refused state einval)
+        (on_placed state place (λ object node.
+        rename_found state seat place place2 flags object node (led_on state.nodes (there_in dir2 name2)))))
+    fair_between true is = fair_refused state (call.Rename fd name fd2 name2 flags) einval sound (tt, refl)
+    fair_between false is =
+        by_found state (IsFair state (call.Rename fd name fd2 name2 flags)) (λ errno.
+        fair_refused state (call.Rename fd name fd2 name2 flags) errno sound (tt, refl)) (there_in dir name) _
+        (λ object node leads at. fair_rename_found object node (ltb-false exchange flags is)
+        (there_at state file.object dir name there ∙ leads))
 
 module _ (state : State) (seat : HostSeat) (fd : Fd) (name : List ℕ) (fd2 : Fd) (name2 : List ℕ) (flags : ℕ)
     (sound : IsSound state) where
@@ -335,4 +362,4 @@ module _ (state : State) (seat : HostSeat) (fd : Fd) (name : List ℕ) (fd2 : Fd
       (λ file2 dir2 too there2 asks2. fair_between state seat fd name fd2 name2 flags sound file file2 is too
       (asked_there state seat file.object dir name there asks)
       (asked_there state seat file2.object dir2 name2 there2 asks2)
-      (nat_lt exchange flags) refl)))
+      dir dir2 there there2 (nat_lt exchange flags) refl)))

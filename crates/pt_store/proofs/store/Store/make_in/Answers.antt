@@ -1,7 +1,6 @@
-use Rattle.std.proofs.Common.{◌≡◌, ◌<◌, ◌+◌, ◌^◌, ◌-◌, ℕ, Bool, List, [], ◌∷◌, ◌++◌, length, take, Some, refl}
+use Rattle.std.proofs.Common.{◌≡◌, ◌<◌, ◌+◌, ◌^◌, ◌-◌, ℕ, Bool, List, [], ◌∷◌, ◌++◌, length, take, refl}
 use Rattle.std.proofs.Common.{slice_get, slice_set, ap, sym, ◌∙◌, arith, rules}
 use Rattle.std.specs.Prelude.{slice_index}
-use Rattle.std.proofs.lemmas.Option.{slice_get-get_or}
 use Rattle.pt_host.specs.Words.{set_at}
 use Rattle.pt_host.specs.declared.ids.Time.{Time}
 use Rattle.pt_rules.specs.Edits.{grown, made, with_made}
@@ -22,14 +21,12 @@ returns-in-Ok-add_node-clause-kept c =
     let state = state_of c.args.self.now in
     let holds = counts_of c.args.self.now.inodes in
     let tables = table_in c.args.self.now.inodes.tables.items in
-    let parent = c.in-Some.parent.now in
+    let parent = c.node_at-parent.result.now in
     let dev = parent.ids.dev in
     let node = made state
     (numbers_of c.args.self.now) c.args.permissions c.args.uid c.args.gid c.args.rdev c.args.content parent in
-    let lookup = c.in-Some.ensures.lookup in
     let at_dir = ap (λ (ns : List Node). slice_get ns c.args.dir) (sym c.deref.ensures.value)
-    ∙ slice_get-get_or c.deref.result.now c.args.dir parent lookup.3.0
-    ∙ ap (λ (n : Node). Some n) (sym lookup.1) in
+    ∙ c.node_at-parent.ensures in
     let name : c.in-Ok.name.items ≡ c.args.name.now = search rules in
     let object = c.len-object.ensures ∙ c.args.self.now.nodes.ok.0 in
     let new = c.new_object-node.ensures
@@ -49,10 +46,10 @@ returns-in-Ok-add_node-clause-kept c =
     omega (arith, long, c.add_node.new.nodes.ok.0, c.add_node.new.nodes.ok.1, c.add_node.new.nodes.small) in
     kept_as (with_made state c.args.dir c.args.name.now node) _
     (with_counts (holds.holds ++ 1 ∷ []) (holds.names ++ 1 ∷ [])
-    (slice_set (holds.directories ++ 0 ∷ []) c.args.dir c.in-Some-directories_with.directories)) _
+    (slice_set (holds.directories ++ 0 ∷ []) c.args.dir c.in-Some.directories)) _
     (given dev (having (length state.nodes)) tables) _
     (ap (nodes_in state) nodes) (same_counts _ _ _ _ _ _ c.in-Ok-add.ensures.holds c.in-Ok-add.ensures.names
-    (ap (λ (ds : List ℕ). slice_set ds c.args.dir c.in-Some-directories_with.directories)
+    (ap (λ (ds : List ℕ). slice_set ds c.args.dir c.in-Some.directories)
     c.in-Ok-add.ensures.directories))
     (same_function _ _ c.in-Ok-add.ensures.tables
     ∙ ap (λ (n : ℕ). set_at dev
@@ -61,7 +58,7 @@ returns-in-Ok-add_node-clause-kept c =
     (kept_made state holds tables c.requires.kept c.args.dir c.args.name.now node parent c.requires.into
     c.requires.free c.requires.empty refl c.requires.small at_dir
     refl few _ (nested_made state holds tables c.requires.kept c.args.dir c.args.name.now node parent c.requires.into
-    c.requires.free c.requires.empty refl c.requires.small at_dir refl few _ (c.in-Some-directories_with.ensures.1
+    c.requires.free c.requires.empty refl c.requires.small at_dir refl few _ (c.in-Some.ensures.1
     ∙ ap (λ (b : Bool). slice_index holds.directories c.args.dir + weight b) c.is_directory.ensures)))
 
 pub returns-in-Err-clause-kept : goal.returns-in-Err-clause-kept
@@ -69,7 +66,7 @@ returns-in-Err-clause-kept c =
     let state = state_of c.args.self.now in
     let holds = counts_of c.args.self.now.inodes in
     let tables = table_in c.args.self.now.inodes.tables.items in
-    let dev = c.in-Some.parent.now.ids.dev in
+    let dev = c.node_at-parent.result.now.ids.dev in
     let file = having c.len-object.result in
     kept_as state _ (with_counts (take (length (holds.holds ++ 1 ∷ []) - 1) (holds.holds ++ 1 ∷ []))
     (take (length (holds.names ++ 1 ∷ []) - 1) (holds.names ++ 1 ∷ []))

@@ -1,12 +1,12 @@
 use Rattle.std.proofs.Common.{ap, ℕ, Bool, List, slice_set, ◌∙◌}
 use Rattle.std.proofs.lemmas.List.{with_items_is}
 use Rattle.pt_host.specs.declared.ids.Time.{Time}
-use Rattle.pt_rules.specs.Edits.{moved, node_at, with_moved}
+use Rattle.pt_rules.specs.Edits.{moved, with_moved}
 use Rattle.pt_node.specs.Entries.{is_directory_at, is_directory_where}
 use Rattle.pt_node.specs.Numbers.{counts_of, given_up_where, lowered, raised, released_where, table_in, weight}
 use Rattle.pt_node.specs.NewPlace.{seen_place}
 use Rattle.pt_rules.specs.State.{time_of}
-use Rattle.pt_store.specs.StoreState.{device_where, number_where, state_of}
+use Rattle.pt_store.specs.StoreState.{device_where, node_where, number_where, state_of}
 use Rattle.pt_node.specs.declared.inodes.NumberTable.{NumberTable}
 use Rattle.pt_node.specs.declared.node.Node.{Node}
 use Rattle.pt_node.specs.Laws.Updates.{same_function}
@@ -33,14 +33,14 @@ returns-clause-kept c =
     let moved = c.is_directory_at-moved.ensures
     ∙ ap (λ (ns : List Node). is_directory_at ns c.args.object) c.deref-3.ensures.value in
     let replaced = c.is_directory_where-replaced.ensures
-    ∙ ap (λ (ns : List Node). is_directory_where (node_at ns c.args.target)) c.deref-4.ensures.value in
+    ∙ ap (λ (ns : List Node). is_directory_where (node_where ns c.args.target)) c.deref-4.ensures.value in
     let directories = c.lose_directory-2.ensures.directories
     ∙ ap (lowered to.0 (weight c.is_directory_where-replaced.result)) (c.lose_directory.ensures.directories
     ∙ ap (λ n. lowered from.0 (weight c.is_directory_at-moved.result) (slice_set holds.directories to.0 n))
     c.in-Some.ensures.1)
     ∙ ap (λ (b : Bool). lowered to.0 (weight b) (lowered from.0 (weight c.is_directory_at-moved.result)
     (raised to.0 (weight c.is_directory_at-moved.result) holds.directories))) replaced
-    ∙ ap (λ (b : Bool). lowered to.0 (weight (is_directory_where (node_at state.nodes c.args.target)))
+    ∙ ap (λ (b : Bool). lowered to.0 (weight (is_directory_where (node_where state.nodes c.args.target)))
     (lowered from.0 (weight b) (raised to.0 (weight b) holds.directories))) moved in
     kept_as (with_moved state from to c.args.object c.args.target) _
     (with_counts (released_where c.args.target holds.holds) (released_where c.args.target holds.names)

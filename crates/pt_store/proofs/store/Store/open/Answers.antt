@@ -1,5 +1,5 @@
-use Rattle.std.proofs.Common.{ap, sym, List, ◌∙◌, refl, Some, slice_get, slice_set}
-use Rattle.std.proofs.lemmas.Option.{get_or_from_slice_get, slice_get-get_or}
+use Rattle.std.proofs.Common.{ap, sym, List, ◌∙◌, refl, slice_get, slice_set}
+use Rattle.std.proofs.lemmas.Option.{get_or_from_slice_get}
 use Rattle.pt_host.specs.declared.ids.Time.{Time}
 use Rattle.pt_rules.specs.Calls.{begun_on, with_opened}
 use Rattle.pt_node.specs.Numbers.{counts_of, table_in}
@@ -22,11 +22,8 @@ returns-in-Ok-clause-kept c =
     let holds = counts_of c.args.self.now.inodes in
     let tables = table_in c.args.self.now.inodes.tables.items in
     let object = c.args.object in
-    let node = c.in-Some.node.now in
-    let lookup = c.in-Some.ensures.lookup in
-    let there = ap (λ (ns : List Node). slice_get ns object) (sym c.deref.ensures.value)
-    ∙ slice_get-get_or c.deref.result.now object node lookup.3.0
-    ∙ ap (λ (n : Node). Some n) (sym lookup.1) in
+    let node = c.node_at-node.result.now in
+    let there = ap (λ (ns : List Node). slice_get ns object) (sym c.deref.ensures.value) ∙ c.node_at-node.ensures in
     let was = c.index_mut.ensures.value ∙ get_or_from_slice_get state.nodes object node _ there in
     let opened = c.apply_opening.ensures
     ∙ ap (λ (n : Node). after_opening c.args.seat.now c.now-now.result c.args.flags.0 n) was

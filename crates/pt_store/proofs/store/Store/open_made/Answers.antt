@@ -1,7 +1,7 @@
-use Rattle.std.proofs.Common.{◌≡◌, ◌<◌, ◌+◌, ◌^◌, ◌-◌, ℕ, inl, inr, List, [], ◌∷◌, ◌++◌, length, take, Some, refl}
+use Rattle.std.proofs.Common.{◌≡◌, ◌<◌, ◌+◌, ◌^◌, ◌-◌, ℕ, inl, inr, List, [], ◌∷◌, ◌++◌, length, take, refl}
 use Rattle.std.proofs.Common.{slice_get, slice_set, ap, sym, ◌∙◌, arith, rules}
 use Rattle.std.specs.Option.{is_some}
-use Rattle.std.proofs.lemmas.Option.{slice_get-get_or}
+use Rattle.std.proofs.lemmas.Option.{same_Some}
 use Rattle.pt_host.specs.Words.{set_at}
 use Rattle.pt_host.specs.declared.ids.Fd.{Fd}
 use Rattle.pt_host.specs.declared.ids.Time.{Time}
@@ -36,14 +36,12 @@ returns-in-Ok-add_node-clause-kept c =
     let tables = table_in c.args.self.now.inodes.tables.items in
     let seat = c.args.seat.now in
     let flags = c.args.flags in
-    let parent = c.in-Some.parent.now in
+    let parent = c.node_at-parent.result.now in
     let dev = parent.ids.dev in
     let node = made state (numbers_of c.args.self.now) c.args.permissions seat.eff_uid seat.eff_gid 0
     (Regular []) parent in
-    let lookup = c.in-Some.ensures.lookup in
     let at_dir = ap (λ (ns : List Node). slice_get ns c.args.dir) (sym c.deref.ensures.value)
-    ∙ slice_get-get_or c.deref.result.now c.args.dir parent lookup.3.0
-    ∙ ap (λ (n : Node). Some n) (sym lookup.1) in
+    ∙ c.node_at-parent.ensures in
     let name : c.in-Ok.name.items ≡ c.args.name.now = search rules in
     let object = c.len-object.ensures ∙ c.args.self.now.nodes.ok.0 in
     let new = c.new_object-node.ensures
@@ -86,20 +84,18 @@ returns-in-Ok-add_node-clause-kept c =
     refl few seat flags refl)
 
 pub returns-in-Ok-add_node-clause-answers : goal.returns-in-Ok-add_node-clause-answers
-returns-in-Ok-add_node-clause-answers c =
+returns-in-Ok-add_node-clause-answers c = λ asked there.
     let state = state_of c.args.self.now in
     let holds = counts_of c.args.self.now.inodes in
     let tables = table_in c.args.self.now.inodes.tables.items in
     let seat = c.args.seat.now in
     let flags = c.args.flags in
-    let parent = c.in-Some.parent.now in
+    let parent = c.node_at-parent.result.now in
     let dev = parent.ids.dev in
     let node = made state (numbers_of c.args.self.now) c.args.permissions seat.eff_uid seat.eff_gid 0
     (Regular []) parent in
-    let lookup = c.in-Some.ensures.lookup in
     let at_dir = ap (λ (ns : List Node). slice_get ns c.args.dir) (sym c.deref.ensures.value)
-    ∙ slice_get-get_or c.deref.result.now c.args.dir parent lookup.3.0
-    ∙ ap (λ (n : Node). Some n) (sym lookup.1) in
+    ∙ c.node_at-parent.ensures in
     let name : c.in-Ok.name.items ≡ c.args.name.now = search rules in
     let object = c.len-object.ensures ∙ c.args.self.now.nodes.ok.0 in
     let new = c.new_object-node.ensures
@@ -131,14 +127,14 @@ returns-in-Ok-add_node-clause-answers c =
     ∙ ap (λ (ss : List Slot). (reply.Ok (value.Fd c.in-Ok-open.fd), parts_in state grows.nodes ss)) slots
     ∙ ap (λ (f : Fd). tells after (value.Fd f)) fd
     ∙ ap (open_new state (numbers_of c.args.self.now) seat flags c.args.permissions c.args.dir c.args.name.now)
-    (sym at_dir))
+    (same_Some parent asked (sym at_dir ∙ there)))
 
 pub returns-in-Err-clause-kept : goal.returns-in-Err-clause-kept
 returns-in-Err-clause-kept c =
     let state = state_of c.args.self.now in
     let holds = counts_of c.args.self.now.inodes in
     let tables = table_in c.args.self.now.inodes.tables.items in
-    let dev = c.in-Some.parent.now.ids.dev in
+    let dev = c.node_at-parent.result.now.ids.dev in
     let file = having c.len-object.result in
     let slots = c.take_back-in-Err-2.ensures
     ∙ ap (λ (n : ℕ). taken_back c.in-Ok-open.fd.0 n c.open.new.self) c.len-length.ensures
@@ -165,7 +161,7 @@ returns-in-Err-clause-kept c =
     (kept_back state holds tables dev file c.requires.kept)
 
 pub returns-in-Err-clause-answers : goal.returns-in-Err-clause-answers
-returns-in-Err-clause-answers c =
+returns-in-Err-clause-answers c = λ asked there.
     let state = state_of c.args.self.now in
     let slots = c.take_back-in-Err-2.ensures
     ∙ ap (λ (n : ℕ). taken_back c.in-Ok-open.fd.0 n c.open.new.self) c.len-length.ensures
@@ -205,7 +201,7 @@ returns-in_default-add-clause-kept c =
     (same_function _ _ c.in_default-add.ensures.same_tables) c.requires.kept
 
 pub returns-in_default-add-clause-answers : goal.returns-in_default-add-clause-answers
-returns-in_default-add-clause-answers c =
+returns-in_default-add-clause-answers c = λ asked there.
     let state = state_of c.args.self.now in
     let slots = c.take_back.ensures
     ∙ ap (λ (n : ℕ). taken_back c.in-Ok-open.fd.0 n c.open.new.self) c.len-length.ensures

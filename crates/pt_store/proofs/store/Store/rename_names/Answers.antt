@@ -25,15 +25,18 @@ returns-clause-answers c =
     let dir = c.in-Some-open_on.dir.now in
     let from = c.args.from in
     let to = c.args.to in
-    let moves : ℕ → ℕ → Answered = λ place place2.
-    rename_between state seat (place, from.1.now) (place2, to.1.now) c.args.flags in
-    let last : ℕ → Answered = λ place. on_name state seat to.0 to.1.now (λ place2 parent2. moves place place2) in
+    let moves : ℕ → Node → ℕ → Node → Answered = λ place parent place2 parent2.
+    rename_between state seat ((place, parent), from.1.now) ((place2, parent2), to.1.now) c.args.flags in
+    let last : ℕ → Node → Answered = λ place parent.
+    on_name state seat to.0 to.1.now (λ place2 parent2. moves place parent place2 parent2) in
     let first : OpenFile → Node → Answered = λ held another.
-    on_name state seat from.0 from.1.now (λ place parent. last place) in
-    let told = goes_named state _ seat to.0 to.1.now (λ place2 parent2. moves file.object place2) other into
+    on_name state seat from.0 from.1.now (λ place parent. last place parent) in
+    let told = goes_named state _ seat to.0 to.1.now (λ place2 parent2. moves file.object dir place2 parent2) other into
     c.in-Some.ensures.found c.deref.ensures.value (sym c.in_default-name_refusal-2.ensures)
-    ∙ goes_named state _ seat from.0 from.1.now (λ place parent. last place) file dir c.in-Some-open_on.ensures.found
-    c.deref-2.ensures.value (sym c.in_default-name_refusal.ensures)
+    ∙ goes_named state _ seat from.0 from.1.now (λ place parent. last place parent) file dir
+    c.in-Some-open_on.ensures.found c.deref-2.ensures.value (sym c.in_default-name_refusal.ensures)
     ∙ goes_on state _ to.0 first other into c.in-Some.ensures.found c.deref.ensures.value in
     subst (λ (said : Answered). AnswersAs said state c.rename_between.result (state_of c.rename_between.new.self))
-    told c.rename_between.ensures.answers
+    told (c.rename_between.ensures.answers dir into
+    (open_there _ _ _ file dir c.in-Some-open_on.ensures.found c.deref-2.ensures.value)
+    (open_there _ _ _ other into c.in-Some.ensures.found c.deref.ensures.value))
