@@ -179,7 +179,7 @@ root_begins nodes [] root is = cc
 root_begins nodes (first ∷ path) root is = elim (if_begun (first == 47) (led_on nodes (Some 0)) None root is) [
   | inl begun ↦ (
       let led = led_is nodes (Some 0) root begun in (sym (same_Some 0 root.0 led.0), led.1)
-    )
+      )
   | inr none ↦ cc
 ]
 
@@ -216,7 +216,7 @@ here_begins state here (first ∷ path) from lives is =
     elim (if_begun (first == 47) (led_on state.nodes (Some 0)) (Some here) from is) [
       | inl begun ↦ (
           let led = led_is state.nodes (Some 0) from begun in (led.1, inl (sym (same_Some 0 from.0 led.0)))
-        )
+          )
       | inr same ↦ subst (IsLiving state) (same_Some here from same) lives
     ]
 
