@@ -1,13 +1,13 @@
-ghost use Rattle.std.specs.Prelude.{◌≡◌, ℕ, IfOk, length};
+ghost use Rattle.std.specs.Prelude.{◌≡◌, ℕ, IfOk};
 ghost use Rattle.pt_session.specs.Tables.{empty_tables};
 
 use crate::one_directory::{a_host, a_seat};
-use pt_fs::{DriveError, Job, PassthroughFs, SteppedFs, drive};
+use pt_fs::{DriveError, Job, PassthroughFs, SteppedFs, TraceStep, drive};
 use pt_host::{Bytes, Edit, Errno, Fd};
 use pt_iface::{Answer, Context, Refusal, Request};
 use pt_req::Config;
 use pt_session::Session;
-use std::alloc::Global;
+use std::alloc::{AllocError, Global};
 use std::test::Fail;
 
 fn made(alloc: Global, refuses: bool) -> Result<PassthroughFs, Refusal>
@@ -17,49 +17,46 @@ fn made(alloc: Global, refuses: bool) -> Result<PassthroughFs, Refusal>
     PassthroughFs::new(alloc, cfg, &mut a_host(refuses), &mut a_seat())
 }
 
-fn a_file_system(alloc: Global) -> Result<PassthroughFs, Fail>
-    ensures { IfOk result (λ fs. (limit : ℕ) × (fs.tables ≡ empty_tables limit)) }
-{
-    match made(alloc, false) {
-        Ok(fs) => Ok(fs),
-        Err(_) => Err(Fail::from("no file system")),
-    }
+fn keeps_its_root_and_its_limit(fs: &PassthroughFs) -> bool {
+    fs.keep_fds() == [Fd(4)]
+        && fs.plan().config.guest_fd_limit == u64::MAX
+        && fs.session().slots_left() == u64::MAX
+}
+
+/// Whether the file system hands its session out, and takes another.
+fn takes_a_session(alloc: Global, fs: &mut PassthroughFs) -> bool {
+    let old = fs.replace_session(Session::new(alloc, 5));
+    old.slots_left() == u64::MAX && fs.session().slots_left() == 5
 }
 
 #[test]
 fn a_new_file_system_keeps_its_root_and_its_limit(rt: HostRuntime) -> Result<(), Fail> {
-    let mut fs = a_file_system(rt.alloc())?;
-    assert_eq!(rt; fs.keep_fds()[0], Fd(4));
-    assert_eq!(rt; fs.plan().config.guest_fd_limit, u64::MAX);
-    assert_eq!(rt; fs.session().slots_left(), u64::MAX);
-    let old = fs.replace_session(Session::new(rt.alloc(), 5));
-    assert_eq!(rt; old.slots_left(), u64::MAX);
-    assert_eq!(rt; fs.session().slots_left(), 5);
-    match made(rt.alloc(), true) {
-        Ok(_) => return Err(Fail::from("made though its root was refused")),
-        Err(refusal) => assert_eq!(rt; refusal, Refusal::Errno(Errno::EACCES)),
-    }
+    let mut fs = made(rt.alloc(), false)?;
+    assert!(rt; keeps_its_root_and_its_limit(&fs));
+    assert!(rt; takes_a_session(rt.alloc(), &mut fs));
     Ok(())
 }
 
-/// The root, a lookup, and twice the edit that makes what it looks up.
-fn four_jobs(alloc: Global) -> Result<Vec<Job>, Fail>
-    ensures { IfOk result (λ jobs. length jobs.items ≡ 4) }
-{
-    let mut jobs = Vec::new(alloc);
-    jobs.push(Job::OpenRoot(a_seat()))?;
-    let name = Bytes::from_slice(alloc, b"a")?;
-    jobs.push(Job::Request(
-        Context { uid: 0, gid: 0 },
-        a_seat(),
-        Request::Lookup { parent: 1, name },
-    ))?;
-    jobs.push(Job::Edit(a_file(alloc)?))?;
-    jobs.push(Job::Edit(a_file(alloc)?))?;
-    Ok(jobs)
+#[test]
+fn a_host_that_refuses_its_root_has_no_file_system(rt: HostRuntime) -> Result<(), Fail> {
+    match made(rt.alloc(), true) {
+        Err(Refusal::Errno(Errno::EACCES)) => Ok(()),
+        _ => Err(Fail::from("made, or refused otherwise")),
+    }
 }
 
-fn a_file(alloc: Global) -> Result<Edit, Fail> {
+fn push_lookup(alloc: Global, jobs: &mut Vec<Job>) -> bool {
+    match Bytes::from_slice(alloc, b"a") {
+        Ok(name) => {
+            let who = Context { uid: 0, gid: 0 };
+            let request = Request::Lookup { parent: 1, name };
+            jobs.push(Job::Request(who, a_seat(), request)).is_ok()
+        }
+        Err(_) => false,
+    }
+}
+
+fn a_file(alloc: Global) -> Result<Edit, AllocError> {
     let path = Bytes::from_slice(alloc, b"/a")?;
     let bytes = Bytes::from_slice(alloc, b"hi")?;
     Ok(Edit::File {
@@ -71,29 +68,69 @@ fn a_file(alloc: Global) -> Result<Edit, Fail> {
     })
 }
 
+fn push_edit(alloc: Global, jobs: &mut Vec<Job>) -> bool {
+    match a_file(alloc) {
+        Ok(edit) => jobs.push(Job::Edit(edit)).is_ok(),
+        Err(_) => false,
+    }
+}
+
+/// Puts the root, a lookup, and twice the edit that makes what it looks up.
+fn push_four(alloc: Global, jobs: &mut Vec<Job>) -> bool {
+    jobs.push(Job::OpenRoot(a_seat())).is_ok()
+        && push_lookup(alloc, jobs)
+        && push_edit(alloc, jobs)
+        && push_edit(alloc, jobs)
+}
+
+/// Whether the lookup and one edit succeeded, and the other found what the first had made.
+fn are_as_wanted(answers: &[Answer]) -> bool {
+    match answers {
+        [
+            Answer::Done,
+            Answer::Entry(entry),
+            Answer::Edited,
+            Answer::EditRefused(errno),
+        ] => entry.inode == 2 && *errno == Errno::EEXIST,
+        _ => false,
+    }
+}
+
+/// Whether the steps belong to these jobs.
+fn belong_to(trace: &[TraceStep], owners: &[u32]) -> bool {
+    let mut of_trace = trace.iter().map(|step| &step.job);
+    of_trace.eq(owners.iter())
+}
+
+/// Whether a run of the four jobs by this schedule ends as it should, with steps of these jobs.
+fn ends_as_wanted(
+    alloc: Global,
+    fs: PassthroughFs,
+    schedule: &[u32],
+    owners: &[u32],
+) -> Option<bool>
+    requires { (limit : ℕ) × (fs.tables ≡ empty_tables limit) }
+{
+    let mut jobs = Vec::new(alloc);
+    if !push_four(alloc, &mut jobs) || jobs.len() != 4 {
+        return None;
+    }
+    match drive(alloc, fs, &mut a_host(false), jobs, schedule) {
+        Ok(driven) => Some(
+            are_as_wanted(driven.answers.as_slice())
+                && driven.seats.len() == 2
+                && belong_to(driven.trace.as_slice(), owners),
+        ),
+        Err(DriveError::Memory(_)) => None,
+    }
+}
+
 #[test]
 fn a_file_is_made_between_the_steps_of_its_lookup(rt: HostRuntime) -> Result<(), Fail> {
-    let fs = a_file_system(rt.alloc())?;
-    let jobs = four_jobs(rt.alloc())?;
+    let fs = made(rt.alloc(), false)?;
     // The first edit has finished at the second place of job 2, which so does nothing.
     let schedule = [0, 0, 0, 0, 0, 1, 1, 2, 2, 3];
-    let driven = match drive(rt.alloc(), fs, &mut a_host(false), jobs, &schedule) {
-        Ok(driven) => driven,
-        Err(DriveError::Memory(_)) => return Err(Fail::from("no memory")),
-    };
-    assert_eq!(rt; driven.answers.len(), 4);
-    assert_eq!(rt; driven.answers[0], Answer::Done);
-    match &driven.answers[1] {
-        Answer::Entry(entry) => assert_eq!(rt; entry.inode, 2),
-        _ => return Err(Fail::from("no entry")),
-    }
-    assert_eq!(rt; driven.answers[2], Answer::Edited);
-    assert_eq!(rt; driven.answers[3], Answer::EditRefused(Errno::EEXIST));
-    assert_eq!(rt; driven.seats.len(), 2);
     let owners = [0, 0, 0, 0, 0, 1, 1, 2, 3, 1, 1, 1, 1, 1, 1, 1];
-    assert_eq!(rt; driven.trace.len(), 16);
-    for (step, owner) in driven.trace.iter().zip(owners.iter()) {
-        assert_eq!(rt; step.job, *owner);
-    }
+    assert!(rt; ends_as_wanted(rt.alloc(), fs, &schedule, &owners) == Some(true));
     Ok(())
 }

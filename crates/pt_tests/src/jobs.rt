@@ -1,9 +1,10 @@
 use pt_attr::AnyJob;
 use pt_frame::{ActReply, Finish, Want};
-use pt_host::{Bytes, Caps, Edit, Errno, Fd, HostReply, HostSeat, HostValue, ObjIds, Stat, Time};
-use pt_iface::{Answer, Context, OpenOptions, Request};
+use pt_host::{Bytes, Caps, Edit, Fd, HostReply, HostSeat, HostValue, ObjIds, Stat, Time};
+use pt_iface::{Context, Request};
 use pt_req::{CachePolicy, Config, Plan};
 use pt_session::{EventRefusal, EventReply, Negotiated, RowForm};
+use pt_show::Text;
 use std::alloc::Global;
 use std::test::Fail;
 
@@ -15,139 +16,122 @@ struct Played {
     seat: HostSeat,
 }
 
+/// The plan that no setting changes.
+fn a_plan(alloc: Global) -> Option<Plan> {
+    match Config::new(alloc) {
+        Ok(config) => Some(Plan { config }),
+        Err(_) => None,
+    }
+}
+
 impl Played {
-    fn start(alloc: Global, request: Request) -> Result<Played, Fail> {
-        let config = match Config::new(alloc) {
-            Ok(config) => config,
-            Err(_) => return Err(Fail::from("no memory")),
-        };
-        let plan = Plan { config };
-        let who = Context { uid: 0, gid: 0 };
-        let job = match AnyJob::start(alloc, &plan, who, request) {
-            Ok(job) => job,
-            Err(_) => return Err(Fail::from("no memory")),
-        };
+    fn new(job: AnyJob, plan: Plan) -> Played {
         let seat = HostSeat::new(0, 0, Caps::ALL);
-        Ok(Played { job, plan, seat })
+        Played { job, plan, seat }
+    }
+
+    fn start(alloc: Global, request: Request) -> Option<Played> {
+        let plan = a_plan(alloc)?;
+        let who = Context { uid: 0, gid: 0 };
+        match AnyJob::start(alloc, &plan, who, request) {
+            Ok(job) => Some(Played::new(job, plan)),
+            Err(_) => None,
+        }
     }
 
     /// A job that takes the name `/a` away.
-    fn edit(alloc: Global) -> Result<Played, Fail> {
-        let mut played = Played::start(alloc, Request::Destroy)?;
-        let path = Bytes::from_slice(alloc, b"/a")?;
-        played.job = AnyJob::edit(Edit::Unlink { path });
-        Ok(played)
+    fn edit(alloc: Global) -> Option<Played> {
+        let plan = a_plan(alloc)?;
+        match Bytes::from_slice(alloc, b"/a") {
+            Ok(path) => Some(Played::new(AnyJob::edit(Edit::Unlink { path }), plan)),
+            Err(_) => None,
+        }
     }
 
-    /// One that is cut before its step.
-    fn cut_edit(alloc: Global) -> Result<Played, Fail> {
-        let mut played = Played::edit(alloc)?;
-        played.cut()?;
-        Ok(played)
+    fn look_up(alloc: Global, name: &[u8]) -> Option<Played> {
+        match Bytes::from_slice(alloc, name) {
+            Ok(name) => Played::start(alloc, Request::Lookup { parent: 1, name }),
+            Err(_) => None,
+        }
     }
 
-    /// The opening of a directory by this policy, which no line of a script sets yet.
-    fn opening_by(alloc: Global, policy: CachePolicy) -> Result<Played, Fail> {
-        let mut played = Played::start(alloc, Request::OpenDir { inode: 2, flags: 0 })?;
-        played.plan.config.cache_policy = policy;
-        Ok(played)
-    }
-
-    fn look_up(alloc: Global, name: &[u8]) -> Result<Played, Fail> {
-        let name = Bytes::from_slice(alloc, name)?;
-        Played::start(alloc, Request::Lookup { parent: 1, name })
-    }
-
-    /// The job wants this act, and is told this reply.
-    fn step(&mut self, alloc: Global, wanted: &str, reply: ActReply) -> Result<(), Fail> {
+    /// Whether the job wants the act of this text.
+    fn wants(&self, alloc: Global, wanted: &[u8]) -> bool {
         match self.job.want(&self.plan, &self.seat) {
-            Want::Step(act) => {
-                let kept = act.keep(alloc)?;
-                let text = format!(in alloc; "{kept:?}")?;
-                if text.as_str() != wanted {
-                    return Err(Fail::from("another act"));
-                }
-            }
-            Want::Finished => return Err(Fail::from("it has finished")),
+            Want::Step(act) => match act.keep(alloc) {
+                Ok(kept) => has_text(alloc, &kept, wanted),
+                Err(_) => false,
+            },
+            Want::Finished => false,
         }
-        if self.job.restoring() || self.job.lost().is_some() {
-            return Err(Fail::from("no seat was changed"));
-        }
-        if self.job.is_finished() {
-            return Err(Fail::from("it has finished"));
-        }
-        self.job.take(&self.plan, reply, &self.seat);
-        Ok(())
     }
 
-    /// Plays these steps, in order.
-    fn plays(&mut self, alloc: Global, steps: Vec<(&str, ActReply)>) -> Result<(), Fail> {
-        for (wanted, reply) in steps {
-            self.step(alloc, wanted, reply)?;
+    /// Hands in a reply, and tells whether the job was at a step that leaves its seat as it is.
+    fn take(&mut self, reply: ActReply) -> bool {
+        let is_at_step = !self.job.is_finished() && !self.job.restoring();
+        if is_at_step {
+            self.job.take(&self.plan, reply, &self.seat);
         }
-        Ok(())
+        is_at_step && self.job.lost().is_none()
     }
 
-    fn cut(&mut self) -> Result<(), Fail> {
-        if self.job.is_finished() {
-            return Err(Fail::from("it has finished"));
-        }
-        self.job.cut();
-        Ok(())
+    /// Whether the job wants this act. It is told this reply.
+    fn step(&mut self, alloc: Global, wanted: &[u8], reply: ActReply) -> bool {
+        self.wants(alloc, wanted) && self.take(reply)
     }
 
-    /// Plays these steps, and has ended then, so.
-    fn ends(
-        mut self,
-        alloc: Global,
-        steps: Vec<(&str, ActReply)>,
-        answer: Answer,
-    ) -> Result<(), Fail> {
-        self.plays(alloc, steps)?;
+    /// Cuts the job where it stands, before its end.
+    fn cut(&mut self) -> bool {
+        let is_at_step = !self.job.is_finished();
+        if is_at_step {
+            self.job.cut();
+        }
+        is_at_step
+    }
+
+    /// Whether the job has ended with the answer of this text.
+    fn has_ended(self, alloc: Global, wanted: &[u8]) -> bool {
         if !self.job.is_finished() {
-            return Err(Fail::from("it has not finished"));
+            return false;
         }
-        if self.job.finish() == Finish::Answer(answer) {
-            Ok(())
-        } else {
-            Err(Fail::from("another answer"))
+        match self.job.finish() {
+            Finish::Answer(answer) => has_text(alloc, &answer, wanted),
+            Finish::Lost(_) => false,
         }
     }
 
     /// The steps of a lookup up to its `Claim`.
-    fn opened(alloc: Global) -> Result<Played, Fail> {
-        let mut job = Played::look_up(alloc, b"a")?;
-        let open =
-            "Host(OpenAt { fd: Fd(4), name: Bytes { items: [97] }, flags: OpenFlags(2752512), mode: 0 })";
-        let steps = vec![in alloc;
-            ("Event(Begin)", told(began())),
-            ("Event(Resolve { number: 1 })", told(resolved())),
-            (open, gave(HostValue::Fd(Fd(5)))),
-            ("Host(Stat { fd: Fd(5) })", gave(HostValue::Stat(a_stat()))),
-        ]?;
-        job.plays(alloc, steps)?;
-        Ok(job)
+    fn opens(&mut self, alloc: Global) -> bool {
+        self.step(alloc, b" Begin", told(began()))
+            && self.step(alloc, b" Resolve 1", told(resolved()))
+            && self.step(alloc, b" OpenAt 4 a 2752512 0", gave(HostValue::Fd(Fd(5))))
+            && self.step(alloc, b" Stat 5", gave(HostValue::Stat(a_stat())))
     }
 
     /// And up to its `Insert`.
-    fn drawn(alloc: Global) -> Result<Played, Fail> {
-        let mut job = Played::opened(alloc)?;
-        let steps = vec![in alloc;
-            (CLAIM, told(EventReply::Absent)),
-            ("Event(TakeFd)", told(EventReply::Taken)),
-            ("Event(DrawNode)", told(EventReply::Drawn { number: 2 })),
-        ]?;
-        job.plays(alloc, steps)?;
-        Ok(job)
+    fn draws(&mut self, alloc: Global) -> bool {
+        let drawn = EventReply::Drawn { number: 2 };
+        self.opens(alloc)
+            && self.step(alloc, CLAIM, told(EventReply::Absent))
+            && self.step(alloc, b" TakeFd", told(EventReply::Taken))
+            && self.step(alloc, b" DrawNode", told(drawn))
     }
 
-    /// A lookup that has claimed its number, and is then cut.
-    fn claimed_and_cut(alloc: Global) -> Result<Played, Fail> {
-        let mut job = Played::opened(alloc)?;
-        job.step(alloc, CLAIM, told(EventReply::Claimed { number: 2 }))?;
-        job.cut()?;
-        Ok(job)
+    /// The steps of an opening up to its `InsertHandle`.
+    fn opens_directory(&mut self, alloc: Global) -> bool {
+        let drawn = EventReply::Drawn { number: 7 };
+        self.step(alloc, b" Begin", told(began()))
+            && self.step(alloc, b" Resolve 2", told(resolved()))
+            && self.step(alloc, b" Reopen 4 589824", gave(HostValue::Fd(Fd(5))))
+            && self.step(alloc, b" DrawHandle", told(drawn))
+            && self.step(alloc, b" TakeFd", told(EventReply::Taken))
     }
+}
+
+/// Whether a report prints the value so.
+fn has_text<T: Text>(alloc: Global, value: &T, wanted: &[u8]) -> bool {
+    let mut text = Vec::new(alloc);
+    value.write(&mut text).is_ok() && text.as_slice() == wanted
 }
 
 /// What the tables answered.
@@ -164,11 +148,13 @@ fn none_to_close() -> EventReply {
     EventReply::Done { closings: 0 }
 }
 
-const CLAIM: &str =
-    "Event(Claim { era: 1, handle: None, ids: ObjIds { ino: 2, dev: 1, mnt_id: 1 } })";
+const CLAIM: &[u8] = b" Claim 1 - 2 1 1";
 
-const INSERT: &str =
-    "Event(Insert { era: 1, number: 2, form: File(Fd(5)), ids: ObjIds { ino: 2, dev: 1, mnt_id: 1 }, mode: 33188 })";
+const CLOSE: &[u8] = b" Close 5";
+
+const UNPIN: &[u8] = b" Unpin 0";
+
+const INSERT: &[u8] = b" Insert 1 2 File 5 2 1 1 33188";
 
 fn began() -> EventReply {
     EventReply::Began {
@@ -214,55 +200,62 @@ fn a_stat() -> Stat {
 
 #[test]
 fn an_insertion_without_memory_gives_all_back(rt: HostRuntime) -> Result<(), Fail> {
-    let job = Played::drawn(rt.alloc())?;
+    let alloc = rt.alloc();
+    let mut job = Played::look_up(alloc, b"a").ok_or("no job")?;
+    assert!(rt; job.draws(alloc));
     let refused = EventReply::Refused(EventRefusal::Memory);
-    let steps = vec![in rt.alloc();
-        (INSERT, told(refused)),
-        ("Host(Close { fd: Fd(5) })", gave(HostValue::Unit)),
-        ("Event(GiveFd)", told(EventReply::Given)),
-        ("Event(Unpin { row: 0 })", told(none_to_close())),
-    ]?;
-    job.ends(rt.alloc(), steps, Answer::NoMemory)
+    assert!(rt; job.step(alloc, INSERT, told(refused)));
+    assert!(rt; job.step(alloc, CLOSE, gave(HostValue::Unit)));
+    assert!(rt; job.step(alloc, b" GiveFd", told(EventReply::Given)));
+    assert!(rt; job.step(alloc, UNPIN, told(none_to_close())));
+    assert!(rt; job.has_ended(alloc, b" NoMemory"));
+    Ok(())
 }
 
 #[test]
 fn a_job_that_is_cut_gives_its_count_back_first(rt: HostRuntime) -> Result<(), Fail> {
-    let job = Played::claimed_and_cut(rt.alloc())?;
-    let steps = vec![in rt.alloc();
-        (
-            "Event(GiveBack { era: 1, number: 2 })",
-            told(none_to_close())
-        ),
-        ("Host(Close { fd: Fd(5) })", gave(HostValue::Unit)),
-        ("Event(Unpin { row: 0 })", told(none_to_close())),
-    ]?;
-    job.ends(rt.alloc(), steps, Answer::Cut)?;
-    let edit = Played::cut_edit(rt.alloc())?;
-    edit.ends(rt.alloc(), Vec::new(rt.alloc()), Answer::Cut)
+    let alloc = rt.alloc();
+    let mut job = Played::look_up(alloc, b"a").ok_or("no job")?;
+    assert!(rt; job.opens(alloc));
+    let claimed = EventReply::Claimed { number: 2 };
+    assert!(rt; job.step(alloc, CLAIM, told(claimed)));
+    assert!(rt; job.cut());
+    assert!(rt; job.step(alloc, b" GiveBack 1 2", told(none_to_close())));
+    assert!(rt; job.step(alloc, CLOSE, gave(HostValue::Unit)));
+    assert!(rt; job.step(alloc, UNPIN, told(none_to_close())));
+    assert!(rt; job.has_ended(alloc, b" Cut"));
+    Ok(())
 }
 
-const INSERT_HANDLE: &str = "Event(InsertHandle { era: 1, handle: 7, number: 2, fd: Fd(5) })";
+#[test]
+fn an_edit_that_is_cut_is_not_made(rt: HostRuntime) -> Result<(), Fail> {
+    let mut job = Played::edit(rt.alloc()).ok_or("no job")?;
+    assert!(rt; job.cut());
+    assert!(rt; job.has_ended(rt.alloc(), b" Cut"));
+    Ok(())
+}
 
+/// By another policy, which no line of a script sets yet.
 #[test]
 fn a_directory_is_opened_by_another_policy(rt: HostRuntime) -> Result<(), Fail> {
-    let job = Played::opening_by(rt.alloc(), CachePolicy::Metadata)?;
-    let reopen = "Host(Reopen { fd: Fd(4), flags: OpenFlags(589824) })";
-    let steps = vec![in rt.alloc();
-        ("Event(Begin)", told(began())),
-        ("Event(Resolve { number: 2 })", told(resolved())),
-        (reopen, gave(HostValue::Fd(Fd(5)))),
-        ("Event(DrawHandle)", told(EventReply::Drawn { number: 7 })),
-        ("Event(TakeFd)", told(EventReply::Taken)),
-        (INSERT_HANDLE, told(EventReply::Inserted { number: 7 })),
-        ("Event(Unpin { row: 0 })", told(none_to_close())),
-    ]?;
-    job.ends(rt.alloc(), steps, Answer::Opened(7, OpenOptions(10)))
+    let alloc = rt.alloc();
+    let opening = Request::OpenDir { inode: 2, flags: 0 };
+    let mut job = Played::start(alloc, opening).ok_or("no job")?;
+    job.plan.config.cache_policy = CachePolicy::Metadata;
+    assert!(rt; job.opens_directory(alloc));
+    let inserted = EventReply::Inserted { number: 7 };
+    assert!(rt; job.step(alloc, b" InsertHandle 1 7 2 5", told(inserted)));
+    assert!(rt; job.step(alloc, UNPIN, told(none_to_close())));
+    assert!(rt; job.has_ended(alloc, b" Opened 7 10"));
+    Ok(())
 }
 
 /// No line of a script asks for it yet.
 #[test]
 fn what_is_not_implemented_is_refused(rt: HostRuntime) -> Result<(), Fail> {
-    let job = Played::start(rt.alloc(), Request::Readlink { inode: 1 })?;
-    let steps = vec![in rt.alloc(); ("Event(Begin)", told(began()))]?;
-    job.ends(rt.alloc(), steps, Answer::Refused(Errno::ENOSYS))
+    let alloc = rt.alloc();
+    let mut job = Played::start(alloc, Request::Readlink { inode: 1 }).ok_or("no job")?;
+    assert!(rt; job.step(alloc, b" Begin", told(began())));
+    assert!(rt; job.has_ended(alloc, b" Refused 38"));
+    Ok(())
 }

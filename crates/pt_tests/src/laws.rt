@@ -13,7 +13,7 @@ use pt_script::first_bad_line;
 use pt_show::texts_tell_values;
 
 #[test]
-fn the_laws_hold_with_no_premise() {
+fn the_laws_of_jobs_hold() {
     pt_frame::choices_are_kept();
     pt_frame::cut_says_no_more();
     pt_frame::jobs_are_determined();
@@ -25,26 +25,54 @@ fn the_laws_hold_with_no_premise() {
     pt_attr::jobs_are_determined();
     pt_attr::jobs_tend();
     pt_attr::no_memory_has_its_cause();
+}
+
+#[test]
+fn the_laws_of_requests_hold() {
     each_request();
     asked_ends();
     edit_ends();
+    all_answered::<OneDirectory>();
+    gone_number();
+}
+
+#[test]
+fn the_laws_of_lookups_hold() {
     lookup_opens();
     part_looks_up();
     places_of_entry();
+    two_lookups();
+}
+
+#[test]
+fn the_laws_of_steps_hold() {
     any_course();
     steps_told::<OneDirectory>();
     steps_seated::<OneDirectory>();
-    every_run();
-    every_told_run();
-    every_host::<OneDirectory>();
-    all_answered::<OneDirectory>();
-    one_number();
-    two_lookups();
-    forgotten_number();
-    forgotten_nothing();
-    gone_number();
     turns_are_determined::<OneDirectory>();
     seats_follow::<OneDirectory>();
+}
+
+#[test]
+fn the_laws_of_tables_hold() {
+    every_run();
+}
+
+#[test]
+fn the_laws_of_worlds_hold() {
+    every_told_run();
+    every_host::<OneDirectory>();
+}
+
+#[test]
+fn the_laws_of_numbers_hold() {
+    one_number();
+    forgotten_number();
+    forgotten_nothing();
+}
+
+#[test]
+fn the_laws_of_texts_hold() {
     first_bad_line();
     script_determines_report();
     texts_tell_values();
