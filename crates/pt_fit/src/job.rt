@@ -44,7 +44,7 @@ pub fn asked_ends()
         AllMayBeTold steps → Belongs (grammar_for plan seat asked) steps (finish.Answer last) →
         IsCausedBy asked steps last }
     ensures begins { (plan : Plan) (seat : HostSeat) (asked : Asked) (steps : List Step) (end : Finish) →
-        Belongs (grammar_for plan seat asked) steps end → BeginsFirst steps }
+        ComesTo plan seat asked steps end → BeginsFirst steps }
     ensures named { (plan : Plan) (seat : HostSeat) (asked : Asked) (steps : List Step) (entry : Entry) →
         AllMayBeTold steps → Belongs (grammar_for plan seat asked) steps (finish.Answer (answer.Entry entry)) →
         ((who : Context) × (parent : ℕ) × (name : List ℕ)

@@ -1,14 +1,13 @@
 -- One step of a job belongs to what it has to do.
-use Rattle.std.proofs.Common.{◌≡◌, inl, inr, ℕ, List, Option, Some, None, sym, subst}
+use Rattle.std.proofs.Common.{◌≡◌, inl, inr, ℕ, Option, Some, None, sym, subst}
 use Rattle.pt_host.specs.declared.seat.HostSeat.{HostSeat}
 use Rattle.pt_session.specs.Tables.{Tables}
-use Rattle.pt_frame.specs.Deed.{Deed, Calls, Changes, Step, IsStepOf, MayTellBytes, HoldsReplyBytes}
-use Rattle.pt_frame.specs.Grammar.{Grammar, End, Do, May, Belongs, after, Owed}
+use Rattle.pt_frame.specs.Deed.{Deed, Calls, Changes, IsStepOf, MayTellBytes, HoldsReplyBytes}
+use Rattle.pt_frame.specs.Grammar.{Grammar, End, Do, May, IsChosen, after, Owed}
 use Rattle.pt_host.specs.Relation.{HostRelation}
 use Rattle.pt_frame.specs.Made.{Made}
 use Rattle.pt_frame.specs.declared.act.ActReply.{ActReply}
 use Rattle.pt_frame.specs.declared.act.ActReply.TheVariants.{Event, Host, NoCopy}
-use Rattle.pt_frame.specs.declared.finish.Finish.{Finish}
 use Rattle.pt_law.proofs.Told.{Promises, bytes_told}
 use Rattle.pt_fs.specs.Advances.{IsWanted, IsShown, Advances}
 use Rattle.pt_fs.specs.Jobs.{no_seat}
@@ -77,14 +76,11 @@ module _ {H : Type 0} (does : HostRelation H) (faults : H → ℕ) (promises : P
   pub advanced : (old new : Grammar) (kept : Option Deed) (reply shown told : ActReply) (host : H)
       (seat : Option HostSeat) (tables : Tables) (host' : H) (seat' : Option HostSeat) (tables' : Tables) →
       IsWanted old kept → MadeFrom does kept reply host seat tables host' seat' tables' → IsShown reply shown →
-      told ≡ shown →
-      ((steps : List Step) (end : Finish) → Belongs new steps end → Belongs (after told old) steps end) →
-      Advances old kept shown new
-  advanced (Do deed owed next) new kept reply shown told host seat tables host' seat' tables' wanted made t e goes =
-      λ steps end belongs. (
-        is_step_from deed owed next kept reply shown host seat tables host' seat' tables' wanted made t,
-        subst (λ (r : ActReply). Belongs (next r) steps end) e (goes steps end belongs),
-      )
+      told ≡ shown → IsChosen (after told old) new → Advances old kept shown new
+  advanced (Do deed owed next) new kept reply shown told host seat tables host' seat' tables' wanted made t e goes = (
+    is_step_from deed owed next kept reply shown host seat tables host' seat' tables' wanted made t,
+    subst (λ (r : ActReply). IsChosen (next r) new) e goes,
+  )
   advanced (End last) new kept reply shown told host seat tables host' seat' tables' wanted made t e goes =
       absurd wanted
   advanced (May one other) new kept reply shown told host seat tables host' seat' tables' wanted made t e goes =

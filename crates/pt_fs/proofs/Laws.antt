@@ -1,54 +1,52 @@
 -- The laws of whole runs, read for a trace.
-use Rattle.std.proofs.Common.{◌≡◌, ◌<◌, ◌++◌, ◌∙◌, ℕ, List, [], ◌∷◌, Option, Some, None, ap, sym, subst, refl, length}
-use Rattle.std.proofs.Common.{inl, map, arith, cond, eqb, append-nil}
+use Rattle.std.proofs.Common.{◌≡◌, ◌⊎◌, ◌<◌, ◌++◌, ◌∙◌, ℕ, List, [], ◌∷◌, Option, ap, sym, subst, refl, length, inl}
+use Rattle.std.proofs.Common.{inr, arith, cond, eqb, append-nil}
 use Rattle.std.proofs.lemmas.Grind.{common_steps}
 use Rattle.std.proofs.Math.ListN.{length-set}
-use Rattle.std.proofs.lemmas.List.{length-map}
 use Rattle.std.proofs.lemmas.Option.{slice_get_within}
-use Rattle.std.specs.Prelude.{slice_get}
 use Rattle.pt_host.specs.Words.{Each}
+use Rattle.pt_host.specs.declared.edit.Edit.{Edit}
+use Rattle.pt_host.specs.declared.ids.Errno.{Errno}
 use Rattle.pt_host.specs.declared.seat.HostSeat.{HostSeat}
 use Rattle.pt_session.specs.Tables.{Tables, Agree, empty_tables}
 use Rattle.pt_iface.specs.declared.answer.Answer.{Answer}
 use Rattle.pt_iface.specs.declared.answer.Answer.TheVariants as answer
-use Rattle.pt_iface.specs.declared.request.Request.TheVariants as request
 use Rattle.pt_frame.specs.Deed.{Step, kept_deed_of}
+use Rattle.pt_frame.specs.Edit.{edit_answer}
+use Rattle.pt_frame.specs.Frame.{CutAfter}
 use Rattle.pt_frame.specs.Grammar.{Belongs}
+use Rattle.pt_frame.specs.Memory.{RanOut}
 use Rattle.pt_host.specs.Relation.{HostRelation}
-use Rattle.pt_attr.specs.Pattern.{Asked, Requests, grammar_for}
-use Rattle.pt_frame.specs.declared.finish.Finish.{Finish}
+use Rattle.pt_attr.specs.Pattern.{Asked, Requests, Edits, grammar_for}
 use Rattle.pt_frame.specs.declared.finish.Finish.TheVariants as finish
 use Rattle.pt_req.specs.declared.plan.Plan.{Plan}
 use Rattle.pt_law.specs.Told.{AllMayBeTold}
-use Rattle.pt_law.specs.Discipline.{AreEnded, AreDisciplined}
+use Rattle.pt_law.specs.Discipline.{AreEnded, AreDisciplined, ComesToEnd, idle}
 use Rattle.pt_law.specs.Laws.{SlotsAddUp, IsAtRest, BeginsFirst}
-use Rattle.pt_fit.specs.Answered.{AreAnswered}
 use Rattle.pt_law.specs.Ledger.{slots_taken, slots_given}
-use Rattle.pt_law.specs.World.{Turn, TablesRun, HostRuns, steps_of}
+use Rattle.pt_law.specs.World.{TablesRun, HostRuns, Turn, steps_of}
 use Rattle.pt_law.proofs.Told.{Promises}
 use Rattle.pt_law.proofs.Hosts.{hosts_tables, hosts_told}
-use Rattle.pt_fit.proofs.Answered.{hosts_ended}
 use Rattle.pt_law.proofs.Laws.{agree_law, counts_law, once_law, slots_law, rest_law, ended_jobs}
 use Rattle.pt_law.proofs.Standing.{standing_law}
 use Rattle.pt_law.proofs.HandlesOnce.{handles_once_law}
 use Rattle.pt_law.proofs.Overtaking.{overtaken_law, shut_out_law}
 use Rattle.pt_law.proofs.Interleaving.{tables_split}
 use Rattle.pt_law.proofs.Next.{honoured_law, owner_of}
-use Rattle.pt_fit.proofs.Beginning.{job_first}
-use Rattle.pt_fit.proofs.Asked.{job_ends, job_caused}
 use Rattle.pt_law.proofs.Returned.{all_settled}
-use Rattle.pt_fs.specs.Jobs.{no_seat, daemon, job_seat, job_start, job_grammar, asked_of}
-use Rattle.pt_fs.specs.Trace.{TraceRuns, AnswersEach, steps_by, step_of}
+use Rattle.pt_fit.specs.Cause.{IsCausedBy, EditCauses}
+use Rattle.pt_fit.proofs.Asked.{comes_ends, job_caused}
+use Rattle.pt_fit.proofs.Beginning.{job_first}
+use Rattle.pt_fit.proofs.Edits.{edit_left_out}
+use Rattle.pt_fs.specs.Jobs.{job_start, job_grammar, asked_of}
+use Rattle.pt_fs.specs.Trace.{TraceRuns, steps_by, step_of}
 use Rattle.pt_fs.specs.Keeps.{turn_of, turns_of, AfterEach, KeepsCounts, KeepsHandles, InsertsOnce, OvertakenAsTold}
 use Rattle.pt_fs.specs.Keeps.{ShutsOut, OfEachJob, GivesAllBack, IsCausedIn, RanOutIn, ReachesEach, HonoursEach}
 use Rattle.pt_fs.specs.declared.job.Job.{Job}
 use Rattle.pt_fs.specs.declared.trace.TraceStep.{TraceStep}
-use Rattle.pt_fs.proofs.Ended.{one_for_each, at_below, belongs_by}
+use Rattle.pt_fs.proofs.Ended.{one_for_each, at_below}
 use Rattle.pt_fs.proofs.Traces.{made_from}
 use Rattle.pt_fs.proofs.Memory.{ran_out}
-use Rattle.pt_fs.proofs.Whole.{Whole, runs_whole, answers_whole}
-use Rattle.pt_fs.specs.Owing.{run_seat}
-use Rattle.pt_fs.specs.declared.running.Running.{Running}
 
 -- the seats aside, a trace is a run of its host
 pub host_runs : {H : Type 0} (does : HostRelation H) (trace : List TraceStep) (host : H)
@@ -80,17 +78,82 @@ steps_same job [] = refl
 steps_same job (step ∷ trace) =
     ap (λ (steps : List Step). cond (eqb step.job job) (step_of step ∷ steps) steps) (steps_same job trace)
 
-asked_by : Option Job → Asked
-asked_by None = Requests daemon request.Root
-asked_by (Some job) = asked_of job
+-- How a job ended, by its steps.
 
-seat_by : Option Job → HostSeat
-seat_by None = no_seat
-seat_by (Some job) = job_start job
+-- it lost its seat, or was cut after some of its steps
+abbrev pub Stops : Plan → HostSeat → Asked → List Step → Type 0
+Stops plan seat asked steps =
+    ((errno : Errno) × Belongs (grammar_for plan seat asked) steps (finish.Lost errno))
+    ⊎ ((so_far : List Step) × (rest : List Step) × (steps ≡ so_far ++ rest)
+    × CutAfter seat (grammar_for plan seat asked) so_far rest (finish.Answer answer.Cut))
 
-end_by : Option Answer → Finish
-end_by None = finish.Answer answer.Done
-end_by (Some told) = finish.Answer told
+-- it is answered by what it asked, or it stopped and is cut
+abbrev pub Comes : Plan → Job → List Step → Answer → Type 0
+Comes plan job steps told =
+    Belongs (job_grammar plan job) steps (finish.Answer told)
+    ⊎ ((told ≡ answer.Cut) × Stops plan (job_start job) (asked_of job) steps)
+
+stops_first : (plan : Plan) (seat : HostSeat) (asked : Asked) (steps : List Step) → Stops plan seat asked steps →
+    BeginsFirst steps
+stops_first plan seat asked steps (inl lost) = job_first plan seat asked steps (finish.Lost lost.0) (inl lost.1)
+stops_first plan seat asked steps (inr gone) = job_first plan seat asked steps (finish.Answer answer.Cut) (inr gone)
+
+comes_first : (plan : Plan) (job : Job) (steps : List Step) (told : Answer) → Comes plan job steps told →
+    BeginsFirst steps
+comes_first plan job steps told (inl b) =
+    job_first plan (job_start job) (asked_of job) steps (finish.Answer told) (inl b)
+comes_first plan job steps told (inr stops) = stops_first plan (job_start job) (asked_of job) steps stops.1
+
+-- nothing is held where it stopped
+stops_ends : (plan : Plan) (seat : HostSeat) (asked : Asked) (steps : List Step) → AllMayBeTold steps →
+    Stops plan seat asked steps → ComesToEnd idle steps (finish.Answer answer.Cut)
+stops_ends plan seat asked steps t (inl lost) = comes_ends plan seat asked steps (finish.Lost lost.0) t (inl lost.1)
+stops_ends plan seat asked steps t (inr gone) =
+    comes_ends plan seat asked steps (finish.Answer answer.Cut) t (inr gone)
+
+comes_to_end : (plan : Plan) (job : Job) (steps : List Step) (told : Answer) → AllMayBeTold steps →
+    Comes plan job steps told → ComesToEnd idle steps (finish.Answer told)
+comes_to_end plan job steps told t (inl b) =
+    comes_ends plan (job_start job) (asked_of job) steps (finish.Answer told) t (inl b)
+comes_to_end plan job steps told t (inr stops) =
+    subst (λ (a : Answer). ComesToEnd idle steps (finish.Answer a)) (sym stops.0)
+    (stops_ends plan (job_start job) (asked_of job) steps t stops.1)
+
+-- an edit that stopped was not made
+never_lost : (step : Step) (errno : Errno) → finish.Lost errno ≡ finish.Answer (edit_answer step.reply) → ⊥
+never_lost step errno e = cc
+
+unmade_edit : (plan : Plan) (seat : HostSeat) (edit : Edit) (steps : List Step) → Stops plan seat (Edits edit) steps →
+    steps ≡ []
+unmade_edit plan seat edit [] stops = refl
+unmade_edit plan seat edit (step ∷ []) (inl lost) = absurd (never_lost step lost.0 lost.1.1)
+unmade_edit plan seat edit (step ∷ more ∷ steps) (inl lost) = absurd lost.1.1
+unmade_edit plan seat edit (step ∷ steps) (inr gone) =
+    let none = edit_left_out seat edit gone.0 gone.1 (finish.Answer answer.Cut) gone.3 in
+    gone.2 ∙ ap (λ (l : List Step). l ++ gone.1) none.0 ∙ none.1
+
+stops_caused : (plan : Plan) (seat : HostSeat) (asked : Asked) (steps : List Step) → Stops plan seat asked steps →
+    IsCausedBy asked steps answer.Cut
+stops_caused plan seat (Requests who asked) steps stops = tt
+stops_caused plan seat (Edits edit) steps stops = λ errno. (
+  (λ e. absurd (cc)),
+  λ causes. absurd (subst (λ (l : List Step). EditCauses edit l errno) (unmade_edit plan seat edit steps stops) causes),
+)
+
+comes_caused : (plan : Plan) (job : Job) (steps : List Step) (told : Answer) → AllMayBeTold steps →
+    Comes plan job steps told → IsCausedBy (asked_of job) steps told
+comes_caused plan job steps told t (inl b) = job_caused plan (job_start job) (asked_of job) steps told t b
+comes_caused plan job steps told t (inr stops) =
+    subst (λ (a : Answer). IsCausedBy (asked_of job) steps a) (sym stops.0)
+    (stops_caused plan (job_start job) (asked_of job) steps stops.1)
+
+comes_ran_out : (plan : Plan) (job : Job) (steps : List Step) (told : Answer) → AllMayBeTold steps →
+    Comes plan job steps told → told ≡ answer.NoMemory → RanOut steps
+comes_ran_out plan job steps told t (inl b) is =
+    ran_out plan (job_start job) (asked_of job) steps t
+    (subst (λ (last : Answer). Belongs (job_grammar plan job) steps (finish.Answer last)) is b)
+comes_ran_out plan job steps told t (inr stops) is = let no : answer.Cut ≡ answer.NoMemory = sym stops.0 ∙ is in
+    absurd (cc)
 
 -- a trace, and what is known of it
 pub record Ran {H : Type 0} (does : HostRelation H) (plan : Plan) (limit : ℕ) (jobs : List Job) (host : H)
@@ -100,51 +163,36 @@ pub record Ran {H : Type 0} (does : HostRelation H) (plan : Plan) (limit : ℕ) 
   pub seats' : List (Option HostSeat)
   pub runs : TraceRuns does trace host seats tables host' seats' tables'
   pub one_each : length seats ≡ length jobs
-  pub answered : AnswersEach plan jobs trace answers
+  pub answered : length answers ≡ length jobs
+  pub comes : OfEachJob jobs answers (λ j job told. Comes plan job (steps_by j trace) told)
   pub begins : tables ≡ empty_tables limit
 
--- what each job asked and how it ended
-asked_at : List Job → ℕ → Asked
-unfolding asked_by
-asked_at jobs j = asked_by (slice_get jobs j)
-
--- and from which seat
-start_at : List Job → ℕ → HostSeat
-unfolding seat_by
-start_at jobs j = seat_by (slice_get jobs j)
-
-end_at : List Answer → ℕ → Finish
-unfolding end_by
-end_at answers j = end_by (slice_get answers j)
-
-belongs_in : (plan : Plan) (jobs : List Job) (trace : List TraceStep) (answers : List Answer) →
-    AnswersEach plan jobs trace answers → (j : ℕ) → j < length jobs →
-    Belongs (grammar_for plan (start_at jobs j) (asked_at jobs j)) (steps_of j (turns_of trace)) (end_at answers j)
-unfolding asked_at asked_by start_at seat_by end_at end_by
-belongs_in plan jobs trace answers each j below =
+-- the job of a number, and its answer
+some_job : (jobs : List Job) (answers : List Answer) (P : ℕ → Job → Answer → Type 0) →
+    length answers ≡ length jobs → OfEachJob jobs answers P → (j : ℕ) → j < length jobs →
+    (job : Job) × (told : Answer) × P j job told
+some_job jobs answers P same each j below =
     let job = at_below jobs j below in
-    let told = one_for_each jobs answers j job.0 each.one_each job.1 in
-    let in_pattern = belongs_by plan job.0 (steps_by j trace) told.0 (each.in_pattern j job.0 told.0 job.1 told.1) in
-    rw (steps_same j trace, job.1, told.1) in_pattern
-
-answered_in : (plan : Plan) (jobs : List Job) (trace : List TraceStep) (answers : List Answer) →
-    AnswersEach plan jobs trace answers → Each (λ turn. turn.job < length jobs) (turns_of trace) →
-    AreAnswered plan (length jobs) (start_at jobs) (asked_at jobs) (end_at answers) (turns_of trace)
-answered_in plan jobs trace answers each owners = record {
-  owners = owners;
-  jobs = λ j below. inl (belongs_in plan jobs trace answers each j below);
-}
+    let told = one_for_each jobs answers j job.0 same job.1 in
+    (job.0, told.0, each j job.0 told.0 job.1 told.1)
 
 pub ended_of : {H : Type 0} (does : HostRelation H) (faults : H → ℕ) → Promises does faults →
     (plan : Plan) (limit : ℕ) (jobs : List Job) (host : H) (tables : Tables) (trace : List TraceStep)
     (answers : List Answer) (host' : H) (tables' : Tables) →
     Ran does plan limit jobs host tables trace answers host' tables' → AreEnded (length jobs) (turns_of trace)
-ended_of does faults p plan limit jobs host tables trace answers host' tables' ran =
-    let runs = host_runs does trace host ran.seats tables host' ran.seats' tables' ran.runs in
-    let owners = owners_below does
-    (length jobs) trace host ran.seats tables host' ran.seats' tables' ran.one_each ran.runs in
-    hosts_ended does faults p plan (length jobs) (start_at jobs) (asked_at jobs) (end_at answers)
-    (turns_of trace) host tables host' tables' runs (answered_in plan jobs trace answers ran.answered owners)
+ended_of does faults p plan limit jobs host tables trace answers host' tables' ran = record {
+  owners = owners_below does
+      (length jobs) trace host ran.seats tables host' ran.seats' tables' ran.one_each ran.runs;
+  jobs = λ j below.
+      let runs = host_runs does trace host ran.seats tables host' ran.seats' tables' ran.runs in
+      let it = some_job jobs answers (λ k job told. Comes plan job (steps_by k trace) told) ran.answered ran.comes j
+      below in
+      let told = subst AllMayBeTold (steps_same j trace)
+      (hosts_told does faults p j (turns_of trace) host tables host' tables' runs) in (
+        finish.Answer it.1,
+        rw (steps_same j trace) (comes_to_end plan it.0 (steps_by j trace) it.1 told it.2),
+      );
+}
 
 pub turns-append : (trace more : List TraceStep) → turns_of (trace ++ more) ≡ turns_of trace ++ turns_of more
 turns-append trace more = grind (arith, common_steps)
@@ -172,10 +220,11 @@ pub record Keeps (limit : ℕ) (jobs : List Job) (tables : Tables) (trace : List
   pub memory : OfEachJob jobs answers (RanOutIn trace)
 
 first_of : (plan : Plan) (jobs : List Job) (trace : List TraceStep) (answers : List Answer) →
-    AnswersEach plan jobs trace answers → (j : ℕ) → j < length jobs → BeginsFirst (steps_of j (turns_of trace))
-first_of plan jobs trace answers each j below =
-    job_first plan (start_at jobs j) (asked_at jobs j) (steps_of j (turns_of trace)) (end_at answers j)
-    (belongs_in plan jobs trace answers each j below)
+    length answers ≡ length jobs → OfEachJob jobs answers (λ j job told. Comes plan job (steps_by j trace) told) →
+    (j : ℕ) → j < length jobs → BeginsFirst (steps_of j (turns_of trace))
+first_of plan jobs trace answers same comes j below =
+    let it = some_job jobs answers (λ k job told. Comes plan job (steps_by k trace) told) same comes j below in
+    rw (steps_same j trace) (comes_first plan it.0 (steps_by j trace) it.1 it.2)
 
 pub keeps : {H : Type 0} (does : HostRelation H) (faults : H → ℕ) → Promises does faults →
     (plan : Plan) (limit : ℕ) (jobs : List Job) (host : H) (tables : Tables) (trace : List TraceStep)
@@ -223,7 +272,7 @@ keeps does faults p plan limit jobs host tables trace answers host' tables' ran 
           ∙ turns-append so_far (step ∷ rest)) whole in
           let cut = tables_split (turns_of so_far) (turn_of step ∷ turns_of rest) (empty_tables limit) tables' run in
           let d = cut_at (length jobs) trace so_far (step ∷ rest) e disciplined in
-          let first = first_of plan jobs trace answers ran.answered step.job
+          let first = first_of plan jobs trace answers ran.answered ran.comes step.job
           (owner_of (length jobs) (turns_of so_far) (turn_of step) (turns_of rest) d.owners) in
           shut_out_law limit (length jobs) (turns_of so_far) (turn_of step) (turns_of rest) cut.0 cut.2.0
           (subst (λ (turns : List Turn). BeginsFirst (steps_of step.job turns)) (ap turns_of e
@@ -240,9 +289,7 @@ keeps does faults p plan limit jobs host tables trace answers host' tables' ran 
           (hosts_tables does (turns_of trace) host tables host' tables' runs));
       agree = λ so_far rest now e r. agree_law limit (turns_of so_far) now (from_empty (turns_of so_far) now r);
       gives_back = λ j job answer at told_at.
-          let b = belongs_by plan job (steps_by j trace) answer (ran.answered.in_pattern j job answer at told_at) in
-          let ends = job_ends plan (job_start job) (asked_of job) (steps_by j trace) (finish.Answer answer)
-          (told j) b in
+          let ends = comes_to_end plan job (steps_by j trace) answer (told j) (ran.comes j job answer at told_at) in
           let below = slice_get_within jobs j job at in
           record {
             settled = all_settled (steps_by j trace) (finish.Answer answer) ends;
@@ -253,25 +300,7 @@ keeps does faults p plan limit jobs host tables trace answers host' tables' ran 
                 omega (arith, none, most));
           };
       causes = λ j job answer at told_at.
-          job_caused plan (job_start job) (asked_of job) (steps_by j trace) answer (told j)
-          (belongs_by plan job (steps_by j trace) answer (ran.answered.in_pattern j job answer at told_at));
+          comes_caused plan job (steps_by j trace) answer (told j) (ran.comes j job answer at told_at);
       memory = λ j job answer at told_at is.
-          ran_out plan (job_start job) (asked_of job) (steps_by j trace) (told j)
-          (subst (λ (last : Answer). Belongs (job_grammar plan job) (steps_by j trace) (finish.Answer last)) is
-          (belongs_by plan job (steps_by j trace) answer (ran.answered.in_pattern j job answer at told_at)));
+          comes_ran_out plan job (steps_by j trace) answer (told j) (ran.comes j job answer at told_at) is;
     }
-
--- what is known of a whole run
-pub ran_whole : {H : Type 0} {does : HostRelation H} {plan : Plan} {schedule : List ℕ} {h h' : H} {jobs : List Job}
-    {running running' : List Running} {tables tables' : Tables} {trace : List TraceStep} {answers : List Answer}
-    → Whole does plan schedule h jobs running tables h' running' tables' trace answers →
-    ((limit : ℕ) × (tables ≡ empty_tables limit)) →
-    Ran does plan tables.limit jobs h tables trace answers h' tables'
-ran_whole {jobs = jobs} {running' = running'} {tables = tables} whole new = record {
-  seats = map job_seat jobs;
-  seats' = map run_seat running';
-  runs = runs_whole whole;
-  one_each = length-map jobs job_seat;
-  answered = answers_whole whole;
-  begins = new.1 ∙ ap empty_tables (sym (ap (λ (t : Tables). t.limit) new.1));
-}

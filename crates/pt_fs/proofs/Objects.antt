@@ -35,11 +35,9 @@ use Rattle.pt_fit.proofs.Looking.{looked_up}
 use Rattle.pt_fs.specs.Jobs.{job_start, job_grammar, asked_of}
 use Rattle.pt_fs.specs.Keeps.{turn_of, turns_of, AfterEachTold, LeadsOn, begins_in, KeepsObjects, ServesEach}
 use Rattle.pt_fs.specs.Keeps.{OfEachJob, IsNamedIn, NamesOpenOnes, LeavesOpen, AgreeOnNumbers, ComeFromNames}
-use Rattle.pt_fs.specs.Trace.{steps_by}
 use Rattle.pt_fs.specs.declared.job.Job.{Job}
 use Rattle.pt_fs.specs.declared.trace.TraceStep.{TraceStep}
-use Rattle.pt_fs.proofs.Ended.{belongs_by}
-use Rattle.pt_fs.proofs.Laws.{Ran, host_runs, steps_same, ended_of, turns-append, cut_at}
+use Rattle.pt_fs.proofs.Laws.{Comes, Ran, host_runs, steps_same, ended_of, turns-append, cut_at}
 use Rattle.pt_fs.proofs.Uncalled.{AreUncalled, formed, uncalled_front, uncalled_at, no_rows, no_handles, keeps_none}
 use Rattle.pt_fs.proofs.Uncalled.{leaves_none, names_none, no_places, no_objects, unobjected}
 
@@ -81,9 +79,8 @@ entered_by : (limit : ℕ) (plan : Plan) (jobs : List Job) (told : Option Tree) 
     (trace : List TraceStep) → tables ≡ empty_tables limit → AreDisciplined (length jobs) (turns_of trace) →
     ((tree : Tree) → told ≡ Some tree → AreUncalled (turns_of trace) ⊎ IsWellFormed tree) →
     (j : ℕ) (job : Job) (given : Answer) → AllMayBeTold (steps_of j (turns_of trace)) →
-    Belongs (job_grammar plan job) (steps_of j (turns_of trace)) (finish.Answer given) →
-    IsNamedIn plan told tables trace j job given
-entered_by limit plan jobs told tables trace begins disciplined known j job (answer.Entry entry) may b =
+    Comes plan job (steps_of j (turns_of trace)) given → IsNamedIn plan told tables trace j job given
+entered_by limit plan jobs told tables trace begins disciplined known j job (answer.Entry entry) may (inl b) =
     let named = entry_asked plan (job_start job) (asked_of job) (steps_of j (turns_of trace)) entry may b in (
       named.1,
       named.2,
@@ -92,6 +89,8 @@ entered_by limit plan jobs told tables trace begins disciplined known j job (ans
           entered_from limit plan jobs (begins_in tree tables) (turns_of trace) j job named.0 named.1 named.2 entry
           begins refl (known tree is) disciplined named.3 b),
     )
+entered_by limit plan jobs told tables trace begins disciplined known j job (answer.Entry entry) may (inr stops) =
+    let no : answer.Entry entry ≡ answer.Cut = stops.0 in absurd (cc)
 entered_by limit plan jobs told tables trace begins disciplined known j job given may b = tt
 
 -- what holds in the world in which the run begins, after the steps so far and the world to which they led
@@ -223,6 +222,5 @@ keeps_told does tree faults p tells plan limit jobs host tables trace answers ho
       entries = λ j job given at told_at.
           entered_by limit plan jobs (tree host) tables trace ran.begins disciplined known j job given
           (hosts_told does faults p j (turns_of trace) host tables host' tables' runs)
-          (rw (steps_same j trace)
-          (belongs_by plan job (steps_by j trace) given (ran.answered.in_pattern j job given at told_at)));
+          (rw (steps_same j trace) (ran.comes j job given at told_at));
     }

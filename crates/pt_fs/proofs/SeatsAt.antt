@@ -1,5 +1,5 @@
 -- The seat of each job that has one is what the steps of that job made of it, whatever other jobs did between them.
-use Rattle.std.proofs.Common.{◌≡◌, inl, inr, ℕ, cond, List, [], ◌∷◌, Option, Some, None, slice_get, ap, sym, ◌∙◌}
+use Rattle.std.proofs.Common.{◌≡◌, inl, inr, ℕ, cond, List, [], ◌∷◌, Option, Some, None, slice_get, ap, sym, refl, ◌∙◌}
 use Rattle.std.proofs.lemmas.Bool.Decides.{eqb_tells}
 use Rattle.std.proofs.lemmas.Option.{same_Some}
 use Rattle.pt_host.specs.declared.seat.HostSeat.{HostSeat}
@@ -53,3 +53,30 @@ module _ {H : Type 0} (does : HostRelation H) (faults : H → ℕ) (p : Promises
             ∙ ap (λ b. has_seat (seat_at seat (cond b (step_of x ∷ steps_by job xs) (steps_by job xs))))
             (sym apart.0))
       ]
+
+-- who has no seat gets none
+none_made : {H : Type 0} (does : HostRelation H) (deed : Option Deed) (told : ActReply) (from : H)
+    (was : Option HostSeat) (tables : Tables) (to : H) (now : Option HostSeat) (tables_after : Tables) →
+    MadeFrom does deed told from was tables to now tables_after → was ≡ None → now ≡ None
+none_made does deed told from None tables to None tables_after m is = refl
+none_made does deed told from None tables to (Some seat) tables_after m is = absurd m
+none_made does deed told from (Some seat) tables to now tables_after m is = absurd (cc)
+
+pub nones_at : {H : Type 0} (does : HostRelation H) (xs : List TraceStep) (h0 h1 : H) (s0 s1 : List (Option HostSeat))
+    (r0 r1 : Tables) → TraceRuns does xs h0 s0 r0 h1 s1 r1 → (job : ℕ) → slice_get s0 job ≡ Some None →
+    slice_get s1 job ≡ Some None
+nones_at does [] h0 h1 s0 s1 r0 r1 runs job is = ap (λ (s : List (Option HostSeat)). slice_get s job) runs.1 ∙ is
+nones_at does (x ∷ xs) h0 h1 s0 s1 r0 r1 runs job is =
+    let at = runs.3 in
+    elim (eqb_tells x.job job) [
+      | inl e ↦
+          let own : at.0 ≡ None = same_Some at.0 None (sym at.2 ∙ ap (slice_get s0) e.1 ∙ is) in
+          let made : at.1 ≡ None =
+          none_made does (kept_deed_of x.act) x.reply h0 at.0 r0 runs.0 at.1 runs.2 at.4 own in
+          nones_at does xs runs.0 h1 runs.1 s1 runs.2 r1 runs.4 job
+          (ap (slice_get runs.1) (sym e.1) ∙ ap (λ (s : List (Option HostSeat)). slice_get s x.job) at.3
+          ∙ get-set_same s0 x.job at.0 at.1 at.2 ∙ ap Some made)
+      | inr apart ↦ nones_at does xs runs.0 h1 runs.1 s1 runs.2 r1 runs.4 job
+          (ap (λ (s : List (Option HostSeat)). slice_get s job) at.3
+          ∙ get-set_other s0 x.job job at.1 (λ q. apart.1 (sym q)) ∙ is)
+    ]

@@ -1,109 +1,247 @@
--- From the first step to the last.
-use Rattle.std.proofs.Common.{◌≡◌, ◌≤◌, ℕ, List, [], ◌++◌, ◌∙◌, ap, map, length, sym, subst, arith}
-use Rattle.pt_host.specs.declared.seat.HostSeat.{HostSeat}
-use Rattle.pt_session.specs.Tables.{Tables}
-use Rattle.pt_iface.specs.declared.answer.Answer.{Answer}
+-- From the first step to the last: where no seat was lost.
+use Rattle.std.proofs.Common.{◌≡◌, ◌≢◌, ◌≤◌, inl, inr, ℕ, suc, Bool, List, [], ◌∷◌, ◌++◌, ◌∙◌}
+use Rattle.std.proofs.Common.{Option, Some, None, refl, ap, map, length, slice_get, sym, subst, option_map, eq-eqb}
+use Rattle.std.proofs.Common.{cond, false, arith}
+use Rattle.std.proofs.lemmas.Bool.{cases_eq, ne_eqb}
+use Rattle.std.proofs.lemmas.List.{length-map}
+use Rattle.std.proofs.lemmas.Option.{slice_get_cases, slice_get-map}
 use Rattle.pt_host.specs.Relation.{HostRelation}
+use Rattle.pt_host.specs.Words.{Each}
+use Rattle.pt_host.specs.declared.seat.HostSeat.{HostSeat}
+use Rattle.pt_session.specs.Tables.{Tables, empty_tables}
+use Rattle.pt_iface.specs.declared.answer.Answer.{Answer}
+use Rattle.pt_iface.specs.declared.answer.Answer.TheVariants as answer
+use Rattle.pt_frame.specs.Deed.{Step}
+use Rattle.pt_frame.specs.Grammar.{Belongs}
+use Rattle.pt_frame.specs.Past.{past_of}
+use Rattle.pt_frame.specs.Seats.{seat_at}
+use Rattle.pt_frame.specs.Tended.{IsFinish}
+use Rattle.pt_frame.specs.declared.finish.Finish.{Finish}
+use Rattle.pt_frame.specs.declared.finish.Finish.TheVariants as finish
+use Rattle.pt_attr.specs.Pattern.{Asked}
 use Rattle.pt_req.specs.declared.plan.Plan.{Plan}
+use Rattle.pt_law.proofs.Told.{Promises}
 use Rattle.pt_fs.specs.Each.{EachStarted, EachAnswered}
+use Rattle.pt_fs.specs.Ends.{LosesNone, EndsWhole}
 use Rattle.pt_fs.specs.GoesOn.{GoesOn}
-use Rattle.pt_fs.specs.Jobs.{job_seat}
-use Rattle.pt_fs.specs.Order.{order, rest_of, IsInOrder}
-use Rattle.pt_fs.specs.Owing.{Owing, run_seat}
-use Rattle.pt_fs.specs.Took.{IsFinishedAt}
-use Rattle.pt_fs.specs.Trace.{TraceRuns, RunsJobs, seated, AnswersEach, IsBounded}
+use Rattle.pt_fs.specs.Jobs.{StartAll, job_seat, job_start, job_grammar, asked_of}
+use Rattle.pt_fs.specs.Keeps.{OfEachJob}
+use Rattle.pt_fs.specs.Order.{order, rest_of, count_of, with_left, MayBeLeft, Owns, IsInOrder}
+use Rattle.pt_fs.specs.Took.{IsFinishedAt, NoneLost}
+use Rattle.pt_fs.specs.Trace.{TraceRuns, RunsJobs, SeatsBack, seated, AnswersEach, IsBounded, step_of, steps_by}
+use Rattle.pt_fs.specs.Went.{run_seat}
 use Rattle.pt_fs.specs.Work.{work}
 use Rattle.pt_fs.specs.declared.job.Job.{Job}
+use Rattle.pt_fs.specs.declared.job.Job.TheVariants as job
 use Rattle.pt_fs.specs.declared.running.Running.{Running}
 use Rattle.pt_fs.specs.declared.trace.TraceStep.{TraceStep}
+use Rattle.pt_fs.proofs.Ended.{started_seats, started_length, one_for_each, EachRan, each_ran, ran_at, ran_past}
+use Rattle.pt_fs.proofs.Ended.{ran_end, groups_at, finish_plain, answered_by, answered_at}
+use Rattle.pt_fs.proofs.Ended.{answered_length, bounded_each, steps_each, none_left_over, order_kept}
+use Rattle.pt_fs.proofs.Laws.{Stops, Comes, Ran}
+use Rattle.pt_fs.proofs.SeatsAt.{seats_at, nones_at}
 use Rattle.pt_fs.proofs.Traces.{seats_left}
-use Rattle.pt_fs.proofs.Ended.{started_seats, started_length, started_owing, answers_each, bounded_each, steps_each}
-use Rattle.pt_fs.proofs.Ended.{order_kept}
+use Rattle.pt_fs.proofs.Unlost.{unseated, un_belongs, un_cut_off}
 
--- a whole run, from the jobs that were started to those that have finished
+-- Of any run.
+
+-- a job that has no step left was left out
+pub none_counted : (steps : List TraceStep) (j : ℕ) → count_of steps j ≡ 0 → steps_by j steps ≡ []
+none_counted [] j none = refl
+none_counted (step ∷ steps) j none = elim (cases_eq step.job j) [
+  | inl same ↦
+      let one : count_of (step ∷ steps) j ≡ suc (count_of steps j) =
+      ap (λ (b : Bool). cond b (suc (count_of steps j)) (count_of steps j)) (eq-eqb step.job j same) in
+      absurd (omega (arith, one, none))
+  | inr other ↦
+      let rest : count_of (step ∷ steps) j ≡ count_of steps j =
+      ap (λ (b : Bool). cond b (suc (count_of steps j)) (count_of steps j)) (ne_eqb step.job j other) in
+      ap (λ (b : Bool). cond b (step_of step ∷ steps_by j steps) (steps_by j steps)) (ne_eqb step.job j other)
+      ∙ none_counted steps j (sym rest ∙ none)
+]
+
+-- no step belongs to a job that is not there
+pub beyond_none : (before after : (ℕ → ℕ) → List ℕ) (running running' : List Running) (steps : List TraceStep)
+    (left : ℕ → ℕ) → Owns before running steps after running' → MayBeLeft left running' → (j : ℕ) →
+    length running ≤ j → steps_by j steps ≡ []
+beyond_none before after running running' steps left owns may j past =
+    let none : with_left steps left j ≡ 0 = (owns left may).0.beyond j past in
+    none_counted steps j (omega (arith, none))
+
+-- where no job has lost its seat, no restoring step was refused
+pub none_lost : (plan : Plan) (jobs : List Job) (steps : List TraceStep) (running : List Running) → StartAll jobs →
+    EachRan plan jobs steps running → NoneLost running → ((j : ℕ) → length jobs ≤ j → steps_by j steps ≡ []) →
+    LosesNone steps
+none_lost plan jobs steps running seats ran calm beyond j = elim (slice_get_cases jobs j).1 [
+  | inl there ↦
+      let own = ran j there.0 there.2 in
+      (ran_past plan there.0 (steps_by j steps) own.0 (groups_at jobs seats j there.0 there.2) own.2).1
+      ∙ calm j own.0 own.1
+  | inr past ↦ ap (λ (l : List Step). (past_of l).lost) (beyond j past.0)
+]
+
+stops_seat : (plan : Plan) (seat : HostSeat) (asked : Asked) (steps : List Step) → Stops plan seat asked steps →
+    seat_at seat steps ≡ seat
+stops_seat plan seat asked steps (inl lost) =
+    un_belongs seat _ steps (finish.Lost lost.0) (unseated plan seat asked) lost.1
+stops_seat plan seat asked steps (inr gone) =
+    ap (seat_at seat) gone.2
+    ∙ un_cut_off seat seat _ gone.0 gone.1 (finish.Answer answer.Cut) (unseated plan seat asked) gone.3
+
+-- the seat of a job that is over is as it began
+comes_seat : (plan : Plan) (job : Job) (steps : List Step) (told : Answer) → Comes plan job steps told →
+    seat_at (job_start job) steps ≡ job_start job
+comes_seat plan job steps told (inl b) =
+    un_belongs (job_start job) (job_grammar plan job) steps (finish.Answer told)
+    (unseated plan (job_start job) (asked_of job)) b
+comes_seat plan job steps told (inr stops) = stops_seat plan (job_start job) (asked_of job) steps stops.1
+
+seat_kept : {H : Type 0} (does : HostRelation H) (faults : H → ℕ) → Promises does faults → (plan : Plan) (job : Job)
+    (told : Answer) (trace : List TraceStep) (h0 h1 : H) (s0 s1 : List (Option HostSeat)) (r0 r1 : Tables) →
+    TraceRuns does trace h0 s0 r0 h1 s1 r1 → (j : ℕ) → slice_get s0 j ≡ Some (job_seat job) →
+    Comes plan job (steps_by j trace) told → slice_get s1 j ≡ Some (job_seat job)
+seat_kept does faults p plan (job.Request who seat asked) told trace h0 h1 s0 s1 r0 r1 runs j is comes =
+    seats_at does faults p trace h0 h1 s0 s1 r0 r1 runs j seat is
+    ∙ ap (λ (s : HostSeat). Some (Some s)) (comes_seat plan (job.Request who seat asked) (steps_by j trace) told comes)
+seat_kept does faults p plan (job.OpenRoot seat) told trace h0 h1 s0 s1 r0 r1 runs j is comes =
+    seats_at does faults p trace h0 h1 s0 s1 r0 r1 runs j seat is
+    ∙ ap (λ (s : HostSeat). Some (Some s)) (comes_seat plan (job.OpenRoot seat) (steps_by j trace) told comes)
+seat_kept does faults p plan (job.Edit edit) told trace h0 h1 s0 s1 r0 r1 runs j is comes =
+    nones_at does trace h0 h1 s0 s1 r0 r1 runs j is
+
+-- what is known of a run, by how its jobs came to their ends
+module _ {H : Type 0} (does : HostRelation H) (plan : Plan) (jobs : List Job) (trace : List TraceStep)
+    (answers : List Answer) (h h' : H) (tables tables' : Tables) (running' : List Running)
+    (runs : TraceRuns does trace h (map job_seat jobs) tables h' (map run_seat running') tables')
+    (same : length running' ≡ length jobs) (answered : length answers ≡ length jobs)
+    (comes : OfEachJob jobs answers (λ j job told. Comes plan job (steps_by j trace) told)) where
+  pub runs_jobs : (left : List HostSeat) → left ≡ seated (map run_seat running') →
+      RunsJobs does jobs trace h tables h' left tables'
+  runs_jobs left ends = record {
+    seats = map run_seat running';
+    runs = runs;
+    are_left = ends;
+    one_each = ap length ends
+        ∙ seats_left does trace h h' (map job_seat jobs) (map run_seat running') tables tables' runs;
+  }
+
+  pub seats_back : (faults : H → ℕ) → Promises does faults → (left : List HostSeat) →
+      left ≡ seated (map run_seat running') → SeatsBack jobs trace left
+  seats_back faults p left ends = (
+    map run_seat running',
+    ends,
+    length-map running' run_seat ∙ same,
+    λ j job at none.
+        let told = one_for_each jobs answers j job answered at in
+        seat_kept does faults p plan job told.0 trace h h' (map job_seat jobs) (map run_seat running') tables tables'
+        runs j (slice_get-map job_seat jobs j ∙ ap (option_map job_seat) at) (comes j job told.0 at told.1),
+  )
+
+  pub ran_of : ((limit : ℕ) × (tables ≡ empty_tables limit)) →
+      Ran does plan tables.limit jobs h tables trace answers h' tables'
+  ran_of new = record {
+    seats = map job_seat jobs;
+    seats' = map run_seat running';
+    runs = runs;
+    one_each = length-map jobs job_seat;
+    answered = answered;
+    comes = comes;
+    begins = new.1 ∙ ap empty_tables (sym (ap (λ (t : Tables). t.limit) new.1));
+  }
+
+-- Of one that lost no seat: from the jobs that were started to those that have finished.
 pub record Whole {H : Type 0} (does : HostRelation H) (plan : Plan) (schedule : List ℕ) (h : H) (jobs : List Job)
     (running : List Running) (tables : Tables) (h' : H) (running' : List Running) (tables' : Tables)
     (trace : List TraceStep) (answers : List Answer) : Type 0 where
   pub none : List TraceStep
   pub empty : none ≡ []
+  pub seats : StartAll jobs
   pub started : EachStarted plan jobs running
   pub goes : GoesOn does plan (order schedule (length running)) h running tables none
       (rest_of 0 (length running)) h' running' tables' trace
   pub finished : (j : ℕ) → IsFinishedAt running' j
+  pub calm : NoneLost running'
   pub answered : EachAnswered running' answers
 
-pub whole_steps : {H : Type 0} {does : HostRelation H} {plan : Plan} {schedule : List ℕ} {h h' : H} {jobs : List Job}
-    {running running' : List Running} {tables tables' : Tables} {trace : List TraceStep} {answers : List Answer}
-    (whole : Whole does plan schedule h jobs running tables h' running' tables' trace answers) →
-    trace ≡ whole.goes.steps
-whole_steps whole = whole.goes.longer ∙ ap (λ t. t ++ whole.goes.steps) whole.empty
+each_uncut : (answers : List Answer) →
+    ((j : ℕ) (told : Answer) → slice_get answers j ≡ Some told → told ≢ answer.Cut) →
+    Each (λ told. told ≢ answer.Cut) answers
+each_uncut [] each = tt
+each_uncut (told ∷ answers) each = (each 0 told refl, each_uncut answers (λ j other at. each (suc j) other at))
 
-pub runs_whole : {H : Type 0} {does : HostRelation H} {plan : Plan} {schedule : List ℕ} {h h' : H} {jobs : List Job}
+module _ {H : Type 0} {does : HostRelation H} {plan : Plan} {schedule : List ℕ} {h h' : H} {jobs : List Job}
     {running running' : List Running} {tables tables' : Tables} {trace : List TraceStep} {answers : List Answer}
-    → Whole does plan schedule h jobs running tables h' running' tables' trace answers →
-    TraceRuns does trace h (map job_seat jobs) tables h' (map run_seat running') tables'
-runs_whole {plan = plan} {jobs = jobs} {running = running} whole =
-    rw (whole_steps whole, ← started_seats plan jobs running whole.started) whole.goes.runs
+    (whole : Whole does plan schedule h jobs running tables h' running' tables' trace answers) where
+  whole_steps : trace ≡ whole.goes.steps
+  whole_steps = whole.goes.longer ∙ ap (λ t. t ++ whole.goes.steps) whole.empty
 
--- and the seats that are left
-pub jobs_whole : {H : Type 0} {does : HostRelation H} {plan : Plan} {schedule : List ℕ} {h h' : H} {jobs : List Job}
-    {running running' : List Running} {tables tables' : Tables} {trace : List TraceStep} {answers : List Answer}
-    (left : List HostSeat)
-    → Whole does plan schedule h jobs running tables h' running' tables' trace answers →
-    left ≡ seated (map run_seat running') → RunsJobs does jobs trace h tables h' left tables'
-jobs_whole {does = does} {h =
-    h} {h' = h'} {jobs = jobs} {running' = running'} {tables = tables} {tables' = tables'} {trace =
-    trace} left whole ends =
-    let runs = runs_whole whole in
-    record {
-      seats = map run_seat running';
-      runs = runs;
-      are_left = ends;
-      one_each = ap length ends
-          ∙ seats_left does trace h h' (map job_seat jobs) (map run_seat running') tables tables' runs;
-    }
+  pub runs_whole : TraceRuns does trace h (map job_seat jobs) tables h' (map run_seat running') tables'
+  runs_whole = rw (whole_steps, ← started_seats plan jobs running whole.started) whole.goes.runs
 
-pub owing_whole : {H : Type 0} {does : HostRelation H} {plan : Plan} {schedule : List ℕ} {h h' : H} {jobs : List Job}
-    {running running' : List Running} {tables tables' : Tables} {trace : List TraceStep} {answers : List Answer}
-    → Whole does plan schedule h jobs running tables h' running' tables' trace answers →
-    Owing plan jobs running' trace
-owing_whole {plan = plan} {jobs = jobs} {running = running} whole =
-    whole.goes.owing jobs
-    (subst (λ (t : List TraceStep).
-    Owing plan jobs running t) (sym whole.empty) (started_owing plan jobs running whole.started))
+  pub same_whole : length running' ≡ length jobs
+  same_whole = whole.goes.same ∙ started_length plan jobs running whole.started
 
-pub answers_whole : {H : Type 0} {does : HostRelation H} {plan : Plan} {schedule : List ℕ} {h h' : H} {jobs : List Job}
-    {running running' : List Running} {tables tables' : Tables} {trace : List TraceStep} {answers : List Answer}
-    → Whole does plan schedule h jobs running tables h' running' tables' trace answers →
-    AnswersEach plan jobs trace answers
-answers_whole {plan = plan} {jobs = jobs} {running' = running'} {trace = trace} {answers = answers} whole =
-    answers_each plan jobs running' trace answers (owing_whole whole) whole.answered
+  ran_whole : EachRan plan jobs trace running'
+  ran_whole = subst (λ (steps : List TraceStep). EachRan plan jobs steps running') (sym whole_steps)
+      (each_ran plan jobs running running' whole.goes.steps whole.started whole.goes.each)
 
-pub bounded_whole : {H : Type 0} {does : HostRelation H} {plan : Plan} {schedule : List ℕ} {h h' : H} {jobs : List Job}
-    {running running' : List Running} {tables tables' : Tables} {trace : List TraceStep} {answers : List Answer}
-    → Whole does plan schedule h jobs running tables h' running' tables' trace answers → IsBounded jobs trace
-bounded_whole {plan = plan} {jobs = jobs} {running' = running'} {trace = trace} whole =
-    bounded_each plan jobs running' trace (owing_whole whole)
+  pub bounded_whole : IsBounded jobs trace
+  bounded_whole = bounded_each plan jobs running' trace ran_whole
 
-pub order_whole : {H : Type 0} {does : HostRelation H} {plan : Plan} {schedule : List ℕ} {h h' : H} {jobs : List Job}
-    {running running' : List Running} {tables tables' : Tables} {trace : List TraceStep} {answers : List Answer}
-    → Whole does plan schedule h jobs running tables h' running' tables' trace answers →
-    IsInOrder schedule (length jobs) trace
-order_whole {plan =
-    plan} {schedule = schedule} {jobs = jobs} {running = running} {running' = running'} {trace = trace} {answers =
-    answers} whole = record {
-      owners = rw (whole_steps whole, ← started_length plan jobs running whole.started)
-          (order_kept (order schedule (length running)) running running' whole.goes.steps
-          (length running) whole.finished whole.goes.owns);
-      each_has_a_step = steps_each plan jobs trace answers (answers_whole whole);
-    }
+  -- how each job ended
+  end_whole : (j : ℕ) (job : Job) (told : Answer) → slice_get jobs j ≡ Some job → slice_get answers j ≡ Some told →
+      Belongs (job_grammar plan job) (steps_by j trace) (finish.Answer told) × (told ≢ answer.Cut)
+  end_whole j job told at at_told =
+      let r = answered_at running' answers whole.answered j told at_told in
+      let ran = ran_at plan jobs trace running' ran_whole j job r.0 at r.1 in
+      let k = groups_at jobs whole.seats j job at in
+      let end = ran_end plan job (steps_by j trace) r.0 r.2.0 k ran (r.2.1 plan) in
+      let none : (past_of (steps_by j trace)).lost ≡ None =
+      (ran_past plan job (steps_by j trace) r.0 k ran).1 ∙ whole.calm j r.0 r.1 in
+      let plain = finish_plain r.2.0 told (subst (IsFinish false r.2.0) none end.1) r.2.2 in
+      (subst (λ (f : Finish). Belongs (job_grammar plan job) (steps_by j trace) f) plain.0 end.0, plain.1)
 
--- the trace has no more steps than there was work
-pub spent_whole : {H : Type 0} {does : HostRelation H} {plan : Plan} {schedule : List ℕ} {h h' : H} {jobs : List Job}
-    {running running' : List Running} {tables tables' : Tables} {trace : List TraceStep} {answers : List Answer}
-    → Whole does plan schedule h jobs running tables h' running' tables' trace answers →
-    length trace ≤ work running tables
-spent_whole whole =
-    let same = ap length (whole_steps whole) in
-    let spent = whole.goes.spent in
-    omega (arith, same, spent)
+  pub length_whole : length answers ≡ length jobs
+  length_whole = answered_length running' answers whole.answered ∙ same_whole
+
+  pub comes_whole : OfEachJob jobs answers (λ j job told. Comes plan job (steps_by j trace) told)
+  comes_whole j job told at at_told = inl (end_whole j job told at at_told).0
+
+  answers_whole : AnswersEach plan jobs trace answers
+  answers_whole = record {
+    one_each = length_whole;
+    in_pattern = λ j job told at at_told.
+        answered_by plan job (steps_by j trace) told (end_whole j job told at at_told).0;
+  }
+
+  order_whole : IsInOrder schedule (length jobs) trace
+  order_whole = record {
+    owners = rw (whole_steps, ← started_length plan jobs running whole.started)
+        (order_kept (order schedule (length running)) running running' whole.goes.steps
+        (length running) whole.finished whole.goes.owns);
+    each_has_a_step = steps_each plan jobs trace answers answers_whole;
+  }
+
+  beyond_whole : (j : ℕ) → length jobs ≤ j → steps_by j trace ≡ []
+  beyond_whole j past =
+      let long = started_length plan jobs running whole.started in
+      ap (steps_by j) whole_steps
+      ∙ beyond_none (order schedule (length running)) (rest_of 0 (length running)) running running' whole.goes.steps
+      (λ k. 0) whole.goes.owns (none_left_over running' whole.finished) j (omega (arith, long, past))
+
+  pub ends_whole : EndsWhole plan jobs schedule trace answers
+  ends_whole = record {
+    order = order_whole;
+    answers_each = answers_whole;
+    loses_none = none_lost plan jobs trace running' whole.seats ran_whole whole.calm beyond_whole;
+    none_cut = each_uncut answers (λ j told at.
+        let job = one_for_each answers jobs j told (sym length_whole) at in
+        (end_whole j job.0 told job.1 at).1);
+  }
+
+  -- the trace has no more steps than there was work
+  pub spent_whole : length trace ≤ work running tables
+  spent_whole =
+      let same = ap length whole_steps in
+      let spent = whole.goes.spent in
+      omega (arith, same, spent)

@@ -1,6 +1,8 @@
 -- The work that is left falls with each step.
 use Rattle.std.proofs.Common.{◌≡◌, ℕ, zero, suc, ◌+◌, ◌*◌, ◌≤◌, List, [], ◌∷◌, Option, Some, None, ap, slice_get}
-use Rattle.std.proofs.Common.{slice_set, arith}
+use Rattle.std.proofs.Common.{slice_set, arith, Bool, true, false, refl, sym, ◌∙◌}
+use Rattle.pt_host.specs.declared.ids.Errno.{Errno}
+use Rattle.pt_frame.specs.Past.{lost_after}
 use Rattle.std.proofs.lemmas.Option.{same_Some}
 use Rattle.pt_host.specs.declared.seat.HostSeat.{HostSeat}
 use Rattle.pt_session.specs.Pending.{pending_in}
@@ -78,3 +80,17 @@ started_bounds plan (job ∷ jobs) (run ∷ running) h = let more = started_boun
     let bound = h.0.bound in let inserts = h.0.inserts in omega arith
 started_bounds plan [] (run ∷ running) h = absurd h
 started_bounds plan (job ∷ jobs) [] h = absurd h
+
+-- what a step lost, where a job had its seat before it
+lost_by_mark : (marked : Bool) (reply : ActReply) (now result : Option Errno) → now ≡ lost_after None marked reply →
+    (marked ≡ false → result ≡ None) → (marked ≡ true → result ≡ now) → now ≡ result
+lost_by_mark true reply now result e none same = sym (same refl)
+lost_by_mark false reply now result e none same = e ∙ sym (none refl)
+
+pub told_by_mark : (restoring marked : Bool) (was now : Option Errno) (reply : ActReply) (result : Option Errno) →
+    restoring ≡ marked → now ≡ lost_after was marked reply → was ≡ None → (restoring ≡ false → result ≡ None) →
+    (restoring ≡ true → result ≡ now) → now ≡ result
+told_by_mark restoring marked was now reply result is e before none same =
+    lost_by_mark restoring reply now result
+    (e ∙ ap (λ (l : Option Errno). lost_after l marked reply) before
+    ∙ ap (λ (b : Bool). lost_after None b reply) (sym is)) none same

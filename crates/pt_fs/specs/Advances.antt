@@ -1,11 +1,10 @@
 -- Inner. One step of a job: what it wants, what it is told, and how its grammar goes on.
-use Rattle.std.specs.Prelude.{◌≡◌, ◌⊎◌, ℕ, List, ◌∷◌, Option, Some, None}
-use Rattle.pt_frame.specs.Deed.{Deed, Step, MayFailToCopy, HoldsReplyBytes}
-use Rattle.pt_frame.specs.Grammar.{Grammar, Do, Belongs}
+use Rattle.std.specs.Prelude.{◌≡◌, ◌⊎◌, ℕ, Option, Some, None}
+use Rattle.pt_frame.specs.Deed.{Deed, IsStepOf, MayFailToCopy, HoldsReplyBytes}
+use Rattle.pt_frame.specs.Grammar.{Grammar, End, Do, May, IsChosen}
 use Rattle.pt_frame.specs.Replies.{inserted_by}
 use Rattle.pt_frame.specs.declared.act.ActReply.{ActReply}
 use Rattle.pt_frame.specs.declared.act.ActReply.TheVariants as told
-use Rattle.pt_frame.specs.declared.finish.Finish.{Finish}
 
 -- what is made is what is to be done, or its bytes could not be copied
 abbrev pub IsWanted : Grammar → Option Deed → Type 0
@@ -22,8 +21,8 @@ abbrev pub inserted_in : Option Deed → ActReply → ℕ
 inserted_in (Some deed) reply = inserted_by deed reply
 inserted_in None reply = 0
 
--- what belongs to the new grammar belongs to the old one, with this step before it
+-- what was made and told is a step of what was to be done, and the rest follows it, or one side of a choice there
 abbrev pub Advances : Grammar → Option Deed → ActReply → Grammar → Type 0
-Advances old deed reply new =
-    (steps : List Step) (end : Finish) → Belongs new steps end →
-    Belongs old (record { deed = deed; reply = reply } ∷ steps) end
+Advances (Do deed owed next) made reply new = IsStepOf deed made reply × IsChosen (next reply) new
+Advances (End last) made reply new = ⊥
+Advances (May one other) made reply new = ⊥

@@ -1,9 +1,9 @@
 -- Inner. How the jobs begin and end.
-use Rattle.std.specs.Prelude.{◌≡◌, ◌≤◌, List, [], ◌∷◌}
+use Rattle.std.specs.Prelude.{◌≡◌, ◌≤◌, List, [], ◌∷◌, None}
 use Rattle.pt_iface.specs.declared.answer.Answer.{Answer}
 use Rattle.pt_iface.specs.declared.answer.Answer.TheVariants as answer
 use Rattle.pt_frame.specs.Grammar.{End}
-use Rattle.pt_attr.specs.Machine.Job.{owes, steps_bound, inserts_left}
+use Rattle.pt_attr.specs.Machine.Job.{owes, steps_bound, inserts_left, lost_of}
 use Rattle.pt_attr.specs.Pattern.{bound_for, most_inserted}
 use Rattle.pt_frame.specs.declared.finish.Finish.{Finish}
 use Rattle.pt_frame.specs.declared.finish.Finish.TheVariants as finish
@@ -19,6 +19,7 @@ pub record IsStarted (plan : Plan) (job : Job) (run : Running) : Type 0 where
   pub left : owes plan run.start run.state ≡ job_grammar plan job
   pub bound : steps_bound run.state ≤ bound_for (asked_of job)
   pub inserts : inserts_left run.state ≤ most_inserted
+  pub lost : lost_of run.state ≡ None
 
 abbrev pub EachStarted : Plan → List Job → List Running → Type 0
 EachStarted plan [] [] = Unit {0}

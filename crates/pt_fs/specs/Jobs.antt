@@ -1,5 +1,7 @@
 -- Believed. What a job is: its seat, who asks, and what is asked.
 use Rattle.std.specs.Prelude.{List, [], Option, Some, None}
+use Rattle.pt_host.specs.Seat.{IsStartingSeat}
+use Rattle.pt_host.specs.Words.{Each}
 use Rattle.pt_host.specs.declared.seat.HostSeat.{HostSeat}
 use Rattle.pt_iface.specs.declared.answer.Answer.{Answer}
 use Rattle.pt_iface.specs.declared.request.Context.{Context}
@@ -37,6 +39,10 @@ abbrev pub job_start : Job → HostSeat
 job_start (job.Request who seat asked) = seat
 job_start (job.OpenRoot seat) = seat
 job_start (job.Edit edit) = no_seat
+
+-- each seat is such as a job begins with
+abbrev pub StartAll : List Job → Type 0
+StartAll jobs = Each (λ job. IsStartingSeat (job_start job)) jobs
 
 -- the daemon itself opens the root
 abbrev pub daemon : Context

@@ -4,11 +4,13 @@ pub mod Jobs
 pub mod Trace
 pub mod Order
 pub mod Advances
-pub mod Owing
+pub mod Went
 pub mod Work
 pub mod Took
 pub mod GoesOn
 pub mod Each
 pub mod Keeps
 pub mod Run
+pub mod Ends
+pub mod Loses
 pub mod Determined

@@ -1,5 +1,5 @@
 -- Believed. All that holds of a run: what `drive` and every program over it say.
-use Rattle.std.specs.Prelude.{◌≤◌, ℕ, List, length, Option}
+use Rattle.std.specs.Prelude.{◌≤◌, List, length, Option}
 use Rattle.pt_host.specs.Tree.{Tree}
 use Rattle.pt_host.specs.declared.seat.HostSeat.{HostSeat}
 use Rattle.pt_session.specs.Tables.{Tables, Agree}
@@ -11,19 +11,18 @@ use Rattle.pt_fs.specs.Keeps.{turns_of, AfterEach, AfterEachTold, ReachesEach, L
 use Rattle.pt_fs.specs.Keeps.{KeepsHandles, ServesEach, InsertsOnce, OvertakenAsTold, ShutsOut, OfEachJob}
 use Rattle.pt_fs.specs.Keeps.{GivesAllBack, IsCausedIn, RanOutIn, IsNamedIn, AgreeOnNumbers, ComeFromNames}
 use Rattle.pt_fs.specs.Keeps.{NamesOpenOnes, LeavesOpen, HonoursEach}
-use Rattle.pt_fs.specs.Order.{IsInOrder}
-use Rattle.pt_fs.specs.Trace.{RunsJobs, AnswersEach, IsBounded, room_of}
+use Rattle.pt_fs.specs.Trace.{RunsJobs, SeatsBack, IsBounded, room_of}
 use Rattle.pt_fs.specs.declared.job.Job.{Job}
 use Rattle.pt_fs.specs.declared.trace.TraceStep.{TraceStep}
 
--- The jobs ran by this plan and schedule, from this host, the tree that it told and these tables, which are new; the
--- trace, the answers, the host, the tree that it tells, the seats and the tables came of it.
+-- The jobs ran by this plan, from this host, the tree that it told and these tables, which are new; the trace, the
+-- answers, the host, the tree that it tells, the seats and the tables came of it. All this holds however the run
+-- ended, whole or with a lost seat; how it ended is said beside it.
 pub record IsRun
     {H : Type 0}
     (does : HostRelation H)
     (plan : Plan)
     (jobs : List Job)
-    (schedule : List ℕ)
     (host : H)
     (told : Option Tree)
     (tables : Tables)
@@ -37,10 +36,8 @@ pub record IsRun
   -- The trace runs from the host, the jobs' seats and the tables at the beginning to those at the end. An edit has no
   -- seat.
   pub steps : RunsJobs does jobs trace host tables host' seats tables'
-  -- The steps belong to whom the schedule gives them, and each job has one at least.
-  pub order : IsInOrder schedule (length jobs) trace
-  -- Each job is answered once, by the pattern of what it asked.
-  pub answers_each : AnswersEach plan jobs trace answers
+  -- A seat is left as it began, unless a restoring step of its own job was refused.
+  pub seats_back : SeatsBack jobs trace seats
   -- Each job keeps its bound, and all of them the room that is had before the first step.
   pub bounded : IsBounded jobs trace
   pub room : length trace ≤ room_of jobs

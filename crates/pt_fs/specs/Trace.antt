@@ -8,6 +8,7 @@ use Rattle.pt_frame.specs.Deed.{Deed, Step, kept_deed_of}
 use Rattle.pt_frame.specs.Replies.{closings_in}
 use Rattle.pt_host.specs.Relation.{HostRelation}
 use Rattle.pt_frame.specs.Made.{Made}
+use Rattle.pt_frame.specs.Past.{past_of}
 use Rattle.pt_attr.specs.Pattern.{bound_for, most_inserted}
 use Rattle.pt_frame.specs.declared.act.ActReply.{ActReply}
 use Rattle.pt_req.specs.declared.plan.Plan.{Plan}
@@ -73,6 +74,13 @@ pub record RunsJobs
 abbrev pub steps_by : ℕ → List TraceStep → List Step
 steps_by job [] = []
 steps_by job (step ∷ steps) = if step.job == job then step_of step ∷ steps_by job steps else steps_by job steps
+
+-- The seats that are left are those with which the jobs began, but for a job of which a restoring step was refused.
+abbrev pub SeatsBack : List Job → List TraceStep → List HostSeat → Type 0
+SeatsBack jobs trace left =
+    (seats : List (Option HostSeat)) × (left ≡ seated seats) × (length seats ≡ length jobs)
+    × ((j : ℕ) (job : Job) → slice_get jobs j ≡ Some job → (past_of (steps_by j trace)).lost ≡ None →
+    slice_get seats j ≡ Some (job_seat job))
 
 -- one answer for each job, in job order, each with the steps of its job in the pattern of what it asked
 pub record AnswersEach (plan : Plan) (jobs : List Job) (trace : List TraceStep) (answers : List Answer) : Type 0 where

@@ -1,6 +1,6 @@
 ghost use Rattle.std.specs.Prelude.{◌≡◌, ◌≤◌, ◌<◌, ℕ, [], ◌∷◌, ◌++◌, length, map, IfOk, vec_capacity};
 ghost use Rattle.pt_fs.specs.Each.{IsStarted, EachStarted, EachAnswered, answer_of};
-ghost use Rattle.pt_fs.specs.Owing.{run_seat};
+ghost use Rattle.pt_fs.specs.Went.{run_seat};
 ghost use Rattle.pt_fs.specs.Took.{IsFinishedAt};
 ghost use Rattle.pt_fs.specs.Trace.{seated};
 

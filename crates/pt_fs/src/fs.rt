@@ -1,10 +1,10 @@
-ghost use Rattle.std.specs.Prelude.{◌≡◌, ◌≤◌, [], ◌∷◌, IfOk, IfErr};
+ghost use Rattle.std.specs.Prelude.{◌≡◌, ◌≤◌, [], ◌∷◌, None, IfOk, IfErr};
 ghost use Rattle.pt_host.specs.declared.ids.Fd.{Fd};
 ghost use Rattle.pt_host.specs.declared.seat.HostSeat.{HostSeat};
 ghost use Rattle.pt_session.specs.Change.{change_of};
 ghost use Rattle.pt_session.specs.Happens.{Happens};
 ghost use Rattle.pt_session.specs.Tables.{Tables};
-ghost use Rattle.pt_attr.specs.Machine.Job.{owes, steps_bound, inserts_left};
+ghost use Rattle.pt_attr.specs.Machine.Job.{owes, steps_bound, inserts_left, lost_of};
 ghost use Rattle.pt_attr.specs.Pattern.{grammar_of, bound_of, most_inserted};
 ghost use Rattle.pt_req.specs.declared.plan.Plan.{Plan};
 
@@ -32,6 +32,7 @@ pub trait SteppedFs {
             owes (plan_of self.now) seat job ≡ grammar_of (plan_of self.now) seat who request) }
         ensures bound { IfOk result (λ job. steps_bound job ≤ bound_of request) }
         ensures inserts { IfOk result (λ job. inserts_left job ≤ most_inserted) }
+        ensures lost { IfOk result (λ job. lost_of job ≡ None) }
         ensures back { IfErr result (λ back. back ≡ request) };
 
     /// Makes one event of the tables.

@@ -1,10 +1,11 @@
 //! The file system that takes its requests step by step, and `drive`, which runs many jobs over one host and one file
-//! system in a given order.
+//! system in a given order, to their ends or to a lost seat.
 #![tactic(auto)]
 
 mod ends;
 mod fs;
 mod job;
+mod lost;
 mod passthrough;
 mod room;
 mod run;

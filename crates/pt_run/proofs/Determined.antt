@@ -32,6 +32,7 @@ use Rattle.pt_fs.proofs.Laws.{host_runs}
 use Rattle.pt_script.specs.Begins.{planned_all, BeginsAs}
 use Rattle.pt_run.specs.Configured.{IsConfigured, configured}
 use Rattle.pt_run.specs.Determined.{IsFull, IsOnly, DeterminesReport}
+use Rattle.pt_run.specs.declared.report.LostJob.{LostJob}
 use Rattle.pt_run.specs.Run.{start_seat, jobs_of, IsOpened, IsRunFrom, IsReportOf, AreLive, report_of}
 use Rattle.pt_script.specs.Script.{Begun}
 use Rattle.pt_run.specs.TableLines.{AllAbove}
@@ -154,17 +155,17 @@ opened_one settings before fs other after after' h k =
 -- the run as one of jobs in order
 ran_in_order : (settings : Settings) (start : State) (lines : List ScriptJob) (schedule : List ℕ)
     (trace : List TraceStep) (answers : List Answer) (tables : Tables) (host : State) →
-    (run : IsRunFrom settings start lines schedule trace answers tables host) →
+    (run : IsRunFrom settings start lines schedule trace answers tables host None) →
     FoundMemory trace answers →
     RanInOrder Does run.fs.plan schedule
     (jobs_of settings lines) run.opened_host run.fs.tables trace answers host run.seats tables
 ran_in_order settings start lines schedule trace answers tables host run found =
-    record { steps = run.run.steps; order = run.run.order; answers_each = run.run.answers_each; memory = found }
+    record { steps = run.run.steps; order = run.ends.order; answers_each = run.ends.answers_each; memory = found }
 
 end_agrees : (settings : Settings) (start : State) (lines : List ScriptJob) (schedule : List ℕ)
-    (trace : List TraceStep) (answers : List Answer) (tables : Tables) (host : State) →
-    IsRunFrom settings start lines schedule trace answers tables host → Agree tables
-end_agrees settings start lines schedule trace answers tables host run =
+    (trace : List TraceStep) (answers : List Answer) (tables : Tables) (host : State) (lost : Option LostJob) →
+    IsRunFrom settings start lines schedule trace answers tables host lost → Agree tables
+end_agrees settings start lines schedule trace answers tables host lost run =
     agree_law run.fs.plan.config.guest_fd_limit (turns_of trace) tables
     (subst (λ (t : Tables).
     TablesRun t (turns_of trace) tables) run.opened.tables
@@ -173,8 +174,8 @@ end_agrees settings start lines schedule trace answers tables host run =
 
 runs_one : (settings : Settings) (start : State) (lines : List ScriptJob) (schedule : List ℕ)
     (trace trace' : List TraceStep) (answers answers' : List Answer) (tables tables' : Tables) (host host' : State) →
-    (run : IsRunFrom settings start lines schedule trace answers tables host)
-    (run' : IsRunFrom settings start lines schedule trace' answers' tables' host') → FoundMemory trace answers →
+    (run : IsRunFrom settings start lines schedule trace answers tables host None)
+    (run' : IsRunFrom settings start lines schedule trace' answers' tables' host' None) → FoundMemory trace answers →
     FoundMemory trace' answers' →
     AreOneRun trace trace' answers answers' host host' run.seats run'.seats tables tables'
 runs_one settings start lines schedule trace trace' answers answers' tables tables' host host' run run' found found' =
@@ -202,10 +203,11 @@ report_same : (trace trace' : List TraceStep) (answers answers' : List Answer)
     (host host' : State) →
     AreOneRun trace trace' answers answers' host host' seats seats' tables tables' → lives ≡ lives' →
     handles ≡ handles' →
-    report_of trace answers lives handles tables host ≡ report_of trace' answers' lives' handles' tables' host'
+    report_of trace answers lives handles tables host None
+    ≡ report_of trace' answers' lives' handles' tables' host' None
 report_same trace trace' answers answers' lives lives' handles handles' seats seats' tables tables' host host' one l
     h =
-    λ i. report_of (one.traces i) (one.answered i) (l i) (h i) (one.left i) (one.hosts i)
+    λ i. report_of (one.traces i) (one.answered i) (l i) (h i) (one.left i) (one.hosts i) None
 
 determined : (bytes report other : List ℕ) (ran : IsReportOf bytes report) (again : IsReportOf bytes other) →
     IsFull ran → IsFull again → report ≡ other
@@ -215,18 +217,23 @@ determined bytes report other ran again full full' =
     subst (λ (b : Begun). BeginsAs b.tree b.faults again.start) begun again.starts in
     let start : again.start ≡ ran.start =
     start_one ran.begun.tree ran.begun.faults again.start ran.start starts ran.starts in
+    let whole : IsRunFrom ran.begun.settings ran.start ran.begun.jobs ran.begun.order ran.trace ran.answers ran.tables
+    ran.host None =
+    subst (λ (lost : Option LostJob). IsRunFrom ran.begun.settings ran.start ran.begun.jobs ran.begun.order ran.trace
+    ran.answers ran.tables ran.host lost) full.1 ran.run in
     let run : IsRunFrom ran.begun.settings ran.start ran.begun.jobs ran.begun.order again.trace again.answers
-    again.tables again.host =
+    again.tables again.host None =
     subst (λ (s : State).
-    IsRunFrom ran.begun.settings s ran.begun.jobs ran.begun.order again.trace again.answers again.tables again.host)
-    start
+    IsRunFrom ran.begun.settings s ran.begun.jobs ran.begun.order again.trace again.answers again.tables again.host
+    None) start
     (subst (λ (b : Begun).
-    IsRunFrom b.settings again.start b.jobs b.order again.trace again.answers again.tables again.host) begun
-    again.run) in
+    IsRunFrom b.settings again.start b.jobs b.order again.trace again.answers again.tables again.host None) begun
+    (subst (λ (lost : Option LostJob). IsRunFrom again.begun.settings again.start again.begun.jobs again.begun.order
+    again.trace again.answers again.tables again.host lost) full'.1 again.run)) in
     let one = runs_one ran.begun.settings ran.start ran.begun.jobs ran.begun.order ran.trace again.trace ran.answers
-    again.answers ran.tables again.tables ran.host again.host ran.run run full full' in
+    again.answers ran.tables again.tables ran.host again.host whole run full.0 full'.0 in
     let agree = end_agrees ran.begun.settings ran.start ran.begun.jobs ran.begun.order ran.trace ran.answers
-    ran.tables ran.host ran.run in
+    ran.tables ran.host None whole in
     let live : AreLive ran.tables again.lives again.handles =
     subst (λ (t : Tables). AreLive t again.lives again.handles) (sym one.left) again.live in
     let lives : ran.lives ≡ again.lives =
@@ -235,9 +242,14 @@ determined bytes report other ran again full full' =
     let handles : ran.handles ≡ again.handles =
     all_one (IsHandleAfter ran.tables.handles)
     (handles_one ran.tables agree) None ran.handles again.handles ran.live.1 live.1 in
-    ran.text ∙ report_same ran.trace again.trace ran.answers again.answers ran.lives again.lives ran.handles
-    again.handles ran.run.seats run.seats ran.tables again.tables ran.host again.host one lives handles
-    ∙ sym again.text
+    let text : report ≡ report_of ran.trace ran.answers ran.lives ran.handles ran.tables ran.host None =
+    ran.text ∙ ap (report_of ran.trace ran.answers ran.lives ran.handles ran.tables ran.host) full.1 in
+    let other_text : other
+    ≡ report_of again.trace again.answers again.lives again.handles again.tables again.host None =
+    again.text ∙ ap (report_of again.trace again.answers again.lives again.handles again.tables again.host) full'.1 in
+    text ∙ report_same ran.trace again.trace ran.answers again.answers ran.lives again.lives ran.handles
+    again.handles whole.seats run.seats ran.tables again.tables ran.host again.host one lives handles
+    ∙ sym other_text
 
 pub only : (bytes report : List ℕ) (ran : IsReportOf bytes report) → IsOnly ran
 only bytes report ran full other again full' = determined bytes other report again ran full' full

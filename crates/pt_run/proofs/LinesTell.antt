@@ -156,41 +156,46 @@ other_answers : (kind job : ℕ) → nat_eq 110 kind ≡ false → (answers : Li
 other_answers kind job differs [] rest other = other
 other_answers kind job differs (answer ∷ answers) rest other = differs
 
--- all lines
-abbrev lines : List TraceStep → List Answer → List (ℕ × ℕ) → List (ℕ × ℕ) → ℕ → List ℕ → List ℕ
-lines trace answers lives handles slots listing =
+-- all lines, of which the last but `end` may be of a lost seat
+abbrev lines : List TraceStep → List Answer → List (ℕ × ℕ) → List (ℕ × ℕ) → ℕ → List ℕ → List ℕ → List ℕ
+lines trace answers lives handles slots listing last =
     step_lines trace ++ answer_lines 0 answers ++ live_lines lives ++ handle_lines handles ++ slots_line slots ++
-    listing
+    listing ++ last
     ++ codes "end\n"
 
 lines_parts : (trace : List TraceStep) (answers : List Answer) (lives handles : List (ℕ × ℕ)) (slots : ℕ)
-    (listing : List ℕ) →
-    lines trace answers lives handles slots listing
+    (listing last : List ℕ) →
+    lines trace answers lives handles slots listing last
     ≡ step_lines trace ++ (answer_lines 0 answers ++ (live_lines lives ++ (handle_lines handles
-    ++ (slots_line slots ++ (listing ++ codes "end\n")))))
-lines_parts trace answers lives handles slots listing =
+    ++ (slots_line slots ++ (listing ++ (last ++ codes "end\n"))))))
+lines_parts trace answers lives handles slots listing last =
     nested (step_lines trace) (answer_lines 0 answers) (live_lines lives) (handle_lines handles) (slots_line slots)
-    listing (codes "end\n")
+    listing last (codes "end\n")
   where
-    nested : (a b c d e f g : List ℕ) → a ++ b ++ c ++ d ++ e ++ f ++ g ≡ a ++ (b ++ (c ++ (d ++ (e ++ (f ++ g)))))
-    nested a b c d e f g = simp append_assoc
+    nested : (a b c d e f g h : List ℕ) →
+        a ++ b ++ c ++ d ++ e ++ f ++ g ++ h ≡ a ++ (b ++ (c ++ (d ++ (e ++ (f ++ (g ++ h))))))
+    nested a b c d e f g h = simp append_assoc
 
 pub record AreSameLines (trace trace' : List TraceStep) (answers answers' : List Answer)
-    (lives lives' handles handles' : List (ℕ × ℕ)) (slots slots' : ℕ) (listing listing' : List ℕ) : Type 0 where
+    (lives lives' handles handles' : List (ℕ × ℕ)) (slots slots' : ℕ) (listing listing' last last' : List ℕ)
+    : Type 0 where
   pub traces : trace ≡ trace'
   pub answered : answers ≡ answers'
   pub live : lives ≡ lives'
   pub handled : handles ≡ handles'
   pub slots_left : slots ≡ slots'
-  pub listed : listing ≡ listing'
+  pub behind : listing ++ (last ++ codes "end\n") ≡ listing' ++ (last' ++ codes "end\n")
 
 pub lines_tell : (trace trace' : List TraceStep) (answers answers' : List Answer)
-    (lives lives' handles handles' : List (ℕ × ℕ)) (slots slots' : ℕ) (listing listing' : List ℕ) →
-    lines trace answers lives handles slots listing ≡ lines trace' answers' lives' handles' slots' listing' →
-    AreSameLines trace trace' answers answers' lives lives' handles handles' slots slots' listing listing'
-lines_tell trace trace' answers answers' lives lives' handles handles' slots slots' listing listing' e =
-    let three : List ℕ = slots_line slots ++ (listing ++ codes "end\n") in
-    let three' : List ℕ = slots_line slots' ++ (listing' ++ codes "end\n") in
+    (lives lives' handles handles' : List (ℕ × ℕ)) (slots slots' : ℕ) (listing listing' last last' : List ℕ) →
+    lines trace answers lives handles slots listing last
+    ≡ lines trace' answers' lives' handles' slots' listing' last' →
+    AreSameLines trace trace' answers answers' lives lives' handles handles' slots slots' listing listing' last last'
+lines_tell trace trace' answers answers' lives lives' handles handles' slots slots' listing listing' last last' e =
+    let four : List ℕ = listing ++ (last ++ codes "end\n") in
+    let four' : List ℕ = listing' ++ (last' ++ codes "end\n") in
+    let three : List ℕ = slots_line slots ++ four in
+    let three' : List ℕ = slots_line slots' ++ four' in
     let two : List ℕ = handle_lines handles ++ three in
     let two' : List ℕ = handle_lines handles' ++ three' in
     let one : List ℕ = live_lines lives ++ two in
@@ -200,8 +205,8 @@ lines_tell trace trace' answers answers' lives lives' handles handles' slots slo
     (other_pairs (codes "handle") 97 116 (λ _. refl) refl handles three refl)))
     (other_answers 116 0 refl answers' one' (other_pairs (codes "live") 105 116 (λ _. refl) refl lives' two'
     (other_pairs (codes "handle") 97 116 (λ _. refl) refl handles' three' refl)))
-    (sym (lines_parts trace answers lives handles slots listing) ∙ e ∙ lines_parts trace' answers' lives' handles'
-    slots' listing') in
+    (sym (lines_parts trace answers lives handles slots listing last) ∙ e ∙ lines_parts trace' answers' lives'
+    handles' slots' listing' last') in
     let b = answers_tell 0 answers answers' one one'
     (other_pairs (codes "live") 105 110 (λ _. refl) refl lives two
     (other_pairs (codes "handle") 97 110 (λ _. refl) refl handles three refl))
@@ -212,12 +217,19 @@ lines_tell trace trace' answers answers' lives lives' handles handles' slots slo
     (other_pairs (codes "handle") 97 105 (λ _. refl) refl handles three refl)
     (other_pairs (codes "handle") 97 105 (λ _. refl) refl handles' three' refl) b.1 in
     let d = pairs_tell (codes "handle") 97 refl (λ _. refl) handles handles' three three' refl refl c.1 in
-    let f = slots_tell slots slots' (listing ++ codes "end\n") (listing' ++ codes "end\n") d.1 in
+    let f = slots_tell slots slots' four four' d.1 in
     record {
       traces = a.0;
       answered = b.0;
       live = c.0;
       handled = d.0;
       slots_left = f.0;
-      listed = append_cancel_right listing listing' (codes "end\n") f.1;
+      behind = f.1;
     }
+
+-- where the last lines are the same, the listings are
+pub listings_same : (listing listing' last last' : List ℕ) →
+    listing ++ (last ++ codes "end\n") ≡ listing' ++ (last' ++ codes "end\n") → last ≡ last' → listing ≡ listing'
+listings_same listing listing' last last' e same =
+    append_cancel_right listing listing' (last ++ codes "end\n")
+    (e ∙ ap (λ (l : List ℕ). listing' ++ (l ++ codes "end\n")) (sym same))

@@ -5,11 +5,13 @@ use Rattle.pt_rules.specs.State.{State}
 use Rattle.pt_tree.specs.Listing.{listing_of}
 use Rattle.pt_iface.specs.declared.answer.Answer.{Answer}
 use Rattle.pt_fs.specs.Determined.{FoundMemory}
+use Rattle.pt_fs.specs.Ends.{LosesNone}
 use Rattle.pt_fs.specs.declared.trace.TraceStep.{TraceStep}
+use Rattle.pt_run.specs.declared.report.LostJob.{LostJob}
 use Rattle.pt_run.specs.Run.{IsReportOf, IsReportFrom, report_of}
 
 -- The runs are alike in all that is printed of them: their steps in order, answers, live numbers and handles, the
--- slots that are left, and the listing of the host's tree.
+-- slots that are left, the listing of the host's tree, and what seat was lost.
 pub record AreAlike
     {bytes report bytes' report' : List ℕ}
     (ran : IsReportOf bytes report)
@@ -21,6 +23,7 @@ pub record AreAlike
   pub handles : ran.handles ≡ again.handles
   pub slots : ran.tables.slots ≡ again.tables.slots
   pub listings : listing_of ran.host ≡ listing_of again.host
+  pub losses : ran.lost ≡ again.lost
 
 -- two runs with one report are alike, be they of one script or of two
 abbrev pub ReportsDetermineRuns : Type 0
@@ -28,7 +31,8 @@ ReportsDetermineRuns =
     (bytes bytes' report : List ℕ) (ran : IsReportOf bytes report) (again : IsReportOf bytes' report) →
     AreAlike ran again
 
--- these bytes are a report's, and no reply and no answer in their lines tells that memory ran out
+-- these bytes are a report's, and in their lines no restoring step was refused, and no reply and no answer tells that
+-- memory ran out
 pub record IsFullReport (report : List ℕ) : Type 0 where
   pub trace : List TraceStep
   pub answers : List Answer
@@ -36,7 +40,9 @@ pub record IsFullReport (report : List ℕ) : Type 0 where
   pub handles : List (ℕ × ℕ)
   pub tables : Tables
   pub host : State
-  pub text : report ≡ report_of trace answers lives handles tables host
+  pub lost : Option LostJob
+  pub text : report ≡ report_of trace answers lives handles tables host lost
+  pub kept : LosesNone trace
   pub memory : FoundMemory trace answers
 
 -- what the bytes of its report tell of a run

@@ -1,12 +1,14 @@
--- Believed. The lines of a report that say what the jobs did.
-use Rattle.std.specs.Prelude.{ℕ, ◌+◌, List, [], ◌∷◌, ◌++◌, codes}
+-- Believed. The lines of a report that say what the jobs did, and whether the seat of one was lost.
+use Rattle.std.specs.Prelude.{ℕ, ◌+◌, List, [], ◌∷◌, ◌++◌, Option, Some, None, codes}
 use Rattle.pt_iface.specs.declared.answer.Answer.{Answer}
 use Rattle.pt_frame.specs.declared.act.KeptAct.{KeptAct}
 use Rattle.pt_frame.specs.declared.act.ActReply.{ActReply}
 use Rattle.pt_fs.specs.declared.trace.TraceStep.{TraceStep}
+use Rattle.pt_run.specs.declared.report.LostJob.{LostJob}
 use Rattle.pt_show.specs.Texts.{number_text, ended}
 use Rattle.pt_show.specs.ActTexts.{act_text, act_reply_text}
 use Rattle.pt_show.specs.AnswerTexts.{answer_text}
+use Rattle.pt_show.specs.HostTexts.{errno_text}
 
 -- `step JOB ACT = REPLY`
 abbrev pub step_line : ℕ → KeptAct → ActReply → List ℕ
@@ -25,3 +27,8 @@ answer_line job answer = ended (codes "answer" ++ number_text job ++ answer_text
 abbrev pub answer_lines : ℕ → List Answer → List ℕ
 answer_lines job [] = []
 answer_lines job (answer ∷ answers) = answer_line job answer ++ answer_lines (job + 1) answers
+
+-- `lost JOB ERRNO`, where a seat was lost
+abbrev pub lost_lines : Option LostJob → List ℕ
+lost_lines None = []
+lost_lines (Some lost) = ended (codes "lost" ++ number_text lost.job ++ errno_text lost.errno)

@@ -1,5 +1,5 @@
 -- Believed. A run of a script, and its report.
-use Rattle.std.specs.Prelude.{◌≡◌, ◌≤◌, ℕ, List, [], ◌∷◌, ◌++◌, Option, Some, None, Result, Ok, Err, length, map}
+use Rattle.std.specs.Prelude.{◌≡◌, ◌≢◌, ◌≤◌, ℕ, List, [], ◌∷◌, ◌++◌, Option, Some, None, Result, Ok, Err, length, map}
 use Rattle.std.specs.Prelude.{codes}
 use Rattle.pt_host.specs.declared.ids.Errno.{Errno}
 use Rattle.pt_host.specs.declared.reply.HostReply.{HostReply}
@@ -16,14 +16,17 @@ use Rattle.pt_iface.specs.declared.answer.Refusal.TheVariants as refusal
 use Rattle.pt_iface.specs.declared.request.Context.{Context}
 use Rattle.pt_iface.specs.declared.request.Request.{Request}
 use Rattle.pt_iface.specs.declared.request.Request.TheVariants.{Root}
+use Rattle.pt_req.specs.declared.plan.Plan.{Plan}
 use Rattle.pt_fs.specs.FileSystem.{FileSystem, opens_root, IsMadeBy}
+use Rattle.pt_fs.specs.Ends.{EndsWhole, LosesSeat}
 use Rattle.pt_fs.specs.Run.{IsRun}
 use Rattle.pt_fs.specs.declared.job.Job.{Job}
 use Rattle.pt_fs.specs.declared.job.Job.TheVariants as job
 use Rattle.pt_fs.specs.declared.trace.TraceStep.{TraceStep}
 use Rattle.pt_script.specs.Script.{Begun, script_of}
 use Rattle.pt_run.specs.Streams.{IsAll}
-use Rattle.pt_run.specs.Report.{step_lines, answer_lines}
+use Rattle.pt_run.specs.Report.{step_lines, answer_lines, lost_lines}
+use Rattle.pt_run.specs.declared.report.LostJob.{LostJob}
 use Rattle.pt_run.specs.TableLines.{live_lines, handle_lines, slots_line, LivesAbove, HandlesAbove}
 use Rattle.pt_script.specs.Begins.{BeginsAs}
 use Rattle.pt_run.specs.Configured.{IsConfigured}
@@ -79,8 +82,14 @@ pub record IsOpened (settings : Settings) (before : State) (fs : FileSystem) (af
   pub plan : IsConfigured settings fs.plan.config
   pub tables : fs.tables ≡ empty_tables fs.plan.config.guest_fd_limit
 
+-- how the run ended: it lost no seat, or that of this job by this error
+abbrev pub HasEnded : Plan → List Job → List ℕ → State → Tables → List TraceStep → List Answer → Option LostJob → Type 0
+HasEnded plan jobs schedule host tables trace answers None = EndsWhole plan jobs schedule trace answers
+HasEnded plan jobs schedule host tables trace answers (Some lost) =
+    LosesSeat Does (λ (state : State). state.faults) plan jobs schedule host tables trace answers lost.job lost.errno
+
 -- The jobs of a script run over this host: from the new file system, and from its tree, which is well formed, the run
--- leads to these tables and that host, and all that is said of a run holds of it.
+-- leads to these tables and that host, all that is said of a run holds of it, and it ended so.
 pub record IsRunFrom
     (settings : Settings)
     (start : State)
@@ -90,29 +99,31 @@ pub record IsRunFrom
     (answers : List Answer)
     (tables : Tables)
     (host : State)
+    (lost : Option LostJob)
     : Type 0 where
   pub fs : FileSystem
   pub opened_host : State
   pub opened : IsOpened settings start fs opened_host
   pub well_formed : IsWellFormed (tree_of opened_host)
   pub seats : List HostSeat
-  pub run : IsRun Does fs.plan (jobs_of settings lines) schedule opened_host (Some (tree_of opened_host)) fs.tables
+  pub run : IsRun Does fs.plan (jobs_of settings lines) opened_host (Some (tree_of opened_host)) fs.tables
       trace answers host (Some (tree_of host)) seats tables
+  pub ends : HasEnded fs.plan (jobs_of settings lines) schedule opened_host fs.tables trace answers lost
 
 -- these are the live numbers and handles of tables, each ascending
 abbrev pub AreLive : Tables → List (ℕ × ℕ) → List (ℕ × ℕ) → Type 0
 AreLive tables lives handles = LivesAbove tables.rows None lives × HandlesAbove tables.handles None handles
 
--- the report of a run: its steps, answers, live numbers and handles, slots and objects
+-- the report of a run: its steps, answers, live numbers and handles, slots and objects, and a seat that was lost
 abbrev pub report_of :
     (trace : List TraceStep) →
     (answers : List Answer) →
     (lives : List (ℕ × ℕ)) →
     (handles : List (ℕ × ℕ)) →
-    Tables → State → List ℕ
-report_of trace answers lives handles tables host =
+    Tables → State → Option LostJob → List ℕ
+report_of trace answers lives handles tables host lost =
     step_lines trace ++ answer_lines 0 answers ++ live_lines lives ++ handle_lines handles
-    ++ slots_line tables.slots ++ listing_of host
+    ++ slots_line tables.slots ++ listing_of host ++ lost_lines lost
     ++ codes "end\n"
 
 -- this is the report of one run of the script that the bytes are
@@ -125,11 +136,12 @@ pub record IsReportOf (bytes report : List ℕ) : Type 0 where
   pub host : State
   pub start : State
   pub starts : BeginsAs begun.tree begun.faults start
-  pub run : IsRunFrom begun.settings start begun.jobs begun.order trace answers tables host
+  pub lost : Option LostJob
+  pub run : IsRunFrom begun.settings start begun.jobs begun.order trace answers tables host lost
   pub lives : List (ℕ × ℕ)
   pub handles : List (ℕ × ℕ)
   pub live : AreLive tables lives handles
-  pub text : report ≡ report_of trace answers lives handles tables host
+  pub text : report ≡ report_of trace answers lives handles tables host lost
 
 -- the making of a file system over this host was refused with this error
 pub record IsRefused (settings : Settings) (before : State) (errno : Errno) : Type 0 where
@@ -172,3 +184,20 @@ IsReportFrom left report = (bytes : List ℕ) × IsAll left bytes × (length byt
 -- what was read from here shows no report, and this is why
 abbrev pub IsNoReportFrom : Option (List ℕ) → Status → Type 0
 IsNoReportFrom left why = (bytes : List ℕ) × IsAll left bytes × (length bytes ≤ max_script) × IsNoReport bytes why
+
+-- how the program ends with such a report
+abbrev pub status_for : Option LostJob → Status
+status_for None = status.Done
+status_for (Some lost) = status.CredentialsLost
+
+-- this is the report of a run that ended with this status
+abbrev pub IsReportWith : List ℕ → Status → List ℕ → Type 0
+IsReportWith bytes ends report = (ran : IsReportOf bytes report) × (status_for ran.lost ≡ ends)
+
+-- and the script was read from here
+abbrev pub IsReadWith : Option (List ℕ) → Status → List ℕ → Type 0
+IsReadWith left ends report = (from : IsReportFrom left report) × (status_for from.3.lost ≡ ends)
+
+-- a status with which neither a report nor a front of one is written
+abbrev pub WritesNone : Status → Type 0
+WritesNone ends = (ends ≢ status.Done) × (ends ≢ status.CredentialsLost) × (ends ≢ status.WriteFault)

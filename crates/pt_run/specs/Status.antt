@@ -12,6 +12,7 @@ exit_of (status.BadScript line) = 4
 exit_of (status.BadConfig errno) = 5
 exit_of status.ReadFault = 6
 exit_of status.WriteFault = 7
+exit_of status.CredentialsLost = 8
 exit_of status.NoMemory = 9
 
 abbrev pub message_of : Status → List ℕ
@@ -22,6 +23,7 @@ message_of (status.BadScript line) = codes "bad script at line " ++ decimal line
 message_of (status.BadConfig errno) = codes "bad configuration: os error " ++ signed_decimal errno.0
 message_of status.ReadFault = codes "read fault"
 message_of status.WriteFault = codes "write fault"
+message_of status.CredentialsLost = codes "credentials lost"
 message_of status.NoMemory = codes "no memory"
 
 abbrev pub is_done : Status → Bool

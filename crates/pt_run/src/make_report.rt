@@ -7,18 +7,19 @@ ghost use Rattle.pt_run.specs.Run.{
   jobs_of,
   start_seat,
   report_of,
+  status_for,
   AreLive,
   IsOpened,
   IsNotOpened,
   IsRunFrom,
-  IsReportOf,
+  IsReportWith,
   IsNoReport,
 };
 
-use crate::report::{push_answers, push_steps};
+use crate::report::{LostJob, push_answers, push_lost, push_steps};
 use crate::status::Status;
 use crate::table_lines::{push_handles, push_lives, push_slots};
-use pt_fs::{Driven, Job, PassthroughFs, SteppedFs, drive};
+use pt_fs::{DriveError, Driven, Job, PassthroughFs, SteppedFs, drive};
 use pt_host::HostSeat;
 use pt_iface::{Refusal, Request};
 use pt_req::Config;
@@ -110,11 +111,12 @@ fn report_on(
     alloc: Global,
     driven: &Driven<PassthroughFs>,
     host: &TreeHost,
+    lost: Option<LostJob>,
 ) -> Result<Vec<u8>, AllocError>
     ensures { IfOk result (λ report. (lives : List (ℕ × ℕ)) × (handles : List (ℕ × ℕ))
         × AreLive driven.now.fs.tables lives handles
         × (report.items ≡ report_of driven.now.trace.items driven.now.answers.items lives handles
-        driven.now.fs.tables host.now)) }
+        driven.now.fs.tables host.now lost)) }
 {
     let mut out = Vec::new(alloc);
     // A line of a step has about so many bytes. Where there is no room for all, it is had as the lines come.
@@ -123,8 +125,16 @@ fn report_on(
     push_answers(&mut out, driven.answers.as_slice())?;
     push_tables(&mut out, &driven.fs)?;
     push_objects(alloc, &mut out, host)?;
+    push_lost(&mut out, lost)?;
     push_text(&mut out, b"end\n")?;
     Ok(out)
+}
+
+/// What a run left, and whether it lost a seat.
+#[derive(Drop)]
+struct Ran {
+    driven: Driven<PassthroughFs>,
+    lost: Option<LostJob>,
 }
 
 // Runs the jobs over a host that holds the script's tree.
@@ -134,10 +144,10 @@ fn run_jobs(
     host: &mut TreeHost,
     jobs: Vec<ScriptJob>,
     schedule: &[u32],
-) -> Result<Driven<PassthroughFs>, Status>
+) -> Result<Ran, Status>
     requires { length jobs.items < 2 ^ 32 }
-    ensures ok { IfOk result (λ driven. IsRunFrom settings host.old jobs.items schedule.now
-        driven.trace.items driven.answers.items driven.fs.tables host.new) }
+    ensures ok { IfOk result (λ ran. IsRunFrom settings host.old jobs.items schedule.now
+        ran.driven.trace.items ran.driven.answers.items ran.driven.fs.tables host.new ran.lost) }
     ensures err { IfErr result (λ status. IsNotOpened settings host.old status) }
 {
     let fs = open_fs(alloc, settings, host)?;
@@ -145,15 +155,36 @@ fn run_jobs(
         return Err(Status::NoMemory);
     };
     match drive(alloc, fs, host, jobs, schedule) {
-        Ok(driven) => Ok(driven),
-        Err(_) => Err(Status::NoMemory),
+        Ok(driven) => Ok(Ran { driven, lost: None }),
+        Err(DriveError::CredentialsLost(job, errno, driven)) => {
+            let lost = Some(LostJob { job, errno });
+            Ok(Ran { driven, lost })
+        }
+        Err(DriveError::Memory(_)) => Err(Status::NoMemory),
     }
 }
 
+// How the program ends with the report of a run.
+fn status_for(lost: Option<LostJob>) -> Status
+    ensures { result ≡ status_for lost }
+{
+    match lost {
+        None => Status::Done,
+        Some(_) => Status::CredentialsLost,
+    }
+}
+
+/// A report, and how the program ends with it.
+#[derive(Drop)]
+pub(crate) struct Report {
+    pub text: Vec<u8>,
+    pub ends: Status,
+}
+
 /// The report of the script that these bytes are, run over its tree.
-pub(crate) fn report_of_script(alloc: Global, bytes: &[u8]) -> Result<Vec<u8>, Status>
+pub(crate) fn report_of_script(alloc: Global, bytes: &[u8]) -> Result<Report, Status>
     requires { length bytes.now ≤ 16777216 }
-    ensures ok { IfOk result (λ report. IsReportOf bytes.now report.items) }
+    ensures ok { IfOk result (λ report. IsReportWith bytes.now report.ends report.text.items) }
     ensures err { IfErr result (λ status. IsNoReport bytes.now status) }
 {
     let script = match parse(alloc, bytes) {
@@ -167,12 +198,15 @@ pub(crate) fn report_of_script(alloc: Global, bytes: &[u8]) -> Result<Vec<u8>, S
         jobs,
         schedule,
     } = script;
-    let driven = match run_jobs(alloc, settings, &mut host, jobs, schedule.as_slice()) {
-        Ok(driven) => driven,
+    let ran = match run_jobs(alloc, settings, &mut host, jobs, schedule.as_slice()) {
+        Ok(ran) => ran,
         Err(status) => return Err(status),
     };
-    match report_on(alloc, &driven, &host) {
-        Ok(report) => Ok(report),
+    match report_on(alloc, &ran.driven, &host, ran.lost) {
+        Ok(text) => Ok(Report {
+            text,
+            ends: status_for(ran.lost),
+        }),
         Err(_) => Err(Status::NoMemory),
     }
 }

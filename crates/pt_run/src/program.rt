@@ -5,7 +5,8 @@ ghost use Rattle.pt_run.specs.Streams.{IsAtEnd, IsLonger};
 ghost use Rattle.pt_run.specs.Determined.{DeterminesReport};
 ghost use Rattle.pt_run.specs.Alike.{TellsRun};
 ghost use Rattle.pt_run.specs.Output.{IsWritten, IsFrontWritten};
-ghost use Rattle.pt_run.specs.Run.{IsReportOf, IsNoReport, IsScriptWord, IsReportFrom, IsNoReportFrom};
+ghost use Rattle.pt_run.specs.Run.{IsReportOf, IsReportWith, IsNoReport, IsScriptWord, IsReportFrom, IsReadWith};
+ghost use Rattle.pt_run.specs.Run.{IsNoReportFrom, WritesNone};
 
 use crate::input::{InputError, read_script};
 use crate::make_report::report_of_script;
@@ -26,14 +27,16 @@ fn is_script(words: &[String]) -> bool
 // Writes the report of the script that these bytes are.
 fn write_report<O: Sink>(alloc: Global, bytes: &[u8], output: &mut O) -> Status
     requires { length bytes.now ≤ 16777216 }
-    ensures done { result ≡ Status.Done → (report : List ℕ) × IsReportOf bytes.now report
+    ensures done { result ≡ Status.Done → (report : List ℕ) × IsReportWith bytes.now Status.Done report
+        × IsWritten (O.written output.old) report (O.written output.new) }
+    ensures lost { result ≡ Status.CredentialsLost → (report : List ℕ)
+        × IsReportWith bytes.now Status.CredentialsLost report
         × IsWritten (O.written output.old) report (O.written output.new) }
     ensures write_fault { result ≡ Status.WriteFault → (report : List ℕ) × IsReportOf bytes.now report
         × IsFrontWritten (O.written output.old) report (O.written output.new) }
     ensures write_fault_rose { result ≡ Status.WriteFault → HasRisen (O.faults output.old) (O.faults output.new) }
-    ensures others { result ≢ Status.Done → result ≢ Status.WriteFault → IsNoReport bytes.now result }
-    ensures nothing_written { result ≢ Status.Done → result ≢ Status.WriteFault →
-        O.written output.new ≡ O.written output.old }
+    ensures others { WritesNone result → IsNoReport bytes.now result }
+    ensures nothing_written { WritesNone result → O.written output.new ≡ O.written output.old }
     ensures no_fault { result ≢ Status.WriteFault → O.faults output.new ≡ O.faults output.old }
     ensures never_falls { O.faults output.old ≤ O.faults output.new }
 {
@@ -41,8 +44,8 @@ fn write_report<O: Sink>(alloc: Global, bytes: &[u8], output: &mut O) -> Status
         Ok(report) => report,
         Err(status) => return status,
     };
-    match push_all(output, report.as_slice()) {
-        Ok(()) => Status::Done,
+    match push_all(output, report.text.as_slice()) {
+        Ok(()) => report.ends,
         Err(_) => Status::WriteFault,
     }
 }
@@ -55,14 +58,20 @@ pub fn run<I: Source, O: Sink>(
     input: &mut I,
     output: &mut O,
 ) -> Status
-    // The input was read to its end, and the report of one run of the script that it is stands in the output.
-    ensures done { result ≡ Status.Done → (report : List ℕ) × IsReportFrom (I.left input.old) report
+    // The input was read to its end, and the report of one run of the script that it is stands in the output; no seat
+    // was lost in that run.
+    ensures done { result ≡ Status.Done → (report : List ℕ) × IsReadWith (I.left input.old) Status.Done report
+        × IsWritten (O.written output.old) report (O.written output.new) }
+    // The same, of a run that lost a seat.
+    ensures lost_seat { result ≡ Status.CredentialsLost → (report : List ℕ)
+        × IsReadWith (I.left input.old) Status.CredentialsLost report
         × IsWritten (O.written output.old) report (O.written output.new) }
     // Where no reply and no answer of a run tells that memory ran out, what was read alone determines the report.
     ensures determined { DeterminesReport (I.left input.old) }
     // The bytes of a report tell its run, and of themselves whether they are the script's only report.
     ensures told { TellsRun (I.left input.old) }
     ensures read_whole { result ≡ Status.Done → IsAtEnd (I.left input.new) }
+    ensures read_whole_lost { result ≡ Status.CredentialsLost → IsAtEnd (I.left input.new) }
 
     ensures usage { (result ≡ Status.Usage) ↔ (IsScriptWord (map string_bytes words.now) → ⊥) }
     ensures too_long { result ≡ Status.TooLong → IsLonger 16777216 (I.left input.old) }
@@ -82,8 +91,7 @@ pub fn run<I: Source, O: Sink>(
     ensures read_fault_told { result ≢ Status.ReadFault → I.faults input.new ≡ I.faults input.old }
     ensures write_fault_told { result ≢ Status.WriteFault → O.faults output.new ≡ O.faults output.old }
 
-    ensures nothing_written { result ≢ Status.Done → result ≢ Status.WriteFault →
-        O.written output.new ≡ O.written output.old }
+    ensures nothing_written { WritesNone result → O.written output.new ≡ O.written output.old }
 {
     if !is_script(words) {
         return Status::Usage;

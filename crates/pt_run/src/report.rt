@@ -1,12 +1,20 @@
 ghost use Rattle.std.specs.Prelude.{◌≡◌, ◌++◌, OnOk};
-ghost use Rattle.pt_run.specs.Report.{step_line, step_lines, answer_line, answer_lines};
+ghost use Rattle.pt_run.specs.Report.{step_line, step_lines, answer_line, answer_lines, lost_lines};
 
 use pt_frame::{ActReply, KeptAct};
 use pt_fs::TraceStep;
+use pt_host::Errno;
 use pt_iface::Answer;
 use pt_show::Text;
 use pt_text::push_text;
 use std::alloc::AllocError;
+
+/// The job whose seat was lost, and what its restoring step was answered.
+#[derive(Clone, Copy)]
+pub struct LostJob {
+    pub job: u32,
+    pub errno: Errno,
+}
 
 fn push_step(out: &mut Vec<u8>, job: u32, act: &KeptAct, reply: &ActReply) -> Result<(), AllocError>
     ensures { OnOk result (out.new.items ≡ out.old.items ++ step_line job act.now reply.now) }
@@ -46,4 +54,17 @@ pub(crate) fn push_answers(out: &mut Vec<u8>, answers: &[Answer]) -> Result<(), 
         push_answer(out, job as u64, answer)?;
     }
     Ok(())
+}
+
+/// Appends the line of the seat that was lost, if one was.
+pub(crate) fn push_lost(out: &mut Vec<u8>, lost: Option<LostJob>) -> Result<(), AllocError>
+    ensures { OnOk result (out.new.items ≡ out.old.items ++ lost_lines lost) }
+{
+    let Some(lost) = lost else {
+        return Ok(());
+    };
+    push_text(out, b"lost")?;
+    lost.job.write(out)?;
+    lost.errno.write(out)?;
+    push_text(out, b"\n")
 }

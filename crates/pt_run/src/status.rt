@@ -24,6 +24,8 @@ pub enum Status {
     BadConfig(Errno),
     ReadFault,
     WriteFault,
+    /// The seat of a job could not be restored; the report is that of what is left.
+    CredentialsLost,
     NoMemory,
 }
 
@@ -40,6 +42,7 @@ impl Status {
             Status::BadConfig(_) => 5,
             Status::ReadFault => 6,
             Status::WriteFault => 7,
+            Status::CredentialsLost => 8,
             Status::NoMemory => 9,
         }
     }
@@ -56,6 +59,7 @@ impl Status {
             Status::BadConfig(errno) => ("bad configuration: os error ", Some(i64::from(errno.0))),
             Status::ReadFault => ("read fault", None),
             Status::WriteFault => ("write fault", None),
+            Status::CredentialsLost => ("credentials lost", None),
             Status::NoMemory => ("no memory", None),
         }
     }

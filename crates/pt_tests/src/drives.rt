@@ -1,5 +1,6 @@
 ghost use Rattle.std.specs.Prelude.{◌≡◌, ℕ, IfOk};
 ghost use Rattle.pt_session.specs.Tables.{empty_tables};
+ghost use Rattle.pt_fs.specs.Jobs.{StartAll};
 
 use crate::one_directory::{a_host, a_seat};
 use pt_fs::{DriveError, Job, PassthroughFs, SteppedFs, TraceStep, drive};
@@ -45,7 +46,10 @@ fn a_host_that_refuses_its_root_has_no_file_system(rt: HostRuntime) -> Result<()
     }
 }
 
-fn push_lookup(alloc: Global, jobs: &mut Vec<Job>) -> bool {
+#[tactic(auto, using(crate::proofs::Starting::one_more, crate::proofs::Starting::an_edit))]
+fn push_lookup(alloc: Global, jobs: &mut Vec<Job>) -> bool
+    ensures { StartAll jobs.old.items → StartAll jobs.new.items }
+{
     match Bytes::from_slice(alloc, b"a") {
         Ok(name) => {
             let who = Context { uid: 0, gid: 0 };
@@ -68,7 +72,10 @@ fn a_file(alloc: Global) -> Result<Edit, AllocError> {
     })
 }
 
-fn push_edit(alloc: Global, jobs: &mut Vec<Job>) -> bool {
+#[tactic(auto, using(crate::proofs::Starting::one_more, crate::proofs::Starting::an_edit))]
+fn push_edit(alloc: Global, jobs: &mut Vec<Job>) -> bool
+    ensures { StartAll jobs.old.items → StartAll jobs.new.items }
+{
     match a_file(alloc) {
         Ok(edit) => jobs.push(Job::Edit(edit)).is_ok(),
         Err(_) => false,
@@ -76,7 +83,10 @@ fn push_edit(alloc: Global, jobs: &mut Vec<Job>) -> bool {
 }
 
 /// Puts the root, a lookup, and twice the edit that makes what it looks up.
-fn push_four(alloc: Global, jobs: &mut Vec<Job>) -> bool {
+#[tactic(auto, using(crate::proofs::Starting::one_more, crate::proofs::Starting::an_edit))]
+fn push_four(alloc: Global, jobs: &mut Vec<Job>) -> bool
+    ensures { StartAll jobs.old.items → StartAll jobs.new.items }
+{
     jobs.push(Job::OpenRoot(a_seat())).is_ok()
         && push_lookup(alloc, jobs)
         && push_edit(alloc, jobs)
@@ -122,6 +132,7 @@ fn ends_as_wanted(
                 && belong_to(driven.trace.as_slice(), owners),
         ),
         Err(DriveError::Memory(_)) => None,
+        Err(DriveError::CredentialsLost(..)) => Some(false),
     }
 }
 

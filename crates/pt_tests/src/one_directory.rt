@@ -1,6 +1,7 @@
 ghost use Rattle.std.specs.Prelude.{None};
 ghost use Rattle.pt_host.specs.Call.{call_of};
 ghost use Rattle.pt_host.specs.Contents.{no_contents};
+ghost use Rattle.pt_host.specs.Seat.{IsStartingSeat};
 ghost use Rattle.pt_host.specs.Promises.{IsAllowed, FailsFitly, IsPromised};
 
 use pt_host::{Caps, Errno, Fd, Host, HostOp, HostReply, HostSeat, HostValue, ObjIds, Stat, Time};
@@ -93,7 +94,9 @@ fn a_stat(ino: u64) -> Stat {
     }
 }
 
-pub fn a_seat() -> HostSeat {
+pub fn a_seat() -> HostSeat
+    ensures { IsStartingSeat result }
+{
     HostSeat::new(0, 0, Caps::ALL)
 }
 

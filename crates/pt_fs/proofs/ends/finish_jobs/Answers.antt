@@ -3,7 +3,7 @@ use Rattle.std.proofs.Common.{arith}
 use Rattle.std.proofs.lemmas.List.{length-append}
 use Rattle.std.specs.Vec.Iter.{into_iter_items}
 use Rattle.pt_host.specs.declared.seat.HostSeat.{HostSeat}
-use Rattle.pt_fs.specs.Owing.{run_seat}
+use Rattle.pt_fs.specs.Went.{run_seat}
 use Rattle.pt_fs.specs.Trace.{seated}
 use Rattle.pt_fs.proofs.Ended.{nothing_left, answered_more, finished_rest}
 use Rattle.pt_fs.proofs.Traces.{seated_one, seated_few}

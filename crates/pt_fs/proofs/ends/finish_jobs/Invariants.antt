@@ -2,7 +2,7 @@ use Rattle.std.proofs.Common.{◌+◌, ◌≤◌, length, vec_capacity, ◌≡�
 use Rattle.std.specs.Vec.Iter.{into_iter_items, into_iter_len}
 use Rattle.pt_iface.specs.declared.answer.Answer.{Answer}
 use Rattle.pt_fs.specs.Each.{EachAnswered}
-use Rattle.pt_fs.specs.Owing.{run_seat}
+use Rattle.pt_fs.specs.Went.{run_seat}
 use Rattle.pt_fs.specs.Took.{IsFinishedAt}
 use Rattle.pt_fs.specs.Trace.{seated}
 use Rattle.pt_fs.proofs.ends.finish_jobs.Given as goal

@@ -3,6 +3,7 @@ use Rattle.std.proofs.lemmas.Bool.{cases_eq}
 use Rattle.std.proofs.lemmas.Option.{slice_get_within}
 use Rattle.pt_fs.specs.Order.{rest_of}
 use Rattle.pt_fs.proofs.Going.{goes_none, goes_on}
+use Rattle.pt_fs.proofs.Losing.{lost_on}
 use Rattle.pt_fs.proofs.schedule.finish_all.Goals as goal
 
 pub loop-place-init : goal.loop-place-init
@@ -14,7 +15,17 @@ loop-place-init g c = let e : length c.args.running.now - 0 ≡ length c.args.ru
       capacity = omega arith;
       goes = rw e (goes_none _ _ _ _ _ _ _);
       finished = λ j below. absurd (omega arith);
+      calm = c.requires.calm;
     }
+
+pub returns-in-Some-clause-lost : goal.returns-in-Some-clause-lost
+returns-in-Some-clause-lost g c =
+    let n = length c.args.running.now in
+    let k = c.loop-place.place in
+    let more : n - k ≡ suc (n - (k + 1)) = omega (arith, c.loop-place-test.true) in
+    lost_on _ _ _ (rest_of n 0) (rest_of (suc (n - (k + 1))) k) _ _ _ _ _ _ _ _ _ _ _ _ _ _
+    c.loop-place.invariant.plan (rw more at c.loop-place.invariant.goes)
+    (rw c.in-Some.is at c.finish_one.ensures.lost (n - (k + 1)))
 
 pub loop-place-preserved : goal.loop-place-preserved
 loop-place-preserved g c =
@@ -29,11 +40,14 @@ loop-place-preserved g c =
           omega (arith, one, so_far);
       goes = goes_on _ _ _ (rest_of n 0) (rest_of (suc (n - (k + 1))) k)
           (rest_of (n - (k + 1)) (k + 1)) _ _ _ _ _ _ _ _ _ _ _ _ c.loop-place.invariant.plan
-          (rw more at c.loop-place.invariant.goes) (c.finish_one.ensures.goes (n - (k + 1)));
+          (rw more at c.loop-place.invariant.goes)
+          ((rw c.in_default.is at c.finish_one.ensures.goes) (n - (k + 1)));
       finished = λ j below. elim (cases_eq j k) [
-        | inl same ↦ rw same c.finish_one.ensures.finished
-        | inr other ↦ c.finish_one.ensures.others j (c.loop-place.invariant.finished j (omega arith))
+        | inl same ↦ rw same (rw c.in_default.is at c.finish_one.ensures.finished)
+        | inr other ↦ (rw c.in_default.is at c.finish_one.ensures.others) j
+            (c.loop-place.invariant.finished j (omega arith))
       ];
+      calm = rw c.in_default.is at c.finish_one.ensures.calm;
     }
 
 pub returns-clause-finished : goal.returns-clause-finished

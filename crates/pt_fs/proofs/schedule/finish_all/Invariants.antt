@@ -1,7 +1,7 @@
 use Rattle.std.proofs.Common.{◌≡◌, ◌+◌, ◌≤◌, vec_capacity, ℕ, ◌<◌, ◌-◌, length}
 use Rattle.pt_fs.specs.GoesOn.{GoesOn}
 use Rattle.pt_fs.specs.Order.{rest_of}
-use Rattle.pt_fs.specs.Took.{IsFinishedAt}
+use Rattle.pt_fs.specs.Took.{IsFinishedAt, NoneLost}
 use Rattle.pt_fs.specs.Work.{work}
 use Rattle.pt_fs.proofs.schedule.finish_all.Given as goal
 
@@ -14,5 +14,6 @@ invariant-loop-place g l = record {
   goes : GoesOn g.H.Host.does (g.F.SteppedFs.plan_of l.fn.fs) (rest_of (length l.fn.running) 0) l.fn.host l.fn.running
       (g.F.SteppedFs.tables l.fn.fs) l.fn.trace.items
       (rest_of (length l.fn.running - l.place) l.place) l.host l.running (g.F.SteppedFs.tables l.fs) l.trace.items;
+  calm : NoneLost l.running;
   finished : (j : ℕ) → j < l.place → IsFinishedAt l.running j;
 }

@@ -1,7 +1,7 @@
 use Rattle.std.proofs.Common.{◌≡◌, ◌+◌, ◌≤◌, vec_capacity, ℕ, suc, ◌<◌, length}
 use Rattle.pt_fs.specs.GoesOn.{GoesOn}
 use Rattle.pt_fs.specs.Order.{rest_of}
-use Rattle.pt_fs.specs.Took.{IsFinishedAt, steps_left_at}
+use Rattle.pt_fs.specs.Took.{IsFinishedAt, NoneLost, steps_left_at}
 use Rattle.pt_fs.specs.Work.{work}
 use Rattle.pt_fs.proofs.schedule.finish_one.Given as goal
 
@@ -16,6 +16,7 @@ invariant-loop-alloc g l = record {
       (g.F.SteppedFs.tables l.fn.fs) l.fn.trace.items (rest_of (suc jobs) l.fn.place) l.host l.running
       (g.F.SteppedFs.tables l.fs) l.trace.items;
   others : (j : ℕ) → IsFinishedAt l.fn.running j → IsFinishedAt l.running j;
+  calm : NoneLost l.running;
   inside : l.place < length l.running;
 }
 

@@ -1,11 +1,12 @@
-use Rattle.std.proofs.Common.{◌∙◌, List, subst}
-use Rattle.pt_frame.specs.Deed.{Step, kept_deed_of}
-use Rattle.pt_frame.specs.Grammar.{Belongs, after}
-use Rattle.pt_attr.specs.Machine.Job.{owes}
-use Rattle.pt_frame.specs.declared.finish.Finish.{Finish}
+use Rattle.std.proofs.Common.{◌≡◌, ◌∙◌, Bool, ap, sym, subst}
+use Rattle.pt_frame.specs.Deed.{kept_deed_of}
+use Rattle.pt_frame.specs.Grammar.{IsChosen, after, restores}
+use Rattle.pt_frame.specs.Past.{lost_after}
+use Rattle.pt_frame.specs.declared.act.ActReply.{ActReply}
+use Rattle.pt_attr.specs.Machine.Job.{owes, lost_of, restores_now}
 use Rattle.pt_req.specs.declared.plan.Plan.{Plan}
-use Rattle.pt_frame.proofs.Ending.{belongs_chosen}
 use Rattle.pt_fs.proofs.Advancing.{advanced}
+use Rattle.pt_fs.proofs.Works.{told_by_mark}
 use Rattle.pt_fs.proofs.step.advance.Goals as goal
 
 pub returns-clause-advances : goal.returns-clause-advances
@@ -15,10 +16,8 @@ returns-clause-advances g c =
     let start = c.args.running.now.start in
     let was = c.args.running.now.state in
     let job = c.take.new.self in
-    let goes = subst (λ (plan : Plan). (steps : List Step) (end : Finish) → Belongs (owes plan start job) steps end →
-    Belongs (after told.new.reply (owes plan start was)) steps end)
-    (c.plan.ensures ∙ made.ensures.plan)
-    (λ steps end belongs. belongs_chosen _ _ steps end c.take.ensures.left belongs) in
+    let goes = subst (λ (plan : Plan). IsChosen (after told.new.reply (owes plan start was)) (owes plan start job))
+    (c.plan.ensures ∙ made.ensures.plan) c.take.ensures.left in
     advanced g.H.Host.does g.H.Host.faults g.met.H.Host.promised
     (owes (g.F.SteppedFs.plan_of c.args.fs.now) start was) (owes (g.F.SteppedFs.plan_of c.args.fs.now) start job)
     (kept_deed_of c.wanted-act.result) made.result
@@ -26,3 +25,21 @@ returns-clause-advances g c =
     (g.F.SteppedFs.tables c.args.fs.now) made.new.host made.new.seat
     (g.F.SteppedFs.tables made.new.fs) c.wanted-act.ensures made.ensures.made
     told.ensures.told told.ensures.same goes
+
+pub returns-clause-loses : goal.returns-clause-loses
+returns-clause-loses g c =
+    let was = c.args.running.now in
+    let marked : restores_now was.state
+    ≡ restores (owes (g.F.SteppedFs.plan_of c.args.fs.now) was.start was.state) =
+    sym c.restoring-restored.ensures.result
+    ∙ c.restoring-restored.ensures.restores (g.F.SteppedFs.plan_of c.args.fs.now) was.start in
+    c.take.ensures.lost ∙ ap (λ (b : Bool). lost_after (lost_of was.state) b c.shown-reply.new.reply) marked
+    ∙ ap (λ (r : ActReply).
+    lost_after (lost_of was.state) (restores (owes (g.F.SteppedFs.plan_of c.args.fs.now) was.start was.state)) r)
+    c.shown-reply.ensures.same
+
+pub returns-clause-told : goal.returns-clause-told
+returns-clause-told g c = λ none.
+    told_by_mark c.restoring-restored.result (restores_now c.args.running.now.state) (lost_of c.args.running.now.state)
+    (lost_of c.take.new.self) c.shown-reply.new.reply c.lost_by-lost.result c.restoring-restored.ensures.result
+    c.take.ensures.lost none c.lost_by-lost.ensures.unmarked c.lost_by-lost.ensures.marked

@@ -17,18 +17,21 @@ returns-clause-took g c =
     record {
       run = get_or c.args.running.now c.args.place c.index-running-place.result;
       run' = c.advance-step.new.running;
-      step = c.advance-step.result;
+      step = c.advance-step.result.0;
       was = there;
       is = refl;
       longer = c.push_within.ensures.items;
       owner = c.advance-step.ensures.owner;
+      start = c.advance-step.ensures.start;
       unfinished = (c.requires.unfinished _ there).0;
       made = c.advance-step.ensures.made;
       advances = c.advance-step.ensures.advances;
+      loses = c.advance-step.ensures.loses;
+      told = c.advance-step.ensures.told;
       fewer = c.advance-step.ensures.fewer;
       within = c.advance-step.ensures.within;
       spent = advance_falls g.H.Host.does c.args.place
-          (kept_deed_of c.advance-step.result.act) c.advance-step.result.reply c.args.host.now c.advance-step.new.host
+          (kept_deed_of c.advance-step.result.0.act) c.advance-step.result.0.reply c.args.host.now c.advance-step.new.host
           c.args.running.now (get_or c.args.running.now c.args.place c.index-running-place.result)
           c.advance-step.new.running (g.F.SteppedFs.tables c.args.fs.now)
           (g.F.SteppedFs.tables c.advance-step.new.fs) c.advance-step.new.running.seat there c.advance-step.ensures.made
@@ -39,7 +42,7 @@ pub push_within-requires : goal.push_within-requires
 push_within-requires g c =
     let there = slice_get-get_or c.args.running.now c.args.place c.index-running-place.result c.requires.named in
     let falls = advance_falls g.H.Host.does c.args.place
-    (kept_deed_of c.advance-step.result.act) c.advance-step.result.reply c.args.host.now c.advance-step.new.host
+    (kept_deed_of c.advance-step.result.0.act) c.advance-step.result.0.reply c.args.host.now c.advance-step.new.host
     c.args.running.now (get_or c.args.running.now c.args.place c.index-running-place.result)
     c.advance-step.new.running (g.F.SteppedFs.tables c.args.fs.now)
     (g.F.SteppedFs.tables c.advance-step.new.fs) c.advance-step.new.running.seat there c.advance-step.ensures.made
@@ -51,7 +54,7 @@ pub returns-clause-room : goal.returns-clause-room
 returns-clause-room g c =
     let there = slice_get-get_or c.args.running.now c.args.place c.index-running-place.result c.requires.named in
     let falls = advance_falls g.H.Host.does c.args.place
-    (kept_deed_of c.advance-step.result.act) c.advance-step.result.reply c.args.host.now c.advance-step.new.host
+    (kept_deed_of c.advance-step.result.0.act) c.advance-step.result.0.reply c.args.host.now c.advance-step.new.host
     c.args.running.now (get_or c.args.running.now c.args.place c.index-running-place.result)
     c.advance-step.new.running (g.F.SteppedFs.tables c.args.fs.now)
     (g.F.SteppedFs.tables c.advance-step.new.fs) c.advance-step.new.running.seat there c.advance-step.ensures.made
@@ -59,5 +62,5 @@ returns-clause-room g c =
     let room = c.requires.room in
     let grown = c.push_within.ensures.capacity in
     let long = ap length c.push_within.ensures.items in
-    let one = length-append c.args.trace.now.items (c.advance-step.result ∷ []) in
+    let one = length-append c.args.trace.now.items (c.advance-step.result.0 ∷ []) in
     omega arith

@@ -1,0 +1,54 @@
+-- The report of a run is that of the script.
+use Rattle.std.proofs.Common.{◌≡◌, ◌≤◌, ℕ, List, Option, length, sym, subst}
+use Rattle.pt_rules.specs.State.{State}
+use Rattle.pt_session.specs.Tables.{Tables}
+use Rattle.pt_iface.specs.declared.answer.Answer.{Answer}
+use Rattle.pt_fs.specs.declared.trace.TraceStep.{TraceStep}
+use Rattle.pt_script.specs.Parse.{IsScriptOf}
+use Rattle.pt_script.specs.declared.line.ScriptJob.{ScriptJob}
+use Rattle.pt_script.specs.declared.settings.Settings.{Settings}
+use Rattle.pt_run.specs.Output.{IsWritten}
+use Rattle.pt_run.specs.Streams.{IsAll}
+use Rattle.pt_run.specs.Run.{AreLive, IsReadWith, IsReportWith, IsRunFrom, report_of, status_for}
+use Rattle.pt_run.specs.declared.report.LostJob.{LostJob}
+use Rattle.pt_run.specs.declared.status.Status.{Status}
+
+pub report_made : (bytes text : List ℕ) (settings : Settings) (start : State) (lines : List ScriptJob)
+    (schedule : List ℕ) (trace : List TraceStep) (answers : List Answer) (tables : Tables) (host : State)
+    (lost : Option LostJob) (ends : Status) → IsScriptOf bytes settings start lines schedule →
+    IsRunFrom settings start lines schedule trace answers tables host lost →
+    ((lives : List (ℕ × ℕ)) × (handles : List (ℕ × ℕ)) × AreLive tables lives handles
+    × (text ≡ report_of trace answers lives handles tables host lost)) → ends ≡ status_for lost →
+    IsReportWith bytes ends text
+report_made bytes text settings start lines schedule trace answers tables host lost ends script run reported same =
+    let begun = script.0 in (
+      record {
+        begun = begun;
+        script = script.1;
+        trace = trace;
+        answers = answers;
+        tables = tables;
+        host = host;
+        start = start;
+        starts = script.3;
+        lost = lost;
+        run = subst (λ (s : Settings). IsRunFrom s start begun.jobs begun.order trace answers tables host lost)
+            script.2
+            (subst (λ (l : List ScriptJob). IsRunFrom settings start l begun.order trace answers tables host lost)
+            script.4
+            (subst (λ (o : List ℕ). IsRunFrom settings start lines o trace answers tables host lost) script.5 run));
+        lives = reported.0;
+        handles = reported.1;
+        live = reported.2;
+        text = reported.3;
+      },
+      sym same,
+    )
+
+-- and of the script that was read
+pub read_as : (left : Option (List ℕ)) (bytes : List ℕ) (result ends : Status) (old new : Option (List ℕ)) →
+    IsAll left bytes → length bytes ≤ 16777216 →
+    (result ≡ ends → (report : List ℕ) × IsReportWith bytes ends report × IsWritten old report new) → result ≡ ends →
+    (report : List ℕ) × IsReadWith left ends report × IsWritten old report new
+read_as left bytes result ends old new all short told ended =
+    let there = told ended in (there.0, ((bytes, all, short, there.1.0), there.1.1), there.2)

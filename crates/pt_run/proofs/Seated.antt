@@ -1,0 +1,42 @@
+-- Each job of a script begins with a seat as it should.
+use Rattle.std.proofs.Common.{List, [], ◌∷◌, refl}
+use Rattle.pt_host.specs.Seat.{IsStartingSeat}
+use Rattle.pt_host.specs.declared.seat.HostSeat.{HostSeat}
+use Rattle.pt_iface.specs.declared.request.Request.TheVariants.{Root}
+use Rattle.pt_fs.specs.Jobs.{StartAll, job_start}
+use Rattle.pt_run.specs.Run.{seat_of, start_seat, job_of, jobs_of}
+use Rattle.pt_script.specs.Settings.{identity_in}
+use Rattle.pt_script.specs.declared.line.ScriptJob.{ScriptJob}
+use Rattle.pt_script.specs.declared.line.ScriptJob.TheVariants as script_job
+use Rattle.pt_script.specs.declared.settings.Identity.{Identity}
+use Rattle.pt_script.specs.declared.settings.Settings.{Settings}
+
+seat_starts : (who : Identity) → IsStartingSeat (seat_of who)
+seat_starts who = record {
+  eff_uid = refl;
+  saved_uid = refl;
+  eff_gid = refl;
+  saved_gid = refl;
+  caps = refl;
+  groups = refl;
+  umask = refl;
+}
+
+line_starts : (seat : HostSeat) → IsStartingSeat seat → (line : ScriptJob) →
+    IsStartingSeat (job_start (job_of seat line))
+line_starts seat s (script_job.Request who Root) = s
+line_starts seat s (script_job.Request who request) = s
+line_starts seat s (script_job.Edit edit) = record {
+  eff_uid = refl;
+  saved_uid = refl;
+  eff_gid = refl;
+  saved_gid = refl;
+  caps = refl;
+  groups = refl;
+  umask = refl;
+}
+
+pub all_start : (settings : Settings) (lines : List ScriptJob) → StartAll (jobs_of settings lines)
+all_start settings [] = tt
+all_start settings (line ∷ lines) =
+    (line_starts (start_seat settings) (seat_starts (identity_in settings)) line, all_start settings lines)
