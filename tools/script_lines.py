@@ -80,6 +80,14 @@ def name(what: str) -> Callable[[str], bytes]:
     return lambda word: byte_word(word, what)
 
 
+def sign(wanted: str) -> Callable[[str], None]:
+    def judge(word: str) -> None:
+        if word != wanted:
+            raise Bad(f"{wanted!r} is wanted here, and not {word!r}")
+
+    return judge
+
+
 # the fields of each request behind its word
 REQUESTS: dict[str, list[Callable]] = {
     "root": [],
@@ -94,6 +102,20 @@ REQUESTS: dict[str, list[Callable]] = {
     "releasedir": [u64("INODE"), u64("HANDLE")],
 }
 
+# those of `create` before what it brings beside
+CREATE: list[Callable] = [
+    u64("PARENT"),
+    name("NAME"),
+    u32("MODE"),
+    lambda word: switch(word, "KILL"),
+    u32("FLAGS"),
+    u32("UMASK"),
+]
+
+# the numbers of each rule of ids behind its word: where its range begins, what that becomes, how many ids it has
+RULES = {kind: ("A", "B", "N") for kind in ("guest", "host", "squash-guest", "squash-host", "map")}
+RULES["forbid-guest"] = ("A", "N")
+
 EDITS: dict[str, list[Callable]] = {
     "unlink": [name("PATH")],
     "rename": [name("OLD"), name("NEW")],
@@ -101,6 +123,34 @@ EDITS: dict[str, list[Callable]] = {
     "dir": [name("PATH"), u32("MODE"), u32("UID"), u32("GID")],
     "write": [name("PATH"), name("BYTES")],
 }
+
+
+@dataclass
+class Rule:
+    """A rule of ids, and the line at which it stands."""
+
+    line: int
+    kind: str
+    numbers: list[int]
+
+    def sources(self) -> tuple[range, range]:
+        """The guest's ids and the host's of which it says something."""
+        first, count = self.numbers[0], self.numbers[-1]
+        ids, none = range(first, first + count), range(0)
+        if self.kind == "map":
+            return ids, range(self.numbers[1], self.numbers[1] + count)
+        return (none, ids) if self.kind in ("host", "squash-host") else (ids, none)
+
+    def goes_past(self) -> bool:
+        """A range of its ids, or what they become one by one, goes past the last id."""
+        starts = self.numbers[:2] if self.kind in ("guest", "host", "map") else self.numbers[:1]
+        return any(start + self.numbers[-1] > U32 + 1 for start in starts)
+
+    def meets(self, other: "Rule") -> bool:
+        return any(
+            one and two and max(one.start, two.start) < min(one.stop, two.stop)
+            for one, two in zip(self.sources(), other.sources())
+        )
 
 
 @dataclass
@@ -251,6 +301,9 @@ def request(words: list[str]) -> None:
             raise Bad(f"{count} pairs of INODE and COUNT are to follow, and here are {len(words) - 4} words")
         for word in words[4:]:
             number(word, U64, "a number")
+    elif words[2] == "create":
+        group = [sign("+"), u32("GID")] if words[10:11] == ["+"] else [sign("-")]
+        fields("create", words[3:], [*CREATE, sign("-"), *group])
     elif words[2] in REQUESTS:
         fields(words[2], words[3:], REQUESTS[words[2]])
     else:
@@ -264,6 +317,8 @@ class Reader:
 
     def __init__(self) -> None:
         self.tree, self.keys = Tree(), set()
+        self.rules: dict[str, list[Rule]] = {"uidmap": [], "gidmap": []}
+        self.lines = 0
         self.at = 0
         self.last_fault = -1
         self.jobs = self.places = 0
@@ -280,6 +335,7 @@ class Reader:
 
     def line(self, text: str) -> None:
         words = text.split(" ")
+        self.lines += 1
         match words[0]:
             case "set":
                 self.stand("set")
@@ -316,11 +372,24 @@ class Reader:
                 wants(words, 5, "set seat UID GID CAPS")
                 for word, what in zip(words[2:], ("UID", "GID", "CAPS")):
                     number(word, U32, what)
+            case "uidmap" | "gidmap":
+                self.rule(key, words[2:])
+                return
             case _:
                 raise Bad(f"there is no key {key!r} (yet)")
         if key in self.keys:
             raise Bad(f"{key} is set once already")
         self.keys.add(key)
+
+    def rule(self, key: str, words: list[str]) -> None:
+        kind = words[0] if words else ""
+        if kind not in RULES:
+            raise Bad(f"there is no rule {kind!r}: {', '.join(sorted(RULES))}")
+        names = RULES[kind]
+        if len(words) - 1 != len(names):
+            raise Bad(f"{kind} has {len(names)} numbers, {' '.join(names)}, and here are {len(words) - 1}")
+        numbers = [number(word, U32, what) for word, what in zip(words[1:], names)]
+        self.rules[key].append(Rule(self.lines, kind, numbers))
 
     def fault(self, words: list[str]) -> None:
         wants(words, 3, "fault CALL ERRNO")
@@ -371,6 +440,24 @@ def complaint(text: bytes) -> tuple[int, str] | None:
         return len(lines) + 2, "the last line is not ended by a line feed"
     if reader.at != len(reader.ORDER) - 1:
         return len(lines) + 1, "the input ends before the line end"
+    return None
+
+
+def refused_rule(text: bytes) -> tuple[int, str] | None:
+    """The line of a script's first rule that is refused beside the others, and why; None where there is none.
+
+    Such a script is one, but no file system is made of it: the uids' rules are judged first, each key in its order.
+    """
+    reader = Reader()
+    for line in text.split(b"\n")[:-1]:
+        reader.line(line.decode("latin-1"))
+    for key, rules in reader.rules.items():
+        for place, rule in enumerate(rules):
+            for earlier in rules[:place]:
+                if rule.meets(earlier):
+                    return rule.line, f"it says something of an id of which {key} at line {earlier.line} says something"
+            if rule.goes_past():
+                return rule.line, f"its ids go past the last one, {U32}"
     return None
 
 

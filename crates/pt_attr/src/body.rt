@@ -1,14 +1,13 @@
 ghost use Rattle.std.specs.Prelude.{◌≡◌, ◌≤◌};
 ghost use Rattle.pt_frame.specs.Machine.Room.{most_holds};
 ghost use Rattle.pt_host.specs.declared.seat.HostSeat.{HostSeat};
-ghost use Rattle.pt_iface.specs.declared.request.Context.{Context};
 ghost use Rattle.pt_req.specs.declared.plan.Plan.{Plan};
 ghost use Rattle.pt_attr.specs.Machine.Bodies.{any_left, any_acts, any_room, any_inserts};
 ghost use Rattle.pt_attr.specs.Pattern.{tree_of, bound_of, most_inserted};
 
 use pt_frame::{ActReply, Body, Next, Wanted};
 use pt_host::HostSeat;
-use pt_iface::Request;
+use pt_iface::{Context, Request};
 use pt_req::{Plan, RequestBody};
 
 /// The body of any request, by the crate that has it.
@@ -19,14 +18,14 @@ pub enum AnyBody {
 
 impl AnyBody {
     /// The body that begins this request.
-    pub fn of(request: Request) -> AnyBody
-        ensures left { (plan : Plan) (seat : HostSeat) (who : Context) →
+    pub fn of(who: Context, request: Request) -> AnyBody
+        ensures left { (plan : Plan) (seat : HostSeat) →
             any_left result plan seat ≡ tree_of plan seat who request }
         ensures acts { any_acts result ≤ bound_of request }
         ensures room { any_room result ≤ most_holds }
         ensures inserts { any_inserts result ≤ most_inserted }
     {
-        AnyBody::Request(RequestBody::of(request))
+        AnyBody::Request(RequestBody::of(who, request))
     }
 }
 

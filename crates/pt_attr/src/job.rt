@@ -22,7 +22,7 @@ enum Work {
     Edit(Editing),
 }
 
-#[tactic(auto, unfolding(crate::specs::Machine::Job::owes, crate::specs::Machine::Job::steps_left, crate::specs::Machine::Job::steps_bound, crate::specs::Machine::Job::own_left, crate::specs::Machine::Job::events_left, crate::specs::Machine::Job::inserts_left, crate::specs::Machine::Job::is_finished, crate::specs::Machine::Job::lost_of, crate::specs::Machine::Job::restores_now))]
+#[tactic(auto, unfolding(crate::specs::Machine::Job::work_of))]
 impl AnyJob {
     ghost use Rattle.pt_frame.specs.Edit.{edit_grammar};
     ghost use Rattle.pt_frame.specs.Frame.{cut};
@@ -50,7 +50,7 @@ impl AnyJob {
         ensures lost { IfOk result (λ job. lost_of job ≡ None) }
         ensures back { IfErr result (λ back. back ≡ request) }
     {
-        let work = Work::Request(Framed::start(AnyBody::of(request)));
+        let work = Work::Request(Framed::start(AnyBody::of(who, request)));
         Ok(AnyJob { work })
     }
 

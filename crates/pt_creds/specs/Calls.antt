@@ -13,7 +13,15 @@ pub record CallMade : Type 0 where
   pub told : HostReply
 
 -- these calls and no others lead from host and seat to these, each from where the one before it led
-abbrev pub CallsLead : {H : Type 0} → HostRelation H → List CallMade → H → HostSeat → H → HostSeat → Type 0
+abbrev pub CallsLead :
+    {H : Type 0} →
+    (does : HostRelation H) →
+    (made : List CallMade) →
+    (host : H) →
+    (seat : HostSeat) →
+    (host' : H) →
+    (seat' : HostSeat) →
+    Type 0
 CallsLead does [] host seat host' seat' = (host' ≡ host) × (seat' ≡ seat)
 CallsLead {H} does (made ∷ rest) host seat host' seat' =
     (mid : H) × (between : HostSeat) × does host seat made.asked made.told mid between ×

@@ -30,7 +30,16 @@ abbrev pub no_change : Guarded
 no_change = record { uid = None; gid = None; groups = None }
 
 -- these calls were all made, each once and whatever the others were answered, and this became of them
-abbrev pub Plays : {H : Type 0} → HostRelation H → List Call → H → HostSeat → H → HostSeat → Result Unit Errno → Type 0
+abbrev pub Plays :
+    {H : Type 0} →
+    (does : HostRelation H) →
+    (calls : List Call) →
+    (host : H) →
+    (seat : HostSeat) →
+    (host' : H) →
+    (seat' : HostSeat) →
+    (result : Result Unit Errno) →
+    Type 0
 Plays does calls host seat host' seat' result =
     (made : List CallMade) × CallsLead does made host seat host' seat' × (asked_in made ≡ calls) ×
     IsOutcomeOf made result
@@ -68,8 +77,18 @@ pub record IsUndone {H : Type 0}
 
 -- One step of a `set`, where it is to be made: what it changed is kept besides what was changed before, or that was
 -- taken back.
-abbrev pub TakesStep : {H : Type 0} → HostRelation H → List Call → Guarded → Guarded → H → HostSeat → H → HostSeat →
-    Result Guarded CredError → Type 0
+abbrev pub TakesStep :
+    {H : Type 0} →
+    (does : HostRelation H) →
+    (calls : List Call) →
+    (before : Guarded) →
+    (after : Guarded) →
+    (host : H) →
+    (seat : HostSeat) →
+    (host' : H) →
+    (seat' : HostSeat) →
+    (result : Result Guarded CredError) →
+    Type 0
 TakesStep does calls before after host seat host' seat' (Ok guard) =
     Plays does calls host seat host' seat' (Ok tt) × (guard ≡ after)
 TakesStep does calls before after host seat host' seat' (Err why) =

@@ -8,7 +8,15 @@ use Rattle.pt_host.specs.declared.seat.HostSeat.{HostSeat}
 use Rattle.pt_host.specs.Relation.{HostRelation}
 
 -- the one call, which is told the old mask
-abbrev pub SetsMask : {H : Type 0} → HostRelation H → ℕ → H → HostSeat → H → HostSeat → Type 0
+abbrev pub SetsMask :
+    {H : Type 0} →
+    (does : HostRelation H) →
+    (mask : ℕ) →
+    (host : H) →
+    (seat : HostSeat) →
+    (host' : H) →
+    (seat' : HostSeat) →
+    Type 0
 SetsMask does mask host seat host' seat' =
     does host seat (call.SetUmask mask) (reply.Ok (value.Count seat.umask)) host' seat'
 

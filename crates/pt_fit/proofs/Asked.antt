@@ -1,41 +1,45 @@
 -- Whatever a job asks, a request or an edit: it keeps the discipline to its end, whole or cut, and an answer that
 -- refuses or that memory ran out has its cause.
-use Rattle.std.proofs.Common.{◌≡◌, inl, inr, ℕ, List, [], ◌∷◌, ◌++◌, refl, sym, ap, subst, Bool, false, ◌||◌}
+use Rattle.std.proofs.Common.{◌≡◌, ◌++◌, ◌∷◌, ◌∙◌, ◌||◌, [], ℕ, Bool, List, ap, false, inl, inr, refl, subst, sym}
+use Rattle.std.proofs.Common.{true}
+use Rattle.pt_host.specs.declared.edit.Edit.{Edit}
+use Rattle.pt_host.specs.declared.reply.HostReply.TheVariants as host
 use Rattle.pt_host.specs.declared.seat.HostSeat.{HostSeat}
 use Rattle.pt_iface.specs.declared.answer.Answer.{Answer}
 use Rattle.pt_iface.specs.declared.answer.Answer.TheVariants as answer
 use Rattle.pt_iface.specs.declared.entry.Entry.{Entry}
+use Rattle.pt_iface.specs.declared.flags.OpenOptions.{OpenOptions}
 use Rattle.pt_iface.specs.declared.request.Context.{Context}
+use Rattle.pt_iface.specs.declared.request.Extensions.{Extensions}
 use Rattle.pt_iface.specs.declared.request.Request.{Request}
 use Rattle.pt_iface.specs.declared.request.Request.TheVariants as request
 use Rattle.pt_frame.specs.Deed.{Step, lacks_memory}
-use Rattle.pt_frame.specs.Edit.{edit_answer}
+use Rattle.pt_frame.specs.Edit.{edit_answer, edit_grammar}
 use Rattle.pt_frame.specs.Frame.{CutAfter, CutInFull}
 use Rattle.pt_frame.specs.Grammar.{Belongs}
 use Rattle.pt_frame.specs.Memory.{RanOut}
+use Rattle.pt_frame.specs.Replies.{passes_with}
 use Rattle.pt_frame.specs.Sparing.{IsSparing}
-use Rattle.pt_frame.specs.Tree.{RequestTree, Gives, Refuses, Asks, Opens, Bares, Brackets, Shuts, Allocates}
+use Rattle.pt_frame.specs.Tree.{Allocates, Asks, Bares, Brackets, Gives, Opens, Refuses, RequestTree, Shuts}
 use Rattle.pt_frame.specs.declared.act.ActReply.{ActReply}
 use Rattle.pt_frame.specs.declared.act.ActReply.TheVariants.{Host}
-use Rattle.pt_host.specs.declared.reply.HostReply.TheVariants as host
 use Rattle.pt_frame.specs.declared.finish.Finish.{Finish}
 use Rattle.pt_frame.specs.declared.finish.Finish.TheVariants as finish
-use Rattle.pt_attr.specs.Pattern.{tree_of}
 use Rattle.pt_req.specs.declared.plan.Plan.{Plan}
 use Rattle.pt_req.proofs.Tending.{requests_spare}
-use Rattle.pt_attr.specs.Pattern.{Asked, Requests, Edits, grammar_of, grammar_for}
+use Rattle.pt_attr.specs.Pattern.{Asked, Edits, Requests, grammar_for, grammar_of, tree_of}
 use Rattle.pt_attr.proofs.Answering.{has_cause}
 use Rattle.pt_law.specs.Branch.{TakesNone}
-use Rattle.pt_law.specs.Discipline.{idle, blank, ComesToEnd}
+use Rattle.pt_law.specs.Discipline.{ComesToEnd, blank, idle}
 use Rattle.pt_law.specs.Told.{AllMayBeTold}
 use Rattle.pt_law.proofs.Branches.{branch}
 use Rattle.pt_law.proofs.Ending.{keeps_ends, keeps_ends_cut}
-use Rattle.pt_law.proofs.Full.{cut_in_full}
-use Rattle.pt_fit.specs.Cause.{IsCaused, IsCausedBy}
-use Rattle.pt_fit.specs.Fit.{MayAnswer, IsCausedLeaf}
+use Rattle.pt_law.proofs.Full.{Lasting, cut_in_full, framed_lasts}
 use Rattle.pt_fit.specs.Answered.{ComesTo}
-use Rattle.pt_fit.proofs.Edits.{edit_ended, edit_caused, edit_cut}
-use Rattle.pt_fit.proofs.Fitting.{fit_keeps, fit_along, IsRight, own_within, own_told}
+use Rattle.pt_fit.specs.Cause.{Asking, IsCaused, IsCausedBy, asking}
+use Rattle.pt_fit.specs.Fit.{IsCausedLeaf, MayAnswer}
+use Rattle.pt_fit.proofs.Edits.{edit_caused, edit_cut, edit_ended}
+use Rattle.pt_fit.proofs.Fitting.{IsRight, fit_along, fit_keeps, nothing_within, own_told, own_within}
 use Rattle.pt_fit.proofs.Requests.{fit_request}
 
 pub request_ends : (plan : Plan) (seat : HostSeat) (who : Context) (asked : Request) (steps : List Step)
@@ -43,20 +47,22 @@ pub request_ends : (plan : Plan) (seat : HostSeat) (who : Context) (asked : Requ
     ComesToEnd idle steps end
 request_ends plan seat who asked steps end t b =
     keeps_ends seat (tree_of plan seat who asked) steps end
-    (fit_keeps asked (tree_of plan seat who asked) [] [] blank [] (fit_request plan seat who asked)) t b
+    (fit_keeps (asking plan who asked) (tree_of plan seat who asked) [] [] blank []
+    (fit_request plan seat who asked)) t b
 
 pub request_ends_cut : (plan : Plan) (seat : HostSeat) (who : Context) (asked : Request) (so_far steps : List Step)
     (end : Finish) → AllMayBeTold so_far → AllMayBeTold steps →
     CutAfter seat (grammar_of plan seat who asked) so_far steps end → ComesToEnd idle (so_far ++ steps) end
 request_ends_cut plan seat who asked so_far steps end u t b =
     keeps_ends_cut seat (tree_of plan seat who asked) so_far steps end
-    (fit_keeps asked (tree_of plan seat who asked) [] [] blank [] (fit_request plan seat who asked)) u t b
+    (fit_keeps (asking plan who asked) (tree_of plan seat who asked) [] [] blank []
+    (fit_request plan seat who asked)) u t b
 
 same_answer : (last given : Answer) → finish.Answer last ≡ finish.Answer given → last ≡ given
 same_answer last given e = cc
 
 -- an answer has its cause, and is such as may be given
-cause_of : (asked : Request) (steps : List Step) (last : Answer) → IsCausedLeaf asked steps last →
+cause_of : (asked : Asking) (steps : List Step) (last : Answer) → IsCausedLeaf asked steps last →
     (last ≡ answer.NoMemory → RanOut steps) → IsCaused asked steps last
 cause_of asked steps (answer.Refused errno) c ran = c
 cause_of asked steps answer.NoMemory c ran = ran refl
@@ -64,22 +70,23 @@ cause_of asked steps last c ran = tt
 
 request_right : (plan : Plan) (seat : HostSeat) (who : Context) (asked : Request) (steps : List Step)
     (last : Answer) → AllMayBeTold steps → Belongs (grammar_of plan seat who asked) steps (finish.Answer last) →
-    IsRight asked steps last
+    IsRight (asking plan who asked) steps last
 request_right plan seat who asked steps last t b =
     elim (branch seat (tree_of plan seat who asked) [] [] steps (finish.Answer last) b) [
       | inl lost ↦ absurd lost
-      | inr (inl up) ↦ subst (IsRight asked steps) (sym (same_answer last answer.NoMemory up.answered)) (tt, tt)
-      | inr (inr r) ↦ subst (IsRight asked steps) (sym (same_answer last r.1 r.3))
-          (fit_along asked (tree_of plan seat who asked) [] [] blank [] r.0 steps r.1
-          (fit_request plan seat who asked) (own_told r.0 steps r.2 t) (λ errno no. absurd no)
-          (own_within asked r.0 steps r.2) r.4)
+      | inr (inl up) ↦ subst (IsRight (asking plan who asked) steps)
+          (sym (same_answer last answer.NoMemory up.answered)) (tt, tt)
+      | inr (inr r) ↦ subst (IsRight (asking plan who asked) steps) (sym (same_answer last r.1 r.3))
+          (fit_along (asking plan who asked) (tree_of plan seat who asked) [] [] blank [] r.0 steps r.1
+          (fit_request plan seat who asked) (own_told r.0 steps r.2 t) (nothing_within (asking plan who asked) steps)
+          (own_within (asking plan who asked) r.0 steps r.2) r.4)
     ]
 
 request_caused : (plan : Plan) (seat : HostSeat) (who : Context) (asked : Request) (steps : List Step)
     (last : Answer) → AllMayBeTold steps → Belongs (grammar_of plan seat who asked) steps (finish.Answer last) →
-    IsCaused asked steps last
+    IsCaused (asking plan who asked) steps last
 request_caused plan seat who asked steps last t b =
-    cause_of asked steps last (request_right plan seat who asked steps last t b).0 (λ e.
+    cause_of (asking plan who asked) steps last (request_right plan seat who asked steps last t b).0 (λ e.
     has_cause plan seat who asked steps
     (subst (λ (l : Answer). Belongs (grammar_of plan seat who asked) steps (finish.Answer l)) e b))
 
@@ -118,6 +125,13 @@ job_full plan seat (Requests who asked) so_far steps end t n b =
 job_full plan seat (Edits edit) [] steps end t n b = b
 job_full plan seat (Edits edit) (step ∷ so_far) steps end t n b = absurd b.1
 
+-- and whatever is asked, a job gives up only there
+pub job_lasts : (plan : Plan) (seat : HostSeat) (asked : Asked) → Lasting (grammar_for plan seat asked)
+job_lasts plan seat (Requests who asked) =
+    framed_lasts seat (tree_of plan seat who asked) [] []
+    (spares_none false (tree_of plan seat who asked) (requests_spare plan seat who asked))
+job_lasts plan seat (Edits edit) = λ told t n. tt
+
 pub told_front : (front back : List Step) → AllMayBeTold (front ++ back) → AllMayBeTold front × AllMayBeTold back
 told_front [] back t = (tt, t)
 told_front (step ∷ front) back t = let k = told_front front back t.1 in ((t.0, k.0), k.1)
@@ -132,7 +146,7 @@ comes_ends plan seat asked steps end t (inr c) =
 
 pub job_caused : (plan : Plan) (seat : HostSeat) (asked : Asked) (steps : List Step) (last : Answer) →
     AllMayBeTold steps → Belongs (grammar_for plan seat asked) steps (finish.Answer last) →
-    IsCausedBy asked steps last
+    IsCausedBy plan asked steps last
 job_caused plan seat (Requests who asked) steps last t b = request_caused plan seat who asked steps last t b
 job_caused plan seat (Edits edit) steps last t b = edit_caused edit steps last b
 
@@ -142,11 +156,31 @@ entry_of_lookup : (asked : Request) (entry : Entry) → MayAnswer (answer.Entry 
 entry_of_lookup (request.Lookup parent name) entry m = (parent, name, refl)
 entry_of_lookup asked entry m = absurd m
 
-edit_no_entry : (told : ActReply) (entry : Entry) → answer.Entry entry ≡ edit_answer told → ⊥
-edit_no_entry (Host (host.Ok value)) entry e = cc
-edit_no_entry (Host (host.Refused errno)) entry e = cc
-edit_no_entry (Host (host.Fault errno)) entry e = cc
-edit_no_entry told entry e = cc
+-- and one with a handle that of `create`
+abbrev IsCreate : Request → Type 0
+IsCreate asked =
+    (parent : ℕ) × (name : List ℕ) × (mode : ℕ) × (kill : Bool) × (flags : ℕ) × (umask : ℕ) × (ext : Extensions)
+    × (asked ≡ request.Create parent name mode kill flags umask ext)
+
+made_by_create : (asked : Request) (entry : Entry) (handle : ℕ) (options : OpenOptions) →
+    MayAnswer (answer.Created entry handle options) asked → IsCreate asked
+made_by_create (request.Create parent name mode kill flags umask ext) entry handle options m =
+    (parent, name, mode, kill, flags, umask, ext, refl)
+made_by_create asked entry handle options m = absurd m
+
+edit_no_entry : (told : ActReply) → passes_with (edit_answer told) ≡ true → ⊥
+edit_no_entry (Host (host.Ok value)) e = cc
+edit_no_entry (Host (host.Refused errno)) e = cc
+edit_no_entry (Host (host.Fault errno)) e = cc
+edit_no_entry told e = cc
+
+-- an edit is answered with no entry
+edit_passes_none : (edit : Edit) (steps : List Step) (last : Answer) → passes_with last ≡ true →
+    Belongs (edit_grammar edit) steps (finish.Answer last) → ⊥
+edit_passes_none edit [] last p b = b
+edit_passes_none edit (step ∷ []) last p b =
+    edit_no_entry step.reply (ap passes_with (sym (same_answer last (edit_answer step.reply) b.1)) ∙ p)
+edit_passes_none edit (step ∷ more ∷ steps) last p b = b.1
 
 pub entry_asked : (plan : Plan) (seat : HostSeat) (asked : Asked) (steps : List Step) (entry : Entry) →
     AllMayBeTold steps → Belongs (grammar_for plan seat asked) steps (finish.Answer (answer.Entry entry)) →
@@ -154,7 +188,17 @@ pub entry_asked : (plan : Plan) (seat : HostSeat) (asked : Asked) (steps : List 
 entry_asked plan seat (Requests who asked) steps entry t b =
     let k = entry_of_lookup asked entry (request_right plan seat who asked steps (answer.Entry entry) t b).1 in
     (who, k.0, k.1, ap (λ (r : Request). Requests who r) k.2)
-entry_asked plan seat (Edits edit) [] entry t b = absurd b
-entry_asked plan seat (Edits edit) (step ∷ []) entry t b =
-    absurd (edit_no_entry step.reply entry (same_answer (answer.Entry entry) (edit_answer step.reply) b.1))
-entry_asked plan seat (Edits edit) (step ∷ more ∷ steps) entry t b = absurd b.1
+entry_asked plan seat (Edits edit) steps entry t b =
+    absurd (edit_passes_none edit steps (answer.Entry entry) refl b)
+
+pub created_asked : (plan : Plan) (seat : HostSeat) (asked : Asked) (steps : List Step) (entry : Entry) (handle : ℕ)
+    (options : OpenOptions) → AllMayBeTold steps →
+    Belongs (grammar_for plan seat asked) steps (finish.Answer (answer.Created entry handle options)) →
+    (who : Context) × (parent : ℕ) × (name : List ℕ) × (mode : ℕ) × (kill : Bool) × (flags : ℕ) × (umask : ℕ)
+    × (ext : Extensions) × (asked ≡ Requests who (request.Create parent name mode kill flags umask ext))
+created_asked plan seat (Requests who asked) steps entry handle options t b =
+    let right = request_right plan seat who asked steps (answer.Created entry handle options) t b in
+    let k = made_by_create asked entry handle options right.1 in
+    (who, k.0, k.1, k.2, k.3, k.4, k.5, k.6, ap (λ (r : Request). Requests who r) k.7)
+created_asked plan seat (Edits edit) steps entry handle options t b =
+    absurd (edit_passes_none edit steps (answer.Created entry handle options) refl b)

@@ -1,19 +1,22 @@
--- An entry that a lookup answered names what its name led to.
-use Rattle.std.proofs.Common.{◌≡◌, ⊎_elim, inl, inr, ℕ, List, [], ◌∷◌, ◌++◌, refl, sym, ap, subst, ◌∙◌, append_assoc}
-use Rattle.std.proofs.Common.{append-nil, Some, None}
+-- An entry that a lookup or `create` answered names what its name led to.
+use Rattle.std.proofs.Common.{◌≡◌, ◌⊎◌, ⊎_elim, inl, inr, ℕ, List, [], ◌∷◌, ◌++◌, refl, sym, ap, subst, ◌∙◌}
+use Rattle.std.proofs.Common.{append_assoc, append-nil, Bool, Some, None}
 use Rattle.pt_host.specs.Words.{Each}
 use Rattle.pt_host.specs.declared.ids.ObjIds.{ObjIds}
 use Rattle.pt_host.specs.declared.seat.HostSeat.{HostSeat}
 use Rattle.pt_host.specs.declared.op.KeptHostOp.TheVariants as call
 use Rattle.pt_host.specs.declared.reply.HostReply.TheVariants as host
 use Rattle.pt_host.specs.declared.reply.HostValue.TheVariants as value
+use Rattle.pt_session.specs.declared.form.RowForm.{RowForm}
 use Rattle.pt_session.specs.declared.form.RowForm.TheVariants.{File}
 use Rattle.pt_session.specs.declared.form.Negotiated.{Negotiated}
 use Rattle.pt_session.specs.declared.event.KeptEvent.TheVariants as change
 use Rattle.pt_session.specs.declared.reply.EventReply.TheVariants as event
 use Rattle.pt_iface.specs.declared.answer.Answer.TheVariants as answer
 use Rattle.pt_iface.specs.declared.entry.Entry.{Entry}
+use Rattle.pt_iface.specs.declared.flags.OpenOptions.{OpenOptions}
 use Rattle.pt_iface.specs.declared.request.Context.{Context}
+use Rattle.pt_iface.specs.declared.request.Extensions.{Extensions}
 use Rattle.pt_iface.specs.declared.request.Request.TheVariants as request
 use Rattle.pt_frame.specs.Deed.{Calls, Changes, Step}
 use Rattle.pt_frame.specs.Grammar.{Belongs}
@@ -28,10 +31,12 @@ use Rattle.pt_law.specs.Laws.{Starts}
 use Rattle.pt_law.specs.Naming.{resolving, opening, OpensNone, made}
 use Rattle.pt_law.specs.Giving.{GivesBy}
 use Rattle.pt_law.specs.Discipline.{AreDisciplined}
+use Rattle.pt_law.proofs.Cuts.{located}
 use Rattle.pt_law.proofs.Giving.{places_of, giving_law}
 use Rattle.pt_fit.specs.Opened.{inserting, InsertionGives, IsLookedUp}
 use Rattle.pt_fit.specs.Entered.{EntryPlaces, IsEntered}
 use Rattle.pt_fit.proofs.Looking.{looked_up}
+use Rattle.pt_fit.proofs.Making.{CreatedBy, NewWay, OldWay, created_by}
 
 -- the steps of an entry behind its opening: the last one gives the number, and none before it opens a name
 record Giving (number : ℕ) (ids : ObjIds) (steps : List Step) : Type 0 where
@@ -98,6 +103,9 @@ look_places plan turns j parent name entry era agreed front own back e l =
     let all : steps_of j turns ≡ (begin ∷ front) ++ a ∷ ([] ++ o ∷ (g.middle ++ g.give ∷ back)) =
     e ∙ (λ i. begin ∷ (front ++ (own_is i ++ back)))
     ∙ (λ i. begin ∷ (front ++ (a ∷ o ∷ append_assoc g.middle (g.give ∷ []) back i))) in
+    let x = located j turns (begin ∷ front) a ([] ++ o ∷ (g.middle ++ g.give ∷ back)) all in
+    let y = located j x.1 [] o (g.middle ++ g.give ∷ back) x.4 in
+    let z = located j y.1 g.middle g.give back y.4 in
     record {
       era = era;
       agreed = agreed;
@@ -111,6 +119,9 @@ look_places plan turns j parent name entry era agreed front own back e l =
       same_row = refl;
       same_dir = refl;
       same_fd = refl;
+      same_front = x.3;
+      same_between = y.3;
+      same_back = z.4;
     }
 
 pub placed_law : (limit bound : ℕ) (plan : Plan) (turns : List Turn) (start : World) (j parent : ℕ) (name : List ℕ)
@@ -133,3 +144,51 @@ pub entered_law : (limit bound : ℕ) (plan : Plan) (seat : HostSeat) (who : Con
 entered_law limit bound plan seat who turns start j parent name entry s d b =
     let e = looked_up plan seat who parent name entry (steps_of j turns) b in
     placed_law limit bound plan turns start j parent name entry e.0 e.1 [] e.2 e.3 s d e.4 e.5
+
+pub created_law : (limit bound : ℕ) (plan : Plan) (seat : HostSeat) (who : Context) (turns : List Turn)
+    (start : World) (j parent : ℕ) (name : List ℕ) (mode : ℕ) (kill : Bool) (flags umask : ℕ) (ext : Extensions)
+    (entry : Entry) (handle : ℕ) (options : OpenOptions) → Starts limit start → AreDisciplined bound turns →
+    Belongs (grammar_of plan seat who (request.Create parent name mode kill flags umask ext)) (steps_of j turns)
+    (finish.Answer (answer.Created entry handle options)) →
+    IsEntered plan start turns j parent name entry
+created_law limit bound plan seat who turns start j parent name mode kill flags umask ext entry handle options s d b =
+    let e = created_by plan seat who parent name mode kill flags umask ext entry handle options (steps_of j turns)
+    b in
+    placed_law limit bound plan turns start j parent name entry e.0 e.1 e.2 e.3 e.4 s d e.5 e.6
+
+-- The places of a lookup that `create` came to: what it did before them and behind them.
+pub record WayAt
+    {plan : Plan}
+    {turns : List Turn}
+    {job parent : ℕ}
+    {name : List ℕ}
+    {entry : Entry}
+    (places : EntryPlaces plan turns job parent name entry)
+    (handle : ℕ)
+    : Type 0 where
+  pub row : ℕ
+  pub form : RowForm
+  pub ids : ObjIds
+  pub mode : ℕ
+  pub before : List Step
+  pub front_is : places.front ≡ resolving parent row form ids mode ∷ before
+  pub way : NewWay name places.looked_up.stat.ids entry.inode handle before places.back
+      ⊎ OldWay entry.inode handle before places.back
+
+pub created_places : (plan : Plan) (turns : List Turn) (j parent : ℕ) (name : List ℕ) (entry : Entry) (handle : ℕ) →
+    CreatedBy plan parent name entry handle (steps_of j turns) →
+    (places : EntryPlaces plan turns j parent name entry) × WayAt places handle
+unfolding look_places
+created_places plan turns j parent name entry handle c = (
+  look_places plan turns j parent name entry c.era c.agreed (resolving parent c.row c.form c.ids c.mode ∷ c.before)
+      c.own c.back c.all c.looked_up,
+  record {
+    row = c.row;
+    form = c.form;
+    ids = c.ids;
+    mode = c.mode;
+    before = c.before;
+    front_is = refl;
+    way = c.way;
+  },
+)

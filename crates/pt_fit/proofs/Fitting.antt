@@ -1,8 +1,11 @@
--- What is fit keeps the discipline, and on each branch a refusal has its cause and an entry is a lookup's.
+-- What is fit keeps the discipline, and on each branch a refusal has its cause and an answer is such as may be given.
 use Rattle.std.proofs.Common.{◌≡◌, inl, inr, ℕ, zero, suc, List, [], ◌∷◌, Option, None, Some, refl, sym, subst}
 use Rattle.std.proofs.Common.{length}
+use Rattle.pt_host.specs.Call.{Call}
 use Rattle.pt_host.specs.Sorts.{Sort, OpensWith, EndsFd, OfSeat, Plain, sort_of}
 use Rattle.pt_host.specs.declared.ids.Errno.{Errno}
+use Rattle.pt_host.specs.declared.ids.ObjIds.{ObjIds}
+use Rattle.pt_host.specs.declared.op.KeptHostOp.TheVariants as call
 use Rattle.pt_host.specs.declared.reply.HostReply.TheVariants as host
 use Rattle.pt_session.specs.Change.{Change}
 use Rattle.pt_session.specs.declared.event.KeptEvent.TheVariants as change
@@ -12,6 +15,7 @@ use Rattle.pt_session.specs.declared.reply.EventRefusal.TheVariants as refused
 use Rattle.pt_iface.specs.declared.answer.Answer.{Answer}
 use Rattle.pt_iface.specs.declared.answer.Answer.TheVariants as answer
 use Rattle.pt_iface.specs.declared.request.Request.{Request}
+use Rattle.pt_iface.specs.declared.request.Request.TheVariants as request
 use Rattle.pt_frame.specs.Deed.{Deed, Calls, Changes, Step, IsStepOf}
 use Rattle.pt_frame.specs.Held.{held, opened}
 use Rattle.pt_frame.specs.Replies.{closings_in, refusal, event_refusal}
@@ -26,7 +30,8 @@ use Rattle.pt_law.specs.Keeps.{uncovered, down_to, After, Keeps}
 use Rattle.pt_law.specs.Branch.{Along, AreOwn, AreOwn.{none, keep, skip}}
 use Rattle.pt_law.specs.Naming.{made}
 use Rattle.pt_law.proofs.Moving.{told_of}
-use Rattle.pt_fit.specs.Cause.{CallCauses, StepCauses, EventCauses, SomeCauses}
+use Rattle.pt_fit.specs.Cause.{Asking, SortCauses, StepCauses, EventCauses, SomeCauses, TellsIds, SomeTells}
+use Rattle.pt_fit.specs.Cause.{StaleCause}
 use Rattle.pt_fit.specs.Fit.{Fit, IsCausedLeaf, MayAnswer}
 
 after_map : (count : ℕ) (P Q : Notes → Type 0) (notes : Notes) → ((later : Notes) → P later → Q later) →
@@ -37,9 +42,9 @@ after_map (suc count) P Q notes f k = λ later l. f later (k later l)
 -- with the same notes at least
 after_at : (count : ℕ) (P : Notes → Type 0) (notes : Notes) → After count P notes → P notes
 after_at zero P notes k = k
-after_at (suc count) P notes k = k notes (refl, refl)
+after_at (suc count) P notes k = k notes (refl, refl, refl)
 
-pub fit_keeps : (asked : Request) (tree : RequestTree) (holds : List Hold) (marks : List ℕ) (notes : Notes)
+pub fit_keeps : (asked : Asking) (tree : RequestTree) (holds : List Hold) (marks : List ℕ) (notes : Notes)
     (path : List Step) → Fit asked tree holds marks notes path → Keeps tree holds marks notes
 fit_keeps asked (Gives last) holds marks notes path f = f.0
 fit_keeps asked (Refuses told) holds marks notes path f = tt
@@ -61,74 +66,113 @@ fit_keeps asked (Shuts passes rest) holds marks notes path f =
     (outer marks) later path (f later l)
 fit_keeps asked (Allocates rest) holds marks notes path f = fit_keeps asked rest holds marks notes path f
 
--- what the one causes, the other causes too
-abbrev pub Within : Request → List Step → List Step → Type 0
-Within asked some all = (errno : Errno) → SomeCauses asked some errno → SomeCauses asked all errno
+-- what the one causes or tells, the other causes or tells too
+pub record Within (asked : Asking) (some all : List Step) : Type 0 where
+  pub causes : (errno : Errno) → SomeCauses asked.request some errno → SomeCauses asked.request all errno
+  pub tells : (ids : ObjIds) → SomeTells some ids → SomeTells all ids
 
-none_called : (sort : Sort) (errno : Errno) → CallCauses sort NoCopy errno → ⊥
+pub nothing_within : (asked : Asking) (all : List Step) → Within asked [] all
+nothing_within asked all = record { causes = λ errno no. absurd no; tells = λ ids no. absurd no }
+
+none_called : (sort : Sort) (errno : Errno) → SortCauses sort NoCopy errno → ⊥
 none_called (OpensWith flags) errno s = s
 none_called (EndsFd fd) errno s = s
 none_called OfSeat errno s = s
 none_called Plain errno s = s
 
-none_changed : (asked : Request) (made : Change) (errno : Errno) → EventCauses asked made NoCopy errno → ⊥
-none_changed asked change.Begin errno s = s
-none_changed asked made errno s = s
+none_changed : (what : Request) (made : Change) (errno : Errno) → EventCauses what made NoCopy errno → ⊥
+none_changed what change.Begin errno s = s
+none_changed what made errno s = s
 
-uncopied : (asked : Request) (deed : Deed) (errno : Errno) → StepCauses asked (Some deed) NoCopy errno → ⊥
-uncopied asked (Calls call) errno s = none_called (sort_of call) errno s
-uncopied asked (Changes made) errno s = none_changed asked made errno s
+uncopied : (what : Request) (deed : Deed) (errno : Errno) → StepCauses what (Some deed) NoCopy errno → ⊥
+uncopied what (Calls call) errno s = none_called (sort_of call) errno s.1
+uncopied what (Changes made) errno s = none_changed what made errno s
 
 -- what the deed causes, the step causes
-causes_of : (asked : Request) (deed : Deed) (done : Option Deed) (told : ActReply) (errno : Errno) →
-    IsStepOf deed done told → StepCauses asked (Some deed) told errno → StepCauses asked done told errno
-causes_of asked deed (Some same) NoCopy errno i s = absurd (uncopied asked deed errno s)
-causes_of asked deed (Some same) told errno i s =
-    subst (λ (d : Deed). StepCauses asked (Some d) told errno) (sym i) s
-causes_of asked deed None NoCopy errno i s = absurd (uncopied asked deed errno s)
-causes_of asked deed None told errno i s = absurd i
+causes_of : (what : Request) (deed : Deed) (done : Option Deed) (told : ActReply) (errno : Errno) →
+    IsStepOf deed done told → StepCauses what (Some deed) told errno → StepCauses what done told errno
+causes_of what deed (Some same) NoCopy errno i s = absurd (uncopied what deed errno s)
+causes_of what deed (Some same) told errno i s =
+    subst (λ (d : Deed). StepCauses what (Some d) told errno) (sym i) s
+causes_of what deed None NoCopy errno i s = absurd (uncopied what deed errno s)
+causes_of what deed None told errno i s = absurd i
+
+none_told : (asked : Call) (ids : ObjIds) → TellsIds (Some (Calls asked)) NoCopy ids → ⊥
+none_told (call.Stat fd) ids t = t
+none_told asked ids t = t
+
+-- and what the deed tells, the step tells
+tells_of : (deed : Deed) (done : Option Deed) (told : ActReply) (ids : ObjIds) → IsStepOf deed done told →
+    TellsIds (Some deed) told ids → TellsIds done told ids
+tells_of (Calls asked) (Some same) NoCopy ids i t = absurd (none_told asked ids t)
+tells_of (Changes asked) (Some same) NoCopy ids i t = absurd t
+tells_of deed (Some same) told ids i t = subst (λ (d : Deed). TellsIds (Some d) told ids) (sym i) t
+tells_of (Calls asked) None NoCopy ids i t = absurd (none_told asked ids t)
+tells_of (Changes asked) None NoCopy ids i t = absurd t
+tells_of deed None told ids i t = absurd i
 
 -- a step further
-further : (asked : Request) (deed : Deed) (step : Step) (path own all : List Step) →
+further : (asked : Asking) (deed : Deed) (step : Step) (path own all : List Step) →
     IsStepOf deed step.deed step.reply → Within asked path all → Within asked (step ∷ own) all →
     Within asked (made deed step.reply ∷ path) all
-further asked deed step path own all i w v errno (inl s) =
-    v errno (inl (causes_of asked deed step.deed step.reply errno i s))
-further asked deed step path own all i w v errno (inr s) = w errno s
+further asked deed step path own all i w v = record { causes = caused; tells = told }
+  where
+    caused : (errno : Errno) → SomeCauses asked.request (made deed step.reply ∷ path) errno →
+        SomeCauses asked.request all errno
+    caused errno (inl s) = v.causes errno (inl (causes_of asked.request deed step.deed step.reply errno i s))
+    caused errno (inr s) = w.causes errno s
 
-caused_within : (asked : Request) (last : Answer) (path all : List Step) → Within asked path all →
+    told : (ids : ObjIds) → SomeTells (made deed step.reply ∷ path) ids → SomeTells all ids
+    told ids (inl t) = v.tells ids (inl (tells_of deed step.deed step.reply ids i t))
+    told ids (inr t) = w.tells ids t
+
+-- without its first step
+rest_within : (asked : Asking) (step : Step) (own all : List Step) → Within asked (step ∷ own) all →
+    Within asked own all
+rest_within asked step own all v =
+    record { causes = λ errno s. v.causes errno (inr s); tells = λ ids t. v.tells ids (inr t) }
+
+stale_within : (what : Request) (path all : List Step) (errno : Errno) →
+    ((ids : ObjIds) → SomeTells path ids → SomeTells all ids) → StaleCause what path errno → StaleCause what all errno
+stale_within (request.Create parent name mode kill flags umask ext) path all errno w (two, e) =
+    ((two.0, two.1, w two.0 two.2, w two.1 two.3, two.4), e)
+stale_within what path all errno w c = absurd c
+
+caused_within : (asked : Asking) (last : Answer) (path all : List Step) → Within asked path all →
     IsCausedLeaf asked path last → IsCausedLeaf asked all last
 caused_within asked (answer.Refused errno) path all w (inl own) = inl own
-caused_within asked (answer.Refused errno) path all w (inr made) = inr (w errno made)
+caused_within asked (answer.Refused errno) path all w (inr (inl made)) = inr (inl (w.causes errno made))
+caused_within asked (answer.Refused errno) path all w (inr (inr two)) =
+    inr (inr (stale_within asked.request path all errno w.tells two))
 caused_within asked last path all w c = tt
 
 -- what a refusal answers is no entry
-event_answers : (asked : Request) (why : EventRefusal) → MayAnswer (event_refusal why) asked
-event_answers asked refused.NotLive = tt
-event_answers asked why = tt
+event_answers : (what : Request) (why : EventRefusal) → MayAnswer (event_refusal why) what
+event_answers what refused.NotLive = tt
+event_answers what why = tt
 
-refusal_answers : (asked : Request) (told : ActReply) → MayAnswer (refusal told) asked
-refusal_answers asked (Event (event.Refused why)) = event_answers asked why
-refusal_answers asked (Host host.NoMemory) = tt
-refusal_answers asked told = tt
+refusal_answers : (what : Request) (told : ActReply) → MayAnswer (refusal told) what
+refusal_answers what (Event (event.Refused why)) = event_answers what why
+refusal_answers what (Host host.NoMemory) = tt
+refusal_answers what told = tt
 
 -- an answer on a branch has its cause, and is such as may be given
-abbrev pub IsRight : Request → List Step → Answer → Type 0
-IsRight asked steps last = IsCausedLeaf asked steps last × MayAnswer last asked
+abbrev pub IsRight : Asking → List Step → Answer → Type 0
+IsRight asked steps last = IsCausedLeaf asked steps last × MayAnswer last asked.request
 
-at_leaf : (asked : Request) (given last : Answer) (path all : List Step) → last ≡ given → Within asked path all →
-    IsCausedLeaf asked path given → MayAnswer given asked → IsRight asked all last
+at_leaf : (asked : Asking) (given last : Answer) (path all : List Step) → last ≡ given → Within asked path all →
+    IsCausedLeaf asked path given → MayAnswer given asked.request → IsRight asked all last
 at_leaf asked given last path all e w c m =
     subst (IsRight asked all) (sym e) (caused_within asked given path all w c, m)
 
-pub fit_along : (asked : Request) (tree : RequestTree) (holds : List Hold) (marks : List ℕ) (notes : Notes)
+pub fit_along : (asked : Asking) (tree : RequestTree) (holds : List Hold) (marks : List ℕ) (notes : Notes)
     (path own all : List Step) (last : Answer) → Fit asked tree holds marks notes path → AllMayBeTold own →
     Within asked path all → Within asked own all → Along tree own last → IsRight asked all last
 fit_along asked (Gives given) holds marks notes path [] all last f t w v a =
     at_leaf asked given last path all a w f.1 f.2
 fit_along asked (Gives given) holds marks notes path (step ∷ own) all last f t w v a = absurd a
 fit_along asked (Refuses told) holds marks notes path [] all last f t w v a =
-    at_leaf asked (refusal told) last path all a w f (refusal_answers asked told)
+    at_leaf asked (refusal told) last path all a w f (refusal_answers asked.request told)
 fit_along asked (Refuses told) holds marks notes path (step ∷ own) all last f t w v a = absurd a
 fit_along asked (Asks deed next) holds marks notes path [] all last f t w v a = absurd a
 fit_along asked (Asks deed next) holds marks notes path (step ∷ own) all last f t w v a =
@@ -136,29 +180,42 @@ fit_along asked (Asks deed next) holds marks notes path (step ∷ own) all last 
     (made deed step.reply ∷ path) own all last
     (after_at (closings_in deed step.reply) _ (notes_after notes deed step.reply)
     (f.1 step.reply (told_of deed step.deed step.reply a.0 t.0))) t.1
-    (further asked deed step path own all a.0 w v) (λ errno s. v errno (inr s)) a.1
+    (further asked deed step path own all a.0 w v) (rest_within asked step own all v) a.1
 fit_along asked (Opens call scope next) holds marks notes path [] all last f t w v a = absurd a
 fit_along asked (Opens call scope next) holds marks notes path (step ∷ own) all last f t w v a =
     fit_along asked (next step.reply) (opened scope step.reply holds) marks notes
     (made (Calls call) step.reply ∷ path) own all last
     (f.1 step.reply (told_of (Calls call) step.deed step.reply a.0 t.0)) t.1
-    (further asked (Calls call) step path own all a.0 w v) (λ errno s. v errno (inr s)) a.1
+    (further asked (Calls call) step path own all a.0 w v) (rest_within asked step own all v) a.1
 fit_along asked (Bares rest) holds marks notes path own all last f t w v a =
     fit_along asked rest (uncovered holds) marks notes path own all last f t w v a
 fit_along asked (Brackets rest) holds marks notes path own all last f t w v a =
     fit_along asked rest holds (length holds ∷ marks) notes path own all last f t w v a
 fit_along asked (Shuts passes rest) holds marks notes path own all last f t w v a =
     fit_along asked rest (under (front passes holds) (down_to (mark_in marks) (behind passes holds)))
-    (outer marks) notes path own all last (f notes (refl, refl)) t w v a
+    (outer marks) notes path own all last (f notes (refl, refl, refl)) t w v a
 fit_along asked (Allocates rest) holds marks notes path own all last f t w v a =
     fit_along asked rest holds marks notes path own all last f t w v a
 
+causes_among : (what : Request) (own all : List Step) (errno : Errno) → AreOwn own all → SomeCauses what own errno →
+    SomeCauses what all errno
+causes_among what _ _ errno none s = s
+causes_among what _ _ errno (keep o) (inl s) = inl s
+causes_among what _ _ errno (keep {own = own} {all = all} o) (inr s) = inr (causes_among what own all errno o s)
+causes_among what own _ errno (skip {all = all} g o) s = inr (causes_among what own all errno o s)
+
+tells_among : (own all : List Step) (ids : ObjIds) → AreOwn own all → SomeTells own ids → SomeTells all ids
+tells_among _ _ ids none t = t
+tells_among _ _ ids (keep o) (inl t) = inl t
+tells_among _ _ ids (keep {own = own} {all = all} o) (inr t) = inr (tells_among own all ids o t)
+tells_among own _ ids (skip {all = all} g o) t = inr (tells_among own all ids o t)
+
 -- the steps of a branch are among all
-pub own_within : (asked : Request) (own all : List Step) → AreOwn own all → Within asked own all
-own_within asked _ _ none errno s = s
-own_within asked _ _ (keep o) errno (inl s) = inl s
-own_within asked _ _ (keep {own = own} {all = all} o) errno (inr s) = inr (own_within asked own all o errno s)
-own_within asked own _ (skip {all = all} g o) errno s = inr (own_within asked own all o errno s)
+pub own_within : (asked : Asking) (own all : List Step) → AreOwn own all → Within asked own all
+own_within asked own all o = record {
+  causes = λ errno s. causes_among asked.request own all errno o s;
+  tells = λ ids t. tells_among own all ids o t;
+}
 
 pub own_told : (own all : List Step) → AreOwn own all → AllMayBeTold all → AllMayBeTold own
 own_told _ _ none t = tt

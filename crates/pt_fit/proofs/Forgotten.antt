@@ -17,6 +17,7 @@ use Rattle.pt_session.specs.declared.reply.EventRefusal.TheVariants.{NotLive}
 use Rattle.pt_session.proofs.Cases.{Case, cases}
 use Rattle.pt_iface.specs.declared.answer.Answer.TheVariants as answer
 use Rattle.pt_iface.specs.declared.request.Context.{Context}
+use Rattle.pt_iface.specs.declared.request.Extensions.{Extensions}
 use Rattle.pt_iface.specs.declared.request.Request.{Request}
 use Rattle.pt_iface.specs.declared.request.Request.TheVariants as request
 use Rattle.pt_frame.specs.Deed.{Deed, Changes, Step, IsStepOf}
@@ -30,10 +31,11 @@ use Rattle.pt_frame.specs.declared.act.ActReply.TheVariants.{Event, Host, NoCopy
 use Rattle.pt_frame.specs.declared.finish.Finish.{Finish}
 use Rattle.pt_frame.specs.declared.finish.Finish.TheVariants as finish
 use Rattle.pt_req.specs.Entries.{is_bad_name}
-use Rattle.pt_req.specs.Options.{with_bits, cleaned, inode_flags, open_options}
+use Rattle.pt_req.specs.Options.{with_bits, cleaned, inode_flags, open_options, create_options}
 use Rattle.pt_req.specs.Parts.{by_path, file_of, numbered, looked_of, look_up, open_row}
 use Rattle.pt_attr.specs.Pattern.{tree_of}
-use Rattle.pt_req.specs.Requests.{lookup, open_file}
+use Rattle.pt_req.specs.Creating.{make_file}
+use Rattle.pt_req.specs.Requests.{lookup, open_file, file_asked}
 use Rattle.pt_req.specs.Steps.{session_of, begin, on_began, Resolved, resolve, on_resolved, open_at, stat}
 use Rattle.pt_req.specs.Steps.{draw_handle, take_fd, insert_handle}
 use Rattle.pt_req.specs.declared.begun.BegunSession.{BegunSession}
@@ -94,8 +96,8 @@ abbrev Answers : Finish → Type 0
 Answers end = (end ≡ finish.Answer (answer.Refused ebadf)) ⊎ IsGivenUp end
 
 -- the number is resolved where it is not live
-resolved : (seat : HostSeat) (marks : List ℕ) (number : ℕ) (next : ActReply → RequestTree) (t t' : Tables) (step : Step)
-    (steps : List Step) (end : Finish) → NoRow t (HasNumber number) → next gone ≡ Refuses gone →
+resolved : (seat : HostSeat) (marks : List ℕ) (number : ℕ) (next : ActReply → RequestTree) (t t' : Tables)
+    (step : Step) (steps : List Step) (end : Finish) → NoRow t (HasNumber number) → next gone ≡ Refuses gone →
     TablesGo t step.deed step.reply t' →
     Belongs (framed seat (Asks (Changes (change.Resolve number)) next) [] marks) (step ∷ steps) end → Answers end
 resolved seat marks number next t t' step steps end none refuses go b =
@@ -109,11 +111,16 @@ resolved seat marks number next t t' step steps end none refuses go b =
           (subst (λ tree. Belongs (framed seat tree [] marks) steps end) (ap next told ∙ refuses) on))
     ]
 
--- the tree begins and, in a bracket, resolves the number, and passes the refusal on
+-- in a bracket, or in none
+abbrev bracketed : Bool → RequestTree → RequestTree
+bracketed true rest = Brackets rest
+bracketed false rest = rest
+
+-- the tree begins and resolves the number, and passes the refusal on
 abbrev Resolves : ℕ → RequestTree → Type 0
 Resolves number tree =
-    (next : BegunSession → Resolved → RequestTree)
-    × (tree ≡ begin (λ session. Brackets (resolve number (next session))))
+    (wraps : Bool) × (next : BegunSession → Resolved → RequestTree)
+    × (tree ≡ begin (λ session. bracketed wraps (resolve number (next session))))
 
 good_name : (bad : Bool) (next : RequestTree) → bad ≡ false →
     (if bad then Gives (answer.Refused einval) else next) ≡ next
@@ -123,6 +130,7 @@ good_name false next e = refl
 on_lookup : (plan : Plan) (parent : ℕ) (name : List ℕ) → is_bad_name name ≡ false →
     Resolves parent (lookup plan parent name)
 on_lookup plan parent name good = (
+  true,
   (λ session directory. file_of directory.form (λ dir. open_at dir name by_path (λ fd. stat fd (λ told.
       numbered session (File fd) told (λ number.
       Shuts true (Gives (answer.Entry (looked_of plan session directory.ids told (File fd) number).entry))))))),
@@ -132,11 +140,25 @@ on_lookup plan parent name good = (
 
 on_open : (plan : Plan) (inode flags : ℕ) → Resolves inode (open_file plan inode flags)
 on_open plan inode flags = (
+  true,
   (λ session row. open_row row (inode_flags plan.config (cleaned plan.config flags)) (λ fd.
       draw_handle (λ handle. take_fd (insert_handle session handle inode fd (
       Shuts false (Gives (answer.Opened handle (open_options plan.config flags)))))))),
   refl,
 )
+
+on_create : (plan : Plan) (seat : HostSeat) (who : Context) (parent : ℕ) (name : List ℕ) (mode : ℕ) (kill : Bool)
+    (flags umask : ℕ) (ext : Extensions) → is_bad_name name ≡ false →
+    Resolves parent (tree_of plan seat who (request.Create parent name mode kill flags umask ext))
+on_create plan seat who parent name mode kill flags umask ext good =
+    let asked = file_asked who parent name mode flags ext in
+    let next : BegunSession → Resolved → RequestTree = λ session directory. file_of directory.form (λ dir.
+    make_file plan seat session asked dir (λ both.
+    Gives (answer.Created both.entry both.handle (create_options plan.config)))) in (
+      false,
+      next,
+      (λ i. begin (λ session. good_name (is_bad_name name) (resolve parent (next session)) good i)),
+    )
 
 resolves : (plan : Plan) (seat : HostSeat) (who : Context) (what : Request) (number : ℕ) → IsOn number what →
     Resolves number (tree_of plan seat who what)
@@ -147,6 +169,9 @@ resolves plan seat who (request.Open inode kill flags) number on =
 resolves plan seat who (request.OpenDir inode flags) number on =
     subst (λ n. Resolves n (open_file plan inode (with_bits flags o_directory))) on
     (on_open plan inode (with_bits flags o_directory))
+resolves plan seat who (request.Create parent name mode kill flags umask ext) number on =
+    subst (λ n. Resolves n (tree_of plan seat who (request.Create parent name mode kill flags umask ext))) on.0
+    (on_create plan seat who parent name mode kill flags umask ext on.1)
 resolves plan seat who what number on = absurd on
 
 -- each step of a job is made while the number is gone
@@ -172,33 +197,42 @@ pub gone_answered_law : (limit job : ℕ) (plan : Plan) (seat : HostSeat) (who :
     (end ≡ finish.Answer (answer.Refused ebadf)) ⊎ IsGivenUp end
 gone_answered_law limit job plan seat who what turns later was now number end r none k i on b =
     let s = resolves plan seat who what number on in
-    first (steps_of job later) refl s.0
-    (subst (λ tree. Belongs (grammar_of_tree seat tree) (steps_of job later) end) s.1 b)
+    first (steps_of job later) refl s.0 s.1
+    (subst (λ tree. Belongs (grammar_of_tree seat tree) (steps_of job later) end) s.2 b)
   where
     at : (one : List Step) (step : Step) (two : List Step) → steps_of job later ≡ one ++ step ∷ two → Gone number step
     at one step two e =
         gone_at number job later was now one step two (agree_law limit turns was r)
         (none_other number was.rows none) k i e
 
-    second : (one : List Step) (steps : List Step) (next : Resolved → RequestTree) → steps_of job later ≡ one ++ steps →
-        Belongs (framed seat (resolve number next) [] (0 ∷ [])) steps end → Answers end
-    second one [] next e b = absurd b
-    second one (step ∷ steps) next e b = let g = at one step steps e in
-        resolved seat (0 ∷ []) number (on_resolved next) g.t g.t' step steps end g.none refl g.go b
+    second : (one : List Step) (steps : List Step) (marks : List ℕ) (next : Resolved → RequestTree) →
+        steps_of job later ≡ one ++ steps →
+        Belongs (framed seat (resolve number next) [] marks) steps end → Answers end
+    second one [] marks next e b = absurd b
+    second one (step ∷ steps) marks next e b = let g = at one step steps e in
+        resolved seat marks number (on_resolved next) g.t g.t' step steps end g.none refl g.go b
 
-    first : (steps : List Step) → steps_of job later ≡ steps → (next : BegunSession → Resolved → RequestTree) →
-        Belongs (grammar_of_tree seat (begin (λ session. Brackets (resolve number (next session))))) steps end →
+    inside : (wraps : Bool) (one : List Step) (steps : List Step) (next : Resolved → RequestTree) →
+        steps_of job later ≡ one ++ steps →
+        Belongs (framed seat (bracketed wraps (resolve number next)) [] []) steps end → Answers end
+    inside true one steps next e b = second one steps (0 ∷ []) next e b
+    inside false one steps next e b = second one steps [] next e b
+
+    first : (steps : List Step) → steps_of job later ≡ steps → (wraps : Bool)
+        (next : BegunSession → Resolved → RequestTree) →
+        Belongs (grammar_of_tree seat (begin (λ session. bracketed wraps (resolve number (next session))))) steps
+        end →
         Answers end
-    first [] e next b = absurd b
-    first (step ∷ steps) e next b =
+    first [] e wraps next b = absurd b
+    first (step ∷ steps) e wraps next b =
         let g = at [] step steps e in
         let h = happened change.Begin step.deed step.reply g.t g.t' (λ no. no) b.0 g.go in
         let n = began g.t g.t' h.0 h.2 in
         let told : step.reply ≡ Event (event.Began n.0 n.1) = h.1 ∙ ap Event n.2 in
-        let asks : BegunSession → RequestTree = λ session. Brackets (resolve number (next session)) in
+        let asks : BegunSession → RequestTree = λ session. bracketed wraps (resolve number (next session)) in
         elim (follows seat (Changes change.Begin) (on_began asks) [] step steps end
         (ap (closings_in (Changes change.Begin)) told) (ap (λ r. held (Changes change.Begin) r []) told) b) [
           | inl up ↦ inr up
-          | inr on ↦ second (step ∷ []) steps (next (session_of n.0 n.1)) e
+          | inr on ↦ inside wraps (step ∷ []) steps (next (session_of n.0 n.1)) e
               (subst (λ r. Belongs (framed seat (on_began asks r) [] []) steps end) told on)
         ]

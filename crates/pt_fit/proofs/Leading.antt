@@ -1,6 +1,10 @@
 -- A job that is answered with an entry: by which reply it went on, and that its other steps follow.
 use Rattle.std.proofs.Common.{◌≡◌, ◌⊎◌, inl, inr, ℕ, List, [], ◌∷◌, Option, Some, None, Bool, true, false, refl, sym}
 use Rattle.std.proofs.Common.{ap, subst, ◌∙◌, length}
+use Rattle.pt_host.specs.Call.{Call}
+use Rattle.pt_host.specs.Sorts.{Sort, OpensWith, EndsFd, OfSeat, Plain, sort_of}
+use Rattle.pt_host.specs.declared.ids.Errno.{Errno}
+use Rattle.pt_host.specs.declared.op.KeptHostOp.TheVariants as call
 use Rattle.pt_host.specs.declared.seat.HostSeat.{HostSeat}
 use Rattle.pt_session.specs.Change.{Change}
 use Rattle.pt_session.specs.declared.reply.EventReply.{EventReply}
@@ -10,17 +14,20 @@ use Rattle.pt_session.specs.declared.reply.EventRefusal.TheVariants as refused
 use Rattle.pt_host.specs.declared.reply.HostReply.TheVariants as host
 use Rattle.pt_iface.specs.declared.answer.Answer.{Answer}
 use Rattle.pt_iface.specs.declared.answer.Answer.TheVariants as answer
-use Rattle.pt_frame.specs.Deed.{Deed, Changes, Step, IsStepOf}
-use Rattle.pt_frame.specs.Held.{held}
-use Rattle.pt_frame.specs.Replies.{closings_in, put_by, refusal, event_refusal, passes_with}
+use Rattle.pt_frame.specs.Deed.{Deed, Calls, Changes, Step, IsStepOf}
+use Rattle.pt_frame.specs.Frame.{bare, giving, or_lost}
+use Rattle.pt_frame.specs.Held.{held, is_scope, opened}
+use Rattle.pt_frame.specs.Replies.{closings_in, put_by, fault_in, refusal, event_refusal, passes_with}
 use Rattle.pt_frame.specs.Grammar.{Grammar, Belongs}
-use Rattle.pt_frame.specs.Tree.{RequestTree, Gives, Refuses, Asks, Brackets, Shuts, framed, follows, may_give_up}
+use Rattle.pt_frame.specs.Tree.{RequestTree, Gives, Refuses, Asks, Opens, Bares, Brackets, Shuts, framed, follows}
+use Rattle.pt_frame.specs.Tree.{may_give_up}
 use Rattle.pt_frame.specs.declared.act.ActReply.{ActReply}
 use Rattle.pt_frame.specs.declared.act.ActReply.TheVariants.{Event, Host, NoCopy}
 use Rattle.pt_frame.specs.declared.finish.Finish.{Finish}
 use Rattle.pt_frame.specs.declared.finish.Finish.TheVariants as finish
 use Rattle.pt_frame.specs.declared.hold.Hold.{Hold}
-use Rattle.pt_law.specs.Branch.{Along, IsLost, IsGivenUp}
+use Rattle.pt_frame.specs.declared.hold.Hold.TheVariants as hold
+use Rattle.pt_law.specs.Branch.{Along, AreOwn, IsLost, IsGivenUp}
 use Rattle.pt_law.specs.Naming.{made}
 use Rattle.pt_law.proofs.Branches.{branch, end_leave, Ended}
 
@@ -54,7 +61,7 @@ event_no_entry : (why : EventRefusal) → HasEntry (event_refusal why) → ⊥
 event_no_entry refused.Memory e = cc
 event_no_entry why e = cc
 
-no_refusal : (told : ActReply) → HasEntry (refusal told) → ⊥
+pub no_refusal : (told : ActReply) → HasEntry (refusal told) → ⊥
 no_refusal (Event (event.Refused why)) e = event_no_entry why e
 no_refusal (Host host.NoMemory) e = cc
 no_refusal told e = cc
@@ -69,15 +76,19 @@ pub record Leads (seat : HostSeat) (tree : RequestTree) (steps : List Step) (las
   pub marks : List ℕ
   pub belongs : Belongs (framed seat tree holds marks) steps (finish.Answer last)
 
--- an answer with an entry is that of a branch
-pub of_branch : (seat : HostSeat) (tree : RequestTree) (steps : List Step) (last : Answer) → HasEntry last →
-    Leads seat tree steps last → (path : List Step) × Along tree path last
-of_branch seat tree steps last p l =
+-- an answer with an entry is that of a branch, whose steps are these but for some that give back
+pub on_branch : (seat : HostSeat) (tree : RequestTree) (steps : List Step) (last : Answer) → HasEntry last →
+    Leads seat tree steps last → (path : List Step) × AreOwn path steps × Along tree path last
+on_branch seat tree steps last p l =
     elim (branch seat tree l.holds l.marks steps (finish.Answer last) l.belongs) [
       | inl lost ↦ absurd lost
       | inr (inl up) ↦ absurd (not_given_up last p (subst IsGivenUp (sym up.answered) tt))
-      | inr (inr r) ↦ let same : r.1 ≡ last = cc in (r.0, subst (Along tree r.0) same r.4)
+      | inr (inr r) ↦ let same : r.1 ≡ last = cc in (r.0, r.2, subst (Along tree r.0) same r.4)
     ]
+
+pub of_branch : (seat : HostSeat) (tree : RequestTree) (steps : List Step) (last : Answer) → HasEntry last →
+    Leads seat tree steps last → (path : List Step) × Along tree path last
+of_branch seat tree steps last p l = let b = on_branch seat tree steps last p l in (b.0, b.2)
 
 pub refused_none : (seat : HostSeat) (told : ActReply) (steps : List Step) (last : Answer) → HasEntry last →
     Leads seat (Refuses told) steps last → ⊥
@@ -112,8 +123,13 @@ none_told asked f (Host told) = refl
 none_told asked f NoCopy = refl
 
 -- it goes on by this reply to the deed
-pub record GoesOn (seat : HostSeat) (deed : Deed) (next : ActReply → RequestTree) (steps : List Step) (last : Answer) :
-    Type 0 where
+pub record GoesOn
+    (seat : HostSeat)
+    (deed : Deed)
+    (next : ActReply → RequestTree)
+    (steps : List Step)
+    (last : Answer)
+    : Type 0 where
   pub told : ActReply
   pub rest : List Step
   pub are : steps ≡ made deed told ∷ rest
@@ -139,6 +155,133 @@ goes_on seat deed next (step ∷ steps) last n none p l =
     go (Some same) told i on =
         record { told = told; rest = steps; are = ap (λ (d : Deed). made d told ∷ steps) i; on = on }
     go None told i on = absurd i
+
+lost_none : (errno : Errno) (last : Answer) → Ended (finish.Lost errno) (finish.Answer last) → ⊥
+lost_none errno last (inl e) = cc
+lost_none errno last (inr lost) = lost
+
+-- a seat that was not restored is lost, and no answer has an entry then
+not_lost : (seat : HostSeat) (fault : Option Errno) (holds : List Hold) (rest : Grammar) (steps : List Step)
+    (last : Answer) → Belongs (or_lost seat fault holds rest) steps (finish.Answer last) →
+    Belongs rest steps (finish.Answer last)
+not_lost seat None holds rest steps last b = b
+not_lost seat (Some errno) holds rest steps last b =
+    absurd (lost_none errno last (end_leave seat holds (finish.Lost errno) steps (finish.Answer last) b).0)
+
+-- A step that neither opens nor ends a descriptor, and is no event.
+
+abbrev pub StillSort : Sort → Type 0
+StillSort (OpensWith flags) = ⊥
+StillSort (EndsFd fd) = ⊥
+StillSort OfSeat = Unit {0}
+StillSort Plain = Unit {0}
+
+abbrev pub IsStill : Option Deed → Type 0
+IsStill None = Unit {0}
+IsStill (Some (Calls asked)) = StillSort (sort_of asked)
+IsStill (Some (Changes asked)) = ⊥
+
+still_of : (asked : Call) (did : Option Deed) (told : ActReply) → StillSort (sort_of asked) →
+    IsStepOf (Calls asked) did told → IsStill did
+still_of asked None told still i = tt
+still_of asked (Some same) NoCopy still i = subst (λ (d : Deed). IsStill (Some d)) (sym i.0) still
+still_of asked (Some same) told still i = subst (λ (d : Deed). IsStill (Some d)) (sym i) still
+
+-- what ends a scope
+still_given : (seat : HostSeat) (scope : Hold) (did : Option Deed) (told : ActReply) → is_scope scope ≡ true →
+    IsStepOf (giving seat scope) did told → IsStill did
+still_given seat hold.Groups did told e i = still_of (call.SetGroups seat.groups) did told tt i
+still_given seat hold.EffectiveGid did told e i = still_of (call.SetEgid seat.eff_gid) did told tt i
+still_given seat hold.EffectiveUid did told e i = still_of (call.SetEuid seat.eff_uid) did told tt i
+still_given seat (hold.Dropped caps) did told e i = still_of (call.RaiseCap caps) did told tt i
+still_given seat hold.Umask did told e i = still_of (call.SetUmask seat.umask) did told tt i
+still_given seat scope did told e i = absurd (cc)
+
+-- a call's first step, and what follows its reply
+pub record Replied
+    (seat : HostSeat)
+    (asked : Call)
+    (next : ActReply → RequestTree)
+    (steps : List Step)
+    (last : Answer)
+    : Type 0 where
+  pub did : Option Deed
+  pub told : ActReply
+  pub rest : List Step
+  pub are : steps ≡ record { deed = did; reply = told } ∷ rest
+  pub is : IsStepOf (Calls asked) did told
+  pub on : Leads seat (next told) rest last
+
+pub replied : (seat : HostSeat) (asked : Call) (next : ActReply → RequestTree) (steps : List Step) (last : Answer) →
+    HasEntry last → Leads seat (Asks (Calls asked) next) steps last → Replied seat asked next steps last
+replied seat asked next [] last p l = absurd l.belongs
+replied seat asked next (step ∷ steps) last p l =
+    elim (follows_plain seat (may_give_up step.reply (next step.reply)) 0
+    (held (Calls asked) step.reply l.holds)
+    (framed seat (next step.reply) (held (Calls asked) step.reply l.holds) l.marks) steps (finish.Answer last)
+    refl l.belongs.1) [
+      | inl up ↦ absurd (not_given_up last p up)
+      | inr on ↦ record {
+        did = step.deed;
+        told = step.reply;
+        rest = steps;
+        are = refl;
+        is = l.belongs.0;
+        on = record { holds = held (Calls asked) step.reply l.holds; marks = l.marks; belongs = on };
+      }
+    ]
+
+-- What holds of the steps that are left, and of these with a still one more before them: it holds of a call's and
+-- those that follow, where it holds of what follows each reply.
+module _ (seat : HostSeat) (last : Answer) (p : HasEntry last) (Q : List Step → Type 0)
+    (more : (step : Step) (steps : List Step) → IsStill step.deed → Q steps → Q (step ∷ steps)) where
+  pub calls_on : (asked : Call) (next : ActReply → RequestTree) (steps : List Step) → StillSort (sort_of asked) →
+      ((told : ActReply) (rest : List Step) → Leads seat (next told) rest last → Q rest) →
+      Leads seat (Asks (Calls asked) next) steps last → Q steps
+  calls_on asked next steps still f l =
+      let r = replied seat asked next steps last p l in
+      subst Q (sym r.are) (more (record { deed = r.did; reply = r.told }) r.rest
+      (still_of asked r.did r.told still r.is) (f r.told r.rest r.on))
+
+  -- of a call that opens a scope
+  pub opens_on : (asked : Call) (scope : Hold) (next : ActReply → RequestTree) (steps : List Step) →
+      StillSort (sort_of asked) →
+      ((told : ActReply) (rest : List Step) → Leads seat (next told) rest last → Q rest) →
+      Leads seat (Opens asked scope next) steps last → Q steps
+  opens_on asked scope next [] still f l = absurd l.belongs
+  opens_on asked scope next (step ∷ steps) still f l =
+      elim (follows_plain seat (may_give_up step.reply (next step.reply)) 0 (opened scope step.reply l.holds)
+      (framed seat (next step.reply) (opened scope step.reply l.holds) l.marks) steps (finish.Answer last)
+      refl l.belongs.1) [
+        | inl up ↦ absurd (not_given_up last p up)
+        | inr on ↦ more step steps (still_of asked step.deed step.reply still l.belongs.0) (f step.reply steps
+            (record { holds = opened scope step.reply l.holds; marks = l.marks; belongs = on }))
+      ]
+
+  -- and of the ends of scopes
+  bared_on : (rest : RequestTree) (holds : List Hold) (marks : List ℕ) (steps : List Step) →
+      ((later : List Step) → Leads seat rest later last → Q later) →
+      Belongs (bare seat holds (λ left. framed seat rest left marks)) steps (finish.Answer last) → Q steps
+  bared_on rest [] marks steps f b = f steps (record { holds = []; marks = marks; belongs = b })
+  bared_on rest (hold.Pin row fd ∷ holds) marks steps f b =
+      f steps (record { holds = hold.Pin row fd ∷ holds; marks = marks; belongs = b })
+  bared_on rest (hold.HandlePin row fd ∷ holds) marks steps f b =
+      f steps (record { holds = hold.HandlePin row fd ∷ holds; marks = marks; belongs = b })
+  bared_on rest (hold.Fd fd told ∷ holds) marks steps f b =
+      f steps (record { holds = hold.Fd fd told ∷ holds; marks = marks; belongs = b })
+  bared_on rest (hold.Slot ∷ holds) marks steps f b =
+      f steps (record { holds = hold.Slot ∷ holds; marks = marks; belongs = b })
+  bared_on rest (hold.Count era number ∷ holds) marks steps f b =
+      f steps (record { holds = hold.Count era number ∷ holds; marks = marks; belongs = b })
+  bared_on rest (scope ∷ holds) marks [] f b = absurd b
+  bared_on rest (scope ∷ holds) marks (step ∷ steps) f b =
+      more step steps (still_given seat scope step.deed step.reply refl b.0) (bared_on rest holds marks steps f
+      (not_lost seat (fault_in step.reply) holds (bare seat holds (λ left. framed seat rest left marks)) steps last
+      b.1))
+
+  pub bares_on : (rest : RequestTree) (steps : List Step) →
+      ((later : List Step) → Leads seat rest later last → Q later) → Leads seat (Bares rest) steps last → Q steps
+  bares_on rest steps f l = bared_on rest l.holds l.marks steps f l.belongs
 
 -- a bracket asks nothing itself
 pub in_bracket : (seat : HostSeat) (rest : RequestTree) (steps : List Step) (last : Answer) →

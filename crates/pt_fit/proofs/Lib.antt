@@ -1,6 +1,9 @@
 pub mod Holds
 pub mod Refused
 pub mod Parts
+pub mod Joined
+pub mod Labelling
+pub mod Creating
 pub mod Requests
 pub mod Fitting
 pub mod Edits
@@ -9,8 +12,15 @@ pub mod Answered
 pub mod Beginning
 pub mod Leading
 pub mod Looking
+pub mod Flags
+pub mod Handling
+pub mod Making
 pub mod Entered
+pub mod Created
+pub mod Keeping
 pub mod Forgotten
+pub mod Guises
+pub mod Seating
 pub mod ExampleJob
 pub mod ExampleRace
 pub mod ExampleOrigins

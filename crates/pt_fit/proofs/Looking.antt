@@ -41,19 +41,19 @@ use Rattle.pt_fit.proofs.Leading.{HasEntry, Leads, refused_none, given_none, shu
 use Rattle.pt_fit.proofs.Leading.{in_bracket}
 
 -- one step further
-then_step : {deed : Deed} {told one : ActReply} {steps rest more : List Step} → steps ≡ made deed told ∷ rest →
+pub then_step : {deed : Deed} {told one : ActReply} {steps rest more : List Step} → steps ≡ made deed told ∷ rest →
     told ≡ one → rest ≡ more → steps ≡ made deed one ∷ more
 then_step {deed = deed} e t r = e ∙ (λ i. made deed (t i) ∷ r i)
 
-began : (seat : HostSeat) (next : BegunSession → RequestTree) (told : ActReply) (rest : List Step) (last : Answer) →
-    HasEntry last → Leads seat (on_began next told) rest last →
+pub began : (seat : HostSeat) (next : BegunSession → RequestTree) (told : ActReply) (rest : List Step)
+    (last : Answer) → HasEntry last → Leads seat (on_began next told) rest last →
     (era : ℕ) × (agreed : Negotiated) × (told ≡ Event (event.Began era agreed))
     × Leads seat (next (session_of era agreed)) rest last
 began seat next (Event (event.Began era agreed)) rest last p a = (era, agreed, refl, a)
 began seat next told rest last p a = absurd (refused_none seat told rest last p a)
 
-resolved : (seat : HostSeat) (next : Resolved → RequestTree) (told : ActReply) (rest : List Step) (last : Answer) →
-    HasEntry last → Leads seat (on_resolved next told) rest last →
+pub resolved : (seat : HostSeat) (next : Resolved → RequestTree) (told : ActReply) (rest : List Step)
+    (last : Answer) → HasEntry last → Leads seat (on_resolved next told) rest last →
     (row : ℕ) × (form : RowForm) × (ids : ObjIds) × (mode : ℕ) × (told ≡ Event (event.Resolved row form ids mode))
     × Leads seat (next (record { row = row; form = form; ids = ids; mode = mode })) rest last
 resolved seat next (Event (event.Resolved row form ids mode)) rest last p a = (row, form, ids, mode, refl, a)
@@ -65,7 +65,7 @@ opened : (seat : HostSeat) (next : Fd → RequestTree) (told : ActReply) (rest :
 opened seat next (Host (host.Ok (value.Fd fd))) rest last p a = (fd, refl, a)
 opened seat next told rest last p a = absurd (refused_none seat told rest last p a)
 
-stated : (seat : HostSeat) (next : Stat → RequestTree) (told : ActReply) (rest : List Step) (last : Answer) →
+pub stated : (seat : HostSeat) (next : Stat → RequestTree) (told : ActReply) (rest : List Step) (last : Answer) →
     HasEntry last → Leads seat (on_stat next told) rest last →
     (was : Stat) × (told ≡ Host (host.Ok (value.Stat was))) × Leads seat (next was) rest last
 stated seat next (Host (host.Ok (value.Stat was))) rest last p a = (was, refl, a)
@@ -185,6 +185,7 @@ pub record Looks
   pub rest : List Step
   pub are : steps ≡ own ++ rest
   pub by : IsLookedUp plan session.era session.agreed parent name looked.entry own
+  pub same_ids : looked.ids ≡ by.stat.ids
   pub on : Leads seat (Shuts true (next looked)) rest last
 
 pub looks : (seat : HostSeat) (plan : Plan) (session : BegunSession) (parent : ℕ) (name : List ℕ)
@@ -230,6 +231,7 @@ looks seat plan session parent name next steps last p a =
             numbered = given.gives;
             told = refl;
           };
+          same_ids = refl;
           on = given.on;
         }
 
@@ -247,8 +249,9 @@ looks_law plan session parent name next seat holds marks steps last p b =
     (record { holds = holds; marks = marks; belongs = b }) in
     (l.looked, l.own, l.rest, l.are, l.by, (l.on.holds, l.on.marks, l.on.belongs))
 
-good_name : (seat : HostSeat) (bad : Bool) (next : RequestTree) (steps : List Step) (last : Answer) → HasEntry last →
-    Leads seat (if bad then Gives (answer.Refused einval) else next) steps last → Leads seat next steps last
+pub good_name : (seat : HostSeat) (bad : Bool) (next : RequestTree) (steps : List Step) (last : Answer) →
+    HasEntry last → Leads seat (if bad then Gives (answer.Refused einval) else next) steps last →
+    Leads seat next steps last
 good_name seat true next steps last p a =
     let no : passes_with (answer.Refused einval) ≡ true =
     ap passes_with (sym (given_none seat (answer.Refused einval) last steps p a)) ∙ p in absurd (cc)

@@ -1,12 +1,15 @@
 -- Each step of a request: what may follow its awaited reply is fit, and any other reply refuses the request.
-use Rattle.std.proofs.Common.{◌≡◌, inl, ℕ, List, ◌∷◌, ◌++◌, Bool, true, false, Option, Some, None, refl, sym, ap}
-use Rattle.std.proofs.Common.{◌∙◌, subst, if◌then◌else◌, length}
-use Rattle.pt_host.specs.Words.{Takes.{here}}
-use Rattle.pt_host.specs.Errno.{einval}
-use Rattle.pt_host.specs.Flags.{includes, o_creat}
+use Rattle.std.proofs.Common.{◌≡◌, inl, inr, ℕ, List, [], ◌∷◌, ◌++◌, Bool, true, false, Option, Some, None, refl, ap}
+use Rattle.std.proofs.Common.{◌⊎◌, sym}
+use Rattle.std.proofs.Common.{◌∙◌, ◌&&◌, subst, if◌then◌else◌, length}
+use Rattle.pt_host.specs.Words.{Each, Takes.{here, there}}
+use Rattle.pt_host.specs.Errno.{einval, eopnotsupp}
+use Rattle.pt_host.specs.Call.{Call}
 use Rattle.pt_host.specs.declared.ids.Fd.{Fd}
+use Rattle.pt_host.specs.Sorts.{sort_of}
 use Rattle.pt_host.specs.declared.ids.ObjIds.{ObjIds}
 use Rattle.pt_host.specs.declared.stat.Stat.{Stat}
+use Rattle.pt_host.specs.declared.flags.Caps.{Caps}
 use Rattle.pt_host.specs.declared.flags.OpenFlags.{OpenFlags}
 use Rattle.pt_host.specs.declared.op.KeptHostOp.TheVariants as call
 use Rattle.pt_host.specs.declared.reply.HostReply.TheVariants as host
@@ -18,73 +21,140 @@ use Rattle.pt_session.specs.declared.event.KeptEvent.TheVariants as change
 use Rattle.pt_session.specs.declared.reply.EventReply.TheVariants as event
 use Rattle.pt_iface.specs.declared.answer.Answer.TheVariants as answer
 use Rattle.pt_iface.specs.declared.request.Request.{Request}
-use Rattle.pt_frame.specs.Deed.{Calls, Changes, Step}
+use Rattle.pt_frame.specs.Deed.{Deed, Calls, Changes, Step}
 use Rattle.pt_frame.specs.Held.{row_fd, laid}
-use Rattle.pt_frame.specs.Tree.{RequestTree, Gives, Brackets, Shuts}
+use Rattle.pt_frame.specs.Replies.{refusal}
+use Rattle.pt_frame.specs.Tree.{RequestTree, Gives, Refuses, Brackets, Shuts}
+use Rattle.pt_frame.specs.declared.act.ActReply.{ActReply}
 use Rattle.pt_frame.specs.declared.act.ActReply.TheVariants.{Event, Host}
 use Rattle.pt_frame.specs.declared.hold.Hold.{Hold}
 use Rattle.pt_frame.specs.declared.hold.Hold.TheVariants as hold
 use Rattle.pt_req.specs.Steps.{session_of, begin, clear, Resolved, resolve, open_root, open_at, reopen, stat, read_at}
 use Rattle.pt_req.specs.Steps.{claim, take_fd, draw_node, draw_handle, insert, insert_root, insert_handle, pin_handle}
 use Rattle.pt_req.specs.Parts.{file_of}
-use Rattle.pt_req.specs.Steps.{forget_all, release_handle}
+use Rattle.pt_req.specs.Steps.{forget_all, release_handle, open_scope, try_call, is_there, make_at}
 use Rattle.pt_req.specs.declared.begun.BegunSession.{BegunSession}
-use Rattle.pt_law.specs.Discipline.{Notes, with_root, unnoted}
-use Rattle.pt_law.specs.Keeps.{Lasts, LiesOnSlot.{here as lies}, down_to}
+use Rattle.pt_law.specs.Discipline.{Notes, with_root, unnoted, found_by, given_for, with_given, KnowsAll, PinsLatest}
+use Rattle.pt_law.specs.Discipline.{at_job}
+use Rattle.pt_law.specs.Keeps.{Lasts, LiesOnSlot.{here as lies, there as under}, down_to, uncovered, unscoped}
+use Rattle.pt_law.specs.Keeps.{MayOpen}
 use Rattle.pt_law.specs.Naming.{made}
 use Rattle.pt_law.proofs.Sounds.{after_any}
-use Rattle.pt_fit.specs.Cause.{OwnCause}
-use Rattle.pt_fit.specs.Fit.{Fit}
+use Rattle.pt_fit.specs.Cause.{Asking, BlocksLabel, OwnCause, SomeCauses, SomeTells, StepCauses, is_passed_over}
+use Rattle.pt_fit.specs.Fit.{Fit, IsCausedLeaf}
 use Rattle.pt_fit.proofs.Holds.{IsBare, noted_top, handed_top, down_over}
-use Rattle.pt_fit.proofs.Refused.{refused_by}
+use Rattle.pt_fit.proofs.Refused.{IsHeededCall, refused_by}
 
--- fit whatever the path to it was
-pub record Goes (asked : Request) (tree : RequestTree) (holds : List Hold) (marks : List ℕ)
-    (notes : Notes) : Type 0 where
-  pub on : (path : List Step) → Fit asked tree holds marks notes path
+-- what was told: ids of an object, or what was agreed on with the guest
+pub data Seen : Type 0 where
+  Ids : ObjIds → Seen
+  Agreed : Negotiated → Seen
 
--- fit after this step, whatever the path to it was
-pub record GoesAfter
-    (step : Step)
-    (asked : Request)
+-- a step by which a job began told that this was agreed on
+abbrev pub SomeBegins : List Step → Negotiated → Type 0
+SomeBegins [] agreed = ⊥
+SomeBegins (step ∷ path) agreed =
+    ((step.deed ≡ Some (Changes change.Begin)) × ((era : ℕ) × (step.reply ≡ Event (event.Began era agreed))))
+    ⊎ SomeBegins path agreed
+
+abbrev pub WasTold : List Step → Seen → Type 0
+WasTold path (Ids ids) = SomeTells path ids
+WasTold path (Agreed agreed) = SomeBegins path agreed
+
+-- on this path that was told
+pub record Told (seen : List Seen) (path : List Step) : Type 0 where
+  pub each : Each (WasTold path) seen
+
+told_still : (step : Step) (path : List Step) (seen : List Seen) → Each (WasTold path) seen →
+    Each (WasTold (step ∷ path)) seen
+told_still step path [] t = tt
+told_still step path (Ids ids ∷ seen) t = (inr t.0, told_still step path seen t.1)
+told_still step path (Agreed agreed ∷ seen) t = (inr t.0, told_still step path seen t.1)
+
+pub still : {step : Step} {seen : List Seen} {path : List Step} → Told seen path → Told seen (step ∷ path)
+still {step = step} {seen = seen} {path = path} t = record { each = told_still step path seen t.each }
+
+-- a descriptor was looked at
+looked_at : {seen : List Seen} {path : List Step} (fd : Fd) (told : Stat) → Told seen path →
+    Told (Ids told.ids ∷ seen) (made (Calls (call.Stat fd)) (Host (host.Ok (value.Stat told))) ∷ path)
+looked_at {seen = seen} {path = path} fd told t =
+    let step = made (Calls (call.Stat fd)) (Host (host.Ok (value.Stat told))) in
+    record { each = (inl refl, told_still step path seen t.each) }
+
+-- it began
+began_with : {seen : List Seen} {path : List Step} (era : ℕ) (agreed : Negotiated) → Told seen path →
+    Told (Agreed agreed ∷ seen) (made (Changes change.Begin) (Event (event.Began era agreed)) ∷ path)
+began_with {seen = seen} {path = path} era agreed t =
+    let step = made (Changes change.Begin) (Event (event.Began era agreed)) in
+    record { each = (inl (refl, (era, refl)), told_still step path seen t.each) }
+
+-- what was agreed on so is the cause that a context is refused
+pub blocked_by : (what : Request) (path : List Step) (agreed : Negotiated) → BlocksLabel agreed what →
+    SomeBegins path agreed → SomeCauses what path eopnotsupp
+blocked_by what [] agreed blocks s = absurd s
+blocked_by what (step ∷ path) agreed blocks (inl begun) =
+    inl (subst (λ (deed : Option Deed). StepCauses what deed step.reply eopnotsupp) (sym begun.0)
+    (subst (λ (told : ActReply). StepCauses what (Some (Changes change.Begin)) told eopnotsupp) (sym begun.1.1)
+    (blocks, refl)))
+blocked_by what (step ∷ path) agreed blocks (inr later) = inr (blocked_by what path agreed blocks later)
+
+-- fit whatever the path to it was, if this was told on it
+pub record Goes
+    (asked : Asking)
+    (seen : List Seen)
     (tree : RequestTree)
     (holds : List Hold)
     (marks : List ℕ)
     (notes : Notes)
     : Type 0 where
-  pub on : (path : List Step) → Fit asked tree holds marks notes (step ∷ path)
+  pub on : (path : List Step) → Told seen path → Fit asked tree holds marks notes path
+
+-- fit after this step, whatever the path to it was
+pub record GoesAfter
+    (step : Step)
+    (asked : Asking)
+    (seen : List Seen)
+    (tree : RequestTree)
+    (holds : List Hold)
+    (marks : List ℕ)
+    (notes : Notes)
+    : Type 0 where
+  pub on : (path : List Step) → Told seen path → Fit asked tree holds marks notes (step ∷ path)
 
 -- with what is held written in another way
-held_as : (asked : Request) (tree : RequestTree) (these those : List Hold) (marks : List ℕ) (notes : Notes)
+held_as : (asked : Asking) (tree : RequestTree) (these those : List Hold) (marks : List ℕ) (notes : Notes)
     (path : List Step) → these ≡ those → Fit asked tree those marks notes path → Fit asked tree these marks notes path
 held_as asked tree these those marks notes path e f =
     subst (λ (z : List Hold). Fit asked tree z marks notes path) (sym e) f
 
-pub fit_begin : {asked : Request} {holds : List Hold} {marks : List ℕ} {notes : Notes}
+pub fit_begin : {asked : Asking} {seen : List Seen} {holds : List Hold} {marks : List ℕ}
+    {notes : Notes}
     (next : BegunSession → RequestTree) → notes.era ≡ None →
-    ((session : BegunSession) → Goes asked (next session) holds marks (record notes { era = Some session.era })) →
-    Goes asked (begin next) holds marks notes
+    ((session : BegunSession) → Goes asked (Agreed session.agreed ∷ seen) (next session) holds marks
+    (record notes { era = Some session.era })) →
+    Goes asked seen (begin next) holds marks notes
 fit_begin {asked = asked} {holds = holds} next none f = record {
-  on = λ path. (
+  on = λ path s. (
     (tt, none),
     elim [
-      | Event (event.Began era agreed) ↦ λ m. (f (session_of era agreed)).on _
+      | Event (event.Began era agreed) ↦ λ m. (f (session_of era agreed)).on _ (began_with era agreed s)
       | told ↦ λ m. refused_by asked (Changes change.Begin) told holds path tt m (λ no. no)
     ],
   );
 }
 
-pub fit_clear : {asked : Request} {holds : List Hold} {marks : List ℕ} {notes : Notes} (next : ℕ → RequestTree) →
+pub fit_clear : {asked : Asking} {seen : List Seen} {holds : List Hold} {marks : List ℕ}
+    {notes : Notes} (next : ℕ → RequestTree) →
     notes.era ≡ None →
     ((era : ℕ) (later : Notes) → Lasts (record notes { era = Some era }) later →
-    Goes asked (next era) holds marks later) →
-    Goes asked (clear next) holds marks notes
+    Goes asked seen (next era) holds marks later) →
+    Goes asked seen (clear next) holds marks notes
 fit_clear {asked = asked} {holds = holds} {notes = notes} next none f = record {
-  on = λ path. (
+  on = λ path s. (
     (tt, none),
     elim [
       | Event (event.Cleared era closings) ↦
-          λ m. after_any closings _ (record notes { era = Some era }) (λ later l. (f era later l).on _)
+          λ m. after_any closings _ (record notes { era = Some era }) (λ later l. (f era later l).on _ (still s))
       | told ↦ λ m. refused_by asked (Changes change.Clear) told holds path tt m (λ no. no)
     ],
   );
@@ -97,182 +167,204 @@ resolution number row =
 
 -- what is noted where a number was resolved
 abbrev pub noting : ℕ → ℕ → Notes → Notes
-noting number row notes = record notes { resolved = Some (record { number = number; row = row }); reopened = None }
+noting number row notes = record notes {
+  resolved = Some (record { number = number; row = row });
+  reopened = None;
+  given = None;
+}
 
-pub fit_resolve : {asked : Request} {holds : List Hold} {marks : List ℕ} {notes : Notes} (number : ℕ)
+pub fit_resolve : {asked : Asking} {seen : List Seen} {holds : List Hold} {marks : List ℕ}
+    {notes : Notes} (number : ℕ)
     (next : Resolved → RequestTree) → IsBare holds →
-    ((row : Resolved) → GoesAfter (resolution number row) asked (next row)
+    ((row : Resolved) → GoesAfter (resolution number row) asked seen (next row)
     (hold.Pin row.row (row_fd row.form) ∷ holds) marks (noting number row.row notes)) →
-    Goes asked (resolve number next) holds marks notes
+    Goes asked seen (resolve number next) holds marks notes
 fit_resolve {asked = asked} {holds = holds} number next b f = record {
-  on = λ path. (
+  on = λ path s. (
     (tt, tt),
     elim [
       | Event (event.Resolved row form ids mode) ↦
           λ m. held_as asked (next (record { row = row; form = form; ids = ids; mode = mode })) _ _ _ _ _
           (b (hold.Pin row (row_fd form)))
-          ((f (record { row = row; form = form; ids = ids; mode = mode })).on path)
+          ((f (record { row = row; form = form; ids = ids; mode = mode })).on path s)
       | told ↦ λ m. refused_by asked (Changes (change.Resolve number)) told holds path tt m (λ no. no)
     ],
   );
 }
 
-pub fit_open_root : {asked : Request} {holds : List Hold} {marks : List ℕ} {notes : Notes} (dir : List ℕ)
+pub fit_open_root : {asked : Asking} {seen : List Seen} {holds : List Hold} {marks : List ℕ}
+    {notes : Notes} (dir : List ℕ)
     (flags : OpenFlags) (next : Fd → RequestTree) → IsBare holds →
-    ((fd : Fd) → Goes asked (next fd) (hold.Fd fd None ∷ holds) marks (with_root fd notes)) →
-    Goes asked (open_root dir flags next) holds marks notes
+    ((fd : Fd) → Goes asked seen (next fd) (hold.Fd fd None ∷ holds) marks (with_root fd notes)) →
+    Goes asked seen (open_root dir flags next) holds marks notes
 fit_open_root {asked = asked} {holds = holds} dir flags next b f = record {
-  on = λ path. (
+  on = λ path s. (
     (tt, tt),
     elim [
-      | Host (host.Ok (value.Fd fd)) ↦ λ m. held_as asked (next fd) _ _ _ _ _ (b (hold.Fd fd None)) ((f fd).on _)
-      | told ↦ λ m. refused_by asked (Calls (call.OpenRoot dir flags)) told holds path tt m (λ no. no)
+      | Host (host.Ok (value.Fd fd)) ↦
+          λ m. held_as asked (next fd) _ _ _ _ _ (b (hold.Fd fd None)) ((f fd).on _ (still s))
+      | told ↦ λ m. refused_by asked (Calls (call.OpenRoot dir flags)) told holds path (refl, tt) m (λ no. no)
     ],
   );
 }
 
 -- the file of a row that was resolved
-pub fit_file_of : {asked : Request} {holds : List Hold} {marks : List ℕ} {notes : Notes} (row : ℕ) (form : RowForm)
+pub fit_file_of : {asked : Asking} {seen : List Seen} {holds : List Hold} {marks : List ℕ}
+    {notes : Notes} (row : ℕ) (form : RowForm)
     (next : Fd → RequestTree) →
-    ((dir : Fd) → Goes asked (next dir) (hold.Pin row (Some dir) ∷ holds) marks notes) →
-    Goes asked (file_of form next) (hold.Pin row (row_fd form) ∷ holds) marks notes
+    ((dir : Fd) → Goes asked seen (next dir) (hold.Pin row (Some dir) ∷ holds) marks notes) →
+    Goes asked seen (file_of form next) (hold.Pin row (row_fd form) ∷ holds) marks notes
 fit_file_of row (File dir) next f = f dir
 
-pub fit_open_at : {asked : Request} {holds : List Hold} {marks : List ℕ} {notes : Notes} (dir : Fd) (name : List ℕ)
-    (flags : OpenFlags) (row number : ℕ) (next : Fd → RequestTree) → includes flags.0 o_creat ≡ false →
+pub fit_open_at : {asked : Asking} {seen : List Seen} {holds : List Hold} {marks : List ℕ}
+    {notes : Notes} (dir : Fd) (name : List ℕ)
+    (flags : OpenFlags) (row number : ℕ) (next : Fd → RequestTree) →
     notes.resolved ≡ Some (record { number = number; row = row }) →
-    ((fd : Fd) → Goes asked (next fd) (hold.Fd fd None ∷ hold.Pin row (Some dir) ∷ holds) marks
-    (record notes { latest = Some fd })) →
-    Goes asked (open_at dir name flags next) (hold.Pin row (Some dir) ∷ holds) marks notes
-fit_open_at {asked = asked} {holds = holds} dir name flags row number next free r f = record {
-  on = λ path. (
-    (((hold.Pin row (Some dir), _, here, refl), tt), ((record { number = number; row = row }, _, r, here), free)),
+    ((fd : Fd) → Goes asked seen (next fd) (hold.Fd fd None ∷ hold.Pin row (Some dir) ∷ holds) marks
+    (record notes { latest = found_by flags fd })) →
+    Goes asked seen (open_at dir name flags next) (hold.Pin row (Some dir) ∷ holds) marks notes
+fit_open_at {asked = asked} {holds = holds} dir name flags row number next r f = record {
+  on = λ path s. (
+    (((hold.Pin row (Some dir), _, here, refl), tt), (record { number = number; row = row }, _, r, here)),
     elim [
-      | Host (host.Ok (value.Fd fd)) ↦ λ m. (f fd).on _
-      | told ↦ λ m. refused_by asked (Calls (call.OpenAt dir name flags 0)) told holds path tt m (λ no. no)
+      | Host (host.Ok (value.Fd fd)) ↦ λ m. (f fd).on _ (still s)
+      | told ↦ λ m. refused_by asked (Calls (call.OpenAt dir name flags 0)) told holds path (refl, tt) m (λ no. no)
     ],
   );
 }
 
-pub fit_reopen : {asked : Request} {holds : List Hold} {marks : List ℕ} {notes : Notes} (fd : Fd) (flags : OpenFlags)
+pub fit_reopen : {asked : Asking} {seen : List Seen} {holds : List Hold} {marks : List ℕ}
+    {notes : Notes} (fd : Fd) (flags : OpenFlags)
     (row number : ℕ) (next : Fd → RequestTree) → notes.resolved ≡ Some (record { number = number; row = row }) →
-    ((new : Fd) → Goes asked (next new) (hold.Fd new None ∷ hold.Pin row (Some fd) ∷ holds) marks
+    ((new : Fd) → Goes asked seen (next new) (hold.Fd new None ∷ hold.Pin row (Some fd) ∷ holds) marks
     (record notes { reopened = Some new })) →
-    Goes asked (reopen fd flags next) (hold.Pin row (Some fd) ∷ holds) marks notes
+    Goes asked seen (reopen fd flags next) (hold.Pin row (Some fd) ∷ holds) marks notes
 fit_reopen {asked = asked} {holds = holds} fd flags row number next r f = record {
-  on = λ path. (
+  on = λ path s. (
     (((hold.Pin row (Some fd), _, here, refl), tt), (record { number = number; row = row }, _, r, here)),
     elim [
-      | Host (host.Ok (value.Fd new)) ↦ λ m. (f new).on _
-      | told ↦ λ m. refused_by asked (Calls (call.Reopen fd flags)) told holds path tt m (λ no. no)
+      | Host (host.Ok (value.Fd new)) ↦ λ m. (f new).on _ (still s)
+      | told ↦ λ m. refused_by asked (Calls (call.Reopen fd flags)) told holds path (refl, tt) m (λ no. no)
     ],
   );
 }
 
-pub fit_stat : {asked : Request} {holds : List Hold} {marks : List ℕ} {notes : Notes} (fd : Fd) (was : Option ObjIds)
+pub fit_stat : {asked : Asking} {seen : List Seen} {holds : List Hold} {marks : List ℕ}
+    {notes : Notes} (fd : Fd) (was : Option ObjIds)
     (next : Stat → RequestTree) →
-    ((told : Stat) → Goes asked (next told) (hold.Fd fd (Some told.ids) ∷ holds) marks notes) →
-    Goes asked (stat fd next) (hold.Fd fd was ∷ holds) marks notes
+    ((told : Stat) → Goes asked (Ids told.ids ∷ seen) (next told) (hold.Fd fd (Some told.ids) ∷ holds) marks
+    (record notes { given = None })) →
+    Goes asked seen (stat fd next) (hold.Fd fd was ∷ holds) marks notes
 fit_stat {asked = asked} {holds = holds} fd was next f = record {
-  on = λ path. (
+  on = λ path s. (
     (((hold.Fd fd was, _, here, refl), tt), tt),
     elim [
       | Host (host.Ok (value.Stat told)) ↦
-          λ m. held_as asked (next told) _ _ _ _ _ (noted_top fd told.ids was holds) ((f told).on _)
-      | told ↦ λ m. refused_by asked (Calls (call.Stat fd)) told holds path tt m (λ no. no)
+          λ m. held_as asked (next told) _ _ _ _ _ (noted_top fd told.ids was holds)
+          ((f told).on _ (looked_at fd told s))
+      | told ↦ λ m. refused_by asked (Calls (call.Stat fd)) told holds path (refl, tt) m (λ no. no)
     ],
   );
 }
 
-pub fit_read_at : {asked : Request} {holds : List Hold} {marks : List ℕ} {notes : Notes} (fd : Fd)
+pub fit_read_at : {asked : Asking} {seen : List Seen} {holds : List Hold} {marks : List ℕ}
+    {notes : Notes} (fd : Fd)
     (offset size row : ℕ) (next : List ℕ → RequestTree) →
-    ((bytes : List ℕ) → Goes asked (next bytes) (hold.HandlePin row fd ∷ holds) marks notes) →
-    Goes asked (read_at fd offset size next) (hold.HandlePin row fd ∷ holds) marks notes
+    ((bytes : List ℕ) → Goes asked seen (next bytes) (hold.HandlePin row fd ∷ holds) marks notes) →
+    Goes asked seen (read_at fd offset size next) (hold.HandlePin row fd ∷ holds) marks notes
 fit_read_at {asked = asked} {holds = holds} fd offset size row next f = record {
-  on = λ path. (
+  on = λ path s. (
     (((hold.HandlePin row fd, _, here, refl), tt), tt),
     elim [
-      | Host (host.Ok (value.Bytes bytes)) ↦ λ m. (f bytes).on _
-      | told ↦ λ m. refused_by asked (Calls (call.ReadAt fd offset size)) told holds path tt m (λ no. no)
+      | Host (host.Ok (value.Bytes bytes)) ↦ λ m. (f bytes).on _ (still s)
+      | told ↦ λ m. refused_by asked (Calls (call.ReadAt fd offset size)) told holds path (refl, tt) m (λ no. no)
     ],
   );
 }
 
-pub fit_claim : {asked : Request} {holds : List Hold} {marks : List ℕ} {notes : Notes} (session : BegunSession)
+pub fit_claim : {asked : Asking} {seen : List Seen} {holds : List Hold} {marks : List ℕ}
+    {notes : Notes} (session : BegunSession)
     (fd : Fd) (ids : ObjIds) (next : ℕ → RequestTree) (absent : RequestTree) →
     notes.era ≡ Some session.era → notes.latest ≡ Some fd →
-    ((number : ℕ) → Goes asked (next number) (hold.Count session.era number ∷ hold.Fd fd (Some ids) ∷ holds) marks
-    notes) →
-    Goes asked absent (hold.Fd fd (Some ids) ∷ holds) marks notes →
-    Goes asked (claim session None ids next absent) (hold.Fd fd (Some ids) ∷ holds) marks notes
+    ((number : ℕ) → Goes asked seen (next number) (hold.Count session.era number ∷ hold.Fd fd (Some ids) ∷ holds)
+    marks (with_given number ids notes)) →
+    Goes asked seen absent (hold.Fd fd (Some ids) ∷ holds) marks notes →
+    Goes asked seen (claim session None ids next absent) (hold.Fd fd (Some ids) ∷ holds) marks notes
 fit_claim {asked = asked} {holds = holds} session fd ids next absent e l f g = record {
-  on = λ path. (
+  on = λ path s. (
     (tt, (fd, e, l, (_, here))),
     elim [
-      | Event (event.Claimed number) ↦ λ m. (f number).on _
-      | Event event.Absent ↦ λ m. g.on _
+      | Event (event.Claimed number) ↦ λ m. (f number).on _ (still s)
+      | Event event.Absent ↦ λ m. g.on _ (still s)
       | told ↦ λ m. refused_by asked (Changes (change.Claim session.era None ids)) told holds path tt m (λ no. no)
     ],
   );
 }
 
-pub fit_take_fd : {asked : Request} {holds : List Hold} {marks : List ℕ} {notes : Notes} (fd : Fd)
-    (was : Option ObjIds) (next : RequestTree) → Goes asked next (hold.Fd fd was ∷ hold.Slot ∷ holds) marks notes →
-    Goes asked (take_fd next) (hold.Fd fd was ∷ holds) marks notes
+pub fit_take_fd : {asked : Asking} {seen : List Seen} {holds : List Hold} {marks : List ℕ}
+    {notes : Notes} (fd : Fd)
+    (was : Option ObjIds) (next : RequestTree) →
+    Goes asked seen next (hold.Fd fd was ∷ hold.Slot ∷ holds) marks notes →
+    Goes asked seen (take_fd next) (hold.Fd fd was ∷ holds) marks notes
 fit_take_fd {asked = asked} {holds = holds} fd was next f = record {
-  on = λ path. (
+  on = λ path s. (
     (tt, tt),
     elim [
-      | Event event.Taken ↦ λ m. f.on _
+      | Event event.Taken ↦ λ m. f.on _ (still s)
       | told ↦ λ m. refused_by asked (Changes change.TakeFd) told holds path tt m (λ no. no)
     ],
   );
 }
 
-pub fit_draw_node : {asked : Request} {holds : List Hold} {marks : List ℕ} {notes : Notes} (next : ℕ → RequestTree) →
-    ((number : ℕ) → Goes asked (next number) holds marks (record notes { drawn = Some number })) →
-    Goes asked (draw_node next) holds marks notes
+pub fit_draw_node : {asked : Asking} {seen : List Seen} {holds : List Hold} {marks : List ℕ}
+    {notes : Notes} (next : ℕ → RequestTree) →
+    ((number : ℕ) → Goes asked seen (next number) holds marks (record notes { drawn = Some number })) →
+    Goes asked seen (draw_node next) holds marks notes
 fit_draw_node {asked = asked} {holds = holds} next f = record {
-  on = λ path. (
+  on = λ path s. (
     (tt, tt),
     elim [
-      | Event (event.Drawn number) ↦ λ m. (f number).on _
+      | Event (event.Drawn number) ↦ λ m. (f number).on _ (still s)
       | told ↦ λ m. refused_by asked (Changes change.DrawNode) told holds path tt m (λ no. no)
     ],
   );
 }
 
-pub fit_draw_handle : {asked : Request} {holds : List Hold} {marks : List ℕ} {notes : Notes} (next : ℕ → RequestTree) →
-    ((handle : ℕ) → Goes asked (next handle) holds marks (record notes { handle = Some handle })) →
-    Goes asked (draw_handle next) holds marks notes
+pub fit_draw_handle : {asked : Asking} {seen : List Seen} {holds : List Hold} {marks : List ℕ}
+    {notes : Notes} (next : ℕ → RequestTree) →
+    ((handle : ℕ) → Goes asked seen (next handle) holds marks (record notes { handle = Some handle })) →
+    Goes asked seen (draw_handle next) holds marks notes
 fit_draw_handle {asked = asked} {holds = holds} next f = record {
-  on = λ path. (
+  on = λ path s. (
     (tt, tt),
     elim [
-      | Event (event.Drawn handle) ↦ λ m. (f handle).on _
+      | Event (event.Drawn handle) ↦ λ m. (f handle).on _ (still s)
       | told ↦ λ m. refused_by asked (Changes change.DrawHandle) told holds path tt m (λ no. no)
     ],
   );
 }
 
 -- a new row takes the descriptor on top and its slot; or the object has a number
-pub fit_insert : {asked : Request} {holds : List Hold} {marks : List ℕ} {notes : Notes} (session : BegunSession)
+pub fit_insert : {asked : Asking} {seen : List Seen} {holds : List Hold} {marks : List ℕ}
+    {notes : Notes} (session : BegunSession)
     (fresh : ℕ) (fd : Fd) (told : Stat) (next : ℕ → RequestTree) → IsBare holds → notes.era ≡ Some session.era →
     notes.latest ≡ Some fd → notes.drawn ≡ Some fresh →
-    ((number : ℕ) → Goes asked (next number) (hold.Count session.era number ∷ holds) marks
-    (record (unnoted fd notes) { drawn = None })) →
-    ((number : ℕ) → Goes asked (next number) (hold.Count session.era number ∷ hold.Fd fd (Some told.ids) ∷ hold.Slot
-    ∷ holds) marks notes) →
-    Goes asked (insert session fresh (File fd) told next) (hold.Fd fd (Some told.ids) ∷ hold.Slot ∷ holds) marks notes
+    ((number : ℕ) → Goes asked seen (next number) (hold.Count session.era number ∷ holds) marks
+    (record (with_given number told.ids (unnoted fd notes)) { drawn = None })) →
+    ((number : ℕ) → Goes asked seen (next number)
+    (hold.Count session.era number ∷ hold.Fd fd (Some told.ids) ∷ hold.Slot ∷ holds) marks
+    (with_given number told.ids notes)) →
+    Goes asked seen (insert session fresh (File fd) told next)
+    (hold.Fd fd (Some told.ids) ∷ hold.Slot ∷ holds) marks notes
 fit_insert {asked = asked} {holds = holds} session fresh fd told next b e l d f g = record {
-  on = λ path. (
+  on = λ path s. (
     (lies, (e, l, d, (_, here))),
     elim [
       | Event (event.Inserted number) ↦
           λ m. held_as asked (next number) _ _ _ _ _
           (ap (laid (hold.Count session.era number)) (handed_top fd (Some told.ids) holds)
-          ∙ b (hold.Count session.era number)) ((f number).on _)
-      | Event (event.Found number) ↦ λ m. (g number).on _
+          ∙ b (hold.Count session.era number)) ((f number).on _ (still s))
+      | Event (event.Found number) ↦ λ m. (g number).on _ (still s)
       | reply ↦ λ m. refused_by asked
           (Changes (change.Insert session.era fresh (File fd) told.ids told.mode)) reply
           (hold.Fd fd (Some told.ids) ∷ hold.Slot ∷ holds) path lies m (λ no. no)
@@ -280,17 +372,18 @@ fit_insert {asked = asked} {holds = holds} session fresh fd told next b e l d f 
   );
 }
 
-pub fit_insert_root : {asked : Request} {holds : List Hold} {marks : List ℕ} {notes : Notes} (session : BegunSession)
+pub fit_insert_root : {asked : Asking} {seen : List Seen} {holds : List Hold} {marks : List ℕ}
+    {notes : Notes} (session : BegunSession)
     (fd : Fd) (told : Stat) (agreed : Option Negotiated) (next : RequestTree) → notes.era ≡ Some session.era →
-    notes.root ≡ Some fd → Goes asked next holds marks (unnoted fd notes) →
-    Goes asked (insert_root session (File fd) told agreed next) (hold.Fd fd (Some told.ids) ∷ hold.Slot ∷ holds) marks
-    notes
+    notes.root ≡ Some fd → Goes asked seen next holds marks (unnoted fd notes) →
+    Goes asked seen (insert_root session (File fd) told agreed next)
+    (hold.Fd fd (Some told.ids) ∷ hold.Slot ∷ holds) marks notes
 fit_insert_root {asked = asked} {holds = holds} session fd told agreed next e r f = record {
-  on = λ path. (
+  on = λ path s. (
     (lies, (e, r, (_, here))),
     elim [
       | Event (event.Inserted number) ↦
-          λ m. held_as asked next _ _ _ _ _ (handed_top fd (Some told.ids) holds) (f.on _)
+          λ m. held_as asked next _ _ _ _ _ (handed_top fd (Some told.ids) holds) (f.on _ (still s))
       | reply ↦ λ m. refused_by asked
           (Changes (change.InsertRoot session.era (File fd) told.ids told.mode agreed)) reply
           (hold.Fd fd (Some told.ids) ∷ hold.Slot ∷ holds) path lies m (λ no. no)
@@ -298,88 +391,198 @@ fit_insert_root {asked = asked} {holds = holds} session fd told agreed next e r 
   );
 }
 
-pub fit_insert_handle : {asked : Request} {holds : List Hold} {marks : List ℕ} {notes : Notes}
+pub fit_insert_handle : {asked : Asking} {seen : List Seen} {holds : List Hold} {marks : List ℕ}
+    {notes : Notes}
     (session : BegunSession) (handle number row : ℕ) (fd : Fd) (was : Option ObjIds) (next : RequestTree) →
     notes.era ≡ Some session.era → notes.handle ≡ Some handle →
     notes.resolved ≡ Some (record { number = number; row = row }) →
-    notes.reopened ≡ Some fd → Goes asked next holds marks (record (unnoted fd notes) { handle = None }) →
-    Goes asked (insert_handle session handle number fd next) (hold.Fd fd was ∷ hold.Slot ∷ holds) marks notes
+    notes.reopened ≡ Some fd → Goes asked seen next holds marks (record (unnoted fd notes) { handle = None }) →
+    Goes asked seen (insert_handle session handle number fd next) (hold.Fd fd was ∷ hold.Slot ∷ holds) marks notes
 fit_insert_handle {asked = asked} {holds = holds} session handle number row fd was next e h r o f = record {
-  on = λ path. (
-    ((was, lies), (row, e, h, r, o)),
+  on = λ path s. (
+    ((was, lies), (e, h, inl (row, r, o))),
     elim [
-      | Event (event.Inserted given) ↦ λ m. held_as asked next _ _ _ _ _ (handed_top fd was holds) (f.on _)
+      | Event (event.Inserted given) ↦ λ m. held_as asked next _ _ _ _ _ (handed_top fd was holds) (f.on _ (still s))
       | reply ↦ λ m. refused_by asked (Changes (change.InsertHandle session.era handle number fd)) reply
           (hold.Fd fd was ∷ hold.Slot ∷ holds) path (was, lies) m (λ no. no)
     ],
   );
 }
 
-pub fit_pin_handle : {asked : Request} {holds : List Hold} {marks : List ℕ} {notes : Notes} (handle number : ℕ)
+pub fit_pin_handle : {asked : Asking} {seen : List Seen} {holds : List Hold} {marks : List ℕ}
+    {notes : Notes} (handle number : ℕ)
     (next : Fd → RequestTree) → IsBare holds →
-    ((row : ℕ) (fd : Fd) → Goes asked (next fd) (hold.HandlePin row fd ∷ holds) marks notes) →
-    Goes asked (pin_handle handle number next) holds marks notes
+    ((row : ℕ) (fd : Fd) → Goes asked seen (next fd) (hold.HandlePin row fd ∷ holds) marks notes) →
+    Goes asked seen (pin_handle handle number next) holds marks notes
 fit_pin_handle {asked = asked} {holds = holds} handle number next b f = record {
-  on = λ path. (
+  on = λ path s. (
     (tt, tt),
     elim [
       | Event (event.Pinned row fd) ↦
-          λ m. held_as asked (next fd) _ _ _ _ _ (b (hold.HandlePin row fd)) ((f row fd).on _)
+          λ m. held_as asked (next fd) _ _ _ _ _ (b (hold.HandlePin row fd)) ((f row fd).on _ (still s))
       | told ↦ λ m. refused_by asked (Changes (change.PinHandle handle number)) told holds path tt m (λ no. no)
     ],
   );
 }
 
-pub fit_forget_all : {asked : Request} {holds : List Hold} {marks : List ℕ} {notes : Notes} (list : List (ℕ × ℕ))
-    (next : RequestTree) → ((later : Notes) → Lasts notes later → Goes asked next holds marks later) →
-    Goes asked (forget_all list next) holds marks notes
+pub fit_forget_all : {asked : Asking} {seen : List Seen} {holds : List Hold} {marks : List ℕ}
+    {notes : Notes} (list : List (ℕ × ℕ))
+    (next : RequestTree) → ((later : Notes) → Lasts notes later → Goes asked seen next holds marks later) →
+    Goes asked seen (forget_all list next) holds marks notes
 fit_forget_all {asked = asked} {holds = holds} {notes = notes} list next f = record {
-  on = λ path. (
+  on = λ path s. (
     (tt, tt),
     elim [
-      | Event (event.Done closings) ↦ λ m. after_any closings _ notes (λ later l. (f later l).on _)
+      | Event (event.Done closings) ↦ λ m. after_any closings _ notes (λ later l. (f later l).on _ (still s))
       | told ↦ λ m. refused_by asked (Changes (change.Forget list)) told holds path tt m (λ no. no)
     ],
   );
 }
 
-pub fit_release_handle : {asked : Request} {holds : List Hold} {marks : List ℕ} {notes : Notes} (handle number : ℕ)
-    (next : RequestTree) → ((later : Notes) → Lasts notes later → Goes asked next holds marks later) →
-    Goes asked (release_handle handle number next) holds marks notes
+pub fit_release_handle : {asked : Asking} {seen : List Seen} {holds : List Hold} {marks : List ℕ}
+    {notes : Notes} (handle number : ℕ)
+    (next : RequestTree) → ((later : Notes) → Lasts notes later → Goes asked seen next holds marks later) →
+    Goes asked seen (release_handle handle number next) holds marks notes
 fit_release_handle {asked = asked} {holds = holds} {notes = notes} handle number next f = record {
-  on = λ path. (
+  on = λ path s. (
     (tt, tt),
     elim [
-      | Event (event.Done closings) ↦ λ m. after_any closings _ notes (λ later l. (f later l).on _)
+      | Event (event.Done closings) ↦ λ m. after_any closings _ notes (λ later l. (f later l).on _ (still s))
       | told ↦ λ m. refused_by asked (Changes (change.Release handle number)) told holds path tt m (λ no. no)
     ],
   );
 }
 
 -- a check of the request's own, which is refused with this cause
-pub fit_checked : {asked : Request} {holds : List Hold} {marks : List ℕ} {notes : Notes} (bad : Bool)
-    (next : RequestTree) → (bad ≡ true → OwnCause asked einval) → Goes asked next holds marks notes →
-    Goes asked (if bad then Gives (answer.Refused einval) else next) holds marks notes
-fit_checked true next c f = record { on = λ path. (tt, inl (c refl), tt) }
+pub fit_checked : {asked : Asking} {seen : List Seen} {holds : List Hold} {marks : List ℕ}
+    {notes : Notes} (bad : Bool)
+    (next : RequestTree) → (bad ≡ true → OwnCause asked.plan asked.who asked.request einval) →
+    Goes asked seen next holds marks notes →
+    Goes asked seen (if bad then Gives (answer.Refused einval) else next) holds marks notes
+fit_checked true next c f = record { on = λ path s. (tt, inl (c refl), tt) }
 fit_checked false next c f = f
 
--- a bracket begins; where it ends, what was taken in it is given back, and the last hold may pass
-pub fit_brackets : {asked : Request} {holds : List Hold} {marks : List ℕ} {notes : Notes} (rest : RequestTree) →
-    Goes asked rest holds (length holds ∷ marks) notes → Goes asked (Brackets rest) holds marks notes
-fit_brackets rest f = record { on = f.on }
-
-pub fit_shuts : {asked : Request} {marks : List ℕ} {notes : Notes} (rest : RequestTree) (front holds : List Hold) →
-    ((later : Notes) → Lasts notes later → Goes asked rest holds marks later) →
-    Goes asked (Shuts false rest) (front ++ holds) (length holds ∷ marks) notes
-fit_shuts {asked = asked} {marks = marks} rest front holds f = record {
-  on = λ path later l. held_as asked rest (down_to (length holds) (front ++ holds)) holds marks later path
-      (down_over front holds) ((f later l).on path);
+-- a scope is open where its call was Ok
+pub fit_open_scope : {asked : Asking} {seen : List Seen} {holds : List Hold} {marks : List ℕ}
+    {notes : Notes} (call : Call) (scope : Hold) (next : RequestTree) → is_passed_over asked.request call ≡ false →
+    IsHeededCall (sort_of call) → MayOpen (sort_of call) scope → Goes asked seen next (scope ∷ holds) marks notes →
+    Goes asked seen (open_scope call scope next) holds marks notes
+fit_open_scope {asked = asked} {holds = holds} call scope next r h may f = record {
+  on = λ path s. (
+    may,
+    elim [
+      | Host (host.Ok answered) ↦ λ m. f.on _ (still s)
+      | told ↦ λ m. refused_by asked (Calls call) told holds path (r, h) m (λ no. no)
+    ],
+  );
 }
 
-pub fit_shuts_passing : {asked : Request} {marks : List ℕ} {notes : Notes} (rest : RequestTree) (one : Hold)
-    (front holds : List Hold) → ((later : Notes) → Lasts notes later → Goes asked rest (one ∷ holds) marks later) →
-    Goes asked (Shuts true rest) (one ∷ (front ++ holds)) (length holds ∷ marks) notes
+-- a capability is raised, or done without
+pub fit_raise : {asked : Asking} {seen : List Seen} {holds : List Hold} {marks : List ℕ}
+    {notes : Notes} (caps : Caps) (next : RequestTree) → Goes asked seen next holds marks notes →
+    Goes asked seen (try_call (call.RaiseCap caps) next) holds marks notes
+fit_raise caps next f = record { on = λ path s. ((tt, tt), λ told m. f.on _ (still s)) }
+
+-- scopes lie on these, and nothing else
+pub record Covers (holds bare : List Hold) : Type 0 where
+  pub uncovers : uncovered holds ≡ bare
+  pub unscopes : unscoped holds ≡ bare
+  pub lays : (fd : Fd) → uncovered (laid (hold.Fd fd None) holds) ≡ hold.Fd fd None ∷ bare
+
+-- As whoever asks a name is made in what was resolved last, and the scopes end; or it was there.
+pub fit_make_at : {asked : Asking} {seen : List Seen} {marks : List ℕ} {notes : Notes}
+    (holds bare : List Hold) (dir : Fd) (name : List ℕ) (flags : OpenFlags) (mode row number : ℕ)
+    (next : Fd → RequestTree) (may_be : Bool) (old : RequestTree) →
+    Covers holds (hold.Pin row (Some dir) ∷ bare) → notes.resolved ≡ Some (record { number = number; row = row }) →
+    ((fd : Fd) → Goes asked seen (next fd) (hold.Fd fd None ∷ hold.Pin row (Some dir) ∷ bare) marks
+    (record notes { latest = found_by flags fd })) →
+    Goes asked seen old (hold.Pin row (Some dir) ∷ bare) marks notes →
+    Goes asked seen (make_at dir name flags mode next may_be old) holds marks notes
+fit_make_at {asked = asked} {seen = seen} {marks = marks} {notes = notes} holds bare dir name flags mode row number
+    next may_be old c r f g = record {
+      on = λ path s. (
+        subst (λ (all : List Hold). KnowsAll all (dir ∷ []) × PinsLatest (at_job all notes) dir) (sym c.unscopes)
+            (((hold.Pin row (Some dir), _, here, refl), tt), (record { number = number; row = row }, _, r, here)),
+        elim [
+          | Host (host.Ok (value.Fd fd)) ↦ λ m. held_as asked (next fd) _ _ _ _ _ (c.lays fd) ((f fd).on _ (still s))
+          | Host (host.Refused errno) ↦
+              λ m. or_old (Host (host.Refused errno)) (is_there (Host (host.Refused errno)) && may_be) path s
+              (refused_by asked asks (Host (host.Refused errno)) holds path (refl, tt) m (λ no. no))
+          | Host (host.Fault errno) ↦
+              λ m. or_old (Host (host.Fault errno)) (is_there (Host (host.Fault errno)) && may_be) path s
+              (refused_by asked asks (Host (host.Fault errno)) holds path (refl, tt) m (λ no. no))
+          | told ↦ λ m. refused_by asked (Calls (call.OpenAt dir name flags mode)) told holds path (refl, tt) m (λ no. no)
+        ],
+      );
+    }
+  where
+    asks : Deed
+    asks = Calls (call.OpenAt dir name flags mode)
+
+    or_old : (told : ActReply) (goes : Bool) (path : List Step) → Told seen path →
+        IsCausedLeaf asked (made asks told ∷ path) (refusal told) →
+        Fit asked (if goes then old else Refuses told) (uncovered holds) marks notes (made asks told ∷ path)
+    or_old told true path s caused =
+        held_as asked old (uncovered holds) (hold.Pin row (Some dir) ∷ bare) marks notes (made asks told ∷ path)
+        c.uncovers (g.on (made asks told ∷ path) (still s))
+    or_old told false path s caused = caused
+
+-- the newest descriptor gets a slot, where a count lies on it
+pub fit_take_under : {asked : Asking} {seen : List Seen} {holds : List Hold} {marks : List ℕ}
+    {notes : Notes} (era number : ℕ) (fd : Fd) (was : Option ObjIds) (next : RequestTree) →
+    Goes asked seen next (hold.Count era number ∷ hold.Fd fd was ∷ hold.Slot ∷ holds) marks notes →
+    Goes asked seen (take_fd next) (hold.Count era number ∷ hold.Fd fd was ∷ holds) marks notes
+fit_take_under {asked = asked} {holds = holds} era number fd was next f = record {
+  on = λ path s. (
+    (tt, tt),
+    elim [
+      | Event event.Taken ↦ λ m. f.on _ (still s)
+      | told ↦ λ m. refused_by asked (Changes change.TakeFd) told holds path tt m (λ no. no)
+    ],
+  );
+}
+
+-- what has the ids for which the number was given gets a handle by it
+pub fit_insert_given : {asked : Asking} {seen : List Seen} {holds : List Hold} {marks : List ℕ}
+    {notes : Notes} (session : BegunSession) (handle era number : ℕ) (fd : Fd) (ids : ObjIds) (next : RequestTree) →
+    notes.era ≡ Some session.era → notes.handle ≡ Some handle → notes.given ≡ Some (given_for number ids) →
+    Goes asked seen next (hold.Count era number ∷ holds) marks (record (unnoted fd notes) { handle = None }) →
+    Goes asked seen (insert_handle session handle number fd next)
+    (hold.Count era number ∷ hold.Fd fd (Some ids) ∷ hold.Slot ∷ holds) marks notes
+fit_insert_given {asked = asked} {holds = holds} session handle era number fd ids next e h g f = record {
+  on = λ path s. (
+    ((Some ids, under refl lies), (e, h, inr (ids, g, (_, there here)))),
+    elim [
+      | Event (event.Inserted given) ↦
+          λ m. held_as asked next _ _ _ _ _
+          (ap (λ (z : List Hold). hold.Count era number ∷ z) (handed_top fd (Some ids) holds)) (f.on _ (still s))
+      | reply ↦ λ m. refused_by asked (Changes (change.InsertHandle session.era handle number fd)) reply
+          (hold.Count era number ∷ hold.Fd fd (Some ids) ∷ hold.Slot ∷ holds) path (Some ids, under refl lies) m
+          (λ no. no)
+    ],
+  );
+}
+
+-- a bracket begins; where it ends, what was taken in it is given back, and the last hold may pass
+pub fit_brackets : {asked : Asking} {seen : List Seen} {holds : List Hold} {marks : List ℕ}
+    {notes : Notes} (rest : RequestTree) →
+    Goes asked seen rest holds (length holds ∷ marks) notes → Goes asked seen (Brackets rest) holds marks notes
+fit_brackets rest f = record { on = f.on }
+
+pub fit_shuts : {asked : Asking} {seen : List Seen} {marks : List ℕ} {notes : Notes} (rest : RequestTree)
+    (front holds : List Hold) →
+    ((later : Notes) → Lasts notes later → Goes asked seen rest holds marks later) →
+    Goes asked seen (Shuts false rest) (front ++ holds) (length holds ∷ marks) notes
+fit_shuts {asked = asked} {marks = marks} rest front holds f = record {
+  on = λ path s later l. held_as asked rest (down_to (length holds) (front ++ holds)) holds marks later path
+      (down_over front holds) ((f later l).on path s);
+}
+
+pub fit_shuts_passing : {asked : Asking} {seen : List Seen} {marks : List ℕ} {notes : Notes} (rest : RequestTree)
+    (one : Hold) (front holds : List Hold) →
+    ((later : Notes) → Lasts notes later → Goes asked seen rest (one ∷ holds) marks later) →
+    Goes asked seen (Shuts true rest) (one ∷ (front ++ holds)) (length holds ∷ marks) notes
 fit_shuts_passing {asked = asked} {marks = marks} rest one front holds f = record {
-  on = λ path later l. held_as asked rest (one ∷ down_to (length holds) (front ++ holds)) (one ∷ holds) marks later
-      path (ap (λ (z : List Hold). one ∷ z) (down_over front holds)) ((f later l).on path);
+  on = λ path s later l. held_as asked rest (one ∷ down_to (length holds) (front ++ holds)) (one ∷ holds) marks later
+      path (ap (λ (z : List Hold). one ∷ z) (down_over front holds)) ((f later l).on path s);
 }

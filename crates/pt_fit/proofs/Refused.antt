@@ -1,5 +1,5 @@
 -- A reply that was not awaited refuses the request, and is the cause of that.
-use Rattle.std.proofs.Common.{inl, inr, List, ◌∷◌, refl}
+use Rattle.std.proofs.Common.{◌≡◌, inl, inr, List, ◌∷◌, false, refl}
 use Rattle.pt_host.specs.Promises.{FitsCall}
 use Rattle.pt_host.specs.Sorts.{Sort, OpensWith, EndsFd, OfSeat, Plain, sort_of}
 use Rattle.pt_host.specs.declared.ids.Errno.{Errno}
@@ -20,7 +20,7 @@ use Rattle.pt_frame.specs.declared.hold.Hold.{Hold}
 use Rattle.pt_law.specs.Keeps.{MayChange}
 use Rattle.pt_law.specs.Told.{MayBeTold}
 use Rattle.pt_law.specs.Naming.{made}
-use Rattle.pt_fit.specs.Cause.{CallCauses}
+use Rattle.pt_fit.specs.Cause.{Asking, SortCauses, is_passed_over}
 use Rattle.pt_fit.specs.Fit.{IsCausedLeaf}
 
 -- such a reply is awaited
@@ -30,53 +30,54 @@ IsAwaited (Changes asked) (Event (event.Refused why)) = ⊥
 IsAwaited (Changes asked) (Event told) = IsReplyFor asked told
 IsAwaited deed told = ⊥
 
--- its refusal is the request's: it does not end a descriptor, nor does it give a hold back
+-- its refusal is the request's: it does not end a descriptor, nor does it give a hold back, nor is it done without
 abbrev pub IsHeededCall : Sort → Type 0
 IsHeededCall (EndsFd fd) = ⊥
 IsHeededCall sort = Unit {0}
 
-abbrev pub IsHeeded : Deed → List Hold → Type 0
-IsHeeded (Calls call) holds = IsHeededCall (sort_of call)
-IsHeeded (Changes asked) holds = MayChange asked holds
+abbrev pub IsHeeded : Request → Deed → List Hold → Type 0
+IsHeeded what (Calls call) holds = (is_passed_over what call ≡ false) × IsHeededCall (sort_of call)
+IsHeeded what (Changes asked) holds = MayChange asked holds
 
-call_refused : (sort : Sort) (errno : Errno) → IsHeededCall sort → CallCauses sort (Host (host.Refused errno)) errno
+call_refused : (sort : Sort) (errno : Errno) → IsHeededCall sort → SortCauses sort (Host (host.Refused errno)) errno
 call_refused (OpensWith flags) errno h = refl
 call_refused (EndsFd fd) errno h = absurd h
 call_refused OfSeat errno h = refl
 call_refused Plain errno h = refl
 
-call_failed : (sort : Sort) (errno : Errno) → IsHeededCall sort → CallCauses sort (Host (host.Fault errno)) errno
+call_failed : (sort : Sort) (errno : Errno) → IsHeededCall sort → SortCauses sort (Host (host.Fault errno)) errno
 call_failed (OpensWith flags) errno h = refl
 call_failed (EndsFd fd) errno h = absurd h
 call_failed OfSeat errno h = refl
 call_failed Plain errno h = refl
 
-event_refused : (asked : Request) (this : Change) (why : EventRefusal) (holds : List Hold) (path : List Step) →
+event_refused : (asked : Asking) (this : Change) (why : EventRefusal) (holds : List Hold) (path : List Step) →
     MayChange this holds → IsOneOf why (refusals this) →
     IsCausedLeaf asked (made (Changes this) (Event (event.Refused why)) ∷ path) (event_refusal why)
-event_refused asked (change.Resolve number) refused.NotLive holds path m o = inr (inl refl)
-event_refused asked (change.Resolve number) refused.Last holds path m o = inr (inl refl)
-event_refused asked (change.Claim era handle ids) refused.Overtaken holds path m o = inr (inl refl)
-event_refused asked (change.Claim era handle ids) refused.Last holds path m o = inr (inl refl)
-event_refused asked change.TakeFd refused.NoSlot holds path m o = inr (inl refl)
-event_refused asked change.DrawNode refused.Last holds path m o = inr (inl refl)
-event_refused asked (change.Insert era number form ids mode) refused.Overtaken holds path m o = inr (inl refl)
-event_refused asked (change.Insert era number form ids mode) refused.Live holds path m o = inr (inl refl)
-event_refused asked (change.Insert era number form ids mode) refused.Last holds path m o = inr (inl refl)
+event_refused asked (change.Resolve number) refused.NotLive holds path m o = inr (inl (inl refl))
+event_refused asked (change.Resolve number) refused.Last holds path m o = inr (inl (inl refl))
+event_refused asked (change.Claim era handle ids) refused.Overtaken holds path m o = inr (inl (inl refl))
+event_refused asked (change.Claim era handle ids) refused.Last holds path m o = inr (inl (inl refl))
+event_refused asked change.TakeFd refused.NoSlot holds path m o = inr (inl (inl refl))
+event_refused asked change.DrawNode refused.Last holds path m o = inr (inl (inl refl))
+event_refused asked (change.Insert era number form ids mode) refused.Overtaken holds path m o = inr (inl (inl refl))
+event_refused asked (change.Insert era number form ids mode) refused.Live holds path m o = inr (inl (inl refl))
+event_refused asked (change.Insert era number form ids mode) refused.Last holds path m o = inr (inl (inl refl))
 event_refused asked (change.Insert era number form ids mode) refused.Memory holds path m o = tt
-event_refused asked (change.InsertRoot era form ids mode agreed) refused.Overtaken holds path m o = inr (inl refl)
-event_refused asked (change.InsertRoot era form ids mode agreed) refused.Live holds path m o = inr (inl refl)
-event_refused asked (change.InsertRoot era form ids mode agreed) refused.Last holds path m o = inr (inl refl)
+event_refused asked (change.InsertRoot era form ids mode agreed) refused.Overtaken holds path m o =
+    inr (inl (inl refl))
+event_refused asked (change.InsertRoot era form ids mode agreed) refused.Live holds path m o = inr (inl (inl refl))
+event_refused asked (change.InsertRoot era form ids mode agreed) refused.Last holds path m o = inr (inl (inl refl))
 event_refused asked (change.InsertRoot era form ids mode agreed) refused.Memory holds path m o = tt
-event_refused asked change.DrawHandle refused.Last holds path m o = inr (inl refl)
-event_refused asked (change.InsertHandle era handle number fd) refused.Overtaken holds path m o = inr (inl refl)
-event_refused asked (change.InsertHandle era handle number fd) refused.Live holds path m o = inr (inl refl)
-event_refused asked (change.InsertHandle era handle number fd) refused.Last holds path m o = inr (inl refl)
+event_refused asked change.DrawHandle refused.Last holds path m o = inr (inl (inl refl))
+event_refused asked (change.InsertHandle era handle number fd) refused.Overtaken holds path m o = inr (inl (inl refl))
+event_refused asked (change.InsertHandle era handle number fd) refused.Live holds path m o = inr (inl (inl refl))
+event_refused asked (change.InsertHandle era handle number fd) refused.Last holds path m o = inr (inl (inl refl))
 event_refused asked (change.InsertHandle era handle number fd) refused.Memory holds path m o = tt
-event_refused asked (change.PinHandle handle number) refused.NotLive holds path m o = inr (inl refl)
-event_refused asked (change.PinHandle handle number) refused.Last holds path m o = inr (inl refl)
-event_refused asked (change.Release handle number) refused.NotLive holds path m o = inr (inl refl)
-event_refused asked change.Clear refused.Last holds path m o = inr (inl refl)
+event_refused asked (change.PinHandle handle number) refused.NotLive holds path m o = inr (inl (inl refl))
+event_refused asked (change.PinHandle handle number) refused.Last holds path m o = inr (inl (inl refl))
+event_refused asked (change.Release handle number) refused.NotLive holds path m o = inr (inl (inl refl))
+event_refused asked change.Clear refused.Last holds path m o = inr (inl (inl refl))
 event_refused asked (change.Unpin row) why holds path m o = absurd m
 event_refused asked change.GiveFd why holds path m o = absurd m
 event_refused asked (change.GiveBack era number) why holds path m o = absurd m
@@ -84,14 +85,14 @@ event_refused asked (change.UnpinHandle row) why holds path m o = absurd m
 event_refused asked change.TakeClosing why holds path m o = absurd m
 event_refused asked this why holds path m o = absurd o
 
-pub refused_by : (asked : Request) (deed : Deed) (told : ActReply) (holds : List Hold) (path : List Step) →
-    IsHeeded deed holds → MayBeTold deed told → (IsAwaited deed told → ⊥) →
+pub refused_by : (asked : Asking) (deed : Deed) (told : ActReply) (holds : List Hold) (path : List Step) →
+    IsHeeded asked.request deed holds → MayBeTold deed told → (IsAwaited deed told → ⊥) →
     IsCausedLeaf asked (made deed told ∷ path) (refusal told)
 refused_by asked (Calls call) (Host (host.Ok value)) holds path h m n = absurd (n m)
 refused_by asked (Calls call) (Host (host.Refused errno)) holds path h m n =
-    inr (inl (call_refused (sort_of call) errno h))
+    inr (inl (inl (h.0, call_refused (sort_of call) errno h.1)))
 refused_by asked (Calls call) (Host (host.Fault errno)) holds path h m n =
-    inr (inl (call_failed (sort_of call) errno h))
+    inr (inl (inl (h.0, call_failed (sort_of call) errno h.1)))
 refused_by asked (Calls call) (Host host.NoMemory) holds path h m n = tt
 refused_by asked (Calls call) (Event told) holds path h m n = absurd m
 refused_by asked (Calls call) NoCopy holds path h m n = tt

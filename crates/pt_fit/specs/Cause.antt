@@ -1,32 +1,54 @@
--- Believed. The cause of an answer that refuses or that memory ran out: the request itself, or one of its steps; of
--- an edit its one step.
-use Rattle.std.specs.Prelude.{◌≡◌, ◌⊎◌, ◌↔◌, true, false, List, [], ◌∷◌, Option, None, Some}
-use Rattle.pt_host.specs.Errno.{errno_of, ebadf, eio, einval, enfile, eoverflow}
+-- Believed. The cause of an answer that refuses or that memory ran out: the request itself, or its steps; of an edit
+-- its one step.
+use Rattle.std.specs.Prelude.{◌≡◌, ◌⊎◌, ◌↔◌, Bool, true, false, List, [], ◌∷◌, Option, None, Some}
+use Rattle.pt_host.specs.Call.{Call}
+use Rattle.pt_host.specs.Errno.{errno_of, eperm, ebadf, eio, einval, enfile, eoverflow, eopnotsupp, estale}
 use Rattle.pt_host.specs.Sorts.{Sort, OpensWith, EndsFd, OfSeat, Plain, sort_of}
 use Rattle.pt_host.specs.declared.edit.Edit.{Edit}
 use Rattle.pt_host.specs.declared.ids.Errno.{Errno}
+use Rattle.pt_host.specs.declared.ids.ObjIds.{ObjIds}
 use Rattle.pt_host.specs.declared.op.KeptHostOp.TheVariants as call
 use Rattle.pt_host.specs.declared.reply.HostReply.TheVariants as host
+use Rattle.pt_host.specs.declared.reply.HostValue.TheVariants as value
+use Rattle.pt_maps.specs.Translated.{to_host}
 use Rattle.pt_session.specs.Change.{Change}
 use Rattle.pt_session.specs.declared.event.KeptEvent.TheVariants as change
-use Rattle.pt_session.specs.declared.reply.EventReply.TheVariants.{Refused, Resolved}
+use Rattle.pt_session.specs.declared.form.Negotiated.{Negotiated}
+use Rattle.pt_session.specs.declared.reply.EventReply.TheVariants.{Began, Refused, Resolved}
 use Rattle.pt_session.specs.declared.reply.EventRefusal.TheVariants.{NotLive, Overtaken, NoSlot, Last, Live}
 use Rattle.pt_iface.specs.declared.answer.Answer.{Answer}
 use Rattle.pt_iface.specs.declared.answer.Answer.TheVariants as answer
+use Rattle.pt_iface.specs.declared.request.Context.{Context}
+use Rattle.pt_iface.specs.declared.request.Extensions.{Extensions}
 use Rattle.pt_iface.specs.declared.request.Request.{Request}
 use Rattle.pt_iface.specs.declared.request.Request.TheVariants as request
+use Rattle.pt_iface.specs.declared.request.SecContext.{SecContext}
 use Rattle.pt_frame.specs.Deed.{Deed, Calls, Changes, Step}
 use Rattle.pt_frame.specs.Memory.{RanOut}
 use Rattle.pt_frame.specs.declared.act.ActReply.{ActReply}
 use Rattle.pt_frame.specs.declared.act.ActReply.TheVariants.{Event, Host}
+use Rattle.pt_req.specs.Asker.{group_of}
+use Rattle.pt_req.specs.Attributes.{is_blocked}
+use Rattle.pt_req.specs.Creating.{are_same}
 use Rattle.pt_req.specs.Entries.{is_bad_name, is_bad_offset, can_open}
+use Rattle.pt_req.specs.declared.plan.Plan.{Plan}
 use Rattle.pt_attr.specs.Pattern.{IsServed}
 use Rattle.pt_attr.specs.Pattern.{Asked, Requests, Edits}
 
--- it opens a number
+-- a request, who asks it, and the plan by which it is served
+pub record Asking : Type 0 where
+  pub plan : Plan
+  pub who : Context
+  pub request : Request
+
+abbrev pub asking : Plan → Context → Request → Asking
+asking plan who what = record { plan = plan; who = who; request = what }
+
+-- it opens a number, as `create` does where the name is there
 abbrev pub IsOpening : Request → Type 0
 IsOpening (request.Open inode kill flags) = Unit {0}
 IsOpening (request.OpenDir inode flags) = Unit {0}
+IsOpening (request.Create parent name mode kill flags umask ext) = Unit {0}
 IsOpening asked = ⊥
 
 -- the call was refused, or failed, with this error number
@@ -35,16 +57,41 @@ TellsErrno (Host (host.Refused errno)) cause = cause ≡ errno
 TellsErrno (Host (host.Fault errno)) cause = cause ≡ errno
 TellsErrno told cause = ⊥
 
+-- the one request of today that takes a name away: that of what it made, where its context was refused
+abbrev pub takes_back : Request → Bool
+takes_back (request.Create parent name mode kill flags umask ext) = true
+takes_back asked = false
+
+-- What a call is told may be passed over: a capability that is not raised is done without, and a name that does not
+-- go again stays.
+abbrev pub is_passed_over : Request → Call → Bool
+is_passed_over asked (call.RaiseCap caps) = true
+is_passed_over asked (call.Unlink dir name) = takes_back asked
+is_passed_over asked made = false
+
 -- A call causes it by what it was answered; what ends a descriptor causes none, since its reply is passed over.
-abbrev pub CallCauses : Sort → ActReply → Errno → Type 0
-CallCauses (OpensWith flags) told cause = TellsErrno told cause
-CallCauses (EndsFd fd) told cause = ⊥
-CallCauses OfSeat told cause = TellsErrno told cause
-CallCauses Plain told cause = TellsErrno told cause
+abbrev pub SortCauses : Sort → ActReply → Errno → Type 0
+SortCauses (OpensWith flags) told cause = TellsErrno told cause
+SortCauses (EndsFd fd) told cause = ⊥
+SortCauses OfSeat told cause = TellsErrno told cause
+SortCauses Plain told cause = TellsErrno told cause
+
+abbrev pub CallCauses : Request → Call → ActReply → Errno → Type 0
+CallCauses asked made told cause = (is_passed_over asked made ≡ false) × SortCauses (sort_of made) told cause
+
+-- by what was agreed on, the name of the context is blocked that the request brings
+abbrev pub IsBlockedLabel : Negotiated → Option SecContext → Type 0
+IsBlockedLabel agreed None = ⊥
+IsBlockedLabel agreed (Some label) = is_blocked agreed label.name ≡ true
+
+abbrev pub BlocksLabel : Negotiated → Request → Type 0
+BlocksLabel agreed (request.Create parent name mode kill flags umask ext) = IsBlockedLabel agreed ext.secctx
+BlocksLabel agreed asked = ⊥
 
 -- An event causes it by its refusal; what gives a hold back causes none. A number that stands for neither a regular
--- file nor a directory is not opened.
+-- file nor a directory is not opened, and a session may begin with what blocks the request's context.
 abbrev pub EventCauses : Request → Change → ActReply → Errno → Type 0
+EventCauses asked change.Begin (Event (Began era agreed)) cause = BlocksLabel agreed asked × (cause ≡ eopnotsupp)
 EventCauses asked (change.Resolve number) (Event (Refused NotLive)) cause = cause ≡ ebadf
 EventCauses asked (change.Resolve number) (Event (Refused Last)) cause = cause ≡ eoverflow
 EventCauses asked (change.Resolve number) (Event (Resolved row form ids mode)) cause =
@@ -70,7 +117,7 @@ EventCauses asked change.Clear (Event (Refused Last)) cause = cause ≡ eoverflo
 EventCauses asked made told cause = ⊥
 
 abbrev pub StepCauses : Request → Option Deed → ActReply → Errno → Type 0
-StepCauses asked (Some (Calls made)) told cause = CallCauses (sort_of made) told cause
+StepCauses asked (Some (Calls made)) told cause = CallCauses asked made told cause
 StepCauses asked (Some (Changes made)) told cause = EventCauses asked made told cause
 StepCauses asked None told cause = ⊥
 
@@ -79,18 +126,47 @@ abbrev pub SomeCauses : Request → List Step → Errno → Type 0
 SomeCauses asked [] cause = ⊥
 SomeCauses asked (step ∷ steps) cause = StepCauses asked step.deed step.reply cause ⊎ SomeCauses asked steps cause
 
--- the request itself causes it: a lookup of what is no name, an offset past the last that a file can have, or a
--- function that there is not, `ENOSYS`
-abbrev pub OwnCause : Request → Errno → Type 0
-OwnCause (request.Lookup parent name) cause = (is_bad_name name ≡ true) × (cause ≡ einval)
-OwnCause (request.Read inode handle size offset) cause = (is_bad_offset offset ≡ true) × (cause ≡ einval)
-OwnCause asked cause = (IsServed asked → ⊥) × (cause ≡ errno_of 38)
+-- a descriptor was looked at: what it is open on has these ids
+abbrev pub TellsIds : Option Deed → ActReply → ObjIds → Type 0
+TellsIds (Some (Calls (call.Stat fd))) (Host (host.Ok (value.Stat stat))) ids = stat.ids ≡ ids
+TellsIds deed told ids = ⊥
 
-abbrev pub HasCause : Request → List Step → Errno → Type 0
-HasCause asked steps cause = OwnCause asked cause ⊎ SomeCauses asked steps cause
+-- one of the steps told these ids
+abbrev pub SomeTells : List Step → ObjIds → Type 0
+SomeTells [] ids = ⊥
+SomeTells (step ∷ steps) ids = TellsIds step.deed step.reply ids ⊎ SomeTells steps ids
+
+-- Two of the steps told ids of two objects: of what was made, and of what its name led to then, which is stale.
+abbrev pub IsStale : List Step → Type 0
+IsStale steps =
+    (made : ObjIds) × (found : ObjIds) × SomeTells steps made × SomeTells steps found × (are_same made found ≡ false)
+
+abbrev pub StaleCause : Request → List Step → Errno → Type 0
+StaleCause (request.Create parent name mode kill flags umask ext) steps cause = IsStale steps × (cause ≡ estale)
+StaleCause asked steps cause = ⊥
+
+-- the maps forbid one of the ids of who asks: of its user, its group, or the group that the request tells
+abbrev pub IsForbidden : Plan → Context → Extensions → Type 0
+IsForbidden plan who ext =
+    (to_host plan.uid_map who.uid ≡ None) ⊎ (to_host plan.gid_map who.gid ≡ None)
+    ⊎ (group_of plan ext.sup_gid ≡ None)
+
+-- The request itself causes it: a lookup or a making of what is no name, an offset past the last that a file can
+-- have, who asks, or a function that there is not, `ENOSYS`.
+abbrev pub OwnCause : Plan → Context → Request → Errno → Type 0
+OwnCause plan who (request.Lookup parent name) cause = (is_bad_name name ≡ true) × (cause ≡ einval)
+OwnCause plan who (request.Read inode handle size offset) cause = (is_bad_offset offset ≡ true) × (cause ≡ einval)
+OwnCause plan who (request.Create parent name mode kill flags umask ext) cause =
+    ((is_bad_name name ≡ true) × (cause ≡ einval)) ⊎ (IsForbidden plan who ext × (cause ≡ eperm))
+OwnCause plan who asked cause = (IsServed asked → ⊥) × (cause ≡ errno_of 38)
+
+abbrev pub HasCause : Asking → List Step → Errno → Type 0
+HasCause asked steps cause =
+    OwnCause asked.plan asked.who asked.request cause ⊎ SomeCauses asked.request steps cause
+    ⊎ StaleCause asked.request steps cause
 
 -- an answer that refuses, or that memory ran out, has its cause
-abbrev pub IsCaused : Request → List Step → Answer → Type 0
+abbrev pub IsCaused : Asking → List Step → Answer → Type 0
 IsCaused asked steps (answer.Refused errno) = HasCause asked steps errno
 IsCaused asked steps answer.NoMemory = RanOut steps
 IsCaused asked steps last = Unit {0}
@@ -103,6 +179,7 @@ EditCauses edit (step ∷ []) cause =
 EditCauses edit steps cause = ⊥
 
 -- a request's refusal has its cause, and an edit is refused exactly where its step was
-abbrev pub IsCausedBy : Asked → List Step → Answer → Type 0
-IsCausedBy (Requests who asked) steps last = IsCaused asked steps last
-IsCausedBy (Edits edit) steps last = (errno : Errno) → (last ≡ answer.EditRefused errno) ↔ EditCauses edit steps errno
+abbrev pub IsCausedBy : Plan → Asked → List Step → Answer → Type 0
+IsCausedBy plan (Requests who asked) steps last = IsCaused (asking plan who asked) steps last
+IsCausedBy plan (Edits edit) steps last =
+    (errno : Errno) → (last ≡ answer.EditRefused errno) ↔ EditCauses edit steps errno

@@ -1,5 +1,5 @@
 -- Believed. Which object an entry names.
-use Rattle.std.specs.Prelude.{◌≡◌, ℕ, List, ◌∷◌, ◌++◌, Option, None, Some}
+use Rattle.std.specs.Prelude.{◌≡◌, ℕ, List, [], ◌∷◌, ◌++◌, Option, None, Some}
 use Rattle.pt_session.specs.declared.form.Negotiated.{Negotiated}
 use Rattle.pt_session.specs.declared.event.KeptEvent.TheVariants as change
 use Rattle.pt_session.specs.declared.reply.EventReply.TheVariants as event
@@ -14,7 +14,7 @@ use Rattle.pt_law.specs.Giving.{GivingPlaces, GivingPath, IsGiven}
 use Rattle.pt_law.specs.Naming.{made}
 use Rattle.pt_fit.specs.Opened.{IsLookedUp}
 
--- The places of an entry that a lookup answered: the job resolved the parent, opened the name by the parent's row,
+-- The places of an entry that was answered: the job resolved the parent, opened the name by the parent's row,
 -- and was given the number for the object whose status it was told; the entry is that number and that status.
 pub record EntryPlaces
     (plan : Plan)
@@ -38,15 +38,29 @@ pub record EntryPlaces
   pub same_row : given.opened.row ≡ looked_up.row
   pub same_dir : given.opened.dir ≡ fd_of looked_up.form
   pub same_fd : given.opened.fd ≡ looked_up.fd
+  -- with what came before them, nothing between the resolving and the opening, and what came behind them
+  pub same_front : steps_of job given.opened.before
+      ≡ made (Changes change.Begin) (Event (event.Began era agreed)) ∷ front
+  pub same_between : steps_of job given.opened.between ≡ []
+  pub same_back : steps_of job given.behind ≡ back
 
 -- The entry has its places, and on every path through them its number stands for the object that its name led to, in
 -- the very directory that its parent stood for.
-abbrev pub IsEntered : Plan → World → List Turn → ℕ → ℕ → List ℕ → Entry → Type 0
+abbrev pub IsEntered :
+    (plan : Plan) →
+    (start : World) →
+    (turns : List Turn) →
+    (job : ℕ) →
+    (parent : ℕ) →
+    (name : List ℕ) →
+    (entry : Entry) →
+    Type 0
 IsEntered plan start turns job parent name entry =
     (places : EntryPlaces plan turns job parent name entry)
     × ((given : World) (path : GivingPath start places.given given) → IsGiven path)
 
--- the parent and the name that are asked for, by a lookup
+-- the parent and the name that are asked for, by a lookup or by `create`
 abbrev pub name_asked : Asked → Option (ℕ × List ℕ)
 name_asked (Requests who (request.Lookup parent name)) = Some (parent, name)
+name_asked (Requests who (request.Create parent name mode kill flags umask ext)) = Some (parent, name)
 name_asked asked = None

@@ -17,24 +17,25 @@ use Rattle.pt_law.specs.Discipline.{Notes, notes_after, blank}
 use Rattle.pt_law.specs.Told.{MayBeTold}
 use Rattle.pt_law.specs.Keeps.{uncovered, down_to, MayMake, MayOpen, Lasts, After, HoldsEntry}
 use Rattle.pt_law.specs.Naming.{made}
-use Rattle.pt_fit.specs.Cause.{HasCause}
+use Rattle.pt_fit.specs.Cause.{Asking, HasCause}
 
--- an entry is the answer of a lookup, and no request of today makes what it answers
+-- an entry is the answer of a lookup, and one with a handle that of `create`
 abbrev pub MayAnswer : Answer → Request → Type 0
 MayAnswer (answer.Entry entry) (request.Lookup parent name) = Unit {0}
 MayAnswer (answer.Entry entry) asked = ⊥
+MayAnswer (answer.Created entry handle options) (request.Create parent name mode kill flags umask ext) = Unit {0}
 MayAnswer (answer.Created entry handle options) asked = ⊥
 MayAnswer last asked = Unit {0}
 
 -- A refusal has its cause on the path to it; that memory ran out has one in every tree that takes none of its own.
-abbrev pub IsCausedLeaf : Request → List Step → Answer → Type 0
+abbrev pub IsCausedLeaf : Asking → List Step → Answer → Type 0
 IsCausedLeaf asked path (answer.Refused errno) = HasCause asked path errno
 IsCausedLeaf asked path last = Unit {0}
 
 -- On each path through the tree of what was asked, by replies that may come; the path's latest step stands first.
-abbrev pub Fit : Request → RequestTree → List Hold → List ℕ → Notes → List Step → Type 0
+abbrev pub Fit : Asking → RequestTree → List Hold → List ℕ → Notes → List Step → Type 0
 Fit asked (Gives last) holds marks notes path =
-    HoldsEntry last holds × IsCausedLeaf asked path last × MayAnswer last asked
+    HoldsEntry last holds × IsCausedLeaf asked path last × MayAnswer last asked.request
 Fit asked (Refuses told) holds marks notes path = IsCausedLeaf asked path (refusal told)
 Fit asked (Asks deed next) holds marks notes path =
     MayMake deed holds notes
@@ -55,5 +56,5 @@ Fit asked (Shuts passes rest) holds marks notes path =
 Fit asked (Allocates rest) holds marks notes path = Fit asked rest holds marks notes path
 
 -- from its start on
-abbrev pub IsFit : Request → RequestTree → Type 0
+abbrev pub IsFit : Asking → RequestTree → Type 0
 IsFit asked tree = Fit asked tree [] [] blank []

@@ -3,5 +3,8 @@ pub mod Cause
 pub mod Fit
 pub mod Opened
 pub mod Entered
+pub mod Created
+pub mod Handled
 pub mod Answered
 pub mod Uses
+pub mod Asker

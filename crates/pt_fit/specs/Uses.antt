@@ -10,4 +10,6 @@ abbrev pub IsOn : ℕ → Request → Type 0
 IsOn number (request.Lookup parent name) = (parent ≡ number) × (is_bad_name name ≡ false)
 IsOn number (request.Open inode kill flags) = inode ≡ number
 IsOn number (request.OpenDir inode flags) = inode ≡ number
+IsOn number (request.Create parent name mode kill flags umask ext) =
+    (parent ≡ number) × (is_bad_name name ≡ false)
 IsOn number asked = ⊥

@@ -1,4 +1,4 @@
-ghost use Rattle.std.specs.Prelude.{◌≡◌, ℕ, true, List, ◌∷◌, ◌++◌};
+ghost use Rattle.std.specs.Prelude.{◌≡◌, ℕ, Bool, true, List, ◌∷◌, ◌++◌};
 ghost use Rattle.pt_host.specs.declared.seat.HostSeat.{HostSeat};
 ghost use Rattle.pt_session.specs.declared.form.Negotiated.{Negotiated};
 ghost use Rattle.pt_session.specs.declared.event.KeptEvent.TheVariants as change;
@@ -6,7 +6,9 @@ ghost use Rattle.pt_session.specs.declared.reply.EventReply.TheVariants as event
 ghost use Rattle.pt_iface.specs.declared.answer.Answer.{Answer};
 ghost use Rattle.pt_iface.specs.declared.answer.Answer.TheVariants as answer;
 ghost use Rattle.pt_iface.specs.declared.entry.Entry.{Entry};
+ghost use Rattle.pt_iface.specs.declared.flags.OpenOptions.{OpenOptions};
 ghost use Rattle.pt_iface.specs.declared.request.Context.{Context};
+ghost use Rattle.pt_iface.specs.declared.request.Extensions.{Extensions};
 ghost use Rattle.pt_iface.specs.declared.request.Request.TheVariants as request;
 ghost use Rattle.pt_frame.specs.Deed.{Changes, Step};
 ghost use Rattle.pt_frame.specs.Grammar.{Belongs};
@@ -26,6 +28,7 @@ ghost use Rattle.pt_law.specs.Discipline.{AreDisciplined};
 ghost use Rattle.pt_law.specs.Naming.{made};
 ghost use Rattle.pt_fit.specs.Opened.{IsLookedUp};
 ghost use Rattle.pt_fit.specs.Entered.{IsEntered};
+ghost use Rattle.pt_fit.specs.Created.{IsCreated};
 
 /// A lookup that is answered with an entry begins, then makes the steps by which it came to the entry, and then gives
 /// back. In every run its number stands for what its name led to, in the directory that its parent stood for.
@@ -41,6 +44,33 @@ pub fn lookup_opens()
         Starts limit start → AreDisciplined bound turns →
         Belongs (grammar_of plan seat who (request.Lookup parent name)) (steps_of job turns)
         (finish.Answer (answer.Entry entry)) → IsEntered plan start turns job parent name entry }
+{}
+
+/// `create` that is answered with an entry begins, comes to a lookup of its name, by which it had the entry, and goes
+/// on. In every run its number stands for what its name led to, in the directory that its parent stood for; that is
+/// the object that it made, or it made nothing; and its handle is open on it.
+pub fn create_opens()
+    ensures opened { (plan : Plan) (seat : HostSeat) (who : Context) (parent : ℕ) (name : List ℕ) (mode : ℕ)
+        (kill : Bool) (flags umask : ℕ) (ext : Extensions) (entry : Entry) (handle : ℕ) (options : OpenOptions)
+        (steps : List Step) →
+        Belongs (grammar_of plan seat who (request.Create parent name mode kill flags umask ext)) steps
+        (finish.Answer (answer.Created entry handle options)) →
+        ((era : ℕ) × (agreed : Negotiated) × (front : List Step) × (own : List Step) × (back : List Step)
+        × (steps ≡ made (Changes change.Begin) (Event (event.Began era agreed)) ∷ (front ++ (own ++ back)))
+        × IsLookedUp plan era agreed parent name entry own) }
+    ensures entries { (limit bound : ℕ) (plan : Plan) (seat : HostSeat) (who : Context) (turns : List Turn)
+        (start : World) (job parent : ℕ) (name : List ℕ) (mode : ℕ) (kill : Bool) (flags umask : ℕ) (ext : Extensions)
+        (entry : Entry) (handle : ℕ) (options : OpenOptions) →
+        Starts limit start → AreDisciplined bound turns →
+        Belongs (grammar_of plan seat who (request.Create parent name mode kill flags umask ext)) (steps_of job turns)
+        (finish.Answer (answer.Created entry handle options)) → IsEntered plan start turns job parent name entry }
+    ensures files { (limit bound : ℕ) (plan : Plan) (seat : HostSeat) (who : Context) (turns : List Turn)
+        (start : World) (job parent : ℕ) (name : List ℕ) (mode : ℕ) (kill : Bool) (flags umask : ℕ) (ext : Extensions)
+        (entry : Entry) (handle : ℕ) (options : OpenOptions) →
+        Starts limit start → AreDisciplined bound turns →
+        Belongs (grammar_of plan seat who (request.Create parent name mode kill flags umask ext)) (steps_of job turns)
+        (finish.Answer (answer.Created entry handle options)) →
+        IsCreated plan start turns job parent name entry handle }
 {}
 
 /// A part that looks up, in a request that is answered with an entry, whatever the request did before and does then:

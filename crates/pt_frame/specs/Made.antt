@@ -19,8 +19,19 @@ Makes A = A → Change → EventReply → A → Type 0
 
 -- The step led from host, seat and access to these, and nothing else changed. One that could not be copied was not
 -- made; where the reply alone could not be copied, it held bytes.
-abbrev pub MadeBy : {H A : Type 0} → HostRelation H → Makes A → Option Deed → ActReply → H → HostSeat → A → H →
-    HostSeat → A → Type 0
+abbrev pub MadeBy :
+    {H A : Type 0} →
+    (does : HostRelation H) →
+    (makes : Makes A) →
+    (deed : Option Deed) →
+    (reply : ActReply) →
+    (host : H) →
+    (seat : HostSeat) →
+    (access : A) →
+    (host' : H) →
+    (seat' : HostSeat) →
+    (access' : A) →
+    Type 0
 MadeBy does makes (Some (Changes asked)) (Event reply) host seat access host' seat' access' =
     makes access asked reply access' × (host' ≡ host) × (seat' ≡ seat)
 MadeBy does makes (Some (Calls asked)) (Host reply) host seat access host' seat' access' =
@@ -32,7 +43,18 @@ MadeBy does makes None NoCopy host seat access host' seat' access' =
 MadeBy does makes deed reply host seat access host' seat' access' = ⊥
 
 -- the steps of one job, with no other step between, lead from host, seat and access to these
-abbrev pub RunsBy : {H A : Type 0} → HostRelation H → Makes A → List Step → H → HostSeat → A → H → HostSeat → A → Type 0
+abbrev pub RunsBy :
+    {H A : Type 0} →
+    (does : HostRelation H) →
+    (makes : Makes A) →
+    (steps : List Step) →
+    (host : H) →
+    (seat : HostSeat) →
+    (access : A) →
+    (host' : H) →
+    (seat' : HostSeat) →
+    (access' : A) →
+    Type 0
 RunsBy does makes [] host seat access host' seat' access' = (host' ≡ host) × (seat' ≡ seat) × (access' ≡ access)
 RunsBy {H} {A} does makes (step ∷ steps) host seat access host' seat' access' =
     (host1 : H) × (seat1 : HostSeat) × (access1 : A)
@@ -40,10 +62,29 @@ RunsBy {H} {A} does makes (step ∷ steps) host seat access host' seat' access' 
     × RunsBy does makes steps host1 seat1 access1 host' seat' access'
 
 -- over the session's own tables
-abbrev pub Made : {H : Type 0} → HostRelation H → Option Deed → ActReply → H → HostSeat → Tables → H → HostSeat →
-    Tables → Type 0
+abbrev pub Made :
+    {H : Type 0} →
+    (does : HostRelation H) →
+    (deed : Option Deed) →
+    (reply : ActReply) →
+    (host : H) →
+    (seat : HostSeat) →
+    (tables : Tables) →
+    (host' : H) →
+    (seat' : HostSeat) →
+    (tables' : Tables) →
+    Type 0
 Made does = MadeBy does Happens
 
-abbrev pub RunsAlone : {H : Type 0} → HostRelation H → List Step → H → HostSeat → Tables → H → HostSeat → Tables →
+abbrev pub RunsAlone :
+    {H : Type 0} →
+    (does : HostRelation H) →
+    (steps : List Step) →
+    (host : H) →
+    (seat : HostSeat) →
+    (tables : Tables) →
+    (host' : H) →
+    (seat' : HostSeat) →
+    (tables' : Tables) →
     Type 0
 RunsAlone does = RunsBy does Happens

@@ -1,17 +1,18 @@
 -- One step of a job belongs to what it has to do.
-use Rattle.std.proofs.Common.{◌≡◌, inl, inr, ℕ, Option, Some, None, sym, subst}
+use Rattle.std.proofs.Common.{◌≡◌, ◌≤◌, ◌+◌, ◌*◌, inl, inr, ℕ, Option, Some, None, refl, ap, sym, subst}
 use Rattle.pt_host.specs.declared.seat.HostSeat.{HostSeat}
 use Rattle.pt_session.specs.Tables.{Tables}
 use Rattle.pt_frame.specs.Deed.{Deed, Calls, Changes, IsStepOf, MayTellBytes, HoldsReplyBytes}
-use Rattle.pt_frame.specs.Grammar.{Grammar, End, Do, May, IsChosen, after, Owed}
+use Rattle.pt_frame.specs.Grammar.{Grammar, End, Do, May, IsChosen, after, Owed, told_closings, told_inserted}
+use Rattle.pt_frame.specs.Replies.{closings_in, inserted_by}
 use Rattle.pt_host.specs.Relation.{HostRelation}
 use Rattle.pt_frame.specs.Made.{Made}
 use Rattle.pt_frame.specs.declared.act.ActReply.{ActReply}
 use Rattle.pt_frame.specs.declared.act.ActReply.TheVariants.{Event, Host, NoCopy}
 use Rattle.pt_law.proofs.Told.{Promises, bytes_told}
-use Rattle.pt_fs.specs.Advances.{IsWanted, IsShown, Advances}
+use Rattle.pt_fs.specs.Advances.{IsWanted, IsShown, Advances, inserted_in}
 use Rattle.pt_fs.specs.Jobs.{no_seat}
-use Rattle.pt_fs.specs.Trace.{MadeFrom}
+use Rattle.pt_fs.specs.Trace.{MadeFrom, told_by}
 
 module _ {H : Type 0} (does : HostRelation H) (faults : H → ℕ) (promises : Promises does faults) where
   -- a reply that held bytes came to a call that may tell some
@@ -85,3 +86,42 @@ module _ {H : Type 0} (does : HostRelation H) (faults : H → ℕ) (promises : P
       absurd wanted
   advanced (May one other) new kept reply shown told host seat tables host' seat' tables' wanted made t e goes =
       absurd wanted
+
+-- a step tells as many closings, and inserts as many rows, as what was to be done
+same_told : (deed : Deed) (kept : Option Deed) (reply : ActReply) → IsStepOf deed kept reply →
+    closings_in deed reply ≡ told_by kept reply
+same_told deed (Some same) (Event told) is = ap (λ (d : Deed). closings_in d (Event told)) (sym is)
+same_told deed (Some same) (Host told) is = ap (λ (d : Deed). closings_in d (Host told)) (sym is)
+same_told deed (Some same) NoCopy is = ap (λ (d : Deed). closings_in d NoCopy) (sym is.0)
+same_told (Calls asked) None NoCopy is = refl
+same_told (Changes asked) None NoCopy is = refl
+same_told deed None (Event told) is = absurd is
+same_told deed None (Host told) is = absurd is
+
+same_inserted : (deed : Deed) (kept : Option Deed) (reply : ActReply) → IsStepOf deed kept reply →
+    inserted_by deed reply ≡ inserted_in kept reply
+same_inserted deed (Some same) (Event told) is = ap (λ (d : Deed). inserted_by d (Event told)) (sym is)
+same_inserted deed (Some same) (Host told) is = ap (λ (d : Deed). inserted_by d (Host told)) (sym is)
+same_inserted deed (Some same) NoCopy is = ap (λ (d : Deed). inserted_by d NoCopy) (sym is.0)
+same_inserted (Calls asked) None NoCopy is = refl
+same_inserted (Changes asked) None NoCopy is = refl
+same_inserted deed None (Event told) is = absurd is
+same_inserted deed None (Host told) is = absurd is
+
+pub told_within : (old new : Grammar) (kept : Option Deed) (shown told : ActReply) (was now : ℕ) →
+    Advances old kept shown new → told ≡ shown → now + 1 ≤ was + 3 * told_closings old told →
+    now + 1 ≤ was + 3 * told_by kept shown
+told_within (Do deed owed next) new kept shown told was now advances same within =
+    subst (λ (closings : ℕ). now + 1 ≤ was + 3 * closings) (same_told deed kept shown advances.0)
+    (subst (λ (r : ActReply). now + 1 ≤ was + 3 * closings_in deed r) same within)
+told_within (End last) new kept shown told was now advances same within = absurd advances
+told_within (May one other) new kept shown told was now advances same within = absurd advances
+
+pub inserted_within : (old new : Grammar) (kept : Option Deed) (shown told : ActReply) (was now : ℕ) →
+    Advances old kept shown new → told ≡ shown → now + told_inserted old told ≤ was →
+    now + inserted_in kept shown ≤ was
+inserted_within (Do deed owed next) new kept shown told was now advances same within =
+    subst (λ (rows : ℕ). now + rows ≤ was) (same_inserted deed kept shown advances.0)
+    (subst (λ (r : ActReply). now + inserted_by deed r ≤ was) same within)
+inserted_within (End last) new kept shown told was now advances same within = absurd advances
+inserted_within (May one other) new kept shown told was now advances same within = absurd advances

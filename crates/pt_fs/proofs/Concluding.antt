@@ -8,6 +8,7 @@ use Rattle.pt_iface.specs.declared.answer.Answer.{Answer}
 use Rattle.pt_req.specs.declared.plan.Plan.{Plan}
 use Rattle.pt_law.proofs.Hosts.{Tells}
 use Rattle.pt_law.proofs.Told.{Promises}
+use Rattle.pt_fs.specs.Keeps.{SeatedEach}
 use Rattle.pt_fs.specs.Run.{IsRun}
 use Rattle.pt_fs.specs.Trace.{RunsJobs, SeatsBack, IsBounded, room_of}
 use Rattle.pt_fs.specs.declared.job.Job.{Job}
@@ -19,15 +20,18 @@ pub is_run : {H : Type 0} (does : HostRelation H) (tree : H → Option Tree) (fa
     Tells does tree → (plan : Plan) (jobs : List Job) (host host' : H) (tables tables' : Tables)
     (trace : List TraceStep) (answers : List Answer) (left : List HostSeat) →
     Ran does plan tables.limit jobs host tables trace answers host' tables' →
-    RunsJobs does jobs trace host tables host' left tables' → SeatsBack jobs trace left → IsBounded jobs trace →
+    RunsJobs does jobs trace host tables host' left tables' → SeatsBack jobs trace left →
+    SeatedEach plan jobs trace → IsBounded jobs trace →
     length trace ≤ room_of jobs →
     IsRun does plan jobs host (tree host) tables trace answers host' (tree host') left tables'
-is_run does tree faults p tells plan jobs host host' tables tables' trace answers left ran steps back bounded room =
+is_run does tree faults p tells plan jobs host host' tables tables' trace answers left ran steps back seated bounded
+    room =
     let kept = keeps does faults p plan tables.limit jobs host tables trace answers host' tables' ran in
     let told = keeps_told does tree faults p tells plan tables.limit jobs host tables trace answers host' tables' ran in
     record {
       steps = steps;
       seats_back = back;
+      seated = seated;
       bounded = bounded;
       room = room;
       causes = kept.causes;
@@ -47,6 +51,7 @@ is_run does tree faults p tells plan jobs host host' tables tables' trace answer
       distinct = told.distinct;
       serves = told.serves;
       entries = told.entries;
+      created = told.created;
       two_lookups = told.two_lookups;
       origins = told.origins;
       names_open = told.named;

@@ -171,7 +171,7 @@ keeps_groups seat starts holds =
     let none = ap length starts.groups in
     absurd (omega (arith, none, holds))
 
-each_at : (jobs : List Job) → StartAll jobs → (j : ℕ) (job : Job) → slice_get jobs j ≡ Some job →
+pub each_at : (jobs : List Job) → StartAll jobs → (j : ℕ) (job : Job) → slice_get jobs j ≡ Some job →
     IsStartingSeat (job_start job)
 each_at [] all j job at = cc
 each_at (first ∷ jobs) all zero job at =

@@ -1,9 +1,9 @@
 -- A run that lost a seat.
-use Rattle.std.proofs.Common.{◌≡◌, ◌≢◌, ◌≤◌, ◌⊎◌, inl, inr, ℕ, suc, ◌+◌, ◌*◌, Bool, List, [], ◌∷◌, ◌++◌}
+use Rattle.std.proofs.Common.{◌≡◌, ◌≢◌, ◌<◌, ◌≤◌, ◌⊎◌, inl, inr, ℕ, suc, ◌+◌, ◌*◌, Bool, List, [], ◌∷◌, ◌++◌}
 use Rattle.std.proofs.Common.{◌∙◌, Option, Some, None, refl, ap, sym, subst, map, length, slice_get, append_assoc}
-use Rattle.std.proofs.Common.{append-nil, true, false, length-append, arith}
+use Rattle.std.proofs.Common.{append-nil, true, false, length-append, option_map, arith}
 use Rattle.std.proofs.lemmas.Bool.{cases_eq}
-use Rattle.std.proofs.lemmas.Option.{same_Some, slice_get_within, slice_get_cases}
+use Rattle.std.proofs.lemmas.Option.{same_Some, slice_get_within, slice_get_cases, slice_get-map}
 use Rattle.pt_host.specs.Promises.{HasRisen}
 use Rattle.pt_host.specs.Relation.{HostRelation}
 use Rattle.pt_host.specs.Words.{Each}
@@ -38,23 +38,25 @@ use Rattle.pt_fs.specs.Keeps.{OfEachJob}
 use Rattle.pt_fs.specs.Loses.{LostAt, WindsUp, IsCutFrom, CutRun}
 use Rattle.pt_fs.specs.Order.{order, rest_of, owner, count_of, with_left, MayBeLeft}
 use Rattle.pt_fs.specs.Took.{IsFinishedAt}
-use Rattle.pt_fs.specs.Trace.{TraceRuns, IsBounded, steps_by, closings_told}
+use Rattle.pt_fs.specs.Trace.{TraceRuns, IsBounded, step_of, steps_by, closings_told}
 use Rattle.pt_fs.specs.Went.{StepsLead, Went, run_seat}
 use Rattle.pt_fs.specs.Work.{work}
 use Rattle.pt_fs.specs.declared.job.Job.{Job}
 use Rattle.pt_fs.specs.declared.running.Running.{Running}
 use Rattle.pt_fs.specs.declared.trace.TraceStep.{TraceStep}
 use Rattle.pt_fs.proofs.Ended.{started_seats, started_length, one_for_each, EachRan, JobRan, each_ran, ran_on, ran_at}
-use Rattle.pt_fs.proofs.Ended.{ran_past, ran_end, groups_at, finish_plain, finish_lost, answered_by, belongs_by}
+use Rattle.pt_fs.proofs.Ended.{ran_past, ran_end, each_at, groups_at, finish_plain, finish_lost, answered_by}
+use Rattle.pt_fs.proofs.Ended.{belongs_by}
 use Rattle.pt_fs.proofs.Ended.{answered_at, answered_length, none_left_over, order_kept}
 use Rattle.pt_fs.proofs.Going.{there_took, each_on, made_took}
 use Rattle.pt_fs.proofs.Laws.{Comes}
 use Rattle.pt_fs.proofs.Losing.{only_other}
 use Rattle.pt_fs.proofs.Orders.{owns_on}
 use Rattle.pt_fs.proofs.Stepping.{advance_restores, leads_belongs, leads_cut_off, lost_stays, over_bare, no_more}
-use Rattle.pt_fs.proofs.Traces.{runs_on, steps_by-append, steps_by_other, made_from, closings_told-append}
-use Rattle.pt_fs.proofs.Unlost.{never_lost}
-use Rattle.pt_fs.proofs.Whole.{none_counted, beyond_none, none_lost}
+use Rattle.pt_fs.proofs.Traces.{runs_on, steps_by-append, steps_by_same, steps_by_other, made_from, length-steps_by}
+use Rattle.pt_fs.proofs.Traces.{closings_told-append}
+use Rattle.pt_fs.proofs.Seated.{unrefused_job}
+use Rattle.pt_fs.proofs.Whole.{none_counted, beyond_none, none_lost, may_be_told}
 
 -- The lost step.
 
@@ -70,7 +72,8 @@ marked_lost false reply now errno e is = let no : None ≡ Some errno = sym e �
 -- it was refused, or it failed
 failed_so : (reply : ActReply) (errno : Errno) → fault_in reply ≡ Some errno →
     (reply ≡ Host (host.Refused errno)) ⊎ (reply ≡ Host (host.Fault errno))
-failed_so (Host (host.Refused other)) errno e = inl (ap (λ (x : Errno). Host (host.Refused x)) (same_Some other errno e))
+failed_so (Host (host.Refused other)) errno e =
+    inl (ap (λ (x : Errno). Host (host.Refused x)) (same_Some other errno e))
 failed_so (Host (host.Fault other)) errno e = inr (ap (λ (x : Errno). Host (host.Fault x)) (same_Some other errno e))
 failed_so (Host host.NoMemory) errno e = absurd (cc)
 failed_so (Host (host.Ok value)) errno e = absurd (cc)
@@ -102,6 +105,16 @@ left_if (Some run) = one_if (is_finished run.state)
 
 some_left : List Running → ℕ → ℕ
 some_left running j = left_if (slice_get running j)
+
+none_if : (finished : Bool) → finished ≡ true → one_if finished ≡ 0
+unfolding one_if
+none_if true e = refl
+none_if false e = absurd (cc)
+
+some_if : (finished : Bool) → finished ≡ false → 0 < one_if finished
+unfolding one_if
+some_if true e = absurd (cc)
+some_if false e = omega arith
 
 some_fits : (running : List Running) → MayBeLeft (some_left running) running
 unfolding some_left left_if one_if
@@ -240,46 +253,26 @@ module _ {H : Type 0} {does : HostRelation H} {plan : Plan} {schedule : List ℕ
       (owes plan (job_start own.0) e.lost.took.run'.state) (kept_deed_of step.act) step.reply
       (past_of (steps_by job before)) groups tended goes marked_start
 
-  fault : step.reply ≡ Host (host.Fault errno)
-  fault = elim (failed_so step.reply errno marked.1) [
-    | inl refused ↦ absurd (never_lost plan (job_start own.0) (asked_of own.0) (steps_by job before)
-        (owes plan (job_start own.0) e.lost.took.run.state) (lost_of e.lost.took.run.state) ran_was.leads
-        marked_start)
-    | inr failed ↦ failed
-  ]
-
-  rose : (faults : H → ℕ) → Promises does faults → RisesAt does faults jobs h0 r0 before step
-  rose faults p = record {
-    from = e.lost.mid;
-    seats = map run_seat e.lost.stood;
-    now = e.lost.left;
-    to = e.mid;
-    seats' = map run_seat e.stood;
-    later = e.left;
-    leads = rw (← started_seats plan jobs s0 e.started) e.lost.goes.runs;
-    made = made_took e.lost.took;
-    rose =
-        let from = made_from does (kept_deed_of step.act) step.reply e.lost.mid e.lost.took.run.seat e.lost.left e.mid
-        e.lost.took.run'.seat e.left e.lost.took.made in
-        fault_rose does faults p (kept_deed_of step.act) step.reply errno e.lost.mid from.0 e.lost.left e.mid from.1
-        e.left fault from.2;
-  }
-
   calm_before : LosesNone before
   calm_before = none_lost plan jobs before e.lost.stood e.seats ran_before e.lost.calm (λ j past.
       beyond_none (order schedule (length s0)) e.lost.now s0 e.lost.stood before (some_left e.lost.stood)
       e.lost.goes.owns (some_fits e.lost.stood) j (omega (arith, long, past)))
 
+  -- so many steps were left of each job at the lost step
+  abbrev left_there : ℕ → ℕ
+  left_there = with_left others (some_left e.winds.stood)
+
   -- the owners up to the lost step
-  front : IsFront schedule (length jobs) first
+  abbrev front : IsFront schedule (length jobs) first
   front =
       let owns = owns_on (order schedule (length s0)) e.lost.now e.lost.after s0 e.lost.stood e.stood before
-      e.lost.last.steps e.lost.goes.owns e.lost.last.owns (some_left e.stood) (some_fits e.stood) in
+      e.lost.last.steps e.lost.goes.owns e.lost.last.owns left_there
+      (e.winds.restored.goes.owns (some_left e.winds.stood) (some_fits e.winds.stood)).0 in
       record {
-        left = some_left e.stood;
-        rest = e.lost.after (some_left e.stood);
-        owners = front_from schedule (length s0) (length jobs) before e.lost.last.steps (step ∷ []) (some_left e.stood)
-            (e.lost.after (some_left e.stood)) e.lost.one long owns.1;
+        left = left_there;
+        rest = e.lost.after left_there;
+        owners = front_from schedule (length s0) (length jobs) before e.lost.last.steps (step ∷ []) left_there
+            (e.lost.after left_there) e.lost.one long owns.1;
       }
 
   restores_only : RestoresOnly job (past_of (steps_by job first)) others
@@ -340,6 +333,15 @@ module _ {H : Type 0} {does : HostRelation H} {plan : Plan} {schedule : List ℕ
   none_of_others : (j : ℕ) → j ≢ job → steps_by j others ≡ []
   none_of_others j other = only_other job (past_of (steps_by job first)) others j restores_only other
 
+  -- the lost step left none of a job that had finished, and some of any other
+  left_at : (j : ℕ) → j ≢ job → (run : Running) → slice_get e.winds.stood j ≡ Some run →
+      left_there j ≡ one_if (is_finished run.state)
+  unfolding some_left left_if
+  left_at j other run at =
+      let none : count_of others j ≡ 0 = sym (length-steps_by j others) ∙ ap length (none_of_others j other) in
+      let own : some_left e.winds.stood j ≡ one_if (is_finished run.state) = ap left_if at in
+      omega (arith, none, own)
+
   -- nor has any but the lost one lost its seat
   calm_first : (j : ℕ) → j ≢ job → (past_of (steps_by j first)).lost ≡ None
   calm_first j other =
@@ -399,8 +401,9 @@ module _ {H : Type 0} {does : HostRelation H} {plan : Plan} {schedule : List ℕ
     not_cut kept = ran_on plan it (steps_by j (first ++ others)) (steps_by j back) stood_at.0 its.0 stood_at.2
         (subst (λ (r : Running). Went plan r (steps_by j back) its.0) kept went_back)
 
-    lost_one : j ≡ job → cut_at.0 ≡ stood_at.0 → IsLeftAs plan job errno first (others ++ back) j it told
-    lost_one here kept =
+    lost_belongs : j ≡ job → cut_at.0 ≡ stood_at.0 → (told ≡ answer.Cut)
+        × Belongs (job_grammar plan it) (steps_by j first ++ steps_by j (others ++ back)) (finish.Lost errno)
+    lost_belongs here kept =
         let whole : steps_by j (first ++ others) ++ steps_by j back
         ≡ steps_by j first ++ steps_by j (others ++ back) =
         ap (λ (l : List Step). l ++ steps_by j back) (front_of j)
@@ -418,18 +421,20 @@ module _ {H : Type 0} {does : HostRelation H} {plan : Plan} {schedule : List ℕ
         (owes plan stood_at.0.start its.0.state) (lost_of its.0.state) errno
         (subst (λ (l : Option Errno). StepsLead (steps_by j back) (owes plan stood_at.0.start stood_at.0.state) l
         (owes plan stood_at.0.start its.0.state) (lost_of its.0.state)) so goes) in
-        let ends = finish_lost last told errno (subst (λ (l : Option Errno). IsFinish false last l) (is.1 ∙ stays) end.1)
-        its.2.2 in
-        inl (
-          here,
+        let ends = finish_lost last told errno
+        (subst (λ (l : Option Errno). IsFinish false last l) (is.1 ∙ stays) end.1) its.2.2 in (
           ends.0,
           subst (λ (l : List Step). Belongs (job_grammar plan it) l (finish.Lost errno)) whole
               (subst (λ (f : Finish). Belongs (job_grammar plan it)
               (steps_by j (first ++ others) ++ steps_by j back) f) ends.1 end.0),
         )
 
+    lost_one : j ≡ job → cut_at.0 ≡ stood_at.0 →
+        IsLeftAs plan job errno left_there first (others ++ back) j it told
+    lost_one here kept = let lost = lost_belongs here kept in inl (here, lost.0, lost.1)
+
     finished_one : j ≢ job → is_finished stood_at.0.state ≡ true → cut_at.0 ≡ stood_at.0 →
-        IsLeftAs plan job errno first (others ++ back) j it told
+        IsLeftAs plan job errno left_there first (others ++ back) j it told
     finished_one other ended kept =
         let none : steps_by j back ≡ [] =
         finished_none j cut_at.0 cut_at.1 (ap (λ (r : Running). is_finished r.state) kept ∙ ended) in
@@ -442,13 +447,15 @@ module _ {H : Type 0} {does : HostRelation H} {plan : Plan} {schedule : List ℕ
         (subst (λ (l : Option Errno). IsFinish false last l) (calm_first j other) end.1) its.2.2 in
         inr (inl (
           plain.1,
+          left_at j other stood_at.0 stood_at.1 ∙ none_if (is_finished stood_at.0.state) ended,
           later_of j other ∙ none,
           answered_by plan it (steps_by j first) told
               (subst (λ (f : Finish). Belongs (job_grammar plan it) (steps_by j first) f) plain.0 end.0),
         ))
 
-    cut_one : j ≢ job → CutRun stood_at.0 cut_at.0 → IsLeftAs plan job errno first (others ++ back) j it told
-    cut_one other gone =
+    cut_one : j ≢ job → is_finished stood_at.0.state ≡ false → CutRun stood_at.0 cut_at.0 →
+        IsLeftAs plan job errno left_there first (others ++ back) j it told
+    cut_one other goes gone =
         let seat = job_start it in
         let run = stood_at.0 in
         let start : cut_at.0.start ≡ seat = gone.start ∙ stood_at.2.start in
@@ -477,22 +484,26 @@ module _ {H : Type 0} {does : HostRelation H} {plan : Plan} {schedule : List ℕ
         (unshared j other)
         (subst (λ (f : Finish). CutAfter seat (job_grammar plan it) (steps_by j (first ++ others)) (steps_by j back) f)
         is cuts)) in
-        inr (inr (other, its.2.2 ∙ ap answer_of is, so))
+        let some : 0 < left_there j =
+        subst (λ (n : ℕ). 0 < n) (sym (left_at j other stood_at.0 stood_at.1))
+        (some_if (is_finished stood_at.0.state) goes) in
+        inr (inr (other, its.2.2 ∙ ap answer_of is, some, so))
 
-    left_one : IsLeftAs plan job errno first (others ++ back) j it told
+    left_one : IsLeftAs plan job errno left_there first (others ++ back) j it told
     left_one = by_cut cut_at.2
       where
         by_end : j ≢ job → (j ≡ job) ⊎ (is_finished stood_at.0.state ≡ true) → cut_at.0 ≡ stood_at.0 →
-            IsLeftAs plan job errno first (others ++ back) j it told
+            IsLeftAs plan job errno left_there first (others ++ back) j it told
         by_end other (inl same) kept = absurd (other same)
         by_end other (inr ended) kept = finished_one other ended kept
 
-        by_cut : IsCutFrom job j stood_at.0 cut_at.0 → IsLeftAs plan job errno first (others ++ back) j it told
+        by_cut : IsCutFrom job j stood_at.0 cut_at.0 →
+            IsLeftAs plan job errno left_there first (others ++ back) j it told
         by_cut (inl kept) = elim (cases_eq j job) [
           | inl here ↦ lost_one here kept.0
           | inr other ↦ by_end other kept.1 kept.0
         ]
-        by_cut (inr gone) = cut_one gone.0 gone.2
+        by_cut (inr gone) = cut_one gone.0 gone.1 gone.2
 
     -- it kept its bound
     bounded_one : length (steps_by j first ++ steps_by j (others ++ back))
@@ -544,8 +555,8 @@ module _ {H : Type 0} {does : HostRelation H} {plan : Plan} {schedule : List ℕ
   steps_lost : (j : ℕ) → steps_by j trace ≡ steps_by j first ++ steps_by j (others ++ back)
   steps_lost j = ap (steps_by j) parts ∙ steps_by-append j first (others ++ back)
 
-  left_comes : (j : ℕ) (it : Job) (told : Answer) → IsLeftAs plan job errno first (others ++ back) j it told →
-      Comes plan it (steps_by j trace) told
+  left_comes : (j : ℕ) (it : Job) (told : Answer) →
+      IsLeftAs plan job errno left_there first (others ++ back) j it told → Comes plan it (steps_by j trace) told
   left_comes j it told (inl lost) = inr (
     lost.1,
     inl (
@@ -555,14 +566,62 @@ module _ {H : Type 0} {does : HostRelation H} {plan : Plan} {schedule : List ℕ
   )
   left_comes j it told (inr (inl ended)) =
       let whole : steps_by j trace ≡ steps_by j first =
-      steps_lost j ∙ ap (λ (l : List Step). steps_by j first ++ l) ended.1 ∙ append-nil (steps_by j first) in
+      steps_lost j ∙ ap (λ (l : List Step). steps_by j first ++ l) ended.2 ∙ append-nil (steps_by j first) in
       inl (subst (λ (l : List Step). Belongs (job_grammar plan it) l (finish.Answer told)) (sym whole)
-      (belongs_by plan it (steps_by j first) told ended.2))
+      (belongs_by plan it (steps_by j first) told ended.3))
   left_comes j it told (inr (inr gone)) =
-      inr (gone.1, inr (steps_by j first, steps_by j (others ++ back), steps_lost j, gone.2))
+      inr (gone.1, inr (steps_by j first, steps_by j (others ++ back), steps_lost j, gone.3, calm_first j gone.0))
 
   pub comes_lost : OfEachJob jobs answers (λ j it told. Comes plan it (steps_by j trace) told)
   comes_lost j it told at at_told = left_comes j it told (left_one j it told at at_told)
+
+  -- the lost step
+  its_told : (told : Answer) × (slice_get answers job ≡ Some told)
+  its_told = one_for_each jobs answers job own.0 length_lost own.1
+
+  its_whole : Belongs (job_grammar plan own.0) (steps_by job trace) (finish.Lost errno)
+  its_whole =
+      let stood : (stood_at job own.0 its_told.0 own.1 its_told.1).0 ≡ its_mid.0 =
+      same_Some (stood_at job own.0 its_told.0 own.1 its_told.1).0 its_mid.0
+      (sym (stood_at job own.0 its_told.0 own.1 its_told.1).1 ∙ its_mid.1) in
+      let cut : (cut_at job own.0 its_told.0 own.1 its_told.1).0 ≡ its_cut.0 =
+      same_Some (cut_at job own.0 its_told.0 own.1 its_told.1).0 its_cut.0
+      (sym (cut_at job own.0 its_told.0 own.1 its_told.1).1 ∙ its_cut.1) in
+      subst (λ (l : List Step). Belongs (job_grammar plan own.0) l (finish.Lost errno)) (sym (steps_lost job))
+      (lost_belongs job own.0 its_told.0 own.1 its_told.1 refl (cut ∙ its_cut.2 ∙ sym stood)).1
+
+  -- that step among its job's
+  its_steps : steps_by job trace ≡ steps_by job before ++ step_of step ∷ steps_by job (others ++ back)
+  its_steps = steps_lost job
+      ∙ ap (λ (l : List Step). l ++ steps_by job (others ++ back)) (steps_by_same job before step e.lost.took.owner)
+      ∙ append_assoc (steps_by job before) (step_of step ∷ []) (steps_by job (others ++ back))
+
+  fault : (faults : H → ℕ) → Promises does faults → step.reply ≡ Host (host.Fault errno)
+  fault faults p = elim (failed_so step.reply errno marked.1) [
+    | inl refused ↦ absurd (unrefused_job does faults p plan trace h0 h2 (map job_seat jobs) (map run_seat s2) r0 r2
+        runs_lost job own.0 errno errno (steps_by job before) (steps_by job (others ++ back)) (step_of step)
+        (slice_get-map job_seat jobs job ∙ ap (option_map job_seat) own.1) (each_at jobs e.seats job own.0 own.1)
+        (may_be_told does plan jobs trace answers h0 h2 r0 r2 s2 runs_lost long_end length_lost comes_lost faults p job)
+        its_steps its_whole (calm_before job) restoring refused)
+    | inr failed ↦ failed
+  ]
+
+  rose : (faults : H → ℕ) → Promises does faults → RisesAt does faults jobs h0 r0 before step
+  rose faults p = record {
+    from = e.lost.mid;
+    seats = map run_seat e.lost.stood;
+    now = e.lost.left;
+    to = e.mid;
+    seats' = map run_seat e.stood;
+    later = e.left;
+    leads = rw (← started_seats plan jobs s0 e.started) e.lost.goes.runs;
+    made = made_took e.lost.took;
+    rose =
+        let from = made_from does (kept_deed_of step.act) step.reply e.lost.mid e.lost.took.run.seat e.lost.left e.mid
+        e.lost.took.run'.seat e.left e.lost.took.made in
+        fault_rose does faults p (kept_deed_of step.act) step.reply errno e.lost.mid from.0 e.lost.left e.mid from.1
+        e.left (fault faults p) from.2;
+  }
 
   pub bounded_lost : IsBounded jobs trace
   bounded_lost j it at =
@@ -595,7 +654,7 @@ module _ {H : Type 0} {does : HostRelation H} {plan : Plan} {schedule : List ℕ
     parts = parts;
     own = e.lost.took.owner;
     restoring = restoring;
-    fault = fault;
+    fault = fault faults p;
     rose = rose faults p;
     first = calm_before;
     front = front;

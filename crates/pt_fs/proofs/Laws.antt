@@ -1,5 +1,6 @@
 -- The laws of whole runs, read for a trace.
-use Rattle.std.proofs.Common.{◌≡◌, ◌⊎◌, ◌<◌, ◌++◌, ◌∙◌, ℕ, List, [], ◌∷◌, Option, ap, sym, subst, refl, length, inl}
+use Rattle.std.proofs.Common.{◌≡◌, ◌⊎◌, ◌<◌, ◌++◌, ◌∙◌, ℕ, List, [], ◌∷◌, Option, None, ap, sym, subst, refl, length}
+use Rattle.std.proofs.Common.{inl}
 use Rattle.std.proofs.Common.{inr, arith, cond, eqb, append-nil}
 use Rattle.std.proofs.lemmas.Grind.{common_steps}
 use Rattle.std.proofs.Math.ListN.{length-set}
@@ -16,6 +17,7 @@ use Rattle.pt_frame.specs.Edit.{edit_answer}
 use Rattle.pt_frame.specs.Frame.{CutAfter}
 use Rattle.pt_frame.specs.Grammar.{Belongs}
 use Rattle.pt_frame.specs.Memory.{RanOut}
+use Rattle.pt_frame.specs.Past.{past_of}
 use Rattle.pt_host.specs.Relation.{HostRelation}
 use Rattle.pt_attr.specs.Pattern.{Asked, Requests, Edits, grammar_for}
 use Rattle.pt_frame.specs.declared.finish.Finish.TheVariants as finish
@@ -38,6 +40,8 @@ use Rattle.pt_fit.specs.Cause.{IsCausedBy, EditCauses}
 use Rattle.pt_fit.proofs.Asked.{comes_ends, job_caused}
 use Rattle.pt_fit.proofs.Beginning.{job_first}
 use Rattle.pt_fit.proofs.Edits.{edit_left_out}
+use Rattle.pt_fit.proofs.Keeping.{asked_keeps}
+use Rattle.pt_fit.specs.Handled.{KeepsHandle}
 use Rattle.pt_fs.specs.Jobs.{job_start, job_grammar, asked_of}
 use Rattle.pt_fs.specs.Trace.{TraceRuns, steps_by, step_of}
 use Rattle.pt_fs.specs.Keeps.{turn_of, turns_of, AfterEach, KeepsCounts, KeepsHandles, InsertsOnce, OvertakenAsTold}
@@ -80,12 +84,13 @@ steps_same job (step ∷ trace) =
 
 -- How a job ended, by its steps.
 
--- it lost its seat, or was cut after some of its steps
+-- it lost its seat, or was cut after some of its steps, before it had lost its seat
 abbrev pub Stops : Plan → HostSeat → Asked → List Step → Type 0
 Stops plan seat asked steps =
     ((errno : Errno) × Belongs (grammar_for plan seat asked) steps (finish.Lost errno))
     ⊎ ((so_far : List Step) × (rest : List Step) × (steps ≡ so_far ++ rest)
-    × CutAfter seat (grammar_for plan seat asked) so_far rest (finish.Answer answer.Cut))
+    × CutAfter seat (grammar_for plan seat asked) so_far rest (finish.Answer answer.Cut)
+    × ((past_of so_far).lost ≡ None))
 
 -- it is answered by what it asked, or it stopped and is cut
 abbrev pub Comes : Plan → Job → List Step → Answer → Type 0
@@ -96,7 +101,8 @@ Comes plan job steps told =
 stops_first : (plan : Plan) (seat : HostSeat) (asked : Asked) (steps : List Step) → Stops plan seat asked steps →
     BeginsFirst steps
 stops_first plan seat asked steps (inl lost) = job_first plan seat asked steps (finish.Lost lost.0) (inl lost.1)
-stops_first plan seat asked steps (inr gone) = job_first plan seat asked steps (finish.Answer answer.Cut) (inr gone)
+stops_first plan seat asked steps (inr gone) =
+    job_first plan seat asked steps (finish.Answer answer.Cut) (inr (gone.0, gone.1, gone.2, gone.3))
 
 comes_first : (plan : Plan) (job : Job) (steps : List Step) (told : Answer) → Comes plan job steps told →
     BeginsFirst steps
@@ -109,7 +115,7 @@ stops_ends : (plan : Plan) (seat : HostSeat) (asked : Asked) (steps : List Step)
     Stops plan seat asked steps → ComesToEnd idle steps (finish.Answer answer.Cut)
 stops_ends plan seat asked steps t (inl lost) = comes_ends plan seat asked steps (finish.Lost lost.0) t (inl lost.1)
 stops_ends plan seat asked steps t (inr gone) =
-    comes_ends plan seat asked steps (finish.Answer answer.Cut) t (inr gone)
+    comes_ends plan seat asked steps (finish.Answer answer.Cut) t (inr (gone.0, gone.1, gone.2, gone.3))
 
 comes_to_end : (plan : Plan) (job : Job) (steps : List Step) (told : Answer) → AllMayBeTold steps →
     Comes plan job steps told → ComesToEnd idle steps (finish.Answer told)
@@ -123,7 +129,8 @@ comes_to_end plan job steps told t (inr stops) =
 never_lost : (step : Step) (errno : Errno) → finish.Lost errno ≡ finish.Answer (edit_answer step.reply) → ⊥
 never_lost step errno e = cc
 
-unmade_edit : (plan : Plan) (seat : HostSeat) (edit : Edit) (steps : List Step) → Stops plan seat (Edits edit) steps →
+pub unmade_edit : (plan : Plan) (seat : HostSeat) (edit : Edit) (steps : List Step) →
+    Stops plan seat (Edits edit) steps →
     steps ≡ []
 unmade_edit plan seat edit [] stops = refl
 unmade_edit plan seat edit (step ∷ []) (inl lost) = absurd (never_lost step lost.0 lost.1.1)
@@ -133,7 +140,7 @@ unmade_edit plan seat edit (step ∷ steps) (inr gone) =
     gone.2 ∙ ap (λ (l : List Step). l ++ gone.1) none.0 ∙ none.1
 
 stops_caused : (plan : Plan) (seat : HostSeat) (asked : Asked) (steps : List Step) → Stops plan seat asked steps →
-    IsCausedBy asked steps answer.Cut
+    IsCausedBy plan asked steps answer.Cut
 stops_caused plan seat (Requests who asked) steps stops = tt
 stops_caused plan seat (Edits edit) steps stops = λ errno. (
   (λ e. absurd (cc)),
@@ -141,11 +148,17 @@ stops_caused plan seat (Edits edit) steps stops = λ errno. (
 )
 
 comes_caused : (plan : Plan) (job : Job) (steps : List Step) (told : Answer) → AllMayBeTold steps →
-    Comes plan job steps told → IsCausedBy (asked_of job) steps told
+    Comes plan job steps told → IsCausedBy plan (asked_of job) steps told
 comes_caused plan job steps told t (inl b) = job_caused plan (job_start job) (asked_of job) steps told t b
 comes_caused plan job steps told t (inr stops) =
-    subst (λ (a : Answer). IsCausedBy (asked_of job) steps a) (sym stops.0)
+    subst (λ (a : Answer). IsCausedBy plan (asked_of job) steps a) (sym stops.0)
     (stops_caused plan (job_start job) (asked_of job) steps stops.1)
+
+-- a handle that it inserted its answer has
+comes_keeping : (plan : Plan) (job : Job) (steps : List Step) (told : Answer) → AllMayBeTold steps →
+    Comes plan job steps told → KeepsHandle steps told
+comes_keeping plan job steps told t (inl b) = asked_keeps plan (job_start job) (asked_of job) steps told t b
+comes_keeping plan job steps told t (inr stops) = subst (KeepsHandle steps) (sym stops.0) tt
 
 comes_ran_out : (plan : Plan) (job : Job) (steps : List Step) (told : Answer) → AllMayBeTold steps →
     Comes plan job steps told → told ≡ answer.NoMemory → RanOut steps
@@ -203,7 +216,8 @@ cut_at bound trace so_far rest e d =
     subst (λ (turns : List Turn). AreDisciplined bound turns) (ap turns_of e ∙ turns-append so_far rest) d
 
 -- the laws that speak of no object, over any host
-pub record Keeps (limit : ℕ) (jobs : List Job) (tables : Tables) (trace : List TraceStep) (answers : List Answer)
+pub record Keeps (plan : Plan) (limit : ℕ) (jobs : List Job) (tables : Tables) (trace : List TraceStep)
+    (answers : List Answer)
     (tables' : Tables) : Type 0 where
   pub counts : AfterEach tables trace KeepsCounts
   pub handles : AfterEach tables trace KeepsHandles
@@ -216,7 +230,7 @@ pub record Keeps (limit : ℕ) (jobs : List Job) (tables : Tables) (trace : List
   pub slots : AfterEach tables trace (SlotsAddUp limit (length jobs))
   pub rest : IsAtRest limit (length jobs) (turns_of trace) tables'
   pub gives_back : OfEachJob jobs answers (GivesAllBack trace)
-  pub causes : OfEachJob jobs answers (IsCausedIn trace)
+  pub causes : OfEachJob jobs answers (IsCausedIn plan trace)
   pub memory : OfEachJob jobs answers (RanOutIn trace)
 
 first_of : (plan : Plan) (jobs : List Job) (trace : List TraceStep) (answers : List Answer) →
@@ -229,7 +243,8 @@ first_of plan jobs trace answers same comes j below =
 pub keeps : {H : Type 0} (does : HostRelation H) (faults : H → ℕ) → Promises does faults →
     (plan : Plan) (limit : ℕ) (jobs : List Job) (host : H) (tables : Tables) (trace : List TraceStep)
     (answers : List Answer) (host' : H) (tables' : Tables) →
-    Ran does plan limit jobs host tables trace answers host' tables' → Keeps limit jobs tables trace answers tables'
+    Ran does plan limit jobs host tables trace answers host' tables' →
+    Keeps plan limit jobs tables trace answers tables'
 keeps does faults p plan limit jobs host tables trace answers host' tables' ran =
     let runs = host_runs does trace host ran.seats tables host' ran.seats' tables' ran.runs in
     let ended = ended_of does faults p plan limit jobs host tables trace answers host' tables' ran in
@@ -293,6 +308,7 @@ keeps does faults p plan limit jobs host tables trace answers host' tables' ran 
           let below = slice_get_within jobs j job at in
           record {
             settled = all_settled (steps_by j trace) (finish.Answer answer) ends;
+            handle = comes_keeping plan job (steps_by j trace) answer (told j) (ran.comes j job answer at told_at);
             slots = subst (λ (steps : List Step). slots_taken steps ≡ slots_given steps) (steps_same j trace)
                 (let none = rest.carried j below in
                 let most = (slots_law limit (length jobs) (turns_of trace) [] tables'

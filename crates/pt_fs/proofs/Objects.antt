@@ -1,5 +1,5 @@
 -- The laws of whole runs that speak of objects, read for a trace over a host that tells its tree.
-use Rattle.std.proofs.Common.{◌≡◌, ◌⊎◌, inl, inr, ◌++◌, ◌∙◌, ℕ, List, [], ◌∷◌, Option, Some, ap, subst, refl}
+use Rattle.std.proofs.Common.{◌≡◌, ◌⊎◌, inl, inr, ◌++◌, ◌∙◌, ℕ, Bool, List, [], ◌∷◌, Option, Some, ap, subst, refl}
 use Rattle.std.proofs.Common.{length, append-nil}
 use Rattle.pt_host.specs.declared.ids.ObjIds.{ObjIds}
 use Rattle.pt_host.specs.Tree.{Tree, IsWellFormed}
@@ -7,6 +7,8 @@ use Rattle.pt_session.specs.Tables.{Tables, empty_tables}
 use Rattle.pt_iface.specs.declared.answer.Answer.{Answer}
 use Rattle.pt_iface.specs.declared.answer.Answer.TheVariants as answer
 use Rattle.pt_iface.specs.declared.entry.Entry.{Entry}
+use Rattle.pt_iface.specs.declared.flags.OpenOptions.{OpenOptions}
+use Rattle.pt_iface.specs.declared.request.Extensions.{Extensions}
 use Rattle.pt_iface.specs.declared.request.Context.{Context}
 use Rattle.pt_iface.specs.declared.request.Request.TheVariants as request
 use Rattle.pt_frame.specs.Deed.{kept_deed_of}
@@ -28,13 +30,17 @@ use Rattle.pt_law.proofs.Laws.{ended_jobs, distinct_law, object_law, handles_law
 use Rattle.pt_law.proofs.Next.{named_law}
 use Rattle.pt_law.proofs.Told.{Promises}
 use Rattle.pt_law.proofs.Tracing.{origins_law}
+use Rattle.pt_fit.specs.Created.{IsCreated}
 use Rattle.pt_fit.specs.Entered.{IsEntered, name_asked}
-use Rattle.pt_fit.proofs.Asked.{entry_asked}
-use Rattle.pt_fit.proofs.Entered.{look_places, entered_law}
+use Rattle.pt_fit.proofs.Asked.{entry_asked, created_asked}
+use Rattle.pt_fit.proofs.Created.{file_law}
+use Rattle.pt_fit.proofs.Entered.{look_places, created_places, entered_law, created_law}
 use Rattle.pt_fit.proofs.Looking.{looked_up}
+use Rattle.pt_fit.proofs.Making.{created_by, created_parts}
 use Rattle.pt_fs.specs.Jobs.{job_start, job_grammar, asked_of}
 use Rattle.pt_fs.specs.Keeps.{turn_of, turns_of, AfterEachTold, LeadsOn, begins_in, KeepsObjects, ServesEach}
-use Rattle.pt_fs.specs.Keeps.{OfEachJob, IsNamedIn, NamesOpenOnes, LeavesOpen, AgreeOnNumbers, ComeFromNames}
+use Rattle.pt_fs.specs.Keeps.{OfEachJob, IsNamedIn, IsCreatedIn, NamesOpenOnes, LeavesOpen, AgreeOnNumbers}
+use Rattle.pt_fs.specs.Keeps.{ComeFromNames}
 use Rattle.pt_fs.specs.declared.job.Job.{Job}
 use Rattle.pt_fs.specs.declared.trace.TraceStep.{TraceStep}
 use Rattle.pt_fs.proofs.Laws.{Comes, Ran, host_runs, steps_same, ended_of, turns-append, cut_at}
@@ -51,6 +57,7 @@ pub record KeepsTold (plan : Plan) (jobs : List Job) (told : Option Tree) (table
   pub named : NamesOpenOnes told tables trace
   pub leaves : LeavesOpen told tables trace
   pub entries : OfEachJob jobs answers (IsNamedIn plan told tables trace)
+  pub created : OfEachJob jobs answers (IsCreatedIn plan told tables trace)
   pub two_lookups : AgreeOnNumbers plan told tables trace
   pub origins : AfterEachTold told tables trace ComeFromNames
 
@@ -75,6 +82,53 @@ entered_from limit plan jobs start turns j job who parent name entry begins past
           (record { tables = begins; well_formed = well; past = past }) disciplined looked
     ]
 
+created_from : (limit : ℕ) (plan : Plan) (jobs : List Job) (start : World) (turns : List Turn) (j : ℕ) (job : Job)
+    (who : Context) (parent : ℕ) (name : List ℕ) (mode : ℕ) (kill : Bool) (flags umask : ℕ) (ext : Extensions)
+    (entry : Entry) (handle : ℕ) (options : OpenOptions) → start.tables ≡ empty_tables limit →
+    start.past ≡ no_past → AreUncalled turns ⊎ IsWellFormed start.tree → AreDisciplined (length jobs) turns →
+    asked_of job ≡ Requests who (request.Create parent name mode kill flags umask ext) →
+    Belongs (job_grammar plan job) (steps_of j turns) (finish.Answer (answer.Created entry handle options)) →
+    IsEntered plan start turns j parent name entry
+created_from limit plan jobs start turns j job who parent name mode kill flags umask ext entry handle options begins
+    past known disciplined asked b =
+    let made : Belongs (grammar_of plan (job_start job) who (request.Create parent name mode kill flags umask ext))
+    (steps_of j turns) (finish.Answer (answer.Created entry handle options)) =
+    subst (λ (r : Asked). Belongs (grammar_for plan (job_start job) r) (steps_of j turns)
+    (finish.Answer (answer.Created entry handle options))) asked b in
+    elim known [
+      | inl u ↦
+          let e = created_by plan (job_start job) who parent name mode kill flags umask ext entry handle options
+          (steps_of j turns) made in
+          let places = look_places plan turns j parent name entry e.0 e.1 e.2 e.3 e.4 e.5 e.6 in
+          absurd (no_places u places.given)
+      | inr well ↦ created_law limit (length jobs) plan (job_start job) who turns start j parent name mode kill flags
+          umask ext entry handle options (record { tables = begins; well_formed = well; past = past }) disciplined made
+    ]
+
+-- and which file a created one is
+file_from : (limit : ℕ) (plan : Plan) (jobs : List Job) (start : World) (turns : List Turn) (j : ℕ) (job : Job)
+    (who : Context) (parent : ℕ) (name : List ℕ) (mode : ℕ) (kill : Bool) (flags umask : ℕ) (ext : Extensions)
+    (entry : Entry) (handle : ℕ) (options : OpenOptions) → start.tables ≡ empty_tables limit →
+    start.past ≡ no_past → AreUncalled turns ⊎ IsWellFormed start.tree → AreDisciplined (length jobs) turns →
+    asked_of job ≡ Requests who (request.Create parent name mode kill flags umask ext) →
+    Belongs (job_grammar plan job) (steps_of j turns) (finish.Answer (answer.Created entry handle options)) →
+    IsCreated plan start turns j parent name entry handle
+file_from limit plan jobs start turns j job who parent name mode kill flags umask ext entry handle options begins
+    past known disciplined asked b =
+    let made : Belongs (grammar_of plan (job_start job) who (request.Create parent name mode kill flags umask ext))
+    (steps_of j turns) (finish.Answer (answer.Created entry handle options)) =
+    subst (λ (r : Asked). Belongs (grammar_for plan (job_start job) r) (steps_of j turns)
+    (finish.Answer (answer.Created entry handle options))) asked b in
+    elim known [
+      | inl u ↦
+          let c = created_parts plan (job_start job) who parent name mode kill flags umask ext entry handle options
+          (steps_of j turns) made in
+          let at = created_places plan turns j parent name entry handle c in
+          absurd (no_places u at.0.given)
+      | inr well ↦ file_law limit (length jobs) plan (job_start job) who turns start j parent name mode kill flags umask
+          ext entry handle options (record { tables = begins; well_formed = well; past = past }) disciplined made
+    ]
+
 entered_by : (limit : ℕ) (plan : Plan) (jobs : List Job) (told : Option Tree) (tables : Tables)
     (trace : List TraceStep) → tables ≡ empty_tables limit → AreDisciplined (length jobs) (turns_of trace) →
     ((tree : Tree) → told ≡ Some tree → AreUncalled (turns_of trace) ⊎ IsWellFormed tree) →
@@ -91,7 +145,40 @@ entered_by limit plan jobs told tables trace begins disciplined known j job (ans
     )
 entered_by limit plan jobs told tables trace begins disciplined known j job (answer.Entry entry) may (inr stops) =
     let no : answer.Entry entry ≡ answer.Cut = stops.0 in absurd (cc)
+entered_by limit plan jobs told tables trace begins disciplined known j job (answer.Created entry handle options) may
+    (inl b) =
+    let named = created_asked plan (job_start job) (asked_of job) (steps_of j (turns_of trace)) entry handle options may
+    b in (
+      named.1,
+      named.2,
+      ap name_asked named.8,
+      (λ tree is.
+          created_from limit plan jobs (begins_in tree tables) (turns_of trace) j job named.0 named.1 named.2 named.3
+          named.4 named.5 named.6 named.7 entry handle options begins refl (known tree is) disciplined named.8 b),
+    )
+entered_by limit plan jobs told tables trace begins disciplined known j job (answer.Created entry handle options) may
+    (inr stops) = let no : answer.Created entry handle options ≡ answer.Cut = stops.0 in absurd (cc)
 entered_by limit plan jobs told tables trace begins disciplined known j job given may b = tt
+
+file_by : (limit : ℕ) (plan : Plan) (jobs : List Job) (told : Option Tree) (tables : Tables)
+    (trace : List TraceStep) → tables ≡ empty_tables limit → AreDisciplined (length jobs) (turns_of trace) →
+    ((tree : Tree) → told ≡ Some tree → AreUncalled (turns_of trace) ⊎ IsWellFormed tree) →
+    (j : ℕ) (job : Job) (given : Answer) → AllMayBeTold (steps_of j (turns_of trace)) →
+    Comes plan job (steps_of j (turns_of trace)) given → IsCreatedIn plan told tables trace j job given
+file_by limit plan jobs told tables trace begins disciplined known j job (answer.Created entry handle options) may
+    (inl b) =
+    let named = created_asked plan (job_start job) (asked_of job) (steps_of j (turns_of trace)) entry handle options may
+    b in (
+      named.1,
+      named.2,
+      ap name_asked named.8,
+      (λ tree is.
+          file_from limit plan jobs (begins_in tree tables) (turns_of trace) j job named.0 named.1 named.2 named.3
+          named.4 named.5 named.6 named.7 entry handle options begins refl (known tree is) disciplined named.8 b),
+    )
+file_by limit plan jobs told tables trace begins disciplined known j job (answer.Created entry handle options) may
+    (inr stops) = let no : answer.Created entry handle options ≡ answer.Cut = stops.0 in absurd (cc)
+file_by limit plan jobs told tables trace begins disciplined known j job given may b = tt
 
 -- what holds in the world in which the run begins, after the steps so far and the world to which they led
 module _ (limit bound : ℕ) (start now : World) (trace so_far rest : List TraceStep)
@@ -221,6 +308,10 @@ keeps_told does tree faults p tells plan limit jobs host tables trace answers ho
       ];
       entries = λ j job given at told_at.
           entered_by limit plan jobs (tree host) tables trace ran.begins disciplined known j job given
+          (hosts_told does faults p j (turns_of trace) host tables host' tables' runs)
+          (rw (steps_same j trace) (ran.comes j job given at told_at));
+      created = λ j job given at told_at.
+          file_by limit plan jobs (tree host) tables trace ran.begins disciplined known j job given
           (hosts_told does faults p j (turns_of trace) host tables host' tables' runs)
           (rw (steps_same j trace) (ran.comes j job given at told_at));
     }

@@ -20,18 +20,19 @@ use Rattle.pt_fs.proofs.Stepping.{first_kept}
 use Rattle.pt_fs.proofs.Traces.{steps_by-append}
 
 -- the first step that lost a seat
-record FirstLoss (trace : List TraceStep) (job : ℕ) (errno : Errno) : Type 0 where
-  before : List TraceStep
-  step : TraceStep
-  rest : List TraceStep
-  parts : trace ≡ before ++ step ∷ rest
-  own : step.job ≡ job
-  restoring : IsRestoringStep (past_of (steps_by job before)).worn (kept_deed_of step.act)
-  fault : step.reply ≡ Host (Fault errno)
-  first : LosesNone before
+pub record FirstLoss (trace : List TraceStep) (job : ℕ) (errno : Errno) : Type 0 where
+  pub before : List TraceStep
+  pub step : TraceStep
+  pub rest : List TraceStep
+  pub parts : trace ≡ before ++ step ∷ rest
+  pub own : step.job ≡ job
+  pub restoring : IsRestoringStep (past_of (steps_by job before)).worn (kept_deed_of step.act)
+  pub fault : step.reply ≡ Host (Fault errno)
+  pub first : LosesNone before
 
-loss_in : {H : Type 0} (does : HostRelation H) (faults : H → ℕ) (plan : Plan) (jobs : List Job) (schedule : List ℕ)
-    (host : H) (tables : Tables) (trace : List TraceStep) (answers : List Answer) (job : ℕ) (errno : Errno) →
+abbrev pub loss_in : {H : Type 0} (does : HostRelation H) (faults : H → ℕ) (plan : Plan) (jobs : List Job)
+    (schedule : List ℕ) (host : H) (tables : Tables) (trace : List TraceStep) (answers : List Answer) (job : ℕ)
+    (errno : Errno) →
     LosesSeat does faults plan jobs schedule host tables trace answers job errno → FirstLoss trace job errno
 loss_in does faults plan jobs schedule host tables trace answers job errno l = record {
   before = l.before;
@@ -45,7 +46,7 @@ loss_in does faults plan jobs schedule host tables trace answers job errno l = r
 }
 
 -- a seat that is lost stays so
-past_stays : (past : Past) (steps : List Step) (errno : Errno) → past.lost ≡ Some errno →
+pub past_stays : (past : Past) (steps : List Step) (errno : Errno) → past.lost ≡ Some errno →
     (past_from past steps).lost ≡ Some errno
 past_stays past [] errno e = e
 past_stays past (step ∷ steps) errno e =
@@ -71,7 +72,7 @@ lost_there past (Some deed) reply errno none restoring is =
 lost_there past None reply errno none restoring is = absurd restoring
 
 -- it shows in every list that has the step
-loss_shows : (trace : List TraceStep) (job : ℕ) (errno : Errno) (l : FirstLoss trace job errno)
+pub loss_shows : (trace : List TraceStep) (job : ℕ) (errno : Errno) (l : FirstLoss trace job errno)
     (more : List TraceStep) → (past_of (steps_by job (l.before ++ l.step ∷ more))).lost ≡ Some errno
 loss_shows trace job errno l more =
     let mine : steps_by job (l.step ∷ more) ≡ step_of l.step ∷ steps_by job more =

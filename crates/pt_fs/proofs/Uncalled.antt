@@ -254,6 +254,12 @@ blank_by (Some (Changes (change.InsertRoot era form ids mode agreed)))
 blank_by (Some (Changes (change.InsertHandle era handle number fd)))
     (Event (event.Inserted given)) job row tree past u b =
     record { numbers = b.numbers; latest = b.latest; roots = b.roots }
+blank_by (Some (Changes (change.Insert era number form ids mode)))
+    (Event (event.Found given)) job row tree past u b =
+    record { numbers = b.numbers; latest = b.latest; roots = b.roots }
+blank_by (Some (Changes (change.Claim era handle ids)))
+    (Event (event.Claimed given)) job row tree past u b =
+    record { numbers = b.numbers; latest = b.latest; roots = b.roots }
 blank_by (Some (Changes (change.Resolve number)))
     (Event (event.Resolved serial form ids mode)) job row tree past u b =
     record { numbers = b.numbers; latest = b.latest; roots = b.roots }

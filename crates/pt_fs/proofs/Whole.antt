@@ -1,6 +1,6 @@
 -- From the first step to the last: where no seat was lost.
 use Rattle.std.proofs.Common.{◌≡◌, ◌≢◌, ◌≤◌, inl, inr, ℕ, suc, Bool, List, [], ◌∷◌, ◌++◌, ◌∙◌}
-use Rattle.std.proofs.Common.{Option, Some, None, refl, ap, map, length, slice_get, sym, subst, option_map, eq-eqb}
+use Rattle.std.proofs.Common.{Some, None, refl, ap, map, length, slice_get, sym, subst, option_map, eq-eqb}
 use Rattle.std.proofs.Common.{cond, false, arith}
 use Rattle.std.proofs.lemmas.Bool.{cases_eq, ne_eqb}
 use Rattle.std.proofs.lemmas.List.{length-map}
@@ -14,34 +14,32 @@ use Rattle.pt_iface.specs.declared.answer.Answer.TheVariants as answer
 use Rattle.pt_frame.specs.Deed.{Step}
 use Rattle.pt_frame.specs.Grammar.{Belongs}
 use Rattle.pt_frame.specs.Past.{past_of}
-use Rattle.pt_frame.specs.Seats.{seat_at}
 use Rattle.pt_frame.specs.Tended.{IsFinish}
 use Rattle.pt_frame.specs.declared.finish.Finish.{Finish}
 use Rattle.pt_frame.specs.declared.finish.Finish.TheVariants as finish
-use Rattle.pt_attr.specs.Pattern.{Asked}
 use Rattle.pt_req.specs.declared.plan.Plan.{Plan}
+use Rattle.pt_law.specs.Told.{AllMayBeTold}
+use Rattle.pt_law.proofs.Hosts.{hosts_told}
 use Rattle.pt_law.proofs.Told.{Promises}
 use Rattle.pt_fs.specs.Each.{EachStarted, EachAnswered}
 use Rattle.pt_fs.specs.Ends.{LosesNone, EndsWhole}
 use Rattle.pt_fs.specs.GoesOn.{GoesOn}
-use Rattle.pt_fs.specs.Jobs.{StartAll, job_seat, job_start, job_grammar, asked_of}
-use Rattle.pt_fs.specs.Keeps.{OfEachJob}
+use Rattle.pt_fs.specs.Jobs.{StartAll, job_seat, job_grammar}
+use Rattle.pt_fs.specs.Keeps.{turns_of, OfEachJob, SeatedEach}
 use Rattle.pt_fs.specs.Order.{order, rest_of, count_of, with_left, MayBeLeft, Owns, IsInOrder}
 use Rattle.pt_fs.specs.Took.{IsFinishedAt, NoneLost}
 use Rattle.pt_fs.specs.Trace.{TraceRuns, RunsJobs, SeatsBack, seated, AnswersEach, IsBounded, step_of, steps_by}
 use Rattle.pt_fs.specs.Went.{run_seat}
 use Rattle.pt_fs.specs.Work.{work}
 use Rattle.pt_fs.specs.declared.job.Job.{Job}
-use Rattle.pt_fs.specs.declared.job.Job.TheVariants as job
 use Rattle.pt_fs.specs.declared.running.Running.{Running}
 use Rattle.pt_fs.specs.declared.trace.TraceStep.{TraceStep}
 use Rattle.pt_fs.proofs.Ended.{started_seats, started_length, one_for_each, EachRan, each_ran, ran_at, ran_past}
-use Rattle.pt_fs.proofs.Ended.{ran_end, groups_at, finish_plain, answered_by, answered_at}
+use Rattle.pt_fs.proofs.Ended.{ran_end, each_at, groups_at, finish_plain, answered_by, answered_at}
 use Rattle.pt_fs.proofs.Ended.{answered_length, bounded_each, steps_each, none_left_over, order_kept}
-use Rattle.pt_fs.proofs.Laws.{Stops, Comes, Ran}
-use Rattle.pt_fs.proofs.SeatsAt.{seats_at, nones_at}
+use Rattle.pt_fs.proofs.Laws.{Comes, Ran, host_runs, steps_same}
+use Rattle.pt_fs.proofs.Seated.{seat_kept, seated_job}
 use Rattle.pt_fs.proofs.Traces.{seats_left}
-use Rattle.pt_fs.proofs.Unlost.{unseated, un_belongs, un_cut_off}
 
 -- Of any run.
 
@@ -80,35 +78,6 @@ none_lost plan jobs steps running seats ran calm beyond j = elim (slice_get_case
   | inr past ↦ ap (λ (l : List Step). (past_of l).lost) (beyond j past.0)
 ]
 
-stops_seat : (plan : Plan) (seat : HostSeat) (asked : Asked) (steps : List Step) → Stops plan seat asked steps →
-    seat_at seat steps ≡ seat
-stops_seat plan seat asked steps (inl lost) =
-    un_belongs seat _ steps (finish.Lost lost.0) (unseated plan seat asked) lost.1
-stops_seat plan seat asked steps (inr gone) =
-    ap (seat_at seat) gone.2
-    ∙ un_cut_off seat seat _ gone.0 gone.1 (finish.Answer answer.Cut) (unseated plan seat asked) gone.3
-
--- the seat of a job that is over is as it began
-comes_seat : (plan : Plan) (job : Job) (steps : List Step) (told : Answer) → Comes plan job steps told →
-    seat_at (job_start job) steps ≡ job_start job
-comes_seat plan job steps told (inl b) =
-    un_belongs (job_start job) (job_grammar plan job) steps (finish.Answer told)
-    (unseated plan (job_start job) (asked_of job)) b
-comes_seat plan job steps told (inr stops) = stops_seat plan (job_start job) (asked_of job) steps stops.1
-
-seat_kept : {H : Type 0} (does : HostRelation H) (faults : H → ℕ) → Promises does faults → (plan : Plan) (job : Job)
-    (told : Answer) (trace : List TraceStep) (h0 h1 : H) (s0 s1 : List (Option HostSeat)) (r0 r1 : Tables) →
-    TraceRuns does trace h0 s0 r0 h1 s1 r1 → (j : ℕ) → slice_get s0 j ≡ Some (job_seat job) →
-    Comes plan job (steps_by j trace) told → slice_get s1 j ≡ Some (job_seat job)
-seat_kept does faults p plan (job.Request who seat asked) told trace h0 h1 s0 s1 r0 r1 runs j is comes =
-    seats_at does faults p trace h0 h1 s0 s1 r0 r1 runs j seat is
-    ∙ ap (λ (s : HostSeat). Some (Some s)) (comes_seat plan (job.Request who seat asked) (steps_by j trace) told comes)
-seat_kept does faults p plan (job.OpenRoot seat) told trace h0 h1 s0 s1 r0 r1 runs j is comes =
-    seats_at does faults p trace h0 h1 s0 s1 r0 r1 runs j seat is
-    ∙ ap (λ (s : HostSeat). Some (Some s)) (comes_seat plan (job.OpenRoot seat) (steps_by j trace) told comes)
-seat_kept does faults p plan (job.Edit edit) told trace h0 h1 s0 s1 r0 r1 runs j is comes =
-    nones_at does trace h0 h1 s0 s1 r0 r1 runs j is
-
 -- what is known of a run, by how its jobs came to their ends
 module _ {H : Type 0} (does : HostRelation H) (plan : Plan) (jobs : List Job) (trace : List TraceStep)
     (answers : List Answer) (h h' : H) (tables tables' : Tables) (running' : List Running)
@@ -125,17 +94,35 @@ module _ {H : Type 0} (does : HostRelation H) (plan : Plan) (jobs : List Job) (t
         ∙ seats_left does trace h h' (map job_seat jobs) (map run_seat running') tables tables' runs;
   }
 
-  pub seats_back : (faults : H → ℕ) → Promises does faults → (left : List HostSeat) →
+  -- what each job was told may be told
+  pub may_be_told : (faults : H → ℕ) → Promises does faults → (j : ℕ) → AllMayBeTold (steps_by j trace)
+  may_be_told faults p j = subst AllMayBeTold (steps_same j trace)
+      (hosts_told does faults p j (turns_of trace) h tables h' tables'
+      (host_runs does trace h (map job_seat jobs) tables h' (map run_seat running') tables' runs))
+
+  starts_as : (j : ℕ) (job : Job) → slice_get jobs j ≡ Some job → slice_get (map job_seat jobs) j ≡ Some (job_seat job)
+  starts_as j job at = slice_get-map job_seat jobs j ∙ ap (option_map job_seat) at
+
+  pub seats_back : (faults : H → ℕ) → Promises does faults → StartAll jobs → (left : List HostSeat) →
       left ≡ seated (map run_seat running') → SeatsBack jobs trace left
-  seats_back faults p left ends = (
+  seats_back faults p starts left ends = (
     map run_seat running',
     ends,
     length-map running' run_seat ∙ same,
     λ j job at none.
         let told = one_for_each jobs answers j job answered at in
-        seat_kept does faults p plan job told.0 trace h h' (map job_seat jobs) (map run_seat running') tables tables'
-        runs j (slice_get-map job_seat jobs j ∙ ap (option_map job_seat) at) (comes j job told.0 at told.1),
+        seat_kept does faults p plan trace h h' (map job_seat jobs) (map run_seat running') tables tables' runs j job
+        told.0 (starts_as j job at) (each_at jobs starts j job at) (may_be_told faults p j)
+        (comes j job told.0 at told.1)
+        none,
   )
+
+  pub each_seated : (faults : H → ℕ) → Promises does faults → StartAll jobs → SeatedEach plan jobs trace
+  each_seated faults p starts j job seat at has =
+      let told = one_for_each jobs answers j job answered at in
+      seated_job does faults p plan trace h h' (map job_seat jobs) (map run_seat running') tables tables' runs j job
+      told.0 seat (starts_as j job at) (each_at jobs starts j job at) (may_be_told faults p j)
+      (comes j job told.0 at told.1) has
 
   pub ran_of : ((limit : ℕ) × (tables ≡ empty_tables limit)) →
       Ran does plan tables.limit jobs h tables trace answers h' tables'

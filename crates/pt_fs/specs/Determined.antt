@@ -1,6 +1,7 @@
--- Believed. Jobs that run in the order of one schedule have one outcome unless memory runs out.
-use Rattle.std.specs.Prelude.{◌≡◌, ◌≢◌, ℕ, List, length}
+-- Believed. Jobs that run by one schedule have one outcome unless memory runs out.
+use Rattle.std.specs.Prelude.{◌≡◌, ◌≢◌, ℕ, List, Option, Some, None}
 use Rattle.pt_host.specs.Words.{Each}
+use Rattle.pt_host.specs.declared.ids.Errno.{Errno}
 use Rattle.pt_host.specs.declared.seat.HostSeat.{HostSeat}
 use Rattle.pt_session.specs.Tables.{Tables, Agree}
 use Rattle.pt_iface.specs.declared.answer.Answer.{Answer}
@@ -8,8 +9,8 @@ use Rattle.pt_iface.specs.declared.answer.Answer.TheVariants.{NoMemory}
 use Rattle.pt_frame.specs.Deed.{LacksMemory}
 use Rattle.pt_host.specs.Relation.{HostRelation}
 use Rattle.pt_req.specs.declared.plan.Plan.{Plan}
-use Rattle.pt_fs.specs.Order.{IsInOrder}
-use Rattle.pt_fs.specs.Trace.{RunsJobs, AnswersEach}
+use Rattle.pt_fs.specs.Ends.{EndsWhole, LosesSeat}
+use Rattle.pt_fs.specs.Trace.{RunsJobs}
 use Rattle.pt_fs.specs.declared.job.Job.{Job}
 use Rattle.pt_fs.specs.declared.trace.TraceStep.{TraceStep}
 
@@ -18,10 +19,29 @@ pub record FoundMemory (trace : List TraceStep) (answers : List Answer) : Type 0
   pub replies : Each (λ step. LacksMemory step.reply → ⊥) trace
   pub answered : Each (λ answer. answer ≢ NoMemory) answers
 
--- the jobs ran in the order of the schedule, and never lacked memory
+-- the run lost no seat, or that of this job by this error
+abbrev pub EndsOrLoses :
+    {H : Type 0} →
+    (does : HostRelation H) →
+    (faults : H → ℕ) →
+    (plan : Plan) →
+    (jobs : List Job) →
+    (schedule : List ℕ) →
+    (host : H) →
+    (tables : Tables) →
+    (trace : List TraceStep) →
+    (answers : List Answer) →
+    (lost : Option (ℕ × Errno)) →
+    Type 0
+EndsOrLoses does faults plan jobs schedule host tables trace answers None = EndsWhole plan jobs schedule trace answers
+EndsOrLoses does faults plan jobs schedule host tables trace answers (Some lost) =
+    LosesSeat does faults plan jobs schedule host tables trace answers lost.0 lost.1
+
+-- the jobs ran by the schedule, to their end or with a lost seat, and never lacked memory
 pub record RanInOrder
     {H : Type 0}
     (does : HostRelation H)
+    (faults : H → ℕ)
     (plan : Plan)
     (schedule : List ℕ)
     (jobs : List Job)
@@ -29,13 +49,13 @@ pub record RanInOrder
     (tables : Tables)
     (trace : List TraceStep)
     (answers : List Answer)
+    (lost : Option (ℕ × Errno))
     (host' : H)
     (seats' : List HostSeat)
     (tables' : Tables)
     : Type 0 where
   pub steps : RunsJobs does jobs trace host tables host' seats' tables'
-  pub order : IsInOrder schedule (length jobs) trace
-  pub answers_each : AnswersEach plan jobs trace answers
+  pub ends : EndsOrLoses does faults plan jobs schedule host tables trace answers lost
   pub memory : FoundMemory trace answers
 
 -- two such runs of the same jobs, by one schedule from the same host and tables, are one
@@ -43,21 +63,24 @@ pub record AreOneRun
     {H : Type 0}
     (trace trace' : List TraceStep)
     (answers answers' : List Answer)
+    (lost lost' : Option (ℕ × Errno))
     (host host' : H)
     (seats seats' : List HostSeat)
     (tables tables' : Tables)
     : Type 0 where
   pub traces : trace ≡ trace'
   pub answered : answers ≡ answers'
+  pub losses : lost ≡ lost'
   pub hosts : host ≡ host'
   pub sat : seats ≡ seats'
   pub left : tables ≡ tables'
 
-abbrev pub TurnsAreDetermined : {H : Type 0} → HostRelation H → Type 0
-TurnsAreDetermined {H} does =
+abbrev pub TurnsAreDetermined : {H : Type 0} → HostRelation H → (H → ℕ) → Type 0
+TurnsAreDetermined {H} does faults =
     (plan : Plan) (schedule : List ℕ) (jobs : List Job) (host : H) (tables : Tables) (trace trace' : List TraceStep)
-    (answers answers' : List Answer) (after after' : H) (seats seats' : List HostSeat) (left left' : Tables) →
+    (answers answers' : List Answer) (lost lost' : Option (ℕ × Errno)) (after after' : H)
+    (seats seats' : List HostSeat) (left left' : Tables) →
     Agree tables →
-    RanInOrder does plan schedule jobs host tables trace answers after seats left →
-    RanInOrder does plan schedule jobs host tables trace' answers' after' seats' left' →
-    AreOneRun trace trace' answers answers' after after' seats seats' left left'
+    RanInOrder does faults plan schedule jobs host tables trace answers lost after seats left →
+    RanInOrder does faults plan schedule jobs host tables trace' answers' lost' after' seats' left' →
+    AreOneRun trace trace' answers answers' lost lost' after after' seats seats' left left'

@@ -1,6 +1,6 @@
 -- Believed. How a run ends: whole, or with a lost seat.
-use Rattle.std.specs.Prelude.{◌≡◌, ◌≢◌, ◌⊎◌, ℕ, true, List, [], ◌∷◌, ◌++◌, Option, Some, None, length, map, Result}
-use Rattle.std.specs.Prelude.{Ok, Err}
+use Rattle.std.specs.Prelude.{◌≡◌, ◌≢◌, ◌<◌, ◌⊎◌, ℕ, true, List, [], ◌∷◌, ◌++◌, Option, Some, None, length, map}
+use Rattle.std.specs.Prelude.{Result, Ok, Err}
 use Rattle.pt_host.specs.Call.{Call}
 use Rattle.pt_host.specs.Promises.{HasRisen}
 use Rattle.pt_host.specs.Relation.{HostRelation}
@@ -92,14 +92,25 @@ pub record IsFront (schedule : List ℕ) (jobs : ℕ) (steps : List TraceStep) :
   pub rest : List ℕ
   pub owners : order schedule jobs (with_left steps left) ≡ map owner steps ++ rest
 
--- In a run that lost a seat, by its steps up to that one and those after it: this job lost it, and gave back what it
--- held; or it had finished; or it was cut, and gave back what it held.
-abbrev pub IsLeftAs : Plan → ℕ → Errno → List TraceStep → List TraceStep → ℕ → Job → Answer → Type 0
-IsLeftAs plan lost errno first later j job told =
+-- In a run that lost a seat, by how many steps were left of each job where it did, its steps up to that one and those
+-- after it: this job lost it, and gave back what it held; or it had finished; or it was cut with some steps left, and
+-- gave back what it held.
+abbrev pub IsLeftAs :
+    (plan : Plan) →
+    (lost : ℕ) →
+    (errno : Errno) →
+    (left : ℕ → ℕ) →
+    (first : List TraceStep) →
+    (later : List TraceStep) →
+    (j : ℕ) →
+    (job : Job) →
+    (told : Answer) →
+    Type 0
+IsLeftAs plan lost errno left first later j job told =
     ((j ≡ lost) × (told ≡ Cut)
     × Belongs (job_grammar plan job) (steps_by j first ++ steps_by j later) (finish.Lost errno))
-    ⊎ (((told ≢ Cut) × (steps_by j later ≡ []) × IsAnsweredBy plan job (steps_by j first) told)
-    ⊎ ((j ≢ lost) × (told ≡ Cut)
+    ⊎ (((told ≢ Cut) × (left j ≡ 0) × (steps_by j later ≡ []) × IsAnsweredBy plan job (steps_by j first) told)
+    ⊎ ((j ≢ lost) × (told ≡ Cut) × (0 < left j)
     × CutAfter (job_start job) (job_grammar plan job) (steps_by j first) (steps_by j later) (finish.Answer Cut)))
 
 -- The run lost the seat of this job by this error.
@@ -139,7 +150,7 @@ pub record LosesSeat
   pub in_order : map owner back ≡ rest_of (length jobs) 0 (count_of back)
   -- Each job is answered once, and exactly those that had not finished are cut.
   pub one_each : length answers ≡ length jobs
-  pub left_as : OfEachJob jobs answers (IsLeftAs plan lost errno (before ++ step ∷ []) (others ++ back))
+  pub left_as : OfEachJob jobs answers (IsLeftAs plan lost errno front.left (before ++ step ∷ []) (others ++ back))
 
 -- of what a run left, however it ended
 abbrev pub OnDriven : {F : Type 0} → Result (Driven F) (DriveError F) → (Driven F → Type 0) → Type 0

@@ -1,6 +1,7 @@
 -- Believed. A file system as contracts see it, and how it is made.
-use Rattle.std.specs.Prelude.{◌≡◌, ℕ, [], ◌∷◌, Option, Some, Result, Ok, Err}
+use Rattle.std.specs.Prelude.{◌≡◌, ◌⊎◌, ℕ, List, [], ◌∷◌, Option, Some, Result, Ok, Err}
 use Rattle.pt_host.specs.Call.{Call}
+use Rattle.pt_host.specs.Errno.{einval}
 use Rattle.pt_host.specs.Flags.{path_flags}
 use Rattle.pt_host.specs.LawfulTree.{Opens}
 use Rattle.pt_host.specs.Tree.{Tree}
@@ -10,9 +11,13 @@ use Rattle.pt_host.specs.declared.op.KeptHostOp.TheVariants as call
 use Rattle.pt_host.specs.declared.reply.HostReply.{HostReply}
 use Rattle.pt_host.specs.declared.reply.HostReply.TheVariants as reply
 use Rattle.pt_host.specs.declared.reply.HostValue.TheVariants as value
+use Rattle.pt_maps.specs.Refusal.{AreAccepted, IsFirstRefusal}
+use Rattle.pt_maps.specs.declared.error.MapError.{MapError}
+use Rattle.pt_maps.specs.declared.rule.IdRule.{IdRule}
 use Rattle.pt_session.specs.Tables.{Tables}
 use Rattle.pt_iface.specs.declared.answer.Refusal.{Refusal}
 use Rattle.pt_iface.specs.declared.answer.Refusal.TheVariants as refusal
+use Rattle.pt_req.specs.declared.plan.Config.{Config}
 use Rattle.pt_req.specs.declared.plan.Plan.{Plan}
 
 -- its checked configuration, its tables, and the descriptor of the host's root
@@ -29,13 +34,40 @@ only_path = record { 0 = path_flags }
 abbrev pub opens_root : Call
 opens_root = call.OpenRoot (47 ∷ []) only_path
 
--- what the opening of the host's root was answered makes the file system, or is its refusal
+-- what the opening of the host's root was answered is its descriptor, or why there is none
+abbrev pub IsRootBy : HostReply → Result Fd Refusal → Type 0
+IsRootBy (reply.Ok (value.Fd fd)) (Ok root) = root ≡ fd
+IsRootBy (reply.Refused errno) (Err why) = why ≡ refusal.Errno errno
+IsRootBy (reply.Fault errno) (Err why) = why ≡ refusal.Errno errno
+IsRootBy reply.NoMemory (Err why) = why ≡ refusal.Memory
+IsRootBy told root = ⊥
+
+-- what that opening was answered makes the file system, or is its refusal
 abbrev pub IsMadeBy : HostReply → Result FileSystem Refusal → Type 0
-IsMadeBy (reply.Ok (value.Fd fd)) (Ok fs) = fs.root ≡ fd
-IsMadeBy (reply.Refused errno) (Err why) = why ≡ refusal.Errno errno
-IsMadeBy (reply.Fault errno) (Err why) = why ≡ refusal.Errno errno
-IsMadeBy reply.NoMemory (Err why) = why ≡ refusal.Memory
-IsMadeBy told made = ⊥
+IsMadeBy told (Ok fs) = IsRootBy told (Ok fs.root)
+IsMadeBy told (Err why) = IsRootBy told (Err why)
+
+-- of these rules none is refused
+pub record AreMapped (cfg : Config) : Type 0 where
+  pub uids : AreAccepted cfg.uid_map
+  pub gids : AreAccepted cfg.gid_map
+
+-- one of these rules is refused, or memory ran out for a map of them
+abbrev pub IsUnmappedBy : List IdRule → Refusal → Type 0
+IsUnmappedBy rules (refusal.Errno errno) = (errno ≡ einval) × (error : MapError) × IsFirstRefusal rules error
+IsUnmappedBy rules refusal.Memory = Unit {0}
+IsUnmappedBy rules (refusal.Lost errno) = ⊥
+
+-- for want of a map none is made, and no call
+abbrev pub IsUnmapped : Config → Result FileSystem Refusal → Type 0
+IsUnmapped cfg (Ok fs) = ⊥
+IsUnmapped cfg (Err why) = IsUnmappedBy cfg.uid_map why ⊎ IsUnmappedBy cfg.gid_map why
+
+-- the configuration's, with a map of each of its lists of rules
+pub record IsPlanned (cfg : Config) (plan : Plan) : Type 0 where
+  pub config : plan.config ≡ cfg
+  pub uids : plan.uid_map ≡ cfg.uid_map
+  pub gids : plan.gid_map ≡ cfg.gid_map
 
 -- where the tree was told it is told, and has one descriptor more
 abbrev pub OpensOne : Option Tree → Fd → Option Tree → Type 0

@@ -1,6 +1,7 @@
 -- Believed. What a run keeps after every step and at its end, in whatever order its jobs took their steps.
 use Rattle.std.specs.Prelude.{◌≡◌, ◌≢◌, ◌≤◌, ◌⊎◌, ℕ, true, List, ◌∷◌, ◌++◌, Option, Some, map, slice_get}
 use Rattle.pt_host.specs.Tree.{Tree}
+use Rattle.pt_host.specs.declared.seat.HostSeat.{HostSeat}
 use Rattle.pt_session.specs.Tables.{Tables}
 use Rattle.pt_session.specs.Rows.{IsRow, IsHandleRow}
 use Rattle.pt_session.specs.declared.row.Row.{Row}
@@ -12,17 +13,21 @@ use Rattle.pt_frame.specs.Deed.{kept_deed_of}
 use Rattle.pt_frame.specs.declared.finish.Finish.TheVariants as finish
 use Rattle.pt_frame.specs.Memory.{RanOut}
 use Rattle.pt_req.specs.declared.plan.Plan.{Plan}
+use Rattle.pt_fit.specs.Asker.{asker_for}
 use Rattle.pt_fit.specs.Cause.{IsCausedBy}
+use Rattle.pt_fit.specs.Created.{IsCreated}
 use Rattle.pt_fit.specs.Entered.{EntryPlaces, IsEntered, name_asked}
+use Rattle.pt_fit.specs.Handled.{KeepsHandle}
 use Rattle.pt_law.specs.Giving.{up_to}
 use Rattle.pt_law.specs.Laws.{ObjectOf, AreDistinct, HasObject, IsCounted, IsStanding, Serves, TellsOvertaken}
 use Rattle.pt_law.specs.Laws.{IsOvertaken, TellsGiven, IsHonoured, NamesOpen, LeavesRows}
 use Rattle.pt_law.specs.Ledger.{given, inserted, handle_inserted, standing, slots_taken, slots_given}
 use Rattle.pt_law.specs.Origins.{WasRoot, WasNamed}
 use Rattle.pt_law.specs.Settled.{IsSettled}
+use Rattle.pt_law.specs.Under.{IsSeated}
 use Rattle.pt_law.specs.Uses.{StaysLive}
 use Rattle.pt_law.specs.World.{Turn, World, TablesRun, no_past, Runs as WorldRuns}
-use Rattle.pt_fs.specs.Jobs.{asked_of}
+use Rattle.pt_fs.specs.Jobs.{asked_of, job_seat}
 use Rattle.pt_fs.specs.Trace.{step_of, steps_by}
 use Rattle.pt_fs.specs.declared.job.Job.{Job}
 use Rattle.pt_fs.specs.declared.trace.TraceStep.{TraceStep}
@@ -113,27 +118,72 @@ abbrev pub OfEachJob : List Job → List Answer → (ℕ → Job → Answer → 
 OfEachJob jobs answers P =
     (j : ℕ) (job : Job) (told : Answer) → slice_get jobs j ≡ Some job → slice_get answers j ≡ Some told → P j job told
 
--- What a job was given it gave back: numbers, but for the one that its answer has, pins, descriptors, slots; and it
--- took the closings that it was told of.
+-- What a job was given it gave back: numbers, but for the one that its answer has, pins, descriptors, slots; it took
+-- the closings that it was told of; and a handle that it inserted its answer has.
 pub record GivesAllBack (trace : List TraceStep) (j : ℕ) (job : Job) (told : Answer) : Type 0 where
   pub settled : IsSettled (steps_by j trace) (finish.Answer told)
   pub slots : slots_taken (steps_by j trace) ≡ slots_given (steps_by j trace)
+  pub handle : KeepsHandle (steps_by j trace) told
 
 -- a refusal has its cause, in what was asked or at a step of the job; an edit is refused exactly where its step was
-abbrev pub IsCausedIn : List TraceStep → ℕ → Job → Answer → Type 0
-IsCausedIn trace j job told = IsCausedBy (asked_of job) (steps_by j trace) told
+abbrev pub IsCausedIn : Plan → List TraceStep → ℕ → Job → Answer → Type 0
+IsCausedIn plan trace j job told = IsCausedBy plan (asked_of job) (steps_by j trace) told
 
 -- a job is answered that memory ran out only where one of its steps was told so or could not be copied
 abbrev pub RanOutIn : List TraceStep → ℕ → Job → Answer → Type 0
 RanOutIn trace j job told = told ≡ answer.NoMemory → RanOut (steps_by j trace)
 
--- An entry is the answer of a lookup, and names the object that the name which was asked had in the directory that
--- its parent stood for.
-abbrev pub IsNamedIn : Plan → Option Tree → Tables → List TraceStep → ℕ → Job → Answer → Type 0
-IsNamedIn plan told tables trace j job (answer.Entry entry) =
+-- it names the object that the name which was asked had in the directory that its parent stood for
+abbrev pub IsEntryIn :
+    (plan : Plan) →
+    (told : Option Tree) →
+    (tables : Tables) →
+    (trace : List TraceStep) →
+    (j : ℕ) →
+    (job : Job) →
+    (entry : Entry) →
+    Type 0
+IsEntryIn plan told tables trace j job entry =
     (parent : ℕ) × (name : List ℕ) × (name_asked (asked_of job) ≡ Some (parent, name))
     × WhereTold told tables (λ start. IsEntered plan start (turns_of trace) j parent name entry)
+
+-- An entry is the answer of a lookup, or of `create` with a handle, and names what its name led to.
+abbrev pub IsNamedIn :
+    (plan : Plan) →
+    (told : Option Tree) →
+    (tables : Tables) →
+    (trace : List TraceStep) →
+    (j : ℕ) →
+    (job : Job) →
+    (answer : Answer) →
+    Type 0
+IsNamedIn plan told tables trace j job (answer.Entry entry) = IsEntryIn plan told tables trace j job entry
+IsNamedIn plan told tables trace j job (answer.Created entry handle options) =
+    IsEntryIn plan told tables trace j job entry
 IsNamedIn plan told tables trace j job other = Unit {0}
+
+-- A file that `create` answered is one that its job made, or one that was there where its job made nothing: the entry
+-- names that object, and the handle is open on it.
+abbrev pub IsCreatedIn :
+    (plan : Plan) →
+    (told : Option Tree) →
+    (tables : Tables) →
+    (trace : List TraceStep) →
+    (j : ℕ) →
+    (job : Job) →
+    (answer : Answer) →
+    Type 0
+IsCreatedIn plan told tables trace j job (answer.Created entry handle options) =
+    (parent : ℕ) × (name : List ℕ) × (name_asked (asked_of job) ≡ Some (parent, name))
+    × WhereTold told tables (λ start. IsCreated plan start (turns_of trace) j parent name entry handle)
+IsCreatedIn plan told tables trace j job other = Unit {0}
+
+-- Each job that has a seat makes its steps as whoever asks or as it began, restores what it changes, and ends as it
+-- began, until a step that restores its seat fails.
+abbrev pub SeatedEach : Plan → List Job → List TraceStep → Type 0
+SeatedEach plan jobs trace =
+    (j : ℕ) (job : Job) (seat : HostSeat) → slice_get jobs j ≡ Some job → job_seat job ≡ Some seat →
+    IsSeated (asker_for plan seat (asked_of job)) seat (steps_by j trace)
 
 -- Two entries of one object have one number, where the number that was given first lives until the other is given.
 abbrev pub AgreeOnNumbers : Plan → Option Tree → Tables → List TraceStep → Type 0

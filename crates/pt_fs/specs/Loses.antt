@@ -77,7 +77,8 @@ pub record CutRun (run run' : Running) : Type 0 where
   pub start : run'.start ≡ run.start
   pub seat : run'.seat ≡ run.seat
   pub stood : (plan : Plan) (seat : HostSeat) → IsDo (owes plan seat run.state)
-  pub left : (plan : Plan) (seat : HostSeat) → owes plan seat run'.state ≡ cut seat (owed_by (owes plan seat run.state))
+  pub left : (plan : Plan) (seat : HostSeat) →
+      owes plan seat run'.state ≡ cut seat (owed_by (owes plan seat run.state))
   pub lost : lost_of run'.state ≡ lost_of run.state
   pub bound : steps_bound run'.state ≤ steps_bound run.state
 

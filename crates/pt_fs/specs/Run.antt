@@ -9,8 +9,8 @@ use Rattle.pt_req.specs.declared.plan.Plan.{Plan}
 use Rattle.pt_law.specs.Laws.{SlotsAddUp, IsAtRest, AreKept}
 use Rattle.pt_fs.specs.Keeps.{turns_of, AfterEach, AfterEachTold, ReachesEach, LeadsOn, KeepsObjects, KeepsCounts}
 use Rattle.pt_fs.specs.Keeps.{KeepsHandles, ServesEach, InsertsOnce, OvertakenAsTold, ShutsOut, OfEachJob}
-use Rattle.pt_fs.specs.Keeps.{GivesAllBack, IsCausedIn, RanOutIn, IsNamedIn, AgreeOnNumbers, ComeFromNames}
-use Rattle.pt_fs.specs.Keeps.{NamesOpenOnes, LeavesOpen, HonoursEach}
+use Rattle.pt_fs.specs.Keeps.{GivesAllBack, IsCausedIn, RanOutIn, IsNamedIn, IsCreatedIn, AgreeOnNumbers}
+use Rattle.pt_fs.specs.Keeps.{ComeFromNames, NamesOpenOnes, LeavesOpen, HonoursEach, SeatedEach}
 use Rattle.pt_fs.specs.Trace.{RunsJobs, SeatsBack, IsBounded, room_of}
 use Rattle.pt_fs.specs.declared.job.Job.{Job}
 use Rattle.pt_fs.specs.declared.trace.TraceStep.{TraceStep}
@@ -36,14 +36,16 @@ pub record IsRun
   -- The trace runs from the host, the jobs' seats and the tables at the beginning to those at the end. An edit has no
   -- seat.
   pub steps : RunsJobs does jobs trace host tables host' seats tables'
-  -- A seat is left as it began, unless a restoring step of its own job was refused.
+  -- A seat is left as it began, unless a restoring step of its own job was refused; until one was, objects are made
+  -- as whoever asks and all else is called as the job began, and the first that was not Ok is a fault.
   pub seats_back : SeatsBack jobs trace seats
+  pub seated : SeatedEach plan jobs trace
   -- Each job keeps its bound, and all of them the room that is had before the first step.
   pub bounded : IsBounded jobs trace
   pub room : length trace ≤ room_of jobs
   -- Each refusal has its cause, in what was asked or at a step of its job. An edit is refused exactly where its step
   -- was.
-  pub causes : OfEachJob jobs answers (IsCausedIn trace)
+  pub causes : OfEachJob jobs answers (IsCausedIn plan trace)
   -- A job is answered that memory ran out only where one of its steps was told so or could not be copied.
   pub memory : OfEachJob jobs answers (RanOutIn trace)
   -- What a job was given it gave back, but for the number that its answer has; and giving back is never refused.
@@ -75,9 +77,11 @@ pub record IsRun
   -- After every step a handle's descriptor is open on the object that its number had when it was resolved for the
   -- handle's opening.
   pub serves : AfterEachTold told tables trace (λ start so_far now. ServesEach now)
-  -- An entry names the object that its name had in the directory that its parent stood for; two entries of one object
-  -- have one number while it lives; and every numbered object is a root or was so named.
+  -- An entry names the object that its name had in the directory that its parent stood for; that of `create` is new,
+  -- or was there, and the handle is open on it; two entries of one object have one number while it lives; and every
+  -- numbered object is a root or was so named.
   pub entries : OfEachJob jobs answers (IsNamedIn plan told tables trace)
+  pub created : OfEachJob jobs answers (IsCreatedIn plan told tables trace)
   pub two_lookups : AgreeOnNumbers plan told tables trace
   pub origins : AfterEachTold told tables trace ComeFromNames
   -- Each call names only open descriptors; each open one stands in one place; at the end those of the rows are left,

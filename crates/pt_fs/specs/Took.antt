@@ -66,8 +66,20 @@ abbrev pub NoneLost : List Running → Type 0
 NoneLost running = (j : ℕ) (run : Running) → slice_get running j ≡ Some run → lost_of run.state ≡ None
 
 -- the job of this number took its next step and kept its seat, or has none and nothing changed
-abbrev pub TookOrStays : {H : Type 0} → HostRelation H → Plan → ℕ → H → List Running → Tables → List TraceStep → H →
-    List Running → Tables → List TraceStep → Type 0
+abbrev pub TookOrStays :
+    {H : Type 0} →
+    (does : HostRelation H) →
+    (plan : Plan) →
+    (place : ℕ) →
+    (host : H) →
+    (running : List Running) →
+    (tables : Tables) →
+    (trace : List TraceStep) →
+    (host' : H) →
+    (running' : List Running) →
+    (tables' : Tables) →
+    (trace' : List TraceStep) →
+    Type 0
 TookOrStays does plan place host running tables trace host' running' tables' trace' =
     Took does plan place host running tables trace host' running' tables' trace' None
     ⊎ (IsFinishedAt running place × (host' ≡ host) × (running' ≡ running) × (tables' ≡ tables) × (trace' ≡ trace))

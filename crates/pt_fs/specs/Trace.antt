@@ -21,8 +21,18 @@ abbrev pub step_of : TraceStep → Step
 step_of step = record { deed = kept_deed_of step.act; reply = step.reply }
 
 -- a step of a job that has a seat, which may be another after it, or of one that has none
-abbrev pub MadeFrom : {H : Type 0} → HostRelation H → Option Deed → ActReply → H → Option HostSeat → Tables → H →
-    Option HostSeat → Tables → Type 0
+abbrev pub MadeFrom :
+    {H : Type 0} →
+    (does : HostRelation H) →
+    (deed : Option Deed) →
+    (reply : ActReply) →
+    (host : H) →
+    (seat : Option HostSeat) →
+    (tables : Tables) →
+    (host' : H) →
+    (seat' : Option HostSeat) →
+    (tables' : Tables) →
+    Type 0
 MadeFrom does deed reply host (Some seat) tables host' (Some seat') tables' =
     Made does deed reply host seat tables host' seat' tables'
 MadeFrom does deed reply host None tables host' None tables' =
@@ -30,16 +40,34 @@ MadeFrom does deed reply host None tables host' None tables' =
 MadeFrom does deed reply host seat tables host' seat' tables' = ⊥
 
 -- the step was made from the seat of the job that owns it, and no other seat changed
-abbrev pub MadeAt : {H : Type 0} → HostRelation H → TraceStep → H → List (Option HostSeat) → Tables → H →
-    List (Option HostSeat) → Tables → Type 0
+abbrev pub MadeAt :
+    {H : Type 0} →
+    (does : HostRelation H) →
+    (step : TraceStep) →
+    (host : H) →
+    (seats : List (Option HostSeat)) →
+    (tables : Tables) →
+    (host' : H) →
+    (seats' : List (Option HostSeat)) →
+    (tables' : Tables) →
+    Type 0
 MadeAt does step host seats tables host' seats' tables' =
     (seat : Option HostSeat) × (seat' : Option HostSeat) × (slice_get seats step.job ≡ Some seat)
     × (seats' ≡ slice_set seats step.job seat')
     × MadeFrom does (kept_deed_of step.act) step.reply host seat tables host' seat' tables'
 
 -- the trace leads from host, seats and tables to these, each step from where the one before it led
-abbrev pub TraceRuns : {H : Type 0} → HostRelation H → List TraceStep → H → List (Option HostSeat) → Tables → H →
-    List (Option HostSeat) → Tables → Type 0
+abbrev pub TraceRuns :
+    {H : Type 0} →
+    (does : HostRelation H) →
+    (trace : List TraceStep) →
+    (host : H) →
+    (seats : List (Option HostSeat)) →
+    (tables : Tables) →
+    (host' : H) →
+    (seats' : List (Option HostSeat)) →
+    (tables' : Tables) →
+    Type 0
 TraceRuns does [] host seats tables host' seats' tables' = (host' ≡ host) × (seats' ≡ seats) × (tables' ≡ tables)
 TraceRuns {H} does (step ∷ steps) host seats tables host' seats' tables' =
     (host1 : H) × (seats1 : List (Option HostSeat)) × (tables1 : Tables)

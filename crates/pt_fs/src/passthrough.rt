@@ -1,12 +1,24 @@
-ghost use Rattle.std.specs.Prelude.{◌≡◌, IfOk, OnErr};
+ghost use Rattle.std.specs.Prelude.{◌≡◌, ◌⊎◌, IfOk, IfErr, OnOk, OnErr};
 ghost use Rattle.pt_host.specs.declared.reply.HostReply.{HostReply};
+ghost use Rattle.pt_maps.specs.Refusal.{AreAccepted};
 ghost use Rattle.pt_session.specs.Tables.{empty_tables};
-ghost use Rattle.pt_fs.specs.FileSystem.{opens_root, IsMadeBy, OpensOne, StaysTold};
+ghost use Rattle.pt_fs.specs.FileSystem.{
+  opens_root,
+  AreMapped,
+  IsMadeBy,
+  IsPlanned,
+  IsRootBy,
+  IsUnmapped,
+  IsUnmappedBy,
+  OpensOne,
+  StaysTold,
+};
 
 use crate::fs::SteppedFs;
 use pt_attr::AnyJob;
 use pt_host::{Errno, Fd, Host, HostOp, HostReply, HostSeat, HostValue, OpenFlags};
 use pt_iface::{Context, Refusal, Request};
+use pt_maps::{IdMap, IdRules, MapError};
 use pt_req::{Config, Plan};
 use pt_session::{Event, EventReply, Session};
 use std::alloc::Global;
@@ -29,41 +41,72 @@ impl Model for PassthroughFs {
     ghost view = { λ fs. record { plan = fs.plan; tables = fs.session; root = fs.root } };
 }
 
+/// These rules as a map. One that is refused is `EINVAL`.
+fn map_of(alloc: Global, rules: &IdRules) -> Result<IdMap, Refusal>
+    ensures map { IfOk result (λ map. map ≡ rules.now) }
+    ensures accepted { OnOk result (AreAccepted rules.now) }
+    ensures refused { IfErr result (λ why. IsUnmappedBy rules.now why) }
+{
+    match IdMap::from_rules(alloc, rules.as_slice()) {
+        Ok(map) => Ok(map),
+        Err(MapError::Memory) => Err(Refusal::Memory),
+        Err(_) => Err(Refusal::Errno(Errno::EINVAL)),
+    }
+}
+
+/// Opens the host's root by one call, as a descriptor that only stands for it.
+fn open_root<H: Host>(host: &mut H, seat: &mut HostSeat) -> Result<Fd, Refusal>
+    ensures call { (reply : HostReply) × H.does host.old seat.old opens_root reply host.new seat.new
+        × IsRootBy reply result }
+    ensures seat { seat.new ≡ seat.old }
+    ensures opened { IfOk result (λ root. OpensOne (H.tree host.old) root (H.tree host.new)) }
+    ensures nothing_opened { OnErr result (StaysTold (H.tree host.old) (H.tree host.new)) }
+{
+    let op = HostOp::OpenRoot {
+        path: b"/",
+        flags: OpenFlags::PATH,
+    };
+    match host.call(seat, &op) {
+        HostReply::Ok(HostValue::Fd(root)) => Ok(root),
+        HostReply::Refused(errno) | HostReply::Fault(errno) => Err(Refusal::Errno(errno)),
+        HostReply::NoMemory => Err(Refusal::Memory),
+        HostReply::Ok(_) => Err(Refusal::Errno(Errno::EIO)),
+    }
+}
+
 impl PassthroughFs {
-    /// Opens the host's root, and nothing else. A refusal leaves no new descriptor.
+    /// Makes the maps of ids, that of uids first, and then opens the host's root, and nothing else. A refusal leaves
+    /// no new descriptor.
     pub fn new<H: Host>(
         alloc: Global,
         cfg: Config,
         host: &mut H,
         seat: &mut HostSeat,
     ) -> Result<PassthroughFs, Refusal>
-        // One call, a step of the host's own, whose answer is the file system's or its refusal's cause.
-        ensures call { (reply : HostReply) × H.does host.old seat.old opens_root reply host.new seat.new
-            × IsMadeBy reply result }
-        ensures plan { IfOk result (λ fs. fs.plan.config ≡ cfg) }
+        // Where both maps are made there is one call, a step of the host's own, whose answer is the file system's or
+        // its refusal's cause. A refused map is EINVAL without a call.
+        ensures call { (AreMapped cfg × ((reply : HostReply) × H.does host.old seat.old opens_root reply host.new
+            seat.new × IsMadeBy reply result)) ⊎ (IsUnmapped cfg result × (host.new ≡ host.old)) }
+        ensures plan { IfOk result (λ fs. IsPlanned cfg fs.plan) }
         ensures tables { IfOk result (λ fs. fs.tables ≡ empty_tables cfg.guest_fd_limit) }
         ensures seat { seat.new ≡ seat.old }
         ensures opened { IfOk result (λ fs. OpensOne (H.tree host.old) fs.root (H.tree host.new)) }
         ensures nothing_opened { OnErr result (StaysTold (H.tree host.old) (H.tree host.new)) }
     {
-        let op = HostOp::OpenRoot {
-            path: b"/",
-            flags: OpenFlags::PATH,
+        let uid_map = map_of(alloc, &cfg.uid_map)?;
+        let gid_map = map_of(alloc, &cfg.gid_map)?;
+        let root = open_root(host, seat)?;
+        let session = Session::new(alloc, cfg.guest_fd_limit);
+        let plan = Plan {
+            config: cfg,
+            uid_map,
+            gid_map,
         };
-        match host.call(seat, &op) {
-            HostReply::Ok(HostValue::Fd(root)) => {
-                let session = Session::new(alloc, cfg.guest_fd_limit);
-                let plan = Plan { config: cfg };
-                Ok(PassthroughFs {
-                    plan,
-                    session,
-                    root,
-                })
-            }
-            HostReply::Refused(errno) | HostReply::Fault(errno) => Err(Refusal::Errno(errno)),
-            HostReply::NoMemory => Err(Refusal::Memory),
-            HostReply::Ok(_) => Err(Refusal::Errno(Errno::EIO)),
-        }
+        Ok(PassthroughFs {
+            plan,
+            session,
+            root,
+        })
     }
 }
 

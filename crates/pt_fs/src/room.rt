@@ -29,7 +29,7 @@ pub fn push_within<T: Drop>(v: &mut Vec<T>, item: T)
 /// How many steps a request takes at most, three for each closing aside.
 fn bound_of(request: &Request) -> usize
     ensures bound { result ≡ bound_of request.now }
-    ensures small { result ≤ 48 }
+    ensures small { result ≤ 96 }
 {
     match request {
         Request::Init { .. }
@@ -37,6 +37,7 @@ fn bound_of(request: &Request) -> usize
         | Request::Lookup { .. }
         | Request::Open { .. }
         | Request::OpenDir { .. } => 48,
+        Request::Create { .. } => 96,
         _ => 8,
     }
 }
@@ -44,7 +45,7 @@ fn bound_of(request: &Request) -> usize
 /// The same of a job.
 fn bound_of_job(job: &Job) -> usize
     ensures bound { result ≡ bound_for (asked_of job.now) }
-    ensures small { result ≤ 48 }
+    ensures small { result ≤ 96 }
 {
     match job {
         Job::Request(_, _, request) => bound_of(request),

@@ -54,8 +54,8 @@ pub fn drive<H: Host, F: SteppedFs>(
     requires new { (limit : ℕ) × (F.tables fs ≡ empty_tables limit) }
     requires seats { StartAll jobs.items }
 
-    // However the run ended, each clause of a run holds of what is returned: where the trace leads, each job's answer,
-    // and what tables and tree keep after every step and at the end.
+    // However the run ended, each clause of a run holds of what is returned: where the trace leads, each job's
+    // answer, and what tables and tree keep after every step and at the end.
     ensures run { OnDriven result (λ driven.
         IsRun H.does (F.plan_of fs) jobs.items host.old (H.tree host.old) (F.tables fs)
         driven.trace.items driven.answers.items host.new (H.tree host.new) driven.seats.items (F.tables driven.fs)) }

@@ -11,9 +11,10 @@ ghost use Rattle.pt_frame.specs.Seats.{seat_at};
 
 use pt_host::Host;
 
-/// Jobs that run in the order of one schedule have one outcome unless memory runs out, where their host has.
+/// Jobs that run by one schedule have one outcome unless memory runs out, where their host has: one that loses a seat
+/// loses it in each run.
 pub fn turns_are_determined<H: Host>()
-    ensures { IsDeterminedHost H.does → TurnsAreDetermined H.does }
+    ensures { IsDeterminedHost H.does → TurnsAreDetermined H.does H.faults }
 {}
 
 /// The seat of each job that has one is the fold of that job's steps, whatever other jobs did between them.

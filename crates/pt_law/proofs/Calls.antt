@@ -1,10 +1,10 @@
 -- Calls of the host keep what is known of open descriptors.
 use Rattle.std.proofs.Common.{◌≡◌, inl, inr, ℕ, ◌<◌, ◌≤◌, List, Bool, true, false, refl, sym, ap, subst, ◌∙◌, arith}
 use Rattle.std.proofs.Common.{Option}
-use Rattle.std.proofs.Common.{Some, None}
+use Rattle.std.proofs.Common.{Some, None, length, if◌then◌else◌}
 use Rattle.pt_host.specs.Words.{total, Each, Takes, set_at}
 use Rattle.pt_host.specs.Call.{Call}
-use Rattle.pt_host.specs.Flags.{includes, o_path}
+use Rattle.pt_host.specs.Flags.{includes, o_creat, o_path}
 use Rattle.pt_host.specs.Tree.{Tree, Opened, IsOpenOn}
 use Rattle.pt_host.specs.LawfulTree.{TreeChanges, opened_on, closed_at}
 use Rattle.pt_host.specs.declared.ids.Fd.{Fd}
@@ -20,15 +20,16 @@ use Rattle.pt_frame.specs.Deed.{Calls}
 use Rattle.pt_frame.specs.declared.act.ActReply.TheVariants.{Host}
 use Rattle.pt_frame.specs.declared.hold.Hold.{Hold}
 use Rattle.pt_frame.specs.declared.hold.Hold.TheVariants as hold
-use Rattle.pt_law.specs.Discipline.{Job, Notes, with_root, unnoted, unless, MovesBy, Resolution, IsNoted}
+use Rattle.pt_law.specs.Discipline.{Job, Notes, Given, found_by, with_root, unnoted, unless, MovesBy, Resolution}
+use Rattle.pt_law.specs.Discipline.{IsNoted}
 use Rattle.pt_law.specs.World.{Past, settled_by, object_of, first_of}
 use Rattle.pt_law.specs.Ledger.{row_has, handle_has}
 use Rattle.pt_law.proofs.Flows.{fd_held}
 use Rattle.pt_law.proofs.Lists.{total_takes, total_replaces, is_same, is_apart, set_at_same, set_at_other, at_each}
 use Rattle.pt_law.proofs.Lists.{each_replaces, each_takes, each_put}
-use Rattle.pt_law.proofs.Growing.{Grows, call_grows, rows_on, handles_on, knows_on}
-use Rattle.pt_law.proofs.Found.{found_only}
-use Rattle.pt_law.proofs.Knowing.{RowOpen, HandleOpen, ToldRight, PinRight, NotedOpen, NotedRight, Knowing}
+use Rattle.pt_law.proofs.Growing.{Grows, call_grows, makes_object, rows_on, handles_on, knows_on}
+use Rattle.pt_law.proofs.Knowing.{RowOpen, HandleOpen, ToldRight, PinRight, NotedOpen, NotedRight, IdsRight}
+use Rattle.pt_law.proofs.Knowing.{GivenRight, Knowing, given_open, given_closed}
 use Rattle.pt_law.proofs.Knowing.{with_entry, rows_open, handles_open, told_open, noted_open, rows_closed}
 use Rattle.pt_law.proofs.Knowing.{handles_closed, told_closed, noted_closed, unless_apart}
 
@@ -41,11 +42,12 @@ pub record Right (bound : ℕ) (tree : Tree) (next : ℕ) (past : Past) (rows : 
 
 -- nothing was opened or closed
 quiet : (bound : ℕ) (tree : Tree) (next : ℕ) (past : Past) (rows : List Row) (handles : List HandleRow) (js : ℕ →
-    Job) (j : ℕ) (after : Job) → j < bound → Right bound tree next past rows handles js → after.notes ≡ (js j).notes →
+    Job) (j : ℕ) (after : Job) (given : Option Given) → j < bound → Right bound tree next past rows handles js →
+    after.notes ≡ record (js j).notes { given = given } →
     Each (ToldRight tree) after.holds → Each (PinRight next past.fds) after.holds →
     ((fd : ℕ) → total (fd_held fd) (js j).holds ≤ total (fd_held fd) after.holds) →
-    Right bound tree next past rows handles (set_at j after js)
-quiet bound tree next past rows handles js j after lt h n told pins more = record {
+    GivenRight tree given (past.resolved j) after.holds → Right bound tree next past rows handles (set_at j after js)
+quiet bound tree next past rows handles js j after given lt h n told pins more right = record {
   shown = h.shown;
   handled = h.handled;
   knows = λ i less. at_each (Knowing tree next past) js j after i (
@@ -77,6 +79,7 @@ quiet bound tree next past rows handles js j after lt h n told pins more = recor
               open_on = a.open_on;
               judged = a.judged;
             };
+        given = λ one e. right one (sym (ap (λ (z : Notes). z.given) n) ∙ e);
       }) (λ _. h.knows i less);
 }
 
@@ -84,8 +87,8 @@ same_holds : (bound : ℕ) (tree : Tree) (next : ℕ) (past : Past) (rows : List
     Job) (j : ℕ) (after : Job) → j < bound → Right bound tree next past rows handles js → after.notes ≡ (js j).notes →
     after.holds ≡ (js j).holds → Right bound tree next past rows handles (set_at j after js)
 same_holds bound tree next past rows handles js j after lt h n e =
-    quiet bound tree next past rows handles js j after lt h n (rw e (h.knows j lt).told) (rw e (h.knows j lt).pins)
-    (λ fd. rw e (omega arith))
+    quiet bound tree next past rows handles js j after (js j).notes.given lt h n (rw e (h.knows j lt).told)
+    (rw e (h.knows j lt).pins) (λ fd. rw e (omega arith)) (rw e (h.knows j lt).given)
 
 -- what another job knows, where a descriptor was opened
 elsewhere : (tree : Tree) (next : ℕ) (past later : Past) (i : ℕ) (job : Job) (f : ℕ) (x : Option Opened) →
@@ -105,7 +108,24 @@ elsewhere tree next past later i job f x n e l r o q k = record {
       rw (ap (λ (z : ℕ → ℕ → Option ℕ). z i was.number) q)
       (noted_open tree f x job.notes.reopened (past.resolved i was.number) job.holds job.holds n (λ fd.
       omega arith) (k.reopened was u));
+  given = rw (ap (λ (z : ℕ → ℕ → Option ℕ). z i) q)
+      (given_open tree f x job.notes.given (past.resolved i) job.holds n k.given);
 }
+
+-- what was noted for an object that was given stays right with one descriptor more
+given_more : (tree : Tree) (f : ℕ) (x : Option Opened) (noted : Option Given) (numbers : ℕ → Option ℕ) (new : Fd)
+    {holds after : List Hold} → tree.opened f ≡ None → Takes (hold.Fd new None) after holds →
+    GivenRight tree noted numbers holds → GivenRight (with_entry tree f x) noted numbers after
+given_more tree f x noted numbers new {holds = holds} n t h given e =
+    each_put (IdsRight (with_entry tree f x) given.ids (numbers given.number)) t tt
+    (given_open tree f x noted numbers holds n h given e)
+
+found_is : (flags : OpenFlags) (new fd : Fd) → found_by flags new ≡ Some fd → new ≡ fd
+found_is flags new fd e = go (includes flags.0 o_creat) e
+  where
+    go : (b : Bool) → (if b then None else Some new) ≡ Some fd → new ≡ fd
+    go true e = absurd (cc)
+    go false e = cc
 
 more_held : {one : Hold} {holds after : List Hold} → Takes one after holds → (fd : ℕ) →
     total (fd_held fd) holds ≤ total (fd_held fd) after
@@ -146,7 +166,7 @@ opens_at : (bound : ℕ) (tree : Tree) (next : ℕ) (past : Past) (rows : List R
     Job) (j : ℕ) (after : Job) (object : ℕ) (flags : OpenFlags) (new : Fd) → j < bound →
     Right bound tree next past rows handles js →
     tree.opened new.0 ≡ None → Takes (hold.Fd new None) after.holds (js j).holds →
-    after.notes ≡ record (js j).notes { latest = Some new } →
+    after.notes ≡ record (js j).notes { latest = found_by flags new } →
     (o : Option ℕ) → o ≡ Some object →
     Right bound (opened_on tree object flags new) next (opened_latest past j o) rows handles (set_at j after js)
 opens_at bound tree next past rows handles js j after object flags new lt h free t n o judged =
@@ -161,8 +181,9 @@ opens_at bound tree next past rows handles js j after object flags new lt h free
             told = each_put (ToldRight (with_entry tree new.0 x)) t tt
                 (told_open tree new.0 x (js j).holds free k.told);
             pins = each_put (PinRight next past.fds) t tt k.pins;
-            latest = λ fd e. just_opened tree object flags new fd (later.latest j) (let a =
-                ap (λ (z : Notes). z.latest) n in cc) t (set_at_same past.latest j o ∙ judged);
+            latest = λ fd e. just_opened tree object flags new fd (later.latest j)
+                (found_is flags new fd (sym (ap (λ (z : Notes). z.latest) n) ∙ e)) t
+                (set_at_same past.latest j o ∙ judged);
             root = rw (ap (λ (z : Notes). z.root) n)
                 (noted_open tree new.0 x (js j).notes.root (past.roots j) (js j).holds after.holds free
                 (more_held t) k.root);
@@ -173,6 +194,8 @@ opens_at bound tree next past rows handles js j after object flags new lt h free
                 (noted_open tree new.0 x (js j).notes.reopened (past.resolved j was.number)
                 (js j).holds after.holds free (more_held t) (k.reopened was (sym (ap (λ (z : Notes). z.resolved) n)
                 ∙ u)));
+            given = λ one e. given_more tree new.0 x (js j).notes.given (past.resolved j) new free t k.given one
+                (sym (ap (λ (z : Notes). z.given) n) ∙ e);
           })
           (λ other. elsewhere tree next past later i (js i) new.0 x free refl
           (set_at_other past.latest j o i other) refl refl refl (h.knows i less));
@@ -233,6 +256,8 @@ opens_root bound tree next past rows handles js j after object flags new lt h fr
                 (noted_open tree new.0 x (js j).notes.reopened (past.resolved j was.number)
                 (js j).holds after.holds free (more_held t) (k.reopened was (sym (root_resolved new (js j).notes)
                 ∙ sym (ap (λ (z : Notes). z.resolved) n) ∙ u)));
+            given = λ one e. given_more tree new.0 x (js j).notes.given (past.resolved j) new free t k.given one
+                (sym (root_given new (js j).notes) ∙ sym (ap (λ (z : Notes). z.given) n) ∙ e);
           })
           (λ other. elsewhere tree next past later i (js i) new.0 x free refl refl
           (set_at_other past.roots j first i other) refl refl (h.knows i less));
@@ -249,6 +274,13 @@ opens_root bound tree next past rows handles js j after object flags new lt h fr
     root_reopened fd notes = go notes.rooted
       where
         go : (b : Bool) → (with_root fd (record notes { rooted = b })).reopened ≡ notes.reopened
+        go true = refl
+        go false = refl
+
+    root_given : (fd : Fd) (notes : Notes) → (with_root fd notes).given ≡ notes.given
+    root_given fd notes = go notes.rooted
+      where
+        go : (b : Bool) → (with_root fd (record notes { rooted = b })).given ≡ notes.given
         go true = refl
         go false = refl
 
@@ -289,6 +321,8 @@ opens_anew bound tree next past rows handles js j after object flags new lt h fr
             reopened = λ was u fd e.
                 just_opened tree object flags new fd (past.resolved j was.number) (let a =
                 ap (λ (z : Notes). z.reopened) n in cc) t (judged was (sym (ap (λ (z : Notes). z.resolved) n) ∙ u));
+            given = λ one e. given_more tree new.0 x (js j).notes.given (past.resolved j) new free t k.given one
+                (sym (ap (λ (z : Notes). z.given) n) ∙ e);
           })
           (λ other. elsewhere tree next past past i (js i) new.0 x free refl refl refl refl refl (h.knows i less));
     }
@@ -323,6 +357,8 @@ opens_other bound tree next past rows handles js j after object flags new lt h f
                 (noted_open tree new.0 x (js j).notes.reopened (past.resolved j was.number)
                 (js j).holds after.holds free (more_held t) (k.reopened was (sym (ap (λ (z : Notes). z.resolved) n)
                 ∙ u)));
+            given = λ one e. given_more tree new.0 x (js j).notes.given (past.resolved j) new free t k.given one
+                (sym (ap (λ (z : Notes). z.given) n) ∙ e);
           })
           (λ other. elsewhere tree next past past i (js i) new.0 x free refl refl refl refl refl (h.knows i less));
     }
@@ -355,6 +391,9 @@ closes bound tree next past rows handles js j after f told lt h t n z y none = r
             noted_closed tree f.0 after.notes.reopened (past.resolved j was.number) after.holds y
             (left (js j).notes.reopened after.notes.reopened (past.resolved j was.number)
             (ap (λ (z : Notes). z.reopened) n) (k.reopened was (sym (ap (λ (z : Notes). z.resolved) n) ∙ u)));
+        given = given_closed tree f.0 after.notes.given (past.resolved j) after.holds y (λ one e.
+            each_takes (IdsRight tree one.ids (past.resolved j one.number)) t
+            (k.given one (sym (ap (λ (z : Notes). z.given) n) ∙ e)));
       })
       (λ other y.
       let k = h.knows i less in
@@ -368,6 +407,7 @@ closes bound tree next past rows handles js j after f told lt h t n z y none = r
         reopened = λ was u.
             noted_closed tree f.0 (js i).notes.reopened (past.resolved i was.number) (js i).holds y
             (k.reopened was u);
+        given = given_closed tree f.0 (js i).notes.given (past.resolved i) (js i).holds y k.given;
       })
       (none i less);
 }
@@ -412,11 +452,17 @@ keeps_call bound tree next past rows handles js j after (call.OpenRoot path flag
     rw o.adds (opens_root bound tree next past rows handles js j after l.0 flags new lt h o.fresh m.0.1 m.3
     (object_of ((opened_on tree l.0 flags new).opened new.0)) (object_opened tree l.0 flags new))
 keeps_call bound tree next past rows handles js j after (call.OpenAt dir name flags mode)
-    (host.Ok (value.Fd new)) tree' lt h l m b c =
-    let f = found_only tree dir name flags new tree' m.1.1 l in
+    (host.Ok (value.Fd new)) tree' lt h (inl f) m b c =
     let o = f.3 in
     rw o.adds (opens_at bound tree next past rows handles js j after f.0 flags new lt h o.fresh m.0.1 m.3
     (object_of ((opened_on tree f.0 flags new).opened new.0)) (object_opened tree f.0 flags new))
+keeps_call bound tree next past rows handles js j after (call.OpenAt dir name flags mode)
+    (host.Ok (value.Fd new)) tree' lt h (inr g) m b c =
+    let there = grown bound tree g.0 next past rows handles js (makes_object tree g.2.0 name g.0 g.2.2) h in
+    let object = length tree.objects in
+    let o = g.3 in
+    rw o.adds (opens_at bound g.0 next past rows handles js j after object flags new lt there o.fresh m.0.1 m.3
+    (object_of ((opened_on g.0 object flags new).opened new.0)) (object_opened g.0 object flags new))
 keeps_call bound tree next past rows handles js j after (call.Reopen f flags)
     (host.Ok (value.Fd new)) tree' lt h l m b c =
     let o = l.2 in
@@ -434,12 +480,13 @@ keeps_call bound tree next past rows handles js j after (call.Stat f) (host.Ok (
     rw l.5 (noted m.0.1)
   where
     noted : IsNoted f stat.ids (js j).holds after.holds → Right bound tree next past rows handles (set_at j after js)
-    noted (inl r) = quiet bound tree next past rows handles js j after lt h m.3
+    noted (inl r) = quiet bound tree next past rows handles js j after None lt h m.3
         (each_replaces (ToldRight tree) r.1 (λ _.
         (l.0, record { open_on = l.2; what = l.1; is_object = l.3; same_ids = sym l.4.ids })) (h.knows j lt).told)
         (each_replaces (PinRight next past.fds) r.1 (λ _. tt) (h.knows j lt).pins)
-        (λ fd. let e = total_replaces (fd_held fd) r.1 in omega (arith, e))
-    noted (inr e) = same_holds bound tree next past rows handles js j after lt h m.3 e
+        (λ fd. let e = total_replaces (fd_held fd) r.1 in omega (arith, e)) (λ one e. absurd (cc))
+    noted (inr e) = quiet bound tree next past rows handles js j after None lt h m.3 (rw e (h.knows j lt).told)
+        (rw e (h.knows j lt).pins) (λ fd. rw e (omega arith)) (λ one e. absurd (cc))
 keeps_call bound tree next past rows handles js j after (call.Close f) told tree' lt h l m b c =
     let e = c f refl in
     rw l (closes bound tree next past rows handles js j after f m.0.0 lt h m.0.1 m.3 e.0 e.1 e.2)

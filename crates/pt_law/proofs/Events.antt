@@ -1,18 +1,16 @@
--- Events keep what is known of open descriptors.
-use Rattle.std.proofs.Common.{◌≡◌, ◌≢◌, ℕ, ◌<◌, ◌≤◌, List, [], ◌∷◌, ◌++◌, true, false, refl, sym, ap, ◌∙◌, arith}
+-- Events keep what each job knows of open descriptors.
+use Rattle.std.proofs.Common.{◌≡◌, ◌≢◌, ℕ, ◌<◌, ◌≤◌, List, ◌++◌, true, false, refl, sym, ap}
+use Rattle.std.proofs.Common.{subst, ◌∙◌, arith}
 use Rattle.std.proofs.Common.{Option, Some, None}
 use Rattle.pt_host.specs.Words.{Each, set_at}
-use Rattle.pt_host.specs.Tree.{Tree}
+use Rattle.pt_host.specs.Tree.{Tree, IsWellFormed}
 use Rattle.pt_host.specs.declared.ids.Fd.{Fd}
 use Rattle.pt_host.specs.declared.ids.ObjIds.{ObjIds}
 use Rattle.pt_session.specs.Change.{Change}
-use Rattle.pt_session.specs.Tables.{Tables, HasNumber, IsSoundRow, IsSoundHandle, Agree}
+use Rattle.pt_session.specs.Tables.{Tables, IsSoundRow, IsSoundHandle, Agree}
 use Rattle.pt_session.specs.declared.row.Row.{Row}
-use Rattle.pt_session.specs.declared.row.HandleRow.{HandleRow}
-use Rattle.pt_session.specs.Store.{IsLaterHandle}
-use Rattle.pt_session.specs.Effect.{IsFree}
 use Rattle.pt_session.specs.Happens.{new_row, with_row, agreed}
-use Rattle.pt_session.proofs.Cases.{Case}
+use Rattle.pt_session.proofs.Cases.{Case, GivenAgain}
 use Rattle.pt_session.specs.declared.form.RowForm.{RowForm}
 use Rattle.pt_session.specs.declared.form.RowForm.TheVariants.{File}
 use Rattle.pt_frame.specs.Held.{row_fd}
@@ -28,175 +26,17 @@ use Rattle.pt_frame.specs.declared.hold.Hold.{Hold}
 use Rattle.pt_frame.specs.declared.hold.Hold.TheVariants as hold
 use Rattle.pt_frame.specs.declared.hold.Taken.{Taken}
 use Rattle.pt_frame.specs.declared.hold.Taken.TheVariants as taken
-use Rattle.pt_law.specs.Discipline.{Job, Notes, Resolution, notes_after, Shifts, MovesBy, HoldsTold}
-use Rattle.pt_law.specs.World.{Past, settled, settled_by}
+use Rattle.pt_law.specs.Discipline.{Job, Notes, Resolution, Given, given_for, notes_after, Shifts, MovesBy}
+use Rattle.pt_law.specs.World.{Past, come_to, settled, settled_by}
 use Rattle.pt_law.specs.Ledger.{fd_handed}
-use Rattle.pt_law.proofs.Lists.{is_apart, set_at_same, set_at_other, each_replaced, each_takes, each_taken, each_map}
-use Rattle.pt_law.proofs.Lists.{each_both, each_put}
-use Rattle.pt_law.proofs.Effects.{kept_by, rows_kept, handles_kept, stays_by}
+use Rattle.pt_law.proofs.Lists.{is_apart, set_at_same, set_at_other, each_replaced, each_takes, each_map}
+use Rattle.pt_law.proofs.Lists.{each_put}
+use Rattle.pt_law.proofs.Effects.{stays_by}
 use Rattle.pt_law.proofs.Holding.{handed}
-use Rattle.pt_law.proofs.Knowing.{Shows, RowOpen, HandleOpen, ToldRight, PinRight, NotedOpen, NotedRight, Knowing}
-use Rattle.pt_law.proofs.Knowing.{one_object, row_later, unless_apart}
-
--- what `Stat` told of a noted descriptor is told of the object that its opening answered
-pub told_noted : (tree : Tree) (fd : Fd) (ids : ObjIds) (was : Option ℕ) (holds : List Hold) →
-    Each (ToldRight tree) holds → HoldsTold holds fd ids → NotedOpen tree fd was holds →
-    (object : ℕ) × Shows tree fd object ids × (was ≡ Some object)
-told_noted tree fd ids was holds told t n =
-    let a = each_taken (ToldRight tree) t.1 told in
-    (a.0, a.1, n.judged ∙ ap Some (one_object tree fd n.object a.0 n.open_on a.1.open_on))
-
--- a row comes
-row_other : (tree : Tree) (past : Past) (next number given : ℕ) (fd : Fd) (o : Option ℕ) (row : Row) →
-    given ≡ number → IsSoundRow next row → (HasNumber number row → ⊥) → RowOpen tree past row →
-    RowOpen tree (settled past given next fd o) row
-row_other tree past next number given fd o row e s free h =
-    let apart : row.serial ≢ next = (λ k. let d = s.drawn in absurd (omega (arith, d, k))) in
-    record {
-      object = h.object;
-      shows = h.shows;
-      numbered = λ l. set_at_other past.numbers given o row.number (λ k. free (l, k ∙ e)) ∙ h.numbered l;
-      placed = set_at_other past.objects next o row.serial apart ∙ h.placed;
-      kept_by = set_at_other past.fds next (Some fd) row.serial apart ∙ h.kept_by;
-    }
-
-rows_other : (tree : Tree) (past : Past) (next number given : ℕ) (fd : Fd) (o : Option ℕ) (rows : List Row) →
-    given ≡ number → Each (IsSoundRow next) rows → Each (λ row. HasNumber number row → ⊥) rows →
-    Each (RowOpen tree past) rows → Each (RowOpen tree (settled past given next fd o)) rows
-rows_other tree past next number given fd o [] e s free h = tt
-rows_other tree past next number given fd o (row ∷ rows) e s free h = (
-  row_other tree past next number given fd o row e s.0 free.0 h.0,
-  rows_other tree past next number given fd o rows e s.1 free.1 h.1,
-)
-
-row_comes : (tree : Tree) (past : Past) (t : Tables) (number given : ℕ) (form : RowForm) (ids : ObjIds)
-    (mode count : ℕ) (o : Option ℕ) → Agree t → given ≡ number → IsFree t number ids →
-    (object : ℕ) × Shows tree (fd_of form) object ids × (o ≡ Some object) → Each (RowOpen tree past) t.rows →
-    Each (RowOpen tree (settled past given t.next_row (fd_of form) o))
-    (with_row t (new_row t number form ids mode count)).rows
-row_comes tree past t number given form ids mode count o a e free h rows = (
-  record {
-    object = h.0;
-    shows = h.1;
-    numbered = λ l. ap (set_at given o past.numbers) (sym e) ∙ set_at_same past.numbers given o ∙ h.2;
-    placed = set_at_same past.objects t.next_row o ∙ h.2;
-    kept_by = set_at_same past.fds t.next_row (Some (fd_of form));
-  },
-  rows_other tree past t.next_row number given (fd_of form) o t.rows e a.sound free.1 rows,
-)
-
-agreed_rows : (P : Row → Type 0) (negotiated : Option Negotiated) (t : Tables) → Each P t.rows →
-    Each P (agreed negotiated t).rows
-agreed_rows P None t h = h
-agreed_rows P (Some n) t h = h
-
--- a handle's row comes: it takes the next serial
-abbrev with_place : Past → ℕ → Fd → Option ℕ → Past
-with_place past next fd o = record past { objects = set_at next o past.objects; fds = set_at next (Some fd) past.fds }
-
-row_place : (tree : Tree) (past : Past) (next : ℕ) (fd : Fd) (o : Option ℕ) (row : Row) → IsSoundRow next row →
-    RowOpen tree past row → RowOpen tree (with_place past next fd o) row
-row_place tree past next fd o row s h =
-    let apart : row.serial ≢ next = (λ k. let d = s.drawn in absurd (omega (arith, d, k))) in
-    record {
-      object = h.object;
-      shows = h.shows;
-      numbered = h.numbered;
-      placed = set_at_other past.objects next o row.serial apart ∙ h.placed;
-      kept_by = set_at_other past.fds next (Some fd) row.serial apart ∙ h.kept_by;
-    }
-
--- the serial of a row that comes is no handle's
-handle_place : (tree : Tree) (past later : Past) (next : ℕ) (fd : Fd) (o : Option ℕ) (row : HandleRow) →
-    later.objects ≡ set_at next o past.objects → later.fds ≡ set_at next (Some fd) past.fds → IsSoundHandle next row →
-    HandleOpen tree past row → HandleOpen tree later row
-handle_place tree past later next fd o row e f s h =
-    let apart : row.serial ≢ next = (λ k. let d = s.drawn in absurd (omega (arith, d, k))) in
-    record {
-      object = h.object;
-      open_on = h.open_on;
-      placed = ap (λ z. z row.serial) e ∙ set_at_other past.objects next o row.serial apart ∙ h.placed;
-      kept_by = ap (λ z. z row.serial) f ∙ set_at_other past.fds next (Some fd) row.serial apart ∙ h.kept_by;
-    }
-
-handles_place : (tree : Tree) (past later : Past) (next : ℕ) (fd : Fd) (o : Option ℕ) (rows : List HandleRow) →
-    later.objects ≡ set_at next o past.objects → later.fds ≡ set_at next (Some fd) past.fds →
-    Each (IsSoundHandle next) rows → Each (HandleOpen tree past) rows → Each (HandleOpen tree later) rows
-handles_place tree past later next fd o rows e f s h =
-    each_both (IsSoundHandle next) (HandleOpen tree past) (HandleOpen tree later) rows (λ row t k.
-    handle_place tree past later next fd o row e f t k) s h
-
-handle_later : (tree : Tree) (past : Past) (was now : HandleRow) → IsLaterHandle was now → HandleOpen tree past was →
-    HandleOpen tree past now
-handle_later tree past was now l h = record {
-  object = h.object;
-  open_on = rw l.fd h.open_on;
-  placed = ap past.objects l.serial ∙ h.placed;
-  kept_by = ap past.fds l.serial ∙ h.kept_by ∙ ap (λ f. Some f) (sym l.fd);
-}
-
-agreed_handles : (negotiated : Option Negotiated) (t : Tables) → (agreed negotiated t).handles ≡ t.handles
-agreed_handles None t = refl
-agreed_handles (Some n) t = refl
-
-pub handles_event : (tree : Tree) (past : Past) (t : Tables) (j : ℕ) (job after : Job) (e : Change) (r : EventReply)
-    (t' : Tables) → Agree t → Case t e r t' → MovesBy job (Changes e) (Event r) after →
-    Knowing tree t.next_row past j job → Each (HandleOpen tree past) t.handles →
-    Each (HandleOpen tree (settled_by past j (Changes e) (Event r) t.next_row tree)) t'.handles
-handles_event tree past t j job after (change.Insert era number form ids mode) (event.Inserted given) t' a h m k
-    rows =
-    rw h.4 (handles_place tree past (settled past given t.next_row (fd_of form) (past.latest j)) t.next_row
-    (fd_of form) (past.latest j) t.handles refl refl a.sound_handles rows)
-handles_event tree past t j job after (change.InsertRoot era form ids mode negotiated)
-    (event.Inserted given) t' a h m k rows =
-    rw (ap (λ (z : Tables). z.handles) h.4
-    ∙ agreed_handles negotiated (with_row t (new_row t 1 form ids mode 2)))
-    (handles_place tree past (settled past given t.next_row (fd_of form) (past.roots j)) t.next_row (fd_of form)
-    (past.roots j) t.handles refl refl a.sound_handles rows)
-handles_event tree past t j job after (change.InsertHandle era handle number fd)
-    (event.Inserted given) t' a h m k rows =
-    let fit = m.1 in
-    let n = k.reopened (record { number = number; row = fit.0 }) fit.3 fd fit.4 in
-    rw h.4 (
-      record {
-        object = n.object;
-        open_on = n.open_on;
-        placed = set_at_same past.objects t.next_row (past.resolved j number) ∙ n.judged;
-        kept_by = set_at_same past.fds t.next_row (Some fd);
-      },
-      handles_place tree past (with_place past t.next_row fd (past.resolved j number)) t.next_row fd
-          (past.resolved j number) t.handles refl refl a.sound_handles rows,
-    )
-handles_event tree past t j job after (change.Resolve number) (event.Resolved serial form ids mode) t' a h m k rows =
-    handles_kept (HandleOpen tree past) (handle_later tree past)
-    (kept_by t (change.Resolve number) (event.Resolved serial form ids mode) t' tt h) rows
-handles_event tree past t j job after e r t' a h m k rows =
-    handles_kept (HandleOpen tree past) (handle_later tree past) (kept_by t e r t' tt h) rows
-
-pub rows_event : (tree : Tree) (past : Past) (t : Tables) (j : ℕ) (job after : Job) (e : Change) (r : EventReply)
-    (t' : Tables) → Agree t → Case t e r t' → MovesBy job (Changes e) (Event r) after →
-    Knowing tree t.next_row past j job → Each (RowOpen tree past) t.rows →
-    Each (RowOpen tree (settled_by past j (Changes e) (Event r) t.next_row tree)) t'.rows
-rows_event tree past t j job after (change.Insert era number form ids mode) (event.Inserted given) t' a h m k rows =
-    let fit = m.1 in
-    rw h.4 (row_comes tree past t number given form ids mode 1 (past.latest j) a h.3 h.1
-    (told_noted tree (fd_of form) ids (past.latest j) job.holds k.told fit.3 (k.latest (fd_of form) fit.1)) rows)
-rows_event tree past t j job after (change.InsertRoot era form ids mode negotiated)
-    (event.Inserted given) t' a h m k rows =
-    let fit = m.1 in
-    rw h.4 (agreed_rows (RowOpen tree (settled past given t.next_row (fd_of form) (past.roots j))) negotiated
-    (with_row t (new_row t 1 form ids mode 2))
-    (row_comes tree past t 1 given form ids mode 2 (past.roots j) a h.3 h.1
-    (told_noted tree (fd_of form) ids (past.roots j) job.holds k.told fit.2 (k.root (fd_of form) fit.1)) rows))
-rows_event tree past t j job after (change.InsertHandle era handle number fd) (event.Inserted given) t' a h m k rows =
-    rw h.4 (each_both (IsSoundRow t.next_row) (RowOpen tree past)
-    (RowOpen tree (with_place past t.next_row fd (past.resolved j number))) t.rows (λ row s o.
-    row_place tree past t.next_row fd (past.resolved j number) row s o) a.sound rows)
-rows_event tree past t j job after (change.Resolve number) (event.Resolved serial form ids mode) t' a h m k rows =
-    rows_kept (RowOpen tree past) (row_later tree past)
-    (kept_by t (change.Resolve number) (event.Resolved serial form ids mode) t' tt h) rows
-rows_event tree past t j job after e r t' a h m k rows =
-    rows_kept (RowOpen tree past) (row_later tree past) (kept_by t e r t' tt h) rows
+use Rattle.pt_law.proofs.Knowing.{Shows, RowOpen, HandleOpen, ToldRight, PinRight, NotedRight, IdsRight}
+use Rattle.pt_law.proofs.Knowing.{GivenRight, Knowing}
+use Rattle.pt_law.proofs.Knowing.{unless_apart}
+use Rattle.pt_law.proofs.RowEvents.{told_noted}
 
 -- what is held of slots, counts, new descriptors and new pins, and of what was held before, is held after
 each_brought : (P : Hold → Type 0) (b : Taken) (holds : List Hold) → P hold.Slot → ((fd : Fd) → P (hold.Fd fd None)) →
@@ -259,6 +99,11 @@ grows_settled past given next next' fd o l = record {
   rows = l;
 }
 
+grows_come : (past later : Past) (j number next next' : ℕ) (o : Option ℕ) → Grows past later next next' →
+    Grows past (come_to later j number o) next next'
+grows_come past later j number next next' o g =
+    record { latest = g.latest; roots = g.roots; fds = g.fds; objects = g.objects; rows = g.rows }
+
 next_agreed : (negotiated : Option Negotiated) (t : Tables) (row : Row) →
     t.next_row ≤ (agreed negotiated (with_row t row)).next_row
 next_agreed None t row = omega arith
@@ -267,7 +112,15 @@ next_agreed (Some n) t row = omega arith
 pub grows : (tree : Tree) (past : Past) (t : Tables) (j : ℕ) (e : Change) (r : EventReply) (t' : Tables) → Agree t →
     Case t e r t' → Grows past (settled_by past j (Changes e) (Event r) t.next_row tree) t.next_row t'.next_row
 grows tree past t j (change.Insert era number form ids mode) (event.Inserted given) t' a h =
-    grows_settled past given t.next_row t'.next_row (fd_of form) (past.latest j) (rw h.4 (omega arith))
+    grows_come past (settled past given t.next_row (fd_of form) (past.latest j)) j given t.next_row t'.next_row
+    (past.latest j)
+    (grows_settled past given t.next_row t'.next_row (fd_of form) (past.latest j) (rw h.4 (omega arith)))
+grows tree past t j (change.Insert era number form ids mode) (event.Found given) t' a h =
+    let l = (stays_by t (change.Insert era number form ids mode) (event.Found given) t' h).rows in
+    record { latest = refl; roots = refl; fds = λ row k. refl; objects = λ row k. refl; rows = l }
+grows tree past t j (change.Claim era handle ids) (event.Claimed given) t' a h =
+    let l = (stays_by t (change.Claim era handle ids) (event.Claimed given) t' h).rows in
+    record { latest = refl; roots = refl; fds = λ row k. refl; objects = λ row k. refl; rows = l }
 grows tree past t j (change.InsertRoot era form ids mode negotiated) (event.Inserted given) t' a h =
     grows_settled past given t.next_row t'.next_row (fd_of form) (past.roots j)
     (rw h.4 (next_agreed negotiated t (new_row t 1 form ids mode 2)))
@@ -313,6 +166,8 @@ event_latest notes change.DrawHandle (event.Drawn handle) fd e = (e, refl)
 event_latest notes change.Clear (event.Cleared era closings) fd e = (e, refl)
 event_latest notes change.Begin (event.Began era negotiated) fd e = (e, refl)
 event_latest notes change.DrawNode (event.Drawn number) fd e = (e, refl)
+event_latest notes (change.Insert era number form ids mode) (event.Found given) fd e = (e, refl)
+event_latest notes (change.Claim era handle ids) (event.Claimed given) fd e = (e, refl)
 event_latest notes _ _ fd e = (e, refl)
 
 event_root : (notes : Notes) (e : Change) (r : EventReply) (fd : Fd) →
@@ -329,6 +184,8 @@ event_root notes change.DrawHandle (event.Drawn handle) fd e = (e, refl)
 event_root notes change.Clear (event.Cleared era closings) fd e = (e, refl)
 event_root notes change.Begin (event.Began era negotiated) fd e = (e, refl)
 event_root notes change.DrawNode (event.Drawn number) fd e = (e, refl)
+event_root notes (change.Insert era number form ids mode) (event.Found given) fd e = (e, refl)
+event_root notes (change.Claim era handle ids) (event.Claimed given) fd e = (e, refl)
 event_root notes _ _ fd e = (e, refl)
 
 event_rooted : (notes : Notes) (e : Change) (r : EventReply) →
@@ -341,6 +198,8 @@ event_rooted notes change.DrawHandle (event.Drawn handle) = refl
 event_rooted notes change.Clear (event.Cleared era closings) = refl
 event_rooted notes change.Begin (event.Began era negotiated) = refl
 event_rooted notes change.DrawNode (event.Drawn number) = refl
+event_rooted notes (change.Insert era number form ids mode) (event.Found given) = refl
+event_rooted notes (change.Claim era handle ids) (event.Claimed given) = refl
 event_rooted notes _ _ = refl
 
 noted_event : (tree : Tree) (job after : Job) (e : Change) (r : EventReply) (noted noted' : Option Fd)
@@ -423,8 +282,12 @@ resolved_event tree past t j notes (change.Resolve number) (event.Resolved row f
     row_of other None = other
     row_of other (Some was) = was.row
 resolved_event tree past t j notes (change.Insert era number form ids mode)
-    (event.Inserted given) t' a h rows g k was e =
-    resolved_stays past _ t.next_row t'.next_row j notes.resolved g refl k was e
+    (event.Inserted given) t' a h rows g k was e = absurd (cc)
+resolved_event tree past t j notes (change.Insert era number form ids mode)
+    (event.Found given) t' a h rows g k was e =
+    absurd (cc)
+resolved_event tree past t j notes (change.Claim era handle ids) (event.Claimed given) t' a h rows g k was e =
+    absurd (cc)
 resolved_event tree past t j notes (change.InsertRoot era form ids mode negotiated)
     (event.Inserted given) t' a h rows g k was e =
     resolved_stays past _ t.next_row t'.next_row j notes.resolved g refl k was e
@@ -445,8 +308,9 @@ resolved_event tree past t j notes _ _ t' a h rows g k was e =
 event_reopened : (notes : Notes) (e : Change) (r : EventReply) (fd : Fd) →
     (notes_after notes (Changes e) (Event r)).reopened ≡ Some fd →
     (notes.reopened ≡ Some fd) × (fd_handed fd.0 (Changes e) (Event r) ≡ 0)
-event_reopened notes (change.Insert era number form ids mode) (event.Inserted given) fd e =
-    let a = unless_apart (fd_of form) notes.reopened fd e in (a.0, is_apart (fd_of form).0 fd.0 a.1)
+event_reopened notes (change.Insert era number form ids mode) (event.Inserted given) fd e = absurd (cc)
+event_reopened notes (change.Insert era number form ids mode) (event.Found given) fd e = absurd (cc)
+event_reopened notes (change.Claim era handle ids) (event.Claimed given) fd e = absurd (cc)
 event_reopened notes (change.InsertRoot era form ids mode negotiated) (event.Inserted given) fd e =
     let a = unless_apart (fd_of form) notes.reopened fd e in (a.0, is_apart (fd_of form).0 fd.0 a.1)
 event_reopened notes (change.InsertHandle era handle number same) (event.Inserted given) fd e =
@@ -458,7 +322,7 @@ event_reopened notes change.Begin (event.Began era negotiated) fd e = (e, refl)
 event_reopened notes change.DrawNode (event.Drawn number) fd e = (e, refl)
 event_reopened notes _ _ fd e = (e, refl)
 
--- what was opened anew is forgotten with the next resolution
+-- what was opened anew is forgotten with the next resolution, and with the next number that is given
 reopened_event : (tree : Tree) (past : Past) (t : Tables) (j : ℕ) (job after : Job) (e : Change) (r : EventReply) →
     MovesBy job (Changes e) (Event r) after →
     ((was : Resolution) → job.notes.resolved ≡ Some was →
@@ -469,10 +333,11 @@ reopened_event : (tree : Tree) (past : Past) (t : Tables) (j : ℕ) (job after :
 reopened_event tree past t j job after (change.Resolve number) (event.Resolved row form ids mode) m k was u =
     λ fd q. let n = ap (λ (z : Notes). z.reopened) m.3 in absurd (cc)
 reopened_event tree past t j job after (change.Insert era number form ids mode) (event.Inserted given) m k was u =
-    noted_event tree job after (change.Insert era number form ids mode)
-    (event.Inserted given) job.notes.reopened after.notes.reopened (past.resolved j was.number) _ m.0 refl
-    (λ f q. event_reopened job.notes (change.Insert era number form ids mode) (event.Inserted given) f
-    (sym (ap (λ (n : Notes). n.reopened) m.3) ∙ q)) (k was (sym (ap (λ (n : Notes). n.resolved) m.3) ∙ u))
+    λ fd q. let n = ap (λ (z : Notes). z.reopened) m.3 in absurd (cc)
+reopened_event tree past t j job after (change.Insert era number form ids mode) (event.Found given) m k was u =
+    λ fd q. let n = ap (λ (z : Notes). z.reopened) m.3 in absurd (cc)
+reopened_event tree past t j job after (change.Claim era handle ids) (event.Claimed given) m k was u =
+    λ fd q. let n = ap (λ (z : Notes). z.reopened) m.3 in absurd (cc)
 reopened_event tree past t j job after (change.InsertRoot era form ids mode negotiated)
     (event.Inserted given) m k was u =
     noted_event tree job after (change.InsertRoot era form ids mode negotiated)
@@ -509,6 +374,111 @@ reopened_event tree past t j job after e r m k was u =
     (λ f q. event_reopened job.notes e r f (sym (ap (λ (n : Notes). n.reopened) m.3) ∙ q))
     (k was (sym (ap (λ (n : Notes). n.resolved) m.3) ∙ u))
 
+-- what has ids that were told before is still held, or is no more
+ids_event : (tree : Tree) (ids : ObjIds) (was : Option ℕ) (job after : Job) (e : Change) (r : EventReply) →
+    Shifts job.holds (Changes e) (Event r) after.holds → Each (IdsRight tree ids was) job.holds →
+    Each (IdsRight tree ids was) after.holds
+ids_event tree ids was job after e r m =
+    holds_event (IdsRight tree ids was) job.holds e r after.holds m tt (λ era n own. tt) (λ fd. tt)
+    (λ number row mode form its x y. tt) (λ handle number row fd x y. tt)
+
+-- what was told the ids of an open object is open on that object
+same_ids : (tree : Tree) (fd : Fd) (object : ℕ) (ids : ObjIds) (was : Option ℕ) → IsWellFormed tree →
+    Shows tree fd object ids → was ≡ Some object → (one : Hold) → ToldRight tree one → IdsRight tree ids was one
+same_ids tree fd object ids was well s w (hold.Fd other (Some told)) h = λ q. (
+  h.0,
+  h.1.open_on,
+  w ∙ ap Some (well.apart fd other object h.0 s.what h.1.what s.open_on h.1.open_on s.is_object h.1.is_object
+      (s.same_ids ∙ sym q ∙ sym h.1.same_ids)),
+)
+same_ids tree fd object ids was well s w one h = tt
+
+-- a number is given
+given_now : (tree : Tree) (job after : Job) (e : Change) (r : EventReply) (number : ℕ) (ids : ObjIds)
+    (numbers : ℕ → Option ℕ) (fd : Fd) (object : ℕ) → IsWellFormed tree →
+    Shifts job.holds (Changes e) (Event r) after.holds → after.notes.given ≡ Some (given_for number ids) →
+    numbers number ≡ Some object → Shows tree fd object ids → Each (ToldRight tree) job.holds →
+    GivenRight tree after.notes.given numbers after.holds
+given_now tree job after e r number ids numbers fd object well m n w s told given q =
+    let same : given_for number ids ≡ given = some_given (sym n ∙ q) in
+    subst (λ (g : Given). Each (IdsRight tree g.ids (numbers g.number)) after.holds) same
+    (ids_event tree ids (numbers number) job after e r m
+    (each_map (ToldRight tree) (IdsRight tree ids (numbers number)) job.holds
+    (same_ids tree fd object ids (numbers number) well s w) told))
+  where
+    some_given : {a b : Given} → Some a ≡ Some b → a ≡ b
+    some_given e = cc
+
+-- none is given
+given_still : (tree : Tree) (job after : Job) (e : Change) (r : EventReply) (numbers : ℕ → Option ℕ) →
+    Shifts job.holds (Changes e) (Event r) after.holds → after.notes.given ≡ job.notes.given →
+    GivenRight tree job.notes.given numbers job.holds → GivenRight tree after.notes.given numbers after.holds
+given_still tree job after e r numbers m n k given q =
+    ids_event tree given.ids (numbers given.number) job after e r m (k given (sym n ∙ q))
+
+-- a live row with the ids shows what its number stands for
+found_object : (tree : Tree) (past : Past) (t : Tables) (ids : ObjIds) (number : ℕ) (t' : Tables) →
+    GivenAgain t ids number t' → Each (RowOpen tree past) t.rows →
+    (fd : Fd) × (object : ℕ) × Shows tree fd object ids × (past.numbers number ≡ Some object)
+found_object tree past t ids number t' g rows =
+    let r = each_replaced (RowOpen tree past) g.4.1 rows in (
+      fd_of g.0.form,
+      r.object,
+      subst (Shows tree (fd_of g.0.form) r.object) g.1.1 r.shows,
+      ap past.numbers (sym g.2) ∙ r.numbered g.1.0,
+    )
+
+-- the number that a job has come to stands for this object
+come_now : (past : Past) (j number : ℕ) (o : Option ℕ) → (come_to past j number o).resolved j number ≡ o
+come_now past j number o =
+    ap (λ (z : ℕ → Option ℕ). z number) (set_at_same past.resolved j (set_at number o (past.resolved j)))
+    ∙ set_at_same (past.resolved j) number o
+
+given_event : (tree : Tree) (past : Past) (t : Tables) (j : ℕ) (job after : Job) (e : Change) (r : EventReply)
+    (t' : Tables) → IsWellFormed tree → Case t e r t' → MovesBy job (Changes e) (Event r) after →
+    Each (RowOpen tree past) t.rows → Knowing tree t.next_row past j job →
+    GivenRight tree after.notes.given ((settled_by past j (Changes e) (Event r) t.next_row tree).resolved j)
+    after.holds
+given_event tree past t j job after (change.Claim era handle ids) (event.Claimed given) t' well h m rows k =
+    let o = found_object tree past t ids given t' h.1 rows in
+    given_now tree job after (change.Claim era handle ids) (event.Claimed given) given ids _ o.0 o.1 well m.0
+    (ap (λ (z : Notes). z.given) m.3) (come_now past j given (past.numbers given) ∙ o.3) o.2 k.told
+given_event tree past t j job after (change.Insert era number form ids mode) (event.Found given) t' well h m rows k =
+    let o = found_object tree past t ids given t' h.1 rows in
+    given_now tree job after (change.Insert era number form ids mode) (event.Found given) given ids _ o.0 o.1 well m.0
+    (ap (λ (z : Notes). z.given) m.3) (come_now past j given (past.numbers given) ∙ o.3) o.2 k.told
+given_event tree past t j job after (change.Insert era number form ids mode) (event.Inserted given) t' well h m rows
+    k =
+    let fit = m.1 in
+    let o = told_noted tree (fd_of form) ids (past.latest j) job.holds k.told fit.3 (k.latest (fd_of form) fit.1) in
+    given_now tree job after (change.Insert era number form ids mode) (event.Inserted given) given ids _ (fd_of form)
+    o.0 well m.0 (ap (λ (z : Notes). z.given) m.3) (come_now past j given (past.latest j) ∙ o.2) o.1 k.told
+given_event tree past t j job after (change.Resolve number) (event.Resolved row form ids mode) t' well h m rows k =
+    λ given q. let n = ap (λ (z : Notes). z.given) m.3 in absurd (cc)
+given_event tree past t j job after (change.InsertRoot era form ids mode negotiated)
+    (event.Inserted given) t' well h m rows k =
+    given_still tree job after (change.InsertRoot era form ids mode negotiated) (event.Inserted given)
+    (past.resolved j) m.0
+    (ap (λ (z : Notes). z.given) m.3) k.given
+given_event tree past t j job after (change.InsertHandle era handle number fd)
+    (event.Inserted given) t' well h m rows k =
+    given_still tree job after (change.InsertHandle era handle number fd) (event.Inserted given) (past.resolved j) m.0
+    (ap (λ (z : Notes). z.given) m.3) k.given
+given_event tree past t j job after change.Begin (event.Began era negotiated) t' well h m rows k =
+    given_still tree job after change.Begin (event.Began era negotiated) (past.resolved j) m.0
+    (ap (λ (z : Notes). z.given) m.3) k.given
+given_event tree past t j job after change.Clear (event.Cleared era closings) t' well h m rows k =
+    given_still tree job after change.Clear (event.Cleared era closings) (past.resolved j) m.0
+    (ap (λ (z : Notes). z.given) m.3) k.given
+given_event tree past t j job after change.DrawNode (event.Drawn number) t' well h m rows k =
+    given_still tree job after change.DrawNode (event.Drawn number) (past.resolved j) m.0
+    (ap (λ (z : Notes). z.given) m.3) k.given
+given_event tree past t j job after change.DrawHandle (event.Drawn handle) t' well h m rows k =
+    given_still tree job after change.DrawHandle (event.Drawn handle) (past.resolved j) m.0
+    (ap (λ (z : Notes). z.given) m.3) k.given
+given_event tree past t j job after e r t' well h m rows k =
+    given_still tree job after e r (past.resolved j) m.0 (ap (λ (z : Notes). z.given) m.3) k.given
+
 pinned_now : (tree : Tree) (past : Past) (t : Tables) (handle number row : ℕ) (fd : Fd) (t' : Tables) → Agree t →
     Case t (change.PinHandle handle number) (event.Pinned row fd) t' →
     Each (HandleOpen tree past) t.handles → PinRight t.next_row past.fds (hold.HandlePin row fd)
@@ -519,10 +489,10 @@ pinned_now tree past t handle number row fd t' a h rows =
 
 -- what the job that made the event knows
 pub knows_event : (tree : Tree) (past : Past) (t : Tables) (j : ℕ) (job after : Job) (e : Change) (r : EventReply)
-    (t' : Tables) → Agree t → Case t e r t' → MovesBy job (Changes e) (Event r) after →
+    (t' : Tables) → IsWellFormed tree → Agree t → Case t e r t' → MovesBy job (Changes e) (Event r) after →
     Each (RowOpen tree past) t.rows → Each (HandleOpen tree past) t.handles → Knowing tree t.next_row past j job →
     Knowing tree t'.next_row (settled_by past j (Changes e) (Event r) t.next_row tree) j after
-knows_event tree past t j job after e r t' a h m rows handles k =
+knows_event tree past t j job after e r t' well a h m rows handles k =
     let later = settled_by past j (Changes e) (Event r) t.next_row tree in
     let g = grows tree past t j e r t' a h in
     record {
@@ -549,6 +519,7 @@ knows_event tree past t j job after e r t' a h m rows handles k =
           resolved_event tree past t j job.notes e r t' a h rows g k.resolved was
           (sym (ap (λ (n : Notes). n.resolved) m.3) ∙ q);
       reopened = reopened_event tree past t j job after e r m k.reopened;
+      given = given_event tree past t j job after e r t' well h m rows k;
     }
 
 -- and what another job knows
@@ -570,13 +541,19 @@ knows_other tree past later next next' i job g s k = record {
         open_on = a.open_on;
         judged = ap (λ (z : ℕ → Option ℕ). z was.number) s ∙ a.judged;
       };
+  given = rw s k.given;
 }
 
 pub resolved_other : (past : Past) (j : ℕ) (e : Change) (r : EventReply) (next : ℕ) (tree : Tree) (i : ℕ) → i ≢ j →
     (settled_by past j (Changes e) (Event r) next tree).resolved i ≡ past.resolved i
 resolved_other past j (change.Resolve number) (event.Resolved row form ids mode) next tree i other =
     set_at_other past.resolved j (set_at number (past.numbers number) (past.resolved j)) i other
-resolved_other past j (change.Insert era number form ids mode) (event.Inserted given) next tree i other = refl
+resolved_other past j (change.Insert era number form ids mode) (event.Inserted given) next tree i other =
+    set_at_other past.resolved j (set_at given (past.latest j) (past.resolved j)) i other
+resolved_other past j (change.Insert era number form ids mode) (event.Found given) next tree i other =
+    set_at_other past.resolved j (set_at given (past.numbers given) (past.resolved j)) i other
+resolved_other past j (change.Claim era handle ids) (event.Claimed given) next tree i other =
+    set_at_other past.resolved j (set_at given (past.numbers given) (past.resolved j)) i other
 resolved_other past j (change.InsertRoot era form ids mode negotiated) (event.Inserted given) next tree i other = refl
 resolved_other past j (change.InsertHandle era handle number fd) (event.Inserted given) next tree i other = refl
 resolved_other past j _ _ next tree i other = refl

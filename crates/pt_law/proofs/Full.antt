@@ -4,13 +4,14 @@ use Rattle.std.proofs.Common.{◌||◌}
 use Rattle.std.proofs.Common.{Some, None, refl, sym, subst, if◌then◌else◌, nat_lt}
 use Rattle.pt_host.specs.declared.ids.Errno.{Errno}
 use Rattle.pt_host.specs.declared.seat.HostSeat.{HostSeat}
+use Rattle.pt_iface.specs.declared.answer.Answer.TheVariants.{Cut}
 use Rattle.pt_frame.specs.Deed.{Step, lacks_memory, LacksMemory}
 use Rattle.pt_frame.specs.Held.{is_scope, held, opened}
 use Rattle.pt_frame.specs.Memory.{RanOut}
 use Rattle.pt_frame.specs.Replies.{closings_in, taken_in, restored, refusal, passes_with, fault_if}
-use Rattle.pt_frame.specs.Grammar.{Grammar, End, Do, May}
+use Rattle.pt_frame.specs.Grammar.{Grammar, End, Do, May, Owed}
 use Rattle.pt_frame.specs.Frame.{giving, closings, give_taken, give, leave, or_lost, bare_one, bare, shut, front}
-use Rattle.pt_frame.specs.Frame.{behind}
+use Rattle.pt_frame.specs.Frame.{behind, cut}
 use Rattle.pt_frame.specs.Frame.{under, mark_in, outer, answered_by, CutAfter, CutInFull}
 use Rattle.pt_frame.specs.Tree.{RequestTree, Gives, Refuses, Asks, Opens, Bares, Brackets, Shuts, Allocates, framed}
 use Rattle.pt_frame.specs.Tree.{follows}
@@ -26,7 +27,7 @@ use Rattle.pt_law.specs.Branch.{TakesNone}
 use Rattle.pt_law.proofs.Moving.{told_of}
 
 -- by replies that may come it gives up only where one lacks memory
-abbrev Lasting : Grammar → Type 0
+abbrev pub Lasting : Grammar → Type 0
 Lasting (End last) = Unit {0}
 Lasting (Do deed owed next) = (told : ActReply) → MayBeTold deed told → (LacksMemory told → ⊥) → Lasting (next told)
 Lasting (May one other) = ⊥
@@ -126,7 +127,7 @@ follows_last : (seat : HostSeat) (wants : Bool) (count : ℕ) (holds : List Hold
 follows_last seat wants count holds rest e g =
     subst (λ (w : Bool). Lasting (follows seat w count holds rest)) (sym e) (closings_last count holds rest g)
 
-framed_lasts : (seat : HostSeat) (tree : RequestTree) (holds : List Hold) (marks : List ℕ) → TakesNone tree →
+pub framed_lasts : (seat : HostSeat) (tree : RequestTree) (holds : List Hold) (marks : List ℕ) → TakesNone tree →
     Lasting (framed seat tree holds marks)
 framed_lasts seat (Gives last) holds marks s = answered_lasts seat (passes_with last) holds (finish.Answer last)
 framed_lasts seat (Refuses told) holds marks s = leave_lasts seat holds (finish.Answer (refusal told))
@@ -145,6 +146,14 @@ framed_lasts seat (Shuts passes rest) holds marks s =
     shut_lasts seat (front passes holds) (mark_in marks) (behind passes holds) (λ left.
     framed seat rest left (outer marks)) (λ left. framed_lasts seat rest left (outer marks) s)
 framed_lasts seat (Allocates rest) holds marks s = absurd s
+
+-- a job that is cut gives up no more
+pub cut_lasts : (seat : HostSeat) (owed : Owed) → Lasting (cut seat owed)
+cut_lasts seat owed =
+    taken_lasts owed.taken owed.closings owed.holds
+    (closings owed.closings owed.holds (leave seat owed.holds (finish.Answer Cut)))
+    (closings_last owed.closings owed.holds (leave seat owed.holds (finish.Answer Cut))
+    (leave_lasts seat owed.holds (finish.Answer Cut)))
 
 pub cut_in_full : (seat : HostSeat) (tree : RequestTree) (so_far steps : List Step) (end : Finish) → TakesNone tree →
     AllMayBeTold so_far → (RanOut so_far → ⊥) → CutAfter seat (grammar_of_tree seat tree) so_far steps end →

@@ -22,7 +22,7 @@ use Rattle.pt_law.specs.World.{fd_of}
 use Rattle.pt_frame.specs.declared.act.ActReply.{ActReply}
 use Rattle.pt_frame.specs.declared.act.ActReply.TheVariants.{Event}
 use Rattle.pt_law.specs.Branch.{ReturnsHold, AreOwn, AreOwn.{none, keep, skip}}
-use Rattle.pt_law.specs.Discipline.{Job, HoldsTold, JobMoves, MovesIf}
+use Rattle.pt_law.specs.Discipline.{Job, HoldsTold, JobMoves, MovesIf, Disciplined, idle}
 use Rattle.pt_law.specs.World.{World, Past, Turn, turn_by, Goes, IsLawful, Runs, TablesGo, steps_of}
 use Rattle.pt_law.specs.Laws.{Starts, IsLive, ObjectOf}
 use Rattle.pt_law.specs.Discipline.{AreDisciplined}
@@ -31,12 +31,12 @@ use Rattle.pt_law.specs.Giving.{GivesBy, GivingPlaces, GivingPath, IsGiven, up_t
 use Rattle.pt_law.specs.Uses.{StaysLive}
 use Rattle.pt_law.proofs.Lists.{each_replaced, set_at_same}
 use Rattle.pt_law.proofs.Knowing.{RowOpen, Knowing}
-use Rattle.pt_law.proofs.Events.{told_noted}
+use Rattle.pt_law.proofs.RowEvents.{told_noted}
 use Rattle.pt_law.proofs.Steps.{Inv, turned}
 use Rattle.pt_law.proofs.Laws.{reach}
 use Rattle.pt_law.proofs.Next.{owner_of, next_move}
 use Rattle.pt_law.proofs.Cuts.{located, runs_append, runs_split}
-use Rattle.pt_law.proofs.Naming.{latest_stays, led_law, to_open, named_cut, regroup, and_more}
+use Rattle.pt_law.proofs.Naming.{latest_stays, led_law, to_open, named_cut, regroup, and_more, own_to, opened_free}
 use Rattle.pt_law.proofs.Reliance.{one_number_law}
 
 -- the number stands for what the job opened last, which has these ids
@@ -58,10 +58,11 @@ again w j job fd ids number t' well k rows l t g =
     a.1.is_object (r.shows.same_ids ∙ g.1.1 ∙ sym a.1.same_ids) in
     (a.0, ap w.past.numbers (sym g.2) ∙ r.numbered g.1.0 ∙ ap Some same, a.2, a.1.what, a.1.is_object, a.1.same_ids)
 
-moved_on : (w next : World) (j number : ℕ) (ids : ObjIds) → next.tree ≡ w.tree → next.past ≡ w.past →
+moved_on : (w next : World) (j number : ℕ) (ids : ObjIds) → next.tree ≡ w.tree →
+    next.past.numbers ≡ w.past.numbers →
     StandsFor w w j number ids → StandsFor w next j number ids
 moved_on w next j number ids t p s =
-    (s.0, ap (λ (z : Past). z.numbers number) p ∙ s.1, s.2, s.3, subst (λ z. IsObject z s.0 s.3) (sym t) s.4, s.5)
+    (s.0, ap (λ (z : ℕ → Option ℕ). z number) p ∙ s.1, s.2, s.3, subst (λ z. IsObject z s.0 s.3) (sym t) s.4, s.5)
 
 -- a number is given for what the job opened last
 gives_latest : (bound : ℕ) (base had : ℕ → ℕ) (w : World) (js : ℕ →
@@ -79,7 +80,7 @@ gives_latest bound base had w js s next after number ids lt v g m b = go s.step.
     go (Some (Changes (change.Claim era handle asked))) (Event (event.Claimed given)) m b g =
         let fit = m.1 in
         let h = cases w.tables next.tables (change.Claim era handle asked) (event.Claimed given) g.made.0 in
-        moved_on w next s.job number ids g.made.1 g.past
+        moved_on w next s.job number ids g.made.1 (ap (λ (z : Past). z.numbers) g.past)
         (again w s.job (js s.job) fit.0 ids number next.tables v.well k v.right.shown fit.2
         (subst (HoldsTold (js s.job).holds fit.0) b.1 fit.3)
         (subst (λ i. GivenAgain w.tables i number next.tables) b.1
@@ -87,7 +88,7 @@ gives_latest bound base had w js s next after number ids lt v g m b = go s.step.
     go (Some (Changes (change.Insert era drawn form asked mode))) (Event (event.Found given)) m b g =
         let fit = m.1 in
         let h = cases w.tables next.tables (change.Insert era drawn form asked mode) (event.Found given) g.made.0 in
-        moved_on w next s.job number ids g.made.1 g.past
+        moved_on w next s.job number ids g.made.1 (ap (λ (z : Past). z.numbers) g.past)
         (again w s.job (js s.job) (fd_of form) ids number next.tables v.well k v.right.shown fit.1
         (subst (HoldsTold (js s.job).holds (fd_of form)) b.1 fit.3)
         (subst (λ i. GivenAgain w.tables i number next.tables) b.1
@@ -106,6 +107,17 @@ gives_latest bound base had w js s next after number ids lt v g m b = go s.step.
         )
     go _ _ m b g = absurd b
 
+-- and what was opened last was found
+gives_found : (job after : Job) (number : ℕ) (ids : ObjIds) (deed : Option Deed) (told : ActReply) →
+    MovesIf job deed told after → GivesBy number ids deed told → (fd : Fd) × (job.notes.latest ≡ Some fd)
+gives_found job after number ids (Some (Changes (change.Claim era handle asked))) (Event (event.Claimed given)) m b =
+    (m.1.0, m.1.2)
+gives_found job after number ids (Some (Changes (change.Insert era drawn form asked mode)))
+    (Event (event.Found given)) m b = (fd_of form, m.1.1)
+gives_found job after number ids (Some (Changes (change.Insert era drawn form asked mode)))
+    (Event (event.Inserted given)) m b = (fd_of form, m.1.1)
+gives_found job after number ids _ _ m b = absurd b
+
 -- the number stands for this object, which has these ids
 abbrev Names : World → ℕ → ObjIds → ℕ → Type 0
 Names next number ids object =
@@ -118,7 +130,7 @@ names_opened w next j number ids was object s e f = subst (Names next number ids
     same : (o : ℕ) → w.past.latest j ≡ Some o → o ≡ object
     same o l = cc
 
-giving_cut : {j parent : ℕ} {name : List ℕ} {number : ℕ} {ids : ObjIds} (turns more : List Turn)
+pub giving_cut : {j parent : ℕ} {name : List ℕ} {number : ℕ} {ids : ObjIds} (turns more : List Turn)
     (p : GivingPlaces turns j parent name number ids) →
     turns ++ more ≡ ((p.opened.before
     ++ turn_by j (resolving parent p.opened.row p.opened.form p.opened.ids p.opened.mode) ∷ p.opened.between)
@@ -134,7 +146,7 @@ giving_cut {j = j} {parent = parent} {name = name} turns more p =
     ∙ ap (λ z. front ++ b ∷ z) (and_more q.later more p.until p.behind give p.in_turn))
 
 -- a path up to where the number is given
-to_give : {j parent : ℕ} {name : List ℕ} {number : ℕ} {ids : ObjIds} {turns : List Turn} {start given : World}
+pub to_give : {j parent : ℕ} {name : List ℕ} {number : ℕ} {ids : ObjIds} {turns : List Turn} {start given : World}
     {p : GivingPlaces turns j parent name number ids} (path : GivingPath start p given) →
     Runs start ((p.opened.before
     ++ turn_by j (resolving parent p.opened.row p.opened.form p.opened.ids p.opened.mode) ∷ p.opened.between)
@@ -150,7 +162,6 @@ pub giving_law : {j parent : ℕ} {name : List ℕ} {number : ℕ} {ids : ObjIds
     AreDisciplined bound (turns ++ more) → (path : GivingPath start p given) → IsGiven path
 giving_law {j = j} {parent = parent} {name = name} {number = number} {ids = ids} limit bound turns more start given p
     s d path =
-    let led = led_law limit bound turns more start path.opened p.opened s d path.named in
     let q = p.opened in
     let front = (q.before ++ turn_by j (resolving parent q.row q.form q.ids q.mode) ∷ q.between)
     ++ turn_by j (opening q.dir name q.flags q.made_mode q.fd) ∷ p.until in
@@ -160,6 +171,14 @@ giving_law {j = j} {parent = parent} {name = name} {number = number} {ids = ids}
     let lt = owner_of bound front give (p.behind ++ more) d2.owners in
     let own = v.2 j lt in
     let move = next_move give (p.behind ++ more) (v.0 j) own.1 own.2 in
+    let found = gives_found (v.0 j) move.0 number ids give.step.deed give.step.reply move.1 p.gives in
+    let free = opened_free
+    (steps_of j (q.before ++ turn_by j (resolving parent q.row q.form q.ids q.mode) ∷ q.between)) (steps_of j p.until)
+    q.dir name q.flags q.made_mode q.fd (v.0 j) p.opened_last
+    (subst (λ z. Disciplined idle z (v.0 j))
+    (own_to j (q.before ++ turn_by j (resolving parent q.row q.form q.ids q.mode) ∷ q.between) p.until
+    (opening q.dir name q.flags q.made_mode q.fd)) own.0) found.0 found.1 in
+    let led = led_law limit bound turns more start path.opened p.opened s d free path.named in
     let last = gives_latest bound _ _ path.at_give v.0 give given move.0 number ids lt v.1 path.gives move.1 p.gives
     in
     let still = latest_stays j p.until path.opened path.at_give path.to_give p.opened_last in
@@ -221,14 +240,14 @@ rest_same : {a b : Step} {xs ys : List Step} → a ∷ xs ≡ b ∷ ys → xs �
 rest_same e = cc
 
 -- a step of a request's own part, among all steps of its job
-record OwnAt (first more : List Step) (a : Step) (steps : List Step) : Type 0 where
-  front : List Step
-  back : List Step
-  are : steps ≡ front ++ a ∷ back
-  own_front : AreOwn first front
-  own_back : AreOwn more back
+pub record OwnAt (first more : List Step) (a : Step) (steps : List Step) : Type 0 where
+  pub front : List Step
+  pub back : List Step
+  pub are : steps ≡ front ++ a ∷ back
+  pub own_front : AreOwn first front
+  pub own_back : AreOwn more back
 
-own_same : (path steps first more : List Step) (a : Step) → AreOwn path steps → path ≡ first ++ a ∷ more →
+pub own_same : (path steps first more : List Step) (a : Step) → AreOwn path steps → path ≡ first ++ a ∷ more →
     OwnAt first more a steps
 own_same _ _ [] more a none e = absurd (cc)
 own_same _ _ (b ∷ first) more a none e = absurd (cc)
@@ -279,7 +298,7 @@ returns_none (Some (Calls a)) told h = returns_called a told h
 returns_none (Some (Changes e)) told h = returns_changed e told h
 returns_none None told h = (tt, tt)
 
-own_quiet : (N : Option Deed → ActReply → Type 0) →
+pub own_quiet : (N : Option Deed → ActReply → Type 0) →
     ((deed : Option Deed) (told : ActReply) → ReturnsHold deed → N deed told) → (path steps : List Step) →
     AreOwn path steps → Each (λ (step : Step). N step.deed step.reply) path →
     Each (λ (step : Step). N step.deed step.reply) steps
@@ -322,7 +341,7 @@ again_live t ids number t' g =
     let k = replaced_in g.4.1 in
     (row, subst (λ (z : Tables). IsRow z row) (sym g.4.2) k, (g.1.0, g.2))
 
-gives_live : (t t' : Tables) (number : ℕ) (ids : ObjIds) (deed : Option Deed) (told : ActReply) →
+pub gives_live : (t t' : Tables) (number : ℕ) (ids : ObjIds) (deed : Option Deed) (told : ActReply) →
     GivesBy number ids deed told → TablesGo t deed told t' → IsLive t' number
 gives_live t t' number ids (Some (Changes (change.Claim era handle asked))) (Event (event.Claimed given)) b g =
     let h = cases t t' (change.Claim era handle asked) (event.Claimed given) g in

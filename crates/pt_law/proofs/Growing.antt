@@ -24,10 +24,10 @@ use Rattle.pt_session.specs.declared.row.HandleRow.{HandleRow}
 use Rattle.pt_law.specs.World.{fd_of}
 use Rattle.pt_frame.specs.declared.hold.Hold.{Hold}
 use Rattle.pt_frame.specs.declared.hold.Hold.TheVariants as hold
-use Rattle.pt_law.specs.Discipline.{Job}
+use Rattle.pt_law.specs.Discipline.{Job, Given}
 use Rattle.pt_law.specs.World.{Past}
 use Rattle.pt_law.proofs.Lists.{each_map}
-use Rattle.pt_law.proofs.Knowing.{Shows, RowOpen, HandleOpen, ToldRight, NotedRight, Knowing}
+use Rattle.pt_law.proofs.Knowing.{Shows, RowOpen, HandleOpen, ToldRight, NotedRight, IdsRight, GivenRight, Knowing}
 
 pub record Grows (tree after : Tree) : Type 0 where
   pub same_open : after.opened ≡ tree.opened
@@ -48,7 +48,7 @@ takes_name : (tree : Tree) (dir : ℕ) (name : List ℕ) (after : Tree) → Take
 takes_name tree dir name after h =
     subst (λ (t : Tree). Grows tree t) (sym h.takes) (record { same_open = refl; stays = λ object what is. is })
 
-makes_object : (tree : Tree) (dir : ℕ) (name : List ℕ) (after : Tree) → MakesObject tree dir name after →
+pub makes_object : (tree : Tree) (dir : ℕ) (name : List ℕ) (after : Tree) → MakesObject tree dir name after →
     Grows tree after
 makes_object tree dir name after h =
     subst (λ (t : Tree).
@@ -203,6 +203,17 @@ noted_on : {tree after : Tree} → Grows tree after → (noted : Option Fd) (was
 noted_on g noted was holds h fd e = let a = h fd e in
     record { held = a.held; object = a.object; open_on = open_on g fd a.object a.open_on; judged = a.judged }
 
+ids_on : {tree after : Tree} → Grows tree after → (ids : ObjIds) (was : Option ℕ) (one : Hold) →
+    IdsRight tree ids was one → IdsRight after ids was one
+ids_on g ids was (hold.Fd fd (Some told)) h = λ q. let a = h q in (a.0, open_on g fd a.0 a.1, a.2)
+ids_on g ids was one h = tt
+
+given_on : {tree after : Tree} → Grows tree after → (noted : Option Given) (numbers : ℕ → Option ℕ)
+    (holds : List Hold) → GivenRight tree noted numbers holds → GivenRight after noted numbers holds
+given_on {tree = tree} {after = after} g noted numbers holds h given e =
+    each_map (IdsRight tree given.ids (numbers given.number)) (IdsRight after given.ids (numbers given.number)) holds
+    (ids_on g given.ids (numbers given.number)) (h given e)
+
 pub knows_on : {tree after : Tree} → Grows tree after → (next : ℕ) (past : Past) (j : ℕ) (job : Job) →
     Knowing tree next past j job → Knowing after next past j job
 knows_on {tree = tree} {after = after} g next past j job k = record {
@@ -213,4 +224,5 @@ knows_on {tree = tree} {after = after} g next past j job k = record {
   unrooted = k.unrooted;
   resolved = k.resolved;
   reopened = λ was u. noted_on g job.notes.reopened (past.resolved j was.number) job.holds (k.reopened was u);
+  given = given_on g job.notes.given (past.resolved j) job.holds k.given;
 }

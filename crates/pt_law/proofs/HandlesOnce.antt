@@ -77,7 +77,7 @@ handle_flow job t (Changes change.DrawHandle) (Event (event.Drawn k)) t' after g
     let a = ap (λ (z : Notes). is_drawn n z.handle) m.3 in omega (arith, a)
 handle_flow job t (Changes (change.InsertHandle era handle number fd)) (Event (event.Inserted given)) t' after g m n =
     let a = ap (λ (z : Notes). is_drawn n z.handle) m.3 in
-    let b = ap (is_drawn n) m.1.2 in
+    let b = ap (is_drawn n) m.1.1 in
     let c = ap (λ i. is i n) (cases t t' (change.InsertHandle era handle number fd) (event.Inserted given) g).3 in
     omega (arith, a, b, c)
 handle_flow job t (Calls (call.OpenRoot path flags)) (Host (host.Ok (value.Fd fd))) t' after g m n =
@@ -101,6 +101,12 @@ handle_flow job t (Changes (change.Insert era number form ids mode)) (Event (eve
 handle_flow job t (Changes (change.InsertRoot era form ids mode agreed))
     (Event (event.Inserted given)) t' after g m n = let a = ap (λ (z : Notes). is_drawn n z.handle) m.3 in
     omega (arith, a)
+handle_flow job t (Changes (change.Insert era number form ids mode)) (Event (event.Found given)) t' after g m n =
+    let a = ap (λ (z : Notes). is_drawn n z.handle) m.3 in omega (arith, a)
+handle_flow job t (Changes (change.Claim era handle ids)) (Event (event.Claimed given)) t' after g m n =
+    let a = ap (λ (z : Notes). is_drawn n z.handle) m.3 in omega (arith, a)
+handle_flow job t (Calls (call.Stat fd)) (Host (host.Ok (value.Stat stat))) t' after g m n =
+    let a = ap (λ (z : Notes). is_drawn n z.handle) m.3 in omega (arith, a)
 handle_flow job t deed told t' after g m n = let a = ap (λ (z : Notes). is_drawn n z.handle) m.3 in omega (arith, a)
 
 keeps_handles : (bound : ℕ) (had : ℕ → ℕ) (t : Tables) (js : ℕ →

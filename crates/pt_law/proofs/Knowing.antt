@@ -11,7 +11,7 @@ use Rattle.pt_session.specs.declared.row.HandleRow.{HandleRow}
 use Rattle.pt_law.specs.World.{fd_of}
 use Rattle.pt_frame.specs.declared.hold.Hold.{Hold}
 use Rattle.pt_frame.specs.declared.hold.Hold.TheVariants as hold
-use Rattle.pt_law.specs.Discipline.{Job, Resolution, unless}
+use Rattle.pt_law.specs.Discipline.{Job, Resolution, Given, unless}
 use Rattle.pt_law.specs.World.{Past}
 use Rattle.pt_law.specs.Ledger.{row_has, handle_has}
 use Rattle.pt_law.proofs.Flows.{fd_held}
@@ -67,6 +67,17 @@ pub record NotedOpen (tree : Tree) (fd : Fd) (was : Option ℕ) (holds : List Ho
 abbrev pub NotedRight : Tree → Option Fd → Option ℕ → List Hold → Type 0
 NotedRight tree noted was holds = (fd : Fd) → noted ≡ Some fd → NotedOpen tree fd was holds
 
+-- what the job holds, and was told these ids of, is open on this object
+abbrev pub IdsRight : Tree → ObjIds → Option ℕ → Hold → Type 0
+IdsRight tree ids was (hold.Fd fd (Some told)) =
+    told ≡ ids → (object : ℕ) × IsOpenOn tree fd object × (was ≡ Some object)
+IdsRight tree ids was _ = Unit {0}
+
+-- what has the ids that the job was given a number for is open on the object that it was given
+abbrev pub GivenRight : Tree → Option Given → (ℕ → Option ℕ) → List Hold → Type 0
+GivenRight tree noted numbers holds =
+    (given : Given) → noted ≡ Some given → Each (IdsRight tree given.ids (numbers given.number)) holds
+
 -- what one job knows is right
 pub record Knowing (tree : Tree) (next : ℕ) (past : Past) (j : ℕ) (job : Job) : Type 0 where
   pub told : Each (ToldRight tree) job.holds
@@ -79,6 +90,7 @@ pub record Knowing (tree : Tree) (next : ℕ) (past : Past) (j : ℕ) (job : Job
       (was.row < next) × (past.objects was.row ≡ past.resolved j was.number)
   pub reopened : (was : Resolution) → job.notes.resolved ≡ Some was →
       NotedRight tree job.notes.reopened (past.resolved j was.number) job.holds
+  pub given : GivenRight tree job.notes.given (past.resolved j) job.holds
 
 -- the tree with another entry for this descriptor
 abbrev pub with_entry : Tree → ℕ → Option Opened → Tree
@@ -175,6 +187,23 @@ noted_open tree f x noted was holds after n more h fd e =
       judged = a.judged;
     }
 
+ids_stay : (tree : Tree) (f : ℕ) (x : Option Opened) (ids : ObjIds) (was : Option ℕ) (one : Hold) →
+    ((fd : Fd) (object : ℕ) → fd_held f one ≡ is fd.0 f → IsOpenOn tree fd object → fd.0 ≢ f) →
+    IdsRight tree ids was one → IdsRight (with_entry tree f x) ids was one
+ids_stay tree f x ids was (hold.Fd fd None) e h = tt
+ids_stay tree f x ids was (hold.Fd fd (Some told)) e h =
+    λ q. let a = h q in (a.0, stays_open tree f x fd a.0 (e fd a.0 refl a.1) a.1, a.2)
+ids_stay tree f x ids was one e h = tt
+
+pub given_open : (tree : Tree) (f : ℕ) (x : Option Opened) (noted : Option Given) (numbers : ℕ → Option ℕ)
+    (holds : List Hold) → tree.opened f ≡ None → GivenRight tree noted numbers holds →
+    GivenRight (with_entry tree f x) noted numbers holds
+given_open tree f x noted numbers holds n h given e =
+    each_map (IdsRight tree given.ids (numbers given.number))
+    (IdsRight (with_entry tree f x) given.ids (numbers given.number)) holds
+    (λ one. ids_stay tree f x given.ids (numbers given.number) one (λ fd object e o. other_than tree f fd object n o))
+    (h given e)
+
 -- a descriptor is closed that is neither a row's nor held after
 pub rows_closed : (tree : Tree) (past : Past) (f : ℕ) (rows : List Row) → total (row_has f) rows ≡ 0 →
     Each (RowOpen tree past) rows → Each (RowOpen (with_entry tree f None) past) rows
@@ -242,3 +271,12 @@ row_later tree past row later l h = record {
   placed = ap past.objects l.serial ∙ h.placed;
   kept_by = ap past.fds l.serial ∙ h.kept_by ∙ ap (λ f. Some (fd_of f)) (sym l.form);
 }
+
+pub given_closed : (tree : Tree) (f : ℕ) (noted : Option Given) (numbers : ℕ → Option ℕ) (holds : List Hold) →
+    total (fd_held f) holds ≡ 0 → GivenRight tree noted numbers holds →
+    GivenRight (with_entry tree f None) noted numbers holds
+given_closed tree f noted numbers holds z h given e =
+    each_both (IdsRight tree given.ids (numbers given.number)) (λ one. fd_held f one ≡ 0)
+    (IdsRight (with_entry tree f None) given.ids (numbers given.number)) holds
+    (λ one a b. ids_stay tree f None given.ids (numbers given.number) one
+    (λ fd object e o. is_none fd.0 f (sym e ∙ b)) a) (h given e) (none_weighs (fd_held f) holds z)

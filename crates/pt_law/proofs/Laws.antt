@@ -79,6 +79,7 @@ begins_at limit bound tree well = record {
       unrooted = λ e. refl;
       resolved = λ was e. absurd (cc);
       reopened = λ was u fd e. absurd (cc);
+      given = λ one e. tt;
     };
   };
 }

@@ -9,6 +9,9 @@ pub mod Branches
 pub mod Full
 pub mod Told
 pub mod Seats
+pub mod Covering
+pub mod Wearing
+pub mod Seated
 pub mod Answering
 pub mod Effects
 pub mod Flows
@@ -22,6 +25,7 @@ pub mod Settled
 pub mod Returned
 pub mod Numbers
 pub mod Givings
+pub mod RowEvents
 pub mod Events
 pub mod Calls
 pub mod PinnedRows
@@ -40,6 +44,11 @@ pub mod Reliance
 pub mod Naming
 pub mod Giving
 pub mod Tracing
+pub mod Carried
+pub mod Handled
+pub mod Made
+pub mod Placing
 pub mod ExampleShutOut
 pub mod ExampleSettled
 pub mod ExampleBracket
+pub mod ExampleMade

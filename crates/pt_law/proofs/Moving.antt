@@ -43,19 +43,19 @@ made_moves deed (Some same) told job mid n i m =
 made_moves deed None NoCopy job mid n i m = absurd (n i)
 made_moves deed None told job mid n i m = absurd i
 
--- what gives a hold back leaves it noted which era it is and whether a root was opened
+-- what gives a hold back leaves it noted which era it is, whether a root was opened and what number was given
 pub giving_lasts : (seat : HostSeat) (one : Hold) (told : ActReply) (notes : Notes) →
     Lasts notes (notes_after notes (giving seat one) told)
-giving_lasts seat (hold.Pin row fd) told notes = (refl, refl)
-giving_lasts seat (hold.HandlePin row fd) told notes = (refl, refl)
-giving_lasts seat (hold.Fd fd was) told notes = (refl, refl)
-giving_lasts seat hold.Slot told notes = (refl, refl)
-giving_lasts seat (hold.Count era number) told notes = (refl, refl)
-giving_lasts seat hold.Groups told notes = (refl, refl)
-giving_lasts seat hold.EffectiveGid told notes = (refl, refl)
-giving_lasts seat hold.EffectiveUid told notes = (refl, refl)
-giving_lasts seat (hold.Dropped caps) told notes = (refl, refl)
-giving_lasts seat hold.Umask told notes = (refl, refl)
+giving_lasts seat (hold.Pin row fd) told notes = (refl, refl, refl)
+giving_lasts seat (hold.HandlePin row fd) told notes = (refl, refl, refl)
+giving_lasts seat (hold.Fd fd was) told notes = (refl, refl, refl)
+giving_lasts seat hold.Slot told notes = (refl, refl, refl)
+giving_lasts seat (hold.Count era number) told notes = (refl, refl, refl)
+giving_lasts seat hold.Groups told notes = (refl, refl, refl)
+giving_lasts seat hold.EffectiveGid told notes = (refl, refl, refl)
+giving_lasts seat hold.EffectiveUid told notes = (refl, refl, refl)
+giving_lasts seat (hold.Dropped caps) told notes = (refl, refl, refl)
+giving_lasts seat hold.Umask told notes = (refl, refl, refl)
 
 -- any hold may be given back
 gives_back : (seat : HostSeat) (one : Hold) (told : ActReply) (holds left : List Hold) (notes : Notes) →

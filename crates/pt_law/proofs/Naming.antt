@@ -1,6 +1,6 @@
 -- A name that is opened leads from the directory that a number stood for.
-use Rattle.std.proofs.Common.{◌≡◌, ◌≢◌, ◌⊎◌, ⊎_elim, inl, inr, ℕ, ◌<◌, List, [], ◌∷◌, ◌++◌, false, refl, sym, ap}
-use Rattle.std.proofs.Common.{subst, ◌∙◌, arith, Option, Some, None, append_assoc}
+use Rattle.std.proofs.Common.{◌≡◌, ◌≢◌, ◌⊎◌, ⊎_elim, inl, inr, ℕ, ◌<◌, List, [], ◌∷◌, ◌++◌, Bool, true, false, refl}
+use Rattle.std.proofs.Common.{sym, ap, subst, ◌∙◌, arith, Option, Some, None, append_assoc, if◌then◌else◌}
 use Rattle.std.proofs.lemmas.Bool.{cases_eq}
 use Rattle.pt_host.specs.Words.{Each, Takes}
 use Rattle.pt_host.specs.Flags.{includes, o_creat, o_path}
@@ -19,16 +19,17 @@ use Rattle.pt_session.specs.declared.reply.EventReply.TheVariants as event
 use Rattle.pt_frame.specs.Deed.{Deed, Calls, Changes, Step}
 use Rattle.pt_frame.specs.declared.act.ActReply.{ActReply}
 use Rattle.pt_frame.specs.declared.act.ActReply.TheVariants.{Event, Host}
-use Rattle.pt_frame.specs.declared.hold.Hold.{Hold}
 use Rattle.pt_frame.specs.declared.hold.Hold.TheVariants as hold
 use Rattle.pt_law.specs.Discipline.{Job, Notes, Resolution, idle, MovesIf, Disciplined, notes_after, with_root}
+use Rattle.pt_law.specs.Discipline.{found_by}
 use Rattle.pt_law.specs.World.{World, Past, Turn, turn_by, Goes, IsLawful, Runs, steps_of, settled_if, object_of}
+use Rattle.pt_law.specs.World.{fd_of}
 use Rattle.pt_law.specs.Laws.{Starts, ObjectOf}
 use Rattle.pt_law.specs.Discipline.{AreDisciplined}
 use Rattle.pt_law.specs.Naming.{resolving, opening, ResolvesNone, OpensNone, NamePlaces, NamePath, LedTo}
 use Rattle.pt_law.proofs.Lists.{each_replaced, set_at_same, set_at_other}
 use Rattle.pt_law.proofs.Givings.{agree_step}
-use Rattle.pt_law.proofs.Knowing.{RowOpen, one_object}
+use Rattle.pt_law.proofs.Knowing.{RowOpen, one_object, unless_apart}
 use Rattle.pt_law.proofs.Steps.{Inv, turned}
 use Rattle.pt_law.proofs.Interleaving.{steps_append, disciplined_split}
 use Rattle.pt_law.proofs.Laws.{reach, step_stays}
@@ -58,6 +59,10 @@ settled_objects past j (Some (Changes (change.Resolve number)))
 settled_objects past j (Some (Calls (call.OpenAt dir name flags mode)))
     (Host (host.Ok (value.Fd fd))) next tree row l = refl
 settled_objects past j (Some (Calls (call.OpenRoot place flags))) (Host (host.Ok (value.Fd fd))) next tree row l =
+    refl
+settled_objects past j (Some (Changes (change.Insert era number form ids mode)))
+    (Event (event.Found given)) next tree row l = refl
+settled_objects past j (Some (Changes (change.Claim era handle ids))) (Event (event.Claimed given)) next tree row l =
     refl
 settled_objects past j (Some _) _ next tree row l = refl
 
@@ -96,6 +101,10 @@ settled_latest past j i (Some (Changes (change.Resolve number)))
     (Event (event.Resolved serial form ids mode)) next tree q = refl
 settled_latest past j i (Some (Calls (call.OpenRoot place flags))) (Host (host.Ok (value.Fd fd))) next tree q = refl
 settled_latest past j i None told next tree q = refl
+settled_latest past j i (Some (Changes (change.Insert era number form ids mode)))
+    (Event (event.Found given)) next tree q = refl
+settled_latest past j i (Some (Changes (change.Claim era handle ids))) (Event (event.Claimed given)) next tree q =
+    refl
 settled_latest past j i (Some _) _ next tree q = refl
 
 pub latest_step : (w : World) (i : ℕ) (s : Turn) (next : World) → Goes w s next →
@@ -138,20 +147,16 @@ resolve_at bound base had w js j parent row mode form ids next v g =
       (let d = s.drawn in let e = h.2 in omega (arith, d, e)),
     )
 
--- what the job opened in the directory that it has pinned
-open_at : (bound : ℕ) (base had : ℕ → ℕ) (w : World) (js : ℕ →
-    Job) (j row mode : ℕ) (dir : Fd) (name : List ℕ) (flags : OpenFlags) (new : Fd) (next : World) {rest : List Hold}
-    (directory : ℕ) → includes flags.0 o_creat ≡ false → j < bound → Inv bound base had w js →
-    Takes (hold.Pin row (Some dir)) (js j).holds rest → w.past.objects row ≡ Some directory →
+-- what is opened by a name in this directory, where no object may be made
+open_at : (w : World) (j mode : ℕ) (dir : Fd) (name : List ℕ) (flags : OpenFlags) (new : Fd) (next : World)
+    (directory : ℕ) → includes flags.0 o_creat ≡ false → IsOpenOn w.tree dir directory →
     Goes w (turn_by j (opening dir name flags mode new)) next →
     (object : ℕ) × (w.tree.names directory name ≡ Some object) × (next.past.latest j ≡ Some object)
-    × IsOpenOn w.tree dir directory × IsOpenOn next.tree new object
-open_at bound base had w js j row mode dir name flags new next directory free lt v t e g =
-    let p = pinned_open bound base had w js j row dir lt v t in
+    × IsOpenOn next.tree new object
+open_at w j mode dir name flags new next directory free on g =
     let l = found_only w.tree dir name flags new next.tree free g.made.0.0.trees.changes in
     let leads = l.2 in
-    let at_dir : directory ≡ p.0 = some_same (sym e ∙ p.2) in
-    let here : leads.0 ≡ directory = one_object w.tree dir leads.0 p.0 leads.1 p.1 ∙ sym at_dir in
+    let here : leads.0 ≡ directory = one_object w.tree dir leads.0 directory leads.1 on in
     let now : object_of (next.tree.opened new.0) ≡ Some l.0 =
     ap (λ (z : Tree). object_of (z.opened new.0)) l.3.adds
     ∙ ap object_of (set_at_same w.tree.opened new.0
@@ -160,7 +165,6 @@ open_at bound base had w js j row mode dir name flags new next directory free lt
       ap (λ z. w.tree.names z name) (sym here) ∙ leads.2,
       ap (λ (z : Past). z.latest j) g.past
           ∙ set_at_same w.past.latest j (object_of (next.tree.opened new.0)) ∙ now,
-      subst (IsOpenOn w.tree dir) (sym at_dir) p.1,
       (
         record { object = l.0; path_only = includes flags.0 o_path },
         ap (λ (z : Tree). z.opened new.0) l.3.adds
@@ -177,38 +181,101 @@ row_stays : (w : World) (s : Turn) (next : World) (turns : List Turn) (last : Wo
 row_stays w s next turns last row object a g r l e = let k = objects_step w s next row a g l in
     objects_stay turns next last row k.2 r k.1 ∙ k.0 ∙ e
 
--- what was resolved last stays while nothing is resolved
+-- what was resolved last was so before, while nothing is resolved
 root_resolved : (fd : Fd) (notes : Notes) → (with_root fd notes).resolved ≡ notes.resolved
 root_resolved fd notes = grind arith
 
 notes_resolved : (notes : Notes) (deed : Deed) (told : ActReply) → ResolvesNone (Some deed) told →
-    (notes_after notes deed told).resolved ≡ notes.resolved
-notes_resolved notes (Changes (change.Resolve number)) (Event (event.Resolved row form ids mode)) q = absurd q
-notes_resolved notes (Calls (call.OpenRoot path flags)) (Host (host.Ok (value.Fd fd))) q = root_resolved fd notes
-notes_resolved notes (Calls (call.OpenAt dir name flags mode)) (Host (host.Ok (value.Fd fd))) q = refl
-notes_resolved notes (Calls (call.Reopen fd flags)) (Host (host.Ok (value.Fd new))) q = refl
-notes_resolved notes (Calls (call.Close fd)) told q = refl
-notes_resolved notes (Changes change.Begin) (Event (event.Began era agreed)) q = refl
-notes_resolved notes (Changes change.Clear) (Event (event.Cleared era closings)) q = refl
-notes_resolved notes (Changes change.DrawNode) (Event (event.Drawn number)) q = refl
-notes_resolved notes (Changes change.DrawHandle) (Event (event.Drawn number)) q = refl
-notes_resolved notes (Changes (change.InsertHandle era handle number fd)) (Event (event.Inserted given)) q = refl
-notes_resolved notes (Changes (change.Insert era number form ids mode)) (Event (event.Inserted given)) q = refl
-notes_resolved notes (Changes (change.InsertRoot era form ids mode agreed)) (Event (event.Inserted given)) q = refl
-notes_resolved notes _ _ q = refl
+    (was : Resolution) → (notes_after notes deed told).resolved ≡ Some was → notes.resolved ≡ Some was
+notes_resolved notes (Changes (change.Resolve number)) (Event (event.Resolved row form ids mode)) q was e = absurd q
+notes_resolved notes (Calls (call.OpenRoot path flags)) (Host (host.Ok (value.Fd fd))) q was e =
+    sym (root_resolved fd notes) ∙ e
+notes_resolved notes (Calls (call.OpenAt dir name flags mode)) (Host (host.Ok (value.Fd fd))) q was e = e
+notes_resolved notes (Calls (call.Reopen fd flags)) (Host (host.Ok (value.Fd new))) q was e = e
+notes_resolved notes (Calls (call.Close fd)) told q was e = e
+notes_resolved notes (Calls (call.Stat fd)) (Host (host.Ok (value.Stat stat))) q was e = e
+notes_resolved notes (Changes change.Begin) (Event (event.Began era agreed)) q was e = e
+notes_resolved notes (Changes change.Clear) (Event (event.Cleared era closings)) q was e = e
+notes_resolved notes (Changes change.DrawNode) (Event (event.Drawn number)) q was e = e
+notes_resolved notes (Changes change.DrawHandle) (Event (event.Drawn number)) q was e = e
+notes_resolved notes (Changes (change.InsertHandle era handle number fd)) (Event (event.Inserted given)) q was e = e
+notes_resolved notes (Changes (change.Insert era number form ids mode)) (Event (event.Inserted given)) q was e =
+    absurd (cc)
+notes_resolved notes (Changes (change.Insert era number form ids mode)) (Event (event.Found given)) q was e =
+    absurd (cc)
+notes_resolved notes (Changes (change.Claim era handle ids)) (Event (event.Claimed given)) q was e = absurd (cc)
+notes_resolved notes (Changes (change.InsertRoot era form ids mode agreed)) (Event (event.Inserted given)) q was e = e
+notes_resolved notes _ _ q was e = e
 
 move_resolved : (job after : Job) (deed : Option Deed) (told : ActReply) → ResolvesNone deed told →
-    MovesIf job deed told after → after.notes.resolved ≡ job.notes.resolved
-move_resolved job after None told q m = ap (λ (z : Job). z.notes.resolved) m
-move_resolved job after (Some deed) told q m =
-    ap (λ (z : Notes). z.resolved) m.3 ∙ notes_resolved job.notes deed told q
+    MovesIf job deed told after → (was : Resolution) → after.notes.resolved ≡ Some was →
+    job.notes.resolved ≡ Some was
+move_resolved job after None told q m was e = sym (ap (λ (z : Job). z.notes.resolved) m) ∙ e
+move_resolved job after (Some deed) told q m was e =
+    notes_resolved job.notes deed told q was (sym (ap (λ (z : Notes). z.resolved) m.3) ∙ e)
 
 pub resolved_stays : (steps : List Step) (job after : Job) →
     Each (λ (step : Step). ResolvesNone step.deed step.reply) steps → Disciplined job steps after →
-    after.notes.resolved ≡ job.notes.resolved
-resolved_stays [] job after q d = ap (λ (z : Job). z.notes.resolved) d
-resolved_stays (step ∷ steps) job after q d =
-    resolved_stays steps d.0 after q.1 d.2 ∙ move_resolved job d.0 step.deed step.reply q.0 d.1
+    (was : Resolution) → after.notes.resolved ≡ Some was → job.notes.resolved ≡ Some was
+resolved_stays [] job after q d was e = sym (ap (λ (z : Job). z.notes.resolved) d) ∙ e
+resolved_stays (step ∷ steps) job after q d was e =
+    move_resolved job d.0 step.deed step.reply q.0 d.1 was (resolved_stays steps d.0 after q.1 d.2 was e)
+
+-- what an opening found was found before, while no name is opened
+root_latest : (fd : Fd) (notes : Notes) → (with_root fd notes).latest ≡ notes.latest
+root_latest fd notes = grind arith
+
+notes_latest : (notes : Notes) (deed : Deed) (told : ActReply) → OpensNone (Some deed) told →
+    (fd : Fd) → (notes_after notes deed told).latest ≡ Some fd → notes.latest ≡ Some fd
+notes_latest notes (Calls (call.OpenAt dir name flags mode)) (Host (host.Ok (value.Fd new))) q fd e = absurd q
+notes_latest notes (Calls (call.OpenRoot path flags)) (Host (host.Ok (value.Fd new))) q fd e =
+    sym (root_latest new notes) ∙ e
+notes_latest notes (Calls (call.Reopen same flags)) (Host (host.Ok (value.Fd new))) q fd e = e
+notes_latest notes (Calls (call.Close same)) told q fd e = (unless_apart same notes.latest fd e).0
+notes_latest notes (Calls (call.Stat same)) (Host (host.Ok (value.Stat stat))) q fd e = e
+notes_latest notes (Changes change.Begin) (Event (event.Began era agreed)) q fd e = e
+notes_latest notes (Changes change.Clear) (Event (event.Cleared era closings)) q fd e = e
+notes_latest notes (Changes (change.Resolve number)) (Event (event.Resolved row form ids mode)) q fd e = e
+notes_latest notes (Changes change.DrawNode) (Event (event.Drawn number)) q fd e = e
+notes_latest notes (Changes change.DrawHandle) (Event (event.Drawn number)) q fd e = e
+notes_latest notes (Changes (change.InsertHandle era handle number same)) (Event (event.Inserted given)) q fd e =
+    (unless_apart same notes.latest fd e).0
+notes_latest notes (Changes (change.Insert era number form ids mode)) (Event (event.Inserted given)) q fd e =
+    (unless_apart (fd_of form) notes.latest fd e).0
+notes_latest notes (Changes (change.Insert era number form ids mode)) (Event (event.Found given)) q fd e = e
+notes_latest notes (Changes (change.Claim era handle ids)) (Event (event.Claimed given)) q fd e = e
+notes_latest notes (Changes (change.InsertRoot era form ids mode agreed)) (Event (event.Inserted given)) q fd e =
+    (unless_apart (fd_of form) notes.latest fd e).0
+notes_latest notes _ _ q fd e = e
+
+move_latest : (job after : Job) (deed : Option Deed) (told : ActReply) → OpensNone deed told →
+    MovesIf job deed told after → (fd : Fd) → after.notes.latest ≡ Some fd → job.notes.latest ≡ Some fd
+move_latest job after None told q m fd e = sym (ap (λ (z : Job). z.notes.latest) m) ∙ e
+move_latest job after (Some deed) told q m fd e =
+    notes_latest job.notes deed told q fd (sym (ap (λ (z : Notes). z.latest) m.3) ∙ e)
+
+found_stays : (steps : List Step) (job after : Job) → Each (λ (step : Step). OpensNone step.deed step.reply) steps →
+    Disciplined job steps after → (fd : Fd) → after.notes.latest ≡ Some fd → job.notes.latest ≡ Some fd
+found_stays [] job after q d fd e = sym (ap (λ (z : Job). z.notes.latest) d) ∙ e
+found_stays (step ∷ steps) job after q d fd e =
+    move_latest job d.0 step.deed step.reply q.0 d.1 fd (found_stays steps d.0 after q.1 d.2 fd e)
+
+found_free : (flags : OpenFlags) (new fd : Fd) → found_by flags new ≡ Some fd → includes flags.0 o_creat ≡ false
+found_free flags new fd e = go (includes flags.0 o_creat) e
+  where
+    go : (b : Bool) → (if b then None else Some new) ≡ Some fd → b ≡ false
+    go true e = absurd (cc)
+    go false e = refl
+
+-- an opening that stays noted can have made no object
+pub opened_free : (first between : List Step) (dir : Fd) (name : List ℕ) (flags : OpenFlags) (mode : ℕ) (new : Fd)
+    (job : Job) → Each (λ (step : Step). OpensNone step.deed step.reply) between →
+    Disciplined idle (first ++ opening dir name flags mode new ∷ between) job → (fd : Fd) →
+    job.notes.latest ≡ Some fd → includes flags.0 o_creat ≡ false
+opened_free first between dir name flags mode new job q d fd e =
+    let k = disciplined_split first (opening dir name flags mode new ∷ between) idle job d in
+    found_free flags new fd
+    (sym (ap (λ (z : Notes). z.latest) k.2.1.3) ∙ found_stays between k.2.0 job q k.2.2 fd e)
 
 -- a job's own steps up to one that stands in a run
 pub own_to : (j : ℕ) (before between : List Turn) (step : Step) →
@@ -219,11 +286,11 @@ own_to j before between step =
 
 last_resolved : (first between : List Step) (number row mode : ℕ) (form : RowForm) (ids : ObjIds) (job : Job) →
     Each (λ (step : Step). ResolvesNone step.deed step.reply) between →
-    Disciplined idle (first ++ resolving number row form ids mode ∷ between) job →
-    job.notes.resolved ≡ Some (record { number = number; row = row })
-last_resolved first between number row mode form ids job q d =
+    Disciplined idle (first ++ resolving number row form ids mode ∷ between) job → (was : Resolution) →
+    job.notes.resolved ≡ Some was → was ≡ record { number = number; row = row }
+last_resolved first between number row mode form ids job q d was e =
     let k = disciplined_split first (resolving number row form ids mode ∷ between) idle job d in
-    resolved_stays between k.2.0 job q k.2.2 ∙ ap (λ (z : Notes). z.resolved) k.2.1.3
+    some_same (sym (resolved_stays between k.2.0 job q k.2.2 was e) ∙ ap (λ (z : Notes). z.resolved) k.2.1.3)
 
 -- the run, cut behind the steps between
 pub regroup : (turns before between rest : List Turn) (a : Turn) → turns ≡ before ++ a ∷ (between ++ rest) →
@@ -253,12 +320,12 @@ to_open {j = j} {number = number} {start = start} {p = p} path =
     runs_append p.before (turn_by j (resolving number p.row p.form p.ids p.mode) ∷ p.between) start path.at_resolve
     path.at_open path.to_resolve (path.resolved, path.resolves, path.to_open)
 
--- on every path through the places the name leads to the object that the job opened last then
-pub led_law : {j number : ℕ} {name : List ℕ} (limit bound : ℕ) (turns more : List Turn) (start opened : World)
+-- on every path through the places the name is opened in the directory that the number stood for
+pub dir_law : {j number : ℕ} {name : List ℕ} (limit bound : ℕ) (turns more : List Turn) (start opened : World)
     (p : NamePlaces turns j number name) → Starts limit start → AreDisciplined bound (turns ++ more) →
     (path : NamePath start p opened) →
-    (object : ℕ) × LedTo path object × (opened.past.latest j ≡ Some object)
-led_law {j = j} {number = number} {name = name} limit bound turns more start opened p s d path =
+    (directory : ℕ) × ObjectOf path.at_resolve number directory × IsOpenOn path.at_open.tree p.dir directory
+dir_law {j = j} {number = number} {name = name} limit bound turns more start opened p s d path =
     let a = turn_by j (resolving number p.row p.form p.ids p.mode) in
     let b = turn_by j (opening p.dir name p.flags p.made_mode p.fd) in
     let end1 : List Turn = b ∷ (p.later ++ more) in
@@ -273,19 +340,28 @@ led_law {j = j} {number = number} {name = name} limit bound turns more start ope
     let between = v1.2 j lt in
     let move = next_move b (p.later ++ more) (v1.0 j) between.1 between.2 in
     let fit = move.1.1 in
-    let resolved = last_resolved (steps_of j p.before) (steps_of j p.between) number p.row p.mode p.form p.ids
+    let same = last_resolved (steps_of j p.before) (steps_of j p.between) number p.row p.mode p.form p.ids
     (v1.0 j)
     p.resolved_last (subst (λ z. Disciplined idle z (v1.0 j)) (own_to j p.before p.between
-    (resolving number p.row p.form p.ids p.mode)) between.0) in
-    let same : fit.0.0 ≡ record { number = number; row = p.row } = some_same (sym fit.0.2 ∙ resolved) in
-    let pin : Takes (hold.Pin p.row (Some p.dir)) (v1.0 j).holds fit.0.1 =
-    subst (λ (r : Resolution). Takes (hold.Pin r.row (Some p.dir)) (v1.0 j).holds fit.0.1) same fit.0.3 in
+    (resolving number p.row p.form p.ids p.mode)) between.0) fit.0 fit.2 in
+    let pin : Takes (hold.Pin p.row (Some p.dir)) (v1.0 j).holds fit.1 =
+    subst (λ (r : Resolution). Takes (hold.Pin r.row (Some p.dir)) (v1.0 j).holds fit.1) same fit.3 in
     let kept = row_stays path.at_resolve a path.resolved p.between path.at_open p.row directory.0
     v0.1.tabled.agree path.resolves path.to_open directory.3 directory.2 in
-    let o = open_at bound _ _ path.at_open v1.0 j p.row p.made_mode p.dir name p.flags p.fd opened directory.0 fit.1
-    lt
-    v1.1 pin kept path.opens in (
+    let pinned = pinned_open bound _ _ path.at_open v1.0 j p.row p.dir lt v1.1 pin in
+    let at_dir : directory.0 ≡ pinned.0 = some_same (sym kept ∙ pinned.2) in
+    (directory.0, directory.1, subst (IsOpenOn path.at_open.tree p.dir) (sym at_dir) pinned.1)
+
+-- on every path through the places, where no object could be made, the name leads to the object that the job opened
+-- last then
+pub led_law : {j number : ℕ} {name : List ℕ} (limit bound : ℕ) (turns more : List Turn) (start opened : World)
+    (p : NamePlaces turns j number name) → Starts limit start → AreDisciplined bound (turns ++ more) →
+    includes p.flags.0 o_creat ≡ false → (path : NamePath start p opened) →
+    (object : ℕ) × LedTo path object × (opened.past.latest j ≡ Some object)
+led_law {j = j} {number = number} {name = name} limit bound turns more start opened p s d free path =
+    let place = dir_law limit bound turns more start opened p s d path in
+    let o = open_at path.at_open j p.made_mode p.dir name p.flags p.fd opened place.0 free place.2 path.opens in (
       o.0,
-      record { directory = directory.0; number_is = directory.1; dir_open = o.3; named = o.1; fd_open = o.4 },
+      record { directory = place.0; number_is = place.1; dir_open = place.2; named = o.1; fd_open = o.3 },
       o.2,
     )

@@ -83,6 +83,12 @@ drawn_flow job t (Changes (change.InsertHandle era handle number fd))
     omega (arith, a)
 drawn_flow job t (Changes change.Begin) (Event (event.Began era agreed)) t' after g m n ne =
     let a = ap (λ (z : Notes). is_drawn n z.drawn) m.3 in omega (arith, a)
+drawn_flow job t (Changes (change.Insert era number form ids mode)) (Event (event.Found given)) t' after g m n ne =
+    let a = ap (λ (z : Notes). is_drawn n z.drawn) m.3 in omega (arith, a)
+drawn_flow job t (Changes (change.Claim era handle ids)) (Event (event.Claimed given)) t' after g m n ne =
+    let a = ap (λ (z : Notes). is_drawn n z.drawn) m.3 in omega (arith, a)
+drawn_flow job t (Calls (call.Stat fd)) (Host (host.Ok (value.Stat stat))) t' after g m n ne =
+    let a = ap (λ (z : Notes). is_drawn n z.drawn) m.3 in omega (arith, a)
 drawn_flow job t deed told t' after g m n ne = let a = ap (λ (z : Notes). is_drawn n z.drawn) m.3 in omega (arith, a)
 
 next_later : (t : Tables) (deed : Deed) (told : ActReply) (t' : Tables) → Agree t → TablesGo t (Some deed) told t' →

@@ -134,6 +134,7 @@ called_era notes (call.OpenRoot path flags) (Host (host.Ok (value.Fd fd))) = roo
 called_era notes (call.OpenAt dir name flags mode) (Host (host.Ok (value.Fd fd))) = refl
 called_era notes (call.Reopen fd flags) (Host (host.Ok (value.Fd new))) = refl
 called_era notes (call.Close fd) told = refl
+called_era notes (call.Stat fd) (Host (host.Ok (value.Stat stat))) = refl
 called_era notes asked told = refl
 
 -- what the owner of a step notes is right after it
@@ -176,6 +177,12 @@ own_event j t t' job after turns turns' (change.InsertHandle own handle number f
     (event.Inserted given) h m f k era q =
     unmoved j t t' job after turns turns' (ap (λ (z : Notes). z.era) m.3)
     (era_event t (change.InsertHandle own handle number fd) (event.Inserted given) t' h (λ c. c)) f k era q
+own_event j t t' job after turns turns' (change.Insert own number form ids mode) (event.Found given) h m f k era q =
+    unmoved j t t' job after turns turns' (ap (λ (z : Notes). z.era) m.3)
+    (era_event t (change.Insert own number form ids mode) (event.Found given) t' h (λ c. c)) f k era q
+own_event j t t' job after turns turns' (change.Claim own handle ids) (event.Claimed given) h m f k era q =
+    unmoved j t t' job after turns turns' (ap (λ (z : Notes). z.era) m.3)
+    (era_event t (change.Claim own handle ids) (event.Claimed given) t' h (λ c. c)) f k era q
 own_event j t t' job after turns turns' e r h m f k era q =
     unmoved j t t' job after turns turns' (ap (λ (z : Notes). z.era) m.3) (era_event t e r t' h (λ c. c)) f k era q
 
@@ -274,7 +281,7 @@ asked_era t t' job after (Some (Changes (change.InsertRoot era form ids mode neg
     (era, m.1.0, (cases t t' (change.InsertRoot era form ids mode negotiated) (event.Refused Overtaken) g).2)
 asked_era t t' job after (Some (Changes (change.InsertHandle era handle number fd)))
     (Event (event.Refused Overtaken)) g m o =
-    (era, m.1.1, (cases t t' (change.InsertHandle era handle number fd) (event.Refused Overtaken) g).2)
+    (era, m.1.0, (cases t t' (change.InsertHandle era handle number fd) (event.Refused Overtaken) g).2)
 asked_era t t' job after deed told g m o = absurd o
 
 pub overtaken_law : (limit bound : ℕ) (turns : List Turn) (turn : Turn) (more : List Turn) (now next : Tables) →
@@ -307,6 +314,10 @@ noted_event job after (change.Insert own number form ids mode) (Event (event.Ins
 noted_event job after (change.InsertRoot own form ids mode negotiated) (Event (event.Inserted given)) era m q =
     ap (λ (z : Notes). z.era) m.3 ∙ q
 noted_event job after (change.InsertHandle own handle number fd) (Event (event.Inserted given)) era m q =
+    ap (λ (z : Notes). z.era) m.3 ∙ q
+noted_event job after (change.Insert own number form ids mode) (Event (event.Found given)) era m q =
+    ap (λ (z : Notes). z.era) m.3 ∙ q
+noted_event job after (change.Claim own handle ids) (Event (event.Claimed given)) era m q =
     ap (λ (z : Notes). z.era) m.3 ∙ q
 noted_event job after e told era m q = ap (λ (z : Notes). z.era) m.3 ∙ q
 
@@ -349,7 +360,7 @@ given_era t t' job after (Some (Changes (change.InsertRoot era form ids mode neg
     m.1.0 ∙ ap Some (cases t t' (change.InsertRoot era form ids mode negotiated) (event.Inserted given) g).0
 given_era t t' job after (Some (Changes (change.InsertHandle era handle number fd)))
     (Event (event.Inserted given)) g m o =
-    m.1.1 ∙ ap Some (cases t t' (change.InsertHandle era handle number fd) (event.Inserted given) g).0
+    m.1.0 ∙ ap Some (cases t t' (change.InsertHandle era handle number fd) (event.Inserted given) g).0
 given_era t t' job after deed told g m o = absurd o
 
 cleared_later : (t t' : Tables) (step : Step) (era closings : ℕ) →

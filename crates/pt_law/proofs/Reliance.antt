@@ -60,6 +60,10 @@ settled_number past t t' j (Some (Changes (change.Resolve number)))
 settled_number past t t' j (Some (Calls (call.OpenAt dir name flags mode)))
     (Host (host.Ok (value.Fd fd))) tree n l g = refl
 settled_number past t t' j (Some (Calls (call.OpenRoot place flags))) (Host (host.Ok (value.Fd fd))) tree n l g = refl
+settled_number past t t' j (Some (Changes (change.Insert era number form ids mode)))
+    (Event (event.Found given)) tree n l g = refl
+settled_number past t t' j (Some (Changes (change.Claim era handle ids))) (Event (event.Claimed given)) tree n l g =
+    refl
 settled_number past t t' j (Some _) _ tree n l g = refl
 
 pub object_stays : (turns : List Turn) (start now : World) (number object : ℕ) → StaysLive start turns number →

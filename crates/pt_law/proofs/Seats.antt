@@ -1,5 +1,5 @@
 -- The seat that steps leave is the fold of what each leaves, over any host that keeps its promises.
-use Rattle.std.proofs.Common.{◌≡◌, ℕ, List, [], ◌∷◌, Option, Some, None, refl, ap, ◌∙◌}
+use Rattle.std.proofs.Common.{◌≡◌, ℕ, List, [], ◌∷◌, Option, Some, None, refl, ap, subst, ◌∙◌}
 use Rattle.pt_host.specs.Call.{Call}
 use Rattle.pt_host.specs.Promises.{IsAllowed}
 use Rattle.pt_host.specs.Reply.{ReplyHoldsBytes}
@@ -17,6 +17,7 @@ use Rattle.pt_frame.specs.Made.{Makes, Made, MadeBy, RunsAlone, RunsBy}
 use Rattle.pt_frame.specs.Seats.{seat_at, seat_by}
 use Rattle.pt_frame.specs.declared.act.ActReply.{ActReply}
 use Rattle.pt_frame.specs.declared.act.ActReply.TheVariants.{Event, Host, NoCopy}
+use Rattle.pt_law.specs.Under.{SeatAnswers, AllSeatsAnswer}
 use Rattle.pt_law.proofs.Told.{Promises}
 
 -- none of the seat's own calls tells bytes
@@ -69,3 +70,41 @@ pub alone_seat : {H : Type 0} (does : HostRelation H) (faults : H → ℕ) → P
     (tables_after : Tables) → RunsAlone does steps from seat tables to seat_after tables_after →
     seat_after ≡ seat_at seat steps
 alone_seat does faults p = alone_seat_by does Happens faults p
+
+-- the calls on the seat are answered by the rules for them
+pub made_answer_by : {H A : Type 0} (does : HostRelation H) (makes : Makes A) (faults : H → ℕ) →
+    Promises does faults →
+    (deed : Option Deed) (told : ActReply) (from : H) (seat : HostSeat) (access : A) (to : H) (seat_after : HostSeat)
+    (access_after : A) → MadeBy does makes deed told from seat access to seat_after access_after →
+    SeatAnswers seat deed told
+made_answer_by does makes faults p (Some (Changes asked)) told from seat access to seat_after after m = tt
+made_answer_by does makes faults p (Some (Calls asked)) (Host reply) from seat access to seat_after after m =
+    (p from seat asked reply to seat_after m.0).seats.answers
+made_answer_by does makes faults p (Some (Calls asked)) (Event told) from seat access to seat_after after m = tt
+made_answer_by does makes faults p (Some (Calls asked)) NoCopy from seat access to seat_after after m = tt
+made_answer_by does makes faults p None told from seat access to seat_after after m = tt
+
+pub alone_answers_by : {H A : Type 0} (does : HostRelation H) (makes : Makes A) (faults : H → ℕ) →
+    Promises does faults →
+    (steps : List Step) (from : H) (seat : HostSeat) (access : A) (to : H) (seat_after : HostSeat)
+    (access_after : A) → RunsBy does makes steps from seat access to seat_after access_after →
+    AllSeatsAnswer seat steps
+alone_answers_by does makes faults p [] from seat access to seat_after after r = tt
+alone_answers_by does makes faults p (step ∷ steps) from seat access to seat_after after r = (
+  made_answer_by does makes faults p step.deed step.reply from seat access r.0 r.1 r.2 r.3,
+  subst (λ (s : HostSeat). AllSeatsAnswer s steps)
+      (made_seat_by does makes faults p step.deed step.reply from seat access r.0 r.1 r.2 r.3)
+      (alone_answers_by does makes faults p steps r.0 r.1 r.2 to seat_after after r.4),
+)
+
+pub made_answer : {H : Type 0} (does : HostRelation H) (faults : H → ℕ) → Promises does faults →
+    (deed : Option Deed) (told : ActReply) (from : H) (seat : HostSeat) (tables : Tables) (to : H)
+    (seat_after : HostSeat) (tables_after : Tables) →
+    Made does deed told from seat tables to seat_after tables_after → SeatAnswers seat deed told
+made_answer does faults p = made_answer_by does Happens faults p
+
+pub alone_answers : {H : Type 0} (does : HostRelation H) (faults : H → ℕ) → Promises does faults →
+    (steps : List Step) (from : H) (seat : HostSeat) (tables : Tables) (to : H) (seat_after : HostSeat)
+    (tables_after : Tables) → RunsAlone does steps from seat tables to seat_after tables_after →
+    AllSeatsAnswer seat steps
+alone_answers does faults p = alone_answers_by does Happens faults p

@@ -1,5 +1,5 @@
 -- A grammar that keeps the discipline.
-use Rattle.std.proofs.Common.{◌≡◌, ℕ, List, ◌++◌}
+use Rattle.std.proofs.Common.{◌≡◌, ℕ, List, ◌++◌, ◌∙◌}
 use Rattle.pt_frame.specs.Deed.{Step, IsStepOf}
 use Rattle.pt_frame.specs.Replies.{brought}
 use Rattle.pt_frame.specs.Grammar.{Grammar, End, Do, May, Owed}
@@ -28,3 +28,6 @@ owing_job holds count notes = record { holds = holds; owed = count; notes = note
 abbrev pub Goes : Grammar → List Hold → ℕ → Notes → Type 0
 Goes rest holds count notes =
     (later : Notes) → Lasts notes later → Sound rest (owing_job (unscoped holds) count later)
+
+pub lasts_on : (notes later last : Notes) → Lasts notes later → Lasts later last → Lasts notes last
+lasts_on notes later last l m = (m.0 ∙ l.0, m.1 ∙ l.1, m.2 ∙ l.2)

@@ -32,7 +32,7 @@ use Rattle.pt_frame.specs.declared.hold.Taken.{Taken}
 use Rattle.pt_frame.specs.declared.hold.Taken.TheVariants as taken
 use Rattle.pt_law.specs.Discipline.{Notes, Job, at_job, notes_after, unnoted, entry_holds, MovesIf}
 use Rattle.pt_law.specs.Keeps.{After, Lasts, HoldsEntry, Keeps, unscoped, uncovered, down_to}
-use Rattle.pt_law.proofs.Sound.{Sound, Owes, Goes, owing_job}
+use Rattle.pt_law.proofs.Sound.{Sound, Owes, Goes, owing_job, lasts_on}
 use Rattle.pt_law.proofs.Unscoped.{opened_on, all_down}
 use Rattle.pt_law.proofs.Moving.{made_moves, giving_lasts, gives_step, may_step, seat_step, is_scope_opened, told_of}
 
@@ -46,7 +46,7 @@ restored_bare (finish.Answer told) (Some errno) e = refl
 -- closings
 pub after_any : (count : ℕ) (P : Notes → Type 0) (notes : Notes) → ((later : Notes) → Lasts notes later → P later) →
     After count P notes
-after_any zero P notes k = k notes (refl, refl)
+after_any zero P notes k = k notes (refl, refl, refl)
 after_any (suc count) P notes k = k
 
 after_map : (count : ℕ) (P Q : Notes → Type 0) (notes : Notes) → ((later : Notes) → P later → Q later) →
@@ -56,7 +56,7 @@ after_map (suc count) P Q notes f k = λ later l. f later (k later l)
 
 goes_on : (rest : Grammar) (holds : List Hold) (count : ℕ) (notes later : Notes) → Lasts notes later →
     Goes rest holds count notes → Goes rest holds count later
-goes_on rest holds count notes later l k = λ last m. k last (m.0 ∙ l.0, m.1 ∙ l.1)
+goes_on rest holds count notes later l k = λ last m. k last (lasts_on notes later last l m)
 
 -- a slot that is given back brings no closing
 gave_none : (told : ActReply) → closings_in (Changes change.GiveFd) told ≡ 0
@@ -73,14 +73,14 @@ sound_slot count holds rest notes k = (
     owing_job (unscoped holds) count notes,
     made_moves (Changes change.GiveFd) step.deed step.reply _ _ (λ no. no) i
         (here, tt, (let a = gave_none step.reply in omega (arith, a)), refl),
-    k notes (refl, refl),
+    k notes (refl, refl, refl),
   )),
 )
 
 sound_taken : (brings : Taken) (count : ℕ) (holds : List Hold) (rest : Grammar) (notes : Notes) →
     Goes rest holds count notes →
     Sound (give_taken brings count holds rest) (owing_job (brought brings ++ unscoped holds) count notes)
-sound_taken taken.Nothing count holds rest notes k = k notes (refl, refl)
+sound_taken taken.Nothing count holds rest notes k = k notes (refl, refl, refl)
 sound_taken taken.Slot count holds rest notes k = sound_slot count holds rest notes k
 sound_taken (taken.Fd fd true) count holds rest notes k = (
   (refl, refl),
@@ -88,7 +88,7 @@ sound_taken (taken.Fd fd true) count holds rest notes k = (
     owing_job (hold.Slot ∷ unscoped holds) count (unnoted fd notes),
     made_moves (Calls (call.Close fd)) step.deed step.reply _ _ (λ no. no) i ((None, here), tt, omega arith, refl),
     sound_slot count holds rest (unnoted fd notes)
-        (goes_on rest holds count notes (unnoted fd notes) (refl, refl) k),
+        (goes_on rest holds count notes (unnoted fd notes) (refl, refl, refl) k),
   )),
 )
 sound_taken (taken.Fd fd false) count holds rest notes k = (
@@ -96,7 +96,7 @@ sound_taken (taken.Fd fd false) count holds rest notes k = (
   (λ step i t. (
     owing_job (unscoped holds) count (unnoted fd notes),
     made_moves (Calls (call.Close fd)) step.deed step.reply _ _ (λ no. no) i ((None, here), tt, omega arith, refl),
-    k (unnoted fd notes) (refl, refl),
+    k (unnoted fd notes) (refl, refl, refl),
   )),
 )
 
@@ -112,7 +112,7 @@ sound_closings (suc count) holds next notes k = (
         (refl, omega arith, omega arith, refl),
     sound_taken (taken_in step.reply) count holds (closings count holds next) notes (λ later l.
         sound_closings count holds next later
-        (after_any count _ later (λ last m. k last (m.0 ∙ l.0, m.1 ∙ l.1)))),
+        (after_any count _ later (λ last m. k last (lasts_on notes later last l m)))),
   )),
 )
 
@@ -130,7 +130,7 @@ sound_give seat one holds left next notes t k = (
         gives_step seat one step.deed step.reply holds left notes t i,
         sound_closings count left (next fault) later (after_any count _ later (λ last m.
             let g = giving_lasts seat one step.reply notes in
-            k fault last (m.0 ∙ g.0, m.1 ∙ g.1))),
+            k fault last (lasts_on notes later last g m))),
       )),
 )
 
@@ -225,7 +225,7 @@ pub sound_shut : (seat : HostSeat) (passing : Option Hold) (mark : ℕ) (holds :
     (next : List Hold → Grammar) (notes : Notes) →
     Goes (next (under passing (down_to mark holds))) (under passing (down_to mark holds)) 0 notes →
     Sound (shut seat passing mark holds next) (at_job (unscoped (under passing holds)) notes)
-sound_shut seat passing mark [] next notes k = k notes (refl, refl)
+sound_shut seat passing mark [] next notes k = k notes (refl, refl, refl)
 sound_shut seat passing mark (one ∷ holds) next notes k =
     go (nat_lt mark (length (one ∷ holds))) k (sound_shut seat passing mark holds next)
   where
@@ -245,7 +245,7 @@ sound_shut seat passing mark (one ∷ holds) next notes k =
         (f later (goes_on (next (under passing (down_to mark holds))) (under passing (down_to mark holds)) 0 notes
         later
         l k)))
-    go false k f = k notes (refl, refl)
+    go false k f = k notes (refl, refl, refl)
 
 -- answers
 sound_entry : (seat : HostSeat) (number : ℕ) (last : Finish) (holds : List Hold) (notes : Notes) →

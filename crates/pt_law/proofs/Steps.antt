@@ -44,8 +44,8 @@ use Rattle.pt_law.proofs.Holding.{handed, in_tree}
 use Rattle.pt_law.proofs.Counting.{Books, keeps_books, honest, part}
 use Rattle.pt_law.proofs.Numbers.{Numbers, keeps_numbers}
 use Rattle.pt_law.proofs.Knowing.{Knowing, one_object}
-use Rattle.pt_law.proofs.Events.{number_of, grows, rows_event, handles_event, knows_event, knows_other}
-use Rattle.pt_law.proofs.Events.{resolved_other}
+use Rattle.pt_law.proofs.RowEvents.{rows_event, handles_event}
+use Rattle.pt_law.proofs.Events.{number_of, grows, knows_event, knows_other, resolved_other}
 use Rattle.pt_law.proofs.Calls.{Right, keeps_call}
 use Rattle.pt_law.proofs.PinnedRows.{pinned_row}
 use Rattle.pt_law.proofs.Givings.{agree_step}
@@ -217,7 +217,7 @@ keeps_event bound base had w js j e r t' after lt v h m =
             v.right.handled;
         shown = rows_event w.tree w.past w.tables j (js j) after e r t' a case m (v.right.knows j lt) v.right.shown;
         knows = λ i less. at_each (Knowing w.tree t'.next_row later) js j after i
-            (knows_event w.tree w.past w.tables j (js j) after e r t' a case m v.right.shown v.right.handled
+            (knows_event w.tree w.past w.tables j (js j) after e r t' v.well a case m v.right.shown v.right.handled
             (v.right.knows j lt))
             (λ other. knows_other w.tree w.past later w.tables.next_row t'.next_row i (js i) g
             (resolved_other w.past j e r w.tables.next_row w.tree i other) (v.right.knows i less));

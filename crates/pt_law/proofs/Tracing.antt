@@ -18,8 +18,9 @@ use Rattle.pt_session.specs.declared.reply.EventReply.TheVariants as event
 use Rattle.pt_frame.specs.Deed.{Deed, Calls, Changes, Step}
 use Rattle.pt_frame.specs.declared.act.ActReply.{ActReply}
 use Rattle.pt_frame.specs.declared.act.ActReply.TheVariants.{Event, Host}
-use Rattle.pt_law.specs.Discipline.{idle}
+use Rattle.pt_law.specs.Discipline.{idle, Disciplined}
 use Rattle.pt_law.specs.World.{World, Past, Turn, turn_by, Goes, Runs, settled_if, object_of, first_of, steps_of}
+use Rattle.pt_law.specs.World.{fd_of}
 use Rattle.pt_law.specs.Naming.{made}
 use Rattle.pt_law.specs.Laws.{Starts, ObjectOf}
 use Rattle.pt_law.specs.Discipline.{AreDisciplined}
@@ -29,7 +30,7 @@ use Rattle.pt_law.proofs.Lists.{at_each, set_at_same, set_at_other}
 use Rattle.pt_law.proofs.Laws.{between}
 use Rattle.pt_law.proofs.Next.{owner_of, next_move}
 use Rattle.pt_law.proofs.Cuts.{runs_split, steps_at, steps_past}
-use Rattle.pt_law.proofs.Naming.{latest_step, led_law, resolved_stays, and_more}
+use Rattle.pt_law.proofs.Naming.{latest_step, led_law, resolved_stays, and_more, own_to, opened_free}
 
 -- the last element of a kind, the first one, or that there is none
 
@@ -173,6 +174,9 @@ settled_roots past j i (Some (Changes (change.InsertHandle era handle number fd)
     (Event (event.Inserted given)) next tree q = refl
 settled_roots past j i (Some (Changes (change.Resolve number)))
     (Event (event.Resolved serial form ids mode)) next tree q = refl
+settled_roots past j i (Some (Changes (change.Insert era number form ids mode)))
+    (Event (event.Found given)) next tree q = refl
+settled_roots past j i (Some (Changes (change.Claim era handle ids))) (Event (event.Claimed given)) next tree q = refl
 settled_roots past j i None told next tree q = refl
 settled_roots past j i (Some _) _ next tree q = refl
 
@@ -270,6 +274,9 @@ settled_kept past j n (Some (Changes (change.InsertHandle era handle number fd))
     (Event (event.Inserted given)) next tree q = refl
 settled_kept past j n (Some (Changes (change.Resolve number)))
     (Event (event.Resolved serial form ids mode)) next tree q = refl
+settled_kept past j n (Some (Changes (change.Insert era number form ids mode)))
+    (Event (event.Found given)) next tree q = refl
+settled_kept past j n (Some (Changes (change.Claim era handle ids))) (Event (event.Claimed given)) next tree q = refl
 settled_kept past j n None told next tree q = refl
 settled_kept past j n (Some _) _ next tree q = refl
 
@@ -322,9 +329,9 @@ resolved_before bound turns more j mode dir name flags fd d = ⊎_elim
     let t = turn_by j (opening dir name flags mode fd) in
     let b = between bound turns (t ∷ more) d j (owner_of bound turns t more d.owners) in
     let move = next_move t more b.0 b.1.1 b.1.2 in
-    let was = move.1.1.0 in
-    let none = resolved_stays (steps_of j turns) idle b.0 (own_spare j ResolvesNone turns n) b.1.0 in
-    absurd (none_some (sym none ∙ was.2)))
+    let was = move.1.1 in
+    absurd (none_some
+    (resolved_stays (steps_of j turns) idle b.0 (own_spare j ResolvesNone turns n) b.1.0 was.0 was.2)))
     (last_of (Does j IsResolving) (Spares j ResolvesNone) (sorted j IsResolving ResolvesNone sort_resolving) turns)
 
 named_origin : (limit bound : ℕ) (turns front back more : List Turn) (start now : World)
@@ -353,6 +360,13 @@ named_origin limit bound turns front back more start now n j o era number mode f
         let cut_b : turns ≡ l.front ++ b ∷ (l.back ++ t ∷ back) =
         e ∙ ap (λ z. z ++ t ∷ back) (l.in_turn ∙ ap (λ z. l.front ++ z ∷ l.back) b_is)
         ∙ append_assoc l.front (b ∷ l.back) (t ∷ back) in
+        let front_is : front ≡ l.front ++ b ∷ l.back = l.in_turn ∙ ap (λ z. l.front ++ z ∷ l.back) b_is in
+        let dt = subst (AreDisciplined bound) (and_more turns more front back t e) d in
+        let w = between bound front (t ∷ (back ++ more)) dt j (owner_of bound front t (back ++ more) dt.owners) in
+        let move = next_move t (back ++ more) w.0 w.1.1 w.1.2 in
+        let free = opened_free (steps_of j l.front) (steps_of j l.back) p.0 p.1 p.2 p.3 p.4 w.0
+        (own_spare j OpensNone l.back l.none) (subst (λ z. Disciplined idle z w.0) (ap (steps_of j) front_is
+        ∙ own_to j l.front l.back (opening p.0 p.1 p.2 p.3 p.4)) w.1.0) (fd_of form) move.1.1.1 in
         let m = resolved_before bound l.front ((l.back ++ t ∷ back) ++ more) j p.3 p.0 p.1 p.2 p.4
         (subst (AreDisciplined bound) (and_more turns more l.front (l.back ++ t ∷ back) b cut_b) d) in
         let k = m.is.1 in
@@ -379,7 +393,7 @@ named_origin limit bound turns front back more start now n j o era number mode f
           p.1,
           places,
           (λ opened path to_now.
-              let led = led_law limit bound turns more start opened places s d path in
+              let led = led_law limit bound turns more start opened places s d free path in
               let cut = runs_split l.back (t ∷ back) opened now to_now in
               let x = inserted_latest n j era number mode form ids back cut.0 cut.2.0 now cut.2.1 cut.2.2 q in
               let y = latest_still j l.back opened cut.0 cut.1 l.none in

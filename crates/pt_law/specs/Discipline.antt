@@ -7,6 +7,7 @@ use Rattle.pt_host.specs.Flags.{includes, o_creat}
 use Rattle.pt_host.specs.Sorts.{Sort, OpensWith, EndsFd, OfSeat, Plain, sort_of, fds_of}
 use Rattle.pt_host.specs.declared.ids.Fd.{Fd}
 use Rattle.pt_host.specs.declared.ids.ObjIds.{ObjIds}
+use Rattle.pt_host.specs.declared.flags.OpenFlags.{OpenFlags}
 use Rattle.pt_host.specs.declared.op.KeptHostOp.TheVariants as call
 use Rattle.pt_host.specs.declared.reply.HostReply.TheVariants as host
 use Rattle.pt_host.specs.declared.reply.HostValue.TheVariants as value
@@ -115,12 +116,20 @@ pub record Resolution : Type 0 where
   pub number : ℕ
   pub row : ℕ
 
+-- a number that a job was given, and the ids of the object that it asked it for
+pub record Given : Type 0 where
+  pub number : ℕ
+  pub ids : ObjIds
+
+abbrev pub given_for : ℕ → ObjIds → Given
+given_for number ids = record { number = number; ids = ids }
+
 -- What a job knows by its steps. A descriptor is noted while it is neither closed nor handed to the tables, and a
 -- number or a handle while it is not inserted.
 pub record Notes : Type 0 where
   -- the era in which it began, or which it began
   pub era : Option ℕ
-  -- what its latest `OpenAt` answered
+  -- what its latest `OpenAt` answered, unless that may have made its object
   pub latest : Option Fd
   -- what its first `OpenRoot` answered, and whether one was answered yet
   pub root : Option Fd
@@ -128,9 +137,11 @@ pub record Notes : Type 0 where
   -- the number that it drew last, and the handle
   pub drawn : Option ℕ
   pub handle : Option ℕ
-  -- what its latest `Resolve` answered, and what its latest `Reopen` since then did
+  -- what its latest `Resolve` answered, while it is given no number, and what its latest `Reopen` since then did
   pub resolved : Option Resolution
   pub reopened : Option Fd
+  -- the number that it was given last, while it is told no ids since and resolves none
+  pub given : Option Given
 
 abbrev pub blank : Notes
 blank = record {
@@ -142,6 +153,7 @@ blank = record {
   handle = None;
   resolved = None;
   reopened = None;
+  given = None;
 }
 
 -- unless it is this one
@@ -161,23 +173,36 @@ unnoted fd notes = record notes {
 abbrev pub with_root : Fd → Notes → Notes
 with_root fd notes = if notes.rooted then notes else record notes { root = Some fd; rooted = true }
 
+-- what an opening by a name found
+abbrev pub found_by : OpenFlags → Fd → Option Fd
+found_by flags fd = if includes flags.0 o_creat then None else Some fd
+
+-- what was resolved before a number is given may be another object's by then
+abbrev pub with_given : ℕ → ObjIds → Notes → Notes
+with_given number ids notes =
+    record notes { resolved = None; reopened = None; given = Some (given_for number ids) }
+
 abbrev pub notes_after : Notes → Deed → ActReply → Notes
 notes_after notes (Changes change.Begin) (Event (event.Began era agreed)) = record notes { era = Some era }
 notes_after notes (Changes change.Clear) (Event (event.Cleared era closings)) = record notes { era = Some era }
 notes_after notes (Calls (call.OpenRoot path flags)) (Host (host.Ok (value.Fd fd))) = with_root fd notes
 notes_after notes (Calls (call.OpenAt dir name flags mode)) (Host (host.Ok (value.Fd fd))) =
-    record notes { latest = Some fd }
+    record notes { latest = found_by flags fd }
 notes_after notes (Changes (change.Resolve number)) (Event (event.Resolved row form ids mode)) =
-    record notes { resolved = Some (record { number = number; row = row }); reopened = None }
+    record notes { resolved = Some (record { number = number; row = row }); reopened = None; given = None }
 notes_after notes (Calls (call.Reopen fd flags)) (Host (host.Ok (value.Fd new))) =
     record notes { reopened = Some new }
 notes_after notes (Calls (call.Close fd)) told = unnoted fd notes
+notes_after notes (Calls (call.Stat fd)) (Host (host.Ok (value.Stat stat))) = record notes { given = None }
 notes_after notes (Changes change.DrawNode) (Event (event.Drawn number)) = record notes { drawn = Some number }
 notes_after notes (Changes change.DrawHandle) (Event (event.Drawn handle)) = record notes { handle = Some handle }
 notes_after notes (Changes (change.InsertHandle era handle number fd)) (Event (event.Inserted given)) =
     record (unnoted fd notes) { handle = None }
 notes_after notes (Changes (change.Insert era number form ids mode)) (Event (event.Inserted given)) =
-    record (unnoted (fd_of form) notes) { drawn = None }
+    record (with_given given ids (unnoted (fd_of form) notes)) { drawn = None }
+notes_after notes (Changes (change.Insert era number form ids mode)) (Event (event.Found given)) =
+    with_given given ids notes
+notes_after notes (Changes (change.Claim era handle ids)) (Event (event.Claimed given)) = with_given given ids notes
 notes_after notes (Changes (change.InsertRoot era form ids mode agreed)) (Event (event.Inserted given)) =
     unnoted (fd_of form) notes
 notes_after notes _ _ = notes
@@ -211,20 +236,29 @@ PinsLatest job fd =
     (was : Resolution) × (rest : List Hold) × (job.notes.resolved ≡ Some was)
     × Takes (hold.Pin was.row (Some fd)) job.holds rest
 
+-- the descriptor was opened anew for this number, which was resolved last
+abbrev pub IsReopened : Job → ℕ → Fd → Type 0
+IsReopened job number fd =
+    (row : ℕ) × (job.notes.resolved ≡ Some (record { number = number; row = row })) × (job.notes.reopened ≡ Some fd)
+
+-- `Stat` told of the descriptor, before this number was given, the ids that it was given for
+abbrev pub IsGivenFor : Job → ℕ → Fd → Type 0
+IsGivenFor job number fd =
+    (ids : ObjIds) × (job.notes.given ≡ Some (given_for number ids)) × HoldsTold job.holds fd ids
+
 -- Whether the job may make this deed, what it holds aside. A job begins once, in the era that there is or in a new
--- one; a number is asked or inserted only for what was opened last, in the era of the job; an inserted one was drawn;
--- number 1 is only for the first root that was opened; a name is opened in what was resolved last, and no object is
--- made under it; what was resolved last is opened anew, while its row is pinned; a handle that was drawn is inserted
--- for it; and a closing is taken only where one is owed.
+-- one; a number is asked or inserted only for what was found by the opening of a name last, in the era of the job; an
+-- inserted one was drawn; number 1 is only for the first root that was opened; a name is opened in what was resolved
+-- last; what was resolved last is opened anew, while its row is pinned; a handle that was drawn is inserted for it,
+-- or for the number that was given last, with a descriptor of its ids; and a closing is taken only where one is owed.
 abbrev pub Fits : Job → Deed → Type 0
 Fits job (Changes change.Begin) = job.notes.era ≡ None
 Fits job (Changes change.Clear) = job.notes.era ≡ None
-Fits job (Calls (call.OpenAt dir name flags mode)) = PinsLatest job dir × (includes flags.0 o_creat ≡ false)
+Fits job (Calls (call.OpenAt dir name flags mode)) = PinsLatest job dir
 Fits job (Calls (call.Reopen fd flags)) = PinsLatest job fd
 Fits job (Changes (change.InsertHandle era handle number fd)) =
-    (row : ℕ) × (job.notes.era ≡ Some era) × (job.notes.handle ≡ Some handle)
-    × (job.notes.resolved ≡ Some (record { number = number; row = row }))
-    × (job.notes.reopened ≡ Some fd)
+    (job.notes.era ≡ Some era) × (job.notes.handle ≡ Some handle)
+    × (IsReopened job number fd ⊎ IsGivenFor job number fd)
 Fits job (Changes (change.Claim era handle ids)) =
     (fd : Fd) × (job.notes.era ≡ Some era) × (job.notes.latest ≡ Some fd) × HoldsTold job.holds fd ids
 Fits job (Changes (change.Insert era number form ids mode)) =

@@ -75,10 +75,10 @@ MayMake (Calls asked) holds notes =
     MayCall (sort_of asked) (fds_of asked) holds × Fits (at_job (unscoped holds) notes) (Calls asked)
 MayMake (Changes asked) holds notes = MayChange asked holds × Fits (at_job (unscoped holds) notes) (Changes asked)
 
--- giving back and closings leave it noted which era it is and whether a root was opened, and what else is noted may
--- change
+-- giving back and closings leave it noted which era it is, whether a root was opened and what number was given, and
+-- what else is noted may change
 abbrev pub Lasts : Notes → Notes → Type 0
-Lasts notes later = (later.era ≡ notes.era) × (later.rooted ≡ notes.rooted)
+Lasts notes later = (later.era ≡ notes.era) × (later.rooted ≡ notes.rooted) × (later.given ≡ notes.given)
 
 -- with these notes, or after closings with whatever may follow
 abbrev pub After : ℕ → (Notes → Type 0) → Notes → Type 0

@@ -60,8 +60,8 @@ pub record HasEnded (tables : Tables) (serial : ℕ) : Type 0 where
   pub number : NoRow tables (λ row. row.serial ≡ serial)
   pub handle : NoHandle tables (λ row. row.serial ≡ serial)
 
--- a handle's descriptor is open on the object that its number had when its job resolved that number last before the
--- handle was inserted
+-- a handle's descriptor is open on the object that its number had when, before the handle was inserted, its job had
+-- resolved that number last, or was given it
 abbrev pub Serves : World → HandleRow → Type 0
 Serves world row = (object : ℕ) × (world.past.objects row.serial ≡ Some object) × IsOpenOn world.tree row.fd object
 

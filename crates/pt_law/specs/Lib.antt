@@ -11,3 +11,7 @@ pub mod Uses
 pub mod Discipline
 pub mod Keeps
 pub mod Branch
+pub mod Under
+pub mod Handling
+pub mod Making
+pub mod Wearing

@@ -44,13 +44,14 @@ pub record Past : Type 0 where
   -- the object of each number
   pub numbers : ℕ → Option ℕ
   -- the object and the descriptor of each row, of a number or a handle; a handle's is the object that its number had
-  -- when it was resolved for the handle's opening
+  -- when its job resolved it last, or was given it
   pub objects : ℕ → Option ℕ
   pub fds : ℕ → Option Fd
   -- the object that each job's latest `OpenAt` answered, and the one that its first `OpenRoot` answered
   pub latest : ℕ → Option ℕ
   pub roots : ℕ → Option ℕ
-  -- the object that a number had at each job's latest `Resolve` of it
+  -- the object that a number had at each job's latest `Resolve` of it, or as it was given to the job, whichever came
+  -- last
   pub resolved : ℕ → ℕ → Option ℕ
 
 -- before the first step
@@ -82,17 +83,26 @@ settled past number row fd object =
       fds = set_at row (Some fd) past.fds;
     }
 
+-- The job has come to this number, which stands for this object then.
+abbrev pub come_to : Past → ℕ → ℕ → Option ℕ → Past
+come_to past job number object =
+    record past { resolved = set_at job (set_at number object (past.resolved job)) past.resolved }
+
 -- `Insert` sets its number's object to what the job's latest `OpenAt` answered, `InsertRoot` to what its first
 -- `OpenRoot` answered.
 abbrev pub settled_by : Past → ℕ → Deed → ActReply → ℕ → Tree → Past
 settled_by past job (Changes (change.Insert era number form ids mode)) (Event (event.Inserted given)) row tree =
-    settled past given row (fd_of form) (past.latest job)
+    come_to (settled past given row (fd_of form) (past.latest job)) job given (past.latest job)
+settled_by past job (Changes (change.Insert era number form ids mode)) (Event (event.Found given)) row tree =
+    come_to past job given (past.numbers given)
+settled_by past job (Changes (change.Claim era handle ids)) (Event (event.Claimed given)) row tree =
+    come_to past job given (past.numbers given)
 settled_by past job (Changes (change.InsertRoot era form ids mode agreed)) (Event (event.Inserted given)) row tree =
     settled past given row (fd_of form) (past.roots job)
 settled_by past job (Changes (change.InsertHandle era handle number fd)) (Event (event.Inserted given)) row tree =
     record past { objects = set_at row (past.resolved job number) past.objects; fds = set_at row (Some fd) past.fds }
 settled_by past job (Changes (change.Resolve number)) (Event (event.Resolved serial form ids mode)) row tree =
-    record past { resolved = set_at job (set_at number (past.numbers number) (past.resolved job)) past.resolved }
+    come_to past job number (past.numbers number)
 settled_by past job (Calls (call.OpenAt dir name flags mode)) (Host (host.Ok (value.Fd fd))) row tree =
     record past { latest = set_at job (object_of (tree.opened fd.0)) past.latest }
 settled_by past job (Calls (call.OpenRoot path flags)) (Host (host.Ok (value.Fd fd))) row tree =
@@ -129,7 +139,15 @@ Runs world [] after = after ≡ world
 Runs world (turn ∷ turns) after = (mid : World) × Goes world turn mid × Runs mid turns after
 
 -- The steps lead from this host and these tables to those, by what the host does; the seats are whatever they are.
-abbrev pub HostRuns : {H : Type 0} → HostRelation H → List Turn → H → Tables → H → Tables → Type 0
+abbrev pub HostRuns :
+    {H : Type 0} →
+    (does : HostRelation H) →
+    (turns : List Turn) →
+    (host : H) →
+    (tables : Tables) →
+    (host' : H) →
+    (tables' : Tables) →
+    Type 0
 HostRuns does [] host tables host' tables' = (host' ≡ host) × (tables' ≡ tables)
 HostRuns {H} does (turn ∷ turns) host tables host' tables' =
     (host1 : H) × (tables1 : Tables) × (seat : HostSeat) × (seat1 : HostSeat)

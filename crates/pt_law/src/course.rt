@@ -1,4 +1,4 @@
-ghost use Rattle.std.specs.Prelude.{◌≡◌, ◌⊎◌, List, [], ◌++◌, Option};
+ghost use Rattle.std.specs.Prelude.{◌⊎◌, List, [], ◌++◌, Option};
 ghost use Rattle.pt_host.specs.declared.seat.HostSeat.{HostSeat};
 ghost use Rattle.pt_session.specs.Tables.{Tables};
 ghost use Rattle.pt_frame.specs.Deed.{Deed, Step};
@@ -6,7 +6,6 @@ ghost use Rattle.pt_frame.specs.Frame.{CutAfter, CutInFull};
 ghost use Rattle.pt_frame.specs.Grammar.{Belongs};
 ghost use Rattle.pt_frame.specs.Made.{Made, RunsAlone};
 ghost use Rattle.pt_frame.specs.Memory.{RanOut};
-ghost use Rattle.pt_frame.specs.Seats.{seat_at, seat_by};
 ghost use Rattle.pt_frame.specs.Tree.{RequestTree, grammar_of_tree};
 ghost use Rattle.pt_frame.specs.declared.act.ActReply.{ActReply};
 ghost use Rattle.pt_frame.specs.declared.finish.Finish.{Finish};
@@ -46,15 +45,4 @@ pub fn steps_told<H: Host>()
     ensures alone { (steps : List Step) (host : H) (seat : HostSeat) (tables : Tables) (host_after : H)
         (seat_after : HostSeat) (tables_after : Tables) →
         RunsAlone H.does steps host seat tables host_after seat_after tables_after → AllMayBeTold steps }
-{}
-
-/// The seat after a step, and after all steps of a job, is the fold of what each call leaves, over any host.
-pub fn steps_seated<H: Host>()
-    ensures made { (deed : Option Deed) (told : ActReply) (host : H) (seat : HostSeat) (tables : Tables)
-        (host_after : H) (seat_after : HostSeat) (tables_after : Tables) →
-        Made H.does deed told host seat tables host_after seat_after tables_after →
-        seat_after ≡ seat_by seat deed told }
-    ensures alone { (steps : List Step) (host : H) (seat : HostSeat) (tables : Tables) (host_after : H)
-        (seat_after : HostSeat) (tables_after : Tables) →
-        RunsAlone H.does steps host seat tables host_after seat_after tables_after → seat_after ≡ seat_at seat steps }
 {}

@@ -2,9 +2,13 @@
 #![tactic(auto)]
 
 mod course;
+mod objects;
 mod runs;
+mod seating;
 mod uses;
 
-pub use course::{any_course, steps_seated, steps_told};
-pub use runs::{every_host, every_run, every_told_run};
+pub use course::{any_course, steps_told};
+pub use objects::{given_handle, made_object};
+pub use runs::{carried_descriptor, every_host, every_run, every_told_run};
+pub use seating::{seats_in_runs, steps_seated};
 pub use uses::{forgotten_nothing, forgotten_number, one_number, two_lookups};

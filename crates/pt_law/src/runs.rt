@@ -1,8 +1,9 @@
 //! Whatever jobs run, in whatever order their steps come: what holds after every step, and at the end.
 //! The parts that speak of no object hold over any host; those that do, over one that tells its tree.
 
-ghost use Rattle.std.specs.Prelude.{◌⊎◌, ◌≡◌, ◌≢◌, ◌≤◌, ℕ, List, ◌++◌, ◌∷◌, true, Some};
+ghost use Rattle.std.specs.Prelude.{◌⊎◌, ◌≡◌, ◌≢◌, ◌<◌, ◌≤◌, ℕ, List, ◌++◌, ◌∷◌, true, Some};
 ghost use Rattle.pt_host.specs.Words.{Each};
+ghost use Rattle.pt_host.specs.Tree.{IsOpenOn};
 ghost use Rattle.pt_host.specs.declared.flags.OpenFlags.{OpenFlags};
 ghost use Rattle.pt_host.specs.declared.ids.Fd.{Fd};
 ghost use Rattle.pt_host.specs.declared.ids.ObjIds.{ObjIds};
@@ -12,11 +13,13 @@ ghost use Rattle.pt_session.specs.declared.row.Row.{Row};
 ghost use Rattle.pt_session.specs.declared.row.HandleRow.{HandleRow};
 ghost use Rattle.pt_session.specs.Rows.{IsRow, IsHandleRow};
 ghost use Rattle.pt_frame.specs.Deed.{Step};
+ghost use Rattle.pt_frame.specs.declared.act.ActReply.{ActReply};
 ghost use Rattle.pt_law.specs.Told.{AllMayBeTold};
 ghost use Rattle.pt_law.specs.Branch.{AreOwn};
+ghost use Rattle.pt_law.specs.Handling.{inserting_handle};
 ghost use Rattle.pt_law.specs.Naming.{resolving, opening, ResolvesNone, OpensNone};
 ghost use Rattle.pt_law.specs.World.{World, Turn, Runs, HostRuns, TablesGo, TablesRun, steps_of};
-ghost use Rattle.pt_law.specs.Ledger.{given, inserted, handle_inserted, standing};
+ghost use Rattle.pt_law.specs.Ledger.{given, inserted, handle_inserted, standing, summed, fd_given, fds_carried};
 ghost use Rattle.pt_law.specs.Laws.{ObjectOf, Starts, AreDistinct, HasObject};
 ghost use Rattle.pt_law.specs.Discipline.{AreDisciplined, AreEnded};
 ghost use Rattle.pt_law.specs.Laws.{Serves, IsCounted, IsStanding, HasEnded, SlotsAddUp, AreKept, NamesOpen};
@@ -105,6 +108,23 @@ pub fn every_told_run()
         IsGiven path }
     ensures rest { (limit bound : ℕ) (turns : List Turn) (start end : World) →
         Starts limit start → AreEnded bound turns → Runs start turns end → LeavesRows start end }
+{}
+
+/// A descriptor that a job has, which it opened or took for closing, stays open on what it is open on while the job
+/// neither closes it nor hands it to the tables, whatever other jobs do. So where it gets a handle for a number, that
+/// is the object for which the job had resolved the number, or was given it.
+pub fn carried_descriptor()
+    ensures stays { (limit bound : ℕ) (turns between more : List Turn) (start was now : World) (job : ℕ) (fd : Fd)
+        (object : ℕ) → Starts limit start → AreDisciplined bound (turns ++ (between ++ more)) → job < bound →
+        Runs start turns was → Runs was between now → 0 < fds_carried fd.0 (steps_of job turns) →
+        summed (fd_given fd.0) (steps_of job between) ≡ 0 → IsOpenOn was.tree fd object →
+        IsOpenOn now.tree fd object }
+    ensures handled { (limit bound : ℕ) (turns between more : List Turn) (start was now : World) (job : ℕ) (fd : Fd)
+        (object era handle number : ℕ) (told : ActReply) → Starts limit start →
+        AreDisciplined bound (turns ++ (between ++ inserting_handle job era handle number fd told ∷ more)) →
+        job < bound → Runs start turns was → Runs was between now → 0 < fds_carried fd.0 (steps_of job turns) →
+        summed (fd_given fd.0) (steps_of job between) ≡ 0 → IsOpenOn was.tree fd object →
+        now.past.resolved job number ≡ Some object }
 {}
 
 /// A run over any host is one of the tables, and where the host tells its tree one of trees and tables; what each job

@@ -3,6 +3,7 @@
 
 mod error;
 mod id_map;
+mod id_rules;
 mod index;
 mod laws;
 mod range;
@@ -12,6 +13,7 @@ mod xattr_rule;
 
 pub use error::MapError;
 pub use id_map::IdMap;
+pub use id_rules::IdRules;
 pub use laws::{rules_are_unambiguous, terminated_rules_meet_all};
 pub use rule::IdRule;
 pub use xattr_map::{AppliedRule, XattrMap};

@@ -1,17 +1,25 @@
 -- What holds of the awaited reply's rest and of a refusal holds of whatever is replied.
-use Rattle.std.proofs.Common.{ℕ, List}
+use Rattle.std.proofs.Common.{ℕ, Bool, true, false, List, if◌then◌else◌}
+use Rattle.std.specs.Prelude.{◌&&◌}
+use Rattle.std.specs.Ordering.{int_eq}
+use Rattle.pt_host.specs.Errno.{eexist}
+use Rattle.pt_host.specs.declared.ids.Errno.{Errno}
 use Rattle.pt_host.specs.declared.ids.Fd.{Fd}
 use Rattle.pt_host.specs.declared.ids.ObjIds.{ObjIds}
 use Rattle.pt_host.specs.declared.stat.Stat.{Stat}
 use Rattle.pt_host.specs.declared.reply.HostReply.TheVariants as host
+use Rattle.pt_host.specs.declared.reply.HostValue.{HostValue}
 use Rattle.pt_host.specs.declared.reply.HostValue.TheVariants as value
 use Rattle.pt_session.specs.declared.form.RowForm.{RowForm}
 use Rattle.pt_session.specs.declared.form.Negotiated.{Negotiated}
 use Rattle.pt_session.specs.declared.reply.EventReply.TheVariants as event
+use Rattle.pt_iface.specs.declared.answer.Answer.{Answer}
+use Rattle.pt_iface.specs.declared.answer.Answer.TheVariants as answer
 use Rattle.pt_frame.specs.Tree.{RequestTree, Refuses}
 use Rattle.pt_frame.specs.declared.act.ActReply.{ActReply}
-use Rattle.pt_frame.specs.declared.act.ActReply.TheVariants.{Event, Host}
+use Rattle.pt_frame.specs.declared.act.ActReply.TheVariants.{Event, Host, NoCopy}
 use Rattle.pt_req.specs.Steps.{session_of, Resolved, on_began, on_cleared, on_resolved, on_fd, on_stat, on_bytes}
+use Rattle.pt_req.specs.Steps.{on_set, on_made, on_ok_or}
 use Rattle.pt_req.specs.Steps.{on_claim, on_taken, on_drawn, on_inserted, on_root, on_handle, on_pinned, on_done}
 use Rattle.pt_req.specs.declared.begun.BegunSession.{BegunSession}
 
@@ -43,6 +51,43 @@ pub if_fd : (P : ActReply → RequestTree → Type 0) (next : Fd → RequestTree
     (told : ActReply) → P told (on_fd next told)
 if_fd P next refused so (Host (host.Ok (value.Fd fd))) = so fd
 if_fd P next refused so told = refused told
+
+pub if_set : (P : ActReply → RequestTree → Type 0) (next : RequestTree) → OfRefusals P →
+    ((told : HostValue) → P (Host (host.Ok told)) next) → (told : ActReply) → P told (on_set next told)
+if_set P next refused so (Host (host.Ok told)) = so told
+if_set P next refused so told = refused told
+
+if_or_refuses : (P : RequestTree → Type 0) (b : Bool) (there refused : RequestTree) → P there → P refused →
+    P (if b then there else refused)
+if_or_refuses P true there refused so other = so
+if_or_refuses P false there refused so other = other
+
+-- a making that was refused or failed may be no refusal
+pub if_made : (P : ActReply → RequestTree → Type 0) (next : Fd → RequestTree) (may_be : Bool) (there : RequestTree) →
+    OfRefusals P → ((fd : Fd) → P (Host (host.Ok (value.Fd fd))) (next fd)) →
+    ((errno : Errno) → P (Host (host.Refused errno)) there) → ((errno : Errno) → P (Host (host.Fault errno)) there) →
+    (told : ActReply) → P told (on_made next may_be there told)
+if_made P next may_be there refused so was failed (Host (host.Ok (value.Fd fd))) = so fd
+if_made P next may_be there refused so was failed (Host (host.Refused errno)) =
+    if_or_refuses (P (Host (host.Refused errno))) (int_eq errno.0 eexist.0 && may_be) there
+    (Refuses (Host (host.Refused errno))) (was errno) (refused (Host (host.Refused errno)))
+if_made P next may_be there refused so was failed (Host (host.Fault errno)) =
+    if_or_refuses (P (Host (host.Fault errno))) (int_eq errno.0 eexist.0 && may_be) there
+    (Refuses (Host (host.Fault errno))) (failed errno) (refused (Host (host.Fault errno)))
+if_made P next may_be there refused so was failed told = refused told
+
+pub if_ok_or : (P : ActReply → RequestTree → Type 0) (refused : Answer → RequestTree) (next : RequestTree) →
+    OfRefusals P → ((told : HostValue) → P (Host (host.Ok told)) next) →
+    ((errno : Errno) → P (Host (host.Refused errno)) (refused (answer.Refused errno))) →
+    ((errno : Errno) → P (Host (host.Fault errno)) (refused (answer.Refused errno))) →
+    P (Host host.NoMemory) (refused answer.NoMemory) → P NoCopy (refused answer.NoMemory) →
+    (told : ActReply) → P told (on_ok_or refused next told)
+if_ok_or P refused next refuses so was failed out uncopied (Host (host.Ok told)) = so told
+if_ok_or P refused next refuses so was failed out uncopied (Host (host.Refused errno)) = was errno
+if_ok_or P refused next refuses so was failed out uncopied (Host (host.Fault errno)) = failed errno
+if_ok_or P refused next refuses so was failed out uncopied (Host host.NoMemory) = out
+if_ok_or P refused next refuses so was failed out uncopied NoCopy = uncopied
+if_ok_or P refused next refuses so was failed out uncopied (Event told) = refuses (Event told)
 
 pub if_stat : (P : ActReply → RequestTree → Type 0) (next : Stat → RequestTree) → OfRefusals P →
     ((stat : Stat) → P (Host (host.Ok (value.Stat stat))) (next stat)) →

@@ -1,20 +1,39 @@
 -- Each request tends its seat, and takes no memory of its own.
-use Rattle.std.proofs.Common.{◌≡◌, ℕ, zero, suc, Bool, true, false, ◌||◌, List, [], refl, sym, subst}
+use Rattle.std.proofs.Common.{◌≡◌, ℕ, zero, suc, Bool, true, false, ◌||◌, List, [], ◌∷◌, ◌++◌, refl, sym, subst}
+use Rattle.std.proofs.Common.{Option, Some, None, arith}
+use Rattle.std.specs.Prelude.{◌&&◌, is_some}
 use Rattle.pt_host.specs.Call.{Call}
 use Rattle.pt_host.specs.Sorts.{Sort, OpensWith, EndsFd, OfSeat, Plain, sort_of}
+use Rattle.pt_host.specs.declared.flags.Caps.{Caps}
+use Rattle.pt_host.specs.declared.op.KeptHostOp.TheVariants as call
+use Rattle.pt_host.specs.declared.reply.HostReply.TheVariants as host
+use Rattle.pt_host.specs.declared.reply.HostValue.{HostValue}
 use Rattle.pt_host.specs.declared.seat.HostSeat.{HostSeat}
+use Rattle.pt_creds.specs.Guard.{euid_calls, egid_calls}
+use Rattle.pt_creds.specs.Identity.{override_cap}
+use Rattle.pt_creds.specs.Steps.{id_to_set, group_calls, raise_calls}
+use Rattle.pt_iface.specs.declared.answer.Answer.TheVariants as answer
 use Rattle.pt_iface.specs.declared.request.Context.{Context}
 use Rattle.pt_iface.specs.declared.request.Request.{Request}
 use Rattle.pt_frame.specs.Deed.{Deed, Calls, Changes, lacks_memory}
+use Rattle.pt_frame.specs.Past.{is_open, worn_called, worn_after}
 use Rattle.pt_frame.specs.Replies.{closings_in, passes_with}
 use Rattle.pt_frame.specs.Sparing.{IsSparing}
 use Rattle.pt_frame.specs.Tended.{is_seats_sort, is_of_seat, Tends, IsAskedOf, IsAsked, ClosesBare, PassesBare}
-use Rattle.pt_frame.specs.Tree.{RequestTree}
+use Rattle.pt_frame.specs.Tended.{IsOpening}
+use Rattle.pt_frame.specs.Tree.{RequestTree, Gives, Refuses, Asks, Opens, Bares, Brackets, Shuts, Allocates}
+use Rattle.pt_frame.specs.declared.act.ActReply.{ActReply}
+use Rattle.pt_frame.specs.declared.act.ActReply.TheVariants.{Host}
+use Rattle.pt_frame.specs.declared.hold.Hold.{Hold}
+use Rattle.pt_frame.specs.declared.hold.Hold.TheVariants as hold
 use Rattle.pt_frame.specs.declared.hold.Taken.TheVariants.{Nothing}
 use Rattle.pt_frame.proofs.Wearing.{wears_same}
+use Rattle.pt_req.specs.Asker.{taken_on}
 use Rattle.pt_req.specs.Requests.{tree_of}
+use Rattle.pt_req.specs.Steps.{open_scope}
 use Rattle.pt_req.specs.declared.plan.Plan.{Plan}
-use Rattle.pt_req.proofs.Walking.{Walk, each_request}
+use Rattle.pt_req.proofs.Replying.{if_set}
+use Rattle.pt_req.proofs.Walking.{Walk, of_any, each_request}
 
 closes_bare : (count : ℕ) → ClosesBare Nothing count []
 closes_bare zero = tt
@@ -34,46 +53,167 @@ is_asked : (deed : Deed) → is_of_seat deed ≡ false → IsAsked deed []
 is_asked (Calls asked) e = asked_of (sort_of asked) asked e
 is_asked (Changes asked) e = tt
 
+-- a call that is Ok opens its scope
+worn_ok : (ends : Bool) (sort : Sort) (asked : Call) (told : HostValue) (worn : List Call) → ends ≡ false →
+    sort ≡ OfSeat → worn_called ends sort asked (Host (host.Ok told)) worn ≡ asked ∷ worn
+worn_ok true sort asked told worn shut own = absurd (cc)
+worn_ok false OfSeat asked told worn shut own = refl
+worn_ok false (OpensWith flags) asked told worn shut own = absurd (cc)
+worn_ok false (EndsFd fd) asked told worn shut own = absurd (cc)
+worn_ok false Plain asked told worn shut own = absurd (cc)
+
+scopes : (seat : HostSeat) (asked : Call) (scope : Hold) (rest : RequestTree) (worn : List Call) →
+    IsOpening seat asked scope worn → Tends seat rest (asked ∷ worn) → Tends seat (open_scope asked scope rest) worn
+scopes seat asked scope rest worn is so = (
+  is,
+  if_set (λ told tree. Tends seat tree (worn_after worn (Calls asked) told)) rest (λ told. tt)
+      (λ told. subst (λ (kept : List Call). Tends seat rest kept)
+      (sym (worn_ok (is_open asked worn) (sort_of asked) asked told worn is.shut is.own)) so),
+)
+
+-- An identity that is taken on by these steps is worn by what follows. A capability is raised only where the uid was
+-- changed.
+module _ (seat : HostSeat) (rest : RequestTree) (any : (worn : List Call) → Tends seat rest worn) where
+  on_euid : (worn : List Call) → ((id : ℕ) → is_open (call.SetEuid id) worn ≡ false) →
+      ((caps : Caps) → is_open (call.RaiseCap caps) worn ≡ false) → (euid : Option ℕ) (keeps : Bool) →
+      Tends seat (taken_on (euid_calls euid ++ raise_calls (keeps && is_some euid)) rest) worn
+  on_euid worn shut low None true = any worn
+  on_euid worn shut low None false = any worn
+  on_euid worn shut low (Some uid) true =
+      scopes seat (call.SetEuid uid) hold.EffectiveUid (taken_on (raise_calls true) rest) worn
+      (record { own = refl; scoped = refl; shut = shut uid; back = refl })
+      ((tt, low override_cap, omega arith), λ told. (tt, any _))
+  on_euid worn shut low (Some uid) false = scopes seat (call.SetEuid uid) hold.EffectiveUid rest worn
+      (record { own = refl; scoped = refl; shut = shut uid; back = refl }) (any _)
+
+  on_egid : (worn : List Call) → ((id : ℕ) → is_open (call.SetEgid id) worn ≡ false) →
+      ((id : ℕ) → is_open (call.SetEuid id) worn ≡ false) →
+      ((caps : Caps) → is_open (call.RaiseCap caps) worn ≡ false) →
+      (egid euid : Option ℕ) (keeps : Bool) →
+      Tends seat (taken_on (egid_calls egid ++ euid_calls euid ++ raise_calls (keeps && is_some euid)) rest) worn
+  on_egid worn first shut low None euid keeps = on_euid worn shut low euid keeps
+  on_egid worn first shut low (Some gid) euid keeps = scopes seat (call.SetEgid gid) hold.EffectiveGid
+      (taken_on (euid_calls euid ++ raise_calls (keeps && is_some euid)) rest) worn
+      (record { own = refl; scoped = refl; shut = first gid; back = refl })
+      (on_euid (call.SetEgid gid ∷ worn) shut low euid keeps)
+
+  on_steps : (groups egid euid : Option ℕ) (keeps : Bool) →
+      Tends seat (taken_on (group_calls groups ++ egid_calls egid ++ euid_calls euid
+      ++ raise_calls (keeps && is_some euid)) rest) []
+  on_steps None egid euid keeps = on_egid [] (λ id. refl) (λ id. refl) (λ caps. refl) egid euid keeps
+  on_steps (Some group) egid euid keeps = scopes seat (call.SetGroups (group ∷ [])) hold.Groups
+      (taken_on (egid_calls egid ++ euid_calls euid ++ raise_calls (keeps && is_some euid)) rest) []
+      (record { own = refl; scoped = refl; shut = refl; back = refl })
+      (on_egid (call.SetGroups (group ∷ []) ∷ []) (λ id. refl) (λ id. refl) (λ caps. refl) egid euid keeps)
+
+-- what is no call on the seat changes nothing of it
+plainly : (seat : HostSeat) (deed : Deed) (next : ActReply → RequestTree) → is_of_seat deed ≡ false →
+    ((told : ActReply) → Tends seat (next told) []) → Tends seat (Asks deed next) []
+plainly seat deed next own so = (
+  is_asked deed own,
+  λ told.
+      subst (λ (worn : List Call). ClosesBare Nothing (closings_in deed told) worn × Tends seat (next told) worn)
+      (sym (wears_same deed told [] own)) (closes_bare (closings_in deed told), so told),
+)
+
 -- no scope is open
-bare : (seat : HostSeat) → Walk (λ tree. Tends seat tree []) (λ told tree. Tends seat tree [])
+bare : (seat : HostSeat) → Walk (λ creds own flags. Unit {0}) (λ tree. Tends seat tree [])
+    (λ told tree. Tends seat tree [])
 bare seat = record {
   gives = λ last is. (is.0, passes_bare (passes_with last));
   refuses = λ told. tt;
-  had = λ told tree found so. so;
-  asks = λ deed next own so. (
-    is_asked deed own,
-    λ told.
-        subst (λ (worn : List Call). ClosesBare Nothing (closings_in deed told) worn × Tends seat (next told) worn)
-        (sym (wears_same deed told [] own)) (closes_bare (closings_in deed told), so told),
-  );
+  had = λ told tree so. so;
+  asks = λ deed next own none so. plainly seat deed next own so;
+  ran_out = λ told deed lacks own none.
+      plainly seat deed (λ later. Gives answer.NoMemory) own (λ later. (refl, tt));
   brackets = λ rest so. so;
   shuts = λ passes rest so. (refl, so);
+  makes_as = λ creds own dir name flags mode next may so.
+      on_steps seat (Asks (Calls (call.OpenAt dir name flags mode)) (λ told. Bares (next told)))
+      (λ worn. (tt, λ told. (tt, so told))) creds.sup_gid (id_to_set creds.gid own.eff_gid)
+      (id_to_set creds.uid own.eff_uid) creds.keep_capability;
 }
 
 pub requests_tend : (plan : Plan) (seat : HostSeat) (who : Context) (asked : Request) →
     Tends seat (tree_of plan seat who asked) []
-requests_tend plan seat who asked = each_request (bare seat) plan seat who asked
+requests_tend plan seat who asked = each_request (bare seat) plan seat who asked (of_any plan seat who asked)
 
 lacks_so : (lacks : Bool) → lacks ≡ true → (lacks || false) ≡ true
 lacks_so true e = refl
 lacks_so false e = absurd (cc)
 
+more_or : (first one other : Bool) → (one ≡ true → other ≡ true) → (first || one) ≡ true → (first || other) ≡ true
+more_or true one other more e = refl
+more_or false one other more e = more e
+
+-- what spares where no memory ran out spares where some did
+spares_more : (one other : Bool) → (one ≡ true → other ≡ true) → (tree : RequestTree) → IsSparing one tree →
+    IsSparing other tree
+spares_more one other more (Gives last) so = λ out. more (so out)
+spares_more one other more (Refuses told) so = λ lacks. more (so lacks)
+spares_more one other more (Asks deed next) so = λ told.
+    spares_more (lacks_memory told || one) (lacks_memory told || other) (more_or (lacks_memory told) one other more)
+    (next told) (so told)
+spares_more one other more (Opens asked scope next) so = λ told.
+    spares_more (lacks_memory told || one) (lacks_memory told || other) (more_or (lacks_memory told) one other more)
+    (next told) (so told)
+spares_more one other more (Bares rest) so = spares_more one other more rest so
+spares_more one other more (Brackets rest) so = spares_more one other more rest so
+spares_more one other more (Shuts passes rest) so = spares_more one other more rest so
+spares_more one other more (Allocates rest) so = so
+
+spared_scope : (asked : Call) (scope : Hold) (rest : RequestTree) → IsSparing false rest →
+    IsSparing false (open_scope asked scope rest)
+spared_scope asked scope rest so = if_set (λ told tree. IsSparing (lacks_memory told || false) tree) rest
+    (λ told. λ lacks. lacks_so (lacks_memory told) lacks) (λ told. so)
+
+module _ (rest : RequestTree) (so : IsSparing false rest) where
+  spares_raise : (raise : Bool) → IsSparing false (taken_on (raise_calls raise) rest)
+  spares_raise true = λ told. spares_more false (lacks_memory told || false) (λ e. absurd (cc)) rest so
+  spares_raise false = so
+
+  spares_euid : (euid : Option ℕ) (raise : Bool) →
+      IsSparing false (taken_on (euid_calls euid ++ raise_calls raise) rest)
+  spares_euid None raise = spares_raise raise
+  spares_euid (Some uid) raise =
+      spared_scope (call.SetEuid uid) hold.EffectiveUid (taken_on (raise_calls raise) rest) (spares_raise raise)
+
+  spares_egid : (egid euid : Option ℕ) (raise : Bool) →
+      IsSparing false (taken_on (egid_calls egid ++ euid_calls euid ++ raise_calls raise) rest)
+  spares_egid None euid raise = spares_euid euid raise
+  spares_egid (Some gid) euid raise = spared_scope (call.SetEgid gid) hold.EffectiveGid
+      (taken_on (euid_calls euid ++ raise_calls raise) rest) (spares_euid euid raise)
+
+  spares_steps : (groups egid euid : Option ℕ) (raise : Bool) →
+      IsSparing false (taken_on (group_calls groups ++ egid_calls egid ++ euid_calls euid ++ raise_calls raise) rest)
+  spares_steps None egid euid raise = spares_egid egid euid raise
+  spares_steps (Some group) egid euid raise =
+      spared_scope (call.SetGroups (group ∷ [])) hold.Groups
+      (taken_on (egid_calls egid ++ euid_calls euid ++ raise_calls raise) rest) (spares_egid egid euid raise)
+
+-- memory that ran out once did so
+out_before : (later lacks : Bool) → lacks ≡ true → (later || (lacks || false)) ≡ true
+out_before true lacks e = refl
+out_before false true e = refl
+out_before false false e = absurd (cc)
+
 -- no memory ran out so far
-in_full : Walk (λ tree. IsSparing false tree) (λ told tree. IsSparing (lacks_memory told || false) tree)
+in_full : Walk (λ creds own flags. Unit {0}) (λ tree. IsSparing false tree)
+    (λ told tree. IsSparing (lacks_memory told || false) tree)
 in_full = record {
   gives = λ last is. λ out. absurd (is.1 out);
   refuses = λ told. λ lacks. lacks_so (lacks_memory told) lacks;
-  had = λ told tree found so. found_so (lacks_memory told) tree found so;
-  asks = λ deed next own so. so;
+  had = λ told tree so. spares_more false (lacks_memory told || false) (λ e. absurd (cc)) tree so;
+  asks = λ deed next own none so. so;
+  ran_out = λ told deed lacks own none. λ later. λ out. out_before (lacks_memory later) (lacks_memory told) lacks;
   brackets = λ rest so. so;
   shuts = λ passes rest so. so;
+  makes_as = λ creds own dir name flags mode next may so.
+      spares_steps (Asks (Calls (call.OpenAt dir name flags mode)) (λ told. Bares (next told))) so creds.sup_gid
+      (id_to_set creds.gid own.eff_gid) (id_to_set creds.uid own.eff_uid)
+      (creds.keep_capability && is_some (id_to_set creds.uid own.eff_uid));
 }
-  where
-    found_so : (lacks : Bool) (tree : RequestTree) → lacks ≡ false → IsSparing false tree →
-        IsSparing (lacks || false) tree
-    found_so true tree e so = absurd (cc)
-    found_so false tree e so = so
 
 pub requests_spare : (plan : Plan) (seat : HostSeat) (who : Context) (asked : Request) →
     IsSparing false (tree_of plan seat who asked)
-requests_spare plan seat who asked = each_request in_full plan seat who asked
+requests_spare plan seat who asked = each_request in_full plan seat who asked (of_any plan seat who asked)

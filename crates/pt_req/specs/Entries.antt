@@ -5,6 +5,7 @@ use Rattle.std.specs.List.{list_any}
 use Rattle.pt_host.specs.Tree.{kind_of}
 use Rattle.pt_host.specs.declared.ids.ObjIds.{ObjIds}
 use Rattle.pt_host.specs.declared.stat.Stat.{Stat}
+use Rattle.pt_maps.specs.Translated.{to_guest}
 use Rattle.pt_session.specs.declared.form.Negotiated.{Negotiated}
 use Rattle.pt_iface.specs.declared.entry.Attr.{Attr}
 use Rattle.pt_iface.specs.declared.entry.Entry.{Entry}
@@ -39,8 +40,9 @@ mount_flag agreed parent stat =
     if agreed.announce_submounts && (kind_of stat.mode == 4)
     && not ((stat.ids.dev == parent.dev) && (stat.ids.mnt_id == parent.mnt_id)) then 1 else 0
 
-abbrev pub attr_of : Stat → ℕ → Attr
-attr_of stat flags = record {
+-- the owner is told by the guest's ids
+abbrev pub attr_of : Plan → Stat → ℕ → Attr
+attr_of plan stat flags = record {
   ino = stat.ids.ino;
   size = stat.size;
   blocks = stat.blocks;
@@ -49,8 +51,8 @@ attr_of stat flags = record {
   ctime = stat.ctime;
   mode = stat.mode;
   nlink = stat.nlink;
-  uid = stat.uid;
-  gid = stat.gid;
+  uid = to_guest plan.uid_map stat.uid;
+  gid = to_guest plan.gid_map stat.gid;
   rdev = stat.rdev;
   blksize = stat.blksize;
   flags = flags;
@@ -60,7 +62,7 @@ abbrev pub entry_of : Plan → Negotiated → ObjIds → Stat → ℕ → Entry
 entry_of plan agreed parent stat number = record {
   inode = number;
   generation = 0;
-  attr = attr_of stat (mount_flag agreed parent stat);
+  attr = attr_of plan stat (mount_flag agreed parent stat);
   attr_timeout = plan.config.attr_timeout;
   entry_timeout = plan.config.entry_timeout;
 }

@@ -3,7 +3,10 @@ pub mod Plan
 pub mod Options
 pub mod Steps
 pub mod Entries
+pub mod Attributes
 pub mod Parts
+pub mod Asker
+pub mod Creating
 pub mod Requests
 pub mod Pattern
 pub mod Laws

@@ -1,7 +1,7 @@
 -- Believed. The bits of openings and sessions: which flags the host is given, and which options the guest is
 -- answered.
 use Rattle.std.specs.Prelude.{ℕ, ◌+◌, ◌-◌, ◌^◌, Bool, true, false, bit_and, bit_or, if◌then◌else◌}
-use Rattle.pt_host.specs.Flags.{includes, o_directory}
+use Rattle.pt_host.specs.Flags.{includes, o_creat, o_excl, o_directory}
 use Rattle.pt_host.specs.declared.flags.OpenFlags.{OpenFlags}
 use Rattle.pt_session.specs.Tables.{nothing_agreed}
 use Rattle.pt_session.specs.declared.form.Negotiated.{Negotiated}
@@ -50,6 +50,11 @@ host_flags config flags = inode_flags config (cleaned config flags)
 abbrev pub without_nofollow : ℕ → OpenFlags
 without_nofollow flags = record { 0 = without_bits flags o_nofollow }
 
+-- what a file is made with: it is to be new, and no link is followed
+abbrev pub making_flags : ℕ → OpenFlags
+making_flags flags =
+    record { 0 = with_bits (without_bits flags o_append) (o_creat + o_excl + o_nofollow + o_cloexec) }
+
 abbrev pub direct_io : ℕ
 direct_io = 1
 
@@ -71,6 +76,10 @@ cache_options policy.Always false = keep_cache
 
 abbrev pub open_options : Config → ℕ → OpenOptions
 open_options config flags = record { 0 = cache_options config.cache_policy (includes flags o_directory) }
+
+-- how it may cache a file that it makes, whatever the flags
+abbrev pub create_options : Config → OpenOptions
+create_options config = record { 0 = cache_options config.cache_policy false }
 
 -- `CREATE_SUPP_GROUP`
 abbrev pub create_supp_group : ℕ

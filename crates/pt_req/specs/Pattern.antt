@@ -26,6 +26,7 @@ bound_of request.Root = 48
 bound_of (request.Lookup parent name) = 48
 bound_of (request.Open inode kill flags) = 48
 bound_of (request.OpenDir inode flags) = 48
+bound_of (request.Create parent name mode kill flags umask ext) = 96
 bound_of _ = 8
 
 -- so many rows a request inserts at most

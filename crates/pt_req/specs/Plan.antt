@@ -17,3 +17,6 @@ pub record IsDefault (config : Config) : Type 0 where
   pub readdirplus : config.readdirplus ≡ true
   pub allow_direct_io : config.allow_direct_io ≡ false
   pub clean_noatime : config.clean_noatime ≡ true
+  -- ids are as they are
+  pub uid_map : config.uid_map ≡ []
+  pub gid_map : config.gid_map ≡ []

@@ -1,5 +1,5 @@
 -- Believed. The requests, by their parts. After virtiofsd's passthrough file system: `init`, `open_root_node`,
--- `lookup`, `forget`, `open`, `opendir`, `release`, `read`.
+-- `lookup`, `forget`, `open`, `opendir`, `release`, `read`, `create`.
 use Rattle.std.specs.Prelude.{ℕ, List, [], ◌∷◌, Some, None}
 use Rattle.pt_host.specs.Errno.{errno_of}
 use Rattle.pt_host.specs.Flags.{o_directory}
@@ -7,13 +7,16 @@ use Rattle.pt_host.specs.declared.seat.HostSeat.{HostSeat}
 use Rattle.pt_iface.specs.declared.answer.Answer.TheVariants as answer
 use Rattle.pt_iface.specs.declared.flags.FsOptions.{FsOptions}
 use Rattle.pt_iface.specs.declared.request.Context.{Context}
+use Rattle.pt_iface.specs.declared.request.Extensions.{Extensions}
 use Rattle.pt_iface.specs.declared.request.Request.{Request}
 use Rattle.pt_iface.specs.declared.request.Request.TheVariants as request
 use Rattle.pt_frame.specs.Tree.{RequestTree, Gives}
 use Rattle.pt_session.specs.Tables.{nothing_agreed}
-use Rattle.pt_req.specs.Options.{with_bits, agreed_with, init_options, open_options}
-use Rattle.pt_req.specs.Steps.{session_of, begin, clear, read_at, pin_handle, forget_all, release_handle}
-use Rattle.pt_req.specs.Parts.{named, placed, look_up, open_num, root_open}
+use Rattle.pt_req.specs.Options.{with_bits, agreed_with, init_options, open_options, create_options}
+use Rattle.pt_req.specs.Steps.{session_of, begin, clear, resolve, read_at, pin_handle, forget_all, release_handle}
+use Rattle.pt_req.specs.Parts.{named, placed, file_of, look_up, open_num, root_open}
+use Rattle.pt_req.specs.Creating.{make_file}
+use Rattle.pt_req.specs.declared.parts.asked.FileAsked.{FileAsked}
 use Rattle.pt_req.specs.declared.plan.Plan.{Plan}
 
 -- the session begins anew, and what was agreed on is said with its root
@@ -69,11 +72,22 @@ read inode handle size offset =
     read_at fd offset size (λ bytes.
     Gives (answer.Read bytes)))))
 
+-- a file is made and opened
+abbrev pub create : Plan → HostSeat → FileAsked → RequestTree
+create plan seat asked =
+    begin (λ session.
+    named asked.name (
+    resolve asked.parent (λ directory.
+    file_of directory.form (λ dir.
+    make_file plan seat session asked dir (λ named.
+    Gives (answer.Created named.entry named.handle (create_options plan.config)))))))
+
 -- the function is not implemented, `ENOSYS`
 abbrev pub unserved : RequestTree
 unserved = begin (λ session. Gives (answer.Refused (errno_of 38)))
 
--- The requests that are served today. Whether an opening clears set-id bits comes with a switch of its own.
+-- The requests that are served today. Whether an opening clears set-id bits comes with a switch of its own, and
+-- whether the umask of who asks counts is agreed on with access control lists.
 abbrev pub IsServed : Request → Type 0
 IsServed (request.Init capable) = Unit {0}
 IsServed request.Destroy = Unit {0}
@@ -86,10 +100,21 @@ IsServed (request.OpenDir inode flags) = Unit {0}
 IsServed (request.Release inode handle) = Unit {0}
 IsServed (request.ReleaseDir inode handle) = Unit {0}
 IsServed (request.Read inode handle size offset) = Unit {0}
+IsServed (request.Create parent name mode kill flags umask ext) = Unit {0}
 IsServed _ = ⊥
 
--- What a request does, its frame aside: by the seat that its job begins with and by who asks, though none of today
--- takes these into account.
+abbrev pub file_asked : Context → ℕ → List ℕ → ℕ → ℕ → Extensions → FileAsked
+file_asked who parent name mode flags ext = record {
+  who = who;
+  secctx = ext.secctx;
+  sup_gid = ext.sup_gid;
+  parent = parent;
+  name = name;
+  mode = mode;
+  flags = flags;
+}
+
+-- What a request does, its frame aside: by the seat that its job begins with and by who asks.
 abbrev pub tree_of : Plan → HostSeat → Context → Request → RequestTree
 tree_of plan seat who (request.Init capable) = init plan capable
 tree_of plan seat who request.Destroy = destroy
@@ -102,4 +127,6 @@ tree_of plan seat who (request.OpenDir inode flags) = open_dir plan inode flags
 tree_of plan seat who (request.Release inode handle) = release inode handle
 tree_of plan seat who (request.ReleaseDir inode handle) = release inode handle
 tree_of plan seat who (request.Read inode handle size offset) = read inode handle size offset
+tree_of plan seat who (request.Create parent name mode kill flags umask ext) =
+    create plan seat (file_asked who parent name mode flags ext)
 tree_of plan seat who _ = unserved

@@ -1,6 +1,9 @@
 -- Believed. One step of a request each: what is asked, and how the request goes on by the reply that is awaited. Any
 -- other reply is answered as a refusal.
-use Rattle.std.specs.Prelude.{ℕ, List, Option}
+use Rattle.std.specs.Prelude.{ℕ, Bool, false, ◌&&◌, if◌then◌else◌, List, Option}
+use Rattle.std.specs.Ordering.{int_eq}
+use Rattle.pt_host.specs.Call.{Call}
+use Rattle.pt_host.specs.Errno.{eexist}
 use Rattle.pt_host.specs.declared.handle.FileHandle.{FileHandle}
 use Rattle.pt_host.specs.declared.ids.Fd.{Fd}
 use Rattle.pt_host.specs.declared.ids.ObjIds.{ObjIds}
@@ -13,10 +16,13 @@ use Rattle.pt_session.specs.declared.form.RowForm.{RowForm}
 use Rattle.pt_session.specs.declared.form.Negotiated.{Negotiated}
 use Rattle.pt_session.specs.declared.event.KeptEvent.TheVariants as change
 use Rattle.pt_session.specs.declared.reply.EventReply.TheVariants as event
+use Rattle.pt_iface.specs.declared.answer.Answer.{Answer}
+use Rattle.pt_iface.specs.declared.answer.Answer.TheVariants as answer
 use Rattle.pt_frame.specs.Deed.{Calls, Changes}
-use Rattle.pt_frame.specs.Tree.{RequestTree, Refuses, Asks}
+use Rattle.pt_frame.specs.Tree.{RequestTree, Refuses, Asks, Opens, Bares}
 use Rattle.pt_frame.specs.declared.act.ActReply.{ActReply}
-use Rattle.pt_frame.specs.declared.act.ActReply.TheVariants.{Event, Host}
+use Rattle.pt_frame.specs.declared.act.ActReply.TheVariants.{Event, Host, NoCopy}
+use Rattle.pt_frame.specs.declared.hold.Hold.{Hold}
 use Rattle.pt_req.specs.declared.begun.BegunSession.{BegunSession}
 
 abbrev pub session_of : ℕ → Negotiated → BegunSession
@@ -66,6 +72,37 @@ open_root dir flags next = Asks (Calls (call.OpenRoot dir flags)) (on_fd next)
 abbrev pub open_at : Fd → List ℕ → OpenFlags → (Fd → RequestTree) → RequestTree
 open_at dir name flags next = Asks (Calls (call.OpenAt dir name flags 0)) (on_fd next)
 
+abbrev pub on_set : RequestTree → ActReply → RequestTree
+on_set next (Host (host.Ok told)) = next
+on_set next told = Refuses told
+
+-- a call on the seat: where it is Ok its scope is open
+abbrev pub open_scope : Call → Hold → RequestTree → RequestTree
+open_scope asked scope next = Opens asked scope (on_set next)
+
+-- a call that may fail
+abbrev pub try_call : Call → RequestTree → RequestTree
+try_call asked next = Asks (Calls asked) (λ told. next)
+
+-- it was answered that the name is there
+abbrev pub is_there : ActReply → Bool
+is_there (Host (host.Refused errno)) = int_eq errno.0 eexist.0
+is_there (Host (host.Fault errno)) = int_eq errno.0 eexist.0
+is_there (Host host.NoMemory) = false
+is_there (Host (host.Ok told)) = false
+is_there (Event told) = false
+is_there NoCopy = false
+
+-- a file was made, or its name was there, which may be no refusal
+abbrev pub on_made : (Fd → RequestTree) → Bool → RequestTree → ActReply → RequestTree
+on_made next may_be there (Host (host.Ok (value.Fd fd))) = next fd
+on_made next may_be there told = if is_there told && may_be then there else Refuses told
+
+-- a file is made, and the scopes that are open for that end, whatever is told
+abbrev pub make_at : Fd → List ℕ → OpenFlags → ℕ → (Fd → RequestTree) → Bool → RequestTree → RequestTree
+make_at dir name flags mode next may_be there =
+    Asks (Calls (call.OpenAt dir name flags mode)) (λ told. Bares (on_made next may_be there told))
+
 -- what a descriptor is open on is opened anew
 abbrev pub reopen : Fd → OpenFlags → (Fd → RequestTree) → RequestTree
 reopen fd flags next = Asks (Calls (call.Reopen fd flags)) (on_fd next)
@@ -85,6 +122,20 @@ on_bytes next told = Refuses told
 -- bytes from an offset on
 abbrev pub read_at : Fd → ℕ → ℕ → (List ℕ → RequestTree) → RequestTree
 read_at fd offset size next = Asks (Calls (call.ReadAt fd offset size)) (on_bytes next)
+
+-- where the call is refused, that is how the request is to be answered, perhaps after more
+abbrev pub on_ok_or : (Answer → RequestTree) → RequestTree → ActReply → RequestTree
+on_ok_or refused next (Host (host.Ok told)) = next
+on_ok_or refused next (Host (host.Refused errno)) = refused (answer.Refused errno)
+on_ok_or refused next (Host (host.Fault errno)) = refused (answer.Refused errno)
+on_ok_or refused next (Host host.NoMemory) = refused answer.NoMemory
+on_ok_or refused next NoCopy = refused answer.NoMemory
+on_ok_or refused next (Event told) = Refuses (Event told)
+
+-- an extended attribute of what a descriptor is open on is set, through its link in `/proc` or not
+abbrev pub set_xattr : Fd → Bool → List ℕ → List ℕ → ℕ → (Answer → RequestTree) → RequestTree → RequestTree
+set_xattr fd through name value flags refused next =
+    Asks (Calls (call.SetXattr fd through name value flags)) (on_ok_or refused next)
 
 -- an object's number is given once more; or it has none, and is absent
 abbrev pub on_claim : (ℕ → RequestTree) → RequestTree → ActReply → RequestTree

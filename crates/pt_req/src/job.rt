@@ -51,7 +51,7 @@ impl JobState {
         ensures lost { IfOk result (λ job. job.at.lost ≡ None) }
         ensures back { IfErr result (λ back. back ≡ request) }
     {
-        let framed = Framed::start(RequestBody::of(request));
+        let framed = Framed::start(RequestBody::of(who, request));
         Ok(JobState { framed })
     }
 

@@ -3,6 +3,7 @@ ghost use Rattle.pt_req.specs.Plan.{IsDefault};
 
 use pt_host::Bytes;
 use pt_iface::{Refusal, Timeout};
+use pt_maps::{IdMap, IdRules};
 use std::alloc::Global;
 
 /// How the guest may cache files and directories, by virtiofsd's names.
@@ -38,12 +39,16 @@ pub struct Config {
     pub allow_direct_io: bool,
     /// Whether `O_NOATIME` of the guest is left out: a host may refuse it to whom does not own the file.
     pub clean_noatime: bool,
+    /// How the guest's uids and the host's become each other.
+    pub uid_map: IdRules,
+    /// How the gids do.
+    pub gid_map: IdRules,
 }
 
 impl Config {
     /// The defaults: timeouts of five seconds, the host's root, no limit of descriptors, cached as the guest decides,
-    /// with attributes of whole directories, and neither direct I/O nor `O_NOATIME` on the host. Its one refusal is
-    /// that memory ran out.
+    /// with attributes of whole directories, neither direct I/O nor `O_NOATIME` on the host, and ids as they are. Its
+    /// one refusal is that memory ran out.
     pub fn new(alloc: Global) -> Result<Config, Refusal>
         ensures ok { IfOk result IsDefault }
         ensures err { OnErr result (result ≡ Err Refusal.Memory) }
@@ -62,12 +67,16 @@ impl Config {
             readdirplus: true,
             allow_direct_io: false,
             clean_noatime: true,
+            uid_map: IdRules::new(alloc),
+            gid_map: IdRules::new(alloc),
         })
     }
 }
 
-/// The checked configuration, which every job is given.
+/// The checked configuration with its maps, which every job is given.
 #[derive(Debug, Drop)]
 pub struct Plan {
     pub config: Config,
+    pub uid_map: IdMap,
+    pub gid_map: IdMap,
 }

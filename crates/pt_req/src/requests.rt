@@ -1,4 +1,5 @@
 mod any;
+mod create;
 mod destroy;
 mod forget;
 mod init;
@@ -10,6 +11,7 @@ mod root;
 mod unknown;
 
 pub use any::RequestBody;
+pub use create::{Create, CreateAt};
 pub use destroy::Destroy;
 pub use forget::{Forget, ForgetAt, Forgotten};
 pub use init::Init;

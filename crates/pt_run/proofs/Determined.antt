@@ -1,6 +1,8 @@
 -- A script alone determines its report unless memory runs out.
 use Rattle.std.proofs.Common.{◌≡◌, ◌≢◌, ℕ, ◌≤◌, List, [], ◌∷◌, ◌∙◌, Option, Some, None, Ok, refl, ap, sym, subst}
 use Rattle.std.proofs.Common.{arith}
+use Rattle.std.proofs.lemmas.Option.{same_Some}
+use Rattle.pt_host.specs.declared.ids.Errno.{Errno}
 use Rattle.pt_host.specs.declared.reply.HostReply.{HostReply}
 use Rattle.pt_host.specs.declared.reply.HostReply.TheVariants as reply
 use Rattle.pt_host.specs.declared.reply.HostValue.TheVariants as value
@@ -8,6 +10,7 @@ use Rattle.pt_host.specs.declared.seat.HostSeat.{HostSeat}
 use Rattle.pt_rules.specs.Does.{Does}
 use Rattle.pt_rules.specs.State.{State}
 use Rattle.pt_rules.specs.Laws.Determined.{determined as host_determined}
+use Rattle.pt_rules.specs.Laws.Promised.{does_promised}
 use Rattle.pt_tree.specs.declared.spec.TreeLine.{TreeLine}
 use Rattle.pt_session.specs.Rows.{number_rows, handle_rows}
 use Rattle.pt_session.specs.LiveAfter.{IsLiveAbove, IsLiveAfter, IsHandleAfter}
@@ -23,9 +26,11 @@ use Rattle.pt_law.proofs.Hosts.{hosts_tables}
 use Rattle.pt_law.proofs.Laws.{agree_law}
 use Rattle.pt_req.specs.Plan.{IsDefault}
 use Rattle.pt_req.specs.declared.plan.Config.{Config}
-use Rattle.pt_fs.specs.Determined.{FoundMemory, RanInOrder, AreOneRun}
+use Rattle.pt_req.specs.declared.plan.Plan.{Plan}
+use Rattle.pt_fs.specs.Determined.{FoundMemory, EndsOrLoses, RanInOrder, AreOneRun}
 use Rattle.pt_fs.specs.FileSystem.{FileSystem, opens_root, IsMadeBy}
 use Rattle.pt_fs.specs.Keeps.{turns_of}
+use Rattle.pt_fs.specs.declared.job.Job.{Job}
 use Rattle.pt_fs.specs.declared.trace.TraceStep.{TraceStep}
 use Rattle.pt_fs.proofs.Determined.{turns_determined}
 use Rattle.pt_fs.proofs.Laws.{host_runs}
@@ -33,7 +38,8 @@ use Rattle.pt_script.specs.Begins.{planned_all, BeginsAs}
 use Rattle.pt_run.specs.Configured.{IsConfigured, configured}
 use Rattle.pt_run.specs.Determined.{IsFull, IsOnly, DeterminesReport}
 use Rattle.pt_run.specs.declared.report.LostJob.{LostJob}
-use Rattle.pt_run.specs.Run.{start_seat, jobs_of, IsOpened, IsRunFrom, IsReportOf, AreLive, report_of}
+use Rattle.pt_run.specs.Run.{start_seat, jobs_of, IsOpened, HasEnded, IsRunFrom, IsReportOf, AreLive}
+use Rattle.pt_run.specs.Run.{report_of}
 use Rattle.pt_script.specs.Script.{Begun}
 use Rattle.pt_run.specs.TableLines.{AllAbove}
 use Rattle.pt_script.specs.declared.line.PlannedFault.{PlannedFault}
@@ -113,6 +119,8 @@ default_one config other d e = λ i. record {
   readdirplus = (d.readdirplus ∙ sym e.readdirplus) i;
   allow_direct_io = (d.allow_direct_io ∙ sym e.allow_direct_io) i;
   clean_noatime = (d.clean_noatime ∙ sym e.clean_noatime) i;
+  uid_map = (d.uid_map ∙ sym e.uid_map) i;
+  gid_map = (d.gid_map ∙ sym e.gid_map) i;
 }
 
 configured_one : (settings : Settings) (config other : Config) → IsConfigured settings config →
@@ -145,22 +153,63 @@ opened_one settings before fs other after after' h k =
     let root : fs.root ≡ other.root = made_root told fs other h.call.2 made in
     let config : fs.plan.config ≡ other.plan.config =
     configured_one settings fs.plan.config other.plan.config h.plan k.plan in
+    let uids : fs.plan.uid_map ≡ other.plan.uid_map =
+    h.uid_map ∙ ap (λ (c : Config). c.uid_map) config ∙ sym k.uid_map in
+    let gids : fs.plan.gid_map ≡ other.plan.gid_map =
+    h.gid_map ∙ ap (λ (c : Config). c.gid_map) config ∙ sym k.gid_map in
     let tables : fs.tables ≡ other.tables =
     h.tables ∙ ap (λ (c : Config). empty_tables c.guest_fd_limit) config ∙ sym k.tables in
     record {
-      made = λ i. record { plan = record { config = config i }; tables = tables i; root = root i };
+      made = λ i. record {
+        plan = record { config = config i; uid_map = uids i; gid_map = gids i };
+        tables = tables i;
+        root = root i;
+      };
       hosts = same.1;
     }
 
--- the run as one of jobs in order
+-- the job and the error, where a seat was lost
+abbrev parts_of : LostJob → ℕ × Errno
+parts_of lost = (lost.job, lost.errno)
+
+abbrev loss_of : Option LostJob → Option (ℕ × Errno)
+loss_of None = None
+loss_of (Some lost) = Some (parts_of lost)
+
+loss_same : (lost other : Option LostJob) → loss_of lost ≡ loss_of other → lost ≡ other
+loss_same None None e = refl
+loss_same None (Some other) e = absurd (cc)
+loss_same (Some lost) None e = absurd (cc)
+loss_same (Some lost) (Some other) e =
+    let both = same_Some (parts_of lost) (parts_of other) e in
+    let job = ap (λ (p : ℕ × Errno). p.0) both in
+    let errno = ap (λ (p : ℕ × Errno). p.1) both in
+    λ i. Some (record { job = job i; errno = errno i })
+
+ends_or_loses : (plan : Plan) (jobs : List Job) (schedule : List ℕ) (host : State) (tables : Tables)
+    (trace : List TraceStep) (answers : List Answer) (lost : Option LostJob) →
+    HasEnded plan jobs schedule host tables trace answers lost →
+    EndsOrLoses Does (λ (state : State). state.faults) plan jobs schedule host tables trace answers (loss_of lost)
+ends_or_loses plan jobs schedule host tables trace answers None ends = ends
+ends_or_loses plan jobs schedule host tables trace answers (Some lost) ends = ends
+
+-- the run as one of jobs by a schedule
+abbrev RanAs : FileSystem → List Job → List ℕ → State → List TraceStep → List Answer → Option LostJob → State →
+    List HostSeat → Tables → Type 0
+RanAs fs jobs schedule opened trace answers lost host seats tables =
+    RanInOrder Does (λ (state : State). state.faults) fs.plan schedule jobs opened fs.tables trace answers
+    (loss_of lost) host seats tables
+
 ran_in_order : (settings : Settings) (start : State) (lines : List ScriptJob) (schedule : List ℕ)
-    (trace : List TraceStep) (answers : List Answer) (tables : Tables) (host : State) →
-    (run : IsRunFrom settings start lines schedule trace answers tables host None) →
-    FoundMemory trace answers →
-    RanInOrder Does run.fs.plan schedule
-    (jobs_of settings lines) run.opened_host run.fs.tables trace answers host run.seats tables
-ran_in_order settings start lines schedule trace answers tables host run found =
-    record { steps = run.run.steps; order = run.ends.order; answers_each = run.ends.answers_each; memory = found }
+    (trace : List TraceStep) (answers : List Answer) (tables : Tables) (host : State) (lost : Option LostJob) →
+    (run : IsRunFrom settings start lines schedule trace answers tables host lost) → FoundMemory trace answers →
+    RanAs run.fs (jobs_of settings lines) schedule run.opened_host trace answers lost host run.seats tables
+ran_in_order settings start lines schedule trace answers tables host lost run found = record {
+  steps = run.run.steps;
+  ends = ends_or_loses run.fs.plan (jobs_of settings lines) schedule run.opened_host run.fs.tables trace answers
+      lost run.ends;
+  memory = found;
+}
 
 end_agrees : (settings : Settings) (start : State) (lines : List ScriptJob) (schedule : List ℕ)
     (trace : List TraceStep) (answers : List Answer) (tables : Tables) (host : State) (lost : Option LostJob) →
@@ -173,41 +222,43 @@ end_agrees settings start lines schedule trace answers tables host lost run =
     (host_runs Does trace run.opened_host _ run.fs.tables host run.run.steps.seats tables run.run.steps.runs)))
 
 runs_one : (settings : Settings) (start : State) (lines : List ScriptJob) (schedule : List ℕ)
-    (trace trace' : List TraceStep) (answers answers' : List Answer) (tables tables' : Tables) (host host' : State) →
-    (run : IsRunFrom settings start lines schedule trace answers tables host None)
-    (run' : IsRunFrom settings start lines schedule trace' answers' tables' host' None) → FoundMemory trace answers →
-    FoundMemory trace' answers' →
-    AreOneRun trace trace' answers answers' host host' run.seats run'.seats tables tables'
-runs_one settings start lines schedule trace trace' answers answers' tables tables' host host' run run' found found' =
+    (trace trace' : List TraceStep) (answers answers' : List Answer) (tables tables' : Tables) (host host' : State)
+    (lost lost' : Option LostJob) →
+    (run : IsRunFrom settings start lines schedule trace answers tables host lost)
+    (run' : IsRunFrom settings start lines schedule trace' answers' tables' host' lost') →
+    FoundMemory trace answers → FoundMemory trace' answers' →
+    AreOneRun trace trace' answers answers' (loss_of lost) (loss_of lost') host host' run.seats run'.seats tables
+    tables'
+runs_one settings start lines schedule trace trace' answers answers' tables tables' host host' lost lost' run run'
+    found found' =
+    let jobs = jobs_of settings lines in
     let same = opened_one settings start run.fs run'.fs run.opened_host run'.opened_host run.opened run'.opened in
-    let here = ran_in_order settings start lines schedule trace answers tables host run found in
-    let there = ran_in_order settings start lines schedule trace' answers' tables' host' run' found' in
-    let moved : RanInOrder Does run.fs.plan schedule
-    (jobs_of settings lines) run.opened_host run.fs.tables trace' answers' host' run'.seats tables' =
-    subst (λ (fs : FileSystem).
-    RanInOrder Does fs.plan schedule
-    (jobs_of settings lines) run.opened_host fs.tables trace' answers' host' run'.seats tables') (sym same.made)
-    (subst (λ (state : State).
-    RanInOrder Does run'.fs.plan schedule
-    (jobs_of settings lines) state run'.fs.tables trace' answers' host' run'.seats tables')
-    (sym same.hosts) there) in
+    let here = ran_in_order settings start lines schedule trace answers tables host lost run found in
+    let there = ran_in_order settings start lines schedule trace' answers' tables' host' lost' run' found' in
+    let opened : RanAs run'.fs jobs schedule run.opened_host trace' answers' lost' host' run'.seats tables' =
+    subst (λ (state : State). RanAs run'.fs jobs schedule state trace' answers' lost' host' run'.seats tables')
+    (sym same.hosts) there in
+    let moved : RanAs run.fs jobs schedule run.opened_host trace' answers' lost' host' run'.seats tables' =
+    subst (λ (fs : FileSystem). RanAs fs jobs schedule run.opened_host trace' answers' lost' host' run'.seats tables')
+    (sym same.made) opened in
     let agree : Agree run.fs.tables =
     subst Agree (sym run.opened.tables)
     (agree_law run.fs.plan.config.guest_fd_limit [] (empty_tables run.fs.plan.config.guest_fd_limit) refl) in
-    turns_determined Does host_determined run.fs.plan schedule
-    (jobs_of settings lines) run.opened_host run.fs.tables trace trace' answers answers' host host' run.seats
+    turns_determined Does (λ (state : State). state.faults) does_promised host_determined run.fs.plan schedule jobs
+    run.opened_host run.fs.tables trace trace' answers answers' (loss_of lost) (loss_of lost') host host' run.seats
     run'.seats tables tables' agree here moved
 
 report_same : (trace trace' : List TraceStep) (answers answers' : List Answer)
     (lives lives' handles handles' : List (ℕ × ℕ)) (seats seats' : List HostSeat) (tables tables' : Tables)
-    (host host' : State) →
-    AreOneRun trace trace' answers answers' host host' seats seats' tables tables' → lives ≡ lives' →
-    handles ≡ handles' →
-    report_of trace answers lives handles tables host None
-    ≡ report_of trace' answers' lives' handles' tables' host' None
-report_same trace trace' answers answers' lives lives' handles handles' seats seats' tables tables' host host' one l
-    h =
-    λ i. report_of (one.traces i) (one.answered i) (l i) (h i) (one.left i) (one.hosts i) None
+    (host host' : State) (lost lost' : Option LostJob) →
+    AreOneRun trace trace' answers answers' (loss_of lost) (loss_of lost') host host' seats seats' tables tables' →
+    lives ≡ lives' → handles ≡ handles' →
+    report_of trace answers lives handles tables host lost
+    ≡ report_of trace' answers' lives' handles' tables' host' lost'
+report_same trace trace' answers answers' lives lives' handles handles' seats seats' tables tables' host host' lost
+    lost' one l h =
+    let loss = loss_same lost lost' one.losses in
+    λ i. report_of (one.traces i) (one.answered i) (l i) (h i) (one.left i) (one.hosts i) (loss i)
 
 determined : (bytes report other : List ℕ) (ran : IsReportOf bytes report) (again : IsReportOf bytes other) →
     IsFull ran → IsFull again → report ≡ other
@@ -217,23 +268,18 @@ determined bytes report other ran again full full' =
     subst (λ (b : Begun). BeginsAs b.tree b.faults again.start) begun again.starts in
     let start : again.start ≡ ran.start =
     start_one ran.begun.tree ran.begun.faults again.start ran.start starts ran.starts in
-    let whole : IsRunFrom ran.begun.settings ran.start ran.begun.jobs ran.begun.order ran.trace ran.answers ran.tables
-    ran.host None =
-    subst (λ (lost : Option LostJob). IsRunFrom ran.begun.settings ran.start ran.begun.jobs ran.begun.order ran.trace
-    ran.answers ran.tables ran.host lost) full.1 ran.run in
     let run : IsRunFrom ran.begun.settings ran.start ran.begun.jobs ran.begun.order again.trace again.answers
-    again.tables again.host None =
+    again.tables again.host again.lost =
     subst (λ (s : State).
     IsRunFrom ran.begun.settings s ran.begun.jobs ran.begun.order again.trace again.answers again.tables again.host
-    None) start
+    again.lost) start
     (subst (λ (b : Begun).
-    IsRunFrom b.settings again.start b.jobs b.order again.trace again.answers again.tables again.host None) begun
-    (subst (λ (lost : Option LostJob). IsRunFrom again.begun.settings again.start again.begun.jobs again.begun.order
-    again.trace again.answers again.tables again.host lost) full'.1 again.run)) in
+    IsRunFrom b.settings again.start b.jobs b.order again.trace again.answers again.tables again.host again.lost)
+    begun again.run) in
     let one = runs_one ran.begun.settings ran.start ran.begun.jobs ran.begun.order ran.trace again.trace ran.answers
-    again.answers ran.tables again.tables ran.host again.host whole run full.0 full'.0 in
+    again.answers ran.tables again.tables ran.host again.host ran.lost again.lost ran.run run full full' in
     let agree = end_agrees ran.begun.settings ran.start ran.begun.jobs ran.begun.order ran.trace ran.answers
-    ran.tables ran.host None whole in
+    ran.tables ran.host ran.lost ran.run in
     let live : AreLive ran.tables again.lives again.handles =
     subst (λ (t : Tables). AreLive t again.lives again.handles) (sym one.left) again.live in
     let lives : ran.lives ≡ again.lives =
@@ -242,14 +288,9 @@ determined bytes report other ran again full full' =
     let handles : ran.handles ≡ again.handles =
     all_one (IsHandleAfter ran.tables.handles)
     (handles_one ran.tables agree) None ran.handles again.handles ran.live.1 live.1 in
-    let text : report ≡ report_of ran.trace ran.answers ran.lives ran.handles ran.tables ran.host None =
-    ran.text ∙ ap (report_of ran.trace ran.answers ran.lives ran.handles ran.tables ran.host) full.1 in
-    let other_text : other
-    ≡ report_of again.trace again.answers again.lives again.handles again.tables again.host None =
-    again.text ∙ ap (report_of again.trace again.answers again.lives again.handles again.tables again.host) full'.1 in
-    text ∙ report_same ran.trace again.trace ran.answers again.answers ran.lives again.lives ran.handles
-    again.handles whole.seats run.seats ran.tables again.tables ran.host again.host one lives handles
-    ∙ sym other_text
+    ran.text ∙ report_same ran.trace again.trace ran.answers again.answers ran.lives again.lives ran.handles
+    again.handles ran.run.seats run.seats ran.tables again.tables ran.host again.host ran.lost again.lost one lives
+    handles ∙ sym again.text
 
 pub only : (bytes report : List ℕ) (ran : IsReportOf bytes report) → IsOnly ran
 only bytes report ran full other again full' = determined bytes other report again ran full' full

@@ -1,6 +1,6 @@
 -- The host's tree as the jobs of a script find it, and why there is none.
-use Rattle.std.proofs.Common.{◌≡◌, ◌⊎◌, inl, inr, ◌∙◌, ℕ, List, Option, Some, None, Result, Err, refl, ap, sym, subst}
-use Rattle.std.proofs.Common.{◌∷◌, [], ok_or, option_map, slice_get}
+use Rattle.std.proofs.Common.{◌≡◌, ◌⊎◌, inl, inr, ◌∙◌, ℕ, List, Option, Some, None, Result, Ok, Err, refl, ap, sym}
+use Rattle.std.proofs.Common.{subst, slice_get, ok_or, option_map, [], ◌∷◌}
 use Rattle.pt_host.specs.Tree.{IsWellFormed}
 use Rattle.pt_host.specs.Errno.{enoent}
 use Rattle.pt_host.specs.declared.ids.Errno.{Errno}
@@ -9,25 +9,129 @@ use Rattle.pt_host.specs.declared.seat.HostSeat.{HostSeat}
 use Rattle.pt_host.specs.declared.reply.HostReply.{HostReply}
 use Rattle.pt_host.specs.declared.reply.HostReply.TheVariants as reply
 use Rattle.pt_host.specs.declared.reply.HostValue.TheVariants as value
+use Rattle.pt_maps.specs.Refusal.{AreAccepted, IsFirstRefusal}
+use Rattle.pt_maps.specs.declared.rule.IdRule.{IdRule}
 use Rattle.pt_node.specs.Paths.{parts, then_on, walk}
 use Rattle.pt_rules.specs.Calls.{open_walked}
-use Rattle.pt_rules.specs.Does.{Answers, AnswersCall}
+use Rattle.pt_rules.specs.Does.{Does, Answers, AnswersCall}
 use Rattle.pt_rules.specs.Faults.{failure_of}
 use Rattle.pt_node.specs.Slots.{least_free}
 use Rattle.pt_rules.specs.State.{State, tree_of}
 use Rattle.pt_rules.specs.Table.{Outcome, answer}
 use Rattle.pt_node.specs.declared.node.Node.{Node}
 use Rattle.pt_rules.specs.Laws.Lawful.{does_lawful}
+use Rattle.pt_session.specs.Tables.{empty_tables}
 use Rattle.pt_iface.specs.declared.answer.Refusal.{Refusal}
 use Rattle.pt_iface.specs.declared.answer.Refusal.TheVariants as refusal
-use Rattle.pt_fs.specs.FileSystem.{FileSystem, IsMadeBy, opens_root, only_path}
-use Rattle.pt_run.specs.Run.{IsOpened, IsRefused, IsNotOpened, IsNoReport, start_seat}
+use Rattle.pt_req.specs.declared.plan.Config.{Config}
+use Rattle.pt_fs.specs.FileSystem.{FileSystem, AreMapped, IsMadeBy, IsPlanned, IsUnmapped, opens_root, only_path}
+use Rattle.pt_run.specs.Configured.{IsConfigured, with_limit, with_maps}
+use Rattle.pt_run.specs.Run.{IsAsked, IsOpened, IsMapRefused, IsRefused, IsNotOpened, IsNoReport, start_seat}
 use Rattle.pt_script.specs.Parse.{IsScriptOf}
 use Rattle.pt_run.proofs.Rooted.{begun_root}
 use Rattle.pt_script.specs.declared.line.ScriptJob.{ScriptJob}
 use Rattle.pt_script.specs.declared.settings.Settings.{Settings}
 use Rattle.pt_run.specs.declared.status.Status.{Status}
 use Rattle.pt_run.specs.declared.status.Status.TheVariants as status
+
+-- the rules of the configuration are those that are set
+uids_set : (settings : Settings) (config : Config) → IsConfigured settings config → config.uid_map ≡ settings.uid_map
+uids_set settings config h = ap (λ (c : Config). c.uid_map) h.2 ∙ limited settings.guest_fd_limit
+  where
+    limited : (limit : Option ℕ) → (with_limit limit (with_maps settings h.0)).uid_map ≡ settings.uid_map
+    limited None = refl
+    limited (Some limit) = refl
+
+gids_set : (settings : Settings) (config : Config) → IsConfigured settings config → config.gid_map ≡ settings.gid_map
+gids_set settings config h = ap (λ (c : Config). c.gid_map) h.2 ∙ limited settings.guest_fd_limit
+  where
+    limited : (limit : Option ℕ) → (with_limit limit (with_maps settings h.0)).gid_map ≡ settings.gid_map
+    limited None = refl
+    limited (Some limit) = refl
+
+-- what the call that makes a file system was answered
+abbrev Asked : State → HostSeat → Result FileSystem Refusal → State → HostSeat → Type 0
+Asked before seat made after seat_after =
+    (reply : HostReply) × Does before seat opens_root reply after seat_after × IsMadeBy reply made
+
+-- how the contract says that a file system was made or refused
+abbrev Made : Config → State → HostSeat → Result FileSystem Refusal → State → HostSeat → Type 0
+Made config before seat made after seat_after =
+    (AreMapped config × Asked before seat made after seat_after) ⊎ (IsUnmapped config made × (after ≡ before))
+
+-- with the seat that the daemon begins with
+is_asked : (settings : Settings) (before : State) (was : HostSeat) (made : Result FileSystem Refusal) (after : State)
+    (seat : HostSeat) → was ≡ start_seat settings → seat ≡ was → Asked before was made after seat →
+    IsAsked settings before made after
+is_asked settings before was made after seat starts same asked =
+    let from : Does before (start_seat settings) opens_root asked.0 after seat =
+    subst (λ (s : HostSeat). Does before s opens_root asked.0 after seat) starts asked.1 in (
+      asked.0,
+      subst (λ (s : HostSeat). Does before (start_seat settings) opens_root asked.0 after s) (same ∙ starts) from,
+      asked.2,
+    )
+
+-- it was made by a call
+pub made_opened : (settings : Settings) (config : Config) (before : State) (was : HostSeat) (fs : FileSystem)
+    (after : State) (seat : HostSeat) → IsConfigured settings config → was ≡ start_seat settings → seat ≡ was →
+    IsPlanned config fs.plan → fs.tables ≡ empty_tables config.guest_fd_limit →
+    Made config before was (Ok fs) after seat → IsOpened settings before fs after
+made_opened settings config before was fs after seat h starts same planned tables (inl asked) = record {
+  call = is_asked settings before was (Ok fs) after seat starts same asked.1;
+  plan = subst (IsConfigured settings) (sym planned.config) h;
+  uid_map = planned.uids ∙ ap (λ (c : Config). c.uid_map) (sym planned.config);
+  gid_map = planned.gids ∙ ap (λ (c : Config). c.gid_map) (sym planned.config);
+  mapped = subst AreMapped (sym planned.config) asked.0;
+  tables = tables ∙ ap (λ (c : Config). empty_tables c.guest_fd_limit) (sym planned.config);
+}
+made_opened settings config before was fs after seat h starts same planned tables (inr unasked) = absurd unasked.0
+
+-- a rule of the configuration that is refused is one that is set
+set_refused : (settings : Settings) (config : Config) (errno : Errno) → IsConfigured settings config →
+    IsUnmapped config (Err (refusal.Errno errno)) → IsMapRefused settings errno
+set_refused settings config errno h (inl uids) = record {
+  invalid = uids.0;
+  error = uids.1;
+  refused = inl (subst (λ (rules : List IdRule). IsFirstRefusal rules uids.1) (uids_set settings config h) uids.2);
+}
+set_refused settings config errno h (inr gids) = record {
+  invalid = gids.0;
+  error = gids.1;
+  refused = inr (subst (λ (rules : List IdRule). IsFirstRefusal rules gids.1) (gids_set settings config h) gids.2);
+}
+
+-- with an error it was refused by a call, or for a rule that is set
+pub refused_opened : (settings : Settings) (config : Config) (before : State) (was : HostSeat) (errno : Errno)
+    (after : State) (seat : HostSeat) → IsConfigured settings config → was ≡ start_seat settings → seat ≡ was →
+    Made config before was (Err (refusal.Errno errno)) after seat →
+    IsNotOpened settings before (status.BadConfig errno)
+refused_opened settings config before was errno after seat h starts same (inl asked) = inr (record {
+  uids = subst AreAccepted (uids_set settings config h) asked.0.uids;
+  gids = subst AreAccepted (gids_set settings config h) asked.0.gids;
+  after = after;
+  fs = Err (refusal.Errno errno);
+  call = is_asked settings before was (Err (refusal.Errno errno)) after seat starts same asked.1;
+  refused = refl;
+})
+refused_opened settings config before was errno after seat h starts same (inr unasked) =
+    inl (set_refused settings config errno h unasked.0)
+
+-- and no seat was lost, since none was changed
+told_no_loss : (told : HostReply) (errno : Errno) → IsMadeBy told (Err (refusal.Lost errno)) → ⊥
+told_no_loss (reply.Ok (value.Fd fd)) errno made = made
+told_no_loss (reply.Refused error) errno made = cc
+told_no_loss (reply.Fault error) errno made = cc
+told_no_loss reply.NoMemory errno made = cc
+told_no_loss told errno made = made
+
+unmapped_no_loss : (config : Config) (errno : Errno) → IsUnmapped config (Err (refusal.Lost errno)) → ⊥
+unmapped_no_loss config errno (inl uids) = uids
+unmapped_no_loss config errno (inr gids) = gids
+
+pub never_lost : (config : Config) (before : State) (was : HostSeat) (errno : Errno) (after : State)
+    (seat : HostSeat) → Made config before was (Err (refusal.Lost errno)) after seat → ⊥
+never_lost config before was errno after seat (inl asked) = told_no_loss asked.1.0 errno asked.1.2
+never_lost config before was errno after seat (inr unasked) = unmapped_no_loss config errno unasked.0
 
 some_same : {A : Type 0} (x y : A) → Some x ≡ Some y → x ≡ y
 some_same x y e = cc
@@ -103,11 +207,15 @@ planned_refusal settings start errno root is refused = go (failure_of start open
 pub shows_none : (bytes : List ℕ) (settings : Settings) (host : State) (jobs : List ScriptJob) (schedule : List ℕ)
     (why : Status) →
     IsScriptOf bytes settings host jobs schedule → IsNotOpened settings host why → IsNoReport bytes why
-shows_none bytes settings host jobs schedule (status.BadConfig errno) script refused =
+shows_none bytes settings host jobs schedule (status.BadConfig errno) script (inl unmapped) =
+    let here : IsMapRefused script.0.settings errno =
+    subst (λ (s : Settings). IsMapRefused s errno) script.2 unmapped in
+    (script.0, script.1, host, script.3, inl here)
+shows_none bytes settings host jobs schedule (status.BadConfig errno) script (inr refused) =
     let begins = script.3 in
     let root = begun_root script.0.tree script.0.faults host begins in
     let here : IsRefused script.0.settings host errno =
     subst (λ (s : Settings). IsRefused s host errno) script.2 refused in
-    (script.0, script.1, host, begins, (here, planned_refusal script.0.settings host errno root.0 root.1 here))
+    (script.0, script.1, host, begins, inr (here, planned_refusal script.0.settings host errno root.0 root.1 here))
 shows_none bytes settings host jobs schedule status.NoMemory script refused = tt
 shows_none bytes settings host jobs schedule why script refused = absurd refused

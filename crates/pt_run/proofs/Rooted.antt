@@ -13,7 +13,6 @@ use Rattle.pt_node.specs.NewPlace.{place_of}
 use Rattle.pt_tree.specs.Start.{add_lines, add_line, first_line, going_on, put_object, add_object, add_of_mode}
 use Rattle.pt_tree.specs.Start.{add_special, add_link, object_named, with_xattr, mount_root, mounted, start_with}
 use Rattle.pt_tree.specs.Start.{mount_in, started, is_new_mount, is_linkable, StartsAs}
-use Rattle.pt_node.specs.Node.{is_directory}
 use Rattle.pt_rules.specs.State.{State, time_of}
 use Rattle.pt_node.specs.declared.node.Node.{Node}
 use Rattle.pt_node.specs.declared.node.Content.{Content}

@@ -1,5 +1,4 @@
--- Two runs with one report are alike, and a report that tells of no lost seat and no want of memory is the script's
--- only one.
+-- Two runs with one report are alike, and a report that tells of no want of memory is the script's only one.
 use Rattle.std.proofs.Common.{◌≡◌, ℕ, List, Option, Some, None, refl, ap, sym, subst, ◌∙◌}
 use Rattle.pt_rules.specs.State.{State}
 use Rattle.pt_tree.specs.Listing.{listing_of}
@@ -13,9 +12,9 @@ use Rattle.pt_fs.specs.declared.trace.TraceStep.{TraceStep}
 use Rattle.pt_fs.proofs.OneLoss.{not_whole, one_loss}
 use Rattle.pt_run.specs.Determined.{IsFull}
 use Rattle.pt_run.specs.Report.{lost_lines}
-use Rattle.pt_run.specs.Run.{jobs_of, HasEnded, IsReportOf, IsReportFrom}
+use Rattle.pt_run.specs.Run.{jobs_of, HasEnded, IsReportOf}
 use Rattle.pt_run.specs.declared.report.LostJob.{LostJob}
-use Rattle.pt_run.specs.Alike.{AreAlike, ReportsDetermineRuns, IsFullReport, IsToldBy, TellsRun}
+use Rattle.pt_run.specs.Alike.{ReportsDetermineRuns, IsFullReport, IsToldBy, TellsRun}
 use Rattle.pt_run.proofs.LinesTell.{lines_tell, listings_same}
 use Rattle.pt_run.proofs.Determined.{only}
 
@@ -31,8 +30,8 @@ lost_one : (plan plan' : Plan) (jobs jobs' : List Job) (schedule schedule' : Lis
     (tables tables' : Tables) (trace : List TraceStep) (answers answers' : List Answer) (lost lost' : Option LostJob) →
     HasEnded plan jobs schedule host tables trace answers lost →
     HasEnded plan' jobs' schedule' host' tables' trace answers' lost' → lost ≡ lost'
-lost_one plan plan' jobs jobs' schedule schedule' host host' tables tables' trace answers answers' None lost' ends more =
-    sym (lost_none plan' jobs' schedule' host' tables' trace answers' lost' ends.loses_none more)
+lost_one plan plan' jobs jobs' schedule schedule' host host' tables tables' trace answers answers' None lost' ends
+    more = sym (lost_none plan' jobs' schedule' host' tables' trace answers' lost' ends.loses_none more)
 lost_one plan plan' jobs jobs' schedule schedule' host host' tables tables' trace answers answers' (Some lost) None ends
     more = absurd (not_whole ends more.loses_none)
 lost_one plan plan' jobs jobs' schedule schedule' host host' tables tables' trace answers answers' (Some lost)
@@ -68,13 +67,9 @@ full : (bytes report : List ℕ) (ran : IsReportOf bytes report) → IsFullRepor
 full bytes report ran printed =
     let same = lines_tell printed.trace ran.trace printed.answers ran.answers printed.lives ran.lives printed.handles
     ran.handles printed.tables.slots ran.tables.slots (listing_of printed.host) (listing_of ran.host)
-    (lost_lines printed.lost) (lost_lines ran.lost) (sym printed.text ∙ ran.text) in (
-      subst (λ (answers : List Answer). FoundMemory ran.trace answers) same.answered
-          (subst (λ (trace : List TraceStep). FoundMemory trace printed.answers) same.traces printed.memory),
-      lost_none ran.run.fs.plan (jobs_of ran.begun.settings ran.begun.jobs) ran.begun.order ran.run.opened_host
-          ran.run.fs.tables ran.trace ran.answers ran.lost
-          (subst (λ (trace : List TraceStep). LosesNone trace) same.traces printed.kept) ran.run.ends,
-    )
+    (lost_lines printed.lost) (lost_lines ran.lost) (sym printed.text ∙ ran.text) in
+    subst (λ (answers : List Answer). FoundMemory ran.trace answers) same.answered
+    (subst (λ (trace : List TraceStep). FoundMemory trace printed.answers) same.traces printed.memory)
 
 told_by : (bytes report : List ℕ) (ran : IsReportOf bytes report) → IsToldBy ran
 told_by bytes report ran = record {

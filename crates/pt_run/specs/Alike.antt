@@ -5,7 +5,6 @@ use Rattle.pt_rules.specs.State.{State}
 use Rattle.pt_tree.specs.Listing.{listing_of}
 use Rattle.pt_iface.specs.declared.answer.Answer.{Answer}
 use Rattle.pt_fs.specs.Determined.{FoundMemory}
-use Rattle.pt_fs.specs.Ends.{LosesNone}
 use Rattle.pt_fs.specs.declared.trace.TraceStep.{TraceStep}
 use Rattle.pt_run.specs.declared.report.LostJob.{LostJob}
 use Rattle.pt_run.specs.Run.{IsReportOf, IsReportFrom, report_of}
@@ -31,8 +30,7 @@ ReportsDetermineRuns =
     (bytes bytes' report : List ℕ) (ran : IsReportOf bytes report) (again : IsReportOf bytes' report) →
     AreAlike ran again
 
--- these bytes are a report's, and in their lines no restoring step was refused, and no reply and no answer tells that
--- memory ran out
+-- these bytes are a report's, and in their lines no reply and no answer tells that memory ran out
 pub record IsFullReport (report : List ℕ) : Type 0 where
   pub trace : List TraceStep
   pub answers : List Answer
@@ -42,7 +40,6 @@ pub record IsFullReport (report : List ℕ) : Type 0 where
   pub host : State
   pub lost : Option LostJob
   pub text : report ≡ report_of trace answers lives handles tables host lost
-  pub kept : LosesNone trace
   pub memory : FoundMemory trace answers
 
 -- what the bytes of its report tell of a run

@@ -1,10 +1,13 @@
 -- Believed. A run of a script, and its report.
-use Rattle.std.specs.Prelude.{◌≡◌, ◌≢◌, ◌≤◌, ℕ, List, [], ◌∷◌, ◌++◌, Option, Some, None, Result, Ok, Err, length, map}
-use Rattle.std.specs.Prelude.{codes}
+use Rattle.std.specs.Prelude.{◌≡◌, ◌≢◌, ◌≤◌, ◌⊎◌, ℕ, List, [], ◌∷◌, ◌++◌, Option, Some, None, Result, Ok, Err, length}
+use Rattle.std.specs.Prelude.{map, codes}
+use Rattle.pt_host.specs.Errno.{einval}
 use Rattle.pt_host.specs.declared.ids.Errno.{Errno}
 use Rattle.pt_host.specs.declared.reply.HostReply.{HostReply}
 use Rattle.pt_host.specs.declared.seat.HostSeat.{HostSeat}
 use Rattle.pt_host.specs.Tree.{IsWellFormed}
+use Rattle.pt_maps.specs.Refusal.{AreAccepted, IsFirstRefusal}
+use Rattle.pt_maps.specs.declared.error.MapError.{MapError}
 use Rattle.pt_rules.specs.State.{State, tree_of}
 use Rattle.pt_rules.specs.Does.{Does}
 use Rattle.pt_rules.specs.Faults.{failure_of}
@@ -17,7 +20,7 @@ use Rattle.pt_iface.specs.declared.request.Context.{Context}
 use Rattle.pt_iface.specs.declared.request.Request.{Request}
 use Rattle.pt_iface.specs.declared.request.Request.TheVariants.{Root}
 use Rattle.pt_req.specs.declared.plan.Plan.{Plan}
-use Rattle.pt_fs.specs.FileSystem.{FileSystem, opens_root, IsMadeBy}
+use Rattle.pt_fs.specs.FileSystem.{FileSystem, AreMapped, opens_root, IsMadeBy}
 use Rattle.pt_fs.specs.Ends.{EndsWhole, LosesSeat}
 use Rattle.pt_fs.specs.Run.{IsRun}
 use Rattle.pt_fs.specs.declared.job.Job.{Job}
@@ -76,14 +79,27 @@ IsAsked settings before made after =
     (reply : HostReply) × Does before (start_seat settings) opens_root reply after (start_seat settings)
     × IsMadeBy reply made
 
--- the file system is made over this host with the default configuration but for what is set, by one call
+-- The file system is made over this host with the default configuration but for what is set, by one call; its maps
+-- are the rules that are set, of which none is refused.
 pub record IsOpened (settings : Settings) (before : State) (fs : FileSystem) (after : State) : Type 0 where
   pub call : IsAsked settings before (Ok fs) after
   pub plan : IsConfigured settings fs.plan.config
+  pub uid_map : fs.plan.uid_map ≡ fs.plan.config.uid_map
+  pub gid_map : fs.plan.gid_map ≡ fs.plan.config.gid_map
+  pub mapped : AreMapped fs.plan.config
   pub tables : fs.tables ≡ empty_tables fs.plan.config.guest_fd_limit
 
 -- how the run ended: it lost no seat, or that of this job by this error
-abbrev pub HasEnded : Plan → List Job → List ℕ → State → Tables → List TraceStep → List Answer → Option LostJob → Type 0
+abbrev pub HasEnded :
+    (plan : Plan) →
+    (jobs : List Job) →
+    (schedule : List ℕ) →
+    (host : State) →
+    (tables : Tables) →
+    (trace : List TraceStep) →
+    (answers : List Answer) →
+    (lost : Option LostJob) →
+    Type 0
 HasEnded plan jobs schedule host tables trace answers None = EndsWhole plan jobs schedule trace answers
 HasEnded plan jobs schedule host tables trace answers (Some lost) =
     LosesSeat Does (λ (state : State). state.faults) plan jobs schedule host tables trace answers lost.job lost.errno
@@ -143,16 +159,24 @@ pub record IsReportOf (bytes report : List ℕ) : Type 0 where
   pub live : AreLive tables lives handles
   pub text : report ≡ report_of trace answers lives handles tables host lost
 
--- the making of a file system over this host was refused with this error
+-- no rule that is set is refused, but the one call that makes a file system over this host was, with this error
 pub record IsRefused (settings : Settings) (before : State) (errno : Errno) : Type 0 where
+  pub uids : AreAccepted settings.uid_map
+  pub gids : AreAccepted settings.gid_map
   pub after : State
   pub fs : Result FileSystem Refusal
   pub call : IsAsked settings before fs after
   pub refused : fs ≡ Err (refusal.Errno errno)
 
+-- a rule for ids that is set is refused, which is an invalid argument, and no call is made
+pub record IsMapRefused (settings : Settings) (errno : Errno) : Type 0 where
+  pub invalid : errno ≡ einval
+  pub error : MapError
+  pub refused : IsFirstRefusal settings.uid_map error ⊎ IsFirstRefusal settings.gid_map error
+
 -- why none was made
 abbrev pub IsNotOpened : Settings → State → Status → Type 0
-IsNotOpened settings before (status.BadConfig errno) = IsRefused settings before errno
+IsNotOpened settings before (status.BadConfig errno) = IsMapRefused settings errno ⊎ IsRefused settings before errno
 IsNotOpened settings before status.NoMemory = Unit {0}
 IsNotOpened settings before other = ⊥
 
@@ -165,7 +189,7 @@ abbrev pub IsNoReport : List ℕ → Status → Type 0
 IsNoReport bytes (status.BadScript line) = script_of bytes ≡ Err line
 IsNoReport bytes (status.BadConfig errno) =
     (begun : Begun) × (script_of bytes ≡ Ok begun) × (start : State) × BeginsAs begun.tree begun.faults start
-    × IsPlannedRefusal begun.settings start errno
+    × (IsMapRefused begun.settings errno ⊎ IsPlannedRefusal begun.settings start errno)
 IsNoReport bytes status.NoMemory = Unit {0}
 IsNoReport bytes other = ⊥
 

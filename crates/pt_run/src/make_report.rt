@@ -1,11 +1,10 @@
-ghost use Rattle.std.specs.Prelude.{◌≡◌, ◌≤◌, ◌+◌, ◌<◌, ◌^◌, ◌++◌, List, ℕ, IfOk, IfErr, OnOk, length};
+ghost use Rattle.std.specs.Prelude.{◌≡◌, ◌≤◌, ◌+◌, ◌<◌, ◌^◌, ◌++◌, List, ℕ, IfOk, IfErr, OnOk, length, map};
 ghost use Rattle.pt_tree.specs.Listing.{listing_of};
 ghost use Rattle.pt_run.specs.TableLines.{live_lines, handle_lines, slots_line};
 ghost use Rattle.pt_run.specs.Configured.{configured};
 ghost use Rattle.pt_run.specs.Run.{
   job_of,
-  jobs_of,
-  start_seat,
+  seat_of,
   report_of,
   status_for,
   AreLive,
@@ -23,44 +22,47 @@ use pt_fs::{DriveError, Driven, Job, PassthroughFs, SteppedFs, drive};
 use pt_host::HostSeat;
 use pt_iface::{Refusal, Request};
 use pt_req::Config;
-use pt_script::{ParseError, Script, ScriptJob, Settings, parse};
+use pt_script::{Identity, ParseError, Script, ScriptJob, Settings, parse};
 use pt_text::push_text;
 use pt_tree::TreeHost;
 use std::alloc::{AllocError, Global};
 
-// The seat with which the daemon and each job begin.
-fn start_seat(settings: Settings) -> HostSeat
-    ensures { result ≡ start_seat settings }
+// The seat that begins as this.
+fn seat_of(who: Identity) -> HostSeat
+    ensures { result ≡ seat_of who }
 {
-    let who = settings.identity();
     HostSeat::new(who.uid, who.gid, who.caps)
 }
 
-fn job_of(settings: Settings, job: ScriptJob) -> Job
-    ensures { result ≡ job_of (start_seat settings) job }
+fn job_of(who: Identity, job: ScriptJob) -> Job
+    ensures { result ≡ job_of (seat_of who) job }
 {
     match job {
-        ScriptJob::Request(_, Request::Root) => Job::OpenRoot(start_seat(settings)),
-        ScriptJob::Request(context, request) => {
-            Job::Request(context, start_seat(settings), request)
-        }
+        ScriptJob::Request(_, Request::Root) => Job::OpenRoot(seat_of(who)),
+        ScriptJob::Request(context, request) => Job::Request(context, seat_of(who), request),
         ScriptJob::Edit(edit) => Job::Edit(edit),
     }
 }
 
-fn jobs_of(alloc: Global, settings: Settings, jobs: Vec<ScriptJob>) -> Result<Vec<Job>, AllocError>
-    ensures { IfOk result (λ made. made.items ≡ jobs_of settings jobs.items) }
+fn jobs_of(alloc: Global, who: Identity, jobs: Vec<ScriptJob>) -> Result<Vec<Job>, AllocError>
+    ensures { IfOk result (λ made. made.items ≡ map (job_of (seat_of who)) jobs.items) }
 {
-    jobs.into_iter()
-        .map(|job| job_of(settings, job))
-        .collect(alloc)
+    jobs.into_iter().map(|job| job_of(who, job)).collect(alloc)
 }
 
 // The configuration with what is set in place of the defaults.
 fn configured(settings: Settings, mut config: Config) -> Config
     ensures { result ≡ configured settings config }
 {
-    if let Some(limit) = settings.guest_fd_limit {
+    let Settings {
+        guest_fd_limit,
+        uid_map,
+        gid_map,
+        ..
+    } = settings;
+    config.uid_map = uid_map;
+    config.gid_map = gid_map;
+    if let Some(limit) = guest_fd_limit {
         config.guest_fd_limit = limit;
     }
     config
@@ -71,11 +73,12 @@ fn open_fs(alloc: Global, settings: Settings, host: &mut TreeHost) -> Result<Pas
     ensures ok { IfOk result (λ fs. IsOpened settings host.old fs host.new) }
     ensures err { IfErr result (λ status. IsNotOpened settings host.old status) }
 {
+    let mut seat = seat_of(settings.identity());
     let Ok(config) = Config::new(alloc) else {
         return Err(Status::NoMemory);
     };
     let config = configured(settings, config);
-    match PassthroughFs::new(alloc, config, host, &mut start_seat(settings)) {
+    match PassthroughFs::new(alloc, config, host, &mut seat) {
         Ok(fs) => Ok(fs),
         Err(Refusal::Errno(errno)) => Err(Status::BadConfig(errno)),
         Err(Refusal::Memory) => Err(Status::NoMemory),
@@ -150,10 +153,10 @@ fn run_jobs(
         ran.driven.trace.items ran.driven.answers.items ran.driven.fs.tables host.new ran.lost) }
     ensures err { IfErr result (λ status. IsNotOpened settings host.old status) }
 {
-    let fs = open_fs(alloc, settings, host)?;
-    let Ok(jobs) = jobs_of(alloc, settings, jobs) else {
+    let Ok(jobs) = jobs_of(alloc, settings.identity(), jobs) else {
         return Err(Status::NoMemory);
     };
+    let fs = open_fs(alloc, settings, host)?;
     match drive(alloc, fs, host, jobs, schedule) {
         Ok(driven) => Ok(Ran { driven, lost: None }),
         Err(DriveError::CredentialsLost(job, errno, driven)) => {

@@ -77,7 +77,8 @@ pub fn run<I: Source, O: Sink>(
     ensures too_long { result ≡ Status.TooLong → IsLonger 16777216 (I.left input.old) }
     ensures bad_script { (line : ℕ) → result ≡ Status.BadScript line →
         IsNoReportFrom (I.left input.old) (Status.BadScript line) }
-    // The first call of the host is the one that makes the file system, and it was planned to fail.
+    // A rule for ids that is set is refused; or the first call of the host, which makes the file system, was planned
+    // to fail.
     ensures bad_config { (errno : Errno) → result ≡ Status.BadConfig errno →
         IsNoReportFrom (I.left input.old) (Status.BadConfig errno) }
     ensures read_fault { result ≡ Status.ReadFault → HasRisen (I.faults input.old) (I.faults input.new) }

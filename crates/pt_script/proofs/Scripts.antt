@@ -13,7 +13,7 @@ use Rattle.pt_script.specs.declared.line.ScriptJob.{ScriptJob}
 use Rattle.pt_script.specs.declared.line.Line.{Line}
 use Rattle.pt_script.specs.declared.line.Line.TheVariants.{Set, Tree, Fault, Job, Order, End}
 use Rattle.pt_script.specs.declared.settings.Setting.{Setting}
-use Rattle.pt_script.specs.declared.settings.Setting.TheVariants.{GuestFdLimit, Seat}
+use Rattle.pt_script.specs.declared.settings.Setting.TheVariants.{GuestFdLimit, Seat, UidRule, GidRule}
 use Rattle.pt_script.specs.declared.settings.Settings.{Settings}
 use Rattle.pt_script.specs.Settings.{may_set, with_setting, set_lines}
 use Rattle.std.specs.Option.{is_none, option_len}
@@ -261,17 +261,22 @@ sound_order number begun places sound may =
 
 one_more : (settings : Settings) (setting : Setting) → may_set settings setting ≡ true →
     set_lines (with_setting settings setting) ≡ set_lines settings + 1
-one_more settings (GuestFdLimit limit) free = go settings.guest_fd_limit free
+one_more settings (GuestFdLimit limit) free =
+    go settings.guest_fd_limit (length settings.uid_map + length settings.gid_map) free
   where
-    go : (o : Option ℕ) → is_none o ≡ true → 1 + option_len settings.seat ≡ option_len o + option_len settings.seat + 1
-    go None e = omega arith
-    go (Some n) e = cc
-one_more settings (Seat who) free = go settings.seat free
+    go : (o : Option ℕ) (rules : ℕ) → is_none o ≡ true →
+        1 + option_len settings.seat + rules ≡ option_len o + option_len settings.seat + rules + 1
+    go None rules e = omega arith
+    go (Some n) rules e = cc
+one_more settings (Seat who) free =
+    go settings.seat (length settings.uid_map + length settings.gid_map) free
   where
-    go : (o : Option Identity) → is_none o ≡ true →
-        option_len settings.guest_fd_limit + 1 ≡ option_len settings.guest_fd_limit + option_len o + 1
-    go None e = omega arith
-    go (Some n) e = cc
+    go : (o : Option Identity) (rules : ℕ) → is_none o ≡ true →
+        option_len settings.guest_fd_limit + 1 + rules ≡ option_len settings.guest_fd_limit + option_len o + rules + 1
+    go None rules e = omega arith
+    go (Some n) rules e = cc
+one_more settings (UidRule rule) free = omega (arith, length-append settings.uid_map (rule ∷ []))
+one_more settings (GidRule rule) free = omega (arith, length-append settings.gid_map (rule ∷ []))
 
 empty_is : (xs : List TreeLine) → is_empty xs ≡ true → xs ≡ []
 empty_is [] e = refl

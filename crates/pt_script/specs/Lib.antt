@@ -2,9 +2,11 @@
 pub mod Fields
 pub mod NewObjects
 pub mod TreeLine
+pub mod Making
 pub mod Request
 pub mod Edit
 pub mod Settings
+pub mod IdRules
 pub mod Line
 pub mod Script
 pub mod Begins

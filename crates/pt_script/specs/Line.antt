@@ -7,6 +7,7 @@ use Rattle.pt_script.specs.Fields.{◌>>=◌, number_in, small_in, errno_in, pla
 use Rattle.pt_script.specs.TreeLine.{tree_line_in}
 use Rattle.pt_script.specs.Edit.{edit_in}
 use Rattle.pt_script.specs.Request.{request_in}
+use Rattle.pt_script.specs.IdRules.{id_rule_in}
 use Rattle.pt_script.specs.declared.line.ScriptJob.{ScriptJob}
 use Rattle.pt_script.specs.declared.line.ScriptJob.TheVariants as script_job
 use Rattle.pt_script.specs.declared.line.Line.{Line}
@@ -14,7 +15,7 @@ use Rattle.pt_script.specs.declared.line.Line.TheVariants.{Set, Tree, Fault, Job
 use Rattle.pt_script.specs.declared.line.PlannedFault.{PlannedFault}
 use Rattle.pt_script.specs.declared.settings.Identity.{Identity}
 use Rattle.pt_script.specs.declared.settings.Setting.{Setting}
-use Rattle.pt_script.specs.declared.settings.Setting.TheVariants.{GuestFdLimit, Seat}
+use Rattle.pt_script.specs.declared.settings.Setting.TheVariants.{GuestFdLimit, Seat, UidRule, GidRule}
 
 -- `job UID GID REQUEST FIELDS`
 abbrev pub job_in : List (List ℕ) → Option ScriptJob
@@ -57,7 +58,9 @@ seat_in words = option_map Seat (identity_of words)
 abbrev pub setting_as : List ℕ → List (List ℕ) → Option Setting
 setting_as key fields =
     if bytes_eq key (codes "guest_fd_limit") then limit_in fields
-    else (if bytes_eq key (codes "seat") then seat_in fields else None)
+    else (if bytes_eq key (codes "seat") then seat_in fields
+    else (if bytes_eq key (codes "uidmap") then option_map UidRule (id_rule_in fields)
+    else (if bytes_eq key (codes "gidmap") then option_map GidRule (id_rule_in fields) else None)))
 
 -- `KEY VALUE`
 abbrev pub setting_in : List (List ℕ) → Option Setting

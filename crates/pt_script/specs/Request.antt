@@ -5,6 +5,7 @@ use Rattle.pt_iface.specs.declared.request.Request.{Request}
 use Rattle.pt_iface.specs.declared.request.Request.TheVariants.{Init, Destroy, Root, Lookup, Forget, BatchForget}
 use Rattle.pt_iface.specs.declared.request.Request.TheVariants.{Open, OpenDir, Release, ReleaseDir, Read}
 use Rattle.pt_script.specs.Fields.{◌>>=◌, number_in, small_in, bytes_in, switch_in, pairs_in, at_end}
+use Rattle.pt_script.specs.Making.{create_in}
 
 -- `init CAPABLE`
 abbrev pub init_in : List (List ℕ) → Option Request
@@ -84,9 +85,10 @@ abbrev pub handle_request_in : List ℕ → List (List ℕ) → Option Request
 handle_request_in word fields =
     if bytes_eq word (codes "open") then open_in fields
     else (if bytes_eq word (codes "opendir") then opendir_in fields
+    else (if bytes_eq word (codes "create") then create_in fields
     else (if bytes_eq word (codes "read") then read_in fields
     else (if bytes_eq word (codes "release") then release_in fields
-    else (if bytes_eq word (codes "releasedir") then releasedir_in fields else number_request_in word fields))))
+    else (if bytes_eq word (codes "releasedir") then releasedir_in fields else number_request_in word fields)))))
 
 -- a request that begins or ends a session, or one of the above
 abbrev pub request_in : List (List ℕ) → Option Request

@@ -1,6 +1,6 @@
 -- Inner. A script read without the rules of trees, which the host judges when it is made.
 use Rattle.std.specs.Prelude.{◌≡◌, ℕ, ◌+◌, ◌&&◌, List, [], ◌∷◌, Option, Some, None, Result, Ok, Err, if◌then◌else◌}
-use Rattle.std.specs.Prelude.{option_and_then}
+use Rattle.std.specs.Prelude.{option_and_then, length}
 use Rattle.pt_tree.specs.Start.{start_of}
 use Rattle.pt_rules.specs.State.{State}
 use Rattle.pt_tree.specs.declared.spec.SpecError.{SpecError}
@@ -13,6 +13,10 @@ use Rattle.pt_script.specs.declared.line.Line.{Line}
 use Rattle.pt_script.specs.declared.script.ParseError.{ParseError}
 use Rattle.pt_script.specs.declared.script.ParseError.TheVariants.{BadScript, Memory}
 use Rattle.pt_script.specs.Settings.{set_lines}
+
+-- how many of its lines are kept each by itself, but for faults
+abbrev pub kept_lines : Begun → ℕ
+kept_lines begun = set_lines begun.settings + (length begun.tree + length begun.jobs)
 
 -- the lines up to the first bad one, and its number, or none where they are a script
 pub record Scanned : Type 0 where

@@ -4,8 +4,10 @@
 
 mod edit;
 mod fields;
+mod id_rule;
 mod laws;
 mod line;
+mod making;
 mod new_objects;
 mod places;
 mod request;
@@ -19,6 +21,7 @@ pub use fields::{
     LineError, end, next_bytes, next_errno, next_number, next_pairs, next_places, next_small,
     next_switch, next_word,
 };
+pub use id_rule::next_id_rule;
 pub use laws::first_bad_line;
 pub use line::{Line, PlannedFault, ScriptJob, next_fault, next_identity, next_job, read_line};
 pub use places::Places;

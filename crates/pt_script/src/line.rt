@@ -3,6 +3,7 @@ ghost use Rattle.pt_script.specs.Line.{limit_in, identity_of, setting_as, settin
 
 use crate::edit::next_edit;
 use crate::fields::{LineError, end, next_errno, next_number, next_places, next_small, next_word};
+use crate::id_rule::next_id_rule;
 use crate::places::Places;
 use crate::request::next_request;
 use crate::settings::{Identity, Setting};
@@ -71,6 +72,10 @@ fn next_setting_as(key: &[u8], words: &mut Parts<'_>) -> Result<Setting, LineErr
         next_limit(words)
     } else if key == b"seat".as_slice() {
         Ok(Setting::Seat(next_identity(words)?))
+    } else if key == b"uidmap".as_slice() {
+        Ok(Setting::UidRule(next_id_rule(words)?))
+    } else if key == b"gidmap".as_slice() {
+        Ok(Setting::GidRule(next_id_rule(words)?))
     } else {
         Err(LineError::Bad)
     }

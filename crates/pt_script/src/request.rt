@@ -18,6 +18,7 @@ ghost use Rattle.pt_script.specs.Request.{
 use crate::fields::{
     LineError, end, next_bytes, next_number, next_pairs, next_small, next_switch, next_word,
 };
+use crate::making::next_create;
 use pt_iface::{ForgetList, FsOptions, Request};
 use pt_text::Parts;
 use std::alloc::Global;
@@ -170,6 +171,8 @@ fn next_handle_request(
         next_open(words)
     } else if word == b"opendir".as_slice() {
         next_opendir(words)
+    } else if word == b"create".as_slice() {
+        next_create(alloc, words)
     } else if word == b"read".as_slice() {
         next_read(words)
     } else if word == b"release".as_slice() {

@@ -1,6 +1,6 @@
 ghost use Rattle.std.specs.Prelude.{◌≡◌, ◌≤◌, ◌+◌, not, nat_lt, IfOk, OnOk, OnErr, Some, None, true, false, length};
 ghost use Rattle.pt_script.specs.Script.{may_stand, added, nothing, max_places, is_before_jobs, last_fault, is_later};
-ghost use Rattle.pt_script.specs.Scan.{allowed, scan_of};
+ghost use Rattle.pt_script.specs.Scan.{allowed, kept_lines, scan_of};
 
 use crate::fields::LineError;
 use crate::line::{Line, PlannedFault, ScriptJob, read_line};
@@ -48,7 +48,7 @@ impl Lines {
         ensures { result ≡ nothing }
     {
         Lines {
-            settings: Settings::none(),
+            settings: Settings::none(alloc),
             tree: Vec::new(alloc),
             faults: Vec::new(alloc),
             jobs: Vec::new(alloc),
@@ -121,9 +121,10 @@ impl Lines {
     pub fn add(&mut self, line: Line) -> Result<(), AllocError>
         ensures ok { OnOk result (self.new ≡ added self.old line) }
         ensures err { OnErr result (self.new ≡ self.old) }
+        ensures few { kept_lines self.new ≤ kept_lines self.old + 1 }
     {
         match line {
-            Line::Set(setting) => self.settings = self.settings.with_setting(setting),
+            Line::Set(setting) => self.settings.add(setting)?,
             Line::Tree(line) => self.tree.push(line)?,
             Line::Fault(fault) => self.faults.push(fault)?,
             Line::Job(job) => self.jobs.push(job)?,
@@ -133,22 +134,24 @@ impl Lines {
         Ok(())
     }
 
-    /// What is set.
-    pub fn settings(&self) -> Settings
-        ensures { result ≡ self.now.settings }
-    {
-        self.settings
-    }
-
-    /// The lines of the tree, the faults, the jobs and the schedule, which takes no memory.
-    pub fn into_parts(self) -> (TreeSpec, Vec<PlannedFault>, Vec<ScriptJob>, Places)
-        ensures tree { result.0 ≡ self.tree }
-        ensures faults { result.1.items ≡ self.faults }
-        ensures jobs { result.2.items ≡ self.jobs }
-        ensures schedule { result.3 ≡ self.order }
+    /// What is set, the lines of the tree, the faults, the jobs and the schedule, which takes no memory.
+    pub fn into_parts(
+        self,
+    ) -> (
+        Settings,
+        TreeSpec,
+        Vec<PlannedFault>,
+        Vec<ScriptJob>,
+        Places,
+    )
+        ensures settings { result.0 ≡ self.settings }
+        ensures tree { result.1 ≡ self.tree }
+        ensures faults { result.2.items ≡ self.faults }
+        ensures jobs { result.3.items ≡ self.jobs }
+        ensures schedule { result.4 ≡ self.order }
     {
         let tree = TreeSpec::from_vec(self.tree);
-        (tree, self.faults, self.jobs, self.order)
+        (self.settings, tree, self.faults, self.jobs, self.order)
     }
 
     // Puts the line that a text is behind these, and tells whether it is one and may stand there.
@@ -157,7 +160,7 @@ impl Lines {
         ensures bad { result ≡ Ok false → allowed self.old text.now ≡ None }
         ensures unchanged { result ≡ Ok false → self.new ≡ self.old }
         ensures err { OnErr result (self.new ≡ self.old) }
-        ensures few { length self.new.tree + length self.new.jobs ≤ length self.old.tree + length self.old.jobs + 1 }
+        ensures few { kept_lines self.new ≤ kept_lines self.old + 1 }
     {
         let line = match read_line(alloc, text) {
             Ok(line) => line,
@@ -183,7 +186,7 @@ pub struct Scan {
 pub fn scan_lines(alloc: Global, bytes: &[u8]) -> Result<Scan, AllocError>
     requires { length bytes.now ≤ 16777216 }
     ensures scanned { IfOk result (λ scan. record { begun = scan.lines; bad = scan.bad } ≡ scan_of bytes.now) }
-    ensures few { IfOk result (λ scan. length scan.lines.tree + length scan.lines.jobs ≤ length bytes.now + 1) }
+    ensures few { IfOk result (λ scan. kept_lines scan.lines ≤ length bytes.now + 1) }
 {
     let mut lines = Lines::new(alloc);
     let mut parts = Parts::lines(bytes);

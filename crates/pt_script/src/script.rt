@@ -40,8 +40,7 @@ pub fn parse(alloc: Global, bytes: &[u8]) -> Result<Script, ParseError>
     let Ok(scan) = scan_lines(alloc, bytes) else {
         return Err(ParseError::Memory);
     };
-    let settings = scan.lines.settings();
-    let (tree, faults, jobs, schedule) = scan.lines.into_parts();
+    let (settings, tree, faults, jobs, schedule) = scan.lines.into_parts();
     let mut host = match host_of(alloc, settings.lines(), &tree) {
         Ok(host) => host,
         Err(error) => return Err(error),

@@ -1,7 +1,8 @@
 use pt_attr::AnyJob;
 use pt_frame::{ActReply, Finish, Want};
-use pt_host::{Bytes, Caps, Edit, Fd, HostReply, HostSeat, HostValue, ObjIds, Stat, Time};
-use pt_iface::{Context, Request};
+use pt_host::{Bytes, Caps, Edit, Errno, Fd, HostReply, HostSeat, HostValue, ObjIds, Stat, Time};
+use pt_iface::{Context, Extensions, Request, SecContext};
+use pt_maps::IdMap;
 use pt_req::{CachePolicy, Config, Plan};
 use pt_session::{EventRefusal, EventReply, Negotiated, RowForm};
 use pt_show::Text;
@@ -19,7 +20,11 @@ struct Played {
 /// The plan that no setting changes.
 fn a_plan(alloc: Global) -> Option<Plan> {
     match Config::new(alloc) {
-        Ok(config) => Some(Plan { config }),
+        Ok(config) => Some(Plan {
+            config,
+            uid_map: IdMap::empty(alloc),
+            gid_map: IdMap::empty(alloc),
+        }),
         Err(_) => None,
     }
 }
@@ -53,6 +58,27 @@ impl Played {
             Ok(name) => Played::start(alloc, Request::Lookup { parent: 1, name }),
             Err(_) => None,
         }
+    }
+
+    /// A job that makes the file `a`, with a context of this name.
+    fn create(alloc: Global, context: &[u8]) -> Option<Played> {
+        let secctx = Some(SecContext {
+            name: Bytes::from_slice(alloc, context).ok()?,
+            value: Bytes::from_slice(alloc, b"v").ok()?,
+        });
+        let request = Request::Create {
+            parent: 1,
+            name: Bytes::from_slice(alloc, b"a").ok()?,
+            mode: 0o644,
+            kill: false,
+            flags: 2,
+            umask: 0,
+            ext: Extensions {
+                secctx,
+                sup_gid: None,
+            },
+        };
+        Played::start(alloc, request)
     }
 
     /// Whether the job wants the act of this text.
@@ -117,6 +143,22 @@ impl Played {
             && self.step(alloc, b" DrawNode", told(drawn))
     }
 
+    /// The steps of a making up to the `Stat` of what was made.
+    fn makes(&mut self, alloc: Global) -> bool {
+        self.step(alloc, b" Begin", told(began()))
+            && self.step(alloc, b" Resolve 1", told(resolved()))
+            && self.step(alloc, b" OpenAt 4 a 655554 420", gave(HostValue::Fd(Fd(5))))
+            && self.step(alloc, b" Stat 5", gave(HostValue::Stat(a_stat())))
+    }
+
+    /// The name goes again, or stays, and what is held is given back.
+    fn unmakes(&mut self, alloc: Global) -> bool {
+        let refused = ActReply::Host(HostReply::Refused(Errno::EACCES));
+        self.step(alloc, b" Unlink 4 a", refused)
+            && self.step(alloc, CLOSE, gave(HostValue::Unit))
+            && self.step(alloc, UNPIN, told(none_to_close()))
+    }
+
     /// The steps of an opening up to its `InsertHandle`.
     fn opens_directory(&mut self, alloc: Global) -> bool {
         let drawn = EventReply::Drawn { number: 7 };
@@ -151,6 +193,8 @@ fn none_to_close() -> EventReply {
 const CLAIM: &[u8] = b" Claim 1 - 2 1 1";
 
 const CLOSE: &[u8] = b" Close 5";
+
+const SET_CONTEXT: &[u8] = b" SetXattr 5 0 security.selinux v 0";
 
 const UNPIN: &[u8] = b" Unpin 0";
 
@@ -257,5 +301,37 @@ fn what_is_not_implemented_is_refused(rt: HostRuntime) -> Result<(), Fail> {
     let mut job = Played::start(alloc, Request::Readlink { inode: 1 }).ok_or("no job")?;
     assert!(rt; job.step(alloc, b" Begin", told(began())));
     assert!(rt; job.has_ended(alloc, b" Refused 38"));
+    Ok(())
+}
+
+/// No line of a script brings a context yet.
+#[test]
+fn what_is_made_gets_its_context(rt: HostRuntime) -> Result<(), Fail> {
+    let alloc = rt.alloc();
+    let mut job = Played::create(alloc, b"security.selinux").ok_or("no job")?;
+    assert!(rt; job.makes(alloc));
+    assert!(rt; job.step(alloc, SET_CONTEXT, gave(HostValue::Unit)));
+    assert!(rt; job.wants(alloc, b" Resolve 1"));
+    Ok(())
+}
+
+#[test]
+fn what_gets_no_context_goes_again(rt: HostRuntime) -> Result<(), Fail> {
+    let alloc = rt.alloc();
+    let mut job = Played::create(alloc, b"security.selinux").ok_or("no job")?;
+    assert!(rt; job.makes(alloc));
+    assert!(rt;
+        job.step(
+            alloc,
+            SET_CONTEXT,
+            ActReply::Host(HostReply::Fault(Errno::EIO))
+        )
+    );
+    assert!(rt; job.unmakes(alloc));
+    assert!(rt; job.has_ended(alloc, b" Refused 5"));
+    let mut blocked = Played::create(alloc, b"system").ok_or("no job")?;
+    assert!(rt; blocked.makes(alloc));
+    assert!(rt; blocked.unmakes(alloc));
+    assert!(rt; blocked.has_ended(alloc, b" Refused 95"));
     Ok(())
 }

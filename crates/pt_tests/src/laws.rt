@@ -1,12 +1,12 @@
 use crate::one_directory::OneDirectory;
 use pt_fit::{
-    all_answered, asked_ends, each_request, edit_ends, gone_number, lookup_opens, part_looks_up,
-    places_of_entry,
+    all_answered, asked_ends, asked_seated, create_opens, each_request, edit_ends, gone_number,
+    lookup_opens, part_looks_up, places_of_entry,
 };
 use pt_fs::{seats_follow, turns_are_determined};
 use pt_law::{
-    any_course, every_host, every_run, every_told_run, forgotten_nothing, forgotten_number,
-    one_number, steps_seated, steps_told, two_lookups,
+    any_course, carried_descriptor, every_host, every_run, every_told_run, forgotten_nothing,
+    forgotten_number, one_number, seats_in_runs, steps_seated, steps_told, two_lookups,
 };
 use pt_run::{report_determines_run, script_determines_report};
 use pt_script::first_bad_line;
@@ -32,6 +32,7 @@ fn the_laws_of_requests_hold() {
     each_request();
     asked_ends();
     edit_ends();
+    asked_seated();
     all_answered::<OneDirectory>();
     gone_number();
 }
@@ -39,6 +40,7 @@ fn the_laws_of_requests_hold() {
 #[test]
 fn the_laws_of_lookups_hold() {
     lookup_opens();
+    create_opens();
     part_looks_up();
     places_of_entry();
     two_lookups();
@@ -51,6 +53,7 @@ fn the_laws_of_steps_hold() {
     steps_seated::<OneDirectory>();
     turns_are_determined::<OneDirectory>();
     seats_follow::<OneDirectory>();
+    seats_in_runs();
 }
 
 #[test]
@@ -61,6 +64,7 @@ fn the_laws_of_tables_hold() {
 #[test]
 fn the_laws_of_worlds_hold() {
     every_told_run();
+    carried_descriptor();
     every_host::<OneDirectory>();
 }
 

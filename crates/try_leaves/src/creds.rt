@@ -126,8 +126,9 @@ fn group_of(word: &str) -> Option<u32> {
     }
 }
 
-/// The seat's uid, gid and capabilities; the uid, gid and group of who asks, the group `-` where none is given and
-/// `unknown` where the extension is not supported; and what the calls fail with.
+/// The seat's uid, gid and capabilities; the uid, gid and group of who asks, the group `-` where none is given,
+/// `unknown` where the extension is not supported, and `unknown:7` where the group 7 is given all the same; and what the
+/// calls fail with.
 pub fn creds(alloc: Global, words: &[&str]) -> Result<String, AllocError> {
     let mut seat = a_seat(
         number_in(words, 0),
@@ -139,7 +140,10 @@ pub fn creds(alloc: Global, words: &[&str]) -> Result<String, AllocError> {
     let who = UnixCredentials::new(number_in(words, 3), number_in(words, 4));
     let who = match words.get(5) {
         Some(&"unknown") => who.supplementary_gid(false, None),
-        Some(group) => who.supplementary_gid(true, group_of(group)),
+        Some(word) => match word.strip_prefix("unknown:") {
+            Some(group) => who.supplementary_gid(false, group_of(group)),
+            None => who.supplementary_gid(true, group_of(word)),
+        },
         None => who,
     };
     let steps = who.steps(&seat);

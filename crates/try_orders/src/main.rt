@@ -1,10 +1,14 @@
-//! Runs two lookups and a forget beside each other in every order of their steps, and writes how many orders end as a
-//! plain count says.
+//! Runs two lookups or two creates and a forget beside each other in every order of their steps, and writes how many
+//! orders end as a plain count says.
 #![tactic(auto)]
 
 mod beside;
+mod plain;
 
-use beside::{Beside, FORGOTTEN, NEW, NUMBERED};
+use beside::{
+    Beside, CLAIMED, CLAIMED_TOO_MUCH, Ends, FORGOTTEN, MADE, MADE_AND_FOUND, NEW, NUMBERED, OPENED,
+};
+use plain::agrees;
 use pt_run::{MemSink, MemSource, Status, run};
 use std::alloc::{AllocError, Global};
 use std::io;
@@ -22,8 +26,14 @@ fn ends_well(alloc: Global, beside: &Beside<'_>, script: Vec<u8>) -> Result<bool
     let mut input = MemSource::new(script, Vec::new(alloc));
     let mut output = MemSink::new(alloc, Vec::new(alloc));
     let status = run(alloc, words.as_slice(), &mut input, &mut output);
+    if status != Status::Done {
+        return Ok(false);
+    }
     let report = output.as_slice();
-    Ok(status == Status::Done && beside.ends.iter().any(|end| report.ends_with(end)))
+    match beside.ends {
+        Ends::As(ends) => Ok(ends.iter().any(|end| report.ends_with(end))),
+        Ends::Counted(slots) => agrees(alloc, report, slots),
+    }
 }
 
 fn count_order(
@@ -41,32 +51,53 @@ fn count_order(
     Ok(())
 }
 
-// Every order of the steps: those of the lookups in every way, and the two of the forget, where there is one, at
-// every two places.
+// The steps of the two as the mask says, and those of the forget at all places among them.
+fn count_forgets(
+    alloc: Global,
+    beside: &Beside<'_>,
+    mask: u32,
+    count: &mut Count,
+) -> Result<(), AllocError> {
+    if beside.forgotten == 0 {
+        return count_order(alloc, beside, mask, &[], count);
+    }
+    for first in 0..beside.places {
+        if beside.forgotten == 1 {
+            count_order(alloc, beside, mask, &[first], count)?;
+            continue;
+        }
+        for second in first.saturating_add(1)..beside.places {
+            count_order(alloc, beside, mask, &[first, second], count)?;
+        }
+    }
+    Ok(())
+}
+
+// Every order of the steps.
 fn count_orders(alloc: Global, beside: &Beside<'_>) -> Result<Count, AllocError> {
     let mut count = Count {
         orders: 0,
         others: 0,
     };
     for mask in 0..beside.masks {
-        if mask.count_ones() != beside.steps {
-            continue;
-        }
-        if !beside.forgets {
-            count_order(alloc, beside, mask, &[], &mut count)?;
-            continue;
-        }
-        for first in 0..beside.places {
-            for second in first.saturating_add(1)..beside.places {
-                count_order(alloc, beside, mask, &[first, second], &mut count)?;
-            }
+        if mask.count_ones() == beside.steps {
+            count_forgets(alloc, beside, mask, &mut count)?;
         }
     }
     Ok(count)
 }
 
 fn main(rt: HostRuntime) -> io::Result<()> {
-    for beside in [&NUMBERED, &FORGOTTEN, &NEW] {
+    for beside in [
+        &NUMBERED,
+        &FORGOTTEN,
+        &NEW,
+        &CLAIMED,
+        &CLAIMED_TOO_MUCH,
+        &OPENED,
+        &MADE,
+        &MADE_AND_FOUND,
+    ] {
         let count = count_orders(rt.alloc(), beside)?;
         println!(rt;
             "{}: {} orders, {} end otherwise",

@@ -51,27 +51,35 @@ impl Outcomes {
         self.push_run(alloc, case)
     }
 
-    // The report of the script, or the line of a run that ends otherwise with the process' status before it.
+    // The report of the script, where the run has one, and the line of a run that is not done, with the process'
+    // status before it.
     fn push_run(&mut self, alloc: Global, case: Case) -> Result<(), AllocError> {
         let ends_alone = case.ends_alone;
         let words = vec![in alloc; String::from_str(alloc, "script")?]?;
         let mut input = MemSource::new(case.into_script(), Vec::new(alloc));
         let mut output = MemSink::new(alloc, Vec::new(alloc));
         let status = run(alloc, words.as_slice(), &mut input, &mut output);
+        if matches!(status, Status::Done | Status::CredentialsLost) {
+            self.push_report(output.as_slice(), ends_alone)?;
+        }
         if status == Status::Done {
-            let report = output.as_slice();
-            self.ran_out |= tells_of_memory(report);
-            let shown = if ends_alone {
-                behind_steps(report)
-            } else {
-                report
-            };
-            return self.text.extend_from_slice(shown);
+            return Ok(());
         }
         // A sink in memory fails where none is left.
         self.ran_out |= matches!(status, Status::NoMemory | Status::WriteFault);
         let line = format!(in alloc; "{}: {status}\n", status.exit_code())?;
         self.text.extend_from_slice(line.as_bytes())
+    }
+
+    // A report, or what it says behind its steps.
+    fn push_report(&mut self, report: &[u8], ends_alone: bool) -> Result<(), AllocError> {
+        self.ran_out |= tells_of_memory(report);
+        let shown = if ends_alone {
+            behind_steps(report)
+        } else {
+            report
+        };
+        self.text.extend_from_slice(shown)
     }
 }
 

@@ -74,7 +74,15 @@ mode_left seat (mode.Out last) tree holds marks =
 mode_left seat (mode.Leave last) tree holds marks = leave seat holds last
 
 -- what a closing brought and the closings that are owed come first
-abbrev pub left_of : HostSeat → Taken → ℕ → Mode → RequestTree → List Hold → List ℕ → Grammar
+abbrev pub left_of :
+    (seat : HostSeat) →
+    (brings : Taken) →
+    (count : ℕ) →
+    (at : Mode) →
+    (tree : RequestTree) →
+    (holds : List Hold) →
+    (marks : List ℕ) →
+    Grammar
 left_of seat brings count at tree holds marks = close_first brings count holds (mode_left seat at tree holds marks)
 
 -- the last hold passes what is given back next

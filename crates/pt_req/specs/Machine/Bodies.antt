@@ -1,15 +1,19 @@
 -- Inner. What is left of the bodies of requests.
-use Rattle.std.specs.Prelude.{ℕ, List}
+use Rattle.std.specs.Prelude.{ℕ, ◌+◌, List}
 use Rattle.pt_host.specs.declared.seat.HostSeat.{HostSeat}
 use Rattle.pt_iface.specs.declared.answer.Answer.TheVariants as answer
 use Rattle.pt_frame.specs.Tree.{RequestTree, Gives}
 use Rattle.pt_frame.specs.Machine.Next.{IsAsks}
 use Rattle.pt_req.specs.Options.{init_options, open_options}
 use Rattle.pt_req.specs.Steps.{begin, read_at, pin_handle, forget_all, release_handle}
-use Rattle.pt_req.specs.Requests.{init, destroy, root, lookup, open_file, release, read, unserved}
+use Rattle.pt_req.specs.Requests.{init, destroy, root, lookup, open_file, release, read, create, unserved}
 use Rattle.pt_req.specs.Machine.Parts.{look_up_left, look_up_acts, look_up_room, look_up_asks}
 use Rattle.pt_req.specs.Machine.Parts.{root_open_left, root_open_acts, root_open_room, root_open_asks}
 use Rattle.pt_req.specs.Machine.Opening.{handle_open_left, handle_open_acts, handle_open_room, handle_open_asks}
+use Rattle.pt_req.specs.Machine.Creating.{steps_tree, steps_acts, steps_room, steps_asks, making, making_in}
+use Rattle.pt_req.specs.Machine.Creating.{new_left, new_acts, new_room, new_inserts, new_asks}
+use Rattle.pt_req.specs.Machine.Creating.{old_left, old_acts, old_room, old_inserts, old_asks}
+use Rattle.pt_req.specs.declared.parts.asked.FileAsked.{FileAsked}
 use Rattle.pt_req.specs.declared.parts.looked.Looked.{Looked}
 use Rattle.pt_req.specs.declared.plan.Plan.{Plan}
 use Rattle.pt_req.specs.declared.requests.root.Root.{Root}
@@ -34,6 +38,9 @@ use Rattle.pt_req.specs.declared.requests.release.ReleaseAt.TheVariants as at_re
 use Rattle.pt_req.specs.declared.requests.read.Read.{Read}
 use Rattle.pt_req.specs.declared.requests.read.Reading.{Reading}
 use Rattle.pt_req.specs.declared.requests.read.Reading.TheVariants as at_read
+use Rattle.pt_req.specs.declared.requests.create.Create.{Create}
+use Rattle.pt_req.specs.declared.requests.create.CreateAt.{CreateAt}
+use Rattle.pt_req.specs.declared.requests.create.CreateAt.TheVariants as at_create
 use Rattle.pt_req.specs.declared.requests.unknown.Unknown.{Unknown}
 use Rattle.pt_req.specs.declared.requests.any.RequestBody.{RequestBody}
 use Rattle.pt_req.specs.declared.requests.any.RequestBody.TheVariants as body
@@ -258,6 +265,60 @@ reading_asks (at_read.Read fd) it = tt
 pub read_asks : (it : Read) (plan : Plan) (seat : HostSeat) → IsAsks (read_left it plan seat)
 read_asks it plan seat = reading_asks it.at it
 
+abbrev pub create_at_left : CreateAt → FileAsked → Plan → HostSeat → RequestTree
+create_at_left at_create.Begin asked plan seat = create plan seat asked
+create_at_left (at_create.Resolve session) asked plan seat = making_in plan seat session asked
+create_at_left (at_create.Make session dir steps) asked plan seat =
+    steps_tree steps (making asked plan session dir)
+create_at_left (at_create.New it) asked plan seat = new_left it asked plan
+create_at_left (at_create.Old it) asked plan seat = old_left it asked plan
+
+abbrev pub create_left : Create → Plan → HostSeat → RequestTree
+create_left it plan seat = create_at_left it.at it.file plan seat
+
+abbrev pub create_at_acts : CreateAt → ℕ
+create_at_acts at_create.Begin = 32
+create_at_acts (at_create.Resolve session) = 31
+create_at_acts (at_create.Make session dir steps) = steps_acts steps + 22
+create_at_acts (at_create.New it) = new_acts it
+create_at_acts (at_create.Old it) = old_acts it
+
+abbrev pub create_acts : Create → ℕ
+create_acts it = create_at_acts it.at
+
+-- its brackets take room as holds do
+abbrev pub create_at_room : CreateAt → ℕ
+create_at_room at_create.Begin = 15
+create_at_room (at_create.Resolve session) = 15
+create_at_room (at_create.Make session dir steps) = steps_room steps + 11
+create_at_room (at_create.New it) = new_room it
+create_at_room (at_create.Old it) = old_room it
+
+abbrev pub create_room : Create → ℕ
+create_room it = create_at_room it.at
+
+abbrev pub create_at_inserts : CreateAt → ℕ
+create_at_inserts at_create.Begin = 2
+create_at_inserts (at_create.Resolve session) = 2
+create_at_inserts (at_create.Make session dir steps) = 2
+create_at_inserts (at_create.New it) = new_inserts it
+create_at_inserts (at_create.Old it) = old_inserts it
+
+abbrev pub create_inserts : Create → ℕ
+create_inserts it = create_at_inserts it.at
+
+create_at_asks : (at : CreateAt) (asked : FileAsked) (plan : Plan) (seat : HostSeat) →
+    IsAsks (create_at_left at asked plan seat)
+create_at_asks at_create.Begin asked plan seat = tt
+create_at_asks (at_create.Resolve session) asked plan seat = tt
+create_at_asks (at_create.Make session dir steps) asked plan seat =
+    steps_asks steps (making asked plan session dir) tt
+create_at_asks (at_create.New it) asked plan seat = new_asks it asked plan
+create_at_asks (at_create.Old it) asked plan seat = old_asks it asked plan
+
+pub create_asks : (it : Create) (plan : Plan) (seat : HostSeat) → IsAsks (create_left it plan seat)
+create_asks it plan seat = create_at_asks it.at it.file plan seat
+
 abbrev pub unknown_left : Unknown → Plan → HostSeat → RequestTree
 unknown_left it plan seat = unserved
 
@@ -282,6 +343,7 @@ request_left (body.Forget it) plan seat = forget_left it plan seat
 request_left (body.Open it) plan seat = open_left it plan seat
 request_left (body.Release it) plan seat = release_left it plan seat
 request_left (body.Read it) plan seat = read_left it plan seat
+request_left (body.Create it) plan seat = create_left it plan seat
 request_left (body.Unknown it) plan seat = unknown_left it plan seat
 
 abbrev pub request_acts : RequestBody → ℕ
@@ -293,6 +355,7 @@ request_acts (body.Forget it) = forget_acts it
 request_acts (body.Open it) = open_acts it
 request_acts (body.Release it) = release_acts it
 request_acts (body.Read it) = read_acts it
+request_acts (body.Create it) = create_acts it
 request_acts (body.Unknown it) = unknown_acts it
 
 abbrev pub request_room : RequestBody → ℕ
@@ -304,6 +367,7 @@ request_room (body.Forget it) = forget_room it
 request_room (body.Open it) = open_room it
 request_room (body.Release it) = release_room it
 request_room (body.Read it) = read_room it
+request_room (body.Create it) = create_room it
 request_room (body.Unknown it) = unknown_room it
 
 abbrev pub request_inserts : RequestBody → ℕ
@@ -315,6 +379,7 @@ request_inserts (body.Forget it) = forget_inserts it
 request_inserts (body.Open it) = open_inserts it
 request_inserts (body.Release it) = release_inserts it
 request_inserts (body.Read it) = read_inserts it
+request_inserts (body.Create it) = create_inserts it
 request_inserts (body.Unknown it) = unknown_inserts it
 
 pub request_asks : (it : RequestBody) (plan : Plan) (seat : HostSeat) → IsAsks (request_left it plan seat)
@@ -326,4 +391,5 @@ request_asks (body.Forget it) plan seat = forget_asks it plan seat
 request_asks (body.Open it) plan seat = open_asks it plan seat
 request_asks (body.Release it) plan seat = release_asks it plan seat
 request_asks (body.Read it) plan seat = read_asks it plan seat
+request_asks (body.Create it) plan seat = create_asks it plan seat
 request_asks (body.Unknown it) plan seat = unknown_asks it plan seat

@@ -21,8 +21,9 @@ fn mount_flag(agreed: Negotiated, parent: ObjIds, stat: &Stat) -> u32
     }
 }
 
-fn attr_of(stat: &Stat, flags: u32) -> Attr
-    ensures { result ≡ attr_of stat.now flags }
+/// What the guest is told of an object, its owner by the guest's ids.
+fn attr_of(plan: &Plan, stat: &Stat, flags: u32) -> Attr
+    ensures { result ≡ attr_of plan.now stat.now flags }
 {
     Attr {
         ino: stat.ids.ino,
@@ -33,8 +34,8 @@ fn attr_of(stat: &Stat, flags: u32) -> Attr
         ctime: stat.ctime,
         mode: stat.mode,
         nlink: stat.nlink,
-        uid: stat.uid,
-        gid: stat.gid,
+        uid: plan.uid_map.map_host(stat.uid),
+        gid: plan.gid_map.map_host(stat.gid),
         rdev: stat.rdev,
         blksize: stat.blksize,
         flags,
@@ -48,7 +49,7 @@ pub fn entry_of(plan: &Plan, agreed: Negotiated, parent: ObjIds, stat: &Stat, nu
     Entry {
         inode: number,
         generation: 0,
-        attr: attr_of(stat, mount_flag(agreed, parent, stat)),
+        attr: attr_of(plan, stat, mount_flag(agreed, parent, stat)),
         attr_timeout: plan.config.attr_timeout,
         entry_timeout: plan.config.entry_timeout,
     }

@@ -1,6 +1,7 @@
 ghost use Rattle.std.specs.Prelude.{◌≡◌};
 ghost use Rattle.pt_req.specs.Options.{without_bits, cleaned, inode_flags, host_flags, without_nofollow};
-ghost use Rattle.pt_req.specs.Options.{cache_options, open_options, agreed_with, init_options};
+ghost use Rattle.pt_req.specs.Options.{cache_options, open_options, create_options, making_flags, agreed_with};
+ghost use Rattle.pt_req.specs.Options.{init_options};
 
 use crate::plan::{CachePolicy, Config};
 use pt_host::OpenFlags;
@@ -71,6 +72,24 @@ pub fn open_options(config: &Config, flags: u32) -> OpenOptions
 {
     let directory = OpenFlags(flags).includes(OpenFlags::O_DIRECTORY);
     cache_options(config.cache_policy, directory)
+}
+
+/// The options that a making is answered with, whatever its flags.
+pub fn create_options(config: &Config) -> OpenOptions
+    ensures { result ≡ create_options config.now }
+{
+    cache_options(config.cache_policy, false)
+}
+
+/// What a file is made with: it is to be new, and no link is followed.
+pub fn making_flags(flags: u32) -> OpenFlags
+    ensures { result ≡ making_flags flags }
+{
+    let new = OpenFlags::O_CREAT.0
+        | OpenFlags::O_EXCL.0
+        | OpenFlags::O_NOFOLLOW.0
+        | OpenFlags::O_CLOEXEC.0;
+    OpenFlags(without_bits(flags, OpenFlags::O_APPEND.0) | new)
 }
 
 /// What is agreed on with a guest that offers this.

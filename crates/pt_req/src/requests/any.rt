@@ -1,20 +1,20 @@
 ghost use Rattle.std.specs.Prelude.{◌≡◌, ◌≤◌};
 ghost use Rattle.pt_frame.specs.Machine.Room.{most_holds};
 ghost use Rattle.pt_host.specs.declared.seat.HostSeat.{HostSeat};
-ghost use Rattle.pt_iface.specs.declared.request.Context.{Context};
 ghost use Rattle.pt_req.specs.Machine.Bodies.{request_left, request_acts, request_room, request_inserts};
 ghost use Rattle.pt_req.specs.Pattern.{bound_of, most_inserted};
 ghost use Rattle.pt_req.specs.Requests.{tree_of};
 ghost use Rattle.pt_req.specs.declared.plan.Plan.{Plan};
 
+use crate::parts::FileAsked;
 use crate::plan::Plan;
 use crate::requests::{
-    Destroy, Forget, ForgetAt, Forgotten, Init, Lookup, LookupAt, Open, OpeningAt, Read, Reading,
-    Release, ReleaseAt, Root, Unknown,
+    Create, CreateAt, Destroy, Forget, ForgetAt, Forgotten, Init, Lookup, LookupAt, Open,
+    OpeningAt, Read, Reading, Release, ReleaseAt, Root, Unknown,
 };
 use pt_frame::{ActReply, Body, Next, Wanted};
 use pt_host::{HostSeat, OpenFlags};
-use pt_iface::Request;
+use pt_iface::{Context, Extensions, Request};
 
 /// The body of any request.
 #[derive(Drop)]
@@ -27,13 +27,14 @@ pub enum RequestBody {
     Open(Open),
     Release(Release),
     Read(Read),
+    Create(Create),
     Unknown(Unknown),
 }
 
 impl RequestBody {
     /// The body that begins this request.
-    pub fn of(request: Request) -> RequestBody
-        ensures left { (plan : Plan) (seat : HostSeat) (who : Context) →
+    pub fn of(who: Context, request: Request) -> RequestBody
+        ensures left { (plan : Plan) (seat : HostSeat) →
             request_left result plan seat ≡ tree_of plan seat who request }
         ensures acts { request_acts result ≤ bound_of request }
         ensures room { request_room result ≤ most_holds }
@@ -86,6 +87,28 @@ impl RequestBody {
                     at,
                 })
             }
+            // No access control lists are agreed on yet, so the umask of who asks is the guest's own matter.
+            Request::Create {
+                parent,
+                name,
+                mode,
+                flags,
+                ext,
+                ..
+            } => {
+                let Extensions { secctx, sup_gid } = ext;
+                let at = CreateAt::Begin;
+                let file = FileAsked {
+                    who,
+                    secctx,
+                    sup_gid,
+                    parent,
+                    name,
+                    mode,
+                    flags,
+                };
+                RequestBody::Create(Create { file, at })
+            }
             _ => RequestBody::Unknown(Unknown),
         }
     }
@@ -115,6 +138,7 @@ impl Body for RequestBody {
             RequestBody::Open(body) => body.want(plan, seat),
             RequestBody::Release(body) => body.want(plan, seat),
             RequestBody::Read(body) => body.want(plan, seat),
+            RequestBody::Create(body) => body.want(plan, seat),
             RequestBody::Unknown(body) => body.want(plan, seat),
         }
     }
@@ -129,6 +153,7 @@ impl Body for RequestBody {
             RequestBody::Open(body) => body.take(plan, seat, reply),
             RequestBody::Release(body) => body.take(plan, seat, reply),
             RequestBody::Read(body) => body.take(plan, seat, reply),
+            RequestBody::Create(body) => body.take(plan, seat, reply),
             RequestBody::Unknown(body) => body.take(plan, seat, reply),
         }
     }

@@ -1,6 +1,7 @@
 use Rattle.pt_fit.proofs.job.asked_ends.Goals as goal
-use Rattle.pt_fit.proofs.Asked.{comes_ends, job_full, job_caused, entry_asked}
+use Rattle.pt_fit.proofs.Asked.{comes_ends, job_full, job_caused, entry_asked, created_asked}
 use Rattle.pt_fit.proofs.Beginning.{job_first}
+use Rattle.pt_fit.proofs.Keeping.{asked_keeps}
 
 pub returns-clause-ends : goal.returns-clause-ends
 returns-clause-ends c = comes_ends
@@ -16,3 +17,9 @@ returns-clause-begins c = job_first
 
 pub returns-clause-named : goal.returns-clause-named
 returns-clause-named c = entry_asked
+
+pub returns-clause-created : goal.returns-clause-created
+returns-clause-created c = created_asked
+
+pub returns-clause-handled : goal.returns-clause-handled
+returns-clause-handled c = asked_keeps

@@ -8,7 +8,7 @@ pub returns-clause-ends : goal.returns-clause-ends
 returns-clause-ends c = edit_ended
 
 pub returns-clause-causes : goal.returns-clause-causes
-returns-clause-causes c = edit_caused
+returns-clause-causes c = λ plan. edit_caused
 
 pub returns-clause-cut : goal.returns-clause-cut
 returns-clause-cut c = edit_left_out

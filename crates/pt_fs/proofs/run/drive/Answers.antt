@@ -9,7 +9,7 @@ use Rattle.pt_fs.proofs.Finale.{LostEnd, runs_lost, long_end, length_lost, comes
 use Rattle.pt_fs.proofs.Finale.{loses_seat}
 use Rattle.pt_fs.proofs.Going.{there_took}
 use Rattle.pt_fs.proofs.Whole.{Whole, runs_whole, same_whole, length_whole, comes_whole, bounded_whole, spent_whole}
-use Rattle.pt_fs.proofs.Whole.{ends_whole, runs_jobs, seats_back, ran_of}
+use Rattle.pt_fs.proofs.Whole.{ends_whole, runs_jobs, seats_back, each_seated, ran_of}
 use Rattle.pt_fs.proofs.Works.{started_bounds}
 use Rattle.pt_fs.proofs.run.drive.Given as given
 use Rattle.pt_fs.proofs.run.drive.Goals as goal
@@ -97,7 +97,9 @@ returns-in-None g c =
     (runs_jobs g.H.Host.does plan jobs trace _ _ _ _ _ _ (runs_whole whole) (same_whole whole) (length_whole whole)
     (comes_whole whole) _ seats)
     (seats_back g.H.Host.does plan jobs trace _ _ _ _ _ _ (runs_whole whole) (same_whole whole) (length_whole whole)
-    (comes_whole whole) g.H.Host.faults g.met.H.Host.promised _ seats)
+    (comes_whole whole) g.H.Host.faults g.met.H.Host.promised c.requires.seats _ seats)
+    (each_seated g.H.Host.does plan jobs trace _ _ _ _ _ _ (runs_whole whole) (same_whole whole) (length_whole whole)
+    (comes_whole whole) g.H.Host.faults g.met.H.Host.promised c.requires.seats)
     (bounded_whole whole) (omega (arith, bounds, none, spent)) in
     record {
       run = rw (fs, room) is;
@@ -149,7 +151,9 @@ returns-in-Some g c =
     (runs_jobs g.H.Host.does plan jobs trace _ _ _ _ _ _ (runs_lost e) (long_end e) (length_lost e) (comes_lost e) _
     seats)
     (seats_back g.H.Host.does plan jobs trace _ _ _ _ _ _ (runs_lost e) (long_end e) (length_lost e) (comes_lost e)
-    g.H.Host.faults g.met.H.Host.promised _ seats)
+    g.H.Host.faults g.met.H.Host.promised c.requires.seats _ seats)
+    (each_seated g.H.Host.does plan jobs trace _ _ _ _ _ _ (runs_lost e) (long_end e) (length_lost e) (comes_lost e)
+    g.H.Host.faults g.met.H.Host.promised c.requires.seats)
     (bounded_lost e) (omega (arith, bounds, none, spent)) in
     record {
       run = rw (fs, room) is;

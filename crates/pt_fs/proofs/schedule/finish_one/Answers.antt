@@ -1,6 +1,7 @@
 use Rattle.std.proofs.Common.{suc, refl, ◌+◌, ◌∙◌, sym, arith}
 use Rattle.pt_fs.specs.Order.{rest_of}
-use Rattle.pt_fs.proofs.Going.{goes_none, goes_on, goes_first, goes_next, finished_took, fewer_took, length_took, calm_took}
+use Rattle.pt_fs.proofs.Going.{goes_none, goes_on, goes_first, goes_next, finished_took, fewer_took, length_took}
+use Rattle.pt_fs.proofs.Going.{calm_took}
 use Rattle.pt_fs.proofs.Going.{finished_at, unfinished_at}
 use Rattle.pt_fs.proofs.Losing.{lost_on, lost_first}
 use Rattle.pt_fs.proofs.schedule.finish_one.Goals as goal

@@ -1,11 +1,11 @@
-use Rattle.std.proofs.Common.{◌≡◌, ◌∙◌, Bool, ap, sym, subst}
+use Rattle.std.proofs.Common.{◌≡◌, ◌≤◌, ◌+◌, ◌*◌, ◌∙◌, Bool, ap, sym, subst}
 use Rattle.pt_frame.specs.Deed.{kept_deed_of}
-use Rattle.pt_frame.specs.Grammar.{IsChosen, after, restores}
+use Rattle.pt_frame.specs.Grammar.{IsChosen, after, restores, told_closings, told_inserted}
 use Rattle.pt_frame.specs.Past.{lost_after}
 use Rattle.pt_frame.specs.declared.act.ActReply.{ActReply}
-use Rattle.pt_attr.specs.Machine.Job.{owes, lost_of, restores_now}
+use Rattle.pt_attr.specs.Machine.Job.{owes, lost_of, restores_now, steps_bound, inserts_left}
 use Rattle.pt_req.specs.declared.plan.Plan.{Plan}
-use Rattle.pt_fs.proofs.Advancing.{advanced}
+use Rattle.pt_fs.proofs.Advancing.{advanced, told_within, inserted_within}
 use Rattle.pt_fs.proofs.Works.{told_by_mark}
 use Rattle.pt_fs.proofs.step.advance.Goals as goal
 
@@ -43,3 +43,28 @@ returns-clause-told g c = λ none.
     told_by_mark c.restoring-restored.result (restores_now c.args.running.now.state) (lost_of c.args.running.now.state)
     (lost_of c.take.new.self) c.shown-reply.new.reply c.lost_by-lost.result c.restoring-restored.ensures.result
     c.take.ensures.lost none c.lost_by-lost.ensures.unmarked c.lost_by-lost.ensures.marked
+
+pub returns-clause-within : goal.returns-clause-within
+returns-clause-within g c =
+    let start = c.args.running.now.start in
+    let was = c.args.running.now.state in
+    let job = c.take.new.self in
+    let told = c.shown-reply in
+    told_within (owes (g.F.SteppedFs.plan_of c.args.fs.now) start was)
+    (owes (g.F.SteppedFs.plan_of c.args.fs.now) start job) (kept_deed_of c.wanted-act.result) told.result
+    told.new.reply (steps_bound was) (steps_bound job) (returns-clause-advances g c) told.ensures.same
+    (subst (λ (plan : Plan).
+    steps_bound job + 1 ≤ steps_bound was + 3 * told_closings (owes plan start was) told.new.reply)
+    (c.plan.ensures ∙ c.make_from-told.ensures.plan) c.take.ensures.within)
+
+pub returns-clause-inserts : goal.returns-clause-inserts
+returns-clause-inserts g c =
+    let start = c.args.running.now.start in
+    let was = c.args.running.now.state in
+    let job = c.take.new.self in
+    let told = c.shown-reply in
+    inserted_within (owes (g.F.SteppedFs.plan_of c.args.fs.now) start was)
+    (owes (g.F.SteppedFs.plan_of c.args.fs.now) start job) (kept_deed_of c.wanted-act.result) told.result
+    told.new.reply (inserts_left was) (inserts_left job) (returns-clause-advances g c) told.ensures.same
+    (subst (λ (plan : Plan). inserts_left job + told_inserted (owes plan start was) told.new.reply ≤ inserts_left was)
+    (c.plan.ensures ∙ c.make_from-told.ensures.plan) c.take.ensures.inserts)

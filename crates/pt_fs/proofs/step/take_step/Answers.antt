@@ -31,8 +31,9 @@ returns-clause-took g c =
       fewer = c.advance-step.ensures.fewer;
       within = c.advance-step.ensures.within;
       spent = advance_falls g.H.Host.does c.args.place
-          (kept_deed_of c.advance-step.result.0.act) c.advance-step.result.0.reply c.args.host.now c.advance-step.new.host
-          c.args.running.now (get_or c.args.running.now c.args.place c.index-running-place.result)
+          (kept_deed_of c.advance-step.result.0.act) c.advance-step.result.0.reply c.args.host.now
+          c.advance-step.new.host c.args.running.now
+          (get_or c.args.running.now c.args.place c.index-running-place.result)
           c.advance-step.new.running (g.F.SteppedFs.tables c.args.fs.now)
           (g.F.SteppedFs.tables c.advance-step.new.fs) c.advance-step.new.running.seat there c.advance-step.ensures.made
           c.advance-step.ensures.within c.advance-step.ensures.inserts;

@@ -8,4 +8,4 @@ pub returns-clause-left : goal.returns-clause-left
 returns-clause-left c = λ plan seat.
     c.start-framed.ensures.left seat (request_left c.start-framed.result.body plan seat)
     ∙ ap (λ (body : RequestBody). grammar_of_tree seat (request_left body plan seat)) c.start-framed.ensures.body
-    ∙ ap (λ (tree : RequestTree). grammar_of_tree seat tree) (c.of.ensures.left plan seat c.args.who)
+    ∙ ap (λ (tree : RequestTree). grammar_of_tree seat tree) (c.of.ensures.left plan seat)

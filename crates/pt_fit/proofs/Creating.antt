@@ -1,0 +1,200 @@
+-- `create` is fit: as whoever asks a file is made, or one that is there is opened.
+use Rattle.std.proofs.Common.{◌≡◌, ◌++◌, ◌∷◌, ◌⊎◌, ◌∙◌, ◌&&◌, [], if◌then◌else◌, ℕ, Bool, List, None, Option, Some}
+use Rattle.std.proofs.Common.{ap, false, inl, inr, is_some, refl, subst, sym, true}
+use Rattle.std.proofs.Common.{◌==◌}
+use Rattle.std.proofs.lemmas.Bool.{eqb-true}
+use Rattle.pt_host.specs.Errno.{eperm, estale}
+use Rattle.pt_host.specs.Words.{Takes.{here, there}}
+use Rattle.pt_host.specs.declared.ids.Fd.{Fd}
+use Rattle.pt_host.specs.declared.ids.ObjIds.{ObjIds}
+use Rattle.pt_host.specs.declared.op.KeptHostOp.TheVariants as call
+use Rattle.pt_host.specs.declared.seat.HostSeat.{HostSeat}
+use Rattle.pt_creds.specs.Guard.{egid_calls, euid_calls}
+use Rattle.pt_creds.specs.Identity.{Credentials, override_cap}
+use Rattle.pt_creds.specs.Steps.{group_calls, id_to_set, raise_calls}
+use Rattle.pt_iface.specs.declared.answer.Answer.TheVariants as answer
+use Rattle.pt_iface.specs.declared.request.Context.{Context}
+use Rattle.pt_iface.specs.declared.request.Extensions.{Extensions}
+use Rattle.pt_iface.specs.declared.request.Request.{Request}
+use Rattle.pt_iface.specs.declared.request.Request.TheVariants as request
+use Rattle.pt_iface.specs.declared.request.SecContext.{SecContext}
+use Rattle.pt_frame.specs.Deed.{Step}
+use Rattle.pt_frame.specs.Tree.{Gives, RequestTree}
+use Rattle.pt_frame.specs.declared.hold.Hold.{Hold}
+use Rattle.pt_frame.specs.declared.hold.Hold.TheVariants as hold
+use Rattle.pt_session.specs.declared.form.Negotiated.{Negotiated}
+use Rattle.pt_req.specs.Asker.{as_asker, asker_from, asker_of, taken_on}
+use Rattle.pt_req.specs.Attributes.{is_blocked}
+use Rattle.pt_req.specs.Creating.{are_same, if_same, make_file, new_file, old_file}
+use Rattle.pt_req.specs.Entries.{is_bad_name}
+use Rattle.pt_req.specs.Options.{create_options, making_flags}
+use Rattle.pt_req.specs.Requests.{file_asked}
+use Rattle.pt_req.specs.declared.begun.BegunSession.{BegunSession}
+use Rattle.pt_req.specs.declared.parts.asked.FileAsked.{FileAsked}
+use Rattle.pt_req.specs.declared.parts.asked.NamedHandle.{NamedHandle}
+use Rattle.pt_req.specs.declared.plan.Plan.{Plan}
+use Rattle.pt_attr.specs.Pattern.{tree_of}
+use Rattle.pt_law.specs.Discipline.{Notes, blank, given_for}
+use Rattle.pt_fit.specs.Cause.{Asking, BlocksLabel, IsBlockedLabel, OwnCause, StaleCause, asking}
+use Rattle.pt_fit.proofs.Holds.{nothing_bare}
+use Rattle.pt_fit.proofs.Joined.{after_any_step, fit_gives, fit_look_up, fit_open_num}
+use Rattle.pt_fit.proofs.Labelling.{fit_labelled}
+use Rattle.pt_fit.proofs.Parts.{Agreed, Covers, Goes, Seen, Told, blocked_by, fit_begin, fit_checked}
+use Rattle.pt_fit.proofs.Parts.{fit_draw_handle, fit_file_of}
+use Rattle.pt_fit.proofs.Parts.{fit_insert_given, fit_make_at, fit_open_scope, fit_raise, fit_resolve, fit_stat}
+use Rattle.pt_fit.proofs.Parts.{fit_take_under}
+
+-- scopes lie on what holds none
+covers_none : (row : ℕ) (dir : Fd) → Covers (hold.Pin row (Some dir) ∷ []) (hold.Pin row (Some dir) ∷ [])
+covers_none row dir = record { uncovers = refl; unscopes = refl; lays = λ fd. refl }
+
+-- and one more
+covers_groups : {holds bare : List Hold} → Covers holds bare → Covers (hold.Groups ∷ holds) bare
+covers_groups c = record { uncovers = c.uncovers; unscopes = c.unscopes; lays = λ fd. c.lays fd }
+
+covers_egid : {holds bare : List Hold} → Covers holds bare → Covers (hold.EffectiveGid ∷ holds) bare
+covers_egid c = record { uncovers = c.uncovers; unscopes = c.unscopes; lays = λ fd. c.lays fd }
+
+covers_euid : {holds bare : List Hold} → Covers holds bare → Covers (hold.EffectiveUid ∷ holds) bare
+covers_euid c = record { uncovers = c.uncovers; unscopes = c.unscopes; lays = λ fd. c.lays fd }
+
+-- An identity is taken on by these steps, and what follows is fit under their scopes.
+module _ {asked : Asking} {seen : List Seen} {bare : List Hold} {marks : List ℕ} {notes : Notes}
+    (rest : RequestTree) (f : (holds : List Hold) → Covers holds bare → Goes asked seen rest holds marks notes) where
+  fit_raises : (raise : Bool) (holds : List Hold) → Covers holds bare →
+      Goes asked seen (taken_on (raise_calls raise) rest) holds marks notes
+  fit_raises true holds c = fit_raise override_cap rest (f holds c)
+  fit_raises false holds c = f holds c
+
+  fit_euid : (euid : Option ℕ) (raise : Bool) (holds : List Hold) → Covers holds bare →
+      Goes asked seen (taken_on (euid_calls euid ++ raise_calls raise) rest) holds marks notes
+  fit_euid None raise holds c = fit_raises raise holds c
+  fit_euid (Some uid) raise holds c =
+      fit_open_scope (call.SetEuid uid) hold.EffectiveUid (taken_on (raise_calls raise) rest) refl tt refl
+      (fit_raises raise (hold.EffectiveUid ∷ holds) (covers_euid c))
+
+  fit_egid : (egid euid : Option ℕ) (raise : Bool) (holds : List Hold) → Covers holds bare →
+      Goes asked seen (taken_on (egid_calls egid ++ euid_calls euid ++ raise_calls raise) rest) holds marks notes
+  fit_egid None euid raise holds c = fit_euid euid raise holds c
+  fit_egid (Some gid) euid raise holds c =
+      fit_open_scope (call.SetEgid gid) hold.EffectiveGid (taken_on (euid_calls euid ++ raise_calls raise) rest) refl
+      tt refl (fit_euid euid raise (hold.EffectiveGid ∷ holds) (covers_egid c))
+
+  fit_steps : (groups egid euid : Option ℕ) (raise : Bool) (holds : List Hold) → Covers holds bare →
+      Goes asked seen
+      (taken_on (group_calls groups ++ egid_calls egid ++ euid_calls euid ++ raise_calls raise) rest)
+      holds marks notes
+  fit_steps None egid euid raise holds c = fit_egid egid euid raise holds c
+  fit_steps (Some group) egid euid raise holds c =
+      fit_open_scope (call.SetGroups (group ∷ [])) hold.Groups
+      (taken_on (egid_calls egid ++ euid_calls euid ++ raise_calls raise) rest) refl tt refl
+      (fit_egid egid euid raise (hold.Groups ∷ holds) (covers_groups c))
+
+  -- by whoever asks, where no id is forbidden
+  fit_as_asker : (seat : HostSeat) (asker : Option Credentials) (holds : List Hold) → Covers holds bare →
+      (asker ≡ None → OwnCause asked.plan asked.who asked.request eperm) →
+      Goes asked seen (as_asker seat asker rest) holds marks notes
+  fit_as_asker seat None holds c forbids = fit_gives (answer.Refused eperm) (λ path. (tt, inl (forbids refl), tt))
+  fit_as_asker seat (Some creds) holds c forbids =
+      fit_steps creds.sup_gid (id_to_set creds.gid seat.eff_gid) (id_to_set creds.uid seat.eff_uid)
+      (creds.keep_capability && is_some (id_to_set creds.uid seat.eff_uid)) holds c
+
+-- who asks has an id that is forbidden
+forbidden_from : (uid gid : Option ℕ) (group : Option (Option ℕ)) (keeps : Bool) →
+    asker_from uid gid group keeps ≡ None → (uid ≡ None) ⊎ (gid ≡ None) ⊎ (group ≡ None)
+forbidden_from None gid group keeps e = inl refl
+forbidden_from (Some uid) None group keeps e = inr (inl refl)
+forbidden_from (Some uid) (Some gid) None keeps e = inr (inr refl)
+forbidden_from (Some uid) (Some gid) (Some group) keeps e = absurd (cc)
+
+both : (a b : Bool) → (a && b) ≡ true → (a ≡ true) × (b ≡ true)
+both true b e = (refl, e)
+both false b e = absurd (cc)
+
+pub same_ids : (one other : ObjIds) → are_same one other ≡ true → one ≡ other
+same_ids one other e =
+    let most = both ((one.ino == other.ino) && (one.dev == other.dev)) (one.mnt_id == other.mnt_id) e in
+    let first = both (one.ino == other.ino) (one.dev == other.dev) most.0 in
+    let ino = eqb-true one.ino other.ino first.0 in
+    let dev = eqb-true one.dev other.dev first.1 in
+    let mnt = eqb-true one.mnt_id other.mnt_id most.1 in
+    λ i. record { ino = ino i; dev = dev i; mnt_id = mnt i }
+
+-- an object of the same ids goes on, and another one is stale
+fit_if_same : {asked : Asking} {seen : List Seen} {holds : List Hold} {marks : List ℕ} {notes : Notes}
+    (made found : ObjIds) (next : RequestTree) →
+    (are_same made found ≡ false → (path : List Step) → Told seen path → StaleCause asked.request path estale) →
+    (made ≡ found → Goes asked seen next holds marks notes) →
+    Goes asked seen (if_same made found next) holds marks notes
+fit_if_same {asked = asked} {seen = seen} {holds = holds} {marks = marks} {notes = notes} made found next stale f =
+    go (are_same made found) refl
+  where
+    go : (same : Bool) → are_same made found ≡ same →
+        Goes asked seen (if same then next else Gives (answer.Refused estale)) holds marks notes
+    go true e = f (same_ids made found e)
+    go false e = record { on = λ path s. (tt, inr (inr (stale e path s)), tt) }
+
+module _ (plan : Plan) (who : Context) (parent : ℕ) (name : List ℕ) (mode : ℕ) (kill : Bool) (flags umask : ℕ)
+    (ext : Extensions) where
+  abbrev what : Request
+  what = request.Create parent name mode kill flags umask ext
+
+  abbrev asks : Asking
+  asks = asking plan who what
+
+  abbrev file : FileAsked
+  file = file_asked who parent name mode flags ext
+
+  abbrev answers : NamedHandle → RequestTree
+  answers named = Gives (answer.Created named.entry named.handle (create_options plan.config))
+
+  blocks : (agreed : Negotiated) (brought : SecContext) → ext.secctx ≡ Some brought →
+      is_blocked agreed brought.name ≡ true → BlocksLabel agreed what
+  blocks agreed brought is bad =
+      subst (λ (label : Option SecContext). IsBlockedLabel agreed label) (sym is) bad
+
+  -- what was made gets its context, is what its name leads to, and gets a handle by its number
+  fit_new : {marks : List ℕ} {notes : Notes} (session : BegunSession) (row : ℕ) (dir fd : Fd) →
+      notes.era ≡ Some session.era →
+      Goes asks (Agreed session.agreed ∷ []) (new_file plan session file dir fd answers)
+      (hold.Fd fd None ∷ hold.Pin row (Some dir) ∷ []) marks notes
+  fit_new session row dir fd e =
+      fit_stat fd None _ (λ made.
+      fit_labelled session fd dir name ext.secctx _
+      ((hold.Fd fd (Some made.ids), _, here, refl), tt) ((hold.Pin row (Some dir), _, there here, refl), tt)
+      (λ brought is bad path s. blocked_by what path session.agreed (blocks session.agreed brought is bad) s.each.1.0)
+      (fit_look_up plan session parent name _ (λ one. refl) e (λ looked later l.
+      fit_if_same made.ids looked.ids _
+      (λ differ path s. ((made.ids, looked.ids, s.each.1.0, s.each.0, differ), refl)) (λ same.
+      fit_draw_handle _ (λ handle.
+      fit_take_under session.era looked.entry.inode fd (Some made.ids) _
+      (fit_insert_given session handle session.era looked.entry.inode fd made.ids _ (l.era ∙ e) refl
+      (l.given ∙ ap (λ (ids : ObjIds). Some (given_for looked.entry.inode ids)) (sym same))
+      (fit_gives (answer.Created looked.entry handle (create_options plan.config)) (λ path. (refl, tt, tt)))))))))
+
+  -- what was there gets one by its own
+  fit_old : {marks : List ℕ} {notes : Notes} (session : BegunSession) (row : ℕ) (dir : Fd) →
+      notes.era ≡ Some session.era →
+      Goes asks (Agreed session.agreed ∷ []) (old_file plan session file answers) (hold.Pin row (Some dir) ∷ []) marks
+      notes
+  fit_old session row dir e =
+      fit_look_up plan session parent name _ (λ one. refl) e (λ looked later l.
+      fit_open_num plan session looked.entry.inode flags _ tt (λ one. refl) (l.era ∙ e) (λ handle last.
+      fit_gives (answer.Created looked.entry handle (create_options plan.config)) (λ path. (refl, tt, tt))))
+
+  fit_making : {marks : List ℕ} {notes : Notes} (seat : HostSeat) (session : BegunSession) (row : ℕ) (dir : Fd) →
+      notes.era ≡ Some session.era → notes.resolved ≡ Some (record { number = parent; row = row }) →
+      Goes asks (Agreed session.agreed ∷ []) (make_file plan seat session file dir answers)
+      (hold.Pin row (Some dir) ∷ []) marks notes
+  fit_making seat session row dir e r =
+      fit_as_asker _
+      (λ holds c. fit_make_at holds [] dir name (making_flags flags) mode row parent _ _ _ c r
+      (λ fd. fit_new session row dir fd e) (fit_old session row dir e))
+      seat (asker_of plan session who ext.sup_gid) _ (covers_none row dir)
+      (λ none. inr (forbidden_from _ _ _ _ none, refl))
+
+  pub fit_create : (seat : HostSeat) → Goes asks [] (tree_of plan seat who what) [] [] blank
+  fit_create seat = fit_begin _ refl (λ session.
+      fit_checked (is_bad_name name) _ (λ bad. inl (bad, refl))
+      (fit_resolve parent _ nothing_bare (λ row. after_any_step (fit_file_of row.row row.form _ (λ dir.
+      fit_making seat session row.row dir refl refl)))))

@@ -1,0 +1,159 @@
+-- The parts of requests are fit, for whatever follows.
+use Rattle.std.proofs.Common.{◌≡◌, ◌++◌, ◌∷◌, ◌∙◌, [], if◌then◌else◌, ℕ, Bool, List, None, Option, Some, ap, false}
+use Rattle.std.proofs.Common.{inl, inr, refl, true}
+use Rattle.pt_host.specs.Errno.{ebadf, errno_of}
+use Rattle.pt_host.specs.declared.ids.Fd.{Fd}
+use Rattle.pt_host.specs.declared.ids.ObjIds.{ObjIds}
+use Rattle.pt_host.specs.declared.stat.Stat.{Stat}
+use Rattle.pt_session.specs.declared.form.Negotiated.{Negotiated}
+use Rattle.pt_session.specs.declared.form.RowForm.{RowForm}
+use Rattle.pt_session.specs.declared.form.RowForm.TheVariants.{File}
+use Rattle.pt_iface.specs.declared.answer.Answer.{Answer}
+use Rattle.pt_iface.specs.declared.answer.Answer.TheVariants as answer
+use Rattle.pt_frame.specs.Deed.{Step}
+use Rattle.pt_frame.specs.Held.{row_fd}
+use Rattle.pt_frame.specs.Tree.{Gives, RequestTree}
+use Rattle.pt_frame.specs.declared.hold.Hold.{Hold}
+use Rattle.pt_frame.specs.declared.hold.Hold.TheVariants as hold
+use Rattle.pt_req.specs.Entries.{can_open}
+use Rattle.pt_req.specs.Options.{cleaned, inode_flags, without_nofollow}
+use Rattle.pt_req.specs.Parts.{by_path, look_up, looked_of, numbered, open_form, open_num, open_row, root_open}
+use Rattle.pt_req.specs.Requests.{unserved}
+use Rattle.pt_req.specs.Steps.{Resolved}
+use Rattle.pt_req.specs.declared.begun.BegunSession.{BegunSession}
+use Rattle.pt_req.specs.declared.parts.looked.Looked.{Looked}
+use Rattle.pt_req.specs.declared.plan.Plan.{Plan}
+use Rattle.pt_law.specs.Discipline.{Notes, blank, given_for, with_root}
+use Rattle.pt_fit.specs.Cause.{Asking, IsOpening, OwnCause}
+use Rattle.pt_fit.specs.Fit.{Fit}
+use Rattle.pt_fit.proofs.Holds.{IsBare}
+use Rattle.pt_fit.proofs.Parts.{Goes, GoesAfter, fit_begin, fit_brackets, fit_claim, fit_draw_handle, fit_draw_node}
+use Rattle.pt_fit.proofs.Parts.{fit_file_of, fit_insert, fit_insert_handle, fit_insert_root, fit_open_at}
+use Rattle.pt_fit.proofs.Parts.{fit_open_root, fit_reopen, fit_resolve, fit_shuts, fit_shuts_passing, fit_stat}
+use Rattle.pt_fit.proofs.Parts.{fit_take_fd, noting, resolution, still, Seen, Ids}
+
+-- a leaf
+pub fit_gives : {asked : Asking} {seen : List Seen} {holds : List Hold} {marks : List ℕ} {notes : Notes}
+    (last : Answer) → ((path : List Step) → Fit asked (Gives last) holds marks notes path) →
+    Goes asked seen (Gives last) holds marks notes
+fit_gives last f = record { on = λ path s. f path }
+
+pub after_any_step : {step : Step} {asked : Asking} {seen : List Seen} {tree : RequestTree} {holds : List Hold}
+    {marks : List ℕ} {notes : Notes} → Goes asked seen tree holds marks notes →
+    GoesAfter step asked seen tree holds marks notes
+after_any_step {step = step} f = record { on = λ path s. f.on (step ∷ path) (still s) }
+
+-- the job is in its session still, and was given this number for what has these ids
+pub record WasGiven (notes : Notes) (number : ℕ) (ids : ObjIds) (later : Notes) : Type 0 where
+  pub era : later.era ≡ notes.era
+  pub given : later.given ≡ Some (given_for number ids)
+
+-- what follows a number that was had, whatever lies between its count and what was held before
+abbrev Numbered : Asking → List Seen → ℕ → ObjIds → (ℕ → RequestTree) → List Hold → List ℕ → Notes → Type 0
+Numbered asked seen era ids next holds marks notes =
+    (number : ℕ) (front : List Hold) (later : Notes) → WasGiven notes number ids later →
+    Goes asked seen (next number) (hold.Count era number ∷ (front ++ holds)) marks later
+
+fit_numbered : {asked : Asking} {seen : List Seen} {holds : List Hold} {marks : List ℕ} {notes : Notes}
+    (session : BegunSession) (fd : Fd) (told : Stat) (next : ℕ → RequestTree) (row : ℕ) (dir : Fd) →
+    notes.era ≡ Some session.era → notes.latest ≡ Some fd →
+    Numbered asked seen session.era told.ids next holds marks notes →
+    Goes asked seen (numbered session (File fd) told next)
+    (hold.Fd fd (Some told.ids) ∷ hold.Pin row (Some dir) ∷ holds) marks notes
+fit_numbered session fd told next row dir e l f =
+    let top = hold.Fd fd (Some told.ids) in
+    let pin = hold.Pin row (Some dir) in
+    fit_claim session fd told.ids next _ e l
+    (λ number. f number (top ∷ pin ∷ []) _ (record { era = refl; given = refl }))
+    (fit_take_fd fd _ _
+    (fit_draw_node _ (λ fresh.
+    fit_insert session fresh fd told next (λ one. refl) e l refl
+    (λ number. f number (pin ∷ []) _ (record { era = refl; given = refl }))
+    (λ number. f number (top ∷ hold.Slot ∷ pin ∷ []) _ (record { era = refl; given = refl })))))
+
+-- A lookup gives an entry, whose count is the last hold.
+abbrev pub Looks : Asking → List Seen → BegunSession → (Looked → RequestTree) → List Hold → List ℕ → Notes → Type 0
+Looks asked seen session next holds marks notes =
+    (looked : Looked) (later : Notes) → WasGiven notes looked.entry.inode looked.ids later →
+    Goes asked (Ids looked.ids ∷ seen) (next looked) (hold.Count session.era looked.entry.inode ∷ holds) marks later
+
+pub fit_look_up : {asked : Asking} {seen : List Seen} {holds : List Hold} {marks : List ℕ} {notes : Notes}
+    (plan : Plan) (session : BegunSession) (parent : ℕ) (name : List ℕ) (next : Looked → RequestTree) → IsBare holds →
+    notes.era ≡ Some session.era → Looks asked seen session next holds marks notes →
+    Goes asked seen (look_up plan session parent name next) holds marks notes
+fit_look_up {asked = asked} {holds = holds} plan session parent name next b e f =
+    fit_brackets _ (fit_resolve parent _ b (λ row. after_any_step (fit_file_of row.row row.form _ (λ dir.
+    fit_open_at dir name by_path row.row parent _ refl (λ fd.
+    fit_stat fd None _ (λ told.
+    fit_numbered session fd told _ row.row dir e refl (λ number front later l.
+    fit_shuts_passing _ (hold.Count session.era number) front holds (λ last m.
+    f (looked_of plan session row.ids told (File fd) number) last
+    (record { era = m.0 ∙ l.era; given = m.2 ∙ l.given })))))))))
+
+-- the first root that is opened
+first_root : (fd : Fd) (notes : Notes) → notes.rooted ≡ false → (with_root fd notes).root ≡ Some fd
+first_root fd notes r =
+    ap (λ (b : Bool). (if b then notes else record notes { root = Some fd; rooted = true }).root) r
+
+root_lasts : (rooted : Bool) (fd : Fd) (notes : Notes) →
+    (if rooted then notes else record notes { root = Some fd; rooted = true }).era ≡ notes.era
+root_lasts true fd notes = refl
+root_lasts false fd notes = refl
+
+pub fit_root_open : {asked : Asking} {seen : List Seen} {holds : List Hold} {marks : List ℕ} {notes : Notes}
+    (plan : Plan) (session : BegunSession) (agreed : Option Negotiated) (next : RequestTree) → IsBare holds →
+    notes.era ≡ Some session.era → notes.rooted ≡ false →
+    ((told : Stat) (later : Notes) → Goes asked (Ids told.ids ∷ seen) next holds marks later) →
+    Goes asked seen (root_open plan session agreed next) holds marks notes
+fit_root_open {notes = notes} plan session agreed next b e r f =
+    fit_open_root _ _ _ b (λ fd.
+    fit_stat fd None _ (λ told.
+    fit_take_fd fd _ _
+    (fit_insert_root session fd told agreed next (root_lasts notes.rooted fd notes ∙ e) (first_root fd notes r)
+    (f told _))))
+
+-- what is no regular file and no directory is not opened
+fit_open_form : {asked : Asking} {seen : List Seen} {holds : List Hold} {marks : List ℕ} {notes : Notes}
+    (row number flags : ℕ) (form : RowForm) (next : Fd → RequestTree) →
+    notes.resolved ≡ Some (record { number = number; row = row }) →
+    ((dir new : Fd) → Goes asked seen (next new) (hold.Fd new None ∷ hold.Pin row (Some dir) ∷ holds) marks
+    (record notes { reopened = Some new })) →
+    Goes asked seen (open_form form flags next) (hold.Pin row (row_fd form) ∷ holds) marks notes
+fit_open_form row number flags (File dir) next r f =
+    fit_reopen dir (without_nofollow flags) row number next r (f dir)
+
+fit_open_row : {asked : Asking} {seen : List Seen} {holds : List Hold} {marks : List ℕ} (notes : Notes)
+    (number flags : ℕ) (row : Resolved) (next : Fd → RequestTree) → IsOpening asked.request →
+    ((dir new : Fd) → Goes asked seen (next new) (hold.Fd new None ∷ hold.Pin row.row (Some dir) ∷ holds) marks
+    (record (noting number row.row notes) { reopened = Some new })) →
+    GoesAfter (resolution number row) asked seen (open_row row flags next)
+    (hold.Pin row.row (row_fd row.form) ∷ holds) marks (noting number row.row notes)
+fit_open_row {asked = asked} {seen = seen} {holds = holds} {marks = marks} notes number flags row next o f =
+    kind (can_open row.mode) refl
+  where
+    kind : (can : Bool) → can_open row.mode ≡ can →
+        GoesAfter (resolution number row) asked seen
+        (if can then open_form row.form flags next else Gives (answer.Refused ebadf))
+        (hold.Pin row.row (row_fd row.form) ∷ holds) marks (noting number row.row notes)
+    kind true e = after_any_step (fit_open_form row.row number flags row.form next refl f)
+    kind false e = record { on = λ path s. (tt, inr (inl (inl (o, e, refl))), tt) }
+
+-- A number is opened by a handle, in a bracket that leaves what was held before.
+pub fit_open_num : {asked : Asking} {seen : List Seen} {holds : List Hold} {marks : List ℕ} {notes : Notes}
+    (plan : Plan) (session : BegunSession) (number flags : ℕ) (next : ℕ → RequestTree) → IsOpening asked.request →
+    IsBare holds → notes.era ≡ Some session.era →
+    ((handle : ℕ) (later : Notes) → Goes asked seen (next handle) holds marks later) →
+    Goes asked seen (open_num plan session number flags next) holds marks notes
+fit_open_num {holds = holds} {notes = notes} plan session number flags next o b e f =
+    fit_brackets _ (fit_resolve number _ b (λ row.
+    fit_open_row notes number (inode_flags plan.config (cleaned plan.config flags)) row _ o (λ dir fd.
+    fit_draw_handle _ (λ handle.
+    fit_take_fd fd None _
+    (fit_insert_handle session handle number row.row fd None _ e refl refl refl
+    (fit_shuts _ (hold.Pin row.row (Some dir) ∷ []) holds (λ later l. f handle later)))))))
+
+-- the function is not there
+pub fit_unserved : (asked : Asking) → OwnCause asked.plan asked.who asked.request (errno_of 38) →
+    Goes asked [] unserved [] [] blank
+fit_unserved asked own = fit_begin _ refl (λ session.
+    fit_gives (answer.Refused (errno_of 38)) (λ path. (tt, inl own, tt)))

@@ -1,0 +1,35 @@
+-- Believed. As whom a job makes objects. After virtiofsd's `unix_credentials_guard`, credentials(7).
+use Rattle.std.specs.Prelude.{ℕ, Option, Some, None}
+use Rattle.pt_host.specs.declared.seat.HostSeat.{HostSeat}
+use Rattle.pt_maps.specs.Translated.{to_host}
+use Rattle.pt_creds.specs.Identity.{id_under, groups_under}
+use Rattle.pt_iface.specs.declared.request.Context.{Context}
+use Rattle.pt_iface.specs.declared.request.Request.{Request}
+use Rattle.pt_iface.specs.declared.request.Request.TheVariants as request
+use Rattle.pt_req.specs.Asker.{group_of}
+use Rattle.pt_req.specs.declared.plan.Plan.{Plan}
+use Rattle.pt_attr.specs.Pattern.{Asked, Requests, Edits}
+use Rattle.pt_law.specs.Under.{Identity}
+
+-- By the host's ids, where none is forbidden: root's id, and the one that leaves ids as they are, leave the seat's
+-- own; a group that is told stands in the place of the seat's own.
+abbrev pub identity_by : HostSeat → Option ℕ → Option ℕ → Option (Option ℕ) → Option Identity
+identity_by seat (Some uid) (Some gid) (Some group) =
+    Some (record {
+      uid = id_under seat.real_uid uid seat.eff_uid;
+      gid = id_under seat.real_gid gid seat.eff_gid;
+      groups = groups_under group seat.groups;
+      umask = seat.umask;
+    })
+identity_by seat uid gid group = None
+
+-- no request but `create` makes an object today
+abbrev pub asker_in : Plan → HostSeat → Context → Request → Option Identity
+asker_in plan seat who (request.Create parent name mode kill flags umask ext) =
+    identity_by seat (to_host plan.uid_map who.uid) (to_host plan.gid_map who.gid) (group_of plan ext.sup_gid)
+asker_in plan seat who asked = None
+
+-- an edit is no request
+abbrev pub asker_for : Plan → HostSeat → Asked → Option Identity
+asker_for plan seat (Requests who asked) = asker_in plan seat who asked
+asker_for plan seat (Edits edit) = None

@@ -1,0 +1,48 @@
+-- Believed. Who asks, by the host's ids, and a call that is made as whoever asks. After virtiofsd's
+-- `unix_credentials_guard`, credentials(7), capabilities(7).
+use Rattle.std.specs.Prelude.{ℕ, Bool, not, List, [], ◌∷◌, Option, Some, None, option_map}
+use Rattle.pt_host.specs.Call.{Call}
+use Rattle.pt_host.specs.Errno.{eperm}
+use Rattle.pt_host.specs.declared.op.KeptHostOp.TheVariants as call
+use Rattle.pt_host.specs.declared.seat.HostSeat.{HostSeat}
+use Rattle.pt_maps.specs.Translated.{to_host}
+use Rattle.pt_creds.specs.Identity.{Credentials}
+use Rattle.pt_creds.specs.Steps.{cred_steps, calls_of}
+use Rattle.pt_iface.specs.declared.answer.Answer.TheVariants as answer
+use Rattle.pt_iface.specs.declared.request.Context.{Context}
+use Rattle.pt_frame.specs.Tree.{RequestTree, Gives}
+use Rattle.pt_frame.specs.declared.hold.Hold.TheVariants as hold
+use Rattle.pt_req.specs.Steps.{open_scope, try_call}
+use Rattle.pt_req.specs.declared.begun.BegunSession.{BegunSession}
+use Rattle.pt_req.specs.declared.plan.Plan.{Plan}
+
+-- the group that the guest tells, by the host's id: it may tell none, or one that is forbidden
+abbrev pub group_of : Plan → Option ℕ → Option (Option ℕ)
+group_of plan None = Some None
+group_of plan (Some group) = option_map (λ (id : ℕ). Some id) (to_host plan.gid_map group)
+
+abbrev pub asker_from : Option ℕ → Option ℕ → Option (Option ℕ) → Bool → Option Credentials
+asker_from (Some uid) (Some gid) (Some group) keeps =
+    Some (record { uid = uid; gid = gid; sup_gid = group; keep_capability = keeps })
+asker_from uid gid group keeps = None
+
+-- Who asks, by the host's ids; none where one of them is forbidden. Where no group can be told, a capability stands
+-- for it.
+abbrev pub asker_of : Plan → BegunSession → Context → Option ℕ → Option Credentials
+asker_of plan session who group =
+    asker_from (to_host plan.uid_map who.uid) (to_host plan.gid_map who.gid) (group_of plan group)
+    (not session.agreed.sup_group)
+
+-- The calls by which an identity is taken on, each of which opens a scope. The last may be one that raises a
+-- capability, which is done without where it is refused, and goes by itself as the uid does.
+abbrev pub taken_on : List Call → RequestTree → RequestTree
+taken_on [] next = next
+taken_on (call.SetGroups list ∷ calls) next = open_scope (call.SetGroups list) hold.Groups (taken_on calls next)
+taken_on (call.SetEgid gid ∷ calls) next = open_scope (call.SetEgid gid) hold.EffectiveGid (taken_on calls next)
+taken_on (call.SetEuid uid ∷ calls) next = open_scope (call.SetEuid uid) hold.EffectiveUid (taken_on calls next)
+taken_on (asked ∷ calls) next = try_call asked (taken_on calls next)
+
+-- as whoever asks, from this seat; an id that is forbidden is refused before the first call on the seat
+abbrev pub as_asker : HostSeat → Option Credentials → RequestTree → RequestTree
+as_asker seat None next = Gives (answer.Refused eperm)
+as_asker seat (Some creds) next = taken_on (calls_of (cred_steps creds seat)) next
