@@ -100,16 +100,43 @@ REQUESTS: dict[str, list[Callable]] = {
     "read": [u64("INODE"), u64("HANDLE"), u32("SIZE"), u64("OFFSET")],
     "release": [u64("INODE"), u64("HANDLE")],
     "releasedir": [u64("INODE"), u64("HANDLE")],
+    "link": [u64("INODE"), u64("NEWPARENT"), name("NEWNAME")],
+    "unlink": [u64("PARENT"), name("NAME")],
+    "rmdir": [u64("PARENT"), name("NAME")],
+    "rename": [u64("OLDDIR"), name("OLDNAME"), u64("NEWDIR"), name("NEWNAME"), u32("FLAGS")],
+    "readlink": [u64("INODE")],
+    "statfs": [u64("INODE")],
+    "getattr": [u64("INODE")],
+    "access": [u64("INODE"), u32("MASK")],
+    "other": [u32("OPCODE")],
 }
 
-# those of `create` before what it brings beside
-CREATE: list[Callable] = [
-    u64("PARENT"),
-    name("NAME"),
+# those of the requests that make an object, before what they bring beside
+MAKINGS: dict[str, list[Callable]] = {
+    "create": [
+        u64("PARENT"),
+        name("NAME"),
+        u32("MODE"),
+        lambda word: switch(word, "KILL"),
+        u32("FLAGS"),
+        u32("UMASK"),
+    ],
+    "mkdir": [u64("PARENT"), name("NAME"), u32("MODE"), u32("UMASK")],
+    "mknod": [u64("PARENT"), name("NAME"), u32("MODE"), u32("RDEV"), u32("UMASK")],
+    "symlink": [name("TARGET"), u64("PARENT"), name("NAME")],
+}
+
+# those of `setattr` behind the handle
+ATTRIBUTES: list[Callable] = [
+    u32("VALID"),
     u32("MODE"),
-    lambda word: switch(word, "KILL"),
-    u32("FLAGS"),
-    u32("UMASK"),
+    u32("UID"),
+    u32("GID"),
+    u64("SIZE"),
+    u64("ATIME"),
+    u32("ATIMENSEC"),
+    u64("MTIME"),
+    u32("MTIMENSEC"),
 ]
 
 # the numbers of each rule of ids behind its word: where its range begins, what that becomes, how many ids it has
@@ -291,6 +318,11 @@ def fields(form: str, words: list[str], kinds: list[Callable]) -> None:
         kind(word)
 
 
+def option(word: str, value: Callable) -> list[Callable]:
+    """The kinds of an option that begins with this word."""
+    return [sign("+"), value] if word == "+" else [sign("-")]
+
+
 def request(words: list[str]) -> None:
     wants(words[:3], 3, "job UID GID REQUEST FIELDS")
     number(words[0], U32, "UID")
@@ -301,9 +333,13 @@ def request(words: list[str]) -> None:
             raise Bad(f"{count} pairs of INODE and COUNT are to follow, and here are {len(words) - 4} words")
         for word in words[4:]:
             number(word, U64, "a number")
-    elif words[2] == "create":
-        group = [sign("+"), u32("GID")] if words[10:11] == ["+"] else [sign("-")]
-        fields("create", words[3:], [*CREATE, sign("-"), *group])
+    elif words[2] in MAKINGS:
+        kinds = [*MAKINGS[words[2]], sign("-")]
+        group = words[3 + len(kinds) : 4 + len(kinds)]
+        fields(words[2], words[3:], [*kinds, *option("".join(group), u32("GID"))])
+    elif words[2] == "setattr":
+        handle = option("".join(words[4:5]), u64("HANDLE"))
+        fields("setattr", words[3:], [u64("INODE"), *handle, *ATTRIBUTES])
     elif words[2] in REQUESTS:
         fields(words[2], words[3:], REQUESTS[words[2]])
     else:

@@ -25,7 +25,7 @@ BAD = [
     (TREE + b"# a comment\nend\n", 3, "no line begins"),
     (TREE + b"job 0 0 lookup 1 a \nend\n", 3, "fields"),
     (TREE + b"job 0  0 root\nend\n", 3, "no number"),
-    (TREE + b"job 0 0 mkdir 1 d\nend\n", 3, "no request"),
+    (TREE + b"job 0 0 flush 2 0\nend\n", 3, "no request"),
     (TREE + b"job 0 0 lookup 1 %61\nend\n", 3, "one spelling"),
     (TREE + b"job 0 0 batch_forget 2 1 1\nend\n", 3, "pairs"),
     (TREE + b"job 0 0 forget 01 1\nend\n", 3, "leading zero"),

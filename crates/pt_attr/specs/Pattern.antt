@@ -9,9 +9,17 @@ use Rattle.pt_frame.specs.Deed.{Step}
 use Rattle.pt_frame.specs.Edit.{edit_grammar}
 use Rattle.pt_frame.specs.Grammar.{Grammar, Belongs}
 use Rattle.pt_frame.specs.declared.finish.Finish.TheVariants as finish
-pub use Rattle.pt_req.specs.Requests.{IsServed, tree_of}
-pub use Rattle.pt_req.specs.Pattern.{grammar_of, Pattern, bound_of, most_inserted}
+use Rattle.pt_frame.specs.Tree.{grammar_of_tree}
+pub use Rattle.pt_req.specs.Pattern.{bound_of, most_inserted}
 use Rattle.pt_req.specs.declared.plan.Plan.{Plan}
+pub use Rattle.pt_attr.specs.Requests.{IsServed, tree_of}
+
+-- what a request's job may do from its start on, where it begins with this seat
+abbrev pub grammar_of : Plan → HostSeat → Context → Request → Grammar
+grammar_of plan seat who asked = grammar_of_tree seat (tree_of plan seat who asked)
+
+abbrev pub Pattern : Plan → HostSeat → Context → Request → List Step → Answer → Type 0
+Pattern plan seat who asked steps answer = Belongs (grammar_of plan seat who asked) steps (finish.Answer answer)
 
 -- An edit has no seat, and nobody asks.
 abbrev pub EditPattern : Edit → List Step → Answer → Type 0

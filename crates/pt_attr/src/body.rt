@@ -5,6 +5,9 @@ ghost use Rattle.pt_req.specs.declared.plan.Plan.{Plan};
 ghost use Rattle.pt_attr.specs.Machine.Bodies.{any_left, any_acts, any_room, any_inserts};
 ghost use Rattle.pt_attr.specs.Pattern.{tree_of, bound_of, most_inserted};
 
+use crate::requests::{
+    AttrAsked, ByNumber, FileCall, Link, LinkAt, Made, Making, Rename, RenameAt, SetAttr, SetAttrAt,
+};
 use pt_frame::{ActReply, Body, Next, Wanted};
 use pt_host::HostSeat;
 use pt_iface::{Context, Request};
@@ -14,6 +17,11 @@ use pt_req::{Plan, RequestBody};
 #[derive(Drop)]
 pub enum AnyBody {
     Request(RequestBody),
+    ByNumber(ByNumber),
+    Link(Link),
+    Rename(Rename),
+    SetAttr(SetAttr),
+    Making(Making),
 }
 
 impl AnyBody {
@@ -25,7 +33,95 @@ impl AnyBody {
         ensures room { any_room result ≤ most_holds }
         ensures inserts { any_inserts result ≤ most_inserted }
     {
-        AnyBody::Request(RequestBody::of(who, request))
+        match request {
+            Request::Readlink { inode } => {
+                AnyBody::ByNumber(ByNumber::new(inode, FileCall::ReadLink))
+            }
+            // No access control lists are agreed on yet, so the umask of who asks is the guest's own matter.
+            Request::Mkdir {
+                parent,
+                name,
+                mode,
+                ext,
+                ..
+            } => {
+                let made = Made::Directory { mode };
+                AnyBody::Making(Making::new(who, parent, name, ext, made))
+            }
+            Request::Mknod {
+                parent,
+                name,
+                mode,
+                rdev,
+                ext,
+                ..
+            } => {
+                let made = Made::Node { mode, rdev };
+                AnyBody::Making(Making::new(who, parent, name, ext, made))
+            }
+            Request::Symlink {
+                target,
+                parent,
+                name,
+                ext,
+            } => {
+                let made = Made::Link { target };
+                AnyBody::Making(Making::new(who, parent, name, ext, made))
+            }
+            Request::StatFs { inode } => {
+                AnyBody::ByNumber(ByNumber::new(inode, FileCall::StatFs))
+            }
+            Request::GetAttr { inode } => AnyBody::ByNumber(ByNumber::new(inode, FileCall::Stat)),
+            Request::Access { inode, mask } => {
+                AnyBody::ByNumber(ByNumber::new(inode, FileCall::Access { who, mask }))
+            }
+            Request::Unlink { parent, name } => {
+                AnyBody::ByNumber(ByNumber::new(parent, FileCall::Unlink { name }))
+            }
+            Request::Rmdir { parent, name } => {
+                AnyBody::ByNumber(ByNumber::new(parent, FileCall::RemoveDir { name }))
+            }
+            Request::Link {
+                inode,
+                newparent,
+                newname,
+            } => AnyBody::Link(Link {
+                inode,
+                newparent,
+                newname,
+                at: LinkAt::Begin,
+            }),
+            Request::Rename {
+                olddir,
+                oldname,
+                newdir,
+                newname,
+                flags,
+            } => AnyBody::Rename(Rename {
+                olddir,
+                oldname,
+                newdir,
+                newname,
+                flags,
+                at: RenameAt::Begin,
+            }),
+            Request::SetAttr {
+                inode,
+                handle,
+                valid,
+                attr,
+            } => {
+                let asked = AttrAsked {
+                    inode,
+                    handle,
+                    valid,
+                    attr,
+                };
+                let at = SetAttrAt::Begin;
+                AnyBody::SetAttr(SetAttr { asked, at })
+            }
+            request => AnyBody::Request(RequestBody::of(who, request)),
+        }
     }
 }
 
@@ -45,12 +141,22 @@ impl Body for AnyBody {
     fn want<'a>(&'a self, plan: &'a Plan, seat: &'a HostSeat) -> Wanted<'a> {
         match self {
             AnyBody::Request(body) => body.want(plan, seat),
+            AnyBody::ByNumber(body) => body.want(plan, seat),
+            AnyBody::Link(body) => body.want(plan, seat),
+            AnyBody::Rename(body) => body.want(plan, seat),
+            AnyBody::SetAttr(body) => body.want(plan, seat),
+            AnyBody::Making(body) => body.want(plan, seat),
         }
     }
 
     fn take(&mut self, plan: &Plan, seat: &HostSeat, reply: ActReply) -> Next {
         match self {
             AnyBody::Request(body) => body.take(plan, seat, reply),
+            AnyBody::ByNumber(body) => body.take(plan, seat, reply),
+            AnyBody::Link(body) => body.take(plan, seat, reply),
+            AnyBody::Rename(body) => body.take(plan, seat, reply),
+            AnyBody::SetAttr(body) => body.take(plan, seat, reply),
+            AnyBody::Making(body) => body.take(plan, seat, reply),
         }
     }
 

@@ -1,9 +1,11 @@
 //! The job of a file system: any request on its way, or an edit beside the requests.
 #![tactic(auto)]
 
+mod access;
 mod body;
 mod job;
 mod laws;
+mod requests;
 
 pub use body::AnyBody;
 pub use job::AnyJob;

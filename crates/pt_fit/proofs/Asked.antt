@@ -26,9 +26,8 @@ use Rattle.pt_frame.specs.declared.act.ActReply.TheVariants.{Host}
 use Rattle.pt_frame.specs.declared.finish.Finish.{Finish}
 use Rattle.pt_frame.specs.declared.finish.Finish.TheVariants as finish
 use Rattle.pt_req.specs.declared.plan.Plan.{Plan}
-use Rattle.pt_req.proofs.Tending.{requests_spare}
 use Rattle.pt_attr.specs.Pattern.{Asked, Edits, Requests, grammar_for, grammar_of, tree_of}
-use Rattle.pt_attr.proofs.Answering.{has_cause}
+use Rattle.pt_attr.proofs.Answering.{has_cause, requests_spare}
 use Rattle.pt_law.specs.Branch.{TakesNone}
 use Rattle.pt_law.specs.Discipline.{ComesToEnd, blank, idle}
 use Rattle.pt_law.specs.Told.{AllMayBeTold}
@@ -68,7 +67,7 @@ cause_of asked steps (answer.Refused errno) c ran = c
 cause_of asked steps answer.NoMemory c ran = ran refl
 cause_of asked steps last c ran = tt
 
-request_right : (plan : Plan) (seat : HostSeat) (who : Context) (asked : Request) (steps : List Step)
+pub request_right : (plan : Plan) (seat : HostSeat) (who : Context) (asked : Request) (steps : List Step)
     (last : Answer) → AllMayBeTold steps → Belongs (grammar_of plan seat who asked) steps (finish.Answer last) →
     IsRight (asking plan who asked) steps last
 request_right plan seat who asked steps last t b =
@@ -150,13 +149,7 @@ pub job_caused : (plan : Plan) (seat : HostSeat) (asked : Asked) (steps : List S
 job_caused plan seat (Requests who asked) steps last t b = request_caused plan seat who asked steps last t b
 job_caused plan seat (Edits edit) steps last t b = edit_caused edit steps last b
 
--- an entry is the answer of a lookup
-entry_of_lookup : (asked : Request) (entry : Entry) → MayAnswer (answer.Entry entry) asked →
-    (parent : ℕ) × (name : List ℕ) × (asked ≡ request.Lookup parent name)
-entry_of_lookup (request.Lookup parent name) entry m = (parent, name, refl)
-entry_of_lookup asked entry m = absurd m
-
--- and one with a handle that of `create`
+-- an entry with a handle is the answer of `create`
 abbrev IsCreate : Request → Type 0
 IsCreate asked =
     (parent : ℕ) × (name : List ℕ) × (mode : ℕ) × (kill : Bool) × (flags : ℕ) × (umask : ℕ) × (ext : Extensions)
@@ -175,21 +168,12 @@ edit_no_entry (Host (host.Fault errno)) e = cc
 edit_no_entry told e = cc
 
 -- an edit is answered with no entry
-edit_passes_none : (edit : Edit) (steps : List Step) (last : Answer) → passes_with last ≡ true →
+pub edit_passes_none : (edit : Edit) (steps : List Step) (last : Answer) → passes_with last ≡ true →
     Belongs (edit_grammar edit) steps (finish.Answer last) → ⊥
 edit_passes_none edit [] last p b = b
 edit_passes_none edit (step ∷ []) last p b =
     edit_no_entry step.reply (ap passes_with (sym (same_answer last (edit_answer step.reply) b.1)) ∙ p)
 edit_passes_none edit (step ∷ more ∷ steps) last p b = b.1
-
-pub entry_asked : (plan : Plan) (seat : HostSeat) (asked : Asked) (steps : List Step) (entry : Entry) →
-    AllMayBeTold steps → Belongs (grammar_for plan seat asked) steps (finish.Answer (answer.Entry entry)) →
-    (who : Context) × (parent : ℕ) × (name : List ℕ) × (asked ≡ Requests who (request.Lookup parent name))
-entry_asked plan seat (Requests who asked) steps entry t b =
-    let k = entry_of_lookup asked entry (request_right plan seat who asked steps (answer.Entry entry) t b).1 in
-    (who, k.0, k.1, ap (λ (r : Request). Requests who r) k.2)
-entry_asked plan seat (Edits edit) steps entry t b =
-    absurd (edit_passes_none edit steps (answer.Entry entry) refl b)
 
 pub created_asked : (plan : Plan) (seat : HostSeat) (asked : Asked) (steps : List Step) (entry : Entry) (handle : ℕ)
     (options : OpenOptions) → AllMayBeTold steps →

@@ -35,7 +35,7 @@ use Rattle.pt_req.specs.declared.parts.asked.NamedHandle.{NamedHandle}
 use Rattle.pt_req.specs.declared.plan.Plan.{Plan}
 use Rattle.pt_attr.specs.Pattern.{tree_of}
 use Rattle.pt_law.specs.Discipline.{Notes, blank, given_for}
-use Rattle.pt_fit.specs.Cause.{Asking, BlocksLabel, IsBlockedLabel, OwnCause, StaleCause, asking}
+use Rattle.pt_fit.specs.Cause.{Asking, BlocksLabel, IsBlockedLabel, OwnCause, TellsCause, asking}
 use Rattle.pt_fit.proofs.Holds.{nothing_bare}
 use Rattle.pt_fit.proofs.Joined.{after_any_step, fit_gives, fit_look_up, fit_open_num}
 use Rattle.pt_fit.proofs.Labelling.{fit_labelled}
@@ -45,7 +45,7 @@ use Rattle.pt_fit.proofs.Parts.{fit_insert_given, fit_make_at, fit_open_scope, f
 use Rattle.pt_fit.proofs.Parts.{fit_take_under}
 
 -- scopes lie on what holds none
-covers_none : (row : ℕ) (dir : Fd) → Covers (hold.Pin row (Some dir) ∷ []) (hold.Pin row (Some dir) ∷ [])
+pub covers_none : (row : ℕ) (dir : Fd) → Covers (hold.Pin row (Some dir) ∷ []) (hold.Pin row (Some dir) ∷ [])
 covers_none row dir = record { uncovers = refl; unscopes = refl; lays = λ fd. refl }
 
 -- and one more
@@ -91,7 +91,7 @@ module _ {asked : Asking} {seen : List Seen} {bare : List Hold} {marks : List �
       (fit_egid egid euid raise (hold.Groups ∷ holds) (covers_groups c))
 
   -- by whoever asks, where no id is forbidden
-  fit_as_asker : (seat : HostSeat) (asker : Option Credentials) (holds : List Hold) → Covers holds bare →
+  pub fit_as_asker : (seat : HostSeat) (asker : Option Credentials) (holds : List Hold) → Covers holds bare →
       (asker ≡ None → OwnCause asked.plan asked.who asked.request eperm) →
       Goes asked seen (as_asker seat asker rest) holds marks notes
   fit_as_asker seat None holds c forbids = fit_gives (answer.Refused eperm) (λ path. (tt, inl (forbids refl), tt))
@@ -100,7 +100,7 @@ module _ {asked : Asking} {seen : List Seen} {bare : List Hold} {marks : List �
       (creds.keep_capability && is_some (id_to_set creds.uid seat.eff_uid)) holds c
 
 -- who asks has an id that is forbidden
-forbidden_from : (uid gid : Option ℕ) (group : Option (Option ℕ)) (keeps : Bool) →
+pub forbidden_from : (uid gid : Option ℕ) (group : Option (Option ℕ)) (keeps : Bool) →
     asker_from uid gid group keeps ≡ None → (uid ≡ None) ⊎ (gid ≡ None) ⊎ (group ≡ None)
 forbidden_from None gid group keeps e = inl refl
 forbidden_from (Some uid) None group keeps e = inr (inl refl)
@@ -123,7 +123,8 @@ same_ids one other e =
 -- an object of the same ids goes on, and another one is stale
 fit_if_same : {asked : Asking} {seen : List Seen} {holds : List Hold} {marks : List ℕ} {notes : Notes}
     (made found : ObjIds) (next : RequestTree) →
-    (are_same made found ≡ false → (path : List Step) → Told seen path → StaleCause asked.request path estale) →
+    (are_same made found ≡ false → (path : List Step) → Told seen path →
+    TellsCause asked.plan asked.who asked.request path estale) →
     (made ≡ found → Goes asked seen next holds marks notes) →
     Goes asked seen (if_same made found next) holds marks notes
 fit_if_same {asked = asked} {seen = seen} {holds = holds} {marks = marks} {notes = notes} made found next stale f =

@@ -5,6 +5,7 @@ use Rattle.pt_host.specs.Call.{Call}
 use Rattle.pt_host.specs.Sorts.{Sort, OpensWith, EndsFd, OfSeat, Plain, sort_of}
 use Rattle.pt_host.specs.declared.ids.Errno.{Errno}
 use Rattle.pt_host.specs.declared.ids.ObjIds.{ObjIds}
+use Rattle.pt_host.specs.declared.stat.Stat.{Stat}
 use Rattle.pt_host.specs.declared.op.KeptHostOp.TheVariants as call
 use Rattle.pt_host.specs.declared.reply.HostReply.TheVariants as host
 use Rattle.pt_session.specs.Change.{Change}
@@ -14,6 +15,7 @@ use Rattle.pt_session.specs.declared.reply.EventRefusal.{EventRefusal}
 use Rattle.pt_session.specs.declared.reply.EventRefusal.TheVariants as refused
 use Rattle.pt_iface.specs.declared.answer.Answer.{Answer}
 use Rattle.pt_iface.specs.declared.answer.Answer.TheVariants as answer
+use Rattle.pt_iface.specs.declared.request.Context.{Context}
 use Rattle.pt_iface.specs.declared.request.Request.{Request}
 use Rattle.pt_iface.specs.declared.request.Request.TheVariants as request
 use Rattle.pt_frame.specs.Deed.{Deed, Calls, Changes, Step, IsStepOf}
@@ -23,6 +25,7 @@ use Rattle.pt_frame.specs.Tree.{RequestTree, Gives, Refuses, Asks, Opens, Bares,
 use Rattle.pt_frame.specs.declared.act.ActReply.{ActReply}
 use Rattle.pt_frame.specs.declared.act.ActReply.TheVariants.{Event, Host, NoCopy}
 use Rattle.pt_frame.specs.declared.hold.Hold.{Hold}
+use Rattle.pt_req.specs.declared.plan.Plan.{Plan}
 use Rattle.pt_law.specs.Discipline.{Notes, notes_after}
 use Rattle.pt_law.specs.Told.{AllMayBeTold}
 use Rattle.pt_frame.specs.Frame.{front, behind, under, mark_in, outer}
@@ -30,8 +33,8 @@ use Rattle.pt_law.specs.Keeps.{uncovered, down_to, After, Keeps}
 use Rattle.pt_law.specs.Branch.{Along, AreOwn, AreOwn.{none, keep, skip}}
 use Rattle.pt_law.specs.Naming.{made}
 use Rattle.pt_law.proofs.Moving.{told_of}
-use Rattle.pt_fit.specs.Cause.{Asking, SortCauses, StepCauses, EventCauses, SomeCauses, TellsIds, SomeTells}
-use Rattle.pt_fit.specs.Cause.{StaleCause}
+use Rattle.pt_fit.specs.Cause.{Asking, SortCauses, StepCauses, EventCauses, SomeCauses, SomeTells, SomeTellsIds}
+use Rattle.pt_fit.specs.Cause.{TellsCause, TellsStat}
 use Rattle.pt_fit.specs.Fit.{Fit, IsCausedLeaf, MayAnswer}
 
 after_map : (count : ℕ) (P Q : Notes → Type 0) (notes : Notes) → ((later : Notes) → P later → Q later) →
@@ -69,10 +72,10 @@ fit_keeps asked (Allocates rest) holds marks notes path f = fit_keeps asked rest
 -- what the one causes or tells, the other causes or tells too
 pub record Within (asked : Asking) (some all : List Step) : Type 0 where
   pub causes : (errno : Errno) → SomeCauses asked.request some errno → SomeCauses asked.request all errno
-  pub tells : (ids : ObjIds) → SomeTells some ids → SomeTells all ids
+  pub tells : (stat : Stat) → SomeTells some stat → SomeTells all stat
 
 pub nothing_within : (asked : Asking) (all : List Step) → Within asked [] all
-nothing_within asked all = record { causes = λ errno no. absurd no; tells = λ ids no. absurd no }
+nothing_within asked all = record { causes = λ errno no. absurd no; tells = λ stat no. absurd no }
 
 none_called : (sort : Sort) (errno : Errno) → SortCauses sort NoCopy errno → ⊥
 none_called (OpensWith flags) errno s = s
@@ -97,19 +100,19 @@ causes_of what deed (Some same) told errno i s =
 causes_of what deed None NoCopy errno i s = absurd (uncopied what deed errno s)
 causes_of what deed None told errno i s = absurd i
 
-none_told : (asked : Call) (ids : ObjIds) → TellsIds (Some (Calls asked)) NoCopy ids → ⊥
-none_told (call.Stat fd) ids t = t
-none_told asked ids t = t
+none_told : (asked : Call) (stat : Stat) → TellsStat (Some (Calls asked)) NoCopy stat → ⊥
+none_told (call.Stat fd) stat t = t
+none_told asked stat t = t
 
 -- and what the deed tells, the step tells
-tells_of : (deed : Deed) (done : Option Deed) (told : ActReply) (ids : ObjIds) → IsStepOf deed done told →
-    TellsIds (Some deed) told ids → TellsIds done told ids
-tells_of (Calls asked) (Some same) NoCopy ids i t = absurd (none_told asked ids t)
-tells_of (Changes asked) (Some same) NoCopy ids i t = absurd t
-tells_of deed (Some same) told ids i t = subst (λ (d : Deed). TellsIds (Some d) told ids) (sym i) t
-tells_of (Calls asked) None NoCopy ids i t = absurd (none_told asked ids t)
-tells_of (Changes asked) None NoCopy ids i t = absurd t
-tells_of deed None told ids i t = absurd i
+tells_of : (deed : Deed) (done : Option Deed) (told : ActReply) (stat : Stat) → IsStepOf deed done told →
+    TellsStat (Some deed) told stat → TellsStat done told stat
+tells_of (Calls asked) (Some same) NoCopy stat i t = absurd (none_told asked stat t)
+tells_of (Changes asked) (Some same) NoCopy stat i t = absurd t
+tells_of deed (Some same) told stat i t = subst (λ (d : Deed). TellsStat (Some d) told stat) (sym i) t
+tells_of (Calls asked) None NoCopy stat i t = absurd (none_told asked stat t)
+tells_of (Changes asked) None NoCopy stat i t = absurd t
+tells_of deed None told stat i t = absurd i
 
 -- a step further
 further : (asked : Asking) (deed : Deed) (step : Step) (path own all : List Step) →
@@ -122,28 +125,34 @@ further asked deed step path own all i w v = record { causes = caused; tells = t
     caused errno (inl s) = v.causes errno (inl (causes_of asked.request deed step.deed step.reply errno i s))
     caused errno (inr s) = w.causes errno s
 
-    told : (ids : ObjIds) → SomeTells (made deed step.reply ∷ path) ids → SomeTells all ids
-    told ids (inl t) = v.tells ids (inl (tells_of deed step.deed step.reply ids i t))
-    told ids (inr t) = w.tells ids t
+    told : (stat : Stat) → SomeTells (made deed step.reply ∷ path) stat → SomeTells all stat
+    told stat (inl t) = v.tells stat (inl (tells_of deed step.deed step.reply stat i t))
+    told stat (inr t) = w.tells stat t
 
 -- without its first step
 rest_within : (asked : Asking) (step : Step) (own all : List Step) → Within asked (step ∷ own) all →
     Within asked own all
 rest_within asked step own all v =
-    record { causes = λ errno s. v.causes errno (inr s); tells = λ ids t. v.tells ids (inr t) }
+    record { causes = λ errno s. v.causes errno (inr s); tells = λ stat t. v.tells stat (inr t) }
 
-stale_within : (what : Request) (path all : List Step) (errno : Errno) →
-    ((ids : ObjIds) → SomeTells path ids → SomeTells all ids) → StaleCause what path errno → StaleCause what all errno
-stale_within (request.Create parent name mode kill flags umask ext) path all errno w (two, e) =
-    ((two.0, two.1, w two.0 two.2, w two.1 two.3, two.4), e)
-stale_within what path all errno w c = absurd c
+ids_within : (path all : List Step) (ids : ObjIds) →
+    ((stat : Stat) → SomeTells path stat → SomeTells all stat) → SomeTellsIds path ids → SomeTellsIds all ids
+ids_within path all ids w t = (t.0, w t.0 t.1, t.2)
+
+told_within : (plan : Plan) (who : Context) (what : Request) (path all : List Step) (errno : Errno) →
+    ((stat : Stat) → SomeTells path stat → SomeTells all stat) → TellsCause plan who what path errno →
+    TellsCause plan who what all errno
+told_within plan who (request.Create parent name mode kill flags umask ext) path all errno w (two, e) =
+    ((two.0, two.1, ids_within path all two.0 w two.2, ids_within path all two.1 w two.3, two.4), e)
+told_within plan who (request.Access inode mask) path all errno w (one, e) = ((one.0, w one.0 one.1, one.2), e)
+told_within plan who what path all errno w c = absurd c
 
 caused_within : (asked : Asking) (last : Answer) (path all : List Step) → Within asked path all →
     IsCausedLeaf asked path last → IsCausedLeaf asked all last
 caused_within asked (answer.Refused errno) path all w (inl own) = inl own
 caused_within asked (answer.Refused errno) path all w (inr (inl made)) = inr (inl (w.causes errno made))
 caused_within asked (answer.Refused errno) path all w (inr (inr two)) =
-    inr (inr (stale_within asked.request path all errno w.tells two))
+    inr (inr (told_within asked.plan asked.who asked.request path all errno w.tells two))
 caused_within asked last path all w c = tt
 
 -- what a refusal answers is no entry
@@ -204,17 +213,17 @@ causes_among what _ _ errno (keep o) (inl s) = inl s
 causes_among what _ _ errno (keep {own = own} {all = all} o) (inr s) = inr (causes_among what own all errno o s)
 causes_among what own _ errno (skip {all = all} g o) s = inr (causes_among what own all errno o s)
 
-tells_among : (own all : List Step) (ids : ObjIds) → AreOwn own all → SomeTells own ids → SomeTells all ids
-tells_among _ _ ids none t = t
-tells_among _ _ ids (keep o) (inl t) = inl t
-tells_among _ _ ids (keep {own = own} {all = all} o) (inr t) = inr (tells_among own all ids o t)
-tells_among own _ ids (skip {all = all} g o) t = inr (tells_among own all ids o t)
+tells_among : (own all : List Step) (stat : Stat) → AreOwn own all → SomeTells own stat → SomeTells all stat
+tells_among _ _ stat none t = t
+tells_among _ _ stat (keep o) (inl t) = inl t
+tells_among _ _ stat (keep {own = own} {all = all} o) (inr t) = inr (tells_among own all stat o t)
+tells_among own _ stat (skip {all = all} g o) t = inr (tells_among own all stat o t)
 
 -- the steps of a branch are among all
 pub own_within : (asked : Asking) (own all : List Step) → AreOwn own all → Within asked own all
 own_within asked own all o = record {
   causes = λ errno s. causes_among asked.request own all errno o s;
-  tells = λ ids t. tells_among own all ids o t;
+  tells = λ stat t. tells_among own all stat o t;
 }
 
 pub own_told : (own all : List Step) → AreOwn own all → AllMayBeTold all → AllMayBeTold own

@@ -3,6 +3,8 @@ use Rattle.std.proofs.Common.{◌≡◌, ◌⊎◌, inl, inr, ℕ, List, [], ◌
 use Rattle.std.proofs.Common.{if◌then◌else◌, arith, Option, Some, None}
 use Rattle.pt_host.specs.Errno.{ebadf, einval}
 use Rattle.pt_host.specs.Flags.{o_directory}
+use Rattle.pt_host.specs.declared.ids.Fd.{Fd}
+use Rattle.pt_host.specs.declared.op.KeptHostOp.TheVariants as call
 use Rattle.pt_host.specs.declared.seat.HostSeat.{HostSeat}
 use Rattle.pt_session.specs.Change.{Change, HoldsList}
 use Rattle.pt_session.specs.Tables.{Tables, HasNumber, Agree, empty_tables}
@@ -16,10 +18,12 @@ use Rattle.pt_session.specs.declared.reply.EventReply.TheVariants as event
 use Rattle.pt_session.specs.declared.reply.EventRefusal.TheVariants.{NotLive}
 use Rattle.pt_session.proofs.Cases.{Case, cases}
 use Rattle.pt_iface.specs.declared.answer.Answer.TheVariants as answer
+use Rattle.pt_iface.specs.declared.flags.SetattrValid.{SetattrValid}
 use Rattle.pt_iface.specs.declared.request.Context.{Context}
 use Rattle.pt_iface.specs.declared.request.Extensions.{Extensions}
 use Rattle.pt_iface.specs.declared.request.Request.{Request}
 use Rattle.pt_iface.specs.declared.request.Request.TheVariants as request
+use Rattle.pt_iface.specs.declared.request.SetattrIn.{SetattrIn}
 use Rattle.pt_frame.specs.Deed.{Deed, Changes, Step, IsStepOf}
 use Rattle.pt_frame.specs.Held.{held}
 use Rattle.pt_frame.specs.Replies.{closings_in}
@@ -32,7 +36,7 @@ use Rattle.pt_frame.specs.declared.finish.Finish.{Finish}
 use Rattle.pt_frame.specs.declared.finish.Finish.TheVariants as finish
 use Rattle.pt_req.specs.Entries.{is_bad_name}
 use Rattle.pt_req.specs.Options.{with_bits, cleaned, inode_flags, open_options, create_options}
-use Rattle.pt_req.specs.Parts.{by_path, file_of, numbered, looked_of, look_up, open_row}
+use Rattle.pt_req.specs.Parts.{by_path, file_of, named, numbered, looked_of, look_up, open_row}
 use Rattle.pt_attr.specs.Pattern.{tree_of}
 use Rattle.pt_req.specs.Creating.{make_file}
 use Rattle.pt_req.specs.Requests.{lookup, open_file, file_asked}
@@ -41,6 +45,13 @@ use Rattle.pt_req.specs.Steps.{draw_handle, take_fd, insert_handle}
 use Rattle.pt_req.specs.declared.begun.BegunSession.{BegunSession}
 use Rattle.pt_req.specs.declared.plan.Plan.{Plan}
 use Rattle.pt_attr.specs.Pattern.{grammar_of}
+use Rattle.pt_attr.specs.Making.{is_bad_target, make_named, make_object, object_asked, targeted}
+use Rattle.pt_attr.specs.declared.requests.making.Made.TheVariants as made
+use Rattle.pt_attr.specs.declared.requests.making.ObjectAsked.{ObjectAsked}
+use Rattle.pt_attr.specs.Setting.{file_set, is_missized, set_mode, set_owner, set_size, set_times, setattr}
+use Rattle.pt_attr.specs.Setting.{target_of, tell_attr}
+use Rattle.pt_attr.specs.Steps.{do_call}
+use Rattle.pt_attr.specs.Requests.{access, file_by, getattr, link, readlink, rename, rmdir, statfs, unlink}
 use Rattle.pt_law.specs.World.{Turn, turn_by, TablesGo, TablesRun, steps_of}
 use Rattle.pt_law.specs.Ledger.{inserted}
 use Rattle.pt_law.specs.Branch.{IsGivenUp}
@@ -160,6 +171,71 @@ on_create plan seat who parent name mode kill flags umask ext good =
       (λ i. begin (λ session. good_name (is_bad_name name) (resolve parent (next session)) good i)),
     )
 
+-- what goes on with the file of the number
+on_file : (number : ℕ) (next : Fd → RequestTree) → Resolves number (begin (λ session. file_by number next))
+on_file number next = (false, (λ session row. file_of row.form next), refl)
+
+on_named_file : (number : ℕ) (name : List ℕ) (next : Fd → RequestTree) → is_bad_name name ≡ false →
+    Resolves number (begin (λ session. named name (file_by number next)))
+on_named_file number name next good = (
+  false,
+  (λ session row. file_of row.form next),
+  (λ i. begin (λ session. good_name (is_bad_name name) (file_by number next) good i)),
+)
+
+on_made : (plan : Plan) (seat : HostSeat) (object : ObjectAsked) → is_bad_name object.name ≡ false →
+    is_bad_target object.made ≡ false → Resolves object.parent (make_named plan seat object)
+on_made plan seat object good well =
+    let next : BegunSession → Resolved → RequestTree = λ session directory.
+    file_of directory.form (make_object plan seat session object) in (
+      false,
+      next,
+      (λ i. begin (λ session.
+          (good_name (is_bad_name object.name) (targeted object.made (resolve object.parent (next session))) good
+          ∙ good_name (is_bad_target object.made) (resolve object.parent (next session)) well) i)),
+    )
+
+on_link : (plan : Plan) (inode newparent : ℕ) (newname : List ℕ) → is_bad_name newname ≡ false →
+    Resolves inode (link plan inode newparent newname)
+on_link plan inode newparent newname good =
+    let next : BegunSession → Resolved → RequestTree = λ session one. resolve newparent (λ other.
+    file_of one.form (λ from. file_of other.form (λ dir.
+    do_call (call.MakeLink from dir newname) (look_up plan session newparent newname (λ looked.
+    Gives (answer.Entry looked.entry)))))) in (
+      false,
+      next,
+      (λ i. begin (λ session. good_name (is_bad_name newname) (resolve inode (next session)) good i)),
+    )
+
+on_rename : (olddir : ℕ) (oldname : List ℕ) (newdir : ℕ) (newname : List ℕ) (flags : ℕ) →
+    is_bad_name oldname ≡ false → is_bad_name newname ≡ false →
+    Resolves olddir (rename olddir oldname newdir newname flags)
+on_rename olddir oldname newdir newname flags good also =
+    let next : Resolved → RequestTree = λ one. resolve newdir (λ other.
+    file_of one.form (λ from. file_of other.form (λ to.
+    do_call (call.Rename from oldname to newname flags) (Gives answer.Done)))) in (
+      false,
+      (λ session. next),
+      (λ i. begin (λ session.
+          (good_name (is_bad_name oldname) (named newname (resolve olddir next)) good
+          ∙ good_name (is_bad_name newname) (resolve olddir next) also) i)),
+    )
+
+on_setattr : (plan : Plan) (inode : ℕ) (handle : Option ℕ) (valid : SetattrValid) (attr : SetattrIn) →
+    is_missized valid attr ≡ false → Resolves inode (setattr plan inode handle valid attr)
+on_setattr plan inode handle valid attr good =
+    let next : Resolved → RequestTree = λ row.
+    file_set handle valid row (λ file.
+    target_of inode handle file (λ target through.
+    set_mode valid attr target through (
+    set_owner plan valid attr file (
+    set_size valid attr target (
+    set_times valid attr target through (tell_attr plan inode)))))) in (
+      false,
+      (λ session. next),
+      (λ i. begin (λ session. good_name (is_missized valid attr) (resolve inode next) good i)),
+    )
+
 resolves : (plan : Plan) (seat : HostSeat) (who : Context) (what : Request) (number : ℕ) → IsOn number what →
     Resolves number (tree_of plan seat who what)
 resolves plan seat who (request.Lookup parent name) number on =
@@ -172,6 +248,34 @@ resolves plan seat who (request.OpenDir inode flags) number on =
 resolves plan seat who (request.Create parent name mode kill flags umask ext) number on =
     subst (λ n. Resolves n (tree_of plan seat who (request.Create parent name mode kill flags umask ext))) on.0
     (on_create plan seat who parent name mode kill flags umask ext on.1)
+resolves plan seat who (request.Mkdir parent name mode umask ext) number on =
+    let object = object_asked who parent name ext (made.Directory mode) in
+    subst (λ n. Resolves n (make_named plan seat object)) on.0 (on_made plan seat object on.1 refl)
+resolves plan seat who (request.Mknod parent name mode rdev umask ext) number on =
+    let object = object_asked who parent name ext (made.Node mode rdev) in
+    subst (λ n. Resolves n (make_named plan seat object)) on.0 (on_made plan seat object on.1 refl)
+resolves plan seat who (request.Symlink target parent name ext) number on =
+    let object = object_asked who parent name ext (made.Link target) in
+    subst (λ n. Resolves n (make_named plan seat object)) on.0 (on_made plan seat object on.1 on.2)
+resolves plan seat who (request.Readlink inode) number on =
+    subst (λ n. Resolves n (readlink inode)) on (on_file inode _)
+resolves plan seat who (request.StatFs inode) number on =
+    subst (λ n. Resolves n (statfs inode)) on (on_file inode _)
+resolves plan seat who (request.GetAttr inode) number on =
+    subst (λ n. Resolves n (getattr plan inode)) on (on_file inode _)
+resolves plan seat who (request.Access inode mask) number on =
+    subst (λ n. Resolves n (access plan who inode mask)) on (on_file inode _)
+resolves plan seat who (request.Unlink parent name) number on =
+    subst (λ n. Resolves n (unlink parent name)) on.0 (on_named_file parent name _ on.1)
+resolves plan seat who (request.Rmdir parent name) number on =
+    subst (λ n. Resolves n (rmdir parent name)) on.0 (on_named_file parent name _ on.1)
+resolves plan seat who (request.Link inode newparent newname) number on =
+    subst (λ n. Resolves n (link plan inode newparent newname)) on.0 (on_link plan inode newparent newname on.1)
+resolves plan seat who (request.Rename olddir oldname newdir newname flags) number on =
+    subst (λ n. Resolves n (rename olddir oldname newdir newname flags)) on.0
+    (on_rename olddir oldname newdir newname flags on.1 on.2)
+resolves plan seat who (request.SetAttr inode handle valid attr) number on =
+    subst (λ n. Resolves n (setattr plan inode handle valid attr)) on.0 (on_setattr plan inode handle valid attr on.1)
 resolves plan seat who what number on = absurd on
 
 -- each step of a job is made while the number is gone

@@ -6,12 +6,10 @@ use Rattle.std.specs.Prelude.{nat_le}
 use Rattle.std.proofs.lemmas.Bool.{cases_lt}
 use Rattle.std.specs.Int.RustNames.{bit_or}
 use Rattle.pt_host.specs.Call.{Call}
-use Rattle.pt_host.specs.Flags.{includes, o_creat, cap_setgid}
+use Rattle.pt_host.specs.Flags.{includes, cap_setgid}
 use Rattle.pt_host.specs.Seat.{leaves_id, caps_as, with_euid, with_egid, may_set_groups}
 use Rattle.pt_host.specs.Seat.{with_groups, with_raised, may_raise}
 use Rattle.pt_host.specs.declared.flags.Caps.{Caps}
-use Rattle.pt_host.specs.declared.flags.OpenFlags.{OpenFlags}
-use Rattle.pt_host.specs.declared.ids.Fd.{Fd}
 use Rattle.pt_host.specs.declared.op.KeptHostOp.TheVariants as call
 use Rattle.pt_host.specs.declared.reply.HostReply.TheVariants as host
 use Rattle.pt_host.specs.declared.reply.HostValue.{HostValue}
@@ -24,14 +22,14 @@ use Rattle.pt_frame.specs.Deed.{Calls}
 use Rattle.pt_frame.specs.Held.{opened}
 use Rattle.pt_frame.specs.Past.{KeepsGroups}
 use Rattle.pt_frame.specs.Seats.{seat_by}
-use Rattle.pt_frame.specs.Tended.{is_seats_sort}
+use Rattle.pt_frame.specs.Tended.{is_seats_sort, is_of_seat}
 use Rattle.pt_frame.specs.Tree.{RequestTree, Asks, Bares}
 use Rattle.pt_frame.specs.declared.act.ActReply.{ActReply}
 use Rattle.pt_frame.specs.declared.act.ActReply.TheVariants.{Event, Host, NoCopy}
 use Rattle.pt_frame.specs.declared.hold.Hold.{Hold}
 use Rattle.pt_frame.specs.declared.hold.Hold.TheVariants as hold
 use Rattle.pt_law.specs.Told.{MayBeTold}
-use Rattle.pt_law.specs.Under.{Identity, identity_of, IsMadeAs, SeatAnswers}
+use Rattle.pt_law.specs.Under.{Identity, identity_of, makes_object, IsMadeAs, SeatAnswers}
 use Rattle.pt_law.specs.Wearing.{Unwinds, Seats}
 use Rattle.pt_law.proofs.Wearing.{deed_leaves}
 use Rattle.pt_host.specs.Sorts.{sort_of}
@@ -435,27 +433,26 @@ module _
             (few (length seat.groups) fits)
 
 -- a making under the identity that was taken on, after which it is put back
-pub guised : (asker : Option Identity) (seat : HostSeat) (creds : Credentials) (dir : Fd) (name : List ℕ)
-    (flags : OpenFlags) (mode : ℕ) (next : ActReply → RequestTree) → IsWhole seat → KeepsGroups seat →
-    includes flags.0 o_creat ≡ true → asker ≡ Some (identity_under creds seat) →
+pub guised : (asker : Option Identity) (seat : HostSeat) (creds : Credentials) (making : Call)
+    (next : ActReply → RequestTree) → IsWhole seat → KeepsGroups seat → is_of_seat (Calls making) ≡ false →
+    makes_object making ≡ true → asker ≡ Some (identity_under creds seat) →
     ((told : ActReply) → Seats asker seat (next told) [] seat) →
     Seats asker seat (taken_on (calls_of (cred_steps creds seat))
-    (Asks (Calls (call.OpenAt dir name flags mode)) (λ told. Bares (next told)))) [] seat
-guised asker seat creds dir name flags mode next whole fits makes is so =
-    on_groups asker seat whole (Asks (Calls (call.OpenAt dir name flags mode)) (λ told. Bares (next told)))
+    (Asks (Calls making) (λ told. Bares (next told)))) [] seat
+guised asker seat creds making next whole fits own makes is so =
+    on_groups asker seat whole (Asks (Calls making) (λ told. Bares (next told)))
     (identity_under creds seat) (λ scopes now un same. (
       un,
       made now same,
       (λ told m a. (
         inr refl,
         (
-          subst (λ (z : HostSeat). Unwinds seat scopes z)
-              (sym (deed_leaves now (Calls (call.OpenAt dir name flags mode)) told refl)) un,
+          subst (λ (z : HostSeat). Unwinds seat scopes z) (sym (deed_leaves now (Calls making) told own)) un,
           so told,
         ),
       )),
     )) creds.uid creds.gid creds.sup_gid creds.keep_capability fits refl refl refl refl
   where
     made : (now : HostSeat) → identity_of now ≡ identity_under creds seat →
-        IsMadeAs asker seat now (Some (Calls (call.OpenAt dir name flags mode)))
-    made now same = rw makes (is ∙ ap Some (sym same))
+        IsMadeAs asker seat now (Some (Calls making))
+    made now same = rw own (rw makes (is ∙ ap Some (sym same)))

@@ -17,16 +17,18 @@ use Rattle.pt_frame.specs.declared.hold.Hold.{Hold}
 use Rattle.pt_frame.specs.declared.hold.Hold.TheVariants as hold
 use Rattle.pt_req.specs.Entries.{can_open}
 use Rattle.pt_req.specs.Options.{cleaned, inode_flags, without_nofollow}
-use Rattle.pt_req.specs.Parts.{by_path, look_up, looked_of, numbered, open_form, open_num, open_row, root_open}
+use Rattle.pt_req.specs.Parts.{by_path, file_of, look_up, looked_of, numbered, open_form, open_num, open_row}
+use Rattle.pt_req.specs.Parts.{root_open}
 use Rattle.pt_req.specs.Requests.{unserved}
 use Rattle.pt_req.specs.Steps.{Resolved}
 use Rattle.pt_req.specs.declared.begun.BegunSession.{BegunSession}
 use Rattle.pt_req.specs.declared.parts.looked.Looked.{Looked}
 use Rattle.pt_req.specs.declared.plan.Plan.{Plan}
+use Rattle.pt_attr.specs.Requests.{file_by, files_by}
 use Rattle.pt_law.specs.Discipline.{Notes, blank, given_for, with_root}
 use Rattle.pt_fit.specs.Cause.{Asking, IsOpening, OwnCause}
 use Rattle.pt_fit.specs.Fit.{Fit}
-use Rattle.pt_fit.proofs.Holds.{IsBare}
+use Rattle.pt_fit.proofs.Holds.{IsBare, nothing_bare}
 use Rattle.pt_fit.proofs.Parts.{Goes, GoesAfter, fit_begin, fit_brackets, fit_claim, fit_draw_handle, fit_draw_node}
 use Rattle.pt_fit.proofs.Parts.{fit_file_of, fit_insert, fit_insert_handle, fit_insert_root, fit_open_at}
 use Rattle.pt_fit.proofs.Parts.{fit_open_root, fit_reopen, fit_resolve, fit_shuts, fit_shuts_passing, fit_stat}
@@ -70,6 +72,35 @@ fit_numbered session fd told next row dir e l f =
     fit_insert session fresh fd told next (λ one. refl) e l refl
     (λ number. f number (pin ∷ []) _ (record { era = refl; given = refl }))
     (λ number. f number (top ∷ hold.Slot ∷ pin ∷ []) _ (record { era = refl; given = refl })))))
+
+-- the file of a number, whose row is pinned then
+pub fit_file_by : {asked : Asking} {seen : List Seen} {holds : List Hold} {marks : List ℕ} {notes : Notes}
+    (number : ℕ) (next : Fd → RequestTree) → IsBare holds →
+    ((row : ℕ) (fd : Fd) → Goes asked seen (next fd) (hold.Pin row (Some fd) ∷ holds) marks
+    (noting number row notes)) →
+    Goes asked seen (file_by number next) holds marks notes
+fit_file_by number next b f =
+    fit_resolve number _ b (λ row. after_any_step (fit_file_of row.row row.form next (f row.row)))
+
+-- a file whose row lies under one more hold
+under_top : {asked : Asking} {seen : List Seen} {holds : List Hold} {marks : List ℕ} {notes : Notes}
+    (top : Hold) (row : ℕ) (form : RowForm) (next : Fd → RequestTree) →
+    ((fd : Fd) → Goes asked seen (next fd) (top ∷ hold.Pin row (Some fd) ∷ holds) marks notes) →
+    Goes asked seen (file_of form next) (top ∷ hold.Pin row (row_fd form) ∷ holds) marks notes
+under_top top row (File fd) next f = f fd
+
+-- the files of two numbers, whose rows are pinned then
+pub fit_files_by : {asked : Asking} {seen : List Seen} {marks : List ℕ} {notes : Notes} (first second : ℕ)
+    (next : Fd → Fd → RequestTree) →
+    ((one other : ℕ) (from to : Fd) →
+    Goes asked seen (next from to) (hold.Pin other (Some to) ∷ hold.Pin one (Some from) ∷ []) marks
+    (noting second other (noting first one notes))) →
+    Goes asked seen (files_by first second next) [] marks notes
+fit_files_by first second next f =
+    fit_resolve first _ nothing_bare (λ one. after_any_step (
+    fit_resolve second _ (λ top. refl) (λ other. after_any_step (
+    under_top (hold.Pin other.row (row_fd other.form)) one.row one.form _ (λ from.
+    fit_file_of other.row other.form _ (λ to. f one.row other.row from to))))))
 
 -- A lookup gives an entry, whose count is the last hold.
 abbrev pub Looks : Asking → List Seen → BegunSession → (Looked → RequestTree) → List Hold → List ℕ → Notes → Type 0
@@ -122,7 +153,7 @@ fit_open_form : {asked : Asking} {seen : List Seen} {holds : List Hold} {marks :
 fit_open_form row number flags (File dir) next r f =
     fit_reopen dir (without_nofollow flags) row number next r (f dir)
 
-fit_open_row : {asked : Asking} {seen : List Seen} {holds : List Hold} {marks : List ℕ} (notes : Notes)
+pub fit_open_row : {asked : Asking} {seen : List Seen} {holds : List Hold} {marks : List ℕ} (notes : Notes)
     (number flags : ℕ) (row : Resolved) (next : Fd → RequestTree) → IsOpening asked.request →
     ((dir new : Fd) → Goes asked seen (next new) (hold.Fd new None ∷ hold.Pin row.row (Some dir) ∷ holds) marks
     (record (noting number row.row notes) { reopened = Some new })) →

@@ -1,8 +1,9 @@
 -- A handle that a request inserted is the one that it is answered with.
 use Rattle.std.proofs.Common.{◌≡◌, inl, inr, ◌+◌, ◌∷◌, ◌∙◌, [], if◌then◌else◌, ℕ, Bool, List, None, Option, Some}
 use Rattle.std.proofs.Common.{ap, arith, false, refl, subst, sym, true}
+use Rattle.std.specs.Prelude.{◌||◌}
 use Rattle.pt_host.specs.Call.{Call}
-use Rattle.pt_host.specs.Errno.{ebadf, einval, eopnotsupp, eperm, errno_of, estale}
+use Rattle.pt_host.specs.Errno.{eacces, ebadf, einval, eopnotsupp, eperm, errno_of, estale}
 use Rattle.pt_host.specs.Flags.{o_directory}
 use Rattle.pt_host.specs.Words.{is}
 use Rattle.pt_host.specs.declared.edit.Edit.{Edit}
@@ -27,10 +28,12 @@ use Rattle.pt_session.specs.declared.reply.EventReply.TheVariants as event
 use Rattle.pt_iface.specs.declared.answer.Answer.{Answer}
 use Rattle.pt_iface.specs.declared.answer.Answer.TheVariants as answer
 use Rattle.pt_iface.specs.declared.entry.Entry.{Entry}
+use Rattle.pt_iface.specs.declared.flags.SetattrValid.{SetattrValid}
 use Rattle.pt_iface.specs.declared.request.Context.{Context}
 use Rattle.pt_iface.specs.declared.request.Request.{Request}
 use Rattle.pt_iface.specs.declared.request.Request.TheVariants as request
 use Rattle.pt_iface.specs.declared.request.SecContext.{SecContext}
+use Rattle.pt_iface.specs.declared.request.SetattrIn.{SetattrIn}
 use Rattle.pt_frame.specs.Deed.{Calls, Changes, Deed, IsStepOf, Step}
 use Rattle.pt_frame.specs.Edit.{edit_answer, edit_grammar}
 use Rattle.pt_frame.specs.Grammar.{Belongs}
@@ -44,13 +47,14 @@ use Rattle.pt_frame.specs.declared.hold.Hold.TheVariants as hold
 use Rattle.pt_req.specs.Asker.{as_asker, asker_of, taken_on}
 use Rattle.pt_req.specs.Attributes.{is_blocked}
 use Rattle.pt_req.specs.Creating.{are_same, handled, labelled, named_handle, new_file, old_file, takes_old, undone}
-use Rattle.pt_req.specs.Entries.{can_open, is_bad_name, is_bad_offset}
+use Rattle.pt_req.specs.Entries.{attr_of, can_open, is_bad_name, is_bad_offset}
 use Rattle.pt_req.specs.Options.{agreed_with, cleaned, create_options, init_options, inode_flags, making_flags}
 use Rattle.pt_req.specs.Options.{open_options, with_bits, without_nofollow}
 use Rattle.pt_req.specs.Parts.{by_path, file_of, look_up, looked_of, numbered, open_form, open_num, root_open}
-use Rattle.pt_req.specs.Requests.{batch_forget, create, file_asked, open_file, release, tree_of, unserved}
+use Rattle.pt_req.specs.Requests.{batch_forget, create, file_asked, open_file, release, unserved}
 use Rattle.pt_req.specs.Steps.{Resolved, begin, clear, draw_handle, draw_node, insert, insert_handle, make_at}
 use Rattle.pt_req.specs.Steps.{on_began, on_claim, on_cleared, on_done, on_drawn, on_fd, on_handle, on_inserted}
+use Rattle.pt_req.specs.Steps.{set_xattr}
 use Rattle.pt_req.specs.Steps.{on_made, on_ok_or, on_resolved, on_root, on_set, on_stat, on_taken, resolve}
 use Rattle.pt_req.specs.Steps.{session_of, stat, take_fd}
 use Rattle.pt_req.specs.declared.begun.BegunSession.{BegunSession}
@@ -60,7 +64,19 @@ use Rattle.pt_req.specs.declared.parts.looked.Looked.{Looked}
 use Rattle.pt_req.specs.declared.plan.Plan.{Plan}
 use Rattle.pt_req.proofs.Replying.{if_began, if_bytes, if_claimed, if_cleared, if_done, if_drawn, if_fd, if_inserted}
 use Rattle.pt_req.proofs.Replying.{if_made, if_ok_or, if_pinned, if_resolved, if_root, if_set, if_stat, if_taken}
-use Rattle.pt_attr.specs.Pattern.{Asked, Edits, Requests, grammar_for}
+use Rattle.pt_attr.specs.Pattern.{Asked, Edits, Requests, grammar_for, tree_of}
+use Rattle.pt_attr.specs.Access.{is_granted}
+use Rattle.pt_attr.specs.Making.{is_bad_target, labelled_at, make, make_named, making_call, object_asked, on_fd_or}
+use Rattle.pt_attr.specs.Making.{unmaking_call}
+use Rattle.pt_attr.specs.Requests.{file_by, files_by}
+use Rattle.pt_attr.specs.Setting.{atime_set, do_if, file_set, is_missized, mtime_set, opens_anew, own_as, set_owner}
+use Rattle.pt_attr.specs.Setting.{setting_flags, sets_atime, sets_gid, sets_mode, sets_mtime, sets_size, sets_uid}
+use Rattle.pt_attr.specs.Setting.{target_of}
+use Rattle.pt_attr.specs.Steps.{do_call}
+use Rattle.pt_attr.specs.declared.requests.making.Made.TheVariants as made
+use Rattle.pt_attr.specs.declared.requests.making.ObjectAsked.{ObjectAsked}
+use Rattle.pt_attr.proofs.Makings.{if_fd_or}
+use Rattle.pt_attr.proofs.Replying.{if_fs_stat}
 use Rattle.pt_law.specs.Branch.{Along, AreOwn, AreOwn.{keep, none, skip}, IsGivenUp, ReturnsHold}
 use Rattle.pt_law.specs.Ledger.{handle_inserted_if}
 use Rattle.pt_law.specs.Told.{AllMayBeTold, MayBeTold, StepMayBeTold}
@@ -248,6 +264,24 @@ refuses_so errno = gives (answer.Refused errno) (λ h. refl)
 files : (form : RowForm) (next : Fd → RequestTree) → ((fd : Fd) → Keeps (next fd)) → Keeps (file_of form next)
 files (File fd) next so = so fd
 
+both_files : (first second : ℕ) (next : Fd → Fd → RequestTree) → ((from to : Fd) → Keeps (next from to)) →
+    Keeps (files_by first second next)
+both_files first second next so =
+    resolves first _ (λ one.
+    resolves second _ (λ other.
+    files one.form _ (λ from.
+    files other.form _ (λ to. so from to))))
+
+does : (asked : Call) (next : RequestTree) → Keeps next → Keeps (do_call asked next)
+does asked next so = asks (Calls asked) (on_set next) (λ h told. refl) (if_set P next refuses (λ told. so))
+
+decides : (granted : Bool) → Keeps (Gives (if granted then answer.Done else answer.Refused eacces))
+decides true = gives answer.Done (λ h. refl)
+decides false = refuses_so eacces
+
+one_file : (number : ℕ) (next : Fd → RequestTree) → ((fd : Fd) → Keeps (next fd)) → Keeps (file_by number next)
+one_file number next so = resolves number _ (λ row. files row.form next so)
+
 numbers : (session : BegunSession) (form : RowForm) (told : Stat) (next : ℕ → RequestTree) →
     ((number : ℕ) → Keeps (next number)) → Keeps (numbered session form told next)
 numbers session form told next so =
@@ -310,6 +344,34 @@ opens_shared plan session agreed next so =
     takes _ (
     asks (Changes (change.InsertRoot session.era (File fd) told.ids told.mode agreed)) (on_root next) (λ h told. refl)
     (if_root P next refuses (λ number. so)))))
+
+files_set : (handle : Option ℕ) (valid : SetattrValid) (row : Resolved) (next : Fd → RequestTree) →
+    ((fd : Fd) → Keeps (next fd)) → Keeps (file_set handle valid row next)
+files_set handle valid row next so =
+    checks (opens_anew handle valid) _ _ (
+    checks (can_open row.mode) _ _ (reopens row.form setting_flags next so) (refuses_so ebadf))
+    (files row.form next so)
+
+targets : (inode : ℕ) (handle : Option ℕ) (file : Fd) (next : Fd → Bool → RequestTree) →
+    ((target : Fd) (through : Bool) → Keeps (next target through)) → Keeps (target_of inode handle file next)
+targets inode (Some handle) file next so =
+    asks (Changes (change.PinHandle handle inode)) _ (λ h told. refl)
+    (if_pinned P _ refuses (λ row fd. so fd false))
+targets inode None file next so = so file true
+
+does_if : (is : Bool) (asked : Call) (next : RequestTree) → Keeps next → Keeps (do_if is asked next)
+does_if true asked next so = does asked next so
+does_if false asked next so = so
+
+owns : (file : Fd) (uid gid : Option ℕ) (next : RequestTree) → Keeps next → Keeps (own_as file uid gid next)
+owns file (Some uid) (Some gid) next so = does (call.ChOwn file uid gid) next so
+owns file (Some uid) None next so = refuses_so eperm
+owns file None gid next so = refuses_so eperm
+
+sets_owner : (plan : Plan) (valid : SetattrValid) (attr : SetattrIn) (file : Fd) (next : RequestTree) → Keeps next →
+    Keeps (set_owner plan valid attr file next)
+sets_owner plan valid attr file next so =
+    checks (sets_uid valid || sets_gid valid) _ _ (owns file _ _ next so) so
 
 opens_it : (plan : Plan) (inode flags : ℕ) → Keeps (open_file plan inode flags)
 opens_it plan inode flags =
@@ -390,6 +452,51 @@ creates_it plan seat asked =
     makes seat (asker_of plan session asked.who asked.sup_gid) dir asked.name (making_flags asked.flags) asked.mode
     _ (takes_old asked) _ (makes_new plan session asked dir) (takes_old_one plan session asked)))))
 
+-- an object under a name, which gets its context by a descriptor of its own
+labels_at : (session : BegunSession) (dir : Fd) (name : List ℕ) (undoing : Call) (label : Option SecContext)
+    (next : RequestTree) → Keeps next → Keeps (labelled_at session dir name undoing label next)
+labels_at session dir name undoing None next so = so
+labels_at session dir name undoing (Some label) next so =
+    checks (is_blocked session.agreed label.name) _ _ (undoes undoing (answer.Refused eopnotsupp) (λ h. refl)) (
+    brackets _ (
+    asks (Calls (call.OpenAt dir name by_path 0)) (on_fd_or shut sets) (λ h told. refl)
+    (if_fd_or P shut sets refuses (λ fd.
+    asks (Calls (call.SetXattr fd true label.name label.value 0)) (on_ok_or shut (Shuts false next)) (λ h told. refl)
+    (if_ok_or P shut (Shuts false next) refuses (λ told. shuts false _ so) refused refused out out))
+    refused refused out out)))
+  where
+    shut : Answer → RequestTree
+    shut last = Shuts false (undone undoing last)
+
+    sets : Fd → RequestTree
+    sets fd = set_xattr fd true label.name label.value 0 shut (Shuts false next)
+
+    refused : (errno : Errno) → Keeps (shut (answer.Refused errno))
+    refused errno = shuts false _ (undoes undoing (answer.Refused errno) (λ h. refl))
+
+    out : Keeps (shut answer.NoMemory)
+    out = shuts false _ (undoes undoing answer.NoMemory (λ h. refl))
+
+makes_object : (seat : HostSeat) (asker : Option Credentials) (making : Call) (next : RequestTree) → Keeps next →
+    Keeps (as_asker seat asker (make making next))
+makes_object seat None making next so = refuses_so eperm
+makes_object seat (Some creds) making next so =
+    takes_on (calls_of (cred_steps creds seat)) _ (
+    asks (Calls making) (λ told. Bares (on_set next told)) (λ h told. refl)
+    (λ told. bares _ (if_set P next refuses (λ got. so) told)))
+
+makes_named : (plan : Plan) (seat : HostSeat) (object : ObjectAsked) → Keeps (make_named plan seat object)
+makes_named plan seat object =
+    begins _ (λ session.
+    checks (is_bad_name object.name) _ _ (refuses_so einval) (
+    checks (is_bad_target object.made) _ _ (refuses_so einval) (
+    resolves object.parent _ (λ directory.
+    files directory.form _ (λ dir.
+    makes_object seat (asker_of plan session object.who object.sup_gid) (making_call object.made dir object.name) _ (
+    labels_at session dir object.name (unmaking_call object.made dir object.name) object.secctx _ (
+    looks_up plan session object.parent object.name _ (λ looked.
+    gives (answer.Entry looked.entry) (λ h. refl)))))))))
+
 forgets : (list : List (ℕ × ℕ)) → Keeps (batch_forget list)
 forgets list = begins _ (λ session.
     dones (Changes (change.Forget list)) _ (λ h told. refl) (gives answer.NoReply (λ h. refl)))
@@ -427,6 +534,66 @@ each_keeps plan seat who (request.Read inode handle size offset) =
     gives (answer.Read bytes) (λ h. refl)))))))
 each_keeps plan seat who (request.Create parent name mode kill flags umask ext) =
     creates_it plan seat (file_asked who parent name mode flags ext)
+each_keeps plan seat who (request.Mkdir parent name mode umask ext) =
+    makes_named plan seat (object_asked who parent name ext (made.Directory mode))
+each_keeps plan seat who (request.Mknod parent name mode rdev umask ext) =
+    makes_named plan seat (object_asked who parent name ext (made.Node mode rdev))
+each_keeps plan seat who (request.Symlink target parent name ext) =
+    makes_named plan seat (object_asked who parent name ext (made.Link target))
+each_keeps plan seat who (request.Readlink inode) =
+    begins _ (λ session.
+    one_file inode _ (λ fd.
+    asks (Calls (call.ReadLink fd)) _ (λ h told. refl) (if_bytes P _ refuses (λ target.
+    gives (answer.Link target) (λ h. refl)))))
+each_keeps plan seat who (request.StatFs inode) =
+    begins _ (λ session.
+    one_file inode _ (λ fd.
+    asks (Calls (call.StatFs fd)) _ (λ h told. refl) (if_fs_stat P _ refuses (λ told.
+    gives (answer.FsStat told) (λ h. refl)))))
+each_keeps plan seat who (request.GetAttr inode) =
+    begins _ (λ session.
+    one_file inode _ (λ fd.
+    stats fd _ (λ told.
+    gives (answer.Attr (attr_of plan told 0) plan.config.attr_timeout) (λ h. refl))))
+each_keeps plan seat who (request.Access inode mask) =
+    begins _ (λ session.
+    one_file inode _ (λ fd.
+    stats fd _ (λ told. decides (is_granted who mask (attr_of plan told 0)))))
+each_keeps plan seat who (request.Unlink parent name) =
+    begins _ (λ session.
+    checks (is_bad_name name) _ _ (refuses_so einval) (
+    one_file parent _ (λ dir. does (call.Unlink dir name) _ (gives answer.Done (λ h. refl)))))
+each_keeps plan seat who (request.Rmdir parent name) =
+    begins _ (λ session.
+    checks (is_bad_name name) _ _ (refuses_so einval) (
+    one_file parent _ (λ dir. does (call.RemoveDir dir name) _ (gives answer.Done (λ h. refl)))))
+each_keeps plan seat who (request.Link inode newparent newname) =
+    begins _ (λ session.
+    checks (is_bad_name newname) _ _ (refuses_so einval) (
+    both_files inode newparent _ (λ from dir.
+    does (call.MakeLink from dir newname) _ (
+    looks_up plan session newparent newname _ (λ looked. gives (answer.Entry looked.entry) (λ h. refl))))))
+each_keeps plan seat who (request.Rename olddir oldname newdir newname flags) =
+    begins _ (λ session.
+    checks (is_bad_name oldname) _ _ (refuses_so einval) (
+    checks (is_bad_name newname) _ _ (refuses_so einval) (
+    both_files olddir newdir _ (λ from to.
+    does (call.Rename from oldname to newname flags) _ (gives answer.Done (λ h. refl))))))
+each_keeps plan seat who (request.SetAttr inode handle valid attr) =
+    begins _ (λ session.
+    checks (is_missized valid attr) _ _ (refuses_so einval) (
+    resolves inode _ (λ row.
+    files_set handle valid row _ (λ file.
+    targets inode handle file _ (λ target through.
+    does_if (sets_mode valid) (call.ChMod target through attr.mode) _ (
+    sets_owner plan valid attr file _ (
+    does_if (sets_size valid) (call.Truncate target attr.size) _ (
+    does_if (sets_atime valid || sets_mtime valid)
+    (call.SetTimes target through (atime_set valid attr) (mtime_set valid attr)) _ (
+    one_file inode _ (λ fd.
+    stats fd _ (λ told.
+    gives (answer.Attr (attr_of plan told 0) plan.config.attr_timeout) (λ h. refl))))))))))))
+each_keeps plan seat who (request.Other opcode) = unserves
 each_keeps plan seat who asked = unserves
 
 -- Among all steps of a job.

@@ -1,6 +1,6 @@
 -- A job that is answered with an entry: by which reply it went on, and that its other steps follow.
 use Rattle.std.proofs.Common.{◌≡◌, ◌⊎◌, inl, inr, ℕ, List, [], ◌∷◌, Option, Some, None, Bool, true, false, refl, sym}
-use Rattle.std.proofs.Common.{ap, subst, ◌∙◌, length}
+use Rattle.std.proofs.Common.{ap, subst, ◌∙◌, ◌++◌, length}
 use Rattle.pt_host.specs.Call.{Call}
 use Rattle.pt_host.specs.Sorts.{Sort, OpensWith, EndsFd, OfSeat, Plain, sort_of}
 use Rattle.pt_host.specs.declared.ids.Errno.{Errno}
@@ -15,7 +15,7 @@ use Rattle.pt_host.specs.declared.reply.HostReply.TheVariants as host
 use Rattle.pt_iface.specs.declared.answer.Answer.{Answer}
 use Rattle.pt_iface.specs.declared.answer.Answer.TheVariants as answer
 use Rattle.pt_frame.specs.Deed.{Deed, Calls, Changes, Step, IsStepOf}
-use Rattle.pt_frame.specs.Frame.{bare, giving, or_lost}
+use Rattle.pt_frame.specs.Frame.{bare, behind, front, giving, mark_in, or_lost, outer}
 use Rattle.pt_frame.specs.Held.{held, is_scope, opened}
 use Rattle.pt_frame.specs.Replies.{closings_in, put_by, fault_in, refusal, event_refusal, passes_with}
 use Rattle.pt_frame.specs.Grammar.{Grammar, Belongs}
@@ -29,7 +29,7 @@ use Rattle.pt_frame.specs.declared.hold.Hold.{Hold}
 use Rattle.pt_frame.specs.declared.hold.Hold.TheVariants as hold
 use Rattle.pt_law.specs.Branch.{Along, AreOwn, IsLost, IsGivenUp}
 use Rattle.pt_law.specs.Naming.{made}
-use Rattle.pt_law.proofs.Branches.{branch, end_leave, Ended}
+use Rattle.pt_law.proofs.Branches.{branch, end_leave, end_shut, Ended}
 
 lost_up : (end : Finish) → IsLost end → IsGivenUp end
 lost_up (finish.Lost errno) l = tt
@@ -282,6 +282,22 @@ module _ (seat : HostSeat) (last : Answer) (p : HasEntry last) (Q : List Step �
   pub bares_on : (rest : RequestTree) (steps : List Step) →
       ((later : List Step) → Leads seat rest later last → Q later) → Leads seat (Bares rest) steps last → Q steps
   bares_on rest steps f l = bared_on rest l.holds l.marks steps f l.belongs
+
+-- where a bracket ends its holds go back, and then the rest follows
+pub shuts_on : (seat : HostSeat) (passes : Bool) (rest : RequestTree) (steps : List Step) (last : Answer) →
+    Leads seat (Shuts passes rest) steps last →
+    (passed : List Step) × (later : List Step) × (steps ≡ passed ++ later) × Leads seat rest later last
+shuts_on seat passes rest steps last l =
+    elim (end_shut seat (front passes l.holds) (mark_in l.marks) (behind passes l.holds) (λ left.
+    framed seat rest left (outer l.marks)) steps (finish.Answer last) l.belongs) [
+      | inl lost ↦ absurd lost
+      | inr k ↦ (
+        k.1.backs.passed,
+        k.1.later,
+        k.1.backs.are,
+        record { holds = k.0; marks = outer l.marks; belongs = k.1.belongs },
+      )
+    ]
 
 -- a bracket asks nothing itself
 pub in_bracket : (seat : HostSeat) (rest : RequestTree) (steps : List Step) (last : Answer) →

@@ -4,6 +4,8 @@ pub mod Parts
 pub mod Joined
 pub mod Labelling
 pub mod Creating
+pub mod Objects
+pub mod Setting
 pub mod Requests
 pub mod Fitting
 pub mod Edits
@@ -12,10 +14,11 @@ pub mod Answered
 pub mod Beginning
 pub mod Leading
 pub mod Looking
-pub mod Flags
 pub mod Handling
 pub mod Making
+pub mod ObjectEntries
 pub mod Entered
+pub mod Entries
 pub mod Created
 pub mod Keeping
 pub mod Forgotten

@@ -59,7 +59,7 @@ use Rattle.pt_law.specs.Naming.{ResolvesNone, made, opening, resolving}
 use Rattle.pt_fit.specs.Created.{MakesNone}
 use Rattle.pt_fit.specs.Opened.{IsLookedUp}
 use Rattle.pt_fit.proofs.Creating.{same_ids}
-use Rattle.pt_fit.proofs.Flags.{creates, excludes}
+use Rattle.pt_req.proofs.Flags.{creates, excludes}
 use Rattle.pt_fit.proofs.Handling.{Inserted, InsertedNew, answers, each_join, inserted_in, inserted_new}
 use Rattle.pt_fit.proofs.Handling.{opened_num_along, same_along}
 use Rattle.pt_fit.proofs.Leading.{HasEntry, IsStill, Leads, StillSort, bares_on, calls_on, given_none, goes_on}
@@ -67,12 +67,12 @@ use Rattle.pt_fit.proofs.Leading.{none_told, on_branch, opens_on, refused_none, 
 use Rattle.pt_fit.proofs.Looking.{began, good_name, looks, resolved, stated, then_step}
 
 -- By some still steps the job comes to this tree.
-record Comes (seat : HostSeat) (last : Answer) (tree : RequestTree) (steps : List Step) : Type 0 where
-  front : List Step
-  rest : List Step
-  are : steps ≡ front ++ rest
-  still : Each (λ (step : Step). IsStill step.deed) front
-  on : Leads seat tree rest last
+pub record Comes (seat : HostSeat) (last : Answer) (tree : RequestTree) (steps : List Step) : Type 0 where
+  pub front : List Step
+  pub rest : List Step
+  pub are : steps ≡ front ++ rest
+  pub still : Each (λ (step : Step). IsStill step.deed) front
+  pub on : Leads seat tree rest last
 
 module _ (seat : HostSeat) (last : Answer) (p : HasEntry last) where
   comes_now : (tree : RequestTree) (steps : List Step) → Leads seat tree steps last → Comes seat last tree steps
@@ -89,18 +89,18 @@ module _ (seat : HostSeat) (last : Answer) (p : HasEntry last) where
   }
 
   -- the ends of scopes
-  bare_comes : (tree : RequestTree) (steps : List Step) → Leads seat (Bares tree) steps last →
+  pub bare_comes : (tree : RequestTree) (steps : List Step) → Leads seat (Bares tree) steps last →
       Comes seat last tree steps
   bare_comes tree steps l =
       bares_on seat last p (Comes seat last tree) (comes_more tree) tree steps (comes_now tree) l
 
   -- the calls by which an identity is taken on
-  set_on : (next : RequestTree) (told : ActReply) (rest : List Step) → Leads seat (on_set next told) rest last →
+  pub set_on : (next : RequestTree) (told : ActReply) (rest : List Step) → Leads seat (on_set next told) rest last →
       Leads seat next rest last
   set_on next (Host (host.Ok answered)) rest l = l
   set_on next told rest l = absurd (refused_none seat told rest last p l)
 
-  taken_comes : (calls : List Call) (next : RequestTree) (steps : List Step) →
+  pub taken_comes : (calls : List Call) (next : RequestTree) (steps : List Step) →
       Each (λ (asked : Call). StillSort (sort_of asked)) calls → Leads seat (taken_on calls next) steps last →
       Comes seat last next steps
   taken_comes [] next steps s l = comes_now next steps l
@@ -179,7 +179,7 @@ still_groups : (groups egid euid : Option ℕ) (raise : Bool) →
 still_groups None egid euid raise = still_egid egid euid raise
 still_groups (Some group) egid euid raise = (tt, still_egid egid euid raise)
 
-still_set : (steps : CredSteps) → AreStill (calls_of steps)
+pub still_set : (steps : CredSteps) → AreStill (calls_of steps)
 still_set steps = still_groups steps.groups steps.egid steps.euid steps.raise
 
 -- a still step makes nothing and resolves nothing

@@ -8,6 +8,7 @@ use Rattle.pt_host.specs.Call.{Call}
 use Rattle.pt_host.specs.declared.ids.Fd.{Fd}
 use Rattle.pt_host.specs.Sorts.{sort_of}
 use Rattle.pt_host.specs.declared.ids.ObjIds.{ObjIds}
+use Rattle.pt_host.specs.declared.stat.FsStat.{FsStat}
 use Rattle.pt_host.specs.declared.stat.Stat.{Stat}
 use Rattle.pt_host.specs.declared.flags.Caps.{Caps}
 use Rattle.pt_host.specs.declared.flags.OpenFlags.{OpenFlags}
@@ -22,7 +23,7 @@ use Rattle.pt_session.specs.declared.reply.EventReply.TheVariants as event
 use Rattle.pt_iface.specs.declared.answer.Answer.TheVariants as answer
 use Rattle.pt_iface.specs.declared.request.Request.{Request}
 use Rattle.pt_frame.specs.Deed.{Deed, Calls, Changes, Step}
-use Rattle.pt_frame.specs.Held.{row_fd, laid}
+use Rattle.pt_frame.specs.Held.{row_fd, laid, held, noted}
 use Rattle.pt_frame.specs.Replies.{refusal}
 use Rattle.pt_frame.specs.Tree.{RequestTree, Gives, Refuses, Brackets, Shuts}
 use Rattle.pt_frame.specs.declared.act.ActReply.{ActReply}
@@ -34,16 +35,18 @@ use Rattle.pt_req.specs.Steps.{claim, take_fd, draw_node, draw_handle, insert, i
 use Rattle.pt_req.specs.Parts.{file_of}
 use Rattle.pt_req.specs.Steps.{forget_all, release_handle, open_scope, try_call, is_there, make_at}
 use Rattle.pt_req.specs.declared.begun.BegunSession.{BegunSession}
+use Rattle.pt_attr.specs.Steps.{do_call, read_link, stat_fs}
 use Rattle.pt_law.specs.Discipline.{Notes, with_root, unnoted, found_by, given_for, with_given, KnowsAll, PinsLatest}
-use Rattle.pt_law.specs.Discipline.{at_job}
+use Rattle.pt_law.specs.Discipline.{at_job, notes_after}
 use Rattle.pt_law.specs.Keeps.{Lasts, LiesOnSlot.{here as lies, there as under}, down_to, uncovered, unscoped}
-use Rattle.pt_law.specs.Keeps.{MayOpen}
+use Rattle.pt_law.specs.Keeps.{MayMake, MayOpen}
 use Rattle.pt_law.specs.Naming.{made}
 use Rattle.pt_law.proofs.Sounds.{after_any}
-use Rattle.pt_fit.specs.Cause.{Asking, BlocksLabel, OwnCause, SomeCauses, SomeTells, StepCauses, is_passed_over}
+use Rattle.pt_fit.specs.Cause.{Asking, BlocksLabel, OwnCause, SomeCauses, SomeTellsIds, StepCauses}
+use Rattle.pt_fit.specs.Cause.{is_passed_over}
 use Rattle.pt_fit.specs.Fit.{Fit, IsCausedLeaf}
 use Rattle.pt_fit.proofs.Holds.{IsBare, noted_top, handed_top, down_over}
-use Rattle.pt_fit.proofs.Refused.{IsHeededCall, refused_by}
+use Rattle.pt_fit.proofs.Refused.{IsHeeded, IsHeededCall, refused_by}
 
 -- what was told: ids of an object, or what was agreed on with the guest
 pub data Seen : Type 0 where
@@ -58,7 +61,7 @@ SomeBegins (step ∷ path) agreed =
     ⊎ SomeBegins path agreed
 
 abbrev pub WasTold : List Step → Seen → Type 0
-WasTold path (Ids ids) = SomeTells path ids
+WasTold path (Ids ids) = SomeTellsIds path ids
 WasTold path (Agreed agreed) = SomeBegins path agreed
 
 -- on this path that was told
@@ -68,7 +71,7 @@ pub record Told (seen : List Seen) (path : List Step) : Type 0 where
 told_still : (step : Step) (path : List Step) (seen : List Seen) → Each (WasTold path) seen →
     Each (WasTold (step ∷ path)) seen
 told_still step path [] t = tt
-told_still step path (Ids ids ∷ seen) t = (inr t.0, told_still step path seen t.1)
+told_still step path (Ids ids ∷ seen) t = ((t.0.0, inr t.0.1, t.0.2), told_still step path seen t.1)
 told_still step path (Agreed agreed ∷ seen) t = (inr t.0, told_still step path seen t.1)
 
 pub still : {step : Step} {seen : List Seen} {path : List Step} → Told seen path → Told seen (step ∷ path)
@@ -79,7 +82,7 @@ looked_at : {seen : List Seen} {path : List Step} (fd : Fd) (told : Stat) → To
     Told (Ids told.ids ∷ seen) (made (Calls (call.Stat fd)) (Host (host.Ok (value.Stat told))) ∷ path)
 looked_at {seen = seen} {path = path} fd told t =
     let step = made (Calls (call.Stat fd)) (Host (host.Ok (value.Stat told))) in
-    record { each = (inl refl, told_still step path seen t.each) }
+    record { each = ((told, inl refl, refl), told_still step path seen t.each) }
 
 -- it began
 began_with : {seen : List Seen} {path : List Step} (era : ℕ) (agreed : Negotiated) → Told seen path →
@@ -278,6 +281,77 @@ fit_read_at {asked = asked} {holds = holds} fd offset size row next f = record {
     elim [
       | Host (host.Ok (value.Bytes bytes)) ↦ λ m. (f bytes).on _ (still s)
       | told ↦ λ m. refused_by asked (Calls (call.ReadAt fd offset size)) told holds path (refl, tt) m (λ no. no)
+    ],
+  );
+}
+
+pub fit_read_link : {asked : Asking} {seen : List Seen} {holds : List Hold} {marks : List ℕ}
+    {notes : Notes} (fd : Fd) (row : ℕ) (next : List ℕ → RequestTree) →
+    ((target : List ℕ) → Goes asked seen (next target) (hold.Pin row (Some fd) ∷ holds) marks notes) →
+    Goes asked seen (read_link fd next) (hold.Pin row (Some fd) ∷ holds) marks notes
+fit_read_link {asked = asked} {holds = holds} fd row next f = record {
+  on = λ path s. (
+    (((hold.Pin row (Some fd), _, here, refl), tt), tt),
+    elim [
+      | Host (host.Ok (value.Bytes target)) ↦ λ m. (f target).on _ (still s)
+      | told ↦ λ m. refused_by asked (Calls (call.ReadLink fd)) told (hold.Pin row (Some fd) ∷ holds) path
+          (refl, tt) m (λ no. no)
+    ],
+  );
+}
+
+pub fit_stat_fs : {asked : Asking} {seen : List Seen} {holds : List Hold} {marks : List ℕ}
+    {notes : Notes} (fd : Fd) (row : ℕ) (next : FsStat → RequestTree) →
+    ((told : FsStat) → Goes asked seen (next told) (hold.Pin row (Some fd) ∷ holds) marks notes) →
+    Goes asked seen (stat_fs fd next) (hold.Pin row (Some fd) ∷ holds) marks notes
+fit_stat_fs {asked = asked} {holds = holds} fd row next f = record {
+  on = λ path s. (
+    (((hold.Pin row (Some fd), _, here, refl), tt), tt),
+    elim [
+      | Host (host.Ok (value.FsStat told)) ↦ λ m. (f told).on _ (still s)
+      | told ↦ λ m. refused_by asked (Calls (call.StatFs fd)) told (hold.Pin row (Some fd) ∷ holds) path (refl, tt) m
+          (λ no. no)
+    ],
+  );
+}
+
+-- a file is looked at, whatever descriptors are held
+pub fit_look_at : {asked : Asking} {seen : List Seen} {holds : List Hold} {marks : List ℕ}
+    {notes : Notes} (fd : Fd) (next : Stat → RequestTree) → MayMake (Calls (call.Stat fd)) holds notes →
+    ((told : Stat) → GoesAfter (made (Calls (call.Stat fd)) (Host (host.Ok (value.Stat told)))) asked seen (next told)
+    (noted fd told.ids holds) marks (record notes { given = None })) →
+    Goes asked seen (stat fd next) holds marks notes
+fit_look_at {asked = asked} {holds = holds} fd next may f = record {
+  on = λ path s. (
+    may,
+    elim [
+      | Host (host.Ok (value.Stat told)) ↦ λ m. (f told).on path s
+      | told ↦ λ m. refused_by asked (Calls (call.Stat fd)) told holds path (refl, tt) m (λ no. no)
+    ],
+  );
+}
+
+-- a call that leaves what is held and noted, whatever it is told
+pub record IsStillCall (did : Call) : Type 0 where
+  pub holds : (told : ActReply) (these : List Hold) → held (Calls did) told these ≡ these
+  pub notes : (told : ActReply) (these : Notes) → notes_after these (Calls did) told ≡ these
+
+pub fit_do_call : {asked : Asking} {seen : List Seen} {holds : List Hold} {marks : List ℕ}
+    {notes : Notes} (did : Call) (next : RequestTree) → IsStillCall did → MayMake (Calls did) holds notes →
+    IsHeeded asked.request (Calls did) holds → Goes asked seen next holds marks notes →
+    Goes asked seen (do_call did next) holds marks notes
+fit_do_call {asked = asked} {holds = holds} {marks = marks} {notes = notes} did next same may heeds f = record {
+  on = λ path s. (
+    may,
+    elim [
+      | Host (host.Ok told) ↦ λ m.
+          let reply : ActReply = Host (host.Ok told) in
+          subst (λ (later : Notes).
+          Fit asked next (held (Calls did) reply holds) marks later (made (Calls did) reply ∷ path))
+          (sym (same.notes reply notes))
+          (held_as asked next (held (Calls did) reply holds) holds marks notes _ (same.holds reply holds)
+          (f.on _ (still s)))
+      | told ↦ λ m. refused_by asked (Calls did) told holds path heeds m (λ no. no)
     ],
   );
 }

@@ -1,6 +1,13 @@
 -- Each request is fit.
-use Rattle.std.proofs.Common.{◌∷◌, [], ℕ, List, None, Some, refl}
+use Rattle.std.proofs.Common.{◌≡◌, ◌∷◌, [], inl, inr, ℕ, Bool, true, false, if◌then◌else◌, List, None, Some, refl}
+use Rattle.pt_host.specs.Errno.{eacces}
 use Rattle.pt_host.specs.Flags.{o_directory}
+use Rattle.pt_host.specs.Words.{Takes.{here, there}}
+use Rattle.pt_host.specs.declared.ids.Fd.{Fd}
+use Rattle.pt_host.specs.declared.op.KeptHostOp.TheVariants as call
+use Rattle.pt_host.specs.declared.reply.HostReply.TheVariants as host
+use Rattle.pt_host.specs.declared.reply.HostValue.TheVariants as value
+use Rattle.pt_host.specs.declared.stat.Stat.{Stat}
 use Rattle.pt_host.specs.declared.seat.HostSeat.{HostSeat}
 use Rattle.pt_session.specs.Tables.{nothing_agreed}
 use Rattle.pt_iface.specs.declared.answer.Answer.TheVariants as answer
@@ -8,20 +15,34 @@ use Rattle.pt_iface.specs.declared.flags.FsOptions.{FsOptions}
 use Rattle.pt_iface.specs.declared.request.Context.{Context}
 use Rattle.pt_iface.specs.declared.request.Request.{Request}
 use Rattle.pt_iface.specs.declared.request.Request.TheVariants as request
-use Rattle.pt_req.specs.Entries.{is_bad_name, is_bad_offset}
+use Rattle.pt_frame.specs.Deed.{Calls}
+use Rattle.pt_frame.specs.Tree.{Gives}
+use Rattle.pt_frame.specs.declared.act.ActReply.TheVariants.{Host}
+use Rattle.pt_frame.specs.declared.hold.Hold.{Hold}
+use Rattle.pt_frame.specs.declared.hold.Hold.TheVariants as hold
+use Rattle.pt_req.specs.Entries.{attr_of, is_bad_name, is_bad_offset}
 use Rattle.pt_req.specs.Options.{agreed_with, init_options, open_options, with_bits}
 use Rattle.pt_req.specs.Requests.{batch_forget, destroy, init, lookup, open_file, read, release, root}
 use Rattle.pt_req.specs.Steps.{session_of}
 use Rattle.pt_req.specs.declared.plan.Plan.{Plan}
 use Rattle.pt_attr.specs.Pattern.{tree_of}
-use Rattle.pt_law.specs.Discipline.{blank}
+use Rattle.pt_attr.specs.Access.{is_granted}
+use Rattle.pt_attr.specs.Making.{object_asked}
+use Rattle.pt_attr.specs.declared.requests.making.Made.TheVariants as made_as
+use Rattle.pt_attr.specs.Requests.{access, getattr, link, readlink, rename, rmdir, statfs, unlink}
+use Rattle.pt_law.specs.Discipline.{Notes, blank}
+use Rattle.pt_law.specs.Naming.{made}
 use Rattle.pt_fit.specs.Cause.{Asking, IsOpening, asking}
 use Rattle.pt_fit.specs.Fit.{IsFit}
-use Rattle.pt_fit.proofs.Creating.{fit_create}
+use Rattle.pt_fit.proofs.Creating.{fit_create, forbidden_from}
 use Rattle.pt_fit.proofs.Holds.{nothing_bare}
-use Rattle.pt_fit.proofs.Joined.{fit_gives, fit_look_up, fit_open_num, fit_root_open, fit_unserved}
-use Rattle.pt_fit.proofs.Parts.{Goes, fit_begin, fit_checked, fit_clear, fit_forget_all, fit_pin_handle}
-use Rattle.pt_fit.proofs.Parts.{fit_read_at, fit_release_handle}
+use Rattle.pt_fit.proofs.Setting.{fit_setattr}
+use Rattle.pt_fit.proofs.Objects.{fit_named}
+use Rattle.pt_fit.proofs.Joined.{after_any_step, fit_file_by, fit_files_by, fit_gives, fit_look_up, fit_open_num}
+use Rattle.pt_fit.proofs.Joined.{fit_root_open, fit_unserved}
+use Rattle.pt_fit.proofs.Parts.{Goes, GoesAfter, fit_begin, fit_checked, fit_clear, fit_forget_all, fit_pin_handle}
+use Rattle.pt_fit.proofs.Parts.{fit_do_call, fit_look_at, fit_read_at, fit_read_link, fit_release_handle, fit_stat_fs}
+use Rattle.pt_fit.proofs.Parts.{Seen}
 
 fit_root : (asked : Asking) (plan : Plan) → Goes asked [] (root plan) [] [] blank
 fit_root asked plan = fit_begin _ refl (λ session.
@@ -65,6 +86,96 @@ fit_read plan who inode handle size offset = fit_begin _ refl (λ session.
     (fit_pin_handle handle inode _ nothing_bare (λ row fd.
     fit_read_at fd offset size row _ (λ bytes. fit_gives (answer.Read bytes) (λ path. (tt, tt, tt))))))
 
+fit_readlink : (plan : Plan) (who : Context) (inode : ℕ) →
+    Goes (asking plan who (request.Readlink inode)) [] (readlink inode) [] [] blank
+fit_readlink plan who inode = fit_begin _ refl (λ session.
+    fit_file_by inode _ nothing_bare (λ row fd.
+    fit_read_link fd row _ (λ target. fit_gives (answer.Link target) (λ path. (tt, tt, tt)))))
+
+fit_statfs : (plan : Plan) (who : Context) (inode : ℕ) →
+    Goes (asking plan who (request.StatFs inode)) [] (statfs inode) [] [] blank
+fit_statfs plan who inode = fit_begin _ refl (λ session.
+    fit_file_by inode _ nothing_bare (λ row fd.
+    fit_stat_fs fd row _ (λ told. fit_gives (answer.FsStat told) (λ path. (tt, tt, tt)))))
+
+fit_getattr : (plan : Plan) (who : Context) (inode : ℕ) →
+    Goes (asking plan who (request.GetAttr inode)) [] (getattr plan inode) [] [] blank
+fit_getattr plan who inode = fit_begin _ refl (λ session.
+    fit_file_by inode _ nothing_bare (λ row fd.
+    fit_look_at fd _ (((hold.Pin row (Some fd), _, here, refl), tt), tt) (λ told.
+    after_any_step (
+    fit_gives (answer.Attr (attr_of plan told 0) plan.config.attr_timeout) (λ path. (tt, tt, tt))))))
+
+-- what the status does not grant is refused, of which it is the cause
+fit_access : (plan : Plan) (who : Context) (inode mask : ℕ) →
+    Goes (asking plan who (request.Access inode mask)) [] (access plan who inode mask) [] [] blank
+fit_access plan who inode mask = fit_begin _ refl (λ session.
+    fit_file_by inode _ nothing_bare (λ row fd.
+    fit_look_at fd _ (((hold.Pin row (Some fd), _, here, refl), tt), tt) (λ told.
+    decided told (is_granted who mask (attr_of plan told 0)) refl)))
+  where
+    decided : {fd : Fd} {seen : List Seen} {holds : List Hold} {marks : List ℕ} {notes : Notes} (told : Stat)
+        (granted : Bool) → is_granted who mask (attr_of plan told 0) ≡ granted →
+        GoesAfter (made (Calls (call.Stat fd)) (Host (host.Ok (value.Stat told))))
+        (asking plan who (request.Access inode mask)) seen
+        (Gives (if granted then answer.Done else answer.Refused eacces)) holds marks notes
+    decided told true e = record { on = λ path s. (tt, tt, tt) }
+    decided told false e = record { on = λ path s. (tt, inr (inr ((told, inl refl, e), refl)), tt) }
+
+fit_unlink : (plan : Plan) (who : Context) (parent : ℕ) (name : List ℕ) →
+    Goes (asking plan who (request.Unlink parent name)) [] (unlink parent name) [] [] blank
+fit_unlink plan who parent name = fit_begin _ refl (λ session.
+    fit_checked (is_bad_name name) _ (λ bad. (bad, refl))
+    (fit_file_by parent _ nothing_bare (λ row dir.
+    fit_do_call (call.Unlink dir name) _
+    (record { holds = λ told these. refl; notes = λ told these. refl })
+    (((hold.Pin row (Some dir), _, here, refl), tt), tt) (refl, tt)
+    (fit_gives answer.Done (λ path. (tt, tt, tt))))))
+
+fit_rmdir : (plan : Plan) (who : Context) (parent : ℕ) (name : List ℕ) →
+    Goes (asking plan who (request.Rmdir parent name)) [] (rmdir parent name) [] [] blank
+fit_rmdir plan who parent name = fit_begin _ refl (λ session.
+    fit_checked (is_bad_name name) _ (λ bad. (bad, refl))
+    (fit_file_by parent _ nothing_bare (λ row dir.
+    fit_do_call (call.RemoveDir dir name) _
+    (record { holds = λ told these. refl; notes = λ told these. refl })
+    (((hold.Pin row (Some dir), _, here, refl), tt), tt) (refl, tt)
+    (fit_gives answer.Done (λ path. (tt, tt, tt))))))
+
+fit_rename : (plan : Plan) (who : Context) (olddir : ℕ) (oldname : List ℕ) (newdir : ℕ) (newname : List ℕ)
+    (flags : ℕ) →
+    Goes (asking plan who (request.Rename olddir oldname newdir newname flags)) []
+    (rename olddir oldname newdir newname flags) [] [] blank
+fit_rename plan who olddir oldname newdir newname flags = fit_begin _ refl (λ session.
+    fit_checked (is_bad_name oldname) _ (λ bad. (inl bad, refl))
+    (fit_checked (is_bad_name newname) _ (λ bad. (inr bad, refl))
+    (fit_files_by olddir newdir _ (λ one other from to.
+    fit_do_call (call.Rename from oldname to newname flags) _
+    (record { holds = λ told these. refl; notes = λ told these. refl }) (
+      (
+        (hold.Pin one (Some from), _, there here, refl),
+        ((hold.Pin other (Some to), _, here, refl), tt),
+      ),
+      tt,
+    ) (refl, tt)
+    (fit_gives answer.Done (λ path. (tt, tt, tt)))))))
+
+fit_link : (plan : Plan) (who : Context) (inode newparent : ℕ) (newname : List ℕ) →
+    Goes (asking plan who (request.Link inode newparent newname)) [] (link plan inode newparent newname) [] [] blank
+fit_link plan who inode newparent newname = fit_begin _ refl (λ session.
+    fit_checked (is_bad_name newname) _ (λ bad. (bad, refl))
+    (fit_files_by inode newparent _ (λ one other from dir.
+    fit_do_call (call.MakeLink from dir newname) _
+    (record { holds = λ told these. refl; notes = λ told these. refl }) (
+      (
+        (hold.Pin one (Some from), _, there here, refl),
+        ((hold.Pin other (Some dir), _, here, refl), tt),
+      ),
+      tt,
+    ) (refl, tt)
+    (fit_look_up plan session newparent newname _ (λ top. refl) refl (λ looked later l.
+    fit_gives (answer.Entry looked.entry) (λ path. (refl, tt, tt)))))))
+
 fits : (plan : Plan) (seat : HostSeat) (who : Context) (what : Request) →
     Goes (asking plan who what) [] (tree_of plan seat who what) [] [] blank
 fits plan seat who (request.Init capable) = fit_init (asking plan who (request.Init capable)) plan capable
@@ -85,6 +196,29 @@ fits plan seat who (request.ReleaseDir inode handle) =
 fits plan seat who (request.Read inode handle size offset) = fit_read plan who inode handle size offset
 fits plan seat who (request.Create parent name mode kill flags umask ext) =
     fit_create plan who parent name mode kill flags umask ext seat
+fits plan seat who (request.Mkdir parent name mode umask ext) =
+    fit_named plan seat who (request.Mkdir parent name mode umask ext)
+    (object_asked who parent name ext (made_as.Directory mode)) (λ bad. inl (bad, refl)) (λ bad. absurd (cc))
+    (λ session none. inr (forbidden_from _ _ _ _ none, refl)) (λ agreed blocks. blocks) (λ entry. tt)
+fits plan seat who (request.Mknod parent name mode rdev umask ext) =
+    fit_named plan seat who (request.Mknod parent name mode rdev umask ext)
+    (object_asked who parent name ext (made_as.Node mode rdev)) (λ bad. inl (bad, refl)) (λ bad. absurd (cc))
+    (λ session none. inr (forbidden_from _ _ _ _ none, refl)) (λ agreed blocks. blocks) (λ entry. tt)
+fits plan seat who (request.Symlink target parent name ext) =
+    fit_named plan seat who (request.Symlink target parent name ext)
+    (object_asked who parent name ext (made_as.Link target)) (λ bad. inl (inl (bad, refl))) (λ bad. inr (bad, refl))
+    (λ session none. inl (inr (forbidden_from _ _ _ _ none, refl))) (λ agreed blocks. blocks) (λ entry. tt)
+fits plan seat who (request.Readlink inode) = fit_readlink plan who inode
+fits plan seat who (request.StatFs inode) = fit_statfs plan who inode
+fits plan seat who (request.GetAttr inode) = fit_getattr plan who inode
+fits plan seat who (request.Access inode mask) = fit_access plan who inode mask
+fits plan seat who (request.Unlink parent name) = fit_unlink plan who parent name
+fits plan seat who (request.Rmdir parent name) = fit_rmdir plan who parent name
+fits plan seat who (request.Link inode newparent newname) = fit_link plan who inode newparent newname
+fits plan seat who (request.Rename olddir oldname newdir newname flags) =
+    fit_rename plan who olddir oldname newdir newname flags
+fits plan seat who (request.SetAttr inode handle valid attr) = fit_setattr plan who inode handle valid attr
+fits plan seat who (request.Other opcode) = fit_unserved (asking plan who (request.Other opcode)) refl
 fits plan seat who what = fit_unserved (asking plan who what) ((λ no. no), refl)
 
 -- Each request's tree is fit.

@@ -3,10 +3,8 @@ use Rattle.std.proofs.Common.{◌≡◌, inl, ℕ, Bool, true, false, List, [], 
 use Rattle.std.proofs.Common.{None, refl, sym, ap, subst, ◌∙◌, arith}
 use Rattle.std.proofs.Common.{not}
 use Rattle.pt_host.specs.Call.{Call}
-use Rattle.pt_host.specs.Flags.{includes, o_creat}
 use Rattle.pt_host.specs.Seat.{IsStartingSeat}
 use Rattle.pt_host.specs.declared.edit.Edit.{Edit}
-use Rattle.pt_host.specs.declared.flags.OpenFlags.{OpenFlags}
 use Rattle.pt_host.specs.declared.op.KeptHostOp.TheVariants as call
 use Rattle.pt_host.specs.declared.reply.HostReply.TheVariants as host
 use Rattle.pt_host.specs.declared.seat.HostSeat.{HostSeat}
@@ -28,18 +26,17 @@ use Rattle.pt_frame.specs.declared.act.ActReply.{ActReply}
 use Rattle.pt_frame.specs.declared.act.ActReply.TheVariants.{Event, Host, NoCopy}
 use Rattle.pt_frame.specs.declared.finish.Finish.{Finish}
 use Rattle.pt_req.specs.Asker.{taken_on, asker_from, group_of}
-use Rattle.pt_req.specs.Requests.{tree_of}
 use Rattle.pt_req.specs.declared.plan.Plan.{Plan}
-use Rattle.pt_req.proofs.Tending.{requests_tend}
-use Rattle.pt_req.proofs.Walking.{Walk, is_making, OfMakings, each_request}
-use Rattle.pt_attr.specs.Pattern.{Asked, Requests, Edits, grammar_for}
+use Rattle.pt_req.proofs.Walking.{OfAsker, Walk, is_making}
+use Rattle.pt_attr.specs.Pattern.{Asked, Requests, Edits, grammar_for, tree_of}
+use Rattle.pt_attr.proofs.Answering.{requests_tend}
+use Rattle.pt_attr.proofs.Walking.{OfMakings, each_request}
 use Rattle.pt_law.specs.Told.{AllMayBeTold}
 use Rattle.pt_law.specs.Under.{Identity, makes_object, IsCalledAs, IsMadeAs, IsUnrefused, IsSeated, AllSeatsAnswer}
 use Rattle.pt_law.specs.Wearing.{Seats}
 use Rattle.pt_law.proofs.Seated.{job_seated, job_seated_cut}
 use Rattle.pt_law.proofs.Wearing.{step_seat, step_made, deed_leaves}
-use Rattle.pt_fit.specs.Asker.{identity_by, asker_in, asker_for}
-use Rattle.pt_fit.proofs.Flags.{creates}
+use Rattle.pt_fit.specs.Asker.{identity_by, asker_by, asker_in, asker_for}
 use Rattle.pt_fit.proofs.Guises.{identity_under, guised}
 
 is_whole : (seat : HostSeat) → IsStartingSeat seat → IsWhole seat
@@ -83,9 +80,15 @@ asked_plainly asker seat deed next own none so = (
 )
 
 -- what is to hold of a making: it is made from this seat, as whoever asks
-abbrev MadeBy : Option Identity → HostSeat → Credentials → HostSeat → OpenFlags → Type 0
-MadeBy asker seat creds own flags =
-    (own ≡ seat) × (includes flags.0 o_creat ≡ true) × (asker ≡ Some (identity_under creds seat))
+abbrev MadeBy : Option Identity → HostSeat → Credentials → HostSeat → Type 0
+MadeBy asker seat creds own = (own ≡ seat) × (asker ≡ Some (identity_under creds seat))
+
+making_plain : (making : Call) → is_making (Calls making) ≡ true → is_of_seat (Calls making) ≡ false
+making_plain (call.OpenAt dir name flags mode) is = refl
+making_plain (call.MakeDir dir name mode) is = refl
+making_plain (call.MakeNode dir name mode rdev) is = refl
+making_plain (call.SymLink dir name target) is = refl
+making_plain asked is = absurd (cc)
 
 -- under no scope
 no_scope : (asker : Option Identity) (seat : HostSeat) → IsStartingSeat seat →
@@ -99,11 +102,12 @@ no_scope asker seat starts = record {
       asked_plainly asker seat deed (λ later. Gives answer.NoMemory) own none (λ later. (refl, λ e. refl));
   brackets = λ rest so. so;
   shuts = λ passes rest so. (refl, refl, so);
-  makes_as = λ creds own dir name flags mode next may so.
+  shuts_after = λ told passes rest so. (refl, refl, so);
+  makes_as = λ creds own making next is may so.
       subst (λ (z : HostSeat). Seats asker seat (taken_on (calls_of (cred_steps creds z))
-      (Asks (Calls (call.OpenAt dir name flags mode)) (λ told. Bares (next told)))) [] seat) (sym may.0)
-      (guised asker seat creds dir name flags mode next (is_whole seat starts) (few_groups seat starts) may.1 may.2
-      so);
+      (Asks (Calls making) (λ told. Bares (next told)))) [] seat) (sym may.0)
+      (guised asker seat creds making next (is_whole seat starts) (few_groups seat starts) (making_plain making is)
+      (same_making making ∙ is) may.1 so);
 }
 
 -- as whom it is made
@@ -118,14 +122,21 @@ asked_by seat (Some uid) (Some gid) None keeps creds e = absurd (cc)
 asked_by seat (Some uid) None group keeps creds e = absurd (cc)
 asked_by seat None gid group keeps creds e = absurd (cc)
 
-of_makings : (plan : Plan) (seat : HostSeat) (who : Context) (asked : Request) →
-    OfMakings (MadeBy (asker_in plan seat who asked) seat) plan seat who asked
-of_makings plan seat who (request.Create parent name mode kill flags umask ext) = λ session creds e. (
+of_asker : (plan : Plan) (seat : HostSeat) (who : Context) (group : Option ℕ) →
+    OfAsker (MadeBy (asker_by plan seat who group) seat) plan seat who group
+of_asker plan seat who group = λ session creds e. (
   refl,
-  creates flags,
-  asked_by seat (to_host plan.uid_map who.uid) (to_host plan.gid_map who.gid) (group_of plan ext.sup_gid)
+  asked_by seat (to_host plan.uid_map who.uid) (to_host plan.gid_map who.gid) (group_of plan group)
       (not session.agreed.sup_group) creds e,
 )
+
+of_makings : (plan : Plan) (seat : HostSeat) (who : Context) (asked : Request) →
+    OfMakings (MadeBy (asker_in plan seat who asked) seat) plan seat who asked
+of_makings plan seat who (request.Create parent name mode kill flags umask ext) =
+    of_asker plan seat who ext.sup_gid
+of_makings plan seat who (request.Mkdir parent name mode umask ext) = of_asker plan seat who ext.sup_gid
+of_makings plan seat who (request.Mknod parent name mode rdev umask ext) = of_asker plan seat who ext.sup_gid
+of_makings plan seat who (request.Symlink target parent name ext) = of_asker plan seat who ext.sup_gid
 of_makings plan seat who asked = tt
 
 request_seats : (plan : Plan) (seat : HostSeat) (who : Context) (asked : Request) → IsStartingSeat seat →

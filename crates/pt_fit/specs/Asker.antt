@@ -23,10 +23,17 @@ identity_by seat (Some uid) (Some gid) (Some group) =
     })
 identity_by seat uid gid group = None
 
--- no request but `create` makes an object today
+-- who asks, and tells this group
+abbrev pub asker_by : Plan → HostSeat → Context → Option ℕ → Option Identity
+asker_by plan seat who group =
+    identity_by seat (to_host plan.uid_map who.uid) (to_host plan.gid_map who.gid) (group_of plan group)
+
+-- no other request makes an object
 abbrev pub asker_in : Plan → HostSeat → Context → Request → Option Identity
-asker_in plan seat who (request.Create parent name mode kill flags umask ext) =
-    identity_by seat (to_host plan.uid_map who.uid) (to_host plan.gid_map who.gid) (group_of plan ext.sup_gid)
+asker_in plan seat who (request.Create parent name mode kill flags umask ext) = asker_by plan seat who ext.sup_gid
+asker_in plan seat who (request.Mkdir parent name mode umask ext) = asker_by plan seat who ext.sup_gid
+asker_in plan seat who (request.Mknod parent name mode rdev umask ext) = asker_by plan seat who ext.sup_gid
+asker_in plan seat who (request.Symlink target parent name ext) = asker_by plan seat who ext.sup_gid
 asker_in plan seat who asked = None
 
 -- an edit is no request

@@ -1,12 +1,14 @@
 -- Believed. The cause of an answer that refuses or that memory ran out: the request itself, or its steps; of an edit
 -- its one step.
-use Rattle.std.specs.Prelude.{◌≡◌, ◌⊎◌, ◌↔◌, Bool, true, false, List, [], ◌∷◌, Option, None, Some}
+use Rattle.std.specs.Prelude.{◌≡◌, ◌⊎◌, ◌↔◌, ℕ, Bool, true, false, List, [], ◌∷◌, Option, None, Some}
+use Rattle.std.specs.List.{list_any}
 use Rattle.pt_host.specs.Call.{Call}
-use Rattle.pt_host.specs.Errno.{errno_of, eperm, ebadf, eio, einval, enfile, eoverflow, eopnotsupp, estale}
+use Rattle.pt_host.specs.Errno.{errno_of, eperm, eacces, ebadf, eio, einval, enfile, eoverflow, eopnotsupp, estale}
 use Rattle.pt_host.specs.Sorts.{Sort, OpensWith, EndsFd, OfSeat, Plain, sort_of}
 use Rattle.pt_host.specs.declared.edit.Edit.{Edit}
 use Rattle.pt_host.specs.declared.ids.Errno.{Errno}
 use Rattle.pt_host.specs.declared.ids.ObjIds.{ObjIds}
+use Rattle.pt_host.specs.declared.stat.Stat.{Stat}
 use Rattle.pt_host.specs.declared.op.KeptHostOp.TheVariants as call
 use Rattle.pt_host.specs.declared.reply.HostReply.TheVariants as host
 use Rattle.pt_host.specs.declared.reply.HostValue.TheVariants as value
@@ -18,11 +20,13 @@ use Rattle.pt_session.specs.declared.reply.EventReply.TheVariants.{Began, Refuse
 use Rattle.pt_session.specs.declared.reply.EventRefusal.TheVariants.{NotLive, Overtaken, NoSlot, Last, Live}
 use Rattle.pt_iface.specs.declared.answer.Answer.{Answer}
 use Rattle.pt_iface.specs.declared.answer.Answer.TheVariants as answer
+use Rattle.pt_iface.specs.declared.flags.SetattrValid.{SetattrValid}
 use Rattle.pt_iface.specs.declared.request.Context.{Context}
 use Rattle.pt_iface.specs.declared.request.Extensions.{Extensions}
 use Rattle.pt_iface.specs.declared.request.Request.{Request}
 use Rattle.pt_iface.specs.declared.request.Request.TheVariants as request
 use Rattle.pt_iface.specs.declared.request.SecContext.{SecContext}
+use Rattle.pt_iface.specs.declared.request.SetattrIn.{SetattrIn}
 use Rattle.pt_frame.specs.Deed.{Deed, Calls, Changes, Step}
 use Rattle.pt_frame.specs.Memory.{RanOut}
 use Rattle.pt_frame.specs.declared.act.ActReply.{ActReply}
@@ -30,8 +34,11 @@ use Rattle.pt_frame.specs.declared.act.ActReply.TheVariants.{Event, Host}
 use Rattle.pt_req.specs.Asker.{group_of}
 use Rattle.pt_req.specs.Attributes.{is_blocked}
 use Rattle.pt_req.specs.Creating.{are_same}
-use Rattle.pt_req.specs.Entries.{is_bad_name, is_bad_offset, can_open}
+use Rattle.pt_req.specs.Entries.{attr_of, is_bad_name, is_bad_offset, can_open}
 use Rattle.pt_req.specs.declared.plan.Plan.{Plan}
+use Rattle.pt_attr.specs.Access.{is_granted}
+use Rattle.pt_attr.specs.Making.{is_nul}
+use Rattle.pt_attr.specs.Setting.{is_missized, opens_anew, sets_gid, sets_uid}
 use Rattle.pt_attr.specs.Pattern.{IsServed}
 use Rattle.pt_attr.specs.Pattern.{Asked, Requests, Edits}
 
@@ -44,11 +51,12 @@ pub record Asking : Type 0 where
 abbrev pub asking : Plan → Context → Request → Asking
 asking plan who what = record { plan = plan; who = who; request = what }
 
--- it opens a number, as `create` does where the name is there
+-- it opens a number, as `create` does where the name is there, and `setattr` for a size that no handle sets
 abbrev pub IsOpening : Request → Type 0
 IsOpening (request.Open inode kill flags) = Unit {0}
 IsOpening (request.OpenDir inode flags) = Unit {0}
 IsOpening (request.Create parent name mode kill flags umask ext) = Unit {0}
+IsOpening (request.SetAttr inode handle valid attr) = opens_anew handle valid ≡ true
 IsOpening asked = ⊥
 
 -- the call was refused, or failed, with this error number
@@ -57,16 +65,24 @@ TellsErrno (Host (host.Refused errno)) cause = cause ≡ errno
 TellsErrno (Host (host.Fault errno)) cause = cause ≡ errno
 TellsErrno told cause = ⊥
 
--- the one request of today that takes a name away: that of what it made, where its context was refused
+-- the requests that take a name away again: that of what they made, where its context was refused
 abbrev pub takes_back : Request → Bool
 takes_back (request.Create parent name mode kill flags umask ext) = true
+takes_back (request.Mknod parent name mode rdev umask ext) = true
+takes_back (request.Symlink target parent name ext) = true
 takes_back asked = false
+
+-- and that of a directory
+abbrev pub takes_dir_back : Request → Bool
+takes_dir_back (request.Mkdir parent name mode umask ext) = true
+takes_dir_back asked = false
 
 -- What a call is told may be passed over: a capability that is not raised is done without, and a name that does not
 -- go again stays.
 abbrev pub is_passed_over : Request → Call → Bool
 is_passed_over asked (call.RaiseCap caps) = true
 is_passed_over asked (call.Unlink dir name) = takes_back asked
+is_passed_over asked (call.RemoveDir dir name) = takes_dir_back asked
 is_passed_over asked made = false
 
 -- A call causes it by what it was answered; what ends a descriptor causes none, since its reply is passed over.
@@ -86,6 +102,9 @@ IsBlockedLabel agreed (Some label) = is_blocked agreed label.name ≡ true
 
 abbrev pub BlocksLabel : Negotiated → Request → Type 0
 BlocksLabel agreed (request.Create parent name mode kill flags umask ext) = IsBlockedLabel agreed ext.secctx
+BlocksLabel agreed (request.Mkdir parent name mode umask ext) = IsBlockedLabel agreed ext.secctx
+BlocksLabel agreed (request.Mknod parent name mode rdev umask ext) = IsBlockedLabel agreed ext.secctx
+BlocksLabel agreed (request.Symlink target parent name ext) = IsBlockedLabel agreed ext.secctx
 BlocksLabel agreed asked = ⊥
 
 -- An event causes it by its refusal; what gives a hold back causes none. A number that stands for neither a regular
@@ -126,24 +145,37 @@ abbrev pub SomeCauses : Request → List Step → Errno → Type 0
 SomeCauses asked [] cause = ⊥
 SomeCauses asked (step ∷ steps) cause = StepCauses asked step.deed step.reply cause ⊎ SomeCauses asked steps cause
 
--- a descriptor was looked at: what it is open on has these ids
-abbrev pub TellsIds : Option Deed → ActReply → ObjIds → Type 0
-TellsIds (Some (Calls (call.Stat fd))) (Host (host.Ok (value.Stat stat))) ids = stat.ids ≡ ids
-TellsIds deed told ids = ⊥
+-- a descriptor was looked at, and this was told of what it is open on
+abbrev pub TellsStat : Option Deed → ActReply → Stat → Type 0
+TellsStat (Some (Calls (call.Stat fd))) (Host (host.Ok (value.Stat told))) stat = told ≡ stat
+TellsStat deed told stat = ⊥
 
--- one of the steps told these ids
-abbrev pub SomeTells : List Step → ObjIds → Type 0
-SomeTells [] ids = ⊥
-SomeTells (step ∷ steps) ids = TellsIds step.deed step.reply ids ⊎ SomeTells steps ids
+-- one of the steps told this
+abbrev pub SomeTells : List Step → Stat → Type 0
+SomeTells [] stat = ⊥
+SomeTells (step ∷ steps) stat = TellsStat step.deed step.reply stat ⊎ SomeTells steps stat
+
+-- and these ids
+abbrev pub SomeTellsIds : List Step → ObjIds → Type 0
+SomeTellsIds steps ids = (stat : Stat) × SomeTells steps stat × (stat.ids ≡ ids)
 
 -- Two of the steps told ids of two objects: of what was made, and of what its name led to then, which is stale.
 abbrev pub IsStale : List Step → Type 0
 IsStale steps =
-    (made : ObjIds) × (found : ObjIds) × SomeTells steps made × SomeTells steps found × (are_same made found ≡ false)
+    (made : ObjIds) × (found : ObjIds) × SomeTellsIds steps made × SomeTellsIds steps found
+    × (are_same made found ≡ false)
 
-abbrev pub StaleCause : Request → List Step → Errno → Type 0
-StaleCause (request.Create parent name mode kill flags umask ext) steps cause = IsStale steps × (cause ≡ estale)
-StaleCause asked steps cause = ⊥
+-- One of the steps told of an object that is not granted to who asks, by the guest's ids.
+abbrev pub IsDenied : Plan → Context → ℕ → List Step → Type 0
+IsDenied plan who mask steps =
+    (stat : Stat) × SomeTells steps stat × (is_granted who mask (attr_of plan stat 0) ≡ false)
+
+-- what the steps were told of objects causes it
+abbrev pub TellsCause : Plan → Context → Request → List Step → Errno → Type 0
+TellsCause plan who (request.Create parent name mode kill flags umask ext) steps cause =
+    IsStale steps × (cause ≡ estale)
+TellsCause plan who (request.Access inode mask) steps cause = IsDenied plan who mask steps × (cause ≡ eacces)
+TellsCause plan who asked steps cause = ⊥
 
 -- the maps forbid one of the ids of who asks: of its user, its group, or the group that the request tells
 abbrev pub IsForbidden : Plan → Context → Extensions → Type 0
@@ -151,19 +183,42 @@ IsForbidden plan who ext =
     (to_host plan.uid_map who.uid ≡ None) ⊎ (to_host plan.gid_map who.gid ≡ None)
     ⊎ (group_of plan ext.sup_gid ≡ None)
 
--- The request itself causes it: a lookup or a making of what is no name, an offset past the last that a file can
--- have, who asks, or a function that there is not, `ENOSYS`.
+-- What is to be made has no name, or who asks is forbidden.
+abbrev pub MakingCause : Plan → Context → List ℕ → Extensions → Errno → Type 0
+MakingCause plan who name ext cause =
+    ((is_bad_name name ≡ true) × (cause ≡ einval)) ⊎ (IsForbidden plan who ext × (cause ≡ eperm))
+
+-- the maps forbid an id that is to be set
+abbrev pub IsForbiddenOwner : Plan → SetattrValid → SetattrIn → Type 0
+IsForbiddenOwner plan valid attr =
+    ((sets_uid valid ≡ true) × (to_host plan.uid_map attr.uid ≡ None))
+    ⊎ ((sets_gid valid ≡ true) × (to_host plan.gid_map attr.gid ≡ None))
+
+-- The request itself causes it: what is to be looked up, made, moved or taken away is no name, the target of a
+-- symbolic link has a NUL, an offset or a size is past the last that a file can have, an id of who asks or of an
+-- owner is forbidden, or it is a function that there is not, `ENOSYS`.
 abbrev pub OwnCause : Plan → Context → Request → Errno → Type 0
 OwnCause plan who (request.Lookup parent name) cause = (is_bad_name name ≡ true) × (cause ≡ einval)
 OwnCause plan who (request.Read inode handle size offset) cause = (is_bad_offset offset ≡ true) × (cause ≡ einval)
-OwnCause plan who (request.Create parent name mode kill flags umask ext) cause =
-    ((is_bad_name name ≡ true) × (cause ≡ einval)) ⊎ (IsForbidden plan who ext × (cause ≡ eperm))
+OwnCause plan who (request.Create parent name mode kill flags umask ext) cause = MakingCause plan who name ext cause
+OwnCause plan who (request.Mkdir parent name mode umask ext) cause = MakingCause plan who name ext cause
+OwnCause plan who (request.Mknod parent name mode rdev umask ext) cause = MakingCause plan who name ext cause
+OwnCause plan who (request.Symlink target parent name ext) cause =
+    MakingCause plan who name ext cause ⊎ ((list_any is_nul target ≡ true) × (cause ≡ einval))
+OwnCause plan who (request.Unlink parent name) cause = (is_bad_name name ≡ true) × (cause ≡ einval)
+OwnCause plan who (request.Rmdir parent name) cause = (is_bad_name name ≡ true) × (cause ≡ einval)
+OwnCause plan who (request.Link inode newparent newname) cause = (is_bad_name newname ≡ true) × (cause ≡ einval)
+OwnCause plan who (request.Rename olddir oldname newdir newname flags) cause =
+    ((is_bad_name oldname ≡ true) ⊎ (is_bad_name newname ≡ true)) × (cause ≡ einval)
+OwnCause plan who (request.SetAttr inode handle valid attr) cause =
+    ((is_missized valid attr ≡ true) × (cause ≡ einval)) ⊎ (IsForbiddenOwner plan valid attr × (cause ≡ eperm))
+OwnCause plan who (request.Other opcode) cause = cause ≡ errno_of 38
 OwnCause plan who asked cause = (IsServed asked → ⊥) × (cause ≡ errno_of 38)
 
 abbrev pub HasCause : Asking → List Step → Errno → Type 0
 HasCause asked steps cause =
     OwnCause asked.plan asked.who asked.request cause ⊎ SomeCauses asked.request steps cause
-    ⊎ StaleCause asked.request steps cause
+    ⊎ TellsCause asked.plan asked.who asked.request steps cause
 
 -- an answer that refuses, or that memory ran out, has its cause
 abbrev pub IsCaused : Asking → List Step → Answer → Type 0

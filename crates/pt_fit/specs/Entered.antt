@@ -59,8 +59,12 @@ IsEntered plan start turns job parent name entry =
     (places : EntryPlaces plan turns job parent name entry)
     × ((given : World) (path : GivingPath start places.given given) → IsGiven path)
 
--- the parent and the name that are asked for, by a lookup or by `create`
+-- the parent and the name that are asked for, by a lookup or a making; by `link` the new ones
 abbrev pub name_asked : Asked → Option (ℕ × List ℕ)
 name_asked (Requests who (request.Lookup parent name)) = Some (parent, name)
 name_asked (Requests who (request.Create parent name mode kill flags umask ext)) = Some (parent, name)
+name_asked (Requests who (request.Mkdir parent name mode umask ext)) = Some (parent, name)
+name_asked (Requests who (request.Mknod parent name mode rdev umask ext)) = Some (parent, name)
+name_asked (Requests who (request.Symlink target parent name ext)) = Some (parent, name)
+name_asked (Requests who (request.Link inode newparent newname)) = Some (newparent, newname)
 name_asked asked = None

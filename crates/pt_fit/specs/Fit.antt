@@ -19,9 +19,13 @@ use Rattle.pt_law.specs.Keeps.{uncovered, down_to, MayMake, MayOpen, Lasts, Afte
 use Rattle.pt_law.specs.Naming.{made}
 use Rattle.pt_fit.specs.Cause.{Asking, HasCause}
 
--- an entry is the answer of a lookup, and one with a handle that of `create`
+-- an entry is the answer of a lookup, of a making and of `link`, and one with a handle that of `create`
 abbrev pub MayAnswer : Answer → Request → Type 0
 MayAnswer (answer.Entry entry) (request.Lookup parent name) = Unit {0}
+MayAnswer (answer.Entry entry) (request.Mkdir parent name mode umask ext) = Unit {0}
+MayAnswer (answer.Entry entry) (request.Mknod parent name mode rdev umask ext) = Unit {0}
+MayAnswer (answer.Entry entry) (request.Symlink target parent name ext) = Unit {0}
+MayAnswer (answer.Entry entry) (request.Link inode newparent newname) = Unit {0}
 MayAnswer (answer.Entry entry) asked = ⊥
 MayAnswer (answer.Created entry handle options) (request.Create parent name mode kill flags umask ext) = Unit {0}
 MayAnswer (answer.Created entry handle options) asked = ⊥

@@ -1,15 +1,32 @@
 -- Believed. Which requests a number that is gone refuses.
 use Rattle.std.specs.Prelude.{◌≡◌, ℕ, false}
+use Rattle.std.specs.List.{list_any}
 use Rattle.pt_iface.specs.declared.request.Request.{Request}
 use Rattle.pt_iface.specs.declared.request.Request.TheVariants as request
 use Rattle.pt_req.specs.Entries.{is_bad_name}
+use Rattle.pt_attr.specs.Setting.{is_missized}
+use Rattle.pt_attr.specs.Making.{is_nul}
 
--- The request is on the number: it resolves it before all else, a bad name aside. One by a handle is not, and serves
--- on.
+-- The request is on the number: it resolves it before all else, a bad name or size aside. One by a handle is not, and
+-- serves on.
 abbrev pub IsOn : ℕ → Request → Type 0
 IsOn number (request.Lookup parent name) = (parent ≡ number) × (is_bad_name name ≡ false)
 IsOn number (request.Open inode kill flags) = inode ≡ number
 IsOn number (request.OpenDir inode flags) = inode ≡ number
 IsOn number (request.Create parent name mode kill flags umask ext) =
     (parent ≡ number) × (is_bad_name name ≡ false)
+IsOn number (request.Mkdir parent name mode umask ext) = (parent ≡ number) × (is_bad_name name ≡ false)
+IsOn number (request.Mknod parent name mode rdev umask ext) = (parent ≡ number) × (is_bad_name name ≡ false)
+IsOn number (request.Symlink target parent name ext) =
+    (parent ≡ number) × (is_bad_name name ≡ false) × (list_any is_nul target ≡ false)
+IsOn number (request.Readlink inode) = inode ≡ number
+IsOn number (request.StatFs inode) = inode ≡ number
+IsOn number (request.GetAttr inode) = inode ≡ number
+IsOn number (request.Access inode mask) = inode ≡ number
+IsOn number (request.Unlink parent name) = (parent ≡ number) × (is_bad_name name ≡ false)
+IsOn number (request.Rmdir parent name) = (parent ≡ number) × (is_bad_name name ≡ false)
+IsOn number (request.Link inode newparent newname) = (inode ≡ number) × (is_bad_name newname ≡ false)
+IsOn number (request.Rename olddir oldname newdir newname flags) =
+    (olddir ≡ number) × (is_bad_name oldname ≡ false) × (is_bad_name newname ≡ false)
+IsOn number (request.SetAttr inode handle valid attr) = (inode ≡ number) × (is_missized valid attr ≡ false)
 IsOn number asked = ⊥

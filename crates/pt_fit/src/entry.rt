@@ -1,4 +1,4 @@
-ghost use Rattle.std.specs.Prelude.{◌≡◌, ℕ, Bool, true, List, ◌∷◌, ◌++◌};
+ghost use Rattle.std.specs.Prelude.{◌≡◌, ℕ, Bool, true, List, ◌∷◌, ◌++◌, Some};
 ghost use Rattle.pt_host.specs.declared.seat.HostSeat.{HostSeat};
 ghost use Rattle.pt_session.specs.declared.form.Negotiated.{Negotiated};
 ghost use Rattle.pt_session.specs.declared.event.KeptEvent.TheVariants as change;
@@ -21,13 +21,14 @@ ghost use Rattle.pt_req.specs.Parts.{look_up};
 ghost use Rattle.pt_req.specs.declared.begun.BegunSession.{BegunSession};
 ghost use Rattle.pt_req.specs.declared.parts.looked.Looked.{Looked};
 ghost use Rattle.pt_req.specs.declared.plan.Plan.{Plan};
-ghost use Rattle.pt_attr.specs.Pattern.{grammar_of};
+ghost use Rattle.pt_attr.specs.Pattern.{Asked, grammar_for, grammar_of};
 ghost use Rattle.pt_law.specs.World.{World, Turn, steps_of};
 ghost use Rattle.pt_law.specs.Laws.{Starts};
 ghost use Rattle.pt_law.specs.Discipline.{AreDisciplined};
 ghost use Rattle.pt_law.specs.Naming.{made};
+ghost use Rattle.pt_law.specs.Told.{AllMayBeTold};
 ghost use Rattle.pt_fit.specs.Opened.{IsLookedUp};
-ghost use Rattle.pt_fit.specs.Entered.{IsEntered};
+ghost use Rattle.pt_fit.specs.Entered.{IsEntered, name_asked};
 ghost use Rattle.pt_fit.specs.Created.{IsCreated};
 
 /// A lookup that is answered with an entry begins, then makes the steps by which it came to the entry, and then gives
@@ -44,6 +45,24 @@ pub fn lookup_opens()
         Starts limit start → AreDisciplined bound turns →
         Belongs (grammar_of plan seat who (request.Lookup parent name)) (steps_of job turns)
         (finish.Answer (answer.Entry entry)) → IsEntered plan start turns job parent name entry }
+{}
+
+/// Whatever is asked, a job that is answered with an entry begins, comes to a lookup of the name that is asked for,
+/// by which it had the entry, and goes on. In every run its number stands for what that name led to, in the
+/// directory that its parent stood for.
+pub fn entry_opens()
+    ensures opened { (plan : Plan) (seat : HostSeat) (asked : Asked) (steps : List Step) (entry : Entry) →
+        AllMayBeTold steps → Belongs (grammar_for plan seat asked) steps (finish.Answer (answer.Entry entry)) →
+        ((parent : ℕ) × (name : List ℕ) × (name_asked asked ≡ Some (parent, name)) × (era : ℕ)
+        × (agreed : Negotiated) × (front : List Step) × (own : List Step) × (back : List Step)
+        × (steps ≡ made (Changes change.Begin) (Event (event.Began era agreed)) ∷ (front ++ (own ++ back)))
+        × IsLookedUp plan era agreed parent name entry own) }
+    ensures entries { (limit bound : ℕ) (plan : Plan) (seat : HostSeat) (asked : Asked) (turns : List Turn)
+        (start : World) (job : ℕ) (entry : Entry) →
+        Starts limit start → AreDisciplined bound turns → AllMayBeTold (steps_of job turns) →
+        Belongs (grammar_for plan seat asked) (steps_of job turns) (finish.Answer (answer.Entry entry)) →
+        ((parent : ℕ) × (name : List ℕ) × (name_asked asked ≡ Some (parent, name))
+        × IsEntered plan start turns job parent name entry) }
 {}
 
 /// `create` that is answered with an entry begins, comes to a lookup of its name, by which it had the entry, and goes

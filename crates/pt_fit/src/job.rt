@@ -1,4 +1,4 @@
-ghost use Rattle.std.specs.Prelude.{◌≡◌, ℕ, Bool, List, [], length};
+ghost use Rattle.std.specs.Prelude.{◌≡◌, ℕ, Bool, List, [], length, Some};
 ghost use Rattle.pt_host.specs.declared.edit.Edit.{Edit};
 ghost use Rattle.pt_host.specs.declared.seat.HostSeat.{HostSeat};
 ghost use Rattle.pt_iface.specs.declared.answer.Answer.{Answer};
@@ -26,6 +26,7 @@ ghost use Rattle.pt_fit.specs.Cause.{asking, IsCausedBy};
 ghost use Rattle.pt_fit.specs.Fit.{IsFit};
 ghost use Rattle.pt_fit.specs.Handled.{KeepsHandle};
 ghost use Rattle.pt_fit.specs.Answered.{ComesTo};
+ghost use Rattle.pt_fit.specs.Entered.{name_asked};
 
 /// Every request's tree is fit.
 pub fn each_request()
@@ -36,7 +37,7 @@ pub fn each_request()
 /// Whatever a job asks, a request or an edit: where its replies are such as may come, its steps keep the discipline
 /// to their end, whole or cut; where none lacked memory, it had not given up before it was cut; a refusal has its
 /// cause; a handle that it inserted is its answer's, unless it gave up or was cut; its first step begins it; and an
-/// entry is a lookup's answer, or with a handle that of `create`.
+/// entry is an answer to what asks for a name, and with a handle that of `create`.
 pub fn asked_ends()
     ensures ends { (plan : Plan) (seat : HostSeat) (asked : Asked) (steps : List Step) (end : Finish) →
         AllMayBeTold steps → ComesTo plan seat asked steps end → ComesToEnd idle steps end }
@@ -54,8 +55,7 @@ pub fn asked_ends()
         ComesTo plan seat asked steps end → BeginsFirst steps }
     ensures named { (plan : Plan) (seat : HostSeat) (asked : Asked) (steps : List Step) (entry : Entry) →
         AllMayBeTold steps → Belongs (grammar_for plan seat asked) steps (finish.Answer (answer.Entry entry)) →
-        ((who : Context) × (parent : ℕ) × (name : List ℕ)
-        × (asked ≡ Requests who (request.Lookup parent name))) }
+        ((parent : ℕ) × (name : List ℕ) × (name_asked asked ≡ Some (parent, name))) }
     ensures created { (plan : Plan) (seat : HostSeat) (asked : Asked) (steps : List Step) (entry : Entry)
         (handle : ℕ) (options : OpenOptions) →
         AllMayBeTold steps →

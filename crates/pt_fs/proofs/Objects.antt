@@ -32,10 +32,10 @@ use Rattle.pt_law.proofs.Told.{Promises}
 use Rattle.pt_law.proofs.Tracing.{origins_law}
 use Rattle.pt_fit.specs.Created.{IsCreated}
 use Rattle.pt_fit.specs.Entered.{IsEntered, name_asked}
-use Rattle.pt_fit.proofs.Asked.{entry_asked, created_asked}
+use Rattle.pt_fit.proofs.Asked.{created_asked}
 use Rattle.pt_fit.proofs.Created.{file_law}
-use Rattle.pt_fit.proofs.Entered.{look_places, created_places, entered_law, created_law}
-use Rattle.pt_fit.proofs.Looking.{looked_up}
+use Rattle.pt_fit.proofs.Entered.{look_places, created_places, created_law, placed_law}
+use Rattle.pt_fit.proofs.Entries.{EntryBy, entry_asked}
 use Rattle.pt_fit.proofs.Making.{created_by, created_parts}
 use Rattle.pt_fs.specs.Jobs.{job_start, job_grammar, asked_of}
 use Rattle.pt_fs.specs.Keeps.{turn_of, turns_of, AfterEachTold, LeadsOn, begins_in, KeepsObjects, ServesEach}
@@ -62,25 +62,18 @@ pub record KeepsTold (plan : Plan) (jobs : List Job) (told : Option Tree) (table
   pub origins : AfterEachTold told tables trace ComeFromNames
 
 -- an entry names what its name led to, in the world in which the run begins
-entered_from : (limit : ℕ) (plan : Plan) (jobs : List Job) (start : World) (turns : List Turn) (j : ℕ) (job : Job)
-    (who : Context) (parent : ℕ) (name : List ℕ) (entry : Entry) → start.tables ≡ empty_tables limit →
-    start.past ≡ no_past → AreUncalled turns ⊎ IsWellFormed start.tree → AreDisciplined (length jobs) turns →
-    asked_of job ≡ Requests who (request.Lookup parent name) →
-    Belongs (job_grammar plan job) (steps_of j turns) (finish.Answer (answer.Entry entry)) →
-    IsEntered plan start turns j parent name entry
-entered_from limit plan jobs start turns j job who parent name entry begins past known disciplined asked b =
-    let looked : Belongs (grammar_of plan (job_start job) who (request.Lookup parent name)) (steps_of j turns)
-    (finish.Answer (answer.Entry entry)) =
-    subst (λ (r : Asked). Belongs (grammar_for plan (job_start job) r) (steps_of j turns)
-    (finish.Answer (answer.Entry entry))) asked b in
-    elim known [
-      | inl u ↦
-          let e = looked_up plan (job_start job) who parent name entry (steps_of j turns) looked in
-          let places = look_places plan turns j parent name entry e.0 e.1 [] e.2 e.3 e.4 e.5 in
-          absurd (no_places u places.given)
-      | inr well ↦ entered_law limit (length jobs) plan (job_start job) who turns start j parent name entry
-          (record { tables = begins; well_formed = well; past = past }) disciplined looked
-    ]
+entered_from : (limit : ℕ) (plan : Plan) (jobs : List Job) (start : World) (turns : List Turn) (j : ℕ)
+    (asked : Asked) (entry : Entry) (by : EntryBy plan asked entry (steps_of j turns)) →
+    start.tables ≡ empty_tables limit → start.past ≡ no_past → AreUncalled turns ⊎ IsWellFormed start.tree →
+    AreDisciplined (length jobs) turns → IsEntered plan start turns j by.parent by.name entry
+entered_from limit plan jobs start turns j asked entry by begins past known disciplined = elim known [
+  | inl u ↦
+      let places = look_places plan turns j by.parent by.name entry by.era by.agreed by.front by.own by.back by.all
+      by.by in
+      absurd (no_places u places.given)
+  | inr well ↦ placed_law limit (length jobs) plan turns start j by.parent by.name entry by.era by.agreed by.front
+      by.own by.back (record { tables = begins; well_formed = well; past = past }) disciplined by.all by.by
+]
 
 created_from : (limit : ℕ) (plan : Plan) (jobs : List Job) (start : World) (turns : List Turn) (j : ℕ) (job : Job)
     (who : Context) (parent : ℕ) (name : List ℕ) (mode : ℕ) (kill : Bool) (flags umask : ℕ) (ext : Extensions)
@@ -135,13 +128,13 @@ entered_by : (limit : ℕ) (plan : Plan) (jobs : List Job) (told : Option Tree) 
     (j : ℕ) (job : Job) (given : Answer) → AllMayBeTold (steps_of j (turns_of trace)) →
     Comes plan job (steps_of j (turns_of trace)) given → IsNamedIn plan told tables trace j job given
 entered_by limit plan jobs told tables trace begins disciplined known j job (answer.Entry entry) may (inl b) =
-    let named = entry_asked plan (job_start job) (asked_of job) (steps_of j (turns_of trace)) entry may b in (
-      named.1,
-      named.2,
-      ap name_asked named.3,
+    let by = entry_asked plan (job_start job) (asked_of job) (steps_of j (turns_of trace)) entry may b in (
+      by.parent,
+      by.name,
+      by.names,
       (λ tree is.
-          entered_from limit plan jobs (begins_in tree tables) (turns_of trace) j job named.0 named.1 named.2 entry
-          begins refl (known tree is) disciplined named.3 b),
+          entered_from limit plan jobs (begins_in tree tables) (turns_of trace) j (asked_of job) entry by begins refl
+          (known tree is) disciplined),
     )
 entered_by limit plan jobs told tables trace begins disciplined known j job (answer.Entry entry) may (inr stops) =
     let no : answer.Entry entry ≡ answer.Cut = stops.0 in absurd (cc)

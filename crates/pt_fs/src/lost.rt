@@ -25,14 +25,14 @@ fn restore_rest<H: Host, F: SteppedFs>(
     job: u32,
 )
     requires named { job < length running.old }
-    requires room { length trace.old.items + work running.old (F.tables fs.old) ≤ vec_capacity trace.old }
+    requires room { length trace.old.items + work running.old (F.tables fs.old) < vec_capacity trace.old }
     ensures restored { Restored H.does (F.plan_of fs.old) job host.old running.old (F.tables fs.old) trace.old.items
         host.new running.new (F.tables fs.new) trace.new.items }
     ensures over { IsOver (F.plan_of fs.old) job running.new }
     ensures plan { F.plan_of fs.new ≡ F.plan_of fs.old }
     ensures root { F.root fs.new ≡ F.root fs.old }
     ensures capacity { vec_capacity trace.old ≤ vec_capacity trace.new }
-    ensures room { length trace.new.items + work running.new (F.tables fs.new) ≤ vec_capacity trace.new }
+    ensures room { length trace.new.items + work running.new (F.tables fs.new) < vec_capacity trace.new }
 {
     while running[job as usize].state.restoring() {
         let _lost = take_step(alloc, host, fs, running, trace, job);
@@ -75,7 +75,7 @@ fn end_one<H: Host, F: SteppedFs>(
     place: u32,
 )
     requires named { place < length running.old }
-    requires room { length trace.old.items + work running.old (F.tables fs.old) ≤ vec_capacity trace.old }
+    requires room { length trace.old.items + work running.old (F.tables fs.old) < vec_capacity trace.old }
     ensures goes { (jobs : ℕ) →
         GoesOn H.does (F.plan_of fs.old) (rest_of (suc jobs) place) host.old running.old
         (F.tables fs.old) trace.old.items (rest_of jobs (place + 1)) host.new running.new
@@ -85,7 +85,7 @@ fn end_one<H: Host, F: SteppedFs>(
     ensures capacity { vec_capacity trace.old ≤ vec_capacity trace.new }
     ensures finished { IsFinishedAt running.new place }
     ensures others { (j : ℕ) → IsFinishedAt running.old j → IsFinishedAt running.new j }
-    ensures room { length trace.new.items + work running.new (F.tables fs.new) ≤ vec_capacity trace.new }
+    ensures room { length trace.new.items + work running.new (F.tables fs.new) < vec_capacity trace.new }
 {
     while !running[place as usize].state.is_finished() {
         let _lost = take_step(alloc, host, fs, running, trace, place);
@@ -101,7 +101,7 @@ fn end_all<H: Host, F: SteppedFs>(
     trace: &mut Vec<TraceStep>,
 )
     requires named { length running.old < 2 ^ 32 }
-    requires room { length trace.old.items + work running.old (F.tables fs.old) ≤ vec_capacity trace.old }
+    requires room { length trace.old.items + work running.old (F.tables fs.old) < vec_capacity trace.old }
     ensures goes { GoesOn H.does (F.plan_of fs.old) (rest_of (length running.old) 0) host.old running.old
         (F.tables fs.old) trace.old.items (rest_of 0 (length running.old)) host.new running.new
         (F.tables fs.new) trace.new.items }
@@ -109,7 +109,7 @@ fn end_all<H: Host, F: SteppedFs>(
     ensures root { F.root fs.new ≡ F.root fs.old }
     ensures capacity { vec_capacity trace.old ≤ vec_capacity trace.new }
     ensures finished { (j : ℕ) → IsFinishedAt running.new j }
-    ensures room { length trace.new.items + work running.new (F.tables fs.new) ≤ vec_capacity trace.new }
+    ensures room { length trace.new.items + work running.new (F.tables fs.new) < vec_capacity trace.new }
 {
     for place in 0..running.len() {
         end_one(alloc, host, fs, running, trace, place as u32);
@@ -127,7 +127,7 @@ fn wind_up<H: Host, F: SteppedFs>(
 )
     requires few { length running.old < 2 ^ 32 }
     requires named { job < length running.old }
-    requires room { length trace.old.items + work running.old (F.tables fs.old) ≤ vec_capacity trace.old }
+    requires room { length trace.old.items + work running.old (F.tables fs.old) < vec_capacity trace.old }
     ensures winds_up { WindsUp H.does (F.plan_of fs.old) job host.old running.old (F.tables fs.old) trace.old.items
         host.new running.new (F.tables fs.new) trace.new.items }
     ensures plan { F.plan_of fs.new ≡ F.plan_of fs.old }
@@ -151,7 +151,7 @@ pub fn wind_up_all<H: Host, F: SteppedFs>(
 )
     requires few { length running.old.items < 2 ^ 32 }
     requires named { job < length running.old.items }
-    requires room { length trace.old.items + work running.old.items (F.tables fs.old) ≤ vec_capacity trace.old }
+    requires room { length trace.old.items + work running.old.items (F.tables fs.old) < vec_capacity trace.old }
     ensures winds_up { WindsUp H.does (F.plan_of fs.old) job host.old running.old.items (F.tables fs.old)
         trace.old.items host.new running.new.items (F.tables fs.new) trace.new.items }
     ensures plan { F.plan_of fs.new ≡ F.plan_of fs.old }

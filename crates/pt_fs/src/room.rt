@@ -36,7 +36,20 @@ fn bound_of(request: &Request) -> usize
         | Request::Root
         | Request::Lookup { .. }
         | Request::Open { .. }
-        | Request::OpenDir { .. } => 48,
+        | Request::OpenDir { .. }
+        | Request::Mkdir { .. }
+        | Request::Mknod { .. }
+        | Request::Symlink { .. }
+        | Request::Link { .. }
+        | Request::Unlink { .. }
+        | Request::Rmdir { .. }
+        | Request::Rename { .. }
+        | Request::Readlink { .. }
+        | Request::StatFs { .. }
+        | Request::GetAttr { .. }
+        | Request::SetAttr { .. }
+        | Request::Access { .. }
+        | Request::Other { .. } => 48,
         Request::Create { .. } => 96,
         _ => 8,
     }
@@ -58,7 +71,8 @@ fn bound_of_job(job: &Job) -> usize
 /// three steps.
 pub fn room_of(jobs: &[Job]) -> usize
     requires { length jobs.now < 2 ^ 32 }
-    ensures { result ≡ room jobs.now }
+    ensures room { result ≡ room jobs.now }
+    ensures small { result < 2 ^ 63 }
 {
     let mut room = 0;
     for job in jobs {

@@ -137,7 +137,8 @@ struct Room {
     seats: Vec<HostSeat>,
 }
 
-/// Starts the jobs, and has the room for their steps, answers and seats.
+/// Starts the jobs, and has the room for their answers, their seats and their steps, and for one step more, since a
+/// step is taken where it is to lie.
 fn start_in_room<F: SteppedFs>(
     alloc: Global,
     fs: &F,
@@ -148,11 +149,11 @@ fn start_in_room<F: SteppedFs>(
     ensures trace { IfOk result (λ r. r.1.trace.items ≡ []) }
     ensures answers { IfOk result (λ r. r.1.answers.items ≡ []) }
     ensures seats { IfOk result (λ r. r.1.seats.items ≡ []) }
-    ensures trace_room { IfOk result (λ r. room jobs.items ≤ vec_capacity r.1.trace) }
+    ensures trace_room { IfOk result (λ r. room jobs.items < vec_capacity r.1.trace) }
     ensures answers_room { IfOk result (λ r. length r.0.items ≤ vec_capacity r.1.answers) }
     ensures seats_room { IfOk result (λ r. length r.0.items ≤ vec_capacity r.1.seats) }
 {
-    let trace = with_room(alloc, room_of(&jobs))?;
+    let trace = with_room(alloc, room_of(&jobs) + 1)?;
     let running = start_all(alloc, fs, jobs)?;
     let answers = with_room(alloc, running.len())?;
     let seats = with_room(alloc, running.len())?;

@@ -30,7 +30,7 @@ fn take_if_unfinished<H: Host, F: SteppedFs>(
     trace: &mut Vec<TraceStep>,
     place: u32,
 ) -> Option<Errno>
-    requires room { length trace.old.items + work running.old (F.tables fs.old) ≤ vec_capacity trace.old }
+    requires room { length trace.old.items + work running.old (F.tables fs.old) < vec_capacity trace.old }
     ensures goes { IfNone result (TookOrStays H.does (F.plan_of fs.old) place host.old running.old
         (F.tables fs.old) trace.old.items host.new running.new (F.tables fs.new) trace.new.items) }
     ensures lost { IfSome result (λ errno. Took H.does (F.plan_of fs.old) place host.old running.old
@@ -38,7 +38,7 @@ fn take_if_unfinished<H: Host, F: SteppedFs>(
     ensures plan { F.plan_of fs.new ≡ F.plan_of fs.old }
     ensures root { F.root fs.new ≡ F.root fs.old }
     ensures capacity { vec_capacity trace.old ≤ vec_capacity trace.new }
-    ensures room { length trace.new.items + work running.new (F.tables fs.new) ≤ vec_capacity trace.new }
+    ensures room { length trace.new.items + work running.new (F.tables fs.new) < vec_capacity trace.new }
 {
     if place as usize >= running.len() {
         return None;
@@ -58,7 +58,7 @@ pub fn run_schedule<H: Host, F: SteppedFs>(
     trace: &mut Vec<TraceStep>,
     schedule: &[u32],
 ) -> Option<Loss>
-    requires room { length trace.old.items + work running.old (F.tables fs.old) ≤ vec_capacity trace.old }
+    requires room { length trace.old.items + work running.old (F.tables fs.old) < vec_capacity trace.old }
     requires calm { NoneLost running.old }
     ensures goes { IfNone result (GoesOn H.does (F.plan_of fs.old) (order schedule.now (length running.old))
         host.old running.old (F.tables fs.old) trace.old.items (rest_of (length running.old) 0) host.new running.new
@@ -70,7 +70,7 @@ pub fn run_schedule<H: Host, F: SteppedFs>(
     ensures plan { F.plan_of fs.new ≡ F.plan_of fs.old }
     ensures root { F.root fs.new ≡ F.root fs.old }
     ensures capacity { vec_capacity trace.old ≤ vec_capacity trace.new }
-    ensures room { length trace.new.items + work running.new (F.tables fs.new) ≤ vec_capacity trace.new }
+    ensures room { length trace.new.items + work running.new (F.tables fs.new) < vec_capacity trace.new }
 {
     for &place in schedule {
         if let Some(errno) = take_if_unfinished(alloc, host, fs, running, trace, place) {
@@ -90,7 +90,7 @@ fn finish_one<H: Host, F: SteppedFs>(
     place: u32,
 ) -> Option<Errno>
     requires named { place < length running.old }
-    requires room { length trace.old.items + work running.old (F.tables fs.old) ≤ vec_capacity trace.old }
+    requires room { length trace.old.items + work running.old (F.tables fs.old) < vec_capacity trace.old }
     requires calm { NoneLost running.old }
     ensures goes { IfNone result ((jobs : ℕ) →
         GoesOn H.does (F.plan_of fs.old) (rest_of (suc jobs) place) host.old running.old
@@ -105,7 +105,7 @@ fn finish_one<H: Host, F: SteppedFs>(
     ensures plan { F.plan_of fs.new ≡ F.plan_of fs.old }
     ensures root { F.root fs.new ≡ F.root fs.old }
     ensures capacity { vec_capacity trace.old ≤ vec_capacity trace.new }
-    ensures room { length trace.new.items + work running.new (F.tables fs.new) ≤ vec_capacity trace.new }
+    ensures room { length trace.new.items + work running.new (F.tables fs.new) < vec_capacity trace.new }
 {
     while !running[place as usize].state.is_finished() {
         if let Some(errno) = take_step(alloc, host, fs, running, trace, place) {
@@ -124,7 +124,7 @@ pub fn finish_all<H: Host, F: SteppedFs>(
     trace: &mut Vec<TraceStep>,
 ) -> Option<Loss>
     requires named { length running.old < 2 ^ 32 }
-    requires room { length trace.old.items + work running.old (F.tables fs.old) ≤ vec_capacity trace.old }
+    requires room { length trace.old.items + work running.old (F.tables fs.old) < vec_capacity trace.old }
     requires calm { NoneLost running.old }
     ensures goes { IfNone result (GoesOn H.does (F.plan_of fs.old) (rest_of (length running.old) 0) host.old
         running.old (F.tables fs.old) trace.old.items (rest_of 0 (length running.old)) host.new running.new
@@ -137,7 +137,7 @@ pub fn finish_all<H: Host, F: SteppedFs>(
     ensures plan { F.plan_of fs.new ≡ F.plan_of fs.old }
     ensures root { F.root fs.new ≡ F.root fs.old }
     ensures capacity { vec_capacity trace.old ≤ vec_capacity trace.new }
-    ensures room { length trace.new.items + work running.new (F.tables fs.new) ≤ vec_capacity trace.new }
+    ensures room { length trace.new.items + work running.new (F.tables fs.new) < vec_capacity trace.new }
 {
     for place in 0..running.len() {
         let job = place as u32;
@@ -159,7 +159,7 @@ fn run_jobs<H: Host, F: SteppedFs>(
     schedule: &[u32],
 ) -> Option<Loss>
     requires named { length running.old < 2 ^ 32 }
-    requires room { length trace.old.items + work running.old (F.tables fs.old) ≤ vec_capacity trace.old }
+    requires room { length trace.old.items + work running.old (F.tables fs.old) < vec_capacity trace.old }
     requires calm { NoneLost running.old }
     ensures goes { IfNone result (GoesOn H.does (F.plan_of fs.old) (order schedule.now (length running.old)) host.old
         running.old (F.tables fs.old) trace.old.items (rest_of 0 (length running.old)) host.new running.new
@@ -172,7 +172,7 @@ fn run_jobs<H: Host, F: SteppedFs>(
     ensures plan { F.plan_of fs.new ≡ F.plan_of fs.old }
     ensures root { F.root fs.new ≡ F.root fs.old }
     ensures capacity { vec_capacity trace.old ≤ vec_capacity trace.new }
-    ensures room { length trace.new.items + work running.new (F.tables fs.new) ≤ vec_capacity trace.new }
+    ensures room { length trace.new.items + work running.new (F.tables fs.new) < vec_capacity trace.new }
 {
     if let Some(loss) = run_schedule(alloc, host, fs, running, trace, schedule) {
         return Some(loss);
@@ -190,7 +190,7 @@ pub fn run_all<H: Host, F: SteppedFs>(
     schedule: &[u32],
 ) -> Option<Loss>
     requires named { length running.old.items < 2 ^ 32 }
-    requires room { length trace.old.items + work running.old.items (F.tables fs.old) ≤ vec_capacity trace.old }
+    requires room { length trace.old.items + work running.old.items (F.tables fs.old) < vec_capacity trace.old }
     requires calm { NoneLost running.old.items }
     ensures goes { IfNone result (GoesOn H.does (F.plan_of fs.old)
         (order schedule.now (length running.old.items)) host.old running.old.items (F.tables fs.old) trace.old.items
@@ -203,7 +203,7 @@ pub fn run_all<H: Host, F: SteppedFs>(
     ensures plan { F.plan_of fs.new ≡ F.plan_of fs.old }
     ensures root { F.root fs.new ≡ F.root fs.old }
     ensures capacity { vec_capacity trace.old ≤ vec_capacity trace.new }
-    ensures room { length trace.new.items + work running.new.items (F.tables fs.new) ≤ vec_capacity trace.new }
+    ensures room { length trace.new.items + work running.new.items (F.tables fs.new) < vec_capacity trace.new }
     ensures same { length running.new.items ≡ length running.old.items }
 {
     run_jobs(alloc, host, fs, running.as_mut_slice(), trace, schedule)

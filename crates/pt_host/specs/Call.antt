@@ -15,7 +15,7 @@ call_of (borrowed.OpenRoot path flags) = call.OpenRoot path.now flags
 call_of (borrowed.OpenPath fd path flags) = call.OpenPath fd path.now flags
 call_of (borrowed.OpenAt fd name flags mode) = call.OpenAt fd name.now flags mode
 call_of (borrowed.Reopen fd flags) = call.Reopen fd flags
-call_of (borrowed.OpenByHandle fd handle flags) = call.OpenByHandle fd handle flags
+call_of (borrowed.OpenByHandle fd handle flags) = call.OpenByHandle fd handle.now flags
 -- the end of a descriptor
 call_of (borrowed.Close fd) = call.Close fd
 -- what is told of an object

@@ -301,7 +301,7 @@ impl KeptHostOp {
             },
             KeptHostOp::OpenByHandle { fd, handle, flags } => HostOp::OpenByHandle {
                 fd: *fd,
-                handle: handle.copy(),
+                handle,
                 flags: *flags,
             },
             KeptHostOp::Close { fd } => HostOp::Close { fd: *fd },

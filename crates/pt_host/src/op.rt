@@ -34,7 +34,7 @@ pub enum HostOp<'a> {
     /// `open_by_handle_at(2)`, on the mount that the descriptor is on.
     OpenByHandle {
         fd: Fd,
-        handle: CFileHandle,
+        handle: &'a CFileHandle,
         flags: OpenFlags,
     },
     /// `close(2)`: the descriptor ends whatever is answered.

@@ -1,6 +1,6 @@
 -- Each answer is that of a branch of the tree, or the job gave up or lost its seat.
 use Rattle.std.proofs.Common.{◌≡◌, ◌⊎◌, inl, inr, ℕ, zero, suc, List, [], ◌∷◌, length, Bool, true, false, Option}
-use Rattle.std.proofs.Common.{◌||◌}
+use Rattle.std.proofs.Common.{◌||◌, ◌++◌, ap, append_assoc}
 use Rattle.std.proofs.Common.{Some, None, refl, sym, subst, ◌∙◌, if◌then◌else◌, nat_lt}
 use Rattle.pt_host.specs.declared.ids.Errno.{Errno}
 use Rattle.pt_host.specs.declared.seat.HostSeat.{HostSeat}
@@ -52,16 +52,20 @@ giving_gives seat hold.Umask = tt
 
 -- the later steps are the last of these, and those before them give back
 pub record Backs (later steps : List Step) : Type 0 where
+  pub passed : List Step
+  pub are : steps ≡ passed ++ later
   pub own : (path : List Step) → AreOwn path later → AreOwn path steps
   pub first : (path : List Step) → AreFirst path later → AreFirst path steps
   pub lacks : RanOut later → RanOut steps
 
 backs_none : (steps : List Step) → Backs steps steps
-backs_none steps = record { own = λ path s. s; first = λ path s. s; lacks = λ l. l }
+backs_none steps = record { passed = []; are = refl; own = λ path s. s; first = λ path s. s; lacks = λ l. l }
 
 backs_one : (step : Step) (later steps : List Step) → ReturnsHold step.deed → Backs later steps →
     Backs later (step ∷ steps)
 backs_one step later steps g b = record {
+  passed = step ∷ b.passed;
+  are = ap (λ (z : List Step). step ∷ z) b.are;
   own = λ path s. skip g (b.own path s);
   first = λ path s. pass g (b.first path s);
   lacks = λ l. inr (b.lacks l);
@@ -70,6 +74,8 @@ backs_one step later steps g b = record {
 backs_on : (last later steps : List Step) → Backs last later → Backs later steps → Backs last steps
 backs_on last later steps a b =
     record {
+      passed = b.passed ++ a.passed;
+      are = b.are ∙ ap (λ (z : List Step). b.passed ++ z) a.are ∙ sym (append_assoc b.passed a.passed last);
       own = λ path s. b.own path (a.own path s);
       first = λ path s. b.first path (a.first path s);
       lacks = λ l. b.lacks (a.lacks l);
@@ -192,7 +198,7 @@ end_or_lost seat (Some errno) holds next steps end b = elim (end_leave seat hold
 ]
 
 -- what is reached, whatever is held there
-abbrev ReachedFrom : (List Hold → Grammar) → List Step → Finish → Type 0
+abbrev pub ReachedFrom : (List Hold → Grammar) → List Step → Finish → Type 0
 ReachedFrom next steps end = IsLost end ⊎ ((left : List Hold) × Reached (next left) steps end)
 
 reach_on : (next : List Hold → Grammar) (more : Grammar) (steps : List Step) (end : Finish)
@@ -200,7 +206,7 @@ reach_on : (next : List Hold → Grammar) (more : Grammar) (steps : List Step) (
 reach_on next more steps end r (inl g) = inl g
 reach_on next more steps end r (inr s) = inr (s.0, reached_on (next s.0) more steps end r s.1)
 
-end_shut : (seat : HostSeat) (passing : Option Hold) (mark : ℕ) (holds : List Hold) (next : List Hold → Grammar)
+pub end_shut : (seat : HostSeat) (passing : Option Hold) (mark : ℕ) (holds : List Hold) (next : List Hold → Grammar)
     (steps : List Step) (end : Finish) → Belongs (shut seat passing mark holds next) steps end →
     ReachedFrom next steps end
 end_shut seat passing mark [] next steps end b =

@@ -33,7 +33,7 @@ use Rattle.pt_req.specs.Requests.{tree_of}
 use Rattle.pt_req.specs.Steps.{open_scope}
 use Rattle.pt_req.specs.declared.plan.Plan.{Plan}
 use Rattle.pt_req.proofs.Replying.{if_set}
-use Rattle.pt_req.proofs.Walking.{Walk, of_any, each_request}
+use Rattle.pt_req.proofs.Walking.{Walk, is_making, of_any, each_request}
 
 closes_bare : (count : ℕ) → ClosesBare Nothing count []
 closes_bare zero = tt
@@ -116,8 +116,18 @@ plainly seat deed next own so = (
       (sym (wears_same deed told [] own)) (closes_bare (closings_in deed told), so told),
 )
 
+-- under any scopes an object is made, and they end
+making_tends : (seat : HostSeat) (making : Call) (next : ActReply → RequestTree) → is_making (Calls making) ≡ true →
+    ((told : ActReply) → Tends seat (next told) []) → (worn : List Call) →
+    Tends seat (Asks (Calls making) (λ told. Bares (next told))) worn
+making_tends seat (call.OpenAt dir name flags mode) next is so worn = (tt, λ told. (tt, so told))
+making_tends seat (call.MakeDir dir name mode) next is so worn = (tt, λ told. (tt, so told))
+making_tends seat (call.MakeNode dir name mode rdev) next is so worn = (tt, λ told. (tt, so told))
+making_tends seat (call.SymLink dir name target) next is so worn = (tt, λ told. (tt, so told))
+making_tends seat asked next is so worn = absurd (cc)
+
 -- no scope is open
-bare : (seat : HostSeat) → Walk (λ creds own flags. Unit {0}) (λ tree. Tends seat tree [])
+pub bare : (seat : HostSeat) → Walk (λ creds own. Unit {0}) (λ tree. Tends seat tree [])
     (λ told tree. Tends seat tree [])
 bare seat = record {
   gives = λ last is. (is.0, passes_bare (passes_with last));
@@ -128,9 +138,10 @@ bare seat = record {
       plainly seat deed (λ later. Gives answer.NoMemory) own (λ later. (refl, tt));
   brackets = λ rest so. so;
   shuts = λ passes rest so. (refl, so);
-  makes_as = λ creds own dir name flags mode next may so.
-      on_steps seat (Asks (Calls (call.OpenAt dir name flags mode)) (λ told. Bares (next told)))
-      (λ worn. (tt, λ told. (tt, so told))) creds.sup_gid (id_to_set creds.gid own.eff_gid)
+  shuts_after = λ told passes rest so. (refl, so);
+  makes_as = λ creds own making next is may so.
+      on_steps seat (Asks (Calls making) (λ told. Bares (next told)))
+      (making_tends seat making next is so) creds.sup_gid (id_to_set creds.gid own.eff_gid)
       (id_to_set creds.uid own.eff_uid) creds.keep_capability;
 }
 
@@ -147,7 +158,7 @@ more_or true one other more e = refl
 more_or false one other more e = more e
 
 -- what spares where no memory ran out spares where some did
-spares_more : (one other : Bool) → (one ≡ true → other ≡ true) → (tree : RequestTree) → IsSparing one tree →
+pub spares_more : (one other : Bool) → (one ≡ true → other ≡ true) → (tree : RequestTree) → IsSparing one tree →
     IsSparing other tree
 spares_more one other more (Gives last) so = λ out. more (so out)
 spares_more one other more (Refuses told) so = λ lacks. more (so lacks)
@@ -198,7 +209,7 @@ out_before false true e = refl
 out_before false false e = absurd (cc)
 
 -- no memory ran out so far
-in_full : Walk (λ creds own flags. Unit {0}) (λ tree. IsSparing false tree)
+pub in_full : Walk (λ creds own. Unit {0}) (λ tree. IsSparing false tree)
     (λ told tree. IsSparing (lacks_memory told || false) tree)
 in_full = record {
   gives = λ last is. λ out. absurd (is.1 out);
@@ -208,8 +219,9 @@ in_full = record {
   ran_out = λ told deed lacks own none. λ later. λ out. out_before (lacks_memory later) (lacks_memory told) lacks;
   brackets = λ rest so. so;
   shuts = λ passes rest so. so;
-  makes_as = λ creds own dir name flags mode next may so.
-      spares_steps (Asks (Calls (call.OpenAt dir name flags mode)) (λ told. Bares (next told))) so creds.sup_gid
+  shuts_after = λ told passes rest so. so;
+  makes_as = λ creds own making next is may so.
+      spares_steps (Asks (Calls making) (λ told. Bares (next told))) so creds.sup_gid
       (id_to_set creds.gid own.eff_gid) (id_to_set creds.uid own.eff_uid)
       (creds.keep_capability && is_some (id_to_set creds.uid own.eff_uid));
 }

@@ -27,6 +27,19 @@ bound_of (request.Lookup parent name) = 48
 bound_of (request.Open inode kill flags) = 48
 bound_of (request.OpenDir inode flags) = 48
 bound_of (request.Create parent name mode kill flags umask ext) = 96
+bound_of (request.Mkdir parent name mode umask ext) = 48
+bound_of (request.Mknod parent name mode rdev umask ext) = 48
+bound_of (request.Symlink target parent name ext) = 48
+bound_of (request.Link inode newparent newname) = 48
+bound_of (request.Unlink parent name) = 48
+bound_of (request.Rmdir parent name) = 48
+bound_of (request.Rename olddir oldname newdir newname flags) = 48
+bound_of (request.Readlink inode) = 48
+bound_of (request.StatFs inode) = 48
+bound_of (request.GetAttr inode) = 48
+bound_of (request.SetAttr inode handle valid attr) = 48
+bound_of (request.Access inode mask) = 48
+bound_of (request.Other opcode) = 48
 bound_of _ = 8
 
 -- so many rows a request inserts at most

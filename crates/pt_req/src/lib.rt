@@ -8,7 +8,12 @@ mod parts;
 mod plan;
 mod requests;
 
+pub use begun::BegunSession;
 pub use job::JobState;
 pub use laws::{requests_spare, requests_tend};
+pub use parts::{
+    EntryLookup, EntryLookupAt, Looked, Part, are_made, asker_of, attr_of, can_open, is_bad_name,
+    is_bad_offset, is_blocked, label_name, label_value, refused_so, take_step, want_step,
+};
 pub use plan::{CachePolicy, Config, Plan};
 pub use requests::RequestBody;

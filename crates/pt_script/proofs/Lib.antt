@@ -1,5 +1,3 @@
 pub mod LinesLemmas
-pub mod PairsRead
-pub mod PlacesRead
 pub mod Scripts
 pub mod FirstBads

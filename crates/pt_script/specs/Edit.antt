@@ -4,7 +4,7 @@ use Rattle.std.specs.Option.{option_map}
 use Rattle.std.specs.Str.{bytes_eq}
 use Rattle.pt_host.specs.declared.edit.Edit.{Edit}
 use Rattle.pt_host.specs.declared.edit.Edit.TheVariants.{Unlink, Rename, File, Dir, Write}
-use Rattle.pt_script.specs.Fields.{◌>>=◌, bytes_in, at_end}
+use Rattle.pt_words.specs.Fields.{◌>>=◌, bytes_in, at_end}
 use Rattle.pt_script.specs.NewObjects.{new_file_in, new_dir_in}
 use Rattle.pt_script.specs.declared.new_objects.NewFile.{NewFile}
 use Rattle.pt_script.specs.declared.new_objects.NewDir.{NewDir}

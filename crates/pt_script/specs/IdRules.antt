@@ -5,7 +5,7 @@ use Rattle.std.specs.Option.{option_map}
 use Rattle.std.specs.Str.{bytes_eq}
 use Rattle.pt_maps.specs.declared.rule.IdRule.{IdRule}
 use Rattle.pt_maps.specs.declared.rule.IdRule.TheVariants.{Guest, Host, SquashGuest, SquashHost, ForbidGuest, Map}
-use Rattle.pt_script.specs.Fields.{◌>>=◌, small_in, at_end}
+use Rattle.pt_words.specs.Fields.{◌>>=◌, small_in, at_end}
 use Rattle.pt_script.specs.declared.id_rule.RuleIds.{RuleIds}
 
 -- `FIRST TARGET COUNT`

@@ -1,9 +1,6 @@
 -- Inner. The files of definitions, lowest first.
-pub mod Fields
 pub mod NewObjects
 pub mod TreeLine
-pub mod Making
-pub mod Request
 pub mod Edit
 pub mod Settings
 pub mod IdRules

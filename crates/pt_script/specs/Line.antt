@@ -3,10 +3,10 @@ use Rattle.std.specs.Prelude.{ℕ, List, [], ◌∷◌, Option, Some, None, if�
 use Rattle.std.specs.Option.{option_map}
 use Rattle.std.specs.Str.{bytes_eq}
 use Rattle.pt_text.specs.Words.{words_of}
-use Rattle.pt_script.specs.Fields.{◌>>=◌, number_in, small_in, errno_in, places_in, at_end}
+use Rattle.pt_words.specs.Fields.{◌>>=◌, number_in, small_in, errno_in, places_in, at_end}
 use Rattle.pt_script.specs.TreeLine.{tree_line_in}
 use Rattle.pt_script.specs.Edit.{edit_in}
-use Rattle.pt_script.specs.Request.{request_in}
+use Rattle.pt_words.specs.Request.{request_in}
 use Rattle.pt_script.specs.IdRules.{id_rule_in}
 use Rattle.pt_script.specs.declared.line.ScriptJob.{ScriptJob}
 use Rattle.pt_script.specs.declared.line.ScriptJob.TheVariants as script_job

@@ -1,6 +1,6 @@
 -- Believed. The fields of a new regular file and of a new directory, which a line of the tree and an edit share.
 use Rattle.std.specs.Prelude.{ℕ, List, Option}
-use Rattle.pt_script.specs.Fields.{◌>>=◌, small_in, bytes_in, at_end}
+use Rattle.pt_words.specs.Fields.{◌>>=◌, small_in, bytes_in, at_end}
 use Rattle.pt_script.specs.declared.new_objects.NewFile.{NewFile}
 use Rattle.pt_script.specs.declared.new_objects.NewDir.{NewDir}
 

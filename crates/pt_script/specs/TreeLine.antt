@@ -4,7 +4,7 @@ use Rattle.std.specs.Option.{option_map}
 use Rattle.std.specs.Str.{bytes_eq}
 use Rattle.pt_tree.specs.declared.spec.TreeLine.{TreeLine}
 use Rattle.pt_tree.specs.declared.spec.TreeLine.TheVariants.{Mount, File, Dir, Link, Spec, Hard, Xattr}
-use Rattle.pt_script.specs.Fields.{◌>>=◌, number_in, small_in, bytes_in, switch_in, at_end}
+use Rattle.pt_words.specs.Fields.{◌>>=◌, number_in, small_in, bytes_in, switch_in, at_end}
 use Rattle.pt_script.specs.NewObjects.{new_file_in, new_dir_in}
 use Rattle.pt_script.specs.declared.new_objects.NewFile.{NewFile}
 use Rattle.pt_script.specs.declared.new_objects.NewDir.{NewDir}

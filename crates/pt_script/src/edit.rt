@@ -1,10 +1,10 @@
 ghost use Rattle.std.specs.Prelude.{◌≡◌, IfOk, Some, None};
 ghost use Rattle.pt_script.specs.Edit.{unlink_in, rename_in, file_edit, dir_edit, write_in, edit_as, edit_in};
 
-use crate::fields::{LineError, end, next_bytes, next_word};
 use crate::new_objects::{NewDir, NewFile, next_new_dir, next_new_file};
 use pt_host::Edit;
 use pt_text::Parts;
+use pt_words::{LineError, end, next_bytes, next_word};
 use std::alloc::Global;
 
 fn next_unlink(alloc: Global, words: &mut Parts<'_>) -> Result<Edit, LineError>

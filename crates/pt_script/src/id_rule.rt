@@ -1,9 +1,9 @@
 ghost use Rattle.std.specs.Prelude.{◌≡◌, IfOk, Some, None};
 ghost use Rattle.pt_script.specs.IdRules.{rule_ids_in, forbidden_in, id_rule_as, id_rule_in};
 
-use crate::fields::{LineError, end, next_small, next_word};
 use pt_maps::IdRule;
 use pt_text::Parts;
+use pt_words::{LineError, end, next_small, next_word};
 
 /// The first id of a range, what it becomes, and how many ids the range has.
 #[derive(Clone, Copy)]

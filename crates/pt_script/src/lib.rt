@@ -3,29 +3,19 @@
 #![tactic(auto)]
 
 mod edit;
-mod fields;
 mod id_rule;
 mod laws;
 mod line;
-mod making;
 mod new_objects;
-mod places;
-mod request;
 mod scan;
 mod script;
 mod settings;
 mod tree_line;
 
 pub use edit::next_edit;
-pub use fields::{
-    LineError, end, next_bytes, next_errno, next_number, next_pairs, next_places, next_small,
-    next_switch, next_word,
-};
 pub use id_rule::next_id_rule;
 pub use laws::first_bad_line;
 pub use line::{Line, PlannedFault, ScriptJob, next_fault, next_identity, next_job, read_line};
-pub use places::Places;
-pub use request::next_request;
 pub use script::{ParseError, Script, parse};
 pub use settings::{Identity, Setting, Settings};
 pub use tree_line::next_tree_line;

@@ -2,16 +2,17 @@ ghost use Rattle.std.specs.Prelude.{◌≡◌, IfOk, Some, None};
 ghost use Rattle.pt_script.specs.Line.{limit_in, identity_of, setting_as, setting_in, fault_in, job_in, line_of};
 
 use crate::edit::next_edit;
-use crate::fields::{LineError, end, next_errno, next_number, next_places, next_small, next_word};
 use crate::id_rule::next_id_rule;
-use crate::places::Places;
-use crate::request::next_request;
 use crate::settings::{Identity, Setting};
 use crate::tree_line::next_tree_line;
 use pt_host::{Caps, Edit, Errno};
 use pt_iface::{Context, Request};
 use pt_text::Parts;
 use pt_tree::TreeLine;
+use pt_words::{
+    LineError, Places, end, next_errno, next_number, next_places, next_request, next_small,
+    next_word,
+};
 use std::alloc::Global;
 
 /// A job of a script.

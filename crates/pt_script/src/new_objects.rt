@@ -1,9 +1,9 @@
 ghost use Rattle.std.specs.Prelude.{◌≡◌, IfOk, Some, None};
 ghost use Rattle.pt_script.specs.NewObjects.{new_file_in, new_dir_in};
 
-use crate::fields::{LineError, end, next_bytes, next_small};
 use pt_host::Bytes;
 use pt_text::Parts;
+use pt_words::{LineError, end, next_bytes, next_small};
 use std::alloc::Global;
 
 /// The fields of a new regular file: its path, its permissions, its owner and what it holds.

@@ -2,12 +2,11 @@ ghost use Rattle.std.specs.Prelude.{◌≡◌, ◌≤◌, ◌+◌, not, nat_lt, 
 ghost use Rattle.pt_script.specs.Script.{may_stand, added, nothing, max_places, is_before_jobs, last_fault, is_later};
 ghost use Rattle.pt_script.specs.Scan.{allowed, kept_lines, scan_of};
 
-use crate::fields::LineError;
 use crate::line::{Line, PlannedFault, ScriptJob, read_line};
-use crate::places::Places;
 use crate::settings::Settings;
 use pt_text::Parts;
 use pt_tree::{TreeLine, TreeSpec};
+use pt_words::{LineError, Places};
 use std::alloc::{AllocError, Global};
 use std::marker::Model;
 

@@ -5,10 +5,10 @@ ghost use Rattle.pt_script.specs.Parse.{IsScriptOf, IsBadLine};
 ghost use Rattle.pt_script.specs.Scan.{IsBadTree, place_of, error_behind};
 
 use crate::line::{PlannedFault, ScriptJob};
-use crate::places::Places;
 use crate::scan::scan_lines;
 use crate::settings::Settings;
 use pt_tree::{SpecError, TreeHost, TreeSpec};
+use pt_words::Places;
 use std::alloc::{AllocError, Global};
 
 /// A script: what it sets, the host that holds its tree, with the faults that are planned, its jobs in order, and the

@@ -2,10 +2,10 @@ ghost use Rattle.std.specs.Prelude.{◌≡◌, IfOk, Some, None};
 ghost use Rattle.pt_script.specs.TreeLine.{mount_in, file_line, dir_line, link_in, spec_in, hard_in, xattr_in};
 ghost use Rattle.pt_script.specs.TreeLine.{other_line_in, tree_line_in};
 
-use crate::fields::{LineError, end, next_bytes, next_number, next_small, next_switch};
 use crate::new_objects::{NewDir, NewFile, next_new_dir, next_new_file};
 use pt_text::Parts;
 use pt_tree::TreeLine;
+use pt_words::{LineError, end, next_bytes, next_number, next_small, next_switch};
 use std::alloc::Global;
 
 fn next_mount(alloc: Global, words: &mut Parts<'_>) -> Result<TreeLine, LineError>

@@ -7,7 +7,8 @@ use pt_host::Bytes;
 use pt_text::{push_byte_word, push_decimal, push_signed, push_text};
 use std::alloc::AllocError;
 
-/// Appends a word.
+/// Appends a word, which is mostly a constant.
+#[inline(always)]
 pub(crate) fn push_word(out: &mut Vec<u8>, text: &[u8]) -> Result<(), AllocError>
     ensures { OnOk result (out.new.items ≡ out.old.items ++ word text.now) }
 {

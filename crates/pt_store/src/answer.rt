@@ -71,11 +71,9 @@ impl Store {
                 mode,
             } => self.open_name(seat, fd, name, flags, mode),
             HostOp::Reopen { fd, flags } => self.reopen(seat, fd, flags),
-            HostOp::OpenByHandle {
-                fd,
-                ref handle,
-                flags,
-            } => self.open_by_handle(seat, fd, handle, flags),
+            HostOp::OpenByHandle { fd, handle, flags } => self.open_by_handle(
+                seat, fd, handle, flags,
+            ),
             HostOp::Close { fd } => self.close(fd),
             HostOp::Stat { fd } => self.stat(fd),
             HostOp::HandleOf { fd } => self.handle_of(fd),

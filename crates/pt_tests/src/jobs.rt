@@ -62,10 +62,6 @@ impl Played {
 
     /// A job that makes the file `a`, with a context of this name.
     fn create(alloc: Global, context: &[u8]) -> Option<Played> {
-        let secctx = Some(SecContext {
-            name: Bytes::from_slice(alloc, context).ok()?,
-            value: Bytes::from_slice(alloc, b"v").ok()?,
-        });
         let request = Request::Create {
             parent: 1,
             name: Bytes::from_slice(alloc, b"a").ok()?,
@@ -73,10 +69,30 @@ impl Played {
             kill: false,
             flags: 2,
             umask: 0,
-            ext: Extensions {
-                secctx,
-                sup_gid: None,
-            },
+            ext: with_context(alloc, context)?,
+        };
+        Played::start(alloc, request)
+    }
+
+    /// A job that makes the directory `a`, with a context of this name.
+    fn make_dir(alloc: Global, context: &[u8]) -> Option<Played> {
+        let request = Request::Mkdir {
+            parent: 1,
+            name: Bytes::from_slice(alloc, b"a").ok()?,
+            mode: 0o755,
+            umask: 0,
+            ext: with_context(alloc, context)?,
+        };
+        Played::start(alloc, request)
+    }
+
+    /// A job that makes the symbolic link `a`, with a context of this name.
+    fn make_link(alloc: Global, context: &[u8]) -> Option<Played> {
+        let request = Request::Symlink {
+            target: Bytes::from_slice(alloc, b"t").ok()?,
+            parent: 1,
+            name: Bytes::from_slice(alloc, b"a").ok()?,
+            ext: with_context(alloc, context)?,
         };
         Played::start(alloc, request)
     }
@@ -130,7 +146,7 @@ impl Played {
     fn opens(&mut self, alloc: Global) -> bool {
         self.step(alloc, b" Begin", told(began()))
             && self.step(alloc, b" Resolve 1", told(resolved()))
-            && self.step(alloc, b" OpenAt 4 a 2752512 0", gave(HostValue::Fd(Fd(5))))
+            && self.step(alloc, OPEN, gave(HostValue::Fd(Fd(5))))
             && self.step(alloc, b" Stat 5", gave(HostValue::Stat(a_stat())))
     }
 
@@ -151,6 +167,19 @@ impl Played {
             && self.step(alloc, b" Stat 5", gave(HostValue::Stat(a_stat())))
     }
 
+    /// The steps up to this call, by which an object is made.
+    fn makes_by(&mut self, alloc: Global, call: &[u8]) -> bool {
+        self.step(alloc, b" Begin", told(began()))
+            && self.step(alloc, b" Resolve 1", told(resolved()))
+            && self.step(alloc, call, gave(HostValue::Unit))
+    }
+
+    /// The name goes again by this call, or stays, and what is held is given back.
+    fn unmakes_by(&mut self, alloc: Global, call: &[u8]) -> bool {
+        let refused = ActReply::Host(HostReply::Refused(Errno::EACCES));
+        self.step(alloc, call, refused) && self.step(alloc, UNPIN, told(none_to_close()))
+    }
+
     /// The name goes again, or stays, and what is held is given back.
     fn unmakes(&mut self, alloc: Global) -> bool {
         let refused = ActReply::Host(HostReply::Refused(Errno::EACCES));
@@ -168,6 +197,18 @@ impl Played {
             && self.step(alloc, b" DrawHandle", told(drawn))
             && self.step(alloc, b" TakeFd", told(EventReply::Taken))
     }
+}
+
+/// What a request brings that has a context of this name.
+fn with_context(alloc: Global, name: &[u8]) -> Option<Extensions> {
+    let secctx = Some(SecContext {
+        name: Bytes::from_slice(alloc, name).ok()?,
+        value: Bytes::from_slice(alloc, b"v").ok()?,
+    });
+    Some(Extensions {
+        secctx,
+        sup_gid: None,
+    })
 }
 
 /// Whether a report prints the value so.
@@ -195,6 +236,10 @@ const CLAIM: &[u8] = b" Claim 1 - 2 1 1";
 const CLOSE: &[u8] = b" Close 5";
 
 const SET_CONTEXT: &[u8] = b" SetXattr 5 0 security.selinux v 0";
+
+const SET_CONTEXT_THROUGH: &[u8] = b" SetXattr 5 1 security.selinux v 0";
+
+const OPEN: &[u8] = b" OpenAt 4 a 2752512 0";
 
 const UNPIN: &[u8] = b" Unpin 0";
 
@@ -298,7 +343,14 @@ fn a_directory_is_opened_by_another_policy(rt: HostRuntime) -> Result<(), Fail> 
 #[test]
 fn what_is_not_implemented_is_refused(rt: HostRuntime) -> Result<(), Fail> {
     let alloc = rt.alloc();
-    let mut job = Played::start(alloc, Request::Readlink { inode: 1 }).ok_or("no job")?;
+    let mut job = Played::start(
+        alloc,
+        Request::Flush {
+            inode: 1,
+            handle: 0,
+        },
+    )
+    .ok_or("no job")?;
     assert!(rt; job.step(alloc, b" Begin", told(began())));
     assert!(rt; job.has_ended(alloc, b" Refused 38"));
     Ok(())
@@ -333,5 +385,48 @@ fn what_gets_no_context_goes_again(rt: HostRuntime) -> Result<(), Fail> {
     assert!(rt; blocked.makes(alloc));
     assert!(rt; blocked.unmakes(alloc));
     assert!(rt; blocked.has_ended(alloc, b" Refused 95"));
+    Ok(())
+}
+
+/// It is set by a descriptor that only stands for the directory, which is closed before the lookup.
+#[test]
+fn a_made_directory_gets_its_context(rt: HostRuntime) -> Result<(), Fail> {
+    let alloc = rt.alloc();
+    let mut job = Played::make_dir(alloc, b"security.selinux").ok_or("no job")?;
+    assert!(rt; job.makes_by(alloc, b" MakeDir 4 a 493"));
+    assert!(rt; job.step(alloc, OPEN, gave(HostValue::Fd(Fd(5)))));
+    assert!(rt; job.step(alloc, SET_CONTEXT_THROUGH, gave(HostValue::Unit)));
+    assert!(rt; job.step(alloc, CLOSE, gave(HostValue::Unit)));
+    assert!(rt; job.wants(alloc, b" Resolve 1"));
+    Ok(())
+}
+
+#[test]
+fn a_directory_that_gets_no_context_goes_again(rt: HostRuntime) -> Result<(), Fail> {
+    let alloc = rt.alloc();
+    let mut job = Played::make_dir(alloc, b"security.selinux").ok_or("no job")?;
+    assert!(rt; job.makes_by(alloc, b" MakeDir 4 a 493"));
+    assert!(rt; job.step(alloc, OPEN, gave(HostValue::Fd(Fd(5)))));
+    let fault = ActReply::Host(HostReply::Fault(Errno::EIO));
+    assert!(rt; job.step(alloc, SET_CONTEXT_THROUGH, fault));
+    assert!(rt; job.step(alloc, CLOSE, gave(HostValue::Unit)));
+    assert!(rt; job.unmakes_by(alloc, b" RemoveDir 4 a"));
+    assert!(rt; job.has_ended(alloc, b" Refused 5"));
+    let mut blocked = Played::make_dir(alloc, b"system").ok_or("no job")?;
+    assert!(rt; blocked.makes_by(alloc, b" MakeDir 4 a 493"));
+    assert!(rt; blocked.unmakes_by(alloc, b" RemoveDir 4 a"));
+    assert!(rt; blocked.has_ended(alloc, b" Refused 95"));
+    Ok(())
+}
+
+#[test]
+fn a_link_that_is_not_opened_for_its_context_goes_again(rt: HostRuntime) -> Result<(), Fail> {
+    let alloc = rt.alloc();
+    let mut job = Played::make_link(alloc, b"security.selinux").ok_or("no job")?;
+    assert!(rt; job.makes_by(alloc, b" SymLink 4 a t"));
+    let refused = ActReply::Host(HostReply::Refused(Errno::EACCES));
+    assert!(rt; job.step(alloc, OPEN, refused));
+    assert!(rt; job.unmakes_by(alloc, b" Unlink 4 a"));
+    assert!(rt; job.has_ended(alloc, b" Refused 13"));
     Ok(())
 }

@@ -1,7 +1,7 @@
 use crate::one_directory::OneDirectory;
 use pt_fit::{
-    all_answered, asked_ends, asked_seated, create_opens, each_request, edit_ends, gone_number,
-    lookup_opens, part_looks_up, places_of_entry,
+    all_answered, asked_ends, asked_seated, create_opens, each_request, edit_ends, entry_opens,
+    gone_number, lookup_opens, part_looks_up, places_of_entry,
 };
 use pt_fs::{seats_follow, turns_are_determined};
 use pt_law::{
@@ -40,6 +40,7 @@ fn the_laws_of_requests_hold() {
 #[test]
 fn the_laws_of_lookups_hold() {
     lookup_opens();
+    entry_opens();
     create_opens();
     part_looks_up();
     places_of_entry();

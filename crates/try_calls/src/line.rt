@@ -2,9 +2,10 @@ use crate::case::Case;
 use crate::long::written_out;
 use crate::trouble::Trouble;
 use pt_host::{HostReply, HostSeat, KeptHostOp};
-use pt_script::{end, next_edit, next_fault, next_identity, next_tree_line, next_word};
+use pt_script::{next_edit, next_fault, next_identity, next_tree_line};
 use pt_show::{Text, read_text};
 use pt_text::{Parts, push_text};
+use pt_words::{end, next_word};
 use std::alloc::{AllocError, Global};
 
 // The line as it was given, and what it was answered.

@@ -1,9 +1,9 @@
 use crate::case::Case;
 use crate::many::answer_each;
 use crate::trouble::Trouble;
-use pt_script::{end, next_number, next_word};
 use pt_show::Text;
 use pt_text::{Parts, push_text};
+use pt_words::{end, next_number, next_word};
 use std::alloc::AllocError;
 
 // What stands behind the first word.

@@ -1,5 +1,5 @@
-use pt_script::LineError;
 use pt_show::ReadError;
+use pt_words::LineError;
 use std::alloc::AllocError;
 
 /// Why a line was not taken.

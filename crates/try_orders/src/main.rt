@@ -1,39 +1,29 @@
-//! Runs two lookups or two creates and a forget beside each other in every order of their steps, and writes how many
-//! orders end as a plain count says.
+//! Runs lookups, creates, renames and a forget beside each other in every order of their steps, and writes how many
+//! orders do not end as a plain count says. Three cases of lookups are run order by order, whole requests by the
+//! states that orders lead to.
 #![tactic(auto)]
 
 mod beside;
+mod names;
 mod plain;
+mod run;
+mod states;
+mod whole;
 
-use beside::{
-    Beside, CLAIMED, CLAIMED_TOO_MUCH, Ends, FORGOTTEN, MADE, MADE_AND_FOUND, NEW, NUMBERED, OPENED,
-};
-use plain::agrees;
-use pt_run::{MemSink, MemSource, Status, run};
+use beside::{Beside, FORGOTTEN, NEW, NUMBERED};
+use names::{EXCHANGED, MOVED, RENAMED, REPLACED, UNLINKED};
+use plain::LeftOut;
+use run::report_of;
+use states::{Walked, walk};
 use std::alloc::{AllocError, Global};
 use std::io;
+use whole::{EXCLUSIVE, LOOKED_UP, MADE, ONE_SLOT, THERE, TOO_MUCH, Whole};
 
 /// How many orders were run, and how many of these ended as none of the ends.
 #[derive(Clone, Copy)]
 struct Count {
     orders: u64,
     others: u64,
-}
-
-// Whether the report of this script ends as the count says.
-fn ends_well(alloc: Global, beside: &Beside<'_>, script: Vec<u8>) -> Result<bool, AllocError> {
-    let words = vec![in alloc; String::from_str(alloc, "script")?]?;
-    let mut input = MemSource::new(script, Vec::new(alloc));
-    let mut output = MemSink::new(alloc, Vec::new(alloc));
-    let status = run(alloc, words.as_slice(), &mut input, &mut output);
-    if status != Status::Done {
-        return Ok(false);
-    }
-    let report = output.as_slice();
-    match beside.ends {
-        Ends::As(ends) => Ok(ends.iter().any(|end| report.ends_with(end))),
-        Ends::Counted(slots) => agrees(alloc, report, slots),
-    }
 }
 
 fn count_order(
@@ -43,9 +33,9 @@ fn count_order(
     forget: &[u32],
     count: &mut Count,
 ) -> Result<(), AllocError> {
-    let script = beside.script(alloc, mask, forget)?;
+    let report = report_of(alloc, beside.script(alloc, mask, forget)?)?;
     count.orders = count.orders.saturating_add(1);
-    if !ends_well(alloc, beside, script)? {
+    if !beside.ends.iter().any(|end| report.ends_with(end)) {
         count.others = count.others.saturating_add(1);
     }
     Ok(())
@@ -62,10 +52,6 @@ fn count_forgets(
         return count_order(alloc, beside, mask, &[], count);
     }
     for first in 0..beside.places {
-        if beside.forgotten == 1 {
-            count_order(alloc, beside, mask, &[first], count)?;
-            continue;
-        }
         for second in first.saturating_add(1)..beside.places {
             count_order(alloc, beside, mask, &[first, second], count)?;
         }
@@ -87,22 +73,37 @@ fn count_orders(alloc: Global, beside: &Beside<'_>) -> Result<Count, AllocError>
     Ok(count)
 }
 
+fn write_walked(rt: &impl Print, alloc: Global, whole: &Whole<'_>) -> io::Result<Walked> {
+    let walked = walk(alloc, whole)?;
+    println!(rt;
+        "{}: {} states, {} orders, {} end otherwise",
+        whole.name, walked.states, walked.orders, walked.others
+    )?;
+    Ok(walked)
+}
+
+fn write_left_out(rt: &impl Print, name: &str, left_out: LeftOut) -> io::Result<()> {
+    println!(rt;
+        "{name}: {} left out, {} unnoticed",
+        left_out.steps, left_out.agreeing
+    )
+}
+
 fn main(rt: HostRuntime) -> io::Result<()> {
-    for beside in [
-        &NUMBERED,
-        &FORGOTTEN,
-        &NEW,
-        &CLAIMED,
-        &CLAIMED_TOO_MUCH,
-        &OPENED,
-        &MADE,
-        &MADE_AND_FOUND,
-    ] {
+    for beside in [&NUMBERED, &FORGOTTEN, &NEW] {
         let count = count_orders(rt.alloc(), beside)?;
         println!(rt;
             "{}: {} orders, {} end otherwise",
             beside.name, count.orders, count.others
         )?;
     }
-    Ok(())
+    for whole in [
+        &LOOKED_UP, &THERE, &TOO_MUCH, &MADE, &EXCLUSIVE, &RENAMED, &EXCHANGED, &REPLACED, &MOVED,
+        &UNLINKED,
+    ] {
+        let _walked = write_walked(&rt, rt.alloc(), whole)?;
+    }
+    let walked = write_walked(&rt, rt.alloc(), &ONE_SLOT)?;
+    write_left_out(&rt, "counts that are given back", walked.given_back)?;
+    write_left_out(&rt, "counts that are forgotten", walked.forgotten)
 }

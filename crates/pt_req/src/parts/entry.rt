@@ -22,7 +22,7 @@ fn mount_flag(agreed: Negotiated, parent: ObjIds, stat: &Stat) -> u32
 }
 
 /// What the guest is told of an object, its owner by the guest's ids.
-fn attr_of(plan: &Plan, stat: &Stat, flags: u32) -> Attr
+pub fn attr_of(plan: &Plan, stat: &Stat, flags: u32) -> Attr
     ensures { result ≡ attr_of plan.now stat.now flags }
 {
     Attr {

@@ -51,7 +51,7 @@ fn are_same(one: ObjIds, other: ObjIds) -> bool
 }
 
 /// How a refusal is answered, which has no error number where memory ran out.
-fn refused_so(errno: Option<Errno>) -> Answer
+pub fn refused_so(errno: Option<Errno>) -> Answer
     ensures { result ≡ refused_so errno }
 {
     match errno {

@@ -42,7 +42,7 @@ pub struct HandleOpen {
 }
 
 /// Whether what has this mode is a regular file or a directory.
-fn can_open(mode: u32) -> bool
+pub fn can_open(mode: u32) -> bool
     ensures { result ≡ can_open mode }
 {
     mode / 4096 == REGULAR || mode / 4096 == DIRECTORY

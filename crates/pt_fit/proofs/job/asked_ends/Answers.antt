@@ -1,6 +1,7 @@
 use Rattle.pt_fit.proofs.job.asked_ends.Goals as goal
-use Rattle.pt_fit.proofs.Asked.{comes_ends, job_full, job_caused, entry_asked, created_asked}
+use Rattle.pt_fit.proofs.Asked.{comes_ends, job_full, job_caused, created_asked}
 use Rattle.pt_fit.proofs.Beginning.{job_first}
+use Rattle.pt_fit.proofs.Entries.{entry_named}
 use Rattle.pt_fit.proofs.Keeping.{asked_keeps}
 
 pub returns-clause-ends : goal.returns-clause-ends
@@ -16,7 +17,7 @@ pub returns-clause-begins : goal.returns-clause-begins
 returns-clause-begins c = job_first
 
 pub returns-clause-named : goal.returns-clause-named
-returns-clause-named c = entry_asked
+returns-clause-named c = entry_named
 
 pub returns-clause-created : goal.returns-clause-created
 returns-clause-created c = created_asked

@@ -7,7 +7,7 @@ use Rattle.pt_fs.proofs.lost.end_all.Given as goal
 
 abbrev pub invariant-loop-place : goal.invariant-loop-place
 invariant-loop-place g l = record {
-  room : length l.trace.items + work l.running (g.F.SteppedFs.tables l.fs) ≤ vec_capacity l.trace;
+  room : length l.trace.items + work l.running (g.F.SteppedFs.tables l.fs) < vec_capacity l.trace;
   plan : g.F.SteppedFs.plan_of l.fs ≡ g.F.SteppedFs.plan_of l.fn.fs;
   root : g.F.SteppedFs.root l.fs ≡ g.F.SteppedFs.root l.fn.fs;
   capacity : vec_capacity l.fn.trace ≤ vec_capacity l.trace;

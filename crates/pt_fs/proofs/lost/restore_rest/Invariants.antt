@@ -6,7 +6,7 @@ use Rattle.pt_fs.proofs.lost.restore_rest.Given as goal
 
 abbrev pub invariant-loop-alloc : goal.invariant-loop-alloc
 invariant-loop-alloc g l = record {
-  room : length l.trace.items + work l.running (g.F.SteppedFs.tables l.fs) ≤ vec_capacity l.trace;
+  room : length l.trace.items + work l.running (g.F.SteppedFs.tables l.fs) < vec_capacity l.trace;
   plan : g.F.SteppedFs.plan_of l.fs ≡ g.F.SteppedFs.plan_of l.fn.fs;
   root : g.F.SteppedFs.root l.fs ≡ g.F.SteppedFs.root l.fn.fs;
   capacity : vec_capacity l.fn.trace ≤ vec_capacity l.trace;

@@ -1,4 +1,4 @@
-use Rattle.std.proofs.Common.{◌≡◌, ◌≤◌, ◌∙◌, ap, length, vec_capacity, arith}
+use Rattle.std.proofs.Common.{◌≡◌, ◌<◌, ◌≤◌, ◌∙◌, ap, length, vec_capacity, arith}
 use Rattle.std.proofs.lemmas.Option.{slice_get_within}
 use Rattle.pt_session.specs.Pending.{pending_in}
 use Rattle.pt_law.proofs.Hosts.{Tells}
@@ -23,7 +23,7 @@ run_all-requires g c =
     let none = ap pending_in c.requires.new.1 in
     let empty : length c.in-Ok.started.1.trace.items ≡ 0 = ap length c.in-Ok.ensures.trace in
     let few = c.requires.few in
-    let room : room_of jobs ≤ vec_capacity c.in-Ok.started.1.trace = c.in-Ok.ensures.trace_room in
+    let room : room_of jobs < vec_capacity c.in-Ok.started.1.trace = c.in-Ok.ensures.trace_room in
     record {
       named = omega arith;
       room = omega arith;

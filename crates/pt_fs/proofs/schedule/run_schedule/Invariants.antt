@@ -1,4 +1,4 @@
-use Rattle.std.proofs.Common.{◌≡◌, ◌+◌, ◌≤◌, vec_capacity, length, drop}
+use Rattle.std.proofs.Common.{◌≡◌, ◌+◌, ◌<◌, ◌≤◌, vec_capacity, length, drop}
 use Rattle.pt_fs.specs.GoesOn.{GoesOn}
 use Rattle.pt_fs.specs.Order.{order}
 use Rattle.pt_fs.specs.Took.{NoneLost}
@@ -15,5 +15,5 @@ invariant-loop-place g l = record {
   plan : g.F.SteppedFs.plan_of l.fs ≡ g.F.SteppedFs.plan_of l.fn.fs;
   root : g.F.SteppedFs.root l.fs ≡ g.F.SteppedFs.root l.fn.fs;
   capacity : vec_capacity l.fn.trace ≤ vec_capacity l.trace;
-  room : length l.trace.items + work l.running (g.F.SteppedFs.tables l.fs) ≤ vec_capacity l.trace;
+  room : length l.trace.items + work l.running (g.F.SteppedFs.tables l.fs) < vec_capacity l.trace;
 }

@@ -1,0 +1,243 @@
+-- The making of an object under a name is fit: as whoever asks it is made, gets its context, and is looked up.
+use Rattle.std.proofs.Common.{◌≡◌, ◌++◌, ◌∷◌, ◌∙◌, [], if◌then◌else◌, inl, inr, ℕ, Bool, true, false, List, None}
+use Rattle.std.proofs.Common.{Option, Some, length, refl, subst, sym}
+use Rattle.pt_host.specs.Call.{Call}
+use Rattle.pt_host.specs.Errno.{einval, eopnotsupp, eperm}
+use Rattle.pt_host.specs.Sorts.{sort_of}
+use Rattle.pt_host.specs.Words.{Takes.{here}}
+use Rattle.pt_host.specs.declared.ids.Errno.{Errno}
+use Rattle.pt_host.specs.declared.ids.Fd.{Fd}
+use Rattle.pt_host.specs.declared.op.KeptHostOp.TheVariants as call
+use Rattle.pt_host.specs.declared.reply.HostReply.TheVariants as host
+use Rattle.pt_host.specs.declared.reply.HostValue.TheVariants as value
+use Rattle.pt_host.specs.declared.seat.HostSeat.{HostSeat}
+use Rattle.pt_session.specs.declared.form.Negotiated.{Negotiated}
+use Rattle.pt_iface.specs.declared.answer.Answer.{Answer}
+use Rattle.pt_iface.specs.declared.answer.Answer.TheVariants as answer
+use Rattle.pt_iface.specs.declared.entry.Entry.{Entry}
+use Rattle.pt_iface.specs.declared.request.Context.{Context}
+use Rattle.pt_iface.specs.declared.request.Request.{Request}
+use Rattle.pt_iface.specs.declared.request.SecContext.{SecContext}
+use Rattle.pt_frame.specs.Deed.{Calls, Step}
+use Rattle.pt_frame.specs.Tree.{Bares, Brackets, Gives, RequestTree, Shuts}
+use Rattle.pt_frame.specs.declared.act.ActReply.{ActReply}
+use Rattle.pt_frame.specs.declared.act.ActReply.TheVariants.{Event, Host, NoCopy}
+use Rattle.pt_frame.specs.declared.hold.Hold.{Hold}
+use Rattle.pt_frame.specs.declared.hold.Hold.TheVariants as hold
+use Rattle.pt_req.specs.Asker.{asker_of}
+use Rattle.pt_req.specs.Attributes.{is_blocked}
+use Rattle.pt_req.specs.Creating.{undone}
+use Rattle.pt_req.specs.Entries.{is_bad_name}
+use Rattle.pt_req.specs.Parts.{by_path}
+use Rattle.pt_req.specs.Steps.{on_set, set_xattr}
+use Rattle.pt_req.specs.declared.begun.BegunSession.{BegunSession}
+use Rattle.pt_req.specs.declared.plan.Plan.{Plan}
+use Rattle.pt_attr.specs.Making.{is_bad_target, labelled_at, make, make_named, making_call, open_at_or}
+use Rattle.pt_attr.specs.Making.{unmaking_call}
+use Rattle.pt_attr.specs.declared.requests.making.Made.{Made}
+use Rattle.pt_attr.specs.declared.requests.making.Made.TheVariants as made
+use Rattle.pt_attr.specs.declared.requests.making.ObjectAsked.{ObjectAsked}
+use Rattle.pt_law.specs.Discipline.{KnowsAll, Notes, blank}
+use Rattle.pt_law.specs.Keeps.{Lasts, unscoped}
+use Rattle.pt_law.specs.Naming.{made as step_made}
+use Rattle.pt_law.specs.Told.{MayBeTold}
+use Rattle.pt_fit.specs.Cause.{Asking, BlocksLabel, IsBlockedLabel, OwnCause, SomeCauses, asking, is_passed_over}
+use Rattle.pt_fit.specs.Fit.{Fit, MayAnswer}
+use Rattle.pt_fit.proofs.Creating.{covers_none, fit_as_asker}
+use Rattle.pt_fit.proofs.Holds.{down_over, nothing_bare}
+use Rattle.pt_fit.proofs.Joined.{after_any_step, fit_gives, fit_look_up}
+use Rattle.pt_fit.proofs.Parts.{Covers, Goes, Seen, Told, blocked_by, fit_begin, fit_checked, fit_file_of}
+use Rattle.pt_fit.proofs.Parts.{fit_resolve, still}
+use Rattle.pt_fit.proofs.Refused.{IsHeededCall, refused_by}
+
+-- The object is made, and the scopes end.
+
+module _ {asked : Asking} {seen : List Seen} {marks : List ℕ} {notes : Notes} (holds bare : List Hold)
+    (row : ℕ) (dir : Fd) (name : List ℕ) (next : RequestTree) (c : Covers holds (hold.Pin row (Some dir) ∷ bare))
+    (f : Goes asked seen next (hold.Pin row (Some dir) ∷ bare) marks notes) where
+  knows_dir : KnowsAll (unscoped holds) (dir ∷ [])
+  knows_dir = subst (λ (all : List Hold). KnowsAll all (dir ∷ [])) (sym c.unscopes)
+      ((hold.Pin row (Some dir), _, here, refl), tt)
+
+  -- what follows the call
+  fit_told : (making : Call) (path : List Step) (told : ActReply) → Told seen path →
+      is_passed_over asked.request making ≡ false → IsHeededCall (sort_of making) → MayBeTold (Calls making) told →
+      Fit asked (Bares (on_set next told)) holds marks notes (step_made (Calls making) told ∷ path)
+  fit_told making path (Host (host.Ok got)) s heeded is m =
+      subst (λ (z : List Hold). Fit asked next z marks notes (step_made (Calls making) (Host (host.Ok got)) ∷ path))
+      (sym c.uncovers) (f.on _ (still s))
+  fit_told making path told s heeded is m = refused_by asked (Calls making) told holds path (heeded, is) m (λ no. no)
+
+  fit_make : (what : Made) → Goes asked seen (make (making_call what dir name) next) holds marks notes
+  fit_make (made.Directory mode) = record {
+    on = λ path s. ((knows_dir, tt), λ told m. fit_told (call.MakeDir dir name mode) path told s refl tt m);
+  }
+  fit_make (made.Node mode rdev) = record {
+    on = λ path s. ((knows_dir, tt), λ told m. fit_told (call.MakeNode dir name mode rdev) path told s refl tt m);
+  }
+  fit_make (made.Link target) = record {
+    on = λ path s. ((knows_dir, tt), λ told m. fit_told (call.SymLink dir name target) path told s refl tt m);
+  }
+
+-- Its name goes again, and so the request is answered.
+
+module _ (asked : Asking) (holds : List Hold) (marks : List ℕ) (dir : Fd) (name : List ℕ)
+    (k : KnowsAll (unscoped holds) (dir ∷ [])) where
+  fit_undone : (what : Made) (last : Answer) (notes : Notes) (path : List Step) →
+      ((step : Step) → Fit asked (Gives last) holds marks notes (step ∷ path)) →
+      Fit asked (undone (unmaking_call what dir name) last) holds marks notes path
+  fit_undone (made.Directory mode) last notes path f =
+      ((k, tt), λ told m. f (step_made (Calls (unmaking_call (made.Directory mode) dir name)) told))
+  fit_undone (made.Node mode rdev) last notes path f =
+      ((k, tt), λ told m. f (step_made (Calls (unmaking_call (made.Node mode rdev) dir name)) told))
+  fit_undone (made.Link target) last notes path f =
+      ((k, tt), λ told m. f (step_made (Calls (unmaking_call (made.Link target) dir name)) told))
+
+  fit_refused : (what : Made) (errno : Errno) (notes : Notes) (path : List Step) →
+      SomeCauses asked.request path errno →
+      Fit asked (undone (unmaking_call what dir name) (answer.Refused errno)) holds marks notes path
+  fit_refused what errno notes path s =
+      fit_undone what (answer.Refused errno) notes path (λ step. (tt, inr (inl (inr s)), tt))
+
+  fit_out : (what : Made) (notes : Notes) (path : List Step) →
+      Fit asked (undone (unmaking_call what dir name) answer.NoMemory) holds marks notes path
+  fit_out what notes path = fit_undone what answer.NoMemory notes path (λ step. (tt, tt, tt))
+
+-- behind the end of a bracket
+shut_so : (asked : Asking) (rest : RequestTree) (front holds : List Hold) (marks : List ℕ) (notes : Notes)
+    (path : List Step) → ((later : Notes) → Lasts notes later → Fit asked rest holds marks later path) →
+    Fit asked (Shuts false rest) (front ++ holds) (length holds ∷ marks) notes path
+shut_so asked rest front holds marks notes path f = λ later l.
+    subst (λ (z : List Hold). Fit asked rest z marks later path) (sym (down_over front holds)) (f later l)
+
+-- What was made gets its context, in a directory that is pinned.
+
+abbrev pinned : ℕ → Fd → List Hold
+pinned row dir = hold.Pin row (Some dir) ∷ []
+
+knows : (row : ℕ) (dir : Fd) → KnowsAll (unscoped (pinned row dir)) (dir ∷ [])
+knows row dir = ((hold.Pin row (Some dir), _, here, refl), tt)
+
+abbrev shut_by : Made → Fd → List ℕ → Answer → RequestTree
+shut_by what dir name last = Shuts false (undone (unmaking_call what dir name) last)
+
+-- in the bracket in which that is done
+abbrev inner : ℕ → Fd → List ℕ → List ℕ
+inner row dir marks = length (pinned row dir) ∷ marks
+
+module _ (asked : Asking) (marks : List ℕ) (row : ℕ) (dir : Fd) (name : List ℕ) (what : Made) where
+  refused_so : (front : List Hold) (errno : Errno) (these : Notes) (path : List Step) →
+      SomeCauses asked.request path errno →
+      Fit asked (shut_by what dir name (answer.Refused errno)) (front ++ pinned row dir) (inner row dir marks) these
+      path
+  refused_so front errno these path s =
+      shut_so asked (undone (unmaking_call what dir name) (answer.Refused errno)) front (pinned row dir) marks these
+      path (λ later l. fit_refused asked (pinned row dir) marks dir name (knows row dir) what errno later path s)
+
+  out_so : (front : List Hold) (these : Notes) (path : List Step) →
+      Fit asked (shut_by what dir name answer.NoMemory) (front ++ pinned row dir) (inner row dir marks) these path
+  out_so front these path =
+      shut_so asked (undone (unmaking_call what dir name) answer.NoMemory) front (pinned row dir) marks these path
+      (λ later l. fit_out asked (pinned row dir) marks dir name (knows row dir) what later path)
+
+module _ (asked : Asking) (seen : List Seen) (marks : List ℕ) (notes : Notes) (session : BegunSession)
+    (row number : ℕ) (dir : Fd) (name : List ℕ) (what : Made) (next : RequestTree)
+    (f : (later : Notes) → later.era ≡ notes.era → Goes asked seen next (pinned row dir) marks later) where
+  -- by its descriptor
+  fit_set : (fd : Fd) (attribute bytes : List ℕ) (these : Notes) → these.era ≡ notes.era →
+      Goes asked seen (set_xattr fd true attribute bytes 0 (shut_by what dir name) (Shuts false next))
+      (hold.Fd fd None ∷ pinned row dir) (inner row dir marks) these
+  fit_set fd attribute bytes these same = record {
+    on = λ path s. (
+      (((hold.Fd fd None, _, here, refl), tt), tt),
+      elim [
+        | Host (host.Ok told) ↦ λ m. shut_so asked next own (pinned row dir) marks these
+            (labelling (Host (host.Ok told)) ∷ path) (λ later l. (f later (l.0 ∙ same)).on _ (still s))
+        | Host (host.Refused errno) ↦ λ m. refused_so asked marks row dir name what own errno these
+            (labelling (Host (host.Refused errno)) ∷ path) (inl (refl, refl))
+        | Host (host.Fault errno) ↦ λ m. refused_so asked marks row dir name what own errno these
+            (labelling (Host (host.Fault errno)) ∷ path) (inl (refl, refl))
+        | Host host.NoMemory ↦
+            λ m. out_so asked marks row dir name what own these (labelling (Host host.NoMemory) ∷ path)
+        | Event told ↦ λ m. absurd m
+        | NoCopy ↦ λ m. out_so asked marks row dir name what own these (labelling NoCopy ∷ path)
+      ],
+    );
+  }
+    where
+      own : List Hold
+      own = hold.Fd fd None ∷ []
+
+      labelling : ActReply → Step
+      labelling told = step_made (Calls (call.SetXattr fd true attribute bytes 0)) told
+
+  -- its name is opened
+  fit_opened : (attribute bytes : List ℕ) → notes.resolved ≡ Some (record { number = number; row = row }) →
+      Goes asked seen (open_at_or dir name by_path (shut_by what dir name) (λ fd.
+      set_xattr fd true attribute bytes 0 (shut_by what dir name) (Shuts false next))) (pinned row dir)
+      (inner row dir marks) notes
+  fit_opened attribute bytes r = record {
+    on = λ path s. (
+      (((hold.Pin row (Some dir), _, here, refl), tt), (record { number = number; row = row }, _, r, here)),
+      elim [
+        | Host (host.Ok (value.Fd fd)) ↦ λ m. (fit_set fd attribute bytes _ refl).on _ (still s)
+        | Host (host.Refused errno) ↦ λ m. refused_so asked marks row dir name what [] errno notes
+            (opening (Host (host.Refused errno)) ∷ path) (inl (refl, refl))
+        | Host (host.Fault errno) ↦ λ m. refused_so asked marks row dir name what [] errno notes
+            (opening (Host (host.Fault errno)) ∷ path) (inl (refl, refl))
+        | Host host.NoMemory ↦
+            λ m. out_so asked marks row dir name what [] notes (opening (Host host.NoMemory) ∷ path)
+        | NoCopy ↦ λ m. out_so asked marks row dir name what [] notes (opening NoCopy ∷ path)
+        | told ↦ λ m. refused_by asked (Calls (call.OpenAt dir name by_path 0)) told (pinned row dir) path
+            (refl, tt) m (λ no. no)
+      ],
+    );
+  }
+    where
+      opening : ActReply → Step
+      opening told = step_made (Calls (call.OpenAt dir name by_path 0)) told
+
+  fit_labelled_at : (label : Option SecContext) → notes.resolved ≡ Some (record { number = number; row = row }) →
+      ((brought : SecContext) → label ≡ Some brought → is_blocked session.agreed brought.name ≡ true →
+      (path : List Step) → Told seen path → SomeCauses asked.request path eopnotsupp) →
+      Goes asked seen (labelled_at session dir name (unmaking_call what dir name) label next) (pinned row dir) marks
+      notes
+  fit_labelled_at None r c = f notes refl
+  fit_labelled_at (Some brought) r c = go (is_blocked session.agreed brought.name) refl
+    where
+      go : (bad : Bool) → is_blocked session.agreed brought.name ≡ bad →
+          Goes asked seen (if bad then undone (unmaking_call what dir name) (answer.Refused eopnotsupp)
+          else Brackets (open_at_or dir name by_path (shut_by what dir name) (λ fd.
+          set_xattr fd true brought.name brought.value 0 (shut_by what dir name) (Shuts false next))))
+          (pinned row dir) marks notes
+      go true e = record {
+        on = λ path s. fit_refused asked (pinned row dir) marks dir name (knows row dir) what eopnotsupp notes path
+            (c brought refl e path s);
+      }
+      go false e = record { on = (fit_opened brought.name brought.value r).on }
+
+-- as whoever asks, in a directory, and the entry is answered
+pub fit_named : (plan : Plan) (seat : HostSeat) (who : Context) (what : Request) (object : ObjectAsked) →
+    (is_bad_name object.name ≡ true → OwnCause plan who what einval) →
+    (is_bad_target object.made ≡ true → OwnCause plan who what einval) →
+    ((session : BegunSession) → asker_of plan session object.who object.sup_gid ≡ None →
+    OwnCause plan who what eperm) →
+    ((agreed : Negotiated) → IsBlockedLabel agreed object.secctx → BlocksLabel agreed what) →
+    ((entry : Entry) → MayAnswer (answer.Entry entry) what) →
+    Goes (asking plan who what) [] (make_named plan seat object) [] [] blank
+fit_named plan seat who what object misnamed mistargeted forbids blocks answers =
+    fit_begin _ refl (λ session.
+    fit_checked (is_bad_name object.name) _ misnamed (
+    fit_checked (is_bad_target object.made) _ mistargeted (
+    fit_resolve object.parent _ nothing_bare (λ row. after_any_step (fit_file_of row.row row.form _ (λ dir.
+    fit_as_asker _
+    (λ holds c. fit_make holds [] row.row dir object.name _ c
+    (fit_labelled_at _ _ _ _ session row.row object.parent dir object.name object.made _
+    (λ later same. fit_look_up plan session object.parent object.name _ (λ one. refl) same (λ looked last l.
+    fit_gives (answer.Entry looked.entry) (λ path. (refl, tt, answers looked.entry))))
+    object.secctx refl
+    (λ brought is bad path s. blocked_by what path session.agreed
+    (blocks session.agreed (subst (λ (label : Option SecContext). IsBlockedLabel session.agreed label) (sym is) bad))
+    s.each.0))
+    object.made)
+    seat (asker_of plan session object.who object.sup_gid) _ (covers_none row.row dir) (forbids session)))))))

@@ -1,0 +1,172 @@
+-- The request `setattr` is fit.
+use Rattle.std.proofs.Common.{◌≡◌, ◌⊎◌, ◌∷◌, [], inl, inr, ℕ, Bool, true, false, List, Option, None, Some, refl}
+use Rattle.std.proofs.Common.{if◌then◌else◌}
+use Rattle.std.specs.Prelude.{◌||◌}
+use Rattle.pt_host.specs.Call.{Call}
+use Rattle.pt_host.specs.Words.{Takes.{here, there}}
+use Rattle.pt_host.specs.declared.ids.Fd.{Fd}
+use Rattle.pt_host.specs.declared.op.KeptHostOp.TheVariants as call
+use Rattle.pt_maps.specs.Translated.{to_host}
+use Rattle.pt_iface.specs.declared.answer.Answer.TheVariants as answer
+use Rattle.pt_iface.specs.declared.flags.SetattrValid.{SetattrValid}
+use Rattle.pt_iface.specs.declared.request.Context.{Context}
+use Rattle.pt_iface.specs.declared.request.Request.{Request}
+use Rattle.pt_iface.specs.declared.request.Request.TheVariants as request
+use Rattle.pt_iface.specs.declared.request.SetattrIn.{SetattrIn}
+use Rattle.pt_frame.specs.Deed.{Calls}
+use Rattle.pt_frame.specs.Held.{row_fd}
+use Rattle.pt_frame.specs.Tree.{RequestTree}
+use Rattle.pt_frame.specs.declared.hold.Hold.{Hold}
+use Rattle.pt_frame.specs.declared.hold.Hold.TheVariants as hold
+use Rattle.pt_req.specs.Entries.{attr_of}
+use Rattle.pt_req.specs.Parts.{file_of, open_row}
+use Rattle.pt_req.specs.Steps.{Resolved}
+use Rattle.pt_req.specs.declared.plan.Plan.{Plan}
+use Rattle.pt_attr.specs.Setting.{atime_set, do_if, file_set, id_set, is_missized, mtime_set, opens_anew, own_as}
+use Rattle.pt_attr.specs.Setting.{set_mode, set_owner, set_size, set_times, setattr, setting_flags, sets_atime}
+use Rattle.pt_attr.specs.Setting.{sets_gid, sets_mode, sets_mtime, sets_size, sets_uid, target_of, tell_attr}
+use Rattle.pt_law.specs.Discipline.{Knows, Notes, blank}
+use Rattle.pt_law.specs.Keeps.{MayMake, unscoped}
+use Rattle.pt_fit.specs.Cause.{Asking, IsForbiddenOwner, asking}
+use Rattle.pt_fit.proofs.Holds.{IsBare, nothing_bare}
+use Rattle.pt_fit.proofs.Joined.{after_any_step, fit_file_by, fit_gives, fit_open_row}
+use Rattle.pt_fit.proofs.Parts.{Goes, GoesAfter, IsStillCall, Seen, fit_begin, fit_checked, fit_do_call, fit_file_of}
+use Rattle.pt_fit.proofs.Parts.{fit_look_at, fit_pin_handle, fit_resolve, noting, resolution}
+use Rattle.pt_fit.proofs.Refused.{IsHeeded}
+
+fit_do_if : {asked : Asking} {seen : List Seen} {holds : List Hold} {marks : List ℕ} {notes : Notes} (is : Bool)
+    (did : Call) (next : RequestTree) → IsStillCall did → MayMake (Calls did) holds notes →
+    IsHeeded asked.request (Calls did) holds → Goes asked seen next holds marks notes →
+    Goes asked seen (do_if is did next) holds marks notes
+fit_do_if true did next same may heeds f = fit_do_call did next same may heeds f
+fit_do_if false did next same may heeds f = f
+
+module _ (plan : Plan) (who : Context) (inode : ℕ) (handle : Option ℕ) (valid : SetattrValid) (attr : SetattrIn) where
+  abbrev what : Request
+  what = request.SetAttr inode handle valid attr
+
+  abbrev asks : Asking
+  asks = asking plan who what
+
+  -- what is held lets calls be made on the file and on what they go to
+  record Sets (holds : List Hold) (file target : Fd) : Type 0 where
+    bare : IsBare holds
+    files : Knows (unscoped holds) file
+    targets : Knows (unscoped holds) target
+
+  -- the attributes are told, whatever is held
+  fit_tell : {seen : List Seen} {holds : List Hold} {marks : List ℕ} {notes : Notes} → IsBare holds →
+      Goes asks seen (tell_attr plan inode) holds marks notes
+  fit_tell b =
+      fit_file_by inode _ b (λ row fd.
+      fit_look_at fd _ (((hold.Pin row (Some fd), _, here, refl), tt), tt) (λ told.
+      after_any_step (
+      fit_gives (answer.Attr (attr_of plan told 0) plan.config.attr_timeout) (λ path. (tt, tt, tt)))))
+
+  fit_owns : {seen : List Seen} {holds : List Hold} {marks : List ℕ} {notes : Notes} (file target : Fd)
+      (next : RequestTree) → Sets holds file target → (uid gid : Option ℕ) →
+      ((uid ≡ None) ⊎ (gid ≡ None) → IsForbiddenOwner plan valid attr) →
+      Goes asks seen next holds marks notes → Goes asks seen (own_as file uid gid next) holds marks notes
+  fit_owns file target next s (Some uid) (Some gid) bars f =
+      fit_do_call (call.ChOwn file uid gid) next (record { holds = λ told these. refl; notes = λ told these. refl })
+      ((s.files, tt), tt) (refl, tt) f
+  fit_owns file target next s (Some uid) None bars f =
+      record { on = λ path told. (tt, inl (inr (bars (inr refl), refl)), tt) }
+  fit_owns file target next s None gid bars f =
+      record { on = λ path told. (tt, inl (inr (bars (inl refl), refl)), tt) }
+
+  none_set : (is : Bool) (mapped : Option ℕ) → id_set is mapped ≡ None → (is ≡ true) × (mapped ≡ None)
+  none_set true mapped e = (refl, e)
+  none_set false mapped e = absurd (cc)
+
+  forbidden : (id_set (sets_uid valid) (to_host plan.uid_map attr.uid) ≡ None)
+      ⊎ (id_set (sets_gid valid) (to_host plan.gid_map attr.gid) ≡ None) → IsForbiddenOwner plan valid attr
+  forbidden (inl e) = inl (none_set (sets_uid valid) (to_host plan.uid_map attr.uid) e)
+  forbidden (inr e) = inr (none_set (sets_gid valid) (to_host plan.gid_map attr.gid) e)
+
+  fit_owner : {seen : List Seen} {holds : List Hold} {marks : List ℕ} {notes : Notes} (file target : Fd)
+      (next : RequestTree) → Sets holds file target → Goes asks seen next holds marks notes →
+      Goes asks seen (set_owner plan valid attr file next) holds marks notes
+  fit_owner {seen = seen} {holds = holds} {marks = marks} {notes = notes} file target next s f =
+      at (sets_uid valid || sets_gid valid)
+    where
+      at : (is : Bool) → Goes asks seen
+          (if is then own_as file (id_set (sets_uid valid) (to_host plan.uid_map attr.uid))
+          (id_set (sets_gid valid) (to_host plan.gid_map attr.gid)) next else next) holds marks notes
+      at true = fit_owns file target next s _ _ forbidden f
+      at false = f
+
+  -- from the mode on
+  abbrev sets_all : Fd → Fd → Bool → RequestTree
+  sets_all file target through =
+      set_mode valid attr target through (
+      set_owner plan valid attr file (
+      set_size valid attr target (
+      set_times valid attr target through (
+      tell_attr plan inode))))
+
+  fit_sets : {seen : List Seen} {holds : List Hold} {marks : List ℕ} {notes : Notes} (file target : Fd)
+      (through : Bool) → Sets holds file target →
+      Goes asks seen (sets_all file target through) holds marks notes
+  fit_sets file target through s =
+      fit_do_if (sets_mode valid) (call.ChMod target through attr.mode) _
+      (record { holds = λ told these. refl; notes = λ told these. refl }) ((s.targets, tt), tt) (refl, tt)
+      (fit_owner file target _ s
+      (fit_do_if (sets_size valid) (call.Truncate target attr.size) _
+      (record { holds = λ told these. refl; notes = λ told these. refl }) ((s.targets, tt), tt) (refl, tt)
+      (fit_do_if (sets_atime valid || sets_mtime valid)
+      (call.SetTimes target through (atime_set valid attr) (mtime_set valid attr)) _
+      (record { holds = λ told these. refl; notes = λ told these. refl }) ((s.targets, tt), tt) (refl, tt)
+      (fit_tell s.bare))))
+
+  -- by the file, which is held itself or by its row
+  fit_opened : {seen : List Seen} {marks : List ℕ} {notes : Notes} (row : ℕ) (dir new : Fd) →
+      (given : Option ℕ) → opens_anew given valid ≡ true →
+      Goes asks seen (target_of inode given new (sets_all new)) (hold.Fd new None ∷ hold.Pin row (Some dir) ∷ [])
+      marks notes
+  fit_opened row dir new (Some number) e = absurd (cc)
+  fit_opened row dir new None e =
+      fit_sets new new true (record {
+        bare = λ one. refl;
+        files = (hold.Fd new None, _, here, refl);
+        targets = (hold.Fd new None, _, here, refl);
+      })
+
+  fit_filed : {seen : List Seen} {marks : List ℕ} {notes : Notes} (row : ℕ) (file : Fd) (given : Option ℕ) →
+      Goes asks seen (target_of inode given file (sets_all file)) (hold.Pin row (Some file) ∷ []) marks notes
+  fit_filed row file (Some number) =
+      fit_pin_handle number inode _ (λ one. refl) (λ other fd.
+      fit_sets file fd false (record {
+        bare = λ one. refl;
+        files = (hold.Pin row (Some file), _, there here, refl);
+        targets = (hold.HandlePin other fd, _, here, refl);
+      }))
+  fit_filed row file None =
+      fit_sets file file true (record {
+        bare = λ one. refl;
+        files = (hold.Pin row (Some file), _, here, refl);
+        targets = (hold.Pin row (Some file), _, here, refl);
+      })
+
+  -- from the file on
+  abbrev sets_file : Fd → RequestTree
+  sets_file file = target_of inode handle file (sets_all file)
+
+  fit_row : {seen : List Seen} {marks : List ℕ} (notes : Notes) (row : Resolved) →
+      GoesAfter (resolution inode row) asks seen (file_set handle valid row sets_file)
+      (hold.Pin row.row (row_fd row.form) ∷ []) marks (noting inode row.row notes)
+  fit_row {seen = seen} {marks = marks} notes row = at (opens_anew handle valid) refl
+    where
+      at : (anew : Bool) → opens_anew handle valid ≡ anew →
+          GoesAfter (resolution inode row) asks seen
+          (if anew then open_row row setting_flags sets_file else file_of row.form sets_file)
+          (hold.Pin row.row (row_fd row.form) ∷ []) marks (noting inode row.row notes)
+      at true e =
+          fit_open_row notes inode setting_flags row sets_file e (λ dir new. fit_opened row.row dir new handle e)
+      at false e =
+          after_any_step (fit_file_of row.row row.form sets_file (λ file. fit_filed row.row file handle))
+
+  pub fit_setattr : Goes asks [] (setattr plan inode handle valid attr) [] [] blank
+  fit_setattr = fit_begin _ refl (λ session.
+      fit_checked (is_missized valid attr) _ (λ bad. inl (bad, refl))
+      (fit_resolve inode _ nothing_bare (λ row. fit_row (record blank { era = Some session.era }) row)))

@@ -1,0 +1,2 @@
+pub mod PairsRead
+pub mod PlacesRead

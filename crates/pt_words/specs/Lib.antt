@@ -1,0 +1,8 @@
+-- Inner. The files of definitions, lowest first.
+pub mod Fields
+pub mod Numbers
+pub mod Handles
+pub mod Making
+pub mod Naming
+pub mod Attributes
+pub mod Request

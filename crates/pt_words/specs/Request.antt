@@ -1,0 +1,67 @@
+-- Believed. The requests of a script, by their words.
+use Rattle.std.specs.Prelude.{ℕ, List, [], ◌∷◌, Option, None, if◌then◌else◌, codes}
+use Rattle.std.specs.Str.{bytes_eq}
+use Rattle.pt_iface.specs.declared.request.Request.{Request}
+use Rattle.pt_iface.specs.declared.request.Request.TheVariants.{Destroy, Root, Other}
+use Rattle.pt_words.specs.Fields.{◌>>=◌, small_in, at_end}
+use Rattle.pt_words.specs.Numbers.{init_in, lookup_in, forget_in, batch_forget_in}
+use Rattle.pt_words.specs.Handles.{open_in, opendir_in, release_in, releasedir_in, read_in}
+use Rattle.pt_words.specs.Making.{create_in, mkdir_in, mknod_in, symlink_in}
+use Rattle.pt_words.specs.Naming.{link_in, unlink_in, rmdir_in, rename_in}
+use Rattle.pt_words.specs.Attributes.{readlink_in, statfs_in, getattr_in, setattr_in, access_in}
+
+-- `other OPCODE`
+abbrev pub other_in : List (List ℕ) → Option Request
+other_in words = do
+  opcode ← small_in words
+  at_end opcode.rest (Other opcode.value)
+
+-- a request for what an object tells, or for a change of that
+abbrev pub attribute_request_in : List ℕ → List (List ℕ) → Option Request
+attribute_request_in word fields =
+    if bytes_eq word (codes "readlink") then readlink_in fields
+    else (if bytes_eq word (codes "statfs") then statfs_in fields
+    else (if bytes_eq word (codes "getattr") then getattr_in fields
+    else (if bytes_eq word (codes "setattr") then setattr_in fields
+    else (if bytes_eq word (codes "access") then access_in fields else None))))
+
+-- a request that gives a name or takes one away, or one of the above
+abbrev pub naming_request_in : List ℕ → List (List ℕ) → Option Request
+naming_request_in word fields =
+    if bytes_eq word (codes "link") then link_in fields
+    else (if bytes_eq word (codes "unlink") then unlink_in fields
+    else (if bytes_eq word (codes "rmdir") then rmdir_in fields
+    else (if bytes_eq word (codes "rename") then rename_in fields else attribute_request_in word fields)))
+
+-- a request that makes an object, or one of the above
+abbrev pub making_request_in : List ℕ → List (List ℕ) → Option Request
+making_request_in word fields =
+    if bytes_eq word (codes "create") then create_in fields
+    else (if bytes_eq word (codes "mkdir") then mkdir_in fields
+    else (if bytes_eq word (codes "mknod") then mknod_in fields
+    else (if bytes_eq word (codes "symlink") then symlink_in fields else naming_request_in word fields)))
+
+-- a request that begins or ends a handle, or reads by one, or one of the above
+abbrev pub handle_request_in : List ℕ → List (List ℕ) → Option Request
+handle_request_in word fields =
+    if bytes_eq word (codes "open") then open_in fields
+    else (if bytes_eq word (codes "opendir") then opendir_in fields
+    else (if bytes_eq word (codes "read") then read_in fields
+    else (if bytes_eq word (codes "release") then release_in fields
+    else (if bytes_eq word (codes "releasedir") then releasedir_in fields else making_request_in word fields))))
+
+-- a request of a number's life, or one of the above
+abbrev pub number_request_in : List ℕ → List (List ℕ) → Option Request
+number_request_in word fields =
+    if bytes_eq word (codes "lookup") then lookup_in fields
+    else (if bytes_eq word (codes "forget") then forget_in fields
+    else (if bytes_eq word (codes "batch_forget") then batch_forget_in fields else handle_request_in word fields))
+
+-- a request of a session, one that there is not, or one of the above
+abbrev pub request_in : List (List ℕ) → Option Request
+request_in [] = None
+request_in (word ∷ fields) =
+    if bytes_eq word (codes "init") then init_in fields
+    else (if bytes_eq word (codes "destroy") then at_end fields Destroy
+    else (if bytes_eq word (codes "root") then at_end fields Root
+    else (if bytes_eq word (codes "other") then other_in fields else number_request_in word fields)))
