@@ -80,6 +80,15 @@ def name(what: str) -> Callable[[str], bytes]:
     return lambda word: byte_word(word, what)
 
 
+def switched(what: str) -> Callable[[str], bool]:
+    return lambda word: switch(word, what)
+
+
+def policy(word: str) -> None:
+    if word.lower() not in ("never", "metadata", "auto", "always"):
+        raise Bad(f"there is no policy {word!r}: never, metadata, auto, always")
+
+
 def sign(wanted: str) -> Callable[[str], None]:
     def judge(word: str) -> None:
         if word != wanted:
@@ -95,11 +104,36 @@ REQUESTS: dict[str, list[Callable]] = {
     "init": [u32("CAPABLE")],
     "lookup": [u64("PARENT"), name("NAME")],
     "forget": [u64("INODE"), u64("COUNT")],
-    "open": [u64("INODE"), lambda word: switch(word, "KILL"), u32("FLAGS")],
+    "open": [u64("INODE"), switched("KILL"), u32("FLAGS")],
     "opendir": [u64("INODE"), u32("FLAGS")],
     "read": [u64("INODE"), u64("HANDLE"), u32("SIZE"), u64("OFFSET")],
     "release": [u64("INODE"), u64("HANDLE")],
     "releasedir": [u64("INODE"), u64("HANDLE")],
+    "write": [
+        u64("INODE"),
+        u64("HANDLE"),
+        u64("OFFSET"),
+        name("BYTES"),
+        switched("DELAYED"),
+        switched("KILL"),
+        u32("FLAGS"),
+    ],
+    "fallocate": [u64("INODE"), u64("HANDLE"), u32("MODE"), u64("OFFSET"), u64("LENGTH")],
+    "lseek": [u64("INODE"), u64("HANDLE"), u64("OFFSET"), u32("WHENCE")],
+    "copyfilerange": [
+        u64("INODE"),
+        u64("HANDLE"),
+        u64("OFFSET"),
+        u64("INODE2"),
+        u64("HANDLE2"),
+        u64("OFFSET2"),
+        u64("LENGTH"),
+        u64("FLAGS"),
+    ],
+    "flush": [u64("INODE"), u64("HANDLE")],
+    "fsync": [u64("INODE"), u64("HANDLE"), switched("DATASYNC")],
+    "fsyncdir": [u64("INODE"), u64("HANDLE"), switched("DATASYNC")],
+    "syncfs": [u64("INODE")],
     "link": [u64("INODE"), u64("NEWPARENT"), name("NEWNAME")],
     "unlink": [u64("PARENT"), name("NAME")],
     "rmdir": [u64("PARENT"), name("NAME")],
@@ -117,7 +151,7 @@ MAKINGS: dict[str, list[Callable]] = {
         u64("PARENT"),
         name("NAME"),
         u32("MODE"),
-        lambda word: switch(word, "KILL"),
+        switched("KILL"),
         u32("FLAGS"),
         u32("UMASK"),
     ],
@@ -138,6 +172,23 @@ ATTRIBUTES: list[Callable] = [
     u64("MTIME"),
     u32("MTIMENSEC"),
 ]
+
+# the values of each key that is set once, behind it
+SETTINGS: dict[str, list[Callable]] = {
+    "guest_fd_limit": [u64("N")],
+    "seat": [u32("UID"), u32("GID"), u32("CAPS")],
+    "entry_timeout": [u64("SECONDS"), u32("NANOSECONDS")],
+    "attr_timeout": [u64("SECONDS"), u32("NANOSECONDS")],
+    "cache_policy": [policy],
+    "root_dir": [name("PATH")],
+    "writeback": [switched("ON")],
+    "announce_submounts": [switched("ON")],
+    "readdirplus": [switched("ON")],
+    "allow_direct_io": [switched("ON")],
+    "killpriv_v2": [switched("ON")],
+    "clean_noatime": [switched("ON")],
+    "allow_mmap": [switched("ON")],
+}
 
 # the numbers of each rule of ids behind its word: where its range begins, what that becomes, how many ids it has
 RULES = {kind: ("A", "B", "N") for kind in ("guest", "host", "squash-guest", "squash-host", "map")}
@@ -400,19 +451,12 @@ class Reader:
 
     def setting(self, words: list[str]) -> None:
         key = words[1] if len(words) > 1 else ""
-        match key:
-            case "guest_fd_limit":
-                wants(words, 3, "set guest_fd_limit N")
-                number(words[2], U64, "N")
-            case "seat":
-                wants(words, 5, "set seat UID GID CAPS")
-                for word, what in zip(words[2:], ("UID", "GID", "CAPS")):
-                    number(word, U32, what)
-            case "uidmap" | "gidmap":
-                self.rule(key, words[2:])
-                return
-            case _:
-                raise Bad(f"there is no key {key!r} (yet)")
+        if key in self.rules:
+            self.rule(key, words[2:])
+            return
+        if key not in SETTINGS:
+            raise Bad(f"there is no key {key!r} (yet)")
+        fields(f"set {key}", words[2:], SETTINGS[key])
         if key in self.keys:
             raise Bad(f"{key} is set once already")
         self.keys.add(key)
@@ -491,7 +535,8 @@ def refused_rule(text: bytes) -> tuple[int, str] | None:
         for place, rule in enumerate(rules):
             for earlier in rules[:place]:
                 if rule.meets(earlier):
-                    return rule.line, f"it says something of an id of which {key} at line {earlier.line} says something"
+                    other = f"{key} at line {earlier.line}"
+                    return rule.line, f"it says something of an id of which {other} says something"
             if rule.goes_past():
                 return rule.line, f"its ids go past the last one, {U32}"
     return None

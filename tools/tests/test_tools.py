@@ -25,7 +25,9 @@ BAD = [
     (TREE + b"# a comment\nend\n", 3, "no line begins"),
     (TREE + b"job 0 0 lookup 1 a \nend\n", 3, "fields"),
     (TREE + b"job 0  0 root\nend\n", 3, "no number"),
-    (TREE + b"job 0 0 flush 2 0\nend\n", 3, "no request"),
+    (TREE + b"job 0 0 readdir 2 0 1 0\nend\n", 3, "no request"),
+    (TREE + b"job 0 0 write 2 0 0 hi 0 2 0\nend\n", 3, "KILL is a switch"),
+    (TREE + b"job 0 0 copyfilerange 2 0 0 2 1 0 1\nend\n", 3, "fields"),
     (TREE + b"job 0 0 lookup 1 %61\nend\n", 3, "one spelling"),
     (TREE + b"job 0 0 batch_forget 2 1 1\nend\n", 3, "pairs"),
     (TREE + b"job 0 0 forget 01 1\nend\n", 3, "leading zero"),
@@ -48,7 +50,10 @@ BAD = [
     (b"set uidmap guest 0 1\n" + TREE, 1, "A B N"),
     (b"set gidmap guest 0 1 4294967296\n" + TREE, 1, "N is past"),
     (b"set gidmap forbid-guest 0 1 2\n" + TREE, 1, "2 numbers"),
-    (b"set gidmap map 0 0 1\nset gidmap map 0 0 1\nset seat 0 0\n" + TREE, 3, "words"),
+    (b"set gidmap map 0 0 1\nset gidmap map 0 0 1\nset seat 0 0\n" + TREE, 3, "fields"),
+    (b"set cache_policy sometimes\n" + TREE, 1, "no policy"),
+    (b"set entry_timeout 5\n" + TREE, 1, "fields"),
+    (b"set writeback 0\nset writeback 1\n" + TREE, 2, "once"),
     (TREE + b"job 0 0 create 1 f 0o644 0 0o102 0 -\nend\n", 3, "fields"),
     (TREE + b"job 0 0 create 1 f 0o644 0 0o102 0 + user.x v -\nend\n", 3, "fields"),
     (TREE + b"job 0 0 create 1 f 0o644 0 0o102 0 - 7\nend\n", 3, "wanted here"),
@@ -254,6 +259,16 @@ class Programs(unittest.TestCase):
             made.rstrip("\n") + "    # number 2, 0o100644 -rw-r--r--; handle 7",
         ):
             self.assertIn(line, ran.stdout.splitlines())
+
+    def test_explain_names_options(self) -> None:
+        told = "answer 0 Inited 7\nanswer 1 Opened 0 10\nanswer 2 Opened 1 0\n"
+        ran = subprocess.run([TOOLS / "explain", "--report"], input=told, capture_output=True, text=True, check=True)
+        wanted = [
+            "answer 0 Inited 7    # DO_READDIRPLUS|READDIRPLUS_AUTO|WRITEBACK_CACHE",
+            "answer 1 Opened 0 10    # KEEP_CACHE|CACHE_DIR",
+            "answer 2 Opened 1 0",
+        ]
+        self.assertEqual(ran.stdout.splitlines(), wanted)
 
     def test_explain_names_a_rule_that_is_refused(self) -> None:
         text = (REFUSED_RULES[0][0] + TREE + b"end\n").decode()

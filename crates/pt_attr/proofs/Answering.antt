@@ -21,7 +21,7 @@ use Rattle.pt_req.specs.declared.plan.Plan.{Plan}
 use Rattle.pt_frame.specs.Sparing.{IsSparing}
 use Rattle.pt_frame.specs.Tended.{Tends}
 use Rattle.pt_req.proofs.Tending.{bare, in_full}
-use Rattle.pt_attr.proofs.Walking.{each_request, of_any}
+use Rattle.pt_attr.proofs.Walking.{each_request, of_any, of_any_scopes}
 use Rattle.pt_attr.specs.Pattern.{Asked, Requests, Edits, Pattern, grammar_for, tree_of}
 
 -- an edit that is made is not answered that it was cut
@@ -39,11 +39,13 @@ edit_tends seat edit = (refl, tt, tt, refl, tt, λ reply. (refl, edit_uncut repl
 -- Each request restores what it changes of its seat, and none takes memory of its own.
 pub requests_tend : (plan : Plan) (seat : HostSeat) (who : Context) (asked : Request) →
     Tends seat (tree_of plan seat who asked) []
-requests_tend plan seat who asked = each_request (bare seat) plan seat who asked (of_any plan seat who asked)
+requests_tend plan seat who asked = each_request (bare seat) plan who asked (of_any plan who asked)
+    (of_any_scopes plan seat asked)
 
 pub requests_spare : (plan : Plan) (seat : HostSeat) (who : Context) (asked : Request) →
     IsSparing false (tree_of plan seat who asked)
-requests_spare plan seat who asked = each_request in_full plan seat who asked (of_any plan seat who asked)
+requests_spare plan seat who asked = each_request (in_full seat) plan who asked (of_any plan who asked)
+    (of_any_scopes plan seat asked)
 
 pub tends : (plan : Plan) (seat : HostSeat) (asked : Asked) → Tended seat false (grammar_for plan seat asked) no_past
 tends plan seat (Requests who asked) =

@@ -3,6 +3,7 @@ pub mod Steps
 pub mod Making
 pub mod Parts
 pub mod Access
+pub mod Contents
 pub mod Setting
 pub mod Requests
 pub mod Pattern

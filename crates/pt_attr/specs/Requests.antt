@@ -12,10 +12,11 @@ use Rattle.pt_iface.specs.declared.request.Request.TheVariants as request
 use Rattle.pt_frame.specs.Tree.{RequestTree, Gives}
 use Rattle.pt_req.specs.Entries.{attr_of}
 use Rattle.pt_req.specs.Parts.{look_up, named}
-use Rattle.pt_req.specs.Requests.{IsServed as IsServedThere, tree_of as tree_there, unserved}
+use Rattle.pt_req.specs.Requests.{unserved}
 use Rattle.pt_req.specs.Steps.{begin, stat}
 use Rattle.pt_req.specs.declared.plan.Plan.{Plan}
 use Rattle.pt_attr.specs.Access.{is_granted}
+use Rattle.pt_attr.specs.Contents.{IsServed as IsServedThere, tree_of as tree_there}
 use Rattle.pt_attr.specs.Making.{make_named, object_asked}
 pub use Rattle.pt_attr.specs.Parts.{file_by, files_by}
 use Rattle.pt_attr.specs.Setting.{setattr}
@@ -121,7 +122,7 @@ tree_of plan seat who (request.Rmdir parent name) = rmdir parent name
 tree_of plan seat who (request.Link inode newparent newname) = link plan inode newparent newname
 tree_of plan seat who (request.Rename olddir oldname newdir newname flags) =
     rename olddir oldname newdir newname flags
-tree_of plan seat who (request.SetAttr inode handle valid attr) = setattr plan inode handle valid attr
+tree_of plan seat who (request.SetAttr inode handle valid attr) = setattr plan seat inode handle valid attr
 tree_of plan seat who (request.Other opcode) = unserved
 tree_of plan seat who (request.Mkdir parent name mode umask ext) =
     make_named plan seat (object_asked who parent name ext (made.Directory mode))

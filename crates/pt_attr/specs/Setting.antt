@@ -9,11 +9,13 @@ use Rattle.pt_host.specs.declared.ids.Fd.{Fd}
 use Rattle.pt_host.specs.declared.ids.TimeSet.{TimeSet}
 use Rattle.pt_host.specs.declared.ids.TimeSet.TheVariants as time
 use Rattle.pt_host.specs.declared.op.KeptHostOp.TheVariants as call
+use Rattle.pt_host.specs.declared.seat.HostSeat.{HostSeat}
 use Rattle.pt_maps.specs.Translated.{to_host}
 use Rattle.pt_iface.specs.declared.answer.Answer.TheVariants as answer
 use Rattle.pt_iface.specs.declared.flags.SetattrValid.{SetattrValid}
 use Rattle.pt_iface.specs.declared.request.SetattrIn.{SetattrIn}
-use Rattle.pt_frame.specs.Tree.{RequestTree, Gives}
+use Rattle.pt_frame.specs.Tree.{RequestTree, Gives, Bares}
+use Rattle.pt_req.specs.Capability.{drops_fsetid, without_fsetid}
 use Rattle.pt_req.specs.Entries.{attr_of, is_bad_offset}
 use Rattle.pt_req.specs.Parts.{file_of, open_row}
 use Rattle.pt_req.specs.Steps.{Resolved, begin, pin_handle, resolve, stat}
@@ -46,6 +48,10 @@ atime_is_now valid = includes valid.0 128
 
 abbrev pub mtime_is_now : SetattrValid → Bool
 mtime_is_now valid = includes valid.0 256
+
+-- with a size set-id bits go, `FATTR_KILL_SUIDGID`
+abbrev pub kills_suidgid : SetattrValid → Bool
+kills_suidgid valid = includes valid.0 2048
 
 -- a size that no file can have
 abbrev pub is_missized : SetattrValid → SetattrIn → Bool
@@ -92,8 +98,14 @@ set_owner plan valid attr file next =
     (id_set (sets_gid valid) (to_host plan.gid_map attr.gid)) next
     else next
 
-abbrev pub set_size : SetattrValid → SetattrIn → Fd → RequestTree → RequestTree
-set_size valid attr target next = do_if (sets_size valid) (call.Truncate target attr.size) next
+-- so that set-id bits go where the guest asks that
+abbrev pub set_size : Plan → HostSeat → SetattrValid → SetattrIn → Fd → RequestTree → RequestTree
+set_size plan seat valid attr target next =
+    if sets_size valid then
+    without_fsetid (drops_fsetid plan seat (kills_suidgid valid)) (
+    do_call (call.Truncate target attr.size) (
+    Bares next))
+    else next
 
 -- the time of the call, or the one that is told, whose seconds are signed; or it stays
 abbrev pub time_set : Bool → Bool → ℕ → ℕ → TimeSet
@@ -119,8 +131,8 @@ tell_attr plan inode =
     Gives (answer.Attr (attr_of plan told 0) plan.config.attr_timeout)))
 
 -- In this order, up to the first refusal; what was set before it stays so.
-abbrev pub setattr : Plan → ℕ → Option ℕ → SetattrValid → SetattrIn → RequestTree
-setattr plan inode handle valid attr =
+abbrev pub setattr : Plan → HostSeat → ℕ → Option ℕ → SetattrValid → SetattrIn → RequestTree
+setattr plan seat inode handle valid attr =
     begin (λ session.
     if is_missized valid attr then Gives (answer.Refused einval) else
     resolve inode (λ row.
@@ -128,6 +140,6 @@ setattr plan inode handle valid attr =
     target_of inode handle file (λ target through.
     set_mode valid attr target through (
     set_owner plan valid attr file (
-    set_size valid attr target (
+    set_size plan seat valid attr target (
     set_times valid attr target through (
     tell_attr plan inode))))))))

@@ -1,4 +1,4 @@
--- Believed. The steps of requests of names and attributes that no other request takes.
+-- Believed. The steps of requests of names, attributes and contents that no other request takes.
 use Rattle.std.specs.Prelude.{ℕ, List}
 use Rattle.pt_host.specs.Call.{Call}
 use Rattle.pt_host.specs.declared.ids.Fd.{Fd}
@@ -27,3 +27,11 @@ stat_fs fd next = Asks (Calls (call.StatFs fd)) (on_fs_stat next)
 -- a call that tells nothing
 abbrev pub do_call : Call → RequestTree → RequestTree
 do_call asked next = Asks (Calls asked) (on_set next)
+
+abbrev pub on_count : (ℕ → RequestTree) → ActReply → RequestTree
+on_count next (Host (host.Ok (value.Count count))) = next count
+on_count next told = Refuses told
+
+-- a call that tells a number of bytes, or a place
+abbrev pub count_of : Call → (ℕ → RequestTree) → RequestTree
+count_of asked next = Asks (Calls asked) (on_count next)

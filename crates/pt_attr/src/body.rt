@@ -2,11 +2,13 @@ ghost use Rattle.std.specs.Prelude.{◌≡◌, ◌≤◌};
 ghost use Rattle.pt_frame.specs.Machine.Room.{most_holds};
 ghost use Rattle.pt_host.specs.declared.seat.HostSeat.{HostSeat};
 ghost use Rattle.pt_req.specs.declared.plan.Plan.{Plan};
+ghost use Rattle.pt_attr.specs.Contents.{tree_of as tree_on_contents};
 ghost use Rattle.pt_attr.specs.Machine.Bodies.{any_left, any_acts, any_room, any_inserts};
 ghost use Rattle.pt_attr.specs.Pattern.{tree_of, bound_of, most_inserted};
 
 use crate::requests::{
-    AttrAsked, ByNumber, FileCall, Link, LinkAt, Made, Making, Rename, RenameAt, SetAttr, SetAttrAt,
+    AttrAsked, ByHandle, ByNumber, CopyAsked, CopyAt, CopyFileRange, FileCall, HandleCall, Link,
+    LinkAt, Made, Making, Rename, RenameAt, SetAttr, SetAttrAt, SyncFs, SyncFsAt, appends,
 };
 use pt_frame::{ActReply, Body, Next, Wanted};
 use pt_host::HostSeat;
@@ -22,9 +24,112 @@ pub enum AnyBody {
     Rename(Rename),
     SetAttr(SetAttr),
     Making(Making),
+    ByHandle(ByHandle),
+    CopyFileRange(CopyFileRange),
+    SyncFs(SyncFs),
 }
 
 impl AnyBody {
+    /// The body that begins a request on contents, or one of opening and numbering.
+    fn on_contents(who: Context, request: Request) -> AnyBody
+        ensures left { (plan : Plan) (seat : HostSeat) →
+            any_left result plan seat ≡ tree_on_contents plan seat who request }
+        ensures acts { any_acts result ≤ bound_of request }
+        ensures room { any_room result ≤ most_holds }
+        ensures inserts { any_inserts result ≤ most_inserted }
+    {
+        match request {
+            Request::Write {
+                inode,
+                handle,
+                offset,
+                bytes,
+                delayed,
+                kill,
+                flags,
+            } => {
+                let append = appends(delayed, flags);
+                let call = HandleCall::Write {
+                    offset,
+                    bytes,
+                    append,
+                    kill,
+                };
+                AnyBody::ByHandle(ByHandle::new(inode, handle, call))
+            }
+            Request::Fallocate {
+                inode,
+                handle,
+                mode,
+                offset,
+                length,
+            } => {
+                let call = HandleCall::Allocate {
+                    mode,
+                    offset,
+                    length,
+                };
+                AnyBody::ByHandle(ByHandle::new(inode, handle, call))
+            }
+            Request::Lseek {
+                inode,
+                handle,
+                offset,
+                whence,
+            } => {
+                let call = HandleCall::Seek { offset, whence };
+                AnyBody::ByHandle(ByHandle::new(inode, handle, call))
+            }
+            Request::CopyFileRange {
+                inode,
+                handle,
+                offset,
+                inode2,
+                handle2,
+                offset2,
+                length,
+                flags,
+            } => {
+                let asked = CopyAsked {
+                    inode,
+                    handle,
+                    offset,
+                    inode2,
+                    handle2,
+                    offset2,
+                    length,
+                    flags,
+                };
+                let at = CopyAt::Begin;
+                AnyBody::CopyFileRange(CopyFileRange { asked, at })
+            }
+            Request::Flush { inode, handle } => {
+                AnyBody::ByHandle(ByHandle::new(inode, handle, HandleCall::Flush))
+            }
+            Request::Fsync {
+                inode,
+                handle,
+                datasync,
+            } => {
+                let call = HandleCall::Sync { datasync };
+                AnyBody::ByHandle(ByHandle::new(inode, handle, call))
+            }
+            Request::FsyncDir {
+                inode,
+                handle,
+                datasync,
+            } => {
+                let call = HandleCall::Sync { datasync };
+                AnyBody::ByHandle(ByHandle::new(inode, handle, call))
+            }
+            Request::SyncFs { inode } => {
+                let at = SyncFsAt::Begin;
+                AnyBody::SyncFs(SyncFs { inode, at })
+            }
+            request => AnyBody::Request(RequestBody::of(who, request)),
+        }
+    }
+
     /// The body that begins this request.
     pub fn of(who: Context, request: Request) -> AnyBody
         ensures left { (plan : Plan) (seat : HostSeat) →
@@ -120,7 +225,7 @@ impl AnyBody {
                 let at = SetAttrAt::Begin;
                 AnyBody::SetAttr(SetAttr { asked, at })
             }
-            request => AnyBody::Request(RequestBody::of(who, request)),
+            request => AnyBody::on_contents(who, request),
         }
     }
 }
@@ -146,6 +251,9 @@ impl Body for AnyBody {
             AnyBody::Rename(body) => body.want(plan, seat),
             AnyBody::SetAttr(body) => body.want(plan, seat),
             AnyBody::Making(body) => body.want(plan, seat),
+            AnyBody::ByHandle(body) => body.want(plan, seat),
+            AnyBody::CopyFileRange(body) => body.want(plan, seat),
+            AnyBody::SyncFs(body) => body.want(plan, seat),
         }
     }
 
@@ -157,6 +265,9 @@ impl Body for AnyBody {
             AnyBody::Rename(body) => body.take(plan, seat, reply),
             AnyBody::SetAttr(body) => body.take(plan, seat, reply),
             AnyBody::Making(body) => body.take(plan, seat, reply),
+            AnyBody::ByHandle(body) => body.take(plan, seat, reply),
+            AnyBody::CopyFileRange(body) => body.take(plan, seat, reply),
+            AnyBody::SyncFs(body) => body.take(plan, seat, reply),
         }
     }
 

@@ -144,7 +144,7 @@ module _ (plan : Plan) (who : Context) (parent : ℕ) (name : List ℕ) (mode : 
   asks = asking plan who what
 
   abbrev file : FileAsked
-  file = file_asked who parent name mode flags ext
+  file = file_asked who parent name mode kill flags ext
 
   abbrev answers : NamedHandle → RequestTree
   answers named = Gives (answer.Created named.entry named.handle (create_options plan.config))
@@ -174,13 +174,13 @@ module _ (plan : Plan) (who : Context) (parent : ℕ) (name : List ℕ) (mode : 
       (fit_gives (answer.Created looked.entry handle (create_options plan.config)) (λ path. (refl, tt, tt)))))))))
 
   -- what was there gets one by its own
-  fit_old : {marks : List ℕ} {notes : Notes} (session : BegunSession) (row : ℕ) (dir : Fd) →
+  fit_old : {marks : List ℕ} {notes : Notes} (seat : HostSeat) (session : BegunSession) (row : ℕ) (dir : Fd) →
       notes.era ≡ Some session.era →
-      Goes asks (Agreed session.agreed ∷ []) (old_file plan session file answers) (hold.Pin row (Some dir) ∷ []) marks
-      notes
-  fit_old session row dir e =
+      Goes asks (Agreed session.agreed ∷ []) (old_file plan seat session file answers)
+      (hold.Pin row (Some dir) ∷ []) marks notes
+  fit_old seat session row dir e =
       fit_look_up plan session parent name _ (λ one. refl) e (λ looked later l.
-      fit_open_num plan session looked.entry.inode flags _ tt (λ one. refl) (l.era ∙ e) (λ handle last.
+      fit_open_num plan seat session looked.entry.inode kill flags _ tt (λ one. refl) (l.era ∙ e) (λ handle last.
       fit_gives (answer.Created looked.entry handle (create_options plan.config)) (λ path. (refl, tt, tt))))
 
   fit_making : {marks : List ℕ} {notes : Notes} (seat : HostSeat) (session : BegunSession) (row : ℕ) (dir : Fd) →
@@ -190,7 +190,7 @@ module _ (plan : Plan) (who : Context) (parent : ℕ) (name : List ℕ) (mode : 
   fit_making seat session row dir e r =
       fit_as_asker _
       (λ holds c. fit_make_at holds [] dir name (making_flags flags) mode row parent _ _ _ c r
-      (λ fd. fit_new session row dir fd e) (fit_old session row dir e))
+      (λ fd. fit_new session row dir fd e) (fit_old seat session row dir e))
       seat (asker_of plan session who ext.sup_gid) _ (covers_none row dir)
       (λ none. inr (forbidden_from _ _ _ _ none, refl))
 

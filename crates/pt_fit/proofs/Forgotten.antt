@@ -1,10 +1,13 @@
 -- A request on a number that is gone is answered EBADF.
 use Rattle.std.proofs.Common.{◌≡◌, ◌⊎◌, inl, inr, ℕ, List, [], ◌∷◌, ◌++◌, Bool, true, false, refl, ap, subst, ◌∙◌}
-use Rattle.std.proofs.Common.{if◌then◌else◌, arith, Option, Some, None}
+use Rattle.std.proofs.Common.{if◌then◌else◌, append_assoc, arith, Option, Some, None, sym}
+use Rattle.std.specs.Prelude.{◌&&◌}
 use Rattle.pt_host.specs.Errno.{ebadf, einval}
-use Rattle.pt_host.specs.Flags.{o_directory}
+use Rattle.pt_host.specs.Flags.{includes, o_directory}
 use Rattle.pt_host.specs.declared.ids.Fd.{Fd}
 use Rattle.pt_host.specs.declared.op.KeptHostOp.TheVariants as call
+use Rattle.pt_host.specs.declared.reply.HostReply.TheVariants as host
+use Rattle.pt_host.specs.declared.reply.HostValue.{HostValue}
 use Rattle.pt_host.specs.declared.seat.HostSeat.{HostSeat}
 use Rattle.pt_session.specs.Change.{Change, HoldsList}
 use Rattle.pt_session.specs.Tables.{Tables, HasNumber, Agree, empty_tables}
@@ -24,27 +27,32 @@ use Rattle.pt_iface.specs.declared.request.Extensions.{Extensions}
 use Rattle.pt_iface.specs.declared.request.Request.{Request}
 use Rattle.pt_iface.specs.declared.request.Request.TheVariants as request
 use Rattle.pt_iface.specs.declared.request.SetattrIn.{SetattrIn}
-use Rattle.pt_frame.specs.Deed.{Deed, Changes, Step, IsStepOf}
-use Rattle.pt_frame.specs.Held.{held}
+use Rattle.pt_frame.specs.Deed.{Deed, Calls, Changes, Step, IsStepOf}
+use Rattle.pt_frame.specs.Frame.{leave}
+use Rattle.pt_frame.specs.Held.{held, opened}
 use Rattle.pt_frame.specs.Replies.{closings_in}
-use Rattle.pt_frame.specs.Grammar.{Belongs, End}
-use Rattle.pt_frame.specs.Tree.{RequestTree, Gives, Refuses, Asks, Brackets, Shuts, framed, may_give_up}
-use Rattle.pt_frame.specs.Tree.{grammar_of_tree}
+use Rattle.pt_frame.specs.Grammar.{Belongs}
+use Rattle.pt_frame.specs.Tree.{RequestTree, Gives, Refuses, Asks, Bares, Brackets, Shuts, framed}
+use Rattle.pt_frame.specs.Tree.{follows as framed_follows, grammar_of_tree, may_give_up}
 use Rattle.pt_frame.specs.declared.act.ActReply.{ActReply}
 use Rattle.pt_frame.specs.declared.act.ActReply.TheVariants.{Event, Host, NoCopy}
 use Rattle.pt_frame.specs.declared.finish.Finish.{Finish}
 use Rattle.pt_frame.specs.declared.finish.Finish.TheVariants as finish
+use Rattle.pt_frame.specs.declared.hold.Hold.{Hold}
+use Rattle.pt_frame.specs.declared.hold.Hold.TheVariants as hold
+use Rattle.pt_req.specs.Capability.{drops_fsetid, fsetid, without_fsetid}
 use Rattle.pt_req.specs.Entries.{is_bad_name}
-use Rattle.pt_req.specs.Options.{with_bits, cleaned, inode_flags, open_options, create_options}
-use Rattle.pt_req.specs.Parts.{by_path, file_of, named, numbered, looked_of, look_up, open_row}
+use Rattle.pt_req.specs.Options.{with_bits, cleaned, inode_flags, o_nofollow, open_options, create_options}
+use Rattle.pt_req.specs.Parts.{by_path, file_of, handled_num, named, numbered, looked_of, look_up, open_row}
 use Rattle.pt_attr.specs.Pattern.{tree_of}
 use Rattle.pt_req.specs.Creating.{make_file}
-use Rattle.pt_req.specs.Requests.{lookup, open_file, file_asked}
-use Rattle.pt_req.specs.Steps.{session_of, begin, on_began, Resolved, resolve, on_resolved, open_at, stat}
-use Rattle.pt_req.specs.Steps.{draw_handle, take_fd, insert_handle}
+use Rattle.pt_req.specs.Requests.{lookup, open_dir, open_file, file_asked}
+use Rattle.pt_req.specs.Steps.{session_of, begin, on_began, Resolved, resolve, on_resolved, on_set, open_at}
+use Rattle.pt_req.specs.Steps.{stat}
 use Rattle.pt_req.specs.declared.begun.BegunSession.{BegunSession}
 use Rattle.pt_req.specs.declared.plan.Plan.{Plan}
 use Rattle.pt_attr.specs.Pattern.{grammar_of}
+use Rattle.pt_attr.specs.Contents.{syncfs}
 use Rattle.pt_attr.specs.Making.{is_bad_target, make_named, make_object, object_asked, targeted}
 use Rattle.pt_attr.specs.declared.requests.making.Made.TheVariants as made
 use Rattle.pt_attr.specs.declared.requests.making.ObjectAsked.{ObjectAsked}
@@ -55,13 +63,14 @@ use Rattle.pt_attr.specs.Requests.{access, file_by, getattr, link, readlink, ren
 use Rattle.pt_law.specs.World.{Turn, turn_by, TablesGo, TablesRun, steps_of}
 use Rattle.pt_law.specs.Ledger.{inserted}
 use Rattle.pt_law.specs.Branch.{IsGivenUp}
+use Rattle.pt_law.proofs.Branches.{end_leave}
 use Rattle.pt_law.proofs.Cuts.{located}
 use Rattle.pt_law.proofs.Givings.{live_count, none_other}
 use Rattle.pt_law.proofs.Interleaving.{tables_split}
 use Rattle.pt_law.proofs.Laws.{agree_law}
 use Rattle.pt_law.proofs.Reliance.{stays_gone, inserted_append, refused_law}
-use Rattle.pt_fit.specs.Uses.{IsOn}
-use Rattle.pt_fit.proofs.Leading.{follows_plain}
+use Rattle.pt_fit.specs.Uses.{EndsBefore, FailsToDrop, IsOn, SomeFailsToDrop}
+use Rattle.pt_fit.proofs.Leading.{ended_up, follows_plain, lost_up}
 
 abbrev gone : ActReply
 gone = Event (event.Refused NotLive)
@@ -86,40 +95,44 @@ began : (t t' : Tables) (r : EventReply) → Happens t change.Begin r t' →
     (era : ℕ) × (agreed : Negotiated) × (r ≡ event.Began era agreed)
 began t t' r h = begun_as t t' r (cases t t' change.Begin r h)
 
--- what follows an act of a job that holds nothing and is told no closings
-follows : (seat : HostSeat) (deed : Deed)
-    (next : ActReply → RequestTree) (marks : List ℕ) (step : Step) (steps : List Step)
-    (end : Finish) → closings_in deed step.reply ≡ 0 → held deed step.reply [] ≡ [] →
-    Belongs (framed seat (Asks deed next) [] marks) (step ∷ steps) end →
-    IsGivenUp end ⊎ Belongs (framed seat (next step.reply) [] marks) steps end
-follows seat deed next marks step steps end c h b =
+-- what follows an act of a job that holds the same then, and is told no closings
+follows : (seat : HostSeat) (deed : Deed) (next : ActReply → RequestTree) (holds : List Hold) (marks : List ℕ)
+    (step : Step) (steps : List Step) (end : Finish) → closings_in deed step.reply ≡ 0 →
+    held deed step.reply holds ≡ holds → Belongs (framed seat (Asks deed next) holds marks) (step ∷ steps) end →
+    IsGivenUp end ⊎ Belongs (framed seat (next step.reply) holds marks) steps end
+follows seat deed next holds marks step steps end c h b =
     elim (follows_plain seat (may_give_up step.reply (next step.reply)) (closings_in deed step.reply)
-    (held deed step.reply []) (framed seat (next step.reply) (held deed step.reply []) marks) steps end c b.1) [
+    (held deed step.reply holds) (framed seat (next step.reply) (held deed step.reply holds) marks) steps end c b.1) [
       | inl up ↦ inl up
-      | inr on ↦ inr (subst (λ holds. Belongs (framed seat (next step.reply) holds marks) steps end) h on)
+      | inr on ↦ inr (subst (λ (z : List Hold). Belongs (framed seat (next step.reply) z marks) steps end) h on)
     ]
-
-ended : (steps : List Step) (last end : Finish) → Belongs (End last) steps end → end ≡ last
-ended [] last end b = b
-ended (step ∷ steps) last end b = absurd b
 
 abbrev Answers : Finish → Type 0
 Answers end = (end ≡ finish.Answer (answer.Refused ebadf)) ⊎ IsGivenUp end
 
+-- all that is held is given back before the answer
+answered : (seat : HostSeat) (holds : List Hold) (steps : List Step) (end : Finish) →
+    Belongs (leave seat holds (finish.Answer (answer.Refused ebadf))) steps end → Answers end
+answered seat holds steps end b =
+    elim (end_leave seat holds (finish.Answer (answer.Refused ebadf)) steps end b).0 [
+      | inl e ↦ inl e
+      | inr lost ↦ inr (lost_up end lost)
+    ]
+
 -- the number is resolved where it is not live
-resolved : (seat : HostSeat) (marks : List ℕ) (number : ℕ) (next : ActReply → RequestTree) (t t' : Tables)
-    (step : Step) (steps : List Step) (end : Finish) → NoRow t (HasNumber number) → next gone ≡ Refuses gone →
-    TablesGo t step.deed step.reply t' →
-    Belongs (framed seat (Asks (Changes (change.Resolve number)) next) [] marks) (step ∷ steps) end → Answers end
-resolved seat marks number next t t' step steps end none refuses go b =
+resolved : (seat : HostSeat) (holds : List Hold) (marks : List ℕ) (number : ℕ) (next : ActReply → RequestTree)
+    (t t' : Tables) (step : Step) (steps : List Step) (end : Finish) → NoRow t (HasNumber number) →
+    next gone ≡ Refuses gone → TablesGo t step.deed step.reply t' →
+    Belongs (framed seat (Asks (Changes (change.Resolve number)) next) holds marks) (step ∷ steps) end → Answers end
+resolved seat holds marks number next t t' step steps end none refuses go b =
     let h = happened (change.Resolve number) step.deed step.reply t t' (λ no. no) b.0 go in
     let told : step.reply ≡ gone = h.1 ∙ ap Event (refused_law t t' number h.0 none h.2).0 in
-    elim (follows seat (Changes (change.Resolve number)) next marks step steps end
+    elim (follows seat (Changes (change.Resolve number)) next holds marks step steps end
     (ap (closings_in (Changes (change.Resolve number))) told)
-    (ap (λ r. held (Changes (change.Resolve number)) r []) told) b) [
+    (ap (λ r. held (Changes (change.Resolve number)) r holds) told) b) [
       | inl up ↦ inr up
-      | inr on ↦ inl (ended steps (finish.Answer (answer.Refused ebadf)) end
-          (subst (λ tree. Belongs (framed seat tree [] marks) steps end) (ap next told ∙ refuses) on))
+      | inr on ↦ answered seat holds steps end
+          (subst (λ tree. Belongs (framed seat tree holds marks) steps end) (ap next told ∙ refuses) on)
     ]
 
 -- in a bracket, or in none
@@ -127,11 +140,11 @@ abbrev bracketed : Bool → RequestTree → RequestTree
 bracketed true rest = Brackets rest
 bracketed false rest = rest
 
--- the tree begins and resolves the number, and passes the refusal on
-abbrev Resolves : ℕ → RequestTree → Type 0
-Resolves number tree =
+-- The tree begins and resolves the number, perhaps in the scope of the capability, and passes the refusal on.
+abbrev Resolves : ℕ → Bool → RequestTree → Type 0
+Resolves number dropped tree =
     (wraps : Bool) × (next : BegunSession → Resolved → RequestTree)
-    × (tree ≡ begin (λ session. bracketed wraps (resolve number (next session))))
+    × (tree ≡ begin (λ session. bracketed wraps (without_fsetid dropped (resolve number (next session)))))
 
 good_name : (bad : Bool) (next : RequestTree) → bad ≡ false →
     (if bad then Gives (answer.Refused einval) else next) ≡ next
@@ -139,7 +152,7 @@ good_name true next e = absurd (cc)
 good_name false next e = refl
 
 on_lookup : (plan : Plan) (parent : ℕ) (name : List ℕ) → is_bad_name name ≡ false →
-    Resolves parent (lookup plan parent name)
+    Resolves parent false (lookup plan parent name)
 on_lookup plan parent name good = (
   true,
   (λ session directory. file_of directory.form (λ dir. open_at dir name by_path (λ fd. stat fd (λ told.
@@ -149,20 +162,21 @@ on_lookup plan parent name good = (
       Gives (answer.Entry looked.entry))) good i)),
 )
 
-on_open : (plan : Plan) (inode flags : ℕ) → Resolves inode (open_file plan inode flags)
-on_open plan inode flags = (
+on_open : (plan : Plan) (seat : HostSeat) (inode : ℕ) (kill : Bool) (flags : ℕ) →
+    Resolves inode (drops_fsetid plan seat kill) (open_file plan seat inode kill flags)
+on_open plan seat inode kill flags = (
   true,
-  (λ session row. open_row row (inode_flags plan.config (cleaned plan.config flags)) (λ fd.
-      draw_handle (λ handle. take_fd (insert_handle session handle inode fd (
-      Shuts false (Gives (answer.Opened handle (open_options plan.config flags)))))))),
+  (λ session row. open_row row (inode_flags plan.config session.agreed (cleaned plan.config flags)) (λ fd.
+      Bares (handled_num session inode (λ handle.
+      Gives (answer.Opened handle (open_options plan.config flags))) fd))),
   refl,
 )
 
 on_create : (plan : Plan) (seat : HostSeat) (who : Context) (parent : ℕ) (name : List ℕ) (mode : ℕ) (kill : Bool)
     (flags umask : ℕ) (ext : Extensions) → is_bad_name name ≡ false →
-    Resolves parent (tree_of plan seat who (request.Create parent name mode kill flags umask ext))
+    Resolves parent false (tree_of plan seat who (request.Create parent name mode kill flags umask ext))
 on_create plan seat who parent name mode kill flags umask ext good =
-    let asked = file_asked who parent name mode flags ext in
+    let asked = file_asked who parent name mode kill flags ext in
     let next : BegunSession → Resolved → RequestTree = λ session directory. file_of directory.form (λ dir.
     make_file plan seat session asked dir (λ both.
     Gives (answer.Created both.entry both.handle (create_options plan.config)))) in (
@@ -172,11 +186,11 @@ on_create plan seat who parent name mode kill flags umask ext good =
     )
 
 -- what goes on with the file of the number
-on_file : (number : ℕ) (next : Fd → RequestTree) → Resolves number (begin (λ session. file_by number next))
+on_file : (number : ℕ) (next : Fd → RequestTree) → Resolves number false (begin (λ session. file_by number next))
 on_file number next = (false, (λ session row. file_of row.form next), refl)
 
 on_named_file : (number : ℕ) (name : List ℕ) (next : Fd → RequestTree) → is_bad_name name ≡ false →
-    Resolves number (begin (λ session. named name (file_by number next)))
+    Resolves number false (begin (λ session. named name (file_by number next)))
 on_named_file number name next good = (
   false,
   (λ session row. file_of row.form next),
@@ -184,7 +198,7 @@ on_named_file number name next good = (
 )
 
 on_made : (plan : Plan) (seat : HostSeat) (object : ObjectAsked) → is_bad_name object.name ≡ false →
-    is_bad_target object.made ≡ false → Resolves object.parent (make_named plan seat object)
+    is_bad_target object.made ≡ false → Resolves object.parent false (make_named plan seat object)
 on_made plan seat object good well =
     let next : BegunSession → Resolved → RequestTree = λ session directory.
     file_of directory.form (make_object plan seat session object) in (
@@ -196,7 +210,7 @@ on_made plan seat object good well =
     )
 
 on_link : (plan : Plan) (inode newparent : ℕ) (newname : List ℕ) → is_bad_name newname ≡ false →
-    Resolves inode (link plan inode newparent newname)
+    Resolves inode false (link plan inode newparent newname)
 on_link plan inode newparent newname good =
     let next : BegunSession → Resolved → RequestTree = λ session one. resolve newparent (λ other.
     file_of one.form (λ from. file_of other.form (λ dir.
@@ -209,7 +223,7 @@ on_link plan inode newparent newname good =
 
 on_rename : (olddir : ℕ) (oldname : List ℕ) (newdir : ℕ) (newname : List ℕ) (flags : ℕ) →
     is_bad_name oldname ≡ false → is_bad_name newname ≡ false →
-    Resolves olddir (rename olddir oldname newdir newname flags)
+    Resolves olddir false (rename olddir oldname newdir newname flags)
 on_rename olddir oldname newdir newname flags good also =
     let next : Resolved → RequestTree = λ one. resolve newdir (λ other.
     file_of one.form (λ from. file_of other.form (λ to.
@@ -221,61 +235,88 @@ on_rename olddir oldname newdir newname flags good also =
           ∙ good_name (is_bad_name newname) (resolve olddir next) also) i)),
     )
 
-on_setattr : (plan : Plan) (inode : ℕ) (handle : Option ℕ) (valid : SetattrValid) (attr : SetattrIn) →
-    is_missized valid attr ≡ false → Resolves inode (setattr plan inode handle valid attr)
-on_setattr plan inode handle valid attr good =
+on_setattr : (plan : Plan) (seat : HostSeat) (inode : ℕ) (handle : Option ℕ) (valid : SetattrValid)
+    (attr : SetattrIn) →
+    is_missized valid attr ≡ false → Resolves inode false (setattr plan seat inode handle valid attr)
+on_setattr plan seat inode handle valid attr good =
     let next : Resolved → RequestTree = λ row.
     file_set handle valid row (λ file.
     target_of inode handle file (λ target through.
     set_mode valid attr target through (
     set_owner plan valid attr file (
-    set_size valid attr target (
+    set_size plan seat valid attr target (
     set_times valid attr target through (tell_attr plan inode)))))) in (
       false,
       (λ session. next),
       (λ i. begin (λ session. good_name (is_missized valid attr) (resolve inode next) good i)),
     )
 
+on_syncfs : (plan : Plan) (inode : ℕ) → Resolves inode false (syncfs plan inode)
+on_syncfs plan inode = (
+  false,
+  (λ session row. open_row row (inode_flags plan.config session.agreed o_nofollow) (λ fd.
+      do_call (call.SyncFs fd) (Gives answer.Done))),
+  refl,
+)
+
+-- the capability that is dropped before the number is resolved
+abbrev drops_before : Plan → HostSeat → Request → Bool
+drops_before plan seat (request.Open inode kill flags) = drops_fsetid plan seat kill
+drops_before plan seat what = false
+
+-- of an opening of a directory none is
+none_asked : (plan : Plan) (seat : HostSeat) → drops_fsetid plan seat false ≡ false
+none_asked plan seat = go plan.config.killpriv_v2
+  where
+    go : (switch : Bool) → (switch && false && includes seat.eff_caps.0 fsetid.0) ≡ false
+    go true = refl
+    go false = refl
+
 resolves : (plan : Plan) (seat : HostSeat) (who : Context) (what : Request) (number : ℕ) → IsOn number what →
-    Resolves number (tree_of plan seat who what)
+    Resolves number (drops_before plan seat what) (tree_of plan seat who what)
 resolves plan seat who (request.Lookup parent name) number on =
-    subst (λ n. Resolves n (lookup plan parent name)) on.0 (on_lookup plan parent name on.1)
+    subst (λ n. Resolves n false (lookup plan parent name)) on.0 (on_lookup plan parent name on.1)
 resolves plan seat who (request.Open inode kill flags) number on =
-    subst (λ n. Resolves n (open_file plan inode flags)) on (on_open plan inode flags)
+    subst (λ n. Resolves n (drops_fsetid plan seat kill) (open_file plan seat inode kill flags)) on
+    (on_open plan seat inode kill flags)
 resolves plan seat who (request.OpenDir inode flags) number on =
-    subst (λ n. Resolves n (open_file plan inode (with_bits flags o_directory))) on
-    (on_open plan inode (with_bits flags o_directory))
+    subst (λ n. Resolves n false (open_dir plan seat inode flags)) on
+    (subst (λ (b : Bool). Resolves inode b (open_dir plan seat inode flags)) (none_asked plan seat)
+    (on_open plan seat inode false (with_bits flags o_directory)))
 resolves plan seat who (request.Create parent name mode kill flags umask ext) number on =
-    subst (λ n. Resolves n (tree_of plan seat who (request.Create parent name mode kill flags umask ext))) on.0
+    subst (λ n. Resolves n false (tree_of plan seat who (request.Create parent name mode kill flags umask ext))) on.0
     (on_create plan seat who parent name mode kill flags umask ext on.1)
 resolves plan seat who (request.Mkdir parent name mode umask ext) number on =
     let object = object_asked who parent name ext (made.Directory mode) in
-    subst (λ n. Resolves n (make_named plan seat object)) on.0 (on_made plan seat object on.1 refl)
+    subst (λ n. Resolves n false (make_named plan seat object)) on.0 (on_made plan seat object on.1 refl)
 resolves plan seat who (request.Mknod parent name mode rdev umask ext) number on =
     let object = object_asked who parent name ext (made.Node mode rdev) in
-    subst (λ n. Resolves n (make_named plan seat object)) on.0 (on_made plan seat object on.1 refl)
+    subst (λ n. Resolves n false (make_named plan seat object)) on.0 (on_made plan seat object on.1 refl)
 resolves plan seat who (request.Symlink target parent name ext) number on =
     let object = object_asked who parent name ext (made.Link target) in
-    subst (λ n. Resolves n (make_named plan seat object)) on.0 (on_made plan seat object on.1 on.2)
+    subst (λ n. Resolves n false (make_named plan seat object)) on.0 (on_made plan seat object on.1 on.2)
 resolves plan seat who (request.Readlink inode) number on =
-    subst (λ n. Resolves n (readlink inode)) on (on_file inode _)
+    subst (λ n. Resolves n false (readlink inode)) on (on_file inode _)
 resolves plan seat who (request.StatFs inode) number on =
-    subst (λ n. Resolves n (statfs inode)) on (on_file inode _)
+    subst (λ n. Resolves n false (statfs inode)) on (on_file inode _)
 resolves plan seat who (request.GetAttr inode) number on =
-    subst (λ n. Resolves n (getattr plan inode)) on (on_file inode _)
+    subst (λ n. Resolves n false (getattr plan inode)) on (on_file inode _)
 resolves plan seat who (request.Access inode mask) number on =
-    subst (λ n. Resolves n (access plan who inode mask)) on (on_file inode _)
+    subst (λ n. Resolves n false (access plan who inode mask)) on (on_file inode _)
 resolves plan seat who (request.Unlink parent name) number on =
-    subst (λ n. Resolves n (unlink parent name)) on.0 (on_named_file parent name _ on.1)
+    subst (λ n. Resolves n false (unlink parent name)) on.0 (on_named_file parent name _ on.1)
 resolves plan seat who (request.Rmdir parent name) number on =
-    subst (λ n. Resolves n (rmdir parent name)) on.0 (on_named_file parent name _ on.1)
+    subst (λ n. Resolves n false (rmdir parent name)) on.0 (on_named_file parent name _ on.1)
 resolves plan seat who (request.Link inode newparent newname) number on =
-    subst (λ n. Resolves n (link plan inode newparent newname)) on.0 (on_link plan inode newparent newname on.1)
+    subst (λ n. Resolves n false (link plan inode newparent newname)) on.0 (on_link plan inode newparent newname on.1)
 resolves plan seat who (request.Rename olddir oldname newdir newname flags) number on =
-    subst (λ n. Resolves n (rename olddir oldname newdir newname flags)) on.0
+    subst (λ n. Resolves n false (rename olddir oldname newdir newname flags)) on.0
     (on_rename olddir oldname newdir newname flags on.1 on.2)
 resolves plan seat who (request.SetAttr inode handle valid attr) number on =
-    subst (λ n. Resolves n (setattr plan inode handle valid attr)) on.0 (on_setattr plan inode handle valid attr on.1)
+    subst (λ n. Resolves n false (setattr plan seat inode handle valid attr)) on.0
+    (on_setattr plan seat inode handle valid attr on.1)
+resolves plan seat who (request.SyncFs inode) number on =
+    subst (λ n. Resolves n false (syncfs plan inode)) on (on_syncfs plan inode)
 resolves plan seat who what number on = absurd on
 
 -- each step of a job is made while the number is gone
@@ -294,49 +335,137 @@ gone_at number job later was now one step two a c r i e =
     let n = ap (inserted number) l.2 ∙ inserted_append number l.0 (turn_by job step ∷ l.1) in
     record { t = k.0; t' = k.2.0; none = stays_gone number l.0 was k.0 a c k.1 (omega (arith, n, i)); go = k.2.1 }
 
+-- a step among others
+fails_among : (one two : List Step) (step : Step) → FailsToDrop step.deed step.reply →
+    SomeFailsToDrop (one ++ step ∷ two)
+fails_among [] two step f = inl f
+fails_among (first ∷ one) two step f = inr (fails_among one two step f)
+
+-- or it ends before, where the capability was to be dropped
+abbrev Ends : List Step → Finish → Bool → Type 0
+Ends steps end dropped = Answers end ⊎ ((dropped ≡ true) × SomeFailsToDrop steps)
+
+-- the reply to the call that drops the capability
+data DropTold (step : Step) : Type 0 where
+  done : (got : HostValue) → step.reply ≡ Host (host.Ok got) → DropTold step
+  fails : FailsToDrop step.deed step.reply → DropTold step
+  out : (step.reply ≡ Host host.NoMemory) ⊎ (step.reply ≡ NoCopy) → DropTold step
+
+drop_told : (step : Step) (t t' : Tables) → IsStepOf (Calls (call.DropCap fsetid)) step.deed step.reply →
+    TablesGo t step.deed step.reply t' → DropTold step
+drop_told step t t' i go = at step.deed step.reply i go
+  where
+    at : (did : Option Deed) (told : ActReply) → IsStepOf (Calls (call.DropCap fsetid)) did told →
+        TablesGo t did told t' → DropTold (record { deed = did; reply = told })
+    at did (Host (host.Ok got)) i go = done got refl
+    at (Some same) (Host (host.Refused errno)) i go =
+        fails (subst (λ (d : Deed). FailsToDrop (Some d) (Host (host.Refused errno))) (sym i) tt)
+    at (Some same) (Host (host.Fault errno)) i go =
+        fails (subst (λ (d : Deed). FailsToDrop (Some d) (Host (host.Fault errno))) (sym i) tt)
+    at None (Host told) i go = absurd i
+    at did (Host host.NoMemory) i go = out (inl refl)
+    at did NoCopy i go = out (inr refl)
+    at (Some same) (Event told) i go = absurd (subst (λ (d : Deed). TablesGo t (Some d) (Event told) t') i go)
+    at None (Event told) i go = absurd i
+
 pub gone_answered_law : (limit job : ℕ) (plan : Plan) (seat : HostSeat) (who : Context) (what : Request)
     (turns later : List Turn) (was now : Tables) (number : ℕ) (end : Finish) →
     TablesRun (empty_tables limit) turns was → NoRow was (HasNumber number) → TablesRun was later now →
     inserted number later ≡ 0 → IsOn number what → Belongs (grammar_of plan seat who what) (steps_of job later) end →
-    (end ≡ finish.Answer (answer.Refused ebadf)) ⊎ IsGivenUp end
+    (end ≡ finish.Answer (answer.Refused ebadf)) ⊎ IsGivenUp end ⊎ EndsBefore plan seat what (steps_of job later)
 gone_answered_law limit job plan seat who what turns later was now number end r none k i on b =
     let s = resolves plan seat who what number on in
-    first (steps_of job later) refl s.0 s.1
-    (subst (λ tree. Belongs (grammar_of_tree seat tree) (steps_of job later) end) s.2 b)
+    ends_so what (first (steps_of job later) refl (drops_before plan seat what) s.0 s.1
+    (subst (λ tree. Belongs (grammar_of_tree seat tree) (steps_of job later) end) s.2 b))
   where
+    ends_so : (asked : Request) → Ends (steps_of job later) end (drops_before plan seat asked) →
+        (end ≡ finish.Answer (answer.Refused ebadf)) ⊎ IsGivenUp end ⊎ EndsBefore plan seat asked (steps_of job later)
+    ends_so asked (inl (inl e)) = inl e
+    ends_so asked (inl (inr up)) = inr (inl up)
+    ends_so (request.Open inode kill flags) (inr before) = inr (inr before)
+    ends_so asked (inr before) = let no = before.0 in absurd (cc)
+
     at : (one : List Step) (step : Step) (two : List Step) → steps_of job later ≡ one ++ step ∷ two → Gone number step
     at one step two e =
         gone_at number job later was now one step two (agree_law limit turns was r)
         (none_other number was.rows none) k i e
 
-    second : (one : List Step) (steps : List Step) (marks : List ℕ) (next : Resolved → RequestTree) →
-        steps_of job later ≡ one ++ steps →
-        Belongs (framed seat (resolve number next) [] marks) steps end → Answers end
-    second one [] marks next e b = absurd b
-    second one (step ∷ steps) marks next e b = let g = at one step steps e in
-        resolved seat marks number (on_resolved next) g.t g.t' step steps end g.none refl g.go b
+    second : (one : List Step) (steps : List Step) (holds : List Hold) (marks : List ℕ)
+        (next : Resolved → RequestTree) → steps_of job later ≡ one ++ steps →
+        Belongs (framed seat (resolve number next) holds marks) steps end → Answers end
+    second one [] holds marks next e b = absurd b
+    second one (step ∷ steps) holds marks next e b = let g = at one step steps e in
+        resolved seat holds marks number (on_resolved next) g.t g.t' step steps end g.none refl g.go b
 
-    inside : (wraps : Bool) (one : List Step) (steps : List Step) (next : Resolved → RequestTree) →
-        steps_of job later ≡ one ++ steps →
-        Belongs (framed seat (bracketed wraps (resolve number next)) [] []) steps end → Answers end
-    inside true one steps next e b = second one steps (0 ∷ []) next e b
-    inside false one steps next e b = second one steps [] next e b
+    -- behind the call that drops the capability
+    dropped_on : (rest : RequestTree) (marks : List ℕ) (told : ActReply) (steps : List Step) →
+        Belongs (framed_follows seat (may_give_up told (on_set rest told)) 0
+        (opened (hold.Dropped fsetid) told []) (framed seat (on_set rest told)
+        (opened (hold.Dropped fsetid) told []) marks)) steps end → IsGivenUp end
+        ⊎ Belongs (framed seat (on_set rest told) (opened (hold.Dropped fsetid) told []) marks) steps end
+    dropped_on rest marks told steps b =
+        follows_plain seat (may_give_up told (on_set rest told)) 0 (opened (hold.Dropped fsetid) told [])
+        (framed seat (on_set rest told) (opened (hold.Dropped fsetid) told []) marks) steps end refl b
 
-    first : (steps : List Step) → steps_of job later ≡ steps → (wraps : Bool)
+    scoped : (dropped : Bool) (one : List Step) (steps : List Step) (marks : List ℕ)
+        (next : Resolved → RequestTree) → steps_of job later ≡ one ++ steps →
+        Belongs (framed seat (without_fsetid dropped (resolve number next)) [] marks) steps end →
+        Ends (steps_of job later) end dropped
+    scoped false one steps marks next e b = inl (second one steps [] marks next e b)
+    scoped true one [] marks next e b = absurd b
+    scoped true one (step ∷ steps) marks next e b =
+        let g = at one step steps e in
+        elim (drop_told step g.t g.t' b.0 g.go) [
+          | done got is ↦ elim (dropped_on (resolve number next) marks (Host (host.Ok got)) steps (moved is b.1)) [
+            | inl up ↦ inl (inr up)
+            | inr on ↦ inl (second (one ++ step ∷ []) steps (hold.Dropped fsetid ∷ []) marks next
+                (e ∙ sym (append_assoc one (step ∷ []) steps)) on)
+          ]
+          | fails f ↦ inr (refl, subst SomeFailsToDrop (sym e) (fails_among one steps step f))
+          | out (inl is) ↦ inl (inr (out_so (dropped_on (resolve number next) marks (Host host.NoMemory) steps
+              (moved is b.1))))
+          | out (inr is) ↦ inl (inr (out_so (dropped_on (resolve number next) marks NoCopy steps (moved is b.1))))
+        ]
+      where
+        moved : {told other : ActReply} → told ≡ other →
+            Belongs (framed_follows seat (may_give_up told (on_set (resolve number next) told)) 0
+            (opened (hold.Dropped fsetid) told []) (framed seat (on_set (resolve number next) told)
+            (opened (hold.Dropped fsetid) told []) marks)) steps end →
+            Belongs (framed_follows seat (may_give_up other (on_set (resolve number next) other)) 0
+            (opened (hold.Dropped fsetid) other []) (framed seat (on_set (resolve number next) other)
+            (opened (hold.Dropped fsetid) other []) marks)) steps end
+        moved is x = subst (λ (told : ActReply).
+            Belongs (framed_follows seat (may_give_up told (on_set (resolve number next) told)) 0
+            (opened (hold.Dropped fsetid) told []) (framed seat (on_set (resolve number next) told)
+            (opened (hold.Dropped fsetid) told []) marks)) steps end) is x
+
+        out_so : IsGivenUp end ⊎ Belongs (leave seat [] (finish.Answer answer.NoMemory)) steps end → IsGivenUp end
+        out_so (inl up) = up
+        out_so (inr on) = ended_up end (end_leave seat [] (finish.Answer answer.NoMemory) steps end on).0
+
+    inside : (dropped wraps : Bool) (one : List Step) (steps : List Step) (next : Resolved → RequestTree) →
+        steps_of job later ≡ one ++ steps →
+        Belongs (framed seat (bracketed wraps (without_fsetid dropped (resolve number next))) [] []) steps end →
+        Ends (steps_of job later) end dropped
+    inside dropped true one steps next e b = scoped dropped one steps (0 ∷ []) next e b
+    inside dropped false one steps next e b = scoped dropped one steps [] next e b
+
+    first : (steps : List Step) → steps_of job later ≡ steps → (dropped wraps : Bool)
         (next : BegunSession → Resolved → RequestTree) →
-        Belongs (grammar_of_tree seat (begin (λ session. bracketed wraps (resolve number (next session))))) steps
-        end →
-        Answers end
-    first [] e wraps next b = absurd b
-    first (step ∷ steps) e wraps next b =
+        Belongs (grammar_of_tree seat (begin (λ session.
+        bracketed wraps (without_fsetid dropped (resolve number (next session)))))) steps end →
+        Ends (steps_of job later) end dropped
+    first [] e dropped wraps next b = absurd b
+    first (step ∷ steps) e dropped wraps next b =
         let g = at [] step steps e in
         let h = happened change.Begin step.deed step.reply g.t g.t' (λ no. no) b.0 g.go in
         let n = began g.t g.t' h.0 h.2 in
         let told : step.reply ≡ Event (event.Began n.0 n.1) = h.1 ∙ ap Event n.2 in
-        let asks : BegunSession → RequestTree = λ session. bracketed wraps (resolve number (next session)) in
-        elim (follows seat (Changes change.Begin) (on_began asks) [] step steps end
+        let asks : BegunSession → RequestTree =
+        λ session. bracketed wraps (without_fsetid dropped (resolve number (next session))) in
+        elim (follows seat (Changes change.Begin) (on_began asks) [] [] step steps end
         (ap (closings_in (Changes change.Begin)) told) (ap (λ r. held (Changes change.Begin) r []) told) b) [
-          | inl up ↦ inr up
-          | inr on ↦ inside wraps (step ∷ []) steps (next (session_of n.0 n.1)) e
+          | inl up ↦ inl (inr up)
+          | inr on ↦ inside dropped wraps (step ∷ []) steps (next (session_of n.0 n.1)) e
               (subst (λ r. Belongs (framed seat (on_began asks r) [] []) steps end) told on)
         ]

@@ -29,7 +29,7 @@ use Rattle.pt_frame.specs.declared.act.ActReply.TheVariants.{Event, Host, NoCopy
 use Rattle.pt_frame.specs.declared.hold.Hold.{Hold}
 use Rattle.pt_frame.specs.declared.hold.Hold.TheVariants as hold
 use Rattle.pt_law.specs.Told.{MayBeTold}
-use Rattle.pt_law.specs.Under.{Identity, identity_of, makes_object, IsMadeAs, SeatAnswers}
+use Rattle.pt_law.specs.Under.{Identity, identity_of, Role, makes_object, IsMadeAs, SeatAnswers}
 use Rattle.pt_law.specs.Wearing.{Unwinds, Seats}
 use Rattle.pt_law.proofs.Wearing.{deed_leaves}
 use Rattle.pt_host.specs.Sorts.{sort_of}
@@ -234,15 +234,15 @@ gid_other seat now gid own at names same =
 
 -- scopes that open, and a making under them
 
-opens_so : (asker : Option Identity) (seat now : HostSeat) (scopes : List Hold) (asked : Call) (scope : Hold)
+pub opens_so : (role : Role) (seat now : HostSeat) (scopes : List Hold) (asked : Call) (scope : Hold)
     (next : RequestTree) → is_seats_sort (sort_of asked) ≡ true → Unwinds seat scopes now →
     ((got : HostValue) → SeatAnswers now (Some (Calls asked)) (Host (host.Ok got)) →
-    Seats asker seat next (scope ∷ scopes) (seat_by now (Some (Calls asked)) (Host (host.Ok got)))) →
-    Seats asker seat (open_scope asked scope next) scopes now
-opens_so asker seat now scopes asked scope next own un k = (un, own, go)
+    Seats role seat next (scope ∷ scopes) (seat_by now (Some (Calls asked)) (Host (host.Ok got)))) →
+    Seats role seat (open_scope asked scope next) scopes now
+opens_so role seat now scopes asked scope next own un k = (un, own, go)
   where
     go : (told : ActReply) → MayBeTold (Calls asked) told → SeatAnswers now (Some (Calls asked)) told →
-        Seats asker seat (on_set next told) (opened scope told scopes) (seat_by now (Some (Calls asked)) told)
+        Seats role seat (on_set next told) (opened scope told scopes) (seat_by now (Some (Calls asked)) told)
     go (Host (host.Ok got)) m a = k got a
     go (Host (host.Refused errno)) m a = un
     go (Host (host.Fault errno)) m a = un
@@ -251,10 +251,10 @@ opens_so asker seat now scopes asked scope next own un k = (un, own, go)
     go NoCopy m a = un
 
 -- what the identity is taken on for
-abbrev Ends : Option Identity → HostSeat → RequestTree → Identity → Type 0
-Ends asker seat tree who =
+abbrev Ends : Role → HostSeat → RequestTree → Identity → Type 0
+Ends role seat tree who =
     (scopes : List Hold) (now : HostSeat) → Unwinds seat scopes now → identity_of now ≡ who →
-    Seats asker seat tree scopes now
+    Seats role seat tree scopes now
 
 are_one : (now : HostSeat) (who : Identity) → now.eff_uid ≡ who.uid → now.eff_gid ≡ who.gid →
     now.groups ≡ who.groups → now.umask ≡ who.umask → identity_of now ≡ who
@@ -262,19 +262,19 @@ are_one now who u g l m = λ i. record { uid = u i; gid = g i; groups = l i; uma
 
 -- the uid is the last, and a capability with it
 module _
-    (asker : Option Identity)
+    (role : Role)
     (seat : HostSeat)
     (whole : IsWhole seat)
     (tree : RequestTree)
     (who : Identity)
-    (k : Ends asker seat tree who)
+    (k : Ends role seat tree who)
   where
     opens_uid : (uid : ℕ) (keeps : Bool) (scopes : List Hold) (now : HostSeat) → Unwinds seat scopes now →
         LikeUid seat now → TakesUid seat now uid → who.uid ≡ id_under now.real_uid uid now.eff_uid →
         now.eff_gid ≡ who.gid → now.groups ≡ who.groups → now.umask ≡ who.umask →
-        Seats asker seat (taken_on (euid_calls (Some uid) ++ raise_calls (keeps && true)) tree) scopes now
+        Seats role seat (taken_on (euid_calls (Some uid) ++ raise_calls (keeps && true)) tree) scopes now
     opens_uid uid keeps scopes now un like taken u g l m =
-        opens_so asker seat now scopes (call.SetEuid uid) hold.EffectiveUid
+        opens_so role seat now scopes (call.SetEuid uid) hold.EffectiveUid
         (taken_on (raise_calls (keeps && true)) tree) refl un (λ got a. under keeps)
       where
         later : HostSeat
@@ -290,7 +290,7 @@ module _
         same = are_one later who (taken.is ∙ sym u) (taken.gid ∙ g) (taken.groups ∙ l) (taken.umask ∙ m)
 
         raised : (told : ActReply) → SeatAnswers later (Some (Calls (call.RaiseCap override_cap))) told →
-            Seats asker seat tree (hold.EffectiveUid ∷ scopes)
+            Seats role seat tree (hold.EffectiveUid ∷ scopes)
             (seat_by later (Some (Calls (call.RaiseCap override_cap))) told)
         raised (Host (host.Ok got)) a = k (hold.EffectiveUid ∷ scopes) (with_raised later override_cap)
             (refl, owed, subst (λ (z : HostSeat). Unwinds seat scopes z) (sym (taken.raised override_cap a.0)) un) same
@@ -301,7 +301,7 @@ module _
         raised NoCopy a = k (hold.EffectiveUid ∷ scopes) later back same
 
         under : (keeps : Bool) →
-            Seats asker seat (taken_on (raise_calls (keeps && true)) tree) (hold.EffectiveUid ∷ scopes) later
+            Seats role seat (taken_on (raise_calls (keeps && true)) tree) (hold.EffectiveUid ∷ scopes) later
         under true = (back, tt, λ told m a. (inr refl, raised told a))
         under false = k (hold.EffectiveUid ∷ scopes) later back same
 
@@ -309,14 +309,14 @@ module _
         LikeUid seat now → who.uid ≡ id_under seat.real_uid uid seat.eff_uid →
         now.eff_gid ≡ who.gid → now.groups ≡ who.groups → now.umask ≡ who.umask →
         IdCase seat.real_uid uid seat.eff_uid →
-        Seats asker seat (taken_on (euid_calls (id_to_set uid seat.eff_uid)
+        Seats role seat (taken_on (euid_calls (id_to_set uid seat.eff_uid)
         ++ raise_calls (keeps && is_some (id_to_set uid seat.eff_uid))) tree) scopes now
     on_uid uid keeps scopes now un like u g l m (left none same) =
-        subst (λ (o : Option ℕ). Seats asker seat (taken_on (euid_calls o ++ raise_calls (keeps && is_some o)) tree)
+        subst (λ (o : Option ℕ). Seats role seat (taken_on (euid_calls o ++ raise_calls (keeps && is_some o)) tree)
         scopes now) (sym none) (go keeps)
       where
         go : (keeps : Bool) →
-            Seats asker seat (taken_on (euid_calls None ++ raise_calls (keeps && false)) tree) scopes now
+            Seats role seat (taken_on (euid_calls None ++ raise_calls (keeps && false)) tree) scopes now
         go true = k scopes now un (are_one now who (like.eff ∙ sym same ∙ sym u) g l m)
         go false = k scopes now un (are_one now who (like.eff ∙ sym same ∙ sym u) g l m)
     on_uid uid keeps scopes now un like u g l m (kept some leaves same) =
@@ -324,13 +324,13 @@ module _
         ap (λ t. cond t now (with_uid_caps now uid (caps_as now uid))) (ap (λ r. leaves_id r uid) like.real ∙ leaves) in
         let is : id_under now.real_uid uid now.eff_uid ≡ id_under seat.real_uid uid seat.eff_uid =
         (λ i. id_under (like.real i) uid (like.eff i)) in
-        subst (λ (o : Option ℕ). Seats asker seat (taken_on (euid_calls o ++ raise_calls (keeps && is_some o)) tree)
+        subst (λ (o : Option ℕ). Seats role seat (taken_on (euid_calls o ++ raise_calls (keeps && is_some o)) tree)
         scopes now) (sym some) (opens_uid uid keeps scopes now un like
         (taken_kept seat now uid whole like e (is ∙ same ∙ sym like.eff)) (u ∙ sym is) g l m)
     on_uid uid keeps scopes now un like u g l m (other some names same no_root) =
         let is : id_under now.real_uid uid now.eff_uid ≡ id_under seat.real_uid uid seat.eff_uid =
         (λ i. id_under (like.real i) uid (like.eff i)) in
-        subst (λ (o : Option ℕ). Seats asker seat (taken_on (euid_calls o ++ raise_calls (keeps && is_some o)) tree)
+        subst (λ (o : Option ℕ). Seats role seat (taken_on (euid_calls o ++ raise_calls (keeps && is_some o)) tree)
         scopes now) (sym some) (opens_uid uid keeps scopes now un like
         (taken_other seat now uid whole like (ap (λ r. leaves_id r uid) like.real ∙ names) (is ∙ same) no_root)
         (u ∙ sym is) g l m)
@@ -340,10 +340,10 @@ module _
         LikeUid seat now → now.real_gid ≡ seat.real_gid → TakesGid seat now gid →
         who.uid ≡ id_under seat.real_uid uid seat.eff_uid → id_under now.real_gid gid now.eff_gid ≡ who.gid →
         now.groups ≡ who.groups → now.umask ≡ who.umask →
-        Seats asker seat (taken_on (egid_calls (Some gid) ++ euid_calls (id_to_set uid seat.eff_uid)
+        Seats role seat (taken_on (egid_calls (Some gid) ++ euid_calls (id_to_set uid seat.eff_uid)
         ++ raise_calls (keeps && is_some (id_to_set uid seat.eff_uid))) tree) scopes now
     opens_gid uid gid keeps scopes now un like real taken u g l m =
-        opens_so asker seat now scopes (call.SetEgid gid) hold.EffectiveGid
+        opens_so role seat now scopes (call.SetEgid gid) hold.EffectiveGid
         (taken_on (euid_calls (id_to_set uid seat.eff_uid)
         ++ raise_calls (keeps && is_some (id_to_set uid seat.eff_uid))) tree) refl un
         (λ got a. on_uid uid keeps (hold.EffectiveGid ∷ scopes) later
@@ -368,10 +368,10 @@ module _
         LikeUid seat now → now.real_gid ≡ seat.real_gid → now.eff_gid ≡ seat.eff_gid →
         who.uid ≡ id_under seat.real_uid uid seat.eff_uid → who.gid ≡ id_under seat.real_gid gid seat.eff_gid →
         now.groups ≡ who.groups → now.umask ≡ who.umask → IdCase seat.real_gid gid seat.eff_gid →
-        Seats asker seat (taken_on (egid_calls (id_to_set gid seat.eff_gid) ++ euid_calls (id_to_set uid seat.eff_uid)
+        Seats role seat (taken_on (egid_calls (id_to_set gid seat.eff_gid) ++ euid_calls (id_to_set uid seat.eff_uid)
         ++ raise_calls (keeps && is_some (id_to_set uid seat.eff_uid))) tree) scopes now
     on_gid uid gid keeps scopes now un like real at u g l m (left none same) =
-        subst (λ (o : Option ℕ). Seats asker seat (taken_on (egid_calls o ++ euid_calls (id_to_set uid seat.eff_uid)
+        subst (λ (o : Option ℕ). Seats role seat (taken_on (egid_calls o ++ euid_calls (id_to_set uid seat.eff_uid)
         ++ raise_calls (keeps && is_some (id_to_set uid seat.eff_uid))) tree) scopes now) (sym none)
         (on_uid uid keeps scopes now un like u (at ∙ sym same ∙ sym g) l m (id_case seat.real_uid uid seat.eff_uid))
     on_gid uid gid keeps scopes now un like real at u g l m (kept some leaves same) =
@@ -379,14 +379,14 @@ module _
         ap (λ t. cond t now (with_gid_of now gid)) (ap (λ r. leaves_id r gid) real ∙ leaves) in
         let is : id_under now.real_gid gid now.eff_gid ≡ id_under seat.real_gid gid seat.eff_gid =
         (λ i. id_under (real i) gid (at i)) in
-        subst (λ (o : Option ℕ). Seats asker seat (taken_on (egid_calls o ++ euid_calls (id_to_set uid seat.eff_uid)
+        subst (λ (o : Option ℕ). Seats role seat (taken_on (egid_calls o ++ euid_calls (id_to_set uid seat.eff_uid)
         ++ raise_calls (keeps && is_some (id_to_set uid seat.eff_uid))) tree) scopes now) (sym some)
         (opens_gid uid gid keeps scopes now un like real
         (gid_kept seat now gid (whole.eff_gid ∙ sym real) at e (is ∙ same ∙ sym at)) u (is ∙ sym g) l m)
     on_gid uid gid keeps scopes now un like real at u g l m (other some names same no_root) =
         let is : id_under now.real_gid gid now.eff_gid ≡ id_under seat.real_gid gid seat.eff_gid =
         (λ i. id_under (real i) gid (at i)) in
-        subst (λ (o : Option ℕ). Seats asker seat (taken_on (egid_calls o ++ euid_calls (id_to_set uid seat.eff_uid)
+        subst (λ (o : Option ℕ). Seats role seat (taken_on (egid_calls o ++ euid_calls (id_to_set uid seat.eff_uid)
         ++ raise_calls (keeps && is_some (id_to_set uid seat.eff_uid))) tree) scopes now) (sym some)
         (opens_gid uid gid keeps scopes now un like real
         (gid_other seat now gid (whole.eff_gid ∙ sym real) at (ap (λ r. leaves_id r gid) real ∙ names) (is ∙ same)) u
@@ -396,7 +396,7 @@ module _
     on_groups : (uid gid : ℕ) (groups : Option ℕ) (keeps : Bool) → KeepsGroups seat →
         who.uid ≡ id_under seat.real_uid uid seat.eff_uid → who.gid ≡ id_under seat.real_gid gid seat.eff_gid →
         who.groups ≡ groups_under groups seat.groups → seat.umask ≡ who.umask →
-        Seats asker seat (taken_on (group_calls groups ++ egid_calls (id_to_set gid seat.eff_gid)
+        Seats role seat (taken_on (group_calls groups ++ egid_calls (id_to_set gid seat.eff_gid)
         ++ euid_calls (id_to_set uid seat.eff_uid)
         ++ raise_calls (keeps && is_some (id_to_set uid seat.eff_uid))) tree) [] seat
     on_groups uid gid None keeps fits u g l m =
@@ -405,7 +405,7 @@ module _
         like_own : LikeUid seat seat
         like_own = record { eff = refl; real = refl; caps = refl; permitted = refl }
     on_groups uid gid (Some group) keeps fits u g l m =
-        opens_so asker seat seat [] (call.SetGroups (group ∷ [])) hold.Groups
+        opens_so role seat seat [] (call.SetGroups (group ∷ [])) hold.Groups
         (taken_on (egid_calls (id_to_set gid seat.eff_gid) ++ euid_calls (id_to_set uid seat.eff_uid)
         ++ raise_calls (keeps && is_some (id_to_set uid seat.eff_uid))) tree) refl refl
         (λ got a. on_gid uid gid keeps (hold.Groups ∷ []) later (refl, owed a.0, refl)
@@ -433,14 +433,14 @@ module _
             (few (length seat.groups) fits)
 
 -- a making under the identity that was taken on, after which it is put back
-pub guised : (asker : Option Identity) (seat : HostSeat) (creds : Credentials) (making : Call)
+pub guised : (role : Role) (seat : HostSeat) (creds : Credentials) (making : Call)
     (next : ActReply → RequestTree) → IsWhole seat → KeepsGroups seat → is_of_seat (Calls making) ≡ false →
-    makes_object making ≡ true → asker ≡ Some (identity_under creds seat) →
-    ((told : ActReply) → Seats asker seat (next told) [] seat) →
-    Seats asker seat (taken_on (calls_of (cred_steps creds seat))
+    makes_object making ≡ true → role.asker ≡ Some (identity_under creds seat) →
+    ((told : ActReply) → Seats role seat (next told) [] seat) →
+    Seats role seat (taken_on (calls_of (cred_steps creds seat))
     (Asks (Calls making) (λ told. Bares (next told)))) [] seat
-guised asker seat creds making next whole fits own makes is so =
-    on_groups asker seat whole (Asks (Calls making) (λ told. Bares (next told)))
+guised role seat creds making next whole fits own makes is so =
+    on_groups role seat whole (Asks (Calls making) (λ told. Bares (next told)))
     (identity_under creds seat) (λ scopes now un same. (
       un,
       made now same,
@@ -454,5 +454,5 @@ guised asker seat creds making next whole fits own makes is so =
     )) creds.uid creds.gid creds.sup_gid creds.keep_capability fits refl refl refl refl
   where
     made : (now : HostSeat) → identity_of now ≡ identity_under creds seat →
-        IsMadeAs asker seat now (Some (Calls making))
+        IsMadeAs role seat now (Some (Calls making))
     made now same = rw own (rw makes (is ∙ ap Some (sym same)))

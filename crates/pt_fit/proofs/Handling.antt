@@ -1,4 +1,5 @@
 -- The own steps by which `create` inserts its handle, behind its lookup.
+use Rattle.std.proofs.Common.{append_assoc}
 use Rattle.std.proofs.Common.{◌≡◌, ◌∙◌, ◌++◌, ◌∷◌, [], if◌then◌else◌, ℕ, Bool, List, None, Option, Some, ap, false}
 use Rattle.std.proofs.Common.{refl, subst, sym, true}
 use Rattle.pt_host.specs.Errno.{ebadf, estale}
@@ -9,6 +10,7 @@ use Rattle.pt_host.specs.declared.ids.ObjIds.{ObjIds}
 use Rattle.pt_host.specs.declared.op.KeptHostOp.TheVariants as call
 use Rattle.pt_host.specs.declared.reply.HostReply.TheVariants as host
 use Rattle.pt_host.specs.declared.reply.HostValue.TheVariants as value
+use Rattle.pt_host.specs.declared.seat.HostSeat.{HostSeat}
 use Rattle.pt_session.specs.declared.event.KeptEvent.TheVariants as change
 use Rattle.pt_session.specs.declared.form.RowForm.{RowForm}
 use Rattle.pt_session.specs.declared.form.RowForm.TheVariants.{File}
@@ -19,15 +21,16 @@ use Rattle.pt_iface.specs.declared.entry.Entry.{Entry}
 use Rattle.pt_iface.specs.declared.flags.OpenOptions.{OpenOptions}
 use Rattle.pt_frame.specs.Deed.{Calls, Changes, Deed, IsStepOf, Step}
 use Rattle.pt_frame.specs.Replies.{passes_with}
-use Rattle.pt_frame.specs.Tree.{Asks, Gives, Refuses, RequestTree, Shuts}
+use Rattle.pt_frame.specs.Tree.{Asks, Bares, Gives, Refuses, RequestTree, Shuts}
 use Rattle.pt_frame.specs.declared.act.ActReply.{ActReply}
 use Rattle.pt_frame.specs.declared.act.ActReply.TheVariants.{Event, Host, NoCopy}
+use Rattle.pt_req.specs.Capability.{drops_fsetid, fsetid, without_fsetid}
 use Rattle.pt_req.specs.Creating.{handled, named_handle}
 use Rattle.pt_req.specs.Entries.{can_open}
 use Rattle.pt_req.specs.Options.{cleaned, create_options, inode_flags, without_nofollow}
-use Rattle.pt_req.specs.Parts.{open_form, open_num, open_row}
+use Rattle.pt_req.specs.Parts.{handled_num, open_form, open_num, open_row}
 use Rattle.pt_req.specs.Steps.{Resolved, draw_handle, insert_handle, on_drawn, on_fd, on_handle, on_resolved}
-use Rattle.pt_req.specs.Steps.{on_taken, take_fd}
+use Rattle.pt_req.specs.Steps.{on_set, on_taken, resolve, take_fd}
 use Rattle.pt_req.specs.declared.begun.BegunSession.{BegunSession}
 use Rattle.pt_req.specs.declared.parts.asked.NamedHandle.{NamedHandle}
 use Rattle.pt_req.specs.declared.plan.Plan.{Plan}
@@ -194,22 +197,57 @@ same_along plan session fd entry given handle options false path a = absurd (sta
     stale [] a = cc
     stale (step ∷ path) a = a
 
+pub each_join : (P : Step → Type 0) (xs ys : List Step) → Each P xs → Each P ys → Each P (xs ++ ys)
+each_join P [] ys a b = b
+each_join P (x ∷ xs) ys a b = (a.0, each_join P xs ys a.1 b)
+
+-- By its own steps, which make nothing, a request comes to what follows the scope of the capability.
+record ComesInto (next : RequestTree) (path : List Step) (last : Answer) : Type 0 where
+  first : List Step
+  rest : List Step
+  are : path ≡ first ++ rest
+  makes_none : Each (λ (step : Step). MakesNone step.deed step.reply) first
+  on : Along next rest last
+
+set_along : (next : RequestTree) (told : ActReply) (path : List Step) (last : Answer) → HasEntry last →
+    Along (on_set next told) path last → Along next path last
+set_along next (Host (host.Ok got)) path last p a = a
+set_along next told path last p a = absurd (refused_along told path last p a)
+
+without_along : (dropped : Bool) (next : RequestTree) (path : List Step) (last : Answer) → HasEntry last →
+    Along (without_fsetid dropped next) path last → ComesInto next path last
+without_along false next path last p a =
+    record { first = []; rest = path; are = refl; makes_none = tt; on = a }
+without_along true next [] last p a = absurd a
+without_along true next (step ∷ path) last p a =
+    let o = along_on (Calls (call.DropCap fsetid)) (on_set next) (step ∷ path) last refl p a in
+    record {
+      first = made (Calls (call.DropCap fsetid)) o.told ∷ [];
+      rest = o.rest;
+      are = o.are;
+      makes_none = (tt, tt);
+      on = set_along next o.told o.rest last p o.on;
+    }
+
 -- what was there is opened anew by its number, and that gets the handle
-pub opened_num_along : (plan : Plan) (session : BegunSession) (flags : ℕ) (entry given : Entry) (handle : ℕ)
-    (options : OpenOptions) (path : List Step) →
-    Along (open_num plan session entry.inode flags (λ handle. answers plan (named_handle entry handle))) path
-    (answer.Created given handle options) → (entry ≡ given) × HandlesOwn entry.inode handle path
-opened_num_along plan session flags entry given handle options path a =
-    let r = along_on (Changes (change.Resolve entry.inode)) (on_resolved (λ row. open_row row bits drawn)) path last
-    refl refl a in
+pub opened_num_along : (plan : Plan) (seat : HostSeat) (session : BegunSession) (kill : Bool) (flags : ℕ)
+    (entry given : Entry) (handle : ℕ) (options : OpenOptions) (path : List Step) →
+    Along (open_num plan seat session entry.inode kill flags (λ handle. answers plan (named_handle entry handle)))
+    path (answer.Created given handle options) → (entry ≡ given) × HandlesOwn entry.inode handle path
+opened_num_along plan seat session kill flags entry given handle options path a =
+    let w = without_along (drops_fsetid plan seat kill) (resolve entry.inode (λ row. open_row row bits drawn)) path
+    last refl a in
+    let r = along_on (Changes (change.Resolve entry.inode)) (on_resolved (λ row. open_row row bits drawn)) w.rest last
+    refl refl w.on in
     let k = resolved_along (λ row. open_row row bits drawn) r.told r.rest last refl r.on in
     let o = kind (can_open k.3) k.1 r.rest k.5 in
     let d = drawing_along session entry.inode o.0 (λ handle. Shuts false (answers plan (named_handle entry handle)))
     o.3 last refl o.5 in
     let e = answered_along plan entry given d.0 handle options d.2 d.4 in
-    let are : path ≡ (made (Changes (change.Resolve entry.inode)) (Event (event.Resolved k.0 k.1 k.2 k.3))
-    ∷ made (Calls (call.Reopen o.1 o.2)) (Host (host.Ok (value.Fd o.0))) ∷ handle_drawn d.0 ∷ slot_taken ∷ [])
-    ++ inserted session.era d.0 entry.inode o.0 d.1 ∷ [] =
+    let opens : List Step = made (Changes (change.Resolve entry.inode)) (Event (event.Resolved k.0 k.1 k.2 k.3))
+    ∷ made (Calls (call.Reopen o.1 o.2)) (Host (host.Ok (value.Fd o.0))) ∷ handle_drawn d.0 ∷ slot_taken ∷ [] in
+    let inserts : List Step = inserted session.era d.0 entry.inode o.0 d.1 ∷ [] in
+    let later : w.rest ≡ opens ++ inserts =
     step_to r.are k.4 (o.4
     ∙ ap (λ (z : List Step). made (Calls (call.Reopen o.1 o.2)) (Host (host.Ok (value.Fd o.0))) ∷ z) (d.3
     ∙ (λ i. handle_drawn d.0 ∷ slot_taken ∷ inserted session.era d.0 entry.inode o.0 d.1 ∷ e.0 i))) in
@@ -217,12 +255,10 @@ opened_num_along plan session flags entry given handle options path a =
       era = session.era;
       fd = o.0;
       told = d.1;
-      first = made (Changes (change.Resolve entry.inode)) (Event (event.Resolved k.0 k.1 k.2 k.3))
-          ∷ made (Calls (call.Reopen o.1 o.2)) (Host (host.Ok (value.Fd o.0)))
-          ∷ handle_drawn d.0
-          ∷ slot_taken ∷ [];
-      are = are;
-      makes_none = (tt, (tt, (tt, (tt, tt))));
+      first = w.first ++ opens;
+      are = w.are ∙ ap (λ (z : List Step). w.first ++ z) later ∙ sym (append_assoc w.first opens inserts);
+      makes_none = each_join (λ (step : Step). MakesNone step.deed step.reply) w.first opens w.makes_none
+          (tt, (tt, (tt, (tt, tt))));
     } in
     (e.1, subst (λ n. HandlesOwn entry.inode n path) e.2 by)
   where
@@ -230,11 +266,10 @@ opened_num_along plan session flags entry given handle options path a =
     last = answer.Created given handle options
 
     bits : ℕ
-    bits = inode_flags plan.config (cleaned plan.config flags)
+    bits = inode_flags plan.config session.agreed (cleaned plan.config flags)
 
     drawn : Fd → RequestTree
-    drawn fd = draw_handle (λ handle. take_fd (insert_handle session handle entry.inode fd
-        (Shuts false (answers plan (named_handle entry handle)))))
+    drawn fd = Bares (handled_num session entry.inode (λ handle. answers plan (named_handle entry handle)) fd)
 
     form_along : (form : RowForm) (rest : List Step) → Along (open_form form bits drawn) rest last →
         (fd : Fd) × (dir : Fd) × (how : OpenFlags) × (more : List Step)
@@ -280,10 +315,6 @@ pub record Inserted (number handle : ℕ) (steps : List Step) : Type 0 where
   pub back : List Step
   pub are : steps ≡ front ++ inserted era handle number fd told ∷ back
   pub makes_none : Each (λ (step : Step). MakesNone step.deed step.reply) steps
-
-pub each_join : (P : Step → Type 0) (xs ys : List Step) → Each P xs → Each P ys → Each P (xs ++ ys)
-each_join P [] ys a b = b
-each_join P (x ∷ xs) ys a b = (a.0, each_join P xs ys a.1 b)
 
 pub inserted_in : (number handle : ℕ) (path steps : List Step) → AreOwn path steps → HandlesOwn number handle path →
     Inserted number handle steps

@@ -4,6 +4,7 @@ use Rattle.std.proofs.Common.{inl, inr, refl, true}
 use Rattle.pt_host.specs.Errno.{ebadf, errno_of}
 use Rattle.pt_host.specs.declared.ids.Fd.{Fd}
 use Rattle.pt_host.specs.declared.ids.ObjIds.{ObjIds}
+use Rattle.pt_host.specs.declared.seat.HostSeat.{HostSeat}
 use Rattle.pt_host.specs.declared.stat.Stat.{Stat}
 use Rattle.pt_session.specs.declared.form.Negotiated.{Negotiated}
 use Rattle.pt_session.specs.declared.form.RowForm.{RowForm}
@@ -15,10 +16,11 @@ use Rattle.pt_frame.specs.Held.{row_fd}
 use Rattle.pt_frame.specs.Tree.{Gives, RequestTree}
 use Rattle.pt_frame.specs.declared.hold.Hold.{Hold}
 use Rattle.pt_frame.specs.declared.hold.Hold.TheVariants as hold
+use Rattle.pt_req.specs.Capability.{drops_fsetid}
 use Rattle.pt_req.specs.Entries.{can_open}
 use Rattle.pt_req.specs.Options.{cleaned, inode_flags, without_nofollow}
 use Rattle.pt_req.specs.Parts.{by_path, file_of, look_up, looked_of, numbered, open_form, open_num, open_row}
-use Rattle.pt_req.specs.Parts.{root_open}
+use Rattle.pt_req.specs.Parts.{open_inode, root_open}
 use Rattle.pt_req.specs.Requests.{unserved}
 use Rattle.pt_req.specs.Steps.{Resolved}
 use Rattle.pt_req.specs.declared.begun.BegunSession.{BegunSession}
@@ -28,11 +30,12 @@ use Rattle.pt_attr.specs.Requests.{file_by, files_by}
 use Rattle.pt_law.specs.Discipline.{Notes, blank, given_for, with_root}
 use Rattle.pt_fit.specs.Cause.{Asking, IsOpening, OwnCause}
 use Rattle.pt_fit.specs.Fit.{Fit}
-use Rattle.pt_fit.proofs.Holds.{IsBare, nothing_bare}
+use Rattle.pt_fit.proofs.Holds.{IsBare, nothing_bare, over}
 use Rattle.pt_fit.proofs.Parts.{Goes, GoesAfter, fit_begin, fit_brackets, fit_claim, fit_draw_handle, fit_draw_node}
 use Rattle.pt_fit.proofs.Parts.{fit_file_of, fit_insert, fit_insert_handle, fit_insert_root, fit_open_at}
-use Rattle.pt_fit.proofs.Parts.{fit_open_root, fit_reopen, fit_resolve, fit_shuts, fit_shuts_passing, fit_stat}
-use Rattle.pt_fit.proofs.Parts.{fit_take_fd, noting, resolution, still, Seen, Ids}
+use Rattle.pt_fit.proofs.Parts.{fit_bares, fit_open_root, fit_reopen, fit_resolve, fit_resolve_over, fit_shuts}
+use Rattle.pt_fit.proofs.Parts.{fit_shuts_passing, fit_stat, fit_take_fd, fit_without_fsetid, noting, resolution}
+use Rattle.pt_fit.proofs.Parts.{still, Seen, Ids}
 
 -- a leaf
 pub fit_gives : {asked : Asking} {seen : List Seen} {holds : List Hold} {marks : List ℕ} {notes : Notes}
@@ -144,44 +147,59 @@ fit_root_open {notes = notes} plan session agreed next b e r f =
     (f told _))))
 
 -- what is no regular file and no directory is not opened
-fit_open_form : {asked : Asking} {seen : List Seen} {holds : List Hold} {marks : List ℕ} {notes : Notes}
-    (row number flags : ℕ) (form : RowForm) (next : Fd → RequestTree) →
+fit_open_form : {asked : Asking} {seen : List Seen} {marks : List ℕ} {notes : Notes} (holds : List Hold)
+    (dropped : Bool) (row number flags : ℕ) (form : RowForm) (next : Fd → RequestTree) →
     notes.resolved ≡ Some (record { number = number; row = row }) →
-    ((dir new : Fd) → Goes asked seen (next new) (hold.Fd new None ∷ hold.Pin row (Some dir) ∷ holds) marks
-    (record notes { reopened = Some new })) →
-    Goes asked seen (open_form form flags next) (hold.Pin row (row_fd form) ∷ holds) marks notes
-fit_open_form row number flags (File dir) next r f =
-    fit_reopen dir (without_nofollow flags) row number next r (f dir)
+    ((dir new : Fd) → Goes asked seen (next new) (over dropped (hold.Fd new None ∷ hold.Pin row (Some dir) ∷ holds))
+    marks (record notes { reopened = Some new })) →
+    Goes asked seen (open_form form flags next) (over dropped (hold.Pin row (row_fd form) ∷ holds)) marks notes
+fit_open_form holds dropped row number flags (File dir) next r f =
+    fit_reopen holds dropped dir (without_nofollow flags) row number next r (f dir)
 
-pub fit_open_row : {asked : Asking} {seen : List Seen} {holds : List Hold} {marks : List ℕ} (notes : Notes)
-    (number flags : ℕ) (row : Resolved) (next : Fd → RequestTree) → IsOpening asked.request →
-    ((dir new : Fd) → Goes asked seen (next new) (hold.Fd new None ∷ hold.Pin row.row (Some dir) ∷ holds) marks
+pub fit_open_row : {asked : Asking} {seen : List Seen} {marks : List ℕ} (holds : List Hold) (dropped : Bool)
+    (notes : Notes) (number flags : ℕ) (row : Resolved) (next : Fd → RequestTree) → IsOpening asked.request →
+    ((dir new : Fd) → Goes asked seen (next new)
+    (over dropped (hold.Fd new None ∷ hold.Pin row.row (Some dir) ∷ holds)) marks
     (record (noting number row.row notes) { reopened = Some new })) →
     GoesAfter (resolution number row) asked seen (open_row row flags next)
-    (hold.Pin row.row (row_fd row.form) ∷ holds) marks (noting number row.row notes)
-fit_open_row {asked = asked} {seen = seen} {holds = holds} {marks = marks} notes number flags row next o f =
+    (over dropped (hold.Pin row.row (row_fd row.form) ∷ holds)) marks (noting number row.row notes)
+fit_open_row {asked = asked} {seen = seen} {marks = marks} holds dropped notes number flags row next o f =
     kind (can_open row.mode) refl
   where
     kind : (can : Bool) → can_open row.mode ≡ can →
         GoesAfter (resolution number row) asked seen
         (if can then open_form row.form flags next else Gives (answer.Refused ebadf))
-        (hold.Pin row.row (row_fd row.form) ∷ holds) marks (noting number row.row notes)
-    kind true e = after_any_step (fit_open_form row.row number flags row.form next refl f)
+        (over dropped (hold.Pin row.row (row_fd row.form) ∷ holds)) marks (noting number row.row notes)
+    kind true e = after_any_step (fit_open_form holds dropped row.row number flags row.form next refl f)
     kind false e = record { on = λ path s. (tt, inr (inl (inl (o, e, refl))), tt) }
+
+-- A number is opened anew, in a scope or in none.
+pub fit_open_inode : {asked : Asking} {seen : List Seen} {holds : List Hold} {marks : List ℕ} {notes : Notes}
+    (dropped : Bool) (plan : Plan) (session : BegunSession) (number flags : ℕ) (next : Fd → RequestTree) →
+    IsOpening asked.request → IsBare holds →
+    ((row : ℕ) (dir new : Fd) → Goes asked seen (next new)
+    (over dropped (hold.Fd new None ∷ hold.Pin row (Some dir) ∷ holds)) marks
+    (record (noting number row notes) { reopened = Some new })) →
+    Goes asked seen (open_inode plan session number flags next) (over dropped holds) marks notes
+fit_open_inode {holds = holds} {notes = notes} dropped plan session number flags next o b f =
+    fit_resolve_over dropped number _ b (λ row.
+    fit_open_row holds dropped notes number (inode_flags plan.config session.agreed flags) row next o (f row.row))
 
 -- A number is opened by a handle, in a bracket that leaves what was held before.
 pub fit_open_num : {asked : Asking} {seen : List Seen} {holds : List Hold} {marks : List ℕ} {notes : Notes}
-    (plan : Plan) (session : BegunSession) (number flags : ℕ) (next : ℕ → RequestTree) → IsOpening asked.request →
-    IsBare holds → notes.era ≡ Some session.era →
+    (plan : Plan) (seat : HostSeat) (session : BegunSession) (number : ℕ) (kill : Bool) (flags : ℕ)
+    (next : ℕ → RequestTree) → IsOpening asked.request → IsBare holds → notes.era ≡ Some session.era →
     ((handle : ℕ) (later : Notes) → Goes asked seen (next handle) holds marks later) →
-    Goes asked seen (open_num plan session number flags next) holds marks notes
-fit_open_num {holds = holds} {notes = notes} plan session number flags next o b e f =
-    fit_brackets _ (fit_resolve number _ b (λ row.
-    fit_open_row notes number (inode_flags plan.config (cleaned plan.config flags)) row _ o (λ dir fd.
+    Goes asked seen (open_num plan seat session number kill flags next) holds marks notes
+fit_open_num {holds = holds} plan seat session number kill flags next o b e f =
+    let dropped = drops_fsetid plan seat kill in
+    fit_brackets _ (fit_without_fsetid dropped _ (
+    fit_open_inode dropped plan session number (cleaned plan.config flags) _ o b (λ row dir fd.
+    fit_bares dropped _ (λ one. refl) (
     fit_draw_handle _ (λ handle.
     fit_take_fd fd None _
-    (fit_insert_handle session handle number row.row fd None _ e refl refl refl
-    (fit_shuts _ (hold.Pin row.row (Some dir) ∷ []) holds (λ later l. f handle later)))))))
+    (fit_insert_handle session handle number row fd None _ e refl refl refl
+    (fit_shuts _ (hold.Pin row (Some dir) ∷ []) holds (λ later l. f handle later))))))))
 
 -- the function is not there
 pub fit_unserved : (asked : Asking) → OwnCause asked.plan asked.who asked.request (errno_of 38) →

@@ -31,11 +31,11 @@ use Rattle.pt_law.specs.Branch.{Along, AreOwn, IsLost, IsGivenUp}
 use Rattle.pt_law.specs.Naming.{made}
 use Rattle.pt_law.proofs.Branches.{branch, end_leave, end_shut, Ended}
 
-lost_up : (end : Finish) → IsLost end → IsGivenUp end
+pub lost_up : (end : Finish) → IsLost end → IsGivenUp end
 lost_up (finish.Lost errno) l = tt
 lost_up (finish.Answer last) l = absurd l
 
-ended_up : (end : Finish) → Ended (finish.Answer answer.NoMemory) end → IsGivenUp end
+pub ended_up : (end : Finish) → Ended (finish.Answer answer.NoMemory) end → IsGivenUp end
 ended_up end (inl e) = subst IsGivenUp (sym e) tt
 ended_up end (inr lost) = lost_up end lost
 

@@ -222,9 +222,10 @@ abbrev then_handled : Plan → BegunSession → Fd → Stat → Looked → Reque
 then_handled plan session fd stat looked =
     if_same stat.ids looked.ids (handled session fd looked.entry (answers plan))
 
-abbrev then_opened : Plan → BegunSession → FileAsked → Looked → RequestTree
-then_opened plan session asked looked =
-    open_num plan session looked.entry.inode asked.flags (λ handle. answers plan (named_handle looked.entry handle))
+abbrev then_opened : Plan → HostSeat → BegunSession → FileAsked → Looked → RequestTree
+then_opened plan seat session asked looked =
+    open_num plan seat session looked.entry.inode asked.kill asked.flags
+    (λ handle. answers plan (named_handle looked.entry handle))
 
 -- What was made is looked at, and by still steps its name comes to be looked up.
 record NewFile
@@ -276,7 +277,7 @@ record FoundOld
   rest : List Step
   are : steps ≡ front ++ rest
   makes_none : Each (λ (step : Step). MakesNone step.deed step.reply) front
-  on : Leads seat (look_up plan session asked.parent asked.name (then_opened plan session asked)) rest last
+  on : Leads seat (look_up plan session asked.parent asked.name (then_opened plan seat session asked)) rest last
 
 module _ (plan : Plan) (seat : HostSeat) (session : BegunSession) (asked : FileAsked) (last : Answer)
     (p : HasEntry last) where
@@ -284,7 +285,7 @@ module _ (plan : Plan) (seat : HostSeat) (session : BegunSession) (asked : FileA
   New dir fd = new_file plan session asked dir fd (answers plan)
 
   abbrev Old : RequestTree
-  Old = old_file plan session asked (answers plan)
+  Old = old_file plan seat session asked (answers plan)
 
   abbrev Ways : List Step → Type 0
   Ways steps = MadeNew plan seat session asked last steps ⊎ FoundOld plan seat session asked last steps
@@ -519,11 +520,13 @@ module _ (plan : Plan) (seat : HostSeat) (session : BegunSession) (asked : FileA
   old_created : (rest : List Step) → steps ≡ begun rest → FoundOld plan seat session asked created rest →
       CreatedBy plan asked.parent asked.name entry handle steps
   old_created rest e o =
-      let found = looks seat plan session asked.parent asked.name (then_opened plan session asked) o.rest created refl
+      let found = looks seat plan session asked.parent asked.name (then_opened plan seat session asked) o.rest created
+      refl
       o.on in
-      let way = on_branch seat (Shuts true (then_opened plan session asked found.looked)) found.rest created refl
+      let way = on_branch seat (Shuts true (then_opened plan seat session asked found.looked)) found.rest created refl
       found.on in
-      let h = opened_num_along plan session asked.flags found.looked.entry entry handle options way.0 way.2 in
+      let h = opened_num_along plan seat session asked.kill asked.flags found.looked.entry entry handle options way.0
+      way.2 in
       let are : rest ≡ o.front ++ (found.own ++ found.rest) =
       o.are ∙ ap (λ (z : List Step). o.front ++ z) found.are in
       let by : CreatedBy plan asked.parent asked.name found.looked.entry handle steps = record {
@@ -558,7 +561,7 @@ created_parts plan seat who parent name mode kill flags umask ext entry handle o
     last = answer.Created entry handle options
 
     file : FileAsked
-    file = file_asked who parent name mode flags ext
+    file = file_asked who parent name mode kill flags ext
 
     -- what follows the directory
     in_dir : BegunSession → Fd → RequestTree

@@ -8,7 +8,6 @@ use Rattle.pt_host.specs.Call.{Call}
 use Rattle.pt_host.specs.declared.ids.Fd.{Fd}
 use Rattle.pt_host.specs.Sorts.{sort_of}
 use Rattle.pt_host.specs.declared.ids.ObjIds.{ObjIds}
-use Rattle.pt_host.specs.declared.stat.FsStat.{FsStat}
 use Rattle.pt_host.specs.declared.stat.Stat.{Stat}
 use Rattle.pt_host.specs.declared.flags.Caps.{Caps}
 use Rattle.pt_host.specs.declared.flags.OpenFlags.{OpenFlags}
@@ -23,29 +22,30 @@ use Rattle.pt_session.specs.declared.reply.EventReply.TheVariants as event
 use Rattle.pt_iface.specs.declared.answer.Answer.TheVariants as answer
 use Rattle.pt_iface.specs.declared.request.Request.{Request}
 use Rattle.pt_frame.specs.Deed.{Deed, Calls, Changes, Step}
-use Rattle.pt_frame.specs.Held.{row_fd, laid, held, noted}
+use Rattle.pt_frame.specs.Held.{row_fd, laid}
 use Rattle.pt_frame.specs.Replies.{refusal}
-use Rattle.pt_frame.specs.Tree.{RequestTree, Gives, Refuses, Brackets, Shuts}
+use Rattle.pt_frame.specs.Tree.{RequestTree, Gives, Refuses, Bares, Brackets, Shuts}
 use Rattle.pt_frame.specs.declared.act.ActReply.{ActReply}
 use Rattle.pt_frame.specs.declared.act.ActReply.TheVariants.{Event, Host}
 use Rattle.pt_frame.specs.declared.hold.Hold.{Hold}
 use Rattle.pt_frame.specs.declared.hold.Hold.TheVariants as hold
-use Rattle.pt_req.specs.Steps.{session_of, begin, clear, Resolved, resolve, open_root, open_at, reopen, stat, read_at}
+use Rattle.pt_req.specs.Capability.{fsetid, without_fsetid}
+use Rattle.pt_req.specs.Steps.{session_of, begin, clear, Resolved, resolve, open_root, open_at, reopen, stat}
 use Rattle.pt_req.specs.Steps.{claim, take_fd, draw_node, draw_handle, insert, insert_root, insert_handle, pin_handle}
 use Rattle.pt_req.specs.Parts.{file_of}
 use Rattle.pt_req.specs.Steps.{forget_all, release_handle, open_scope, try_call, is_there, make_at}
 use Rattle.pt_req.specs.declared.begun.BegunSession.{BegunSession}
-use Rattle.pt_attr.specs.Steps.{do_call, read_link, stat_fs}
 use Rattle.pt_law.specs.Discipline.{Notes, with_root, unnoted, found_by, given_for, with_given, KnowsAll, PinsLatest}
-use Rattle.pt_law.specs.Discipline.{at_job, notes_after}
+use Rattle.pt_law.specs.Discipline.{at_job}
 use Rattle.pt_law.specs.Keeps.{Lasts, LiesOnSlot.{here as lies, there as under}, down_to, uncovered, unscoped}
-use Rattle.pt_law.specs.Keeps.{MayMake, MayOpen}
+use Rattle.pt_law.specs.Keeps.{MayOpen}
 use Rattle.pt_law.specs.Naming.{made}
 use Rattle.pt_law.proofs.Sounds.{after_any}
 use Rattle.pt_fit.specs.Cause.{Asking, BlocksLabel, OwnCause, SomeCauses, SomeTellsIds, StepCauses}
 use Rattle.pt_fit.specs.Cause.{is_passed_over}
 use Rattle.pt_fit.specs.Fit.{Fit, IsCausedLeaf}
-use Rattle.pt_fit.proofs.Holds.{IsBare, noted_top, handed_top, down_over}
+use Rattle.pt_fit.proofs.Holds.{IsBare, noted_top, handed_top, down_over, over, laid_over, unscoped_over}
+use Rattle.pt_fit.proofs.Holds.{uncovered_over}
 use Rattle.pt_fit.proofs.Refused.{IsHeeded, IsHeededCall, refused_by}
 
 -- what was told: ids of an object, or what was agreed on with the guest
@@ -125,7 +125,7 @@ pub record GoesAfter
   pub on : (path : List Step) → Told seen path → Fit asked tree holds marks notes (step ∷ path)
 
 -- with what is held written in another way
-held_as : (asked : Asking) (tree : RequestTree) (these those : List Hold) (marks : List ℕ) (notes : Notes)
+pub held_as : (asked : Asking) (tree : RequestTree) (these those : List Hold) (marks : List ℕ) (notes : Notes)
     (path : List Step) → these ≡ those → Fit asked tree those marks notes path → Fit asked tree these marks notes path
 held_as asked tree these those marks notes path e f =
     subst (λ (z : List Hold). Fit asked tree z marks notes path) (sym e) f
@@ -176,24 +176,33 @@ noting number row notes = record notes {
   given = None;
 }
 
+pub fit_resolve_over : {asked : Asking} {seen : List Seen} {holds : List Hold} {marks : List ℕ}
+    {notes : Notes} (dropped : Bool) (number : ℕ)
+    (next : Resolved → RequestTree) → IsBare holds →
+    ((row : Resolved) → GoesAfter (resolution number row) asked seen (next row)
+    (over dropped (hold.Pin row.row (row_fd row.form) ∷ holds)) marks (noting number row.row notes)) →
+    Goes asked seen (resolve number next) (over dropped holds) marks notes
+fit_resolve_over {asked = asked} {holds = holds} dropped number next b f = record {
+  on = λ path s. (
+    (tt, tt),
+    elim [
+      | Event (event.Resolved row form ids mode) ↦
+          λ m. held_as asked (next (record { row = row; form = form; ids = ids; mode = mode })) _ _ _ _ _
+          (laid_over dropped (hold.Pin row (row_fd form)) holds
+          ∙ ap (λ (z : List Hold). over dropped z) (b (hold.Pin row (row_fd form))))
+          ((f (record { row = row; form = form; ids = ids; mode = mode })).on path s)
+      | told ↦ λ m. refused_by asked (Changes (change.Resolve number)) told (over dropped holds) path tt m (λ no. no)
+    ],
+  );
+}
+
 pub fit_resolve : {asked : Asking} {seen : List Seen} {holds : List Hold} {marks : List ℕ}
     {notes : Notes} (number : ℕ)
     (next : Resolved → RequestTree) → IsBare holds →
     ((row : Resolved) → GoesAfter (resolution number row) asked seen (next row)
     (hold.Pin row.row (row_fd row.form) ∷ holds) marks (noting number row.row notes)) →
     Goes asked seen (resolve number next) holds marks notes
-fit_resolve {asked = asked} {holds = holds} number next b f = record {
-  on = λ path s. (
-    (tt, tt),
-    elim [
-      | Event (event.Resolved row form ids mode) ↦
-          λ m. held_as asked (next (record { row = row; form = form; ids = ids; mode = mode })) _ _ _ _ _
-          (b (hold.Pin row (row_fd form)))
-          ((f (record { row = row; form = form; ids = ids; mode = mode })).on path s)
-      | told ↦ λ m. refused_by asked (Changes (change.Resolve number)) told holds path tt m (λ no. no)
-    ],
-  );
-}
+fit_resolve number next b f = fit_resolve_over false number next b f
 
 pub fit_open_root : {asked : Asking} {seen : List Seen} {holds : List Hold} {marks : List ℕ}
     {notes : Notes} (dir : List ℕ)
@@ -236,18 +245,24 @@ fit_open_at {asked = asked} {holds = holds} dir name flags row number next r f =
   );
 }
 
-pub fit_reopen : {asked : Asking} {seen : List Seen} {holds : List Hold} {marks : List ℕ}
-    {notes : Notes} (fd : Fd) (flags : OpenFlags)
+pub fit_reopen : {asked : Asking} {seen : List Seen} {marks : List ℕ} {notes : Notes} (holds : List Hold)
+    (dropped : Bool) (fd : Fd) (flags : OpenFlags)
     (row number : ℕ) (next : Fd → RequestTree) → notes.resolved ≡ Some (record { number = number; row = row }) →
-    ((new : Fd) → Goes asked seen (next new) (hold.Fd new None ∷ hold.Pin row (Some fd) ∷ holds) marks
+    ((new : Fd) → Goes asked seen (next new) (over dropped (hold.Fd new None ∷ hold.Pin row (Some fd) ∷ holds)) marks
     (record notes { reopened = Some new })) →
-    Goes asked seen (reopen fd flags next) (hold.Pin row (Some fd) ∷ holds) marks notes
-fit_reopen {asked = asked} {holds = holds} fd flags row number next r f = record {
+    Goes asked seen (reopen fd flags next) (over dropped (hold.Pin row (Some fd) ∷ holds)) marks notes
+fit_reopen {asked = asked} {notes = notes} holds dropped fd flags row number next r f = record {
   on = λ path s. (
-    (((hold.Pin row (Some fd), _, here, refl), tt), (record { number = number; row = row }, _, r, here)),
+    subst (λ (all : List Hold). KnowsAll all (fd ∷ []) × PinsLatest (at_job all notes) fd)
+        (sym (unscoped_over dropped (hold.Pin row (Some fd) ∷ holds)))
+        (((hold.Pin row (Some fd), _, here, refl), tt), (record { number = number; row = row }, _, r, here)),
     elim [
-      | Host (host.Ok (value.Fd new)) ↦ λ m. (f new).on _ (still s)
-      | told ↦ λ m. refused_by asked (Calls (call.Reopen fd flags)) told holds path (refl, tt) m (λ no. no)
+      | Host (host.Ok (value.Fd new)) ↦
+          λ m. held_as asked (next new) _ _ _ _ _
+          (laid_over dropped (hold.Fd new None) (hold.Pin row (Some fd) ∷ holds))
+          ((f new).on _ (still s))
+      | told ↦ λ m. refused_by asked (Calls (call.Reopen fd flags)) told
+          (over dropped (hold.Pin row (Some fd) ∷ holds)) path (refl, tt) m (λ no. no)
     ],
   );
 }
@@ -266,92 +281,6 @@ fit_stat {asked = asked} {holds = holds} fd was next f = record {
           λ m. held_as asked (next told) _ _ _ _ _ (noted_top fd told.ids was holds)
           ((f told).on _ (looked_at fd told s))
       | told ↦ λ m. refused_by asked (Calls (call.Stat fd)) told holds path (refl, tt) m (λ no. no)
-    ],
-  );
-}
-
-pub fit_read_at : {asked : Asking} {seen : List Seen} {holds : List Hold} {marks : List ℕ}
-    {notes : Notes} (fd : Fd)
-    (offset size row : ℕ) (next : List ℕ → RequestTree) →
-    ((bytes : List ℕ) → Goes asked seen (next bytes) (hold.HandlePin row fd ∷ holds) marks notes) →
-    Goes asked seen (read_at fd offset size next) (hold.HandlePin row fd ∷ holds) marks notes
-fit_read_at {asked = asked} {holds = holds} fd offset size row next f = record {
-  on = λ path s. (
-    (((hold.HandlePin row fd, _, here, refl), tt), tt),
-    elim [
-      | Host (host.Ok (value.Bytes bytes)) ↦ λ m. (f bytes).on _ (still s)
-      | told ↦ λ m. refused_by asked (Calls (call.ReadAt fd offset size)) told holds path (refl, tt) m (λ no. no)
-    ],
-  );
-}
-
-pub fit_read_link : {asked : Asking} {seen : List Seen} {holds : List Hold} {marks : List ℕ}
-    {notes : Notes} (fd : Fd) (row : ℕ) (next : List ℕ → RequestTree) →
-    ((target : List ℕ) → Goes asked seen (next target) (hold.Pin row (Some fd) ∷ holds) marks notes) →
-    Goes asked seen (read_link fd next) (hold.Pin row (Some fd) ∷ holds) marks notes
-fit_read_link {asked = asked} {holds = holds} fd row next f = record {
-  on = λ path s. (
-    (((hold.Pin row (Some fd), _, here, refl), tt), tt),
-    elim [
-      | Host (host.Ok (value.Bytes target)) ↦ λ m. (f target).on _ (still s)
-      | told ↦ λ m. refused_by asked (Calls (call.ReadLink fd)) told (hold.Pin row (Some fd) ∷ holds) path
-          (refl, tt) m (λ no. no)
-    ],
-  );
-}
-
-pub fit_stat_fs : {asked : Asking} {seen : List Seen} {holds : List Hold} {marks : List ℕ}
-    {notes : Notes} (fd : Fd) (row : ℕ) (next : FsStat → RequestTree) →
-    ((told : FsStat) → Goes asked seen (next told) (hold.Pin row (Some fd) ∷ holds) marks notes) →
-    Goes asked seen (stat_fs fd next) (hold.Pin row (Some fd) ∷ holds) marks notes
-fit_stat_fs {asked = asked} {holds = holds} fd row next f = record {
-  on = λ path s. (
-    (((hold.Pin row (Some fd), _, here, refl), tt), tt),
-    elim [
-      | Host (host.Ok (value.FsStat told)) ↦ λ m. (f told).on _ (still s)
-      | told ↦ λ m. refused_by asked (Calls (call.StatFs fd)) told (hold.Pin row (Some fd) ∷ holds) path (refl, tt) m
-          (λ no. no)
-    ],
-  );
-}
-
--- a file is looked at, whatever descriptors are held
-pub fit_look_at : {asked : Asking} {seen : List Seen} {holds : List Hold} {marks : List ℕ}
-    {notes : Notes} (fd : Fd) (next : Stat → RequestTree) → MayMake (Calls (call.Stat fd)) holds notes →
-    ((told : Stat) → GoesAfter (made (Calls (call.Stat fd)) (Host (host.Ok (value.Stat told)))) asked seen (next told)
-    (noted fd told.ids holds) marks (record notes { given = None })) →
-    Goes asked seen (stat fd next) holds marks notes
-fit_look_at {asked = asked} {holds = holds} fd next may f = record {
-  on = λ path s. (
-    may,
-    elim [
-      | Host (host.Ok (value.Stat told)) ↦ λ m. (f told).on path s
-      | told ↦ λ m. refused_by asked (Calls (call.Stat fd)) told holds path (refl, tt) m (λ no. no)
-    ],
-  );
-}
-
--- a call that leaves what is held and noted, whatever it is told
-pub record IsStillCall (did : Call) : Type 0 where
-  pub holds : (told : ActReply) (these : List Hold) → held (Calls did) told these ≡ these
-  pub notes : (told : ActReply) (these : Notes) → notes_after these (Calls did) told ≡ these
-
-pub fit_do_call : {asked : Asking} {seen : List Seen} {holds : List Hold} {marks : List ℕ}
-    {notes : Notes} (did : Call) (next : RequestTree) → IsStillCall did → MayMake (Calls did) holds notes →
-    IsHeeded asked.request (Calls did) holds → Goes asked seen next holds marks notes →
-    Goes asked seen (do_call did next) holds marks notes
-fit_do_call {asked = asked} {holds = holds} {marks = marks} {notes = notes} did next same may heeds f = record {
-  on = λ path s. (
-    may,
-    elim [
-      | Host (host.Ok told) ↦ λ m.
-          let reply : ActReply = Host (host.Ok told) in
-          subst (λ (later : Notes).
-          Fit asked next (held (Calls did) reply holds) marks later (made (Calls did) reply ∷ path))
-          (sym (same.notes reply notes))
-          (held_as asked next (held (Calls did) reply holds) holds marks notes _ (same.holds reply holds)
-          (f.on _ (still s)))
-      | told ↦ λ m. refused_by asked (Calls did) told holds path heeds m (λ no. no)
     ],
   );
 }
@@ -549,6 +478,22 @@ fit_open_scope {asked = asked} {holds = holds} call scope next r h may f = recor
       | told ↦ λ m. refused_by asked (Calls call) told holds path (r, h) m (λ no. no)
     ],
   );
+}
+
+-- The scope of the capability opens, where it is to be dropped, and ends behind its call.
+pub fit_without_fsetid : {asked : Asking} {seen : List Seen} {holds : List Hold} {marks : List ℕ}
+    {notes : Notes} (dropped : Bool) (next : RequestTree) → Goes asked seen next (over dropped holds) marks notes →
+    Goes asked seen (without_fsetid dropped next) holds marks notes
+fit_without_fsetid true next f =
+    fit_open_scope (call.DropCap fsetid) (hold.Dropped fsetid) next refl tt refl f
+fit_without_fsetid false next f = f
+
+pub fit_bares : {asked : Asking} {seen : List Seen} {holds : List Hold} {marks : List ℕ} {notes : Notes}
+    (dropped : Bool) (next : RequestTree) → IsBare holds → Goes asked seen next holds marks notes →
+    Goes asked seen (Bares next) (over dropped holds) marks notes
+fit_bares {asked = asked} {holds = holds} {marks = marks} {notes = notes} dropped next b f = record {
+  on = λ path s. held_as asked next (uncovered (over dropped holds)) holds marks notes path
+      (uncovered_over dropped holds b) (f.on path s);
 }
 
 -- a capability is raised, or done without

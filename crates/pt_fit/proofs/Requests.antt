@@ -34,6 +34,9 @@ use Rattle.pt_law.specs.Discipline.{Notes, blank}
 use Rattle.pt_law.specs.Naming.{made}
 use Rattle.pt_fit.specs.Cause.{Asking, IsOpening, asking}
 use Rattle.pt_fit.specs.Fit.{IsFit}
+use Rattle.pt_fit.proofs.Calling.{fit_do_call, fit_look_at, fit_read_at, fit_read_link, fit_stat_fs}
+use Rattle.pt_fit.proofs.Contents.{fit_copyfilerange, fit_fallocate, fit_flush, fit_fsync, fit_lseek, fit_syncfs}
+use Rattle.pt_fit.proofs.Contents.{fit_write}
 use Rattle.pt_fit.proofs.Creating.{fit_create, forbidden_from}
 use Rattle.pt_fit.proofs.Holds.{nothing_bare}
 use Rattle.pt_fit.proofs.Setting.{fit_setattr}
@@ -41,8 +44,7 @@ use Rattle.pt_fit.proofs.Objects.{fit_named}
 use Rattle.pt_fit.proofs.Joined.{after_any_step, fit_file_by, fit_files_by, fit_gives, fit_look_up, fit_open_num}
 use Rattle.pt_fit.proofs.Joined.{fit_root_open, fit_unserved}
 use Rattle.pt_fit.proofs.Parts.{Goes, GoesAfter, fit_begin, fit_checked, fit_clear, fit_forget_all, fit_pin_handle}
-use Rattle.pt_fit.proofs.Parts.{fit_do_call, fit_look_at, fit_read_at, fit_read_link, fit_release_handle, fit_stat_fs}
-use Rattle.pt_fit.proofs.Parts.{Seen}
+use Rattle.pt_fit.proofs.Parts.{fit_release_handle, Seen}
 
 fit_root : (asked : Asking) (plan : Plan) → Goes asked [] (root plan) [] [] blank
 fit_root asked plan = fit_begin _ refl (λ session.
@@ -63,16 +65,17 @@ fit_forget asked list = fit_begin _ refl (λ session.
 -- a session begins anew; closings come between the clearing and the root
 fit_init : (asked : Asking) (plan : Plan) (capable : FsOptions) → Goes asked [] (init plan capable) [] [] blank
 fit_init asked plan capable = fit_clear _ refl (λ era later l.
-    fit_root_open plan (session_of era nothing_agreed) (Some (agreed_with capable)) _ nothing_bare l.0 l.1
-    (λ told last. fit_gives (answer.Inited (init_options plan.config)) (λ path. (tt, tt, tt))))
+    fit_root_open plan (session_of era nothing_agreed) (Some (agreed_with plan.config capable)) _ nothing_bare
+    l.0 l.1
+    (λ told last. fit_gives (answer.Inited (init_options plan.config capable)) (λ path. (tt, tt, tt))))
 
 fit_destroy : (asked : Asking) → Goes asked [] destroy [] [] blank
 fit_destroy asked = fit_clear _ refl (λ era later l. fit_gives answer.NoReply (λ path. (tt, tt, tt)))
 
-fit_open : (asked : Asking) (plan : Plan) (inode flags : ℕ) → IsOpening asked.request →
-    Goes asked [] (open_file plan inode flags) [] [] blank
-fit_open asked plan inode flags o = fit_begin _ refl (λ session.
-    fit_open_num plan session inode flags _ o nothing_bare refl (λ handle later.
+fit_open : (asked : Asking) (plan : Plan) (seat : HostSeat) (inode : ℕ) (kill : Bool) (flags : ℕ) →
+    IsOpening asked.request → Goes asked [] (open_file plan seat inode kill flags) [] [] blank
+fit_open asked plan seat inode kill flags o = fit_begin _ refl (λ session.
+    fit_open_num plan seat session inode kill flags _ o nothing_bare refl (λ handle later.
     fit_gives (answer.Opened handle (open_options plan.config flags)) (λ path. (tt, tt, tt))))
 
 fit_release : (asked : Asking) (inode handle : ℕ) → Goes asked [] (release inode handle) [] [] blank
@@ -186,9 +189,9 @@ fits plan seat who (request.Forget inode count) =
     fit_forget (asking plan who (request.Forget inode count)) ((inode, count) ∷ [])
 fits plan seat who (request.BatchForget list) = fit_forget (asking plan who (request.BatchForget list)) list
 fits plan seat who (request.Open inode kill flags) =
-    fit_open (asking plan who (request.Open inode kill flags)) plan inode flags tt
+    fit_open (asking plan who (request.Open inode kill flags)) plan seat inode kill flags tt
 fits plan seat who (request.OpenDir inode flags) =
-    fit_open (asking plan who (request.OpenDir inode flags)) plan inode (with_bits flags o_directory) tt
+    fit_open (asking plan who (request.OpenDir inode flags)) plan seat inode false (with_bits flags o_directory) tt
 fits plan seat who (request.Release inode handle) =
     fit_release (asking plan who (request.Release inode handle)) inode handle
 fits plan seat who (request.ReleaseDir inode handle) =
@@ -217,7 +220,22 @@ fits plan seat who (request.Rmdir parent name) = fit_rmdir plan who parent name
 fits plan seat who (request.Link inode newparent newname) = fit_link plan who inode newparent newname
 fits plan seat who (request.Rename olddir oldname newdir newname flags) =
     fit_rename plan who olddir oldname newdir newname flags
-fits plan seat who (request.SetAttr inode handle valid attr) = fit_setattr plan who inode handle valid attr
+fits plan seat who (request.SetAttr inode handle valid attr) = fit_setattr plan seat who inode handle valid attr
+fits plan seat who (request.Write inode handle offset bytes delayed kill flags) =
+    fit_write plan seat who inode handle offset bytes delayed kill flags
+fits plan seat who (request.Fallocate inode handle mode offset length) =
+    fit_fallocate plan who inode handle mode offset length
+fits plan seat who (request.Lseek inode handle offset whence) =
+    fit_lseek (asking plan who (request.Lseek inode handle offset whence)) inode handle offset whence
+fits plan seat who (request.CopyFileRange inode handle offset inode2 handle2 offset2 length flags) =
+    fit_copyfilerange plan who inode handle offset inode2 handle2 offset2 length flags
+fits plan seat who (request.Flush inode handle) =
+    fit_flush (asking plan who (request.Flush inode handle)) inode handle
+fits plan seat who (request.Fsync inode handle datasync) =
+    fit_fsync (asking plan who (request.Fsync inode handle datasync)) inode handle datasync
+fits plan seat who (request.FsyncDir inode handle datasync) =
+    fit_fsync (asking plan who (request.FsyncDir inode handle datasync)) inode handle datasync
+fits plan seat who (request.SyncFs inode) = fit_syncfs plan who inode
 fits plan seat who (request.Other opcode) = fit_unserved (asking plan who (request.Other opcode)) refl
 fits plan seat who what = fit_unserved (asking plan who what) ((λ no. no), refl)
 

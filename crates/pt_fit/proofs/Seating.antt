@@ -1,16 +1,18 @@
 -- Each job makes its calls under the right seats.
-use Rattle.std.proofs.Common.{◌≡◌, inl, ℕ, Bool, true, false, List, [], ◌∷◌, ◌++◌, length, Option, Some}
-use Rattle.std.proofs.Common.{None, refl, sym, ap, subst, ◌∙◌, arith}
+use Rattle.std.proofs.Common.{◌≡◌, ◌<◌, ◌^◌, ◌&&◌, inl, inr, ℕ, Bool, true, false, List, [], ◌∷◌, ◌++◌, length}
+use Rattle.std.proofs.Common.{Option, Some, None, refl, sym, ap, subst, ◌∙◌, arith}
 use Rattle.std.proofs.Common.{not}
 use Rattle.pt_host.specs.Call.{Call}
-use Rattle.pt_host.specs.Seat.{IsStartingSeat}
+use Rattle.pt_host.specs.Flags.{includes}
+use Rattle.pt_host.specs.Seat.{IsStartingSeat, with_dropped}
 use Rattle.pt_host.specs.declared.edit.Edit.{Edit}
+use Rattle.pt_host.specs.declared.flags.Caps.{Caps}
 use Rattle.pt_host.specs.declared.op.KeptHostOp.TheVariants as call
 use Rattle.pt_host.specs.declared.reply.HostReply.TheVariants as host
 use Rattle.pt_host.specs.declared.seat.HostSeat.{HostSeat}
 use Rattle.pt_maps.specs.Translated.{to_host}
 use Rattle.pt_creds.specs.Identity.{Credentials, IsWhole}
-use Rattle.pt_creds.specs.Steps.{cred_steps, calls_of}
+use Rattle.pt_creds.proofs.Seats.{raised_back}
 use Rattle.pt_iface.specs.declared.answer.Answer.TheVariants as answer
 use Rattle.pt_iface.specs.declared.request.Context.{Context}
 use Rattle.pt_iface.specs.declared.request.Request.{Request}
@@ -21,25 +23,28 @@ use Rattle.pt_frame.specs.Frame.{CutAfter}
 use Rattle.pt_frame.specs.Grammar.{Belongs}
 use Rattle.pt_frame.specs.Past.{no_past, past_of, KeepsGroups}
 use Rattle.pt_frame.specs.Tended.{is_of_seat}
-use Rattle.pt_frame.specs.Tree.{RequestTree, Gives, Asks, Bares}
+use Rattle.pt_frame.specs.Tree.{RequestTree, Gives, Refuses, Asks, Opens, Bares, Brackets, Shuts, Allocates}
 use Rattle.pt_frame.specs.declared.act.ActReply.{ActReply}
 use Rattle.pt_frame.specs.declared.act.ActReply.TheVariants.{Event, Host, NoCopy}
 use Rattle.pt_frame.specs.declared.finish.Finish.{Finish}
-use Rattle.pt_req.specs.Asker.{taken_on, asker_from, group_of}
+use Rattle.pt_frame.specs.declared.hold.Hold.TheVariants as hold
+use Rattle.pt_req.specs.Asker.{asker_from, group_of}
+use Rattle.pt_req.specs.Capability.{fsetid, without_fsetid}
 use Rattle.pt_req.specs.declared.plan.Plan.{Plan}
-use Rattle.pt_req.proofs.Walking.{OfAsker, Walk, is_making}
+use Rattle.pt_req.proofs.Walking.{InScope, OfAsker, OfDeed, Scoped, Walk, is_making}
 use Rattle.pt_attr.specs.Pattern.{Asked, Requests, Edits, grammar_for, tree_of}
 use Rattle.pt_attr.proofs.Answering.{requests_tend}
-use Rattle.pt_attr.proofs.Walking.{OfMakings, each_request}
+use Rattle.pt_attr.proofs.Walking.{OfMakings, OfScopes, each_request}
 use Rattle.pt_law.specs.Told.{AllMayBeTold}
-use Rattle.pt_law.specs.Under.{Identity, makes_object, IsCalledAs, IsMadeAs, IsUnrefused, IsSeated, AllSeatsAnswer}
-use Rattle.pt_law.specs.Wearing.{Seats}
+use Rattle.pt_law.specs.Under.{Role, lacking, seat_lacking, makes_object, IsCalledAs, IsMadeAs, IsUnrefused, IsSeated}
+use Rattle.pt_law.specs.Under.{AllSeatsAnswer}
+use Rattle.pt_law.specs.Wearing.{Unwinds, Seats}
 use Rattle.pt_law.proofs.Seated.{job_seated, job_seated_cut}
 use Rattle.pt_law.proofs.Wearing.{step_seat, step_made, deed_leaves}
-use Rattle.pt_fit.specs.Asker.{identity_by, asker_by, asker_in, asker_for}
-use Rattle.pt_fit.proofs.Guises.{identity_under, guised}
+use Rattle.pt_fit.specs.Asker.{identity_by, asker_by, fsetid_if, role_in, role_for}
+use Rattle.pt_fit.proofs.Guises.{identity_under, guised, opens_so}
 
-is_whole : (seat : HostSeat) → IsStartingSeat seat → IsWhole seat
+pub is_whole : (seat : HostSeat) → IsStartingSeat seat → IsWhole seat
 is_whole seat s = record {
   eff_uid = s.eff_uid;
   saved_uid = s.saved_uid;
@@ -60,28 +65,18 @@ same_making (call.MakeNode dir name mode rdev) = refl
 same_making (call.SymLink dir name target) = refl
 same_making asked = refl
 
-made_plainly : (asker : Option Identity) (seat : HostSeat) (deed : Deed) → is_of_seat deed ≡ false →
-    is_making deed ≡ false → IsMadeAs asker seat seat (Some deed)
-made_plainly asker seat (Changes asked) own none = refl
-made_plainly asker seat (Calls asked) own none =
-    subst (λ (b : Bool). IsCalledAs asker seat seat b (makes_object asked)) (sym own)
-    (subst (λ (b : Bool). IsCalledAs asker seat seat false b) (sym (same_making asked ∙ none)) refl)
+-- what is to hold of a making: it is made as whoever asks
+abbrev MadeBy : Role → HostSeat → Credentials → Type 0
+MadeBy role seat creds = role.asker ≡ Some (identity_under creds seat)
 
-asked_plainly : (asker : Option Identity) (seat : HostSeat) (deed : Deed) (next : ActReply → RequestTree) →
-    is_of_seat deed ≡ false → is_making deed ≡ false → ((told : ActReply) → Seats asker seat (next told) [] seat) →
-    Seats asker seat (Asks deed next) [] seat
-asked_plainly asker seat deed next own none so = (
-  refl,
-  made_plainly asker seat deed own none,
-  λ told m a. (
-    inl refl,
-    subst (λ (z : HostSeat). Seats asker seat (next told) [] z) (sym (deed_leaves seat deed told own)) (so told),
-  ),
-)
+-- and of a call by which set-id bits may go: it lacks the capability exactly where that was dropped
+abbrev LacksSo : Role → Bool → Deed → Type 0
+LacksSo role dropped (Calls asked) = role.lacks asked ≡ fsetid_if dropped
+LacksSo role dropped (Changes asked) = Unit {0}
 
--- what is to hold of a making: it is made from this seat, as whoever asks
-abbrev MadeBy : Option Identity → HostSeat → Credentials → HostSeat → Type 0
-MadeBy asker seat creds own = (own ≡ seat) × (asker ≡ Some (identity_under creds seat))
+-- no other call lacks it
+abbrev LacksFew : Role → Type 0
+LacksFew role = (asked : Call) → OfDeed (λ dropped deed. ⊥) false (Calls asked) → role.lacks asked ≡ None
 
 making_plain : (making : Call) → is_making (Calls making) ≡ true → is_of_seat (Calls making) ≡ false
 making_plain (call.OpenAt dir name flags mode) is = refl
@@ -90,24 +85,121 @@ making_plain (call.MakeNode dir name mode rdev) is = refl
 making_plain (call.SymLink dir name target) is = refl
 making_plain asked is = absurd (cc)
 
+-- where it lies in no scope
+lacks_none : (role : Role) → LacksFew role → (asked : Call) → OfDeed (LacksSo role) false (Calls asked) →
+    lacking role asked ≡ None
+lacks_none role few (call.Close fd) may = refl
+lacks_none role few (call.Reopen fd flags) may = may
+lacks_none role few (call.WriteAt fd offset bytes append) may = may
+lacks_none role few (call.Truncate fd size) may = may
+lacks_none role few asked may = few asked may
+
+called_plainly : (role : Role) (seat now : HostSeat) (asked : Call) → is_of_seat (Calls asked) ≡ false →
+    is_making (Calls asked) ≡ false → now ≡ seat_lacking (lacking role asked) seat →
+    IsMadeAs role seat now (Some (Calls asked))
+called_plainly role seat now asked own none so =
+    subst (λ (b : Bool). IsCalledAs role seat now asked b (makes_object asked)) (sym own)
+    (subst (λ (b : Bool). IsCalledAs role seat now asked false b) (sym (same_making asked ∙ none)) so)
+
+made_plainly : (role : Role) (seat : HostSeat) → LacksFew role → (deed : Deed) → is_of_seat deed ≡ false →
+    is_making deed ≡ false → OfDeed (LacksSo role) false deed → IsMadeAs role seat seat (Some deed)
+made_plainly role seat few (Changes asked) own none may = refl
+made_plainly role seat few (Calls asked) own none may =
+    called_plainly role seat seat asked own none
+    (ap (λ (o : Option Caps). seat_lacking o seat) (sym (lacks_none role few asked may)))
+
+-- and where it lies in one
+lacks_some : (role : Role) (asked : Call) → OfDeed (LacksSo role) true (Calls asked) →
+    lacking role asked ≡ Some fsetid
+lacks_some role (call.Reopen fd flags) may = may
+lacks_some role (call.WriteAt fd offset bytes append) may = may
+lacks_some role (call.Truncate fd size) may = may
+lacks_some role asked may = absurd (cc)
+
+asked_plainly : (role : Role) (seat : HostSeat) → LacksFew role → (deed : Deed) (next : ActReply → RequestTree) →
+    is_of_seat deed ≡ false → is_making deed ≡ false → OfDeed (LacksSo role) false deed →
+    ((told : ActReply) → Seats role seat (next told) [] seat) → Seats role seat (Asks deed next) [] seat
+asked_plainly role seat few deed next own none may so = (
+  refl,
+  made_plainly role seat few deed own none may,
+  λ told m a. (
+    inl refl,
+    subst (λ (z : HostSeat). Seats role seat (next told) [] z) (sym (deed_leaves seat deed told own)) (so told),
+  ),
+)
+
+-- The capability was effective and permitted, so it comes back where it was dropped.
+module _
+    (role : Role)
+    (seat : HostSeat)
+    (starts : IsStartingSeat seat)
+    (fits : seat.eff_caps.0 < 2 ^ 32)
+    (few : LacksFew role)
+    (has : includes seat.eff_caps.0 fsetid.0 ≡ true)
+  where
+    abbrev less : HostSeat
+    less = with_dropped seat fsetid
+
+    comes_back : Unwinds seat (hold.Dropped fsetid ∷ []) less
+    comes_back = (
+      refl,
+      ap (λ (caps : Caps). includes caps.0 fsetid.0) (sym starts.caps) ∙ has,
+      raised_back seat fsetid fits (omega arith) has,
+    )
+
+    made_less : (deed : Deed) → is_of_seat deed ≡ false → is_making deed ≡ false →
+        OfDeed (LacksSo role) true deed → IsMadeAs role seat less (Some deed)
+    made_less (Changes asked) own none may = refl
+    made_less (Calls asked) own none may =
+        called_plainly role seat less asked own none
+        (ap (λ (o : Option Caps). seat_lacking o seat) (sym (lacks_some role asked may)))
+
+    -- until its scope ends, calls lack it
+    in_scope : (told : ActReply) (tree : RequestTree) →
+        InScope (LacksSo role) true (λ rest. Seats role seat rest [] seat) told tree →
+        Seats role seat tree (hold.Dropped fsetid ∷ []) less
+    in_scope told (Gives last) so = (comes_back, λ passes. let no : true ≡ false = sym passes ∙ so.1 in absurd (cc))
+    in_scope told (Refuses same) so = comes_back
+    in_scope told (Asks deed next) so = (
+      comes_back,
+      made_less deed so.0 so.1 so.2,
+      λ later m a. (
+        inr (so.3 later),
+        subst (λ (z : HostSeat). Seats role seat (next later) (hold.Dropped fsetid ∷ []) z)
+            (sym (deed_leaves less deed later so.0)) (in_scope later (next later) (so.4 later)),
+      ),
+    )
+    in_scope told (Bares rest) so = (comes_back, so)
+    in_scope told (Opens asked scope next) so = absurd so
+    in_scope told (Brackets rest) so = absurd so
+    in_scope told (Shuts passes rest) so = absurd so
+    in_scope told (Allocates rest) so = absurd so
+
+    drops_so : (rest : RequestTree) → Scoped (LacksSo role) true (λ tree. Seats role seat tree [] seat) rest →
+        Seats role seat (without_fsetid true rest) [] seat
+    drops_so rest so =
+        opens_so role seat seat [] (call.DropCap fsetid) (hold.Dropped fsetid) rest refl refl
+        (λ got a. in_scope NoCopy rest (so NoCopy))
+
 -- under no scope
-no_scope : (asker : Option Identity) (seat : HostSeat) → IsStartingSeat seat →
-    Walk (MadeBy asker seat) (λ tree. Seats asker seat tree [] seat) (λ told tree. Seats asker seat tree [] seat)
-no_scope asker seat starts = record {
+no_scope : (role : Role) (seat : HostSeat) → IsStartingSeat seat → seat.eff_caps.0 < 2 ^ 32 → LacksFew role →
+    Walk seat (MadeBy role seat) (LacksSo role) (λ tree. Seats role seat tree [] seat)
+    (λ told tree. Seats role seat tree [] seat)
+no_scope role seat starts fits few = record {
   gives = λ last is. (refl, λ e. refl);
   refuses = λ told. refl;
   had = λ told tree so. so;
-  asks = λ deed next own none so. asked_plainly asker seat deed next own none so;
-  ran_out = λ told deed lacks own none.
-      asked_plainly asker seat deed (λ later. Gives answer.NoMemory) own none (λ later. (refl, λ e. refl));
+  asks = λ deed next own none may so. asked_plainly role seat few deed next own none may so;
+  ran_out = λ told deed lacks own none may.
+      asked_plainly role seat few deed (λ later. Gives answer.NoMemory) own none may (λ later. (refl, λ e. refl));
   brackets = λ rest so. so;
   shuts = λ passes rest so. (refl, refl, so);
   shuts_after = λ told passes rest so. (refl, refl, so);
-  makes_as = λ creds own making next is may so.
-      subst (λ (z : HostSeat). Seats asker seat (taken_on (calls_of (cred_steps creds z))
-      (Asks (Calls making) (λ told. Bares (next told)))) [] seat) (sym may.0)
-      (guised asker seat creds making next (is_whole seat starts) (few_groups seat starts) (making_plain making is)
-      (same_making making ∙ is) may.1 so);
+  makes_as = λ creds making next is may so.
+      guised role seat creds making next (is_whole seat starts) (few_groups seat starts) (making_plain making is)
+      (same_making making ∙ is) may so;
+  bares = λ rest so. (refl, so);
+  drops = λ rest has so. drops_so role seat starts fits few has rest so;
 }
 
 -- as whom it is made
@@ -122,16 +214,17 @@ asked_by seat (Some uid) (Some gid) None keeps creds e = absurd (cc)
 asked_by seat (Some uid) None group keeps creds e = absurd (cc)
 asked_by seat None gid group keeps creds e = absurd (cc)
 
+abbrev Makes : Plan → HostSeat → Context → Request → Credentials → Type 0
+Makes plan seat who asked = MadeBy (role_in plan seat who asked) seat
+
 of_asker : (plan : Plan) (seat : HostSeat) (who : Context) (group : Option ℕ) →
-    OfAsker (MadeBy (asker_by plan seat who group) seat) plan seat who group
-of_asker plan seat who group = λ session creds e. (
-  refl,
-  asked_by seat (to_host plan.uid_map who.uid) (to_host plan.gid_map who.gid) (group_of plan group)
-      (not session.agreed.sup_group) creds e,
-)
+    OfAsker (λ creds. asker_by plan seat who group ≡ Some (identity_under creds seat)) plan who group
+of_asker plan seat who group = λ session creds e.
+    asked_by seat (to_host plan.uid_map who.uid) (to_host plan.gid_map who.gid) (group_of plan group)
+    (not session.agreed.sup_group) creds e
 
 of_makings : (plan : Plan) (seat : HostSeat) (who : Context) (asked : Request) →
-    OfMakings (MadeBy (asker_in plan seat who asked) seat) plan seat who asked
+    OfMakings (Makes plan seat who asked) plan who asked
 of_makings plan seat who (request.Create parent name mode kill flags umask ext) =
     of_asker plan seat who ext.sup_gid
 of_makings plan seat who (request.Mkdir parent name mode umask ext) = of_asker plan seat who ext.sup_gid
@@ -139,18 +232,50 @@ of_makings plan seat who (request.Mknod parent name mode rdev umask ext) = of_as
 of_makings plan seat who (request.Symlink target parent name ext) = of_asker plan seat who ext.sup_gid
 of_makings plan seat who asked = tt
 
+-- an opening of a directory asks for nothing to go
+none_dropped : (switch has : Bool) → None ≡ fsetid_if (switch && false && has)
+none_dropped true has = refl
+none_dropped false has = refl
+
+of_scopes : (plan : Plan) (seat : HostSeat) (who : Context) (asked : Request) →
+    OfScopes (LacksSo (role_in plan seat who asked)) plan seat asked
+of_scopes plan seat who (request.Init capable) = λ era form ids mode. tt
+of_scopes plan seat who request.Root = λ era form ids mode. tt
+of_scopes plan seat who (request.Open inode kill flags) = λ fd how. refl
+of_scopes plan seat who (request.OpenDir inode flags) = λ fd how.
+    none_dropped plan.config.killpriv_v2 (includes seat.eff_caps.0 fsetid.0)
+of_scopes plan seat who (request.Create parent name mode kill flags umask ext) = λ fd how. refl
+of_scopes plan seat who (request.Write inode handle offset bytes delayed kill flags) = λ fd at told append. refl
+of_scopes plan seat who (request.SetAttr inode handle valid attr) = ((λ fd size. refl), (λ fd how. refl))
+of_scopes plan seat who (request.SyncFs inode) = λ fd how. refl
+of_scopes plan seat who asked = tt
+
+lacks_few : (plan : Plan) (seat : HostSeat) (who : Context) (asked : Request) →
+    LacksFew (role_in plan seat who asked)
+lacks_few plan seat who (request.Open inode kill flags) (call.Reopen fd how) may = absurd may
+lacks_few plan seat who (request.Create parent name mode kill flags umask ext) (call.Reopen fd how) may = absurd may
+lacks_few plan seat who (request.Write inode handle offset bytes delayed kill flags)
+    (call.WriteAt fd at told append) may = absurd may
+lacks_few plan seat who (request.SetAttr inode handle valid attr) (call.Truncate fd size) may = absurd may
+lacks_few plan seat who asked made may = refl
+
 request_seats : (plan : Plan) (seat : HostSeat) (who : Context) (asked : Request) → IsStartingSeat seat →
-    Seats (asker_in plan seat who asked) seat (tree_of plan seat who asked) [] seat
-request_seats plan seat who asked starts =
-    each_request (no_scope (asker_in plan seat who asked) seat starts) plan seat who asked
-    (of_makings plan seat who asked)
+    seat.eff_caps.0 < 2 ^ 32 → Seats (role_in plan seat who asked) seat (tree_of plan seat who asked) [] seat
+request_seats plan seat who asked starts fits =
+    each_request
+    (no_scope (role_in plan seat who asked) seat starts fits (lacks_few plan seat who asked)) plan who asked
+    (of_makings plan seat who asked) (of_scopes plan seat who asked)
 
 -- an edit is one call, which is not the seat's
-edit_seated : (seat : HostSeat) (edit : Edit) (steps : List Step) (end : Finish) →
-    Belongs (edit_grammar edit) steps end → IsSeated None seat steps
-edit_seated seat edit [] end b = absurd b
-edit_seated seat edit (step ∷ []) end b = record {
-  made = ((λ e. step_made None seat seat (Calls (call.Edit edit)) step.deed step.reply b.0 refl), tt);
+edit_seated : (plan : Plan) (seat : HostSeat) (edit : Edit) (steps : List Step) (end : Finish) →
+    Belongs (edit_grammar edit) steps end → IsSeated (role_for plan seat (Edits edit)) seat steps
+edit_seated plan seat edit [] end b = absurd b
+edit_seated plan seat edit (step ∷ []) end b = record {
+  made = (
+    (λ e. step_made (role_for plan seat (Edits edit)) seat seat (Calls (call.Edit edit)) step.deed step.reply b.0
+        refl),
+    tt,
+  );
   unrefused = ((λ e. edit_unrefused step.deed step.reply b.0), tt);
   ends = λ e. step_seat seat (Calls (call.Edit edit)) step.deed step.reply b.0
       ∙ deed_leaves seat (Calls (call.Edit edit)) step.reply refl;
@@ -166,27 +291,30 @@ edit_seated seat edit (step ∷ []) end b = record {
     edit_unrefused (Some deed) (Event got) i = tt
     edit_unrefused (Some deed) NoCopy i = tt
     edit_unrefused None told i = tt
-edit_seated seat edit (step ∷ more ∷ steps) end b = absurd b.1
+edit_seated plan seat edit (step ∷ more ∷ steps) end b = absurd b.1
 
-none_seated : (asker : Option Identity) (seat : HostSeat) → IsSeated asker seat []
-none_seated asker seat = record { made = tt; unrefused = tt; ends = λ e. refl }
+none_seated : (role : Role) (seat : HostSeat) → IsSeated role seat []
+none_seated role seat = record { made = tt; unrefused = tt; ends = λ e. refl }
 
 -- whatever is asked, whole and cut
 pub asked_seated : (plan : Plan) (seat : HostSeat) (asked : Asked) (steps : List Step) (end : Finish) →
-    IsStartingSeat seat → AllMayBeTold steps → AllSeatsAnswer seat steps →
-    Belongs (grammar_for plan seat asked) steps end → IsSeated (asker_for plan seat asked) seat steps
-asked_seated plan seat (Requests who asked) steps end starts m a b =
-    job_seated (asker_in plan seat who asked) seat (tree_of plan seat who asked) steps end (few_groups seat starts)
-    (requests_tend plan seat who asked) (request_seats plan seat who asked starts) m a b
-asked_seated plan seat (Edits edit) steps end starts m a b = edit_seated seat edit steps end b
+    IsStartingSeat seat → seat.eff_caps.0 < 2 ^ 32 → AllMayBeTold steps → AllSeatsAnswer seat steps →
+    Belongs (grammar_for plan seat asked) steps end → IsSeated (role_for plan seat asked) seat steps
+asked_seated plan seat (Requests who asked) steps end starts fits m a b =
+    job_seated (role_in plan seat who asked) seat (tree_of plan seat who asked) steps end (few_groups seat starts)
+    (requests_tend plan seat who asked) (request_seats plan seat who asked starts fits) m a b
+asked_seated plan seat (Edits edit) steps end starts fits m a b = edit_seated plan seat edit steps end b
 
 pub asked_seated_cut : (plan : Plan) (seat : HostSeat) (asked : Asked) (so_far steps : List Step) (end : Finish) →
-    IsStartingSeat seat → AllMayBeTold (so_far ++ steps) → AllSeatsAnswer seat (so_far ++ steps) →
+    IsStartingSeat seat → seat.eff_caps.0 < 2 ^ 32 → AllMayBeTold (so_far ++ steps) →
+    AllSeatsAnswer seat (so_far ++ steps) →
     (past_of so_far).lost ≡ None → CutAfter seat (grammar_for plan seat asked) so_far steps end →
-    IsSeated (asker_for plan seat asked) seat (so_far ++ steps)
-asked_seated_cut plan seat (Requests who asked) so_far steps end starts m a n c =
-    job_seated_cut (asker_in plan seat who asked) seat (tree_of plan seat who asked) so_far steps end
-    (few_groups seat starts) (requests_tend plan seat who asked) (request_seats plan seat who asked starts) m a n c
-asked_seated_cut plan seat (Edits edit) [] [] end starts m a n c = none_seated None seat
-asked_seated_cut plan seat (Edits edit) [] (step ∷ steps) end starts m a n c = absurd c
-asked_seated_cut plan seat (Edits edit) (step ∷ so_far) steps end starts m a n c = absurd c.1
+    IsSeated (role_for plan seat asked) seat (so_far ++ steps)
+asked_seated_cut plan seat (Requests who asked) so_far steps end starts fits m a n c =
+    job_seated_cut (role_in plan seat who asked) seat (tree_of plan seat who asked) so_far steps end
+    (few_groups seat starts) (requests_tend plan seat who asked) (request_seats plan seat who asked starts fits) m
+    a n c
+asked_seated_cut plan seat (Edits edit) [] [] end starts fits m a n c =
+    none_seated (role_for plan seat (Edits edit)) seat
+asked_seated_cut plan seat (Edits edit) [] (step ∷ steps) end starts fits m a n c = absurd c
+asked_seated_cut plan seat (Edits edit) (step ∷ so_far) steps end starts fits m a n c = absurd c.1

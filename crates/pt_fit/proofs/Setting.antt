@@ -1,11 +1,12 @@
 -- The request `setattr` is fit.
 use Rattle.std.proofs.Common.{◌≡◌, ◌⊎◌, ◌∷◌, [], inl, inr, ℕ, Bool, true, false, List, Option, None, Some, refl}
-use Rattle.std.proofs.Common.{if◌then◌else◌}
+use Rattle.std.proofs.Common.{if◌then◌else◌, subst, sym}
 use Rattle.std.specs.Prelude.{◌||◌}
 use Rattle.pt_host.specs.Call.{Call}
 use Rattle.pt_host.specs.Words.{Takes.{here, there}}
 use Rattle.pt_host.specs.declared.ids.Fd.{Fd}
 use Rattle.pt_host.specs.declared.op.KeptHostOp.TheVariants as call
+use Rattle.pt_host.specs.declared.seat.HostSeat.{HostSeat}
 use Rattle.pt_maps.specs.Translated.{to_host}
 use Rattle.pt_iface.specs.declared.answer.Answer.TheVariants as answer
 use Rattle.pt_iface.specs.declared.flags.SetattrValid.{SetattrValid}
@@ -15,23 +16,27 @@ use Rattle.pt_iface.specs.declared.request.Request.TheVariants as request
 use Rattle.pt_iface.specs.declared.request.SetattrIn.{SetattrIn}
 use Rattle.pt_frame.specs.Deed.{Calls}
 use Rattle.pt_frame.specs.Held.{row_fd}
-use Rattle.pt_frame.specs.Tree.{RequestTree}
+use Rattle.pt_frame.specs.Tree.{RequestTree, Bares}
 use Rattle.pt_frame.specs.declared.hold.Hold.{Hold}
 use Rattle.pt_frame.specs.declared.hold.Hold.TheVariants as hold
+use Rattle.pt_req.specs.Capability.{drops_fsetid, without_fsetid}
 use Rattle.pt_req.specs.Entries.{attr_of}
 use Rattle.pt_req.specs.Parts.{file_of, open_row}
 use Rattle.pt_req.specs.Steps.{Resolved}
 use Rattle.pt_req.specs.declared.plan.Plan.{Plan}
 use Rattle.pt_attr.specs.Setting.{atime_set, do_if, file_set, id_set, is_missized, mtime_set, opens_anew, own_as}
 use Rattle.pt_attr.specs.Setting.{set_mode, set_owner, set_size, set_times, setattr, setting_flags, sets_atime}
-use Rattle.pt_attr.specs.Setting.{sets_gid, sets_mode, sets_mtime, sets_size, sets_uid, target_of, tell_attr}
+use Rattle.pt_attr.specs.Setting.{kills_suidgid, sets_gid, sets_mode, sets_mtime, sets_size, sets_uid, target_of}
+use Rattle.pt_attr.specs.Setting.{tell_attr}
+use Rattle.pt_attr.specs.Steps.{do_call}
 use Rattle.pt_law.specs.Discipline.{Knows, Notes, blank}
 use Rattle.pt_law.specs.Keeps.{MayMake, unscoped}
 use Rattle.pt_fit.specs.Cause.{Asking, IsForbiddenOwner, asking}
-use Rattle.pt_fit.proofs.Holds.{IsBare, nothing_bare}
+use Rattle.pt_fit.proofs.Calling.{IsStillCall, fit_do_call, fit_look_at}
+use Rattle.pt_fit.proofs.Holds.{IsBare, nothing_bare, unscoped_over}
 use Rattle.pt_fit.proofs.Joined.{after_any_step, fit_file_by, fit_gives, fit_open_row}
-use Rattle.pt_fit.proofs.Parts.{Goes, GoesAfter, IsStillCall, Seen, fit_begin, fit_checked, fit_do_call, fit_file_of}
-use Rattle.pt_fit.proofs.Parts.{fit_look_at, fit_pin_handle, fit_resolve, noting, resolution}
+use Rattle.pt_fit.proofs.Parts.{Goes, GoesAfter, Seen, fit_bares, fit_begin, fit_checked, fit_file_of, fit_pin_handle}
+use Rattle.pt_fit.proofs.Parts.{fit_resolve, fit_without_fsetid, noting, resolution}
 use Rattle.pt_fit.proofs.Refused.{IsHeeded}
 
 fit_do_if : {asked : Asking} {seen : List Seen} {holds : List Hold} {marks : List ℕ} {notes : Notes} (is : Bool)
@@ -41,7 +46,8 @@ fit_do_if : {asked : Asking} {seen : List Seen} {holds : List Hold} {marks : Lis
 fit_do_if true did next same may heeds f = fit_do_call did next same may heeds f
 fit_do_if false did next same may heeds f = f
 
-module _ (plan : Plan) (who : Context) (inode : ℕ) (handle : Option ℕ) (valid : SetattrValid) (attr : SetattrIn) where
+module _ (plan : Plan) (seat : HostSeat) (who : Context) (inode : ℕ) (handle : Option ℕ) (valid : SetattrValid)
+    (attr : SetattrIn) where
   abbrev what : Request
   what = request.SetAttr inode handle valid attr
 
@@ -101,9 +107,30 @@ module _ (plan : Plan) (who : Context) (inode : ℕ) (handle : Option ℕ) (vali
   sets_all file target through =
       set_mode valid attr target through (
       set_owner plan valid attr file (
-      set_size valid attr target (
+      set_size plan seat valid attr target (
       set_times valid attr target through (
       tell_attr plan inode))))
+
+  -- a size is set in a scope, or in none
+  fit_size : {seen : List Seen} {holds : List Hold} {marks : List ℕ} {notes : Notes} (file target : Fd)
+      (next : RequestTree) → Sets holds file target → Goes asks seen next holds marks notes →
+      Goes asks seen (set_size plan seat valid attr target next) holds marks notes
+  fit_size {seen = seen} {holds = holds} {marks = marks} {notes = notes} file target next s f = at (sets_size valid)
+    where
+      dropped : Bool
+      dropped = drops_fsetid plan seat (kills_suidgid valid)
+
+      at : (is : Bool) → Goes asks seen
+          (if is then without_fsetid dropped (do_call (call.Truncate target attr.size) (Bares next)) else next)
+          holds marks notes
+      at true =
+          fit_without_fsetid dropped _ (
+          fit_do_call (call.Truncate target attr.size) _
+          (record { holds = λ told these. refl; notes = λ told these. refl })
+          ((subst (λ (all : List Hold). Knows all target) (sym (unscoped_over dropped holds)) s.targets, tt), tt)
+          (refl, tt)
+          (fit_bares dropped next s.bare f))
+      at false = f
 
   fit_sets : {seen : List Seen} {holds : List Hold} {marks : List ℕ} {notes : Notes} (file target : Fd)
       (through : Bool) → Sets holds file target →
@@ -112,8 +139,7 @@ module _ (plan : Plan) (who : Context) (inode : ℕ) (handle : Option ℕ) (vali
       fit_do_if (sets_mode valid) (call.ChMod target through attr.mode) _
       (record { holds = λ told these. refl; notes = λ told these. refl }) ((s.targets, tt), tt) (refl, tt)
       (fit_owner file target _ s
-      (fit_do_if (sets_size valid) (call.Truncate target attr.size) _
-      (record { holds = λ told these. refl; notes = λ told these. refl }) ((s.targets, tt), tt) (refl, tt)
+      (fit_size file target _ s
       (fit_do_if (sets_atime valid || sets_mtime valid)
       (call.SetTimes target through (atime_set valid attr) (mtime_set valid attr)) _
       (record { holds = λ told these. refl; notes = λ told these. refl }) ((s.targets, tt), tt) (refl, tt)
@@ -162,11 +188,12 @@ module _ (plan : Plan) (who : Context) (inode : ℕ) (handle : Option ℕ) (vali
           (if anew then open_row row setting_flags sets_file else file_of row.form sets_file)
           (hold.Pin row.row (row_fd row.form) ∷ []) marks (noting inode row.row notes)
       at true e =
-          fit_open_row notes inode setting_flags row sets_file e (λ dir new. fit_opened row.row dir new handle e)
+          fit_open_row [] false notes inode setting_flags row sets_file e
+          (λ dir new. fit_opened row.row dir new handle e)
       at false e =
           after_any_step (fit_file_of row.row row.form sets_file (λ file. fit_filed row.row file handle))
 
-  pub fit_setattr : Goes asks [] (setattr plan inode handle valid attr) [] [] blank
+  pub fit_setattr : Goes asks [] (setattr plan seat inode handle valid attr) [] [] blank
   fit_setattr = fit_begin _ refl (λ session.
       fit_checked (is_missized valid attr) _ (λ bad. inl (bad, refl))
       (fit_resolve inode _ nothing_bare (λ row. fit_row (record blank { era = Some session.era }) row)))

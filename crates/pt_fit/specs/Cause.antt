@@ -51,12 +51,14 @@ pub record Asking : Type 0 where
 abbrev pub asking : Plan → Context → Request → Asking
 asking plan who what = record { plan = plan; who = who; request = what }
 
--- it opens a number, as `create` does where the name is there, and `setattr` for a size that no handle sets
+-- it opens a number, as `create` does where the name is there, `setattr` for a size that no handle sets, and `syncfs`
+-- what stands for its file system
 abbrev pub IsOpening : Request → Type 0
 IsOpening (request.Open inode kill flags) = Unit {0}
 IsOpening (request.OpenDir inode flags) = Unit {0}
 IsOpening (request.Create parent name mode kill flags umask ext) = Unit {0}
 IsOpening (request.SetAttr inode handle valid attr) = opens_anew handle valid ≡ true
+IsOpening (request.SyncFs inode) = Unit {0}
 IsOpening asked = ⊥
 
 -- the call was refused, or failed, with this error number
@@ -195,11 +197,18 @@ IsForbiddenOwner plan valid attr =
     ⊎ ((sets_gid valid ≡ true) × (to_host plan.gid_map attr.gid ≡ None))
 
 -- The request itself causes it: what is to be looked up, made, moved or taken away is no name, the target of a
--- symbolic link has a NUL, an offset or a size is past the last that a file can have, an id of who asks or of an
--- owner is forbidden, or it is a function that there is not, `ENOSYS`.
+-- symbolic link has a NUL, an offset, a length or a size is past the last that a file can have, an id of who asks or
+-- of an owner is forbidden, or it is a function that there is not, `ENOSYS`.
 abbrev pub OwnCause : Plan → Context → Request → Errno → Type 0
 OwnCause plan who (request.Lookup parent name) cause = (is_bad_name name ≡ true) × (cause ≡ einval)
 OwnCause plan who (request.Read inode handle size offset) cause = (is_bad_offset offset ≡ true) × (cause ≡ einval)
+OwnCause plan who (request.Write inode handle offset bytes delayed kill flags) cause =
+    (is_bad_offset offset ≡ true) × (cause ≡ einval)
+OwnCause plan who (request.Fallocate inode handle mode offset length) cause =
+    ((is_bad_offset offset ≡ true) ⊎ (is_bad_offset length ≡ true)) × (cause ≡ einval)
+OwnCause plan who (request.CopyFileRange inode handle offset inode2 handle2 offset2 length flags) cause =
+    ((is_bad_offset offset ≡ true) ⊎ (is_bad_offset offset2 ≡ true) ⊎ (is_bad_offset length ≡ true))
+    × (cause ≡ einval)
 OwnCause plan who (request.Create parent name mode kill flags umask ext) cause = MakingCause plan who name ext cause
 OwnCause plan who (request.Mkdir parent name mode umask ext) cause = MakingCause plan who name ext cause
 OwnCause plan who (request.Mknod parent name mode rdev umask ext) cause = MakingCause plan who name ext cause

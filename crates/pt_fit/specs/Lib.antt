@@ -8,3 +8,4 @@ pub mod Handled
 pub mod Answered
 pub mod Uses
 pub mod Asker
+pub mod Decided

@@ -1,14 +1,22 @@
 -- Believed. Which requests a number that is gone refuses.
-use Rattle.std.specs.Prelude.{◌≡◌, ℕ, false}
+use Rattle.std.specs.Prelude.{◌≡◌, ◌⊎◌, ℕ, true, false, List, [], ◌∷◌, Option, Some}
 use Rattle.std.specs.List.{list_any}
+use Rattle.pt_host.specs.declared.op.KeptHostOp.TheVariants as call
+use Rattle.pt_host.specs.declared.reply.HostReply.TheVariants as host
+use Rattle.pt_host.specs.declared.seat.HostSeat.{HostSeat}
 use Rattle.pt_iface.specs.declared.request.Request.{Request}
 use Rattle.pt_iface.specs.declared.request.Request.TheVariants as request
+use Rattle.pt_frame.specs.Deed.{Deed, Calls, Step}
+use Rattle.pt_frame.specs.declared.act.ActReply.{ActReply}
+use Rattle.pt_frame.specs.declared.act.ActReply.TheVariants.{Host}
+use Rattle.pt_req.specs.Capability.{drops_fsetid}
 use Rattle.pt_req.specs.Entries.{is_bad_name}
+use Rattle.pt_req.specs.declared.plan.Plan.{Plan}
 use Rattle.pt_attr.specs.Setting.{is_missized}
 use Rattle.pt_attr.specs.Making.{is_nul}
 
--- The request is on the number: it resolves it before all else, a bad name or size aside. One by a handle is not, and
--- serves on.
+-- The request is on the number: it resolves it before all else, a bad name or size and a capability that it drops
+-- aside. One by a handle is not, and serves on.
 abbrev pub IsOn : ℕ → Request → Type 0
 IsOn number (request.Lookup parent name) = (parent ≡ number) × (is_bad_name name ≡ false)
 IsOn number (request.Open inode kill flags) = inode ≡ number
@@ -29,4 +37,21 @@ IsOn number (request.Link inode newparent newname) = (inode ≡ number) × (is_b
 IsOn number (request.Rename olddir oldname newdir newname flags) =
     (olddir ≡ number) × (is_bad_name oldname ≡ false) × (is_bad_name newname ≡ false)
 IsOn number (request.SetAttr inode handle valid attr) = (inode ≡ number) × (is_missized valid attr ≡ false)
+IsOn number (request.SyncFs inode) = inode ≡ number
 IsOn number asked = ⊥
+
+-- the call that drops a capability was refused, or failed
+abbrev pub FailsToDrop : Option Deed → ActReply → Type 0
+FailsToDrop (Some (Calls (call.DropCap caps))) (Host (host.Refused errno)) = Unit {0}
+FailsToDrop (Some (Calls (call.DropCap caps))) (Host (host.Fault errno)) = Unit {0}
+FailsToDrop deed told = ⊥
+
+abbrev pub SomeFailsToDrop : List Step → Type 0
+SomeFailsToDrop [] = ⊥
+SomeFailsToDrop (step ∷ steps) = FailsToDrop step.deed step.reply ⊎ SomeFailsToDrop steps
+
+-- an opening that drops a capability does so before it resolves its number, and ends where that fails
+abbrev pub EndsBefore : Plan → HostSeat → Request → List Step → Type 0
+EndsBefore plan seat (request.Open inode kill flags) steps =
+    (drops_fsetid plan seat kill ≡ true) × SomeFailsToDrop steps
+EndsBefore plan seat asked steps = ⊥

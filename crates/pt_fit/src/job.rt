@@ -21,9 +21,11 @@ ghost use Rattle.pt_req.specs.declared.plan.Plan.{Plan};
 ghost use Rattle.pt_attr.specs.Pattern.{Asked, Requests, Edits, grammar_for};
 ghost use Rattle.pt_law.specs.Discipline.{idle, ComesToEnd};
 ghost use Rattle.pt_law.specs.Told.{AllMayBeTold};
+ghost use Rattle.pt_law.specs.Agreed.{Decides};
 ghost use Rattle.pt_law.specs.Laws.{BeginsFirst};
 ghost use Rattle.pt_fit.specs.Cause.{asking, IsCausedBy};
 ghost use Rattle.pt_fit.specs.Fit.{IsFit};
+ghost use Rattle.pt_fit.specs.Decided.{decides};
 ghost use Rattle.pt_fit.specs.Handled.{KeepsHandle};
 ghost use Rattle.pt_fit.specs.Answered.{ComesTo};
 ghost use Rattle.pt_fit.specs.Entered.{name_asked};
@@ -53,6 +55,8 @@ pub fn asked_ends()
         KeepsHandle steps last }
     ensures begins { (plan : Plan) (seat : HostSeat) (asked : Asked) (steps : List Step) (end : Finish) →
         ComesTo plan seat asked steps end → BeginsFirst steps }
+    ensures decides { (plan : Plan) (seat : HostSeat) (asked : Asked) (steps : List Step) (end : Finish) →
+        ComesTo plan seat asked steps end → Decides (decides plan asked) steps }
     ensures named { (plan : Plan) (seat : HostSeat) (asked : Asked) (steps : List Step) (entry : Entry) →
         AllMayBeTold steps → Belongs (grammar_for plan seat asked) steps (finish.Answer (answer.Entry entry)) →
         ((parent : ℕ) × (name : List ℕ) × (name_asked asked ≡ Some (parent, name))) }

@@ -14,14 +14,17 @@ ghost use Rattle.pt_attr.specs.Pattern.{grammar_of};
 ghost use Rattle.pt_law.specs.Branch.{IsGivenUp};
 ghost use Rattle.pt_law.specs.World.{Turn, TablesRun, steps_of};
 ghost use Rattle.pt_law.specs.Ledger.{inserted};
-ghost use Rattle.pt_fit.specs.Uses.{IsOn};
+ghost use Rattle.pt_fit.specs.Uses.{EndsBefore, IsOn};
 
-/// A request on a number that is gone is answered EBADF for as long as it is not inserted again, or gives up.
+/// A request on a number that is gone is answered EBADF for as long as it is not inserted again, unless it gives up,
+/// loses its seat, or is an opening that could not drop its capability.
+
 pub fn gone_number()
     ensures { (limit job : ℕ) (plan : Plan) (seat : HostSeat) (who : Context) (what : Request)
         (turns later : List Turn) (was now : Tables) (number : ℕ) (end : Finish) →
         TablesRun (empty_tables limit) turns was → NoRow was (HasNumber number) → TablesRun was later now →
         inserted number later ≡ 0 → IsOn number what →
         Belongs (grammar_of plan seat who what) (steps_of job later) end →
-        (end ≡ finish.Answer (answer.Refused ebadf)) ⊎ IsGivenUp end }
+        (end ≡ finish.Answer (answer.Refused ebadf)) ⊎ IsGivenUp end
+        ⊎ EndsBefore plan seat what (steps_of job later) }
 {}

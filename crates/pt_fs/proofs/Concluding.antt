@@ -43,6 +43,7 @@ is_run does tree faults p tells plan jobs host host' tables tables' trace answer
       counts = kept.counts;
       handles = kept.handles;
       once = kept.once;
+      options = kept.options;
       overtaken = kept.overtaken;
       shut_out = kept.shut_out;
       slots = kept.slots;

@@ -1,7 +1,7 @@
 -- How the jobs begin and end.
 use Rattle.std.proofs.Common.{◌≡◌, ◌≢◌, ℕ, zero, suc, ◌+◌, ◌*◌, ◌<◌, ◌≤◌, List, [], ◌∷◌, ◌++◌, ◌∙◌, Option, Some}
 use Rattle.std.proofs.Common.{None, refl, ap, sym, subst, map, length, slice_get, append_assoc, append-nil, true, false}
-use Rattle.std.proofs.Common.{length-append, arith}
+use Rattle.std.proofs.Common.{length-append, arith, ◌^◌}
 use Rattle.std.proofs.lemmas.Option.{same_Some}
 use Rattle.pt_host.specs.Seat.{IsStartingSeat}
 use Rattle.pt_host.specs.declared.ids.Errno.{Errno}
@@ -99,6 +99,17 @@ pub started_calm : (plan : Plan) (jobs : List Job) (running : List Running) → 
 started_calm plan jobs running h j run at =
     let job = one_for_each running jobs j run (sym (started_length plan jobs running h)) at in
     (started_at plan jobs running h j job.0 run job.1 at).lost
+
+-- each job's capabilities are 32 bits
+abbrev pub CapsFit : List Job → Type 0
+CapsFit jobs = (j : ℕ) (job : Job) → slice_get jobs j ≡ Some job → (job_start job).eff_caps.0 < 2 ^ 32
+
+pub started_fits : (plan : Plan) (jobs : List Job) (running : List Running) → EachStarted plan jobs running →
+    CapsFit jobs
+started_fits plan jobs running h j job at =
+    let run = one_for_each jobs running j job (started_length plan jobs running h) at in
+    let is = started_at plan jobs running h j job run.0 at run.1 in
+    subst (λ (seat : HostSeat). seat.eff_caps.0 < 2 ^ 32) is.start is.fits
 
 -- What a job did from its start on.
 

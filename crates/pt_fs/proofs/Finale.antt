@@ -44,7 +44,8 @@ use Rattle.pt_fs.specs.Work.{work}
 use Rattle.pt_fs.specs.declared.job.Job.{Job}
 use Rattle.pt_fs.specs.declared.running.Running.{Running}
 use Rattle.pt_fs.specs.declared.trace.TraceStep.{TraceStep}
-use Rattle.pt_fs.proofs.Ended.{started_seats, started_length, one_for_each, EachRan, JobRan, each_ran, ran_on, ran_at}
+use Rattle.pt_fs.proofs.Ended.{started_fits, started_seats, started_length, one_for_each, EachRan, JobRan, each_ran}
+use Rattle.pt_fs.proofs.Ended.{ran_on, ran_at}
 use Rattle.pt_fs.proofs.Ended.{ran_past, ran_end, each_at, groups_at, finish_plain, finish_lost, answered_by}
 use Rattle.pt_fs.proofs.Ended.{belongs_by}
 use Rattle.pt_fs.proofs.Ended.{answered_at, answered_length, none_left_over, order_kept}
@@ -601,6 +602,7 @@ module _ {H : Type 0} {does : HostRelation H} {plan : Plan} {schedule : List ℕ
     | inl refused ↦ absurd (unrefused_job does faults p plan trace h0 h2 (map job_seat jobs) (map run_seat s2) r0 r2
         runs_lost job own.0 errno errno (steps_by job before) (steps_by job (others ++ back)) (step_of step)
         (slice_get-map job_seat jobs job ∙ ap (option_map job_seat) own.1) (each_at jobs e.seats job own.0 own.1)
+        (started_fits plan jobs s0 e.started job own.0 own.1)
         (may_be_told does plan jobs trace answers h0 h2 r0 r2 s2 runs_lost long_end length_lost comes_lost faults p job)
         its_steps its_whole (calm_before job) restoring refused)
     | inr failed ↦ failed

@@ -1,6 +1,6 @@
 -- The laws of whole runs, read for a trace.
-use Rattle.std.proofs.Common.{◌≡◌, ◌⊎◌, ◌<◌, ◌++◌, ◌∙◌, ℕ, List, [], ◌∷◌, Option, None, ap, sym, subst, refl, length}
-use Rattle.std.proofs.Common.{inl}
+use Rattle.std.proofs.Common.{◌≡◌, ◌⊎◌, ◌<◌, ◌++◌, ◌∙◌, ℕ, List, [], ◌∷◌, Option, Some, None, ap, sym, subst, refl, length}
+use Rattle.std.proofs.Common.{inl, slice_get}
 use Rattle.std.proofs.Common.{inr, arith, cond, eqb, append-nil}
 use Rattle.std.proofs.lemmas.Grind.{common_steps}
 use Rattle.std.proofs.Math.ListN.{length-set}
@@ -25,10 +25,12 @@ use Rattle.pt_req.specs.declared.plan.Plan.{Plan}
 use Rattle.pt_law.specs.Told.{AllMayBeTold}
 use Rattle.pt_law.specs.Discipline.{AreEnded, AreDisciplined, ComesToEnd, idle}
 use Rattle.pt_law.specs.Laws.{SlotsAddUp, IsAtRest, BeginsFirst}
+use Rattle.pt_law.specs.Agreed.{Decides}
 use Rattle.pt_law.specs.Ledger.{slots_taken, slots_given}
 use Rattle.pt_law.specs.World.{TablesRun, HostRuns, Turn, steps_of}
 use Rattle.pt_law.proofs.Told.{Promises}
 use Rattle.pt_law.proofs.Hosts.{hosts_tables, hosts_told}
+use Rattle.pt_law.proofs.Agreeing.{agreed_law}
 use Rattle.pt_law.proofs.Laws.{agree_law, counts_law, once_law, slots_law, rest_law, ended_jobs}
 use Rattle.pt_law.proofs.Standing.{standing_law}
 use Rattle.pt_law.proofs.HandlesOnce.{handles_once_law}
@@ -39,13 +41,15 @@ use Rattle.pt_law.proofs.Returned.{all_settled}
 use Rattle.pt_fit.specs.Cause.{IsCausedBy, EditCauses}
 use Rattle.pt_fit.proofs.Asked.{comes_ends, job_caused}
 use Rattle.pt_fit.proofs.Beginning.{job_first}
+use Rattle.pt_fit.proofs.Saying.{job_decides}
 use Rattle.pt_fit.proofs.Edits.{edit_left_out}
 use Rattle.pt_fit.proofs.Keeping.{asked_keeps}
+use Rattle.pt_fit.specs.Decided.{decides}
 use Rattle.pt_fit.specs.Handled.{KeepsHandle}
 use Rattle.pt_fs.specs.Jobs.{job_start, job_grammar, asked_of}
 use Rattle.pt_fs.specs.Trace.{TraceRuns, steps_by, step_of}
 use Rattle.pt_fs.specs.Keeps.{turn_of, turns_of, AfterEach, KeepsCounts, KeepsHandles, InsertsOnce, OvertakenAsTold}
-use Rattle.pt_fs.specs.Keeps.{ShutsOut, OfEachJob, GivesAllBack, IsCausedIn, RanOutIn, ReachesEach, HonoursEach}
+use Rattle.pt_fs.specs.Keeps.{KeepsOptions, decision, decided_by, ShutsOut, OfEachJob, GivesAllBack, IsCausedIn, RanOutIn, ReachesEach, HonoursEach}
 use Rattle.pt_fs.specs.declared.job.Job.{Job}
 use Rattle.pt_fs.specs.declared.trace.TraceStep.{TraceStep}
 use Rattle.pt_fs.proofs.Ended.{one_for_each, at_below}
@@ -147,6 +151,18 @@ stops_caused plan seat (Edits edit) steps stops = λ errno. (
   λ causes. absurd (subst (λ (l : List Step). EditCauses edit l errno) (unmade_edit plan seat edit steps stops) causes),
 )
 
+stops_decides : (plan : Plan) (seat : HostSeat) (asked : Asked) (steps : List Step) → Stops plan seat asked steps →
+    Decides (decides plan asked) steps
+stops_decides plan seat asked steps (inl lost) = job_decides plan seat asked steps (finish.Lost lost.0) (inl lost.1)
+stops_decides plan seat asked steps (inr gone) =
+    job_decides plan seat asked steps (finish.Answer answer.Cut) (inr (gone.0, gone.1, gone.2, gone.3))
+
+comes_decides : (plan : Plan) (job : Job) (steps : List Step) (told : Answer) → Comes plan job steps told →
+    Decides (decides plan (asked_of job)) steps
+comes_decides plan job steps told (inl b) =
+    job_decides plan (job_start job) (asked_of job) steps (finish.Answer told) (inl b)
+comes_decides plan job steps told (inr stops) = stops_decides plan (job_start job) (asked_of job) steps stops.1
+
 comes_caused : (plan : Plan) (job : Job) (steps : List Step) (told : Answer) → AllMayBeTold steps →
     Comes plan job steps told → IsCausedBy plan (asked_of job) steps told
 comes_caused plan job steps told t (inl b) = job_caused plan (job_start job) (asked_of job) steps told t b
@@ -221,6 +237,7 @@ pub record Keeps (plan : Plan) (limit : ℕ) (jobs : List Job) (tables : Tables)
     (tables' : Tables) : Type 0 where
   pub counts : AfterEach tables trace KeepsCounts
   pub handles : AfterEach tables trace KeepsHandles
+  pub options : AfterEach tables trace (KeepsOptions plan jobs)
   pub once : InsertsOnce trace
   pub overtaken : OvertakenAsTold trace
   pub shut_out : ShutsOut trace
@@ -239,6 +256,16 @@ first_of : (plan : Plan) (jobs : List Job) (trace : List TraceStep) (answers : L
 first_of plan jobs trace answers same comes j below =
     let it = some_job jobs answers (λ k job told. Comes plan job (steps_by k trace) told) same comes j below in
     rw (steps_same j trace) (comes_first plan it.0 (steps_by j trace) it.1 it.2)
+
+decides_of : (plan : Plan) (jobs : List Job) (trace : List TraceStep) (answers : List Answer) →
+    length answers ≡ length jobs → OfEachJob jobs answers (λ j job told. Comes plan job (steps_by j trace) told) →
+    (j : ℕ) → j < length jobs → Decides (decided_by plan jobs j) (steps_of j (turns_of trace))
+decides_of plan jobs trace answers same comes j below =
+    let it = some_job jobs answers (λ k job told.
+    (slice_get jobs k ≡ Some job) × Comes plan job (steps_by k trace) told) same
+    (λ k job told at told_at. (at, comes k job told at told_at)) j below in
+    rw (steps_same j trace) (subst (λ (o : Option Job). Decides (decision plan o) (steps_by j trace)) (sym it.2.0)
+    (comes_decides plan it.0 (steps_by j trace) it.1 it.2.1))
 
 pub keeps : {H : Type 0} (does : HostRelation H) (faults : H → ℕ) → Promises does faults →
     (plan : Plan) (limit : ℕ) (jobs : List Job) (host : H) (tables : Tables) (trace : List TraceStep)
@@ -265,6 +292,14 @@ keeps does faults p plan limit jobs host tables trace answers host' tables' ran 
           counts_law limit (turns_of so_far) now number (from_empty (turns_of so_far) now r);
       handles = λ so_far rest now e r handle.
           standing_law limit (turns_of so_far) now handle (from_empty (turns_of so_far) now r);
+      options = λ so_far rest now e r.
+          let parts = ap turns_of e ∙ turns-append so_far rest in
+          agreed_law limit (length jobs) (decided_by plan jobs) (turns_of so_far) (turns_of rest) now
+          (λ j below. subst (λ (turns : List Turn). BeginsFirst (steps_of j turns)) parts
+          (first_of plan jobs trace answers ran.answered ran.comes j below))
+          (λ j below. subst (λ (turns : List Turn). Decides (decided_by plan jobs j) (steps_of j turns)) parts
+          (decides_of plan jobs trace answers ran.answered ran.comes j below))
+          (cut_at (length jobs) trace so_far rest e disciplined) (from_empty (turns_of so_far) now r);
       once =
           let all = subst (λ (turns : List Turn).
           AreDisciplined (length jobs) turns) (sym (append-nil (turns_of trace))) disciplined in

@@ -1,6 +1,6 @@
 -- Under which seats the jobs of a run make their steps.
 use Rattle.std.proofs.Common.{◌≡◌, inl, inr, ℕ, true, false, List, [], ◌∷◌, ◌++◌, ◌∙◌, Option, Some, None, ap, sym}
-use Rattle.std.proofs.Common.{subst, slice_get}
+use Rattle.std.proofs.Common.{subst, slice_get, ◌<◌, ◌^◌}
 use Rattle.pt_host.specs.Relation.{HostRelation}
 use Rattle.pt_host.specs.Seat.{IsStartingSeat}
 use Rattle.pt_host.specs.declared.ids.Errno.{Errno}
@@ -20,7 +20,7 @@ use Rattle.pt_req.specs.declared.plan.Plan.{Plan}
 use Rattle.pt_law.specs.Told.{AllMayBeTold}
 use Rattle.pt_law.specs.Under.{IsSeated, IsUnrefused, AreUnrefused, AllSeatsAnswer}
 use Rattle.pt_law.proofs.Told.{Promises}
-use Rattle.pt_fit.specs.Asker.{asker_for}
+use Rattle.pt_fit.specs.Asker.{role_for}
 use Rattle.pt_fit.proofs.Seating.{asked_seated, asked_seated_cut}
 use Rattle.pt_fs.specs.Ends.{IsRestoringStep}
 use Rattle.pt_fs.specs.Jobs.{job_seat, job_start, job_grammar, asked_of}
@@ -31,24 +31,28 @@ use Rattle.pt_fs.specs.declared.trace.TraceStep.{TraceStep}
 use Rattle.pt_fs.proofs.Laws.{Stops, Comes, unmade_edit}
 use Rattle.pt_fs.proofs.SeatsAt.{seats_at, seats_answer, nones_at}
 
+-- a seat's capabilities are 32 bits
+abbrev Fits : HostSeat → Type 0
+Fits seat = seat.eff_caps.0 < 2 ^ 32
+
 -- however it came to its end
 stops_seated : (plan : Plan) (seat : HostSeat) (asked : Asked) (steps : List Step) → IsStartingSeat seat →
-    AllMayBeTold steps → AllSeatsAnswer seat steps → Stops plan seat asked steps →
-    IsSeated (asker_for plan seat asked) seat steps
-stops_seated plan seat asked steps s t a (inl lost) =
-    asked_seated plan seat asked steps (finish.Lost lost.0) s t a lost.1
-stops_seated plan seat asked steps s t a (inr gone) =
-    subst (λ (l : List Step). IsSeated (asker_for plan seat asked) seat l) (sym gone.2)
-    (asked_seated_cut plan seat asked gone.0 gone.1 (finish.Answer answer.Cut) s (subst AllMayBeTold gone.2 t)
+    Fits seat → AllMayBeTold steps → AllSeatsAnswer seat steps → Stops plan seat asked steps →
+    IsSeated (role_for plan seat asked) seat steps
+stops_seated plan seat asked steps s f t a (inl lost) =
+    asked_seated plan seat asked steps (finish.Lost lost.0) s f t a lost.1
+stops_seated plan seat asked steps s f t a (inr gone) =
+    subst (λ (l : List Step). IsSeated (role_for plan seat asked) seat l) (sym gone.2)
+    (asked_seated_cut plan seat asked gone.0 gone.1 (finish.Answer answer.Cut) s f (subst AllMayBeTold gone.2 t)
     (subst (AllSeatsAnswer seat) gone.2 a) gone.4 gone.3)
 
 comes_seated : (plan : Plan) (it : Job) (steps : List Step) (told : Answer) → IsStartingSeat (job_start it) →
-    AllMayBeTold steps → AllSeatsAnswer (job_start it) steps → Comes plan it steps told →
-    IsSeated (asker_for plan (job_start it) (asked_of it)) (job_start it) steps
-comes_seated plan it steps told s t a (inl b) =
-    asked_seated plan (job_start it) (asked_of it) steps (finish.Answer told) s t a b
-comes_seated plan it steps told s t a (inr stops) =
-    stops_seated plan (job_start it) (asked_of it) steps s t a stops.1
+    Fits (job_start it) → AllMayBeTold steps → AllSeatsAnswer (job_start it) steps → Comes plan it steps told →
+    IsSeated (role_for plan (job_start it) (asked_of it)) (job_start it) steps
+comes_seated plan it steps told s f t a (inl b) =
+    asked_seated plan (job_start it) (asked_of it) steps (finish.Answer told) s f t a b
+comes_seated plan it steps told s f t a (inr stops) =
+    stops_seated plan (job_start it) (asked_of it) steps s f t a stops.1
 
 -- a step among those of which none is refused before a seat is lost
 unrefused_at : (past : Past) (xs : List Step) (x : Step) (ys : List Step) → AreUnrefused past (xs ++ x ∷ ys) →
@@ -77,56 +81,59 @@ module _ {H : Type 0} (does : HostRelation H) (faults : H → ℕ) (p : Promises
     (runs : TraceRuns does trace h0 s0 r0 h1 s1 r1) (j : ℕ) where
   -- a job with a seat
   seated_from : (it : Job) (told : Answer) → slice_get s0 j ≡ Some (Some (job_start it)) →
-      IsStartingSeat (job_start it) → AllMayBeTold (steps_by j trace) → Comes plan it (steps_by j trace) told →
-      IsSeated (asker_for plan (job_start it) (asked_of it)) (job_start it) (steps_by j trace)
-  seated_from it told is starts may comes =
-      comes_seated plan it (steps_by j trace) told starts may
+      IsStartingSeat (job_start it) → Fits (job_start it) → AllMayBeTold (steps_by j trace) →
+      Comes plan it (steps_by j trace) told →
+      IsSeated (role_for plan (job_start it) (asked_of it)) (job_start it) (steps_by j trace)
+  seated_from it told is starts fits may comes =
+      comes_seated plan it (steps_by j trace) told starts fits may
       (seats_answer does faults p trace h0 h1 s0 s1 r0 r1 runs j (job_start it) is) comes
 
   pub seated_job : (it : Job) (told : Answer) (seat : HostSeat) → slice_get s0 j ≡ Some (job_seat it) →
-      IsStartingSeat (job_start it) → AllMayBeTold (steps_by j trace) → Comes plan it (steps_by j trace) told →
-      job_seat it ≡ Some seat → IsSeated (asker_for plan seat (asked_of it)) seat (steps_by j trace)
-  seated_job (job.Request who own asked) told seat is starts may comes has =
-      subst (λ (s : HostSeat). IsSeated (asker_for plan s (asked_of (job.Request who own asked))) s (steps_by j trace))
-      (some_same own seat has) (seated_from (job.Request who own asked) told is starts may comes)
-  seated_job (job.OpenRoot own) told seat is starts may comes has =
-      subst (λ (s : HostSeat). IsSeated (asker_for plan s (asked_of (job.OpenRoot own))) s (steps_by j trace))
-      (some_same own seat has) (seated_from (job.OpenRoot own) told is starts may comes)
-  seated_job (job.Edit edit) told seat is starts may comes has = absurd (cc)
+      IsStartingSeat (job_start it) → Fits (job_start it) → AllMayBeTold (steps_by j trace) →
+      Comes plan it (steps_by j trace) told →
+      job_seat it ≡ Some seat → IsSeated (role_for plan seat (asked_of it)) seat (steps_by j trace)
+  seated_job (job.Request who own asked) told seat is starts fits may comes has =
+      subst (λ (s : HostSeat). IsSeated (role_for plan s (asked_of (job.Request who own asked))) s (steps_by j trace))
+      (some_same own seat has) (seated_from (job.Request who own asked) told is starts fits may comes)
+  seated_job (job.OpenRoot own) told seat is starts fits may comes has =
+      subst (λ (s : HostSeat). IsSeated (role_for plan s (asked_of (job.OpenRoot own))) s (steps_by j trace))
+      (some_same own seat has) (seated_from (job.OpenRoot own) told is starts fits may comes)
+  seated_job (job.Edit edit) told seat is starts fits may comes has = absurd (cc)
 
   -- the seat that it leaves, where it was not lost
   pub seat_kept : (it : Job) (told : Answer) → slice_get s0 j ≡ Some (job_seat it) → IsStartingSeat (job_start it) →
-      AllMayBeTold (steps_by j trace) → Comes plan it (steps_by j trace) told →
+      Fits (job_start it) → AllMayBeTold (steps_by j trace) → Comes plan it (steps_by j trace) told →
       (past_of (steps_by j trace)).lost ≡ None → slice_get s1 j ≡ Some (job_seat it)
-  seat_kept (job.Request who own asked) told is starts may comes none =
+  seat_kept (job.Request who own asked) told is starts fits may comes none =
       seats_at does faults p trace h0 h1 s0 s1 r0 r1 runs j own is
       ∙ ap (λ (s : HostSeat). Some (Some s))
-      ((seated_from (job.Request who own asked) told is starts may comes).ends none)
-  seat_kept (job.OpenRoot own) told is starts may comes none =
+      ((seated_from (job.Request who own asked) told is starts fits may comes).ends none)
+  seat_kept (job.OpenRoot own) told is starts fits may comes none =
       seats_at does faults p trace h0 h1 s0 s1 r0 r1 runs j own is
-      ∙ ap (λ (s : HostSeat). Some (Some s)) ((seated_from (job.OpenRoot own) told is starts may comes).ends none)
-  seat_kept (job.Edit edit) told is starts may comes none = nones_at does trace h0 h1 s0 s1 r0 r1 runs j is
+      ∙ ap (λ (s : HostSeat). Some (Some s)) ((seated_from (job.OpenRoot own) told is starts fits may comes).ends none)
+  seat_kept (job.Edit edit) told is starts fits may comes none = nones_at does trace h0 h1 s0 s1 r0 r1 runs j is
 
   unrefused_from : (it : Job) (end errno : Errno) (xs ys : List Step) (x : Step) →
       slice_get s0 j ≡ Some (Some (job_start it)) → IsStartingSeat (job_start it) →
-      AllMayBeTold (steps_by j trace) → steps_by j trace ≡ xs ++ x ∷ ys →
+      Fits (job_start it) → AllMayBeTold (steps_by j trace) → steps_by j trace ≡ xs ++ x ∷ ys →
       Belongs (job_grammar plan it) (steps_by j trace) (finish.Lost end) → (past_of xs).lost ≡ None →
       IsRestoringStep (past_of xs).worn x.deed → x.reply ≡ Host (Refused errno) → ⊥
-  unrefused_from it end errno xs ys x is starts may e b none restoring told =
-      let seated = asked_seated plan (job_start it) (asked_of it) (steps_by j trace) (finish.Lost end) starts may
+  unrefused_from it end errno xs ys x is starts fits may e b none restoring told =
+      let seated = asked_seated plan (job_start it) (asked_of it) (steps_by j trace) (finish.Lost end) starts fits may
       (seats_answer does faults p trace h0 h1 s0 s1 r0 r1 runs j (job_start it) is) b in
       restores_unrefused (past_of xs) x.deed x.reply errno
       (unrefused_at (past_of []) xs x ys (subst (AreUnrefused (past_of [])) e seated.unrefused) none) restoring told
 
   -- the step at which a job lost its seat is none that was refused
   pub unrefused_job : (it : Job) (end errno : Errno) (xs ys : List Step) (x : Step) →
-      slice_get s0 j ≡ Some (job_seat it) → IsStartingSeat (job_start it) → AllMayBeTold (steps_by j trace) →
+      slice_get s0 j ≡ Some (job_seat it) → IsStartingSeat (job_start it) → Fits (job_start it) →
+      AllMayBeTold (steps_by j trace) →
       steps_by j trace ≡ xs ++ x ∷ ys → Belongs (job_grammar plan it) (steps_by j trace) (finish.Lost end) →
       (past_of xs).lost ≡ None → IsRestoringStep (past_of xs).worn x.deed → x.reply ≡ Host (Refused errno) → ⊥
-  unrefused_job (job.Request who own asked) end errno xs ys x is starts may e b none restoring told =
-      unrefused_from (job.Request who own asked) end errno xs ys x is starts may e b none restoring told
-  unrefused_job (job.OpenRoot own) end errno xs ys x is starts may e b none restoring told =
-      unrefused_from (job.OpenRoot own) end errno xs ys x is starts may e b none restoring told
-  unrefused_job (job.Edit edit) end errno xs ys x is starts may e b none restoring told =
+  unrefused_job (job.Request who own asked) end errno xs ys x is starts fits may e b none restoring told =
+      unrefused_from (job.Request who own asked) end errno xs ys x is starts fits may e b none restoring told
+  unrefused_job (job.OpenRoot own) end errno xs ys x is starts fits may e b none restoring told =
+      unrefused_from (job.OpenRoot own) end errno xs ys x is starts fits may e b none restoring told
+  unrefused_job (job.Edit edit) end errno xs ys x is starts fits may e b none restoring told =
       none_before xs ys x
       (sym e ∙ unmade_edit plan (job_start (job.Edit edit)) edit (steps_by j trace) (inl (end, b)))

@@ -35,7 +35,7 @@ use Rattle.pt_fs.specs.declared.job.Job.{Job}
 use Rattle.pt_fs.specs.declared.running.Running.{Running}
 use Rattle.pt_fs.specs.declared.trace.TraceStep.{TraceStep}
 use Rattle.pt_fs.proofs.Ended.{started_seats, started_length, one_for_each, EachRan, each_ran, ran_at, ran_past}
-use Rattle.pt_fs.proofs.Ended.{ran_end, each_at, groups_at, finish_plain, answered_by, answered_at}
+use Rattle.pt_fs.proofs.Ended.{CapsFit, ran_end, each_at, groups_at, finish_plain, answered_by, answered_at}
 use Rattle.pt_fs.proofs.Ended.{answered_length, bounded_each, steps_each, none_left_over, order_kept}
 use Rattle.pt_fs.proofs.Laws.{Comes, Ran, host_runs, steps_same}
 use Rattle.pt_fs.proofs.Seated.{seat_kept, seated_job}
@@ -103,25 +103,27 @@ module _ {H : Type 0} (does : HostRelation H) (plan : Plan) (jobs : List Job) (t
   starts_as : (j : ℕ) (job : Job) → slice_get jobs j ≡ Some job → slice_get (map job_seat jobs) j ≡ Some (job_seat job)
   starts_as j job at = slice_get-map job_seat jobs j ∙ ap (option_map job_seat) at
 
-  pub seats_back : (faults : H → ℕ) → Promises does faults → StartAll jobs → (left : List HostSeat) →
+  pub seats_back : (faults : H → ℕ) → Promises does faults → StartAll jobs → CapsFit jobs →
+      (left : List HostSeat) →
       left ≡ seated (map run_seat running') → SeatsBack jobs trace left
-  seats_back faults p starts left ends = (
+  seats_back faults p starts fits left ends = (
     map run_seat running',
     ends,
     length-map running' run_seat ∙ same,
     λ j job at none.
         let told = one_for_each jobs answers j job answered at in
         seat_kept does faults p plan trace h h' (map job_seat jobs) (map run_seat running') tables tables' runs j job
-        told.0 (starts_as j job at) (each_at jobs starts j job at) (may_be_told faults p j)
+        told.0 (starts_as j job at) (each_at jobs starts j job at) (fits j job at) (may_be_told faults p j)
         (comes j job told.0 at told.1)
         none,
   )
 
-  pub each_seated : (faults : H → ℕ) → Promises does faults → StartAll jobs → SeatedEach plan jobs trace
-  each_seated faults p starts j job seat at has =
+  pub each_seated : (faults : H → ℕ) → Promises does faults → StartAll jobs → CapsFit jobs →
+      SeatedEach plan jobs trace
+  each_seated faults p starts fits j job seat at has =
       let told = one_for_each jobs answers j job answered at in
       seated_job does faults p plan trace h h' (map job_seat jobs) (map run_seat running') tables tables' runs j job
-      told.0 seat (starts_as j job at) (each_at jobs starts j job at) (may_be_told faults p j)
+      told.0 seat (starts_as j job at) (each_at jobs starts j job at) (fits j job at) (may_be_told faults p j)
       (comes j job told.0 at told.1) has
 
   pub ran_of : ((limit : ℕ) × (tables ≡ empty_tables limit)) →

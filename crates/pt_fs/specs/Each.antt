@@ -1,5 +1,5 @@
 -- Inner. How the jobs begin and end.
-use Rattle.std.specs.Prelude.{◌≡◌, ◌≤◌, List, [], ◌∷◌, None}
+use Rattle.std.specs.Prelude.{◌≡◌, ◌≤◌, ◌<◌, ◌^◌, List, [], ◌∷◌, None}
 use Rattle.pt_iface.specs.declared.answer.Answer.{Answer}
 use Rattle.pt_iface.specs.declared.answer.Answer.TheVariants as answer
 use Rattle.pt_frame.specs.Grammar.{End}
@@ -12,10 +12,11 @@ use Rattle.pt_fs.specs.Jobs.{job_seat, job_start, job_grammar, asked_of}
 use Rattle.pt_fs.specs.declared.job.Job.{Job}
 use Rattle.pt_fs.specs.declared.running.Running.{Running}
 
--- the job has its seat, if any, and from that seat owes all of what it asks
+-- the job has its seat, if any, and from that seat, whose capabilities are 32 bits, owes all of what it asks
 pub record IsStarted (plan : Plan) (job : Job) (run : Running) : Type 0 where
   pub seat : run.seat ≡ job_seat job
   pub start : run.start ≡ job_start job
+  pub fits : run.start.eff_caps.0 < 2 ^ 32
   pub left : owes plan run.start run.state ≡ job_grammar plan job
   pub bound : steps_bound run.state ≤ bound_for (asked_of job)
   pub inserts : inserts_left run.state ≤ most_inserted

@@ -1,9 +1,10 @@
 -- Believed. What a run keeps after every step and at its end, in whatever order its jobs took their steps.
-use Rattle.std.specs.Prelude.{◌≡◌, ◌≢◌, ◌≤◌, ◌⊎◌, ℕ, true, List, ◌∷◌, ◌++◌, Option, Some, map, slice_get}
+use Rattle.std.specs.Prelude.{◌≡◌, ◌≢◌, ◌≤◌, ◌⊎◌, ℕ, true, List, ◌∷◌, ◌++◌, Option, Some, None, map, slice_get}
 use Rattle.pt_host.specs.Tree.{Tree}
 use Rattle.pt_host.specs.declared.seat.HostSeat.{HostSeat}
 use Rattle.pt_session.specs.Tables.{Tables}
 use Rattle.pt_session.specs.Rows.{IsRow, IsHandleRow}
+use Rattle.pt_session.specs.declared.form.Negotiated.{Negotiated}
 use Rattle.pt_session.specs.declared.row.Row.{Row}
 use Rattle.pt_session.specs.declared.row.HandleRow.{HandleRow}
 use Rattle.pt_iface.specs.declared.answer.Answer.{Answer}
@@ -13,11 +14,13 @@ use Rattle.pt_frame.specs.Deed.{kept_deed_of}
 use Rattle.pt_frame.specs.declared.finish.Finish.TheVariants as finish
 use Rattle.pt_frame.specs.Memory.{RanOut}
 use Rattle.pt_req.specs.declared.plan.Plan.{Plan}
-use Rattle.pt_fit.specs.Asker.{asker_for}
+use Rattle.pt_fit.specs.Asker.{role_for}
 use Rattle.pt_fit.specs.Cause.{IsCausedBy}
 use Rattle.pt_fit.specs.Created.{IsCreated}
+use Rattle.pt_fit.specs.Decided.{decides}
 use Rattle.pt_fit.specs.Entered.{EntryPlaces, IsEntered, name_asked}
 use Rattle.pt_fit.specs.Handled.{KeepsHandle}
+use Rattle.pt_law.specs.Agreed.{agreed_after}
 use Rattle.pt_law.specs.Giving.{up_to}
 use Rattle.pt_law.specs.Laws.{ObjectOf, AreDistinct, HasObject, IsCounted, IsStanding, Serves, TellsOvertaken}
 use Rattle.pt_law.specs.Laws.{IsOvertaken, TellsGiven, IsHonoured, NamesOpen, LeavesRows}
@@ -88,6 +91,18 @@ KeepsCounts so_far now = (number : ℕ) → IsCounted now number (given number s
 -- every handle is live where it was inserted and neither released nor cleared since
 abbrev pub KeepsHandles : List Turn → Tables → Type 0
 KeepsHandles so_far now = (handle : ℕ) → IsStanding now handle (standing handle so_far)
+
+-- what a job decides for the session that it begins
+abbrev pub decision : Plan → Option Job → Option Negotiated
+decision plan None = None
+decision plan (Some job) = decides plan (asked_of job)
+
+abbrev pub decided_by : Plan → List Job → ℕ → Option Negotiated
+decided_by plan jobs j = decision plan (slice_get jobs j)
+
+-- what is agreed on is what the steps so far tell
+abbrev pub KeepsOptions : Plan → List Job → List Turn → Tables → Type 0
+KeepsOptions plan jobs so_far now = now.negotiated ≡ agreed_after (decided_by plan jobs) so_far
 
 -- every handle's descriptor is open on the object that its number had when it was resolved for the handle's opening
 abbrev pub ServesEach : World → Type 0
@@ -178,12 +193,12 @@ IsCreatedIn plan told tables trace j job (answer.Created entry handle options) =
     × WhereTold told tables (λ start. IsCreated plan start (turns_of trace) j parent name entry handle)
 IsCreatedIn plan told tables trace j job other = Unit {0}
 
--- Each job that has a seat makes its steps as whoever asks or as it began, restores what it changes, and ends as it
--- began, until a step that restores its seat fails.
+-- Each job that has a seat makes its steps as whoever asks or as it began, without the capability that it drops for a
+-- call, restores what it changes, and ends as it began, until a step that restores its seat fails.
 abbrev pub SeatedEach : Plan → List Job → List TraceStep → Type 0
 SeatedEach plan jobs trace =
     (j : ℕ) (job : Job) (seat : HostSeat) → slice_get jobs j ≡ Some job → job_seat job ≡ Some seat →
-    IsSeated (asker_for plan seat (asked_of job)) seat (steps_by j trace)
+    IsSeated (role_for plan seat (asked_of job)) seat (steps_by j trace)
 
 -- Two entries of one object have one number, where the number that was given first lives until the other is given.
 abbrev pub AgreeOnNumbers : Plan → Option Tree → Tables → List TraceStep → Type 0

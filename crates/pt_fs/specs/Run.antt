@@ -8,7 +8,8 @@ use Rattle.pt_host.specs.Relation.{HostRelation}
 use Rattle.pt_req.specs.declared.plan.Plan.{Plan}
 use Rattle.pt_law.specs.Laws.{SlotsAddUp, IsAtRest, AreKept}
 use Rattle.pt_fs.specs.Keeps.{turns_of, AfterEach, AfterEachTold, ReachesEach, LeadsOn, KeepsObjects, KeepsCounts}
-use Rattle.pt_fs.specs.Keeps.{KeepsHandles, ServesEach, InsertsOnce, OvertakenAsTold, ShutsOut, OfEachJob}
+use Rattle.pt_fs.specs.Keeps.{KeepsHandles, KeepsOptions, ServesEach, InsertsOnce, OvertakenAsTold, ShutsOut}
+use Rattle.pt_fs.specs.Keeps.{OfEachJob}
 use Rattle.pt_fs.specs.Keeps.{GivesAllBack, IsCausedIn, RanOutIn, IsNamedIn, IsCreatedIn, AgreeOnNumbers}
 use Rattle.pt_fs.specs.Keeps.{ComeFromNames, NamesOpenOnes, LeavesOpen, HonoursEach, SeatedEach}
 use Rattle.pt_fs.specs.Trace.{RunsJobs, SeatsBack, IsBounded, room_of}
@@ -37,7 +38,8 @@ pub record IsRun
   -- seat.
   pub steps : RunsJobs does jobs trace host tables host' seats tables'
   -- A seat is left as it began, unless a restoring step of its own job was refused; until one was, objects are made
-  -- as whoever asks and all else is called as the job began, and the first that was not Ok is a fault.
+  -- as whoever asks and all else is called as the job began, without the capability exactly where the request drops
+  -- it for that call, and the first that was not Ok is a fault.
   pub seats_back : SeatsBack jobs trace seats
   pub seated : SeatedEach plan jobs trace
   -- Each job keeps its bound, and all of them the room that is had before the first step.
@@ -60,6 +62,9 @@ pub record IsRun
   pub counts : AfterEach tables trace KeepsCounts
   -- After every step a handle is live exactly where it was inserted and neither released nor cleared since.
   pub handles : AfterEach tables trace KeepsHandles
+  -- After every step what is agreed on is what the `init` decided that began the session, once its root was inserted,
+  -- and nothing before that, whatever other `init` runs beside it.
+  pub options : AfterEach tables trace (KeepsOptions plan jobs)
   -- No number but the root's is inserted twice, and no handle.
   pub once : InsertsOnce trace
   -- Who is told that it was overtaken was, by another job's clearing after its first step; and who was is given no

@@ -49,6 +49,7 @@ fn bound_of(request: &Request) -> usize
         | Request::GetAttr { .. }
         | Request::SetAttr { .. }
         | Request::Access { .. }
+        | Request::SyncFs { .. }
         | Request::Other { .. } => 48,
         Request::Create { .. } => 96,
         _ => 8,

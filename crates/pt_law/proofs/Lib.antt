@@ -39,6 +39,8 @@ pub mod Pinned
 pub mod Next
 pub mod Cuts
 pub mod Overtaking
+pub mod Agreeing
+pub mod Doing
 pub mod Hosts
 pub mod Reliance
 pub mod Naming

@@ -48,7 +48,7 @@ said : (negotiated : Option Negotiated) (t : Tables) → (agreed negotiated t).e
 said None t = refl
 said (Some n) t = refl
 
-abbrev IsClearing : Option Deed → ActReply → Type 0
+abbrev pub IsClearing : Option Deed → ActReply → Type 0
 IsClearing (Some (Changes change.Clear)) (Event (event.Cleared era closings)) = Unit {0}
 IsClearing deed told = ⊥
 
@@ -85,7 +85,7 @@ era_event : (t : Tables) (e : Change) (r : EventReply) (after : Tables) → Happ
     (IsClearing (Some (Changes e)) (Event r) → ⊥) → after.era ≡ t.era
 era_event t e r after h n = era_by t e r after (cases t after e r h) n
 
-era_step : (t : Tables) (deed : Option Deed) (told : ActReply) (after : Tables) → TablesGo t deed told after →
+pub era_step : (t : Tables) (deed : Option Deed) (told : ActReply) (after : Tables) → TablesGo t deed told after →
     (IsClearing deed told → ⊥) → after.era ≡ t.era
 era_step t None told after g n = ap (λ (z : Tables). z.era) (unmade t told after g)
 era_step t (Some (Calls asked)) told after g n = ap (λ (z : Tables). z.era) (called t asked told after g)
@@ -144,7 +144,7 @@ unmoved : (j : ℕ) (t t' : Tables) (job after : Job) (turns turns' : List Turn)
 unmoved j t t' job after turns turns' n s f k era q =
     ⊎_elim (λ (x : era ≡ t.era). inl (x ∙ sym s)) (λ (o : IsOvertaken j turns). inr (f o)) (k era (sym n ∙ q)).1
 
-some_same : {a b : ℕ} → Some a ≡ Some b → a ≡ b
+pub some_same : {a b : ℕ} → Some a ≡ Some b → a ≡ b
 some_same e = cc
 
 own_event : (j : ℕ) (t t' : Tables) (job after : Job) (turns turns' : List Turn) (e : Change) (r : EventReply) →
@@ -328,14 +328,14 @@ noted_step job after (Some (Calls asked)) told era m q =
     ap (λ (z : Notes). z.era) m.3 ∙ called_era job.notes asked told ∙ q
 noted_step job after (Some (Changes asked)) told era m q = noted_event job after asked told era m q
 
-noted_steps : (job after : Job) (steps : List Step) (era : ℕ) → Disciplined job steps after →
+pub noted_steps : (job after : Job) (steps : List Step) (era : ℕ) → Disciplined job steps after →
     job.notes.era ≡ Some era → after.notes.era ≡ Some era
 noted_steps job after [] era d q = ap (λ (z : Job). z.notes.era) d ∙ q
 noted_steps job after (step ∷ steps) era d q =
     noted_steps d.0 after steps era d.2 (noted_step job d.0 step.deed step.reply era d.1 q)
 
 -- a job begins in the era that there is after its first step
-begun_era : (t t' : Tables) (job after : Job) (deed : Option Deed) (told : ActReply) → IsBeginning deed told →
+pub begun_era : (t t' : Tables) (job after : Job) (deed : Option Deed) (told : ActReply) → IsBeginning deed told →
     TablesGo t deed told t' → MovesIf job deed told after → after.notes.era ≡ Some t'.era
 begun_era t t' job after (Some (Changes change.Begin)) (Event (event.Began was negotiated)) b g m =
     let h = cases t t' change.Begin (event.Began was negotiated) g in
@@ -346,7 +346,7 @@ begun_era t t' job after (Some (Changes change.Clear)) (Event (event.Cleared was
 begun_era t t' job after deed told b g m = absurd b
 
 -- what is given is asked for in the era of the tables
-given_era : (t t' : Tables) (job after : Job) (deed : Option Deed) (told : ActReply) → TablesGo t deed told t' →
+pub given_era : (t t' : Tables) (job after : Job) (deed : Option Deed) (told : ActReply) → TablesGo t deed told t' →
     MovesIf job deed told after → TellsGiven deed told → job.notes.era ≡ Some t.era
 given_era t t' job after (Some (Changes (change.Claim era handle ids))) (Event (event.Claimed number)) g m o =
     m.1.1 ∙ ap Some (cases t t' (change.Claim era handle ids) (event.Claimed number) g).0
@@ -371,7 +371,7 @@ cleared_later t t' step era closings e g =
     (subst (λ (s : Step). TablesGo t s.deed s.reply t') e g) in
     ap (λ (z : Tables). z.era) h.1.7
 
-begins_where : (first : Step) (rest more : List Step) (last : Step) → BeginsFirst (first ∷ (rest ++ last ∷ more)) →
+pub begins_where : (first : Step) (rest more : List Step) (last : Step) → BeginsFirst (first ∷ (rest ++ last ∷ more)) →
     IsBeginning first.deed first.reply
 begins_where first [] more last b = b
 begins_where first (step ∷ rest) more last b = b

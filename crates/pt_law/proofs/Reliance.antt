@@ -182,7 +182,7 @@ stays_gone n (s ∷ ss) t last a c r i =
     let k = comes_step n t s.step.deed s.step.reply r.0 a z c r.1 (omega (arith, i)) in
     stays_gone n ss r.0 last (agree_step t s.step.deed s.step.reply r.0 r.1 a) k r.2 (omega (arith, i))
 
-tables_append : (turns more : List Turn) (t mid last : Tables) → TablesRun t turns mid → TablesRun mid more last →
+pub tables_append : (turns more : List Turn) (t mid last : Tables) → TablesRun t turns mid → TablesRun mid more last →
     TablesRun t (turns ++ more) last
 tables_append [] more t mid last r k = subst (λ z. TablesRun z more last) r k
 tables_append (s ∷ ss) more t mid last r k = (r.0, r.1, tables_append ss more r.0 mid last r.2 k)

@@ -30,7 +30,7 @@ use Rattle.pt_frame.specs.declared.hold.Hold.TheVariants as hold
 use Rattle.pt_frame.specs.declared.hold.Taken.{Taken}
 use Rattle.pt_frame.specs.declared.hold.Taken.TheVariants as taken
 use Rattle.pt_law.specs.Told.{MayBeTold, StepMayBeTold}
-use Rattle.pt_law.specs.Under.{Identity, IsMadeAs, SeatAnswers}
+use Rattle.pt_law.specs.Under.{Role, IsMadeAs, SeatAnswers}
 use Rattle.pt_law.specs.Wearing.{put_back, IsOwed, Unwinds, Seats}
 use Rattle.pt_law.proofs.Covering.{Clear, Covers, covers_held}
 use Rattle.pt_law.proofs.Moving.{told_of}
@@ -50,16 +50,16 @@ pub record Returns (seat : HostSeat) (owed : Owed) (now : HostSeat) : Type 0 whe
   pub bare : OwesBare owed.taken owed.closings scopes
 
 -- each deed of the grammar is made under the right seat, while none is lost
-abbrev pub Seated : Option Identity → HostSeat → Grammar → Option Errno → HostSeat → Type 0
-Seated asker seat (End last) lost now = lost ≡ None → now ≡ seat
-Seated asker seat (Do deed owed next) lost now =
+abbrev pub Seated : Role → HostSeat → Grammar → Option Errno → HostSeat → Type 0
+Seated role seat (End last) lost now = lost ≡ None → now ≡ seat
+Seated role seat (Do deed owed next) lost now =
     (lost ≡ None →
-    IsMadeAs asker seat now (Some deed) × Returns seat owed now × (owed.restores ≡ true → IsOwed now deed))
+    IsMadeAs role seat now (Some deed) × Returns seat owed now × (owed.restores ≡ true → IsOwed now deed))
     × ((step : Step) → IsStepOf deed step.deed step.reply → StepMayBeTold step.deed step.reply →
     SeatAnswers now step.deed step.reply →
-    Seated asker seat (next step.reply) (or_first (fault_if owed.restores step.reply) lost)
+    Seated role seat (next step.reply) (or_first (fault_if owed.restores step.reply) lost)
     (seat_by now step.deed step.reply))
-Seated asker seat (May one other) lost now = Seated asker seat one lost now × Seated asker seat other lost now
+Seated role seat (May one other) lost now = Seated role seat one lost now × Seated role seat other lost now
 
 -- steps
 
@@ -90,11 +90,11 @@ step_answer now deed (Some same) told i a =
 step_answer now deed None NoCopy i a = uncopied_answer now deed
 step_answer now deed None told i a = absurd i
 
-pub step_made : (asker : Option Identity) (seat now : HostSeat) (deed : Deed) (made : Option Deed) (told : ActReply) →
-    IsStepOf deed made told → IsMadeAs asker seat now (Some deed) → IsMadeAs asker seat now made
-step_made asker seat now deed (Some same) told i m =
-    subst (λ (d : Deed). IsMadeAs asker seat now (Some d)) (sym (same_deed deed same told i)) m
-step_made asker seat now deed None told i m = tt
+pub step_made : (role : Role) (seat now : HostSeat) (deed : Deed) (made : Option Deed) (told : ActReply) →
+    IsStepOf deed made told → IsMadeAs role seat now (Some deed) → IsMadeAs role seat now made
+step_made role seat now deed (Some same) told i m =
+    subst (λ (d : Deed). IsMadeAs role seat now (Some d)) (sym (same_deed deed same told i)) m
+step_made role seat now deed None told i m = tt
 
 -- a deed that is not the seat's own leaves the seat
 call_leaves : (now : HostSeat) (asked : Call) (told : ActReply) → is_seats_sort (sort_of asked) ≡ false →
@@ -118,22 +118,22 @@ deed_leaves now (Calls asked) told e = call_leaves now asked told e
 deed_leaves now (Changes asked) told e = refl
 
 -- once the seat is lost nothing more is said
-lost_any : (asker : Option Identity) (seat : HostSeat) (grammar : Grammar) (errno : Errno) (now : HostSeat) →
-    Seated asker seat grammar (Some errno) now
-lost_any asker seat (End last) errno now = λ e. absurd (cc)
-lost_any asker seat (Do deed owed next) errno now = (
+lost_any : (role : Role) (seat : HostSeat) (grammar : Grammar) (errno : Errno) (now : HostSeat) →
+    Seated role seat grammar (Some errno) now
+lost_any role seat (End last) errno now = λ e. absurd (cc)
+lost_any role seat (Do deed owed next) errno now = (
   (λ e. absurd (cc)),
   (λ step i t s.
-      go (next step.reply) (lost_any asker seat (next step.reply)) (fault_if owed.restores step.reply)
+      go (next step.reply) (lost_any role seat (next step.reply)) (fault_if owed.restores step.reply)
       (seat_by now step.deed step.reply)),
 )
   where
-    go : (rest : Grammar) → ((first : Errno) (later : HostSeat) → Seated asker seat rest (Some first) later) →
-        (fault : Option Errno) (later : HostSeat) → Seated asker seat rest (or_first fault (Some errno)) later
+    go : (rest : Grammar) → ((first : Errno) (later : HostSeat) → Seated role seat rest (Some first) later) →
+        (fault : Option Errno) (later : HostSeat) → Seated role seat rest (or_first fault (Some errno)) later
     go rest k None later = k errno later
     go rest k (Some other) later = k errno later
-lost_any asker seat (May one other) errno now =
-    (lost_any asker seat one errno now, lost_any asker seat other errno now)
+lost_any role seat (May one other) errno now =
+    (lost_any role seat one errno now, lost_any role seat other errno now)
 
 -- what is no scope is given back under the seat from which the job began
 
@@ -143,69 +143,69 @@ bare_owed taken.Nothing (suc count) = refl
 bare_owed taken.Slot count = refl
 bare_owed (taken.Fd fd slot) count = refl
 
-plain_do : (asker : Option Identity) (seat : HostSeat) (deed : Deed) (brings : Taken) (count : ℕ)
-    (holds : List Hold) (next : ActReply → Grammar) → is_of_seat deed ≡ false → IsMadeAs asker seat seat (Some deed) →
-    Clear holds → ((told : ActReply) → Seated asker seat (next told) None seat) →
-    Seated asker seat (Do deed (owing false brings count holds) next) None seat
-plain_do asker seat deed brings count holds next e m c k = (
+plain_do : (role : Role) (seat : HostSeat) (deed : Deed) (brings : Taken) (count : ℕ)
+    (holds : List Hold) (next : ActReply → Grammar) → is_of_seat deed ≡ false → IsMadeAs role seat seat (Some deed) →
+    Clear holds → ((told : ActReply) → Seated role seat (next told) None seat) →
+    Seated role seat (Do deed (owing false brings count holds) next) None seat
+plain_do role seat deed brings count holds next e m c k = (
   (λ q. (
     m,
     record { scopes = []; covers = c; unwinds = refl; bare = bare_owed brings count },
     (λ is. absurd (cc)),
   )),
   (λ step i t s.
-      subst (λ (z : HostSeat). Seated asker seat (next step.reply) None z)
+      subst (λ (z : HostSeat). Seated role seat (next step.reply) None z)
       (sym (step_seat seat deed step.deed step.reply i ∙ deed_leaves seat deed step.reply e)) (k step.reply)),
 )
 
-slot_seated : (asker : Option Identity) (seat : HostSeat) (slot : Bool) (count : ℕ) (holds : List Hold)
-    (rest : Grammar) → Clear holds → Seated asker seat rest None seat →
-    Seated asker seat (give_slot slot count holds rest) None seat
-slot_seated asker seat true count holds rest c k =
-    plain_do asker seat (Changes change.GiveFd) taken.Slot count holds (λ told. rest) refl refl c (λ told. k)
-slot_seated asker seat false count holds rest c k = k
+slot_seated : (role : Role) (seat : HostSeat) (slot : Bool) (count : ℕ) (holds : List Hold)
+    (rest : Grammar) → Clear holds → Seated role seat rest None seat →
+    Seated role seat (give_slot slot count holds rest) None seat
+slot_seated role seat true count holds rest c k =
+    plain_do role seat (Changes change.GiveFd) taken.Slot count holds (λ told. rest) refl refl c (λ told. k)
+slot_seated role seat false count holds rest c k = k
 
-taken_seated : (asker : Option Identity) (seat : HostSeat) (brings : Taken) (count : ℕ) (holds : List Hold)
-    (rest : Grammar) → Clear holds → Seated asker seat rest None seat →
-    Seated asker seat (give_taken brings count holds rest) None seat
-taken_seated asker seat taken.Nothing count holds rest c k = k
-taken_seated asker seat taken.Slot count holds rest c k = slot_seated asker seat true count holds rest c k
-taken_seated asker seat (taken.Fd fd slot) count holds rest c k =
-    plain_do asker seat (Calls (call.Close fd)) (taken.Fd fd slot) count holds
-    (λ told. give_slot slot count holds rest) refl refl c (λ told. slot_seated asker seat slot count holds rest c k)
+taken_seated : (role : Role) (seat : HostSeat) (brings : Taken) (count : ℕ) (holds : List Hold)
+    (rest : Grammar) → Clear holds → Seated role seat rest None seat →
+    Seated role seat (give_taken brings count holds rest) None seat
+taken_seated role seat taken.Nothing count holds rest c k = k
+taken_seated role seat taken.Slot count holds rest c k = slot_seated role seat true count holds rest c k
+taken_seated role seat (taken.Fd fd slot) count holds rest c k =
+    plain_do role seat (Calls (call.Close fd)) (taken.Fd fd slot) count holds
+    (λ told. give_slot slot count holds rest) refl refl c (λ told. slot_seated role seat slot count holds rest c k)
 
-closings_seated : (asker : Option Identity) (seat : HostSeat) (count : ℕ) (holds : List Hold) (rest : Grammar) →
-    Clear holds → Seated asker seat rest None seat → Seated asker seat (closings count holds rest) None seat
-closings_seated asker seat zero holds rest c k = k
-closings_seated asker seat (suc count) holds rest c k =
-    plain_do asker seat (Changes change.TakeClosing) taken.Nothing (suc count) holds
+closings_seated : (role : Role) (seat : HostSeat) (count : ℕ) (holds : List Hold) (rest : Grammar) →
+    Clear holds → Seated role seat rest None seat → Seated role seat (closings count holds rest) None seat
+closings_seated role seat zero holds rest c k = k
+closings_seated role seat (suc count) holds rest c k =
+    plain_do role seat (Changes change.TakeClosing) taken.Nothing (suc count) holds
     (λ told. give_taken (taken_in told) count holds (closings count holds rest)) refl refl c
-    (λ told. taken_seated asker seat (taken_in told) count holds (closings count holds rest) c
-    (closings_seated asker seat count holds rest c k))
+    (λ told. taken_seated role seat (taken_in told) count holds (closings count holds rest) c
+    (closings_seated role seat count holds rest c k))
 
-plain_giving : (asker : Option Identity) (seat : HostSeat) (one : Hold) → is_scope one ≡ false →
-    (is_of_seat (giving seat one) ≡ false) × IsMadeAs asker seat seat (Some (giving seat one))
-plain_giving asker seat (hold.Pin row fd) e = (refl, refl)
-plain_giving asker seat (hold.HandlePin row fd) e = (refl, refl)
-plain_giving asker seat (hold.Fd fd was) e = (refl, refl)
-plain_giving asker seat hold.Slot e = (refl, refl)
-plain_giving asker seat (hold.Count era number) e = (refl, refl)
-plain_giving asker seat hold.Groups e = absurd (cc)
-plain_giving asker seat hold.EffectiveGid e = absurd (cc)
-plain_giving asker seat hold.EffectiveUid e = absurd (cc)
-plain_giving asker seat (hold.Dropped caps) e = absurd (cc)
-plain_giving asker seat hold.Umask e = absurd (cc)
+plain_giving : (role : Role) (seat : HostSeat) (one : Hold) → is_scope one ≡ false →
+    (is_of_seat (giving seat one) ≡ false) × IsMadeAs role seat seat (Some (giving seat one))
+plain_giving role seat (hold.Pin row fd) e = (refl, refl)
+plain_giving role seat (hold.HandlePin row fd) e = (refl, refl)
+plain_giving role seat (hold.Fd fd was) e = (refl, refl)
+plain_giving role seat hold.Slot e = (refl, refl)
+plain_giving role seat (hold.Count era number) e = (refl, refl)
+plain_giving role seat hold.Groups e = absurd (cc)
+plain_giving role seat hold.EffectiveGid e = absurd (cc)
+plain_giving role seat hold.EffectiveUid e = absurd (cc)
+plain_giving role seat (hold.Dropped caps) e = absurd (cc)
+plain_giving role seat hold.Umask e = absurd (cc)
 
-plain_given : (asker : Option Identity) (seat : HostSeat) (one : Hold) (holds left : List Hold)
+plain_given : (role : Role) (seat : HostSeat) (one : Hold) (holds left : List Hold)
     (next : Option Errno → Grammar) → is_scope one ≡ false → Clear holds → Clear left →
-    Seated asker seat (next None) None seat → Seated asker seat (give seat one holds left next) None seat
-plain_given asker seat one holds left next e c d k =
-    let g = plain_giving asker seat one e in
-    subst (λ (b : Bool). Seated asker seat (Do (giving seat one) (owing b taken.Nothing 0 holds) (λ told.
+    Seated role seat (next None) None seat → Seated role seat (give seat one holds left next) None seat
+plain_given role seat one holds left next e c d k =
+    let g = plain_giving role seat one e in
+    subst (λ (b : Bool). Seated role seat (Do (giving seat one) (owing b taken.Nothing 0 holds) (λ told.
     closings (closings_in (giving seat one) told) left (next (fault_if b told)))) None seat) (sym e)
-    (plain_do asker seat (giving seat one) taken.Nothing 0 holds (λ told.
+    (plain_do role seat (giving seat one) taken.Nothing 0 holds (λ told.
     closings (closings_in (giving seat one) told) left (next None)) g.0 g.1 c
-    (λ told. closings_seated asker seat (closings_in (giving seat one) told) left (next None) d k))
+    (λ told. closings_seated role seat (closings_in (giving seat one) told) left (next None) d k))
 
 -- a scope is given back
 
@@ -251,87 +251,87 @@ back_ok seat now (hold.Fd fd was) told k e t f = absurd (cc)
 back_ok seat now hold.Slot told k e t f = absurd (cc)
 back_ok seat now (hold.Count era number) told k e t f = absurd (cc)
 
-scope_giving : (asker : Option Identity) (seat now : HostSeat) (scope : Hold) → is_scope scope ≡ true →
+scope_giving : (role : Role) (seat now : HostSeat) (scope : Hold) → is_scope scope ≡ true →
     ((told : ActReply) → closings_in (giving seat scope) told ≡ 0)
-    × IsMadeAs asker seat now (Some (giving seat scope))
-scope_giving asker seat now hold.Groups e = ((λ told. refl), tt)
-scope_giving asker seat now hold.EffectiveGid e = ((λ told. refl), tt)
-scope_giving asker seat now hold.EffectiveUid e = ((λ told. refl), tt)
-scope_giving asker seat now (hold.Dropped caps) e = ((λ told. refl), tt)
-scope_giving asker seat now hold.Umask e = ((λ told. refl), tt)
-scope_giving asker seat now (hold.Pin row fd) e = absurd (cc)
-scope_giving asker seat now (hold.HandlePin row fd) e = absurd (cc)
-scope_giving asker seat now (hold.Fd fd was) e = absurd (cc)
-scope_giving asker seat now hold.Slot e = absurd (cc)
-scope_giving asker seat now (hold.Count era number) e = absurd (cc)
+    × IsMadeAs role seat now (Some (giving seat scope))
+scope_giving role seat now hold.Groups e = ((λ told. refl), tt)
+scope_giving role seat now hold.EffectiveGid e = ((λ told. refl), tt)
+scope_giving role seat now hold.EffectiveUid e = ((λ told. refl), tt)
+scope_giving role seat now (hold.Dropped caps) e = ((λ told. refl), tt)
+scope_giving role seat now hold.Umask e = ((λ told. refl), tt)
+scope_giving role seat now (hold.Pin row fd) e = absurd (cc)
+scope_giving role seat now (hold.HandlePin row fd) e = absurd (cc)
+scope_giving role seat now (hold.Fd fd was) e = absurd (cc)
+scope_giving role seat now hold.Slot e = absurd (cc)
+scope_giving role seat now (hold.Count era number) e = absurd (cc)
 
-scope_given : (asker : Option Identity) (seat now : HostSeat) (scope : Hold) (scopes holds left : List Hold)
+scope_given : (role : Role) (seat now : HostSeat) (scope : Hold) (scopes holds left : List Hold)
     (next : Option Errno → Grammar) → KeepsGroups seat → is_scope scope ≡ true → Covers (scope ∷ scopes) holds →
-    Unwinds seat (scope ∷ scopes) now → Seated asker seat (next None) None (put_back seat scope now) →
-    Seated asker seat (give seat scope holds left next) None now
-scope_given asker seat now scope scopes holds left next kept e c u k =
-    let g = scope_giving asker seat now scope e in
-    subst (λ (b : Bool). Seated asker seat (Do (giving seat scope) (owing b taken.Nothing 0 holds) (λ told.
+    Unwinds seat (scope ∷ scopes) now → Seated role seat (next None) None (put_back seat scope now) →
+    Seated role seat (give seat scope holds left next) None now
+scope_given role seat now scope scopes holds left next kept e c u k =
+    let g = scope_giving role seat now scope e in
+    subst (λ (b : Bool). Seated role seat (Do (giving seat scope) (owing b taken.Nothing 0 holds) (λ told.
     closings (closings_in (giving seat scope) told) left (next (fault_if b told)))) None now) (sym e) (
       (λ q. (g.1, record { scopes = scope ∷ scopes; covers = c; unwinds = u; bare = tt }, (λ is. u.1))),
       (λ step i t s.
           let so = told_of (giving seat scope) step.deed step.reply i t in
-          subst (λ (count : ℕ). Seated asker seat (closings count left (next (fault_in step.reply)))
+          subst (λ (count : ℕ). Seated role seat (closings count left (next (fault_in step.reply)))
           (or_first (fault_in step.reply) None) (seat_by now step.deed step.reply)) (sym (g.0 step.reply))
           (go (fault_in step.reply) (seat_by now step.deed step.reply) (λ f.
           step_seat now (giving seat scope) step.deed step.reply i ∙ back_ok seat now scope step.reply kept e so f))),
     )
   where
     go : (fault : Option Errno) (later : HostSeat) → (fault ≡ None → later ≡ put_back seat scope now) →
-        Seated asker seat (next fault) (or_first fault None) later
-    go None later is = subst (λ (z : HostSeat). Seated asker seat (next None) None z) (sym (is refl)) k
-    go (Some errno) later is = lost_any asker seat (next (Some errno)) errno later
+        Seated role seat (next fault) (or_first fault None) later
+    go None later is = subst (λ (z : HostSeat). Seated role seat (next None) None z) (sym (is refl)) k
+    go (Some errno) later is = lost_any role seat (next (Some errno)) errno later
 
 -- all holds are given back
-leave_clear : (asker : Option Identity) (seat : HostSeat) (holds : List Hold) (last : Finish) → Clear holds →
-    Seated asker seat (leave seat holds last) None seat
-leave_clear asker seat [] last c = λ e. refl
-leave_clear asker seat (one ∷ holds) last c =
-    plain_given asker seat one (one ∷ holds) holds (λ fault. leave seat holds (restored last fault)) c.0 c c.1
-    (leave_clear asker seat holds (restored last None) c.1)
+leave_clear : (role : Role) (seat : HostSeat) (holds : List Hold) (last : Finish) → Clear holds →
+    Seated role seat (leave seat holds last) None seat
+leave_clear role seat [] last c = λ e. refl
+leave_clear role seat (one ∷ holds) last c =
+    plain_given role seat one (one ∷ holds) holds (λ fault. leave seat holds (restored last fault)) c.0 c c.1
+    (leave_clear role seat holds (restored last None) c.1)
 
-leave_seated : (asker : Option Identity) (seat now : HostSeat) (scopes holds : List Hold) (last : Finish) →
+leave_seated : (role : Role) (seat now : HostSeat) (scopes holds : List Hold) (last : Finish) →
     KeepsGroups seat → Covers scopes holds → Unwinds seat scopes now →
-    Seated asker seat (leave seat holds last) None now
-leave_seated asker seat now [] holds last kept c u =
-    subst (λ (z : HostSeat). Seated asker seat (leave seat holds last) None z) (sym u)
-    (leave_clear asker seat holds last c)
-leave_seated asker seat now (scope ∷ scopes) [] last kept c u = absurd c
-leave_seated asker seat now (scope ∷ scopes) (one ∷ holds) last kept c u =
+    Seated role seat (leave seat holds last) None now
+leave_seated role seat now [] holds last kept c u =
+    subst (λ (z : HostSeat). Seated role seat (leave seat holds last) None z) (sym u)
+    (leave_clear role seat holds last c)
+leave_seated role seat now (scope ∷ scopes) [] last kept c u = absurd c
+leave_seated role seat now (scope ∷ scopes) (one ∷ holds) last kept c u =
     let v = subst (λ (z : Hold). Unwinds seat (z ∷ scopes) now) (sym c.0) u in
-    scope_given asker seat now one scopes (one ∷ holds) holds (λ fault. leave seat holds (restored last fault)) kept
-    c.1 (refl, c.1, c.2) v (leave_seated asker seat (put_back seat one now) scopes holds (restored last None) kept c.2
+    scope_given role seat now one scopes (one ∷ holds) holds (λ fault. leave seat holds (restored last fault)) kept
+    c.1 (refl, c.1, c.2) v (leave_seated role seat (put_back seat one now) scopes holds (restored last None) kept c.2
     v.2)
 
 -- the scopes on top end
-bare_clear : (asker : Option Identity) (seat : HostSeat) (holds : List Hold) (next : List Hold → Grammar) →
-    Clear holds → ((left : List Hold) → Clear left → Seated asker seat (next left) None seat) →
-    Seated asker seat (bare seat holds next) None seat
-bare_clear asker seat [] next c k = k [] tt
-bare_clear asker seat (one ∷ holds) next c k =
-    subst (λ (b : Bool). Seated asker seat (bare_one seat b one holds (bare seat holds next) next) None seat)
+bare_clear : (role : Role) (seat : HostSeat) (holds : List Hold) (next : List Hold → Grammar) →
+    Clear holds → ((left : List Hold) → Clear left → Seated role seat (next left) None seat) →
+    Seated role seat (bare seat holds next) None seat
+bare_clear role seat [] next c k = k [] tt
+bare_clear role seat (one ∷ holds) next c k =
+    subst (λ (b : Bool). Seated role seat (bare_one seat b one holds (bare seat holds next) next) None seat)
     (sym c.0) (k (one ∷ holds) c)
 
-bare_seated : (asker : Option Identity) (seat now : HostSeat) (scopes holds : List Hold)
+bare_seated : (role : Role) (seat now : HostSeat) (scopes holds : List Hold)
     (next : List Hold → Grammar) → KeepsGroups seat → Covers scopes holds → Unwinds seat scopes now →
-    ((left : List Hold) → Clear left → Seated asker seat (next left) None seat) →
-    Seated asker seat (bare seat holds next) None now
-bare_seated asker seat now [] holds next kept c u k =
-    subst (λ (z : HostSeat). Seated asker seat (bare seat holds next) None z) (sym u)
-    (bare_clear asker seat holds next c k)
-bare_seated asker seat now (scope ∷ scopes) [] next kept c u k = absurd c
-bare_seated asker seat now (scope ∷ scopes) (one ∷ holds) next kept c u k =
+    ((left : List Hold) → Clear left → Seated role seat (next left) None seat) →
+    Seated role seat (bare seat holds next) None now
+bare_seated role seat now [] holds next kept c u k =
+    subst (λ (z : HostSeat). Seated role seat (bare seat holds next) None z) (sym u)
+    (bare_clear role seat holds next c k)
+bare_seated role seat now (scope ∷ scopes) [] next kept c u k = absurd c
+bare_seated role seat now (scope ∷ scopes) (one ∷ holds) next kept c u k =
     let v = subst (λ (z : Hold). Unwinds seat (z ∷ scopes) now) (sym c.0) u in
-    subst (λ (b : Bool). Seated asker seat (bare_one seat b one holds (bare seat holds next) next) None now)
+    subst (λ (b : Bool). Seated role seat (bare_one seat b one holds (bare seat holds next) next) None now)
     (sym c.1)
-    (scope_given asker seat now one scopes (one ∷ holds) holds (λ fault.
+    (scope_given role seat now one scopes (one ∷ holds) holds (λ fault.
     or_lost seat fault holds (bare seat holds next)) kept c.1 (refl, c.1, c.2) v
-    (bare_seated asker seat (put_back seat one now) scopes holds next kept c.2 v.2 k))
+    (bare_seated role seat (put_back seat one now) scopes holds next kept c.2 v.2 k))
 
 -- a bracket ends
 clear_under : (passing : Option Hold) (holds : List Hold) → Clear (under passing []) → Clear holds →
@@ -339,78 +339,78 @@ clear_under : (passing : Option Hold) (holds : List Hold) → Clear (under passi
 clear_under None holds p c = c
 clear_under (Some top) holds p c = (p.0, c)
 
-shut_seated : (asker : Option Identity) (seat : HostSeat) (passing : Option Hold) (mark : ℕ) (holds : List Hold)
+shut_seated : (role : Role) (seat : HostSeat) (passing : Option Hold) (mark : ℕ) (holds : List Hold)
     (next : List Hold → Grammar) → Clear (under passing []) → Clear holds →
-    ((left : List Hold) → Clear left → Seated asker seat (next left) None seat) →
-    Seated asker seat (shut seat passing mark holds next) None seat
-shut_seated asker seat passing mark [] next p c k = k (under passing []) p
-shut_seated asker seat passing mark (one ∷ holds) next p c k =
-    go (nat_lt mark (length (one ∷ holds))) (shut_seated asker seat passing mark holds next p c.1 k)
+    ((left : List Hold) → Clear left → Seated role seat (next left) None seat) →
+    Seated role seat (shut seat passing mark holds next) None seat
+shut_seated role seat passing mark [] next p c k = k (under passing []) p
+shut_seated role seat passing mark (one ∷ holds) next p c k =
+    go (nat_lt mark (length (one ∷ holds))) (shut_seated role seat passing mark holds next p c.1 k)
   where
-    go : (b : Bool) → Seated asker seat (shut seat passing mark holds next) None seat →
-        Seated asker seat (if b then give seat one (under passing (one ∷ holds)) (under passing holds) (λ fault.
+    go : (b : Bool) → Seated role seat (shut seat passing mark holds next) None seat →
+        Seated role seat (if b then give seat one (under passing (one ∷ holds)) (under passing holds) (λ fault.
         or_lost seat fault (under passing holds) (shut seat passing mark holds next))
         else next (under passing (one ∷ holds))) None seat
-    go true rest = plain_given asker seat one (under passing (one ∷ holds)) (under passing holds) (λ fault.
+    go true rest = plain_given role seat one (under passing (one ∷ holds)) (under passing holds) (λ fault.
         or_lost seat fault (under passing holds) (shut seat passing mark holds next)) c.0
         (clear_under passing (one ∷ holds) p c) (clear_under passing holds p c.1) rest
     go false rest = k (under passing (one ∷ holds)) (clear_under passing (one ∷ holds) p c)
 
 -- answers
-answered_seated : (asker : Option Identity) (seat now : HostSeat) (passes : Bool) (scopes holds : List Hold)
+answered_seated : (role : Role) (seat now : HostSeat) (passes : Bool) (scopes holds : List Hold)
     (last : Finish) → KeepsGroups seat → Covers scopes holds → Unwinds seat scopes now →
-    (passes ≡ true → scopes ≡ []) → Seated asker seat (answered_by seat passes holds last) None now
-answered_seated asker seat now false scopes holds last kept c u none =
-    leave_seated asker seat now scopes holds last kept c u
-answered_seated asker seat now true scopes holds last kept c u none =
+    (passes ≡ true → scopes ≡ []) → Seated role seat (answered_by seat passes holds last) None now
+answered_seated role seat now false scopes holds last kept c u none =
+    leave_seated role seat now scopes holds last kept c u
+answered_seated role seat now true scopes holds last kept c u none =
     let clear : Clear holds = subst (λ (z : List Hold). Covers z holds) (none refl) c in
     let same : now ≡ seat = subst (λ (z : List Hold). Unwinds seat z now) (none refl) u in
-    subst (λ (z : HostSeat). Seated asker seat (answered_by seat true holds last) None z) (sym same) (go holds clear)
+    subst (λ (z : HostSeat). Seated role seat (answered_by seat true holds last) None z) (sym same) (go holds clear)
   where
-    go : (holds : List Hold) → Clear holds → Seated asker seat (answered_by seat true holds last) None seat
+    go : (holds : List Hold) → Clear holds → Seated role seat (answered_by seat true holds last) None seat
     go [] clear = λ e. refl
-    go (one ∷ holds) clear = shut_seated asker seat (Some one) 0 holds (λ left. End last) (clear.0, tt) clear.1
+    go (one ∷ holds) clear = shut_seated role seat (Some one) 0 holds (λ left. End last) (clear.0, tt) clear.1
         (λ left c e. refl)
 
 -- what follows a reply
 
-closed_over : (asker : Option Identity) (seat now : HostSeat) (count : ℕ) (scopes holds : List Hold)
+closed_over : (role : Role) (seat now : HostSeat) (count : ℕ) (scopes holds : List Hold)
     (rest : Grammar) → Covers scopes holds → Unwinds seat scopes now → (scopes ≡ []) ⊎ (count ≡ 0) →
-    Seated asker seat rest None now → Seated asker seat (closings count holds rest) None now
-closed_over asker seat now count scopes holds rest c u (inl none) k =
+    Seated role seat rest None now → Seated role seat (closings count holds rest) None now
+closed_over role seat now count scopes holds rest c u (inl none) k =
     let clear : Clear holds = subst (λ (z : List Hold). Covers z holds) none c in
     let same : now ≡ seat = subst (λ (z : List Hold). Unwinds seat z now) none u in
-    subst (λ (z : HostSeat). Seated asker seat (closings count holds rest) None z) (sym same)
-    (closings_seated asker seat count holds rest clear
-    (subst (λ (z : HostSeat). Seated asker seat rest None z) same k))
-closed_over asker seat now count scopes holds rest c u (inr zero_is) k =
-    subst (λ (n : ℕ). Seated asker seat (closings n holds rest) None now) (sym zero_is) k
+    subst (λ (z : HostSeat). Seated role seat (closings count holds rest) None z) (sym same)
+    (closings_seated role seat count holds rest clear
+    (subst (λ (z : HostSeat). Seated role seat rest None z) same k))
+closed_over role seat now count scopes holds rest c u (inr zero_is) k =
+    subst (λ (n : ℕ). Seated role seat (closings n holds rest) None now) (sym zero_is) k
 
-follows_seated : (asker : Option Identity) (seat now : HostSeat) (wants : Bool) (count : ℕ)
+follows_seated : (role : Role) (seat now : HostSeat) (wants : Bool) (count : ℕ)
     (scopes holds : List Hold) (rest : Grammar) → KeepsGroups seat → Covers scopes holds → Unwinds seat scopes now →
-    (scopes ≡ []) ⊎ (count ≡ 0) → Seated asker seat rest None now →
-    Seated asker seat (follows seat wants count holds rest) None now
-follows_seated asker seat now false count scopes holds rest kept c u n k =
-    closed_over asker seat now count scopes holds rest c u n k
-follows_seated asker seat now true count scopes holds rest kept c u n k = (
-  closed_over asker seat now count scopes holds (leave seat holds (finish.Answer answer.NoMemory)) c u n
-      (leave_seated asker seat now scopes holds (finish.Answer answer.NoMemory) kept c u),
-  closed_over asker seat now count scopes holds rest c u n k,
+    (scopes ≡ []) ⊎ (count ≡ 0) → Seated role seat rest None now →
+    Seated role seat (follows seat wants count holds rest) None now
+follows_seated role seat now false count scopes holds rest kept c u n k =
+    closed_over role seat now count scopes holds rest c u n k
+follows_seated role seat now true count scopes holds rest kept c u n k = (
+  closed_over role seat now count scopes holds (leave seat holds (finish.Answer answer.NoMemory)) c u n
+      (leave_seated role seat now scopes holds (finish.Answer answer.NoMemory) kept c u),
+  closed_over role seat now count scopes holds rest c u n k,
 )
 
 unwinds_none : (seat now : HostSeat) (scopes : List Hold) → scopes ≡ [] → now ≡ seat → Unwinds seat scopes now
 unwinds_none seat now scopes e same = subst (λ (z : List Hold). Unwinds seat z now) (sym e) same
 
-seats_unwind : (asker : Option Identity) (seat : HostSeat) (tree : RequestTree) (scopes : List Hold)
-    (now : HostSeat) → Seats asker seat tree scopes now → Unwinds seat scopes now
-seats_unwind asker seat (Gives last) scopes now s = s.0
-seats_unwind asker seat (Refuses told) scopes now s = s
-seats_unwind asker seat (Asks deed next) scopes now s = s.0
-seats_unwind asker seat (Opens asked scope next) scopes now s = s.0
-seats_unwind asker seat (Bares rest) scopes now s = s.0
-seats_unwind asker seat (Brackets rest) scopes now s = seats_unwind asker seat rest scopes now s
-seats_unwind asker seat (Shuts passes rest) scopes now s = unwinds_none seat now scopes s.0 s.1
-seats_unwind asker seat (Allocates rest) scopes now s = seats_unwind asker seat rest scopes now s
+seats_unwind : (role : Role) (seat : HostSeat) (tree : RequestTree) (scopes : List Hold)
+    (now : HostSeat) → Seats role seat tree scopes now → Unwinds seat scopes now
+seats_unwind role seat (Gives last) scopes now s = s.0
+seats_unwind role seat (Refuses told) scopes now s = s
+seats_unwind role seat (Asks deed next) scopes now s = s.0
+seats_unwind role seat (Opens asked scope next) scopes now s = s.0
+seats_unwind role seat (Bares rest) scopes now s = s.0
+seats_unwind role seat (Brackets rest) scopes now s = seats_unwind role seat rest scopes now s
+seats_unwind role seat (Shuts passes rest) scopes now s = unwinds_none seat now scopes s.0 s.1
+seats_unwind role seat (Allocates rest) scopes now s = seats_unwind role seat rest scopes now s
 
 parted : (passes : Bool) (holds : List Hold) → Clear holds →
     Clear (under (front passes holds) []) × Clear (behind passes holds)
@@ -418,14 +418,14 @@ parted false holds c = (tt, c)
 parted true [] c = (tt, tt)
 parted true (top ∷ holds) c = ((c.0, tt), c.1)
 
-pub seated_framed : (asker : Option Identity) (seat : HostSeat) (tree : RequestTree) (scopes holds : List Hold)
-    (marks : List ℕ) (now : HostSeat) → KeepsGroups seat → Covers scopes holds → Seats asker seat tree scopes now →
-    Seated asker seat (framed seat tree holds marks) None now
-seated_framed asker seat (Gives last) scopes holds marks now kept c s =
-    answered_seated asker seat now (passes_with last) scopes holds (finish.Answer last) kept c s.0 s.1
-seated_framed asker seat (Refuses told) scopes holds marks now kept c s =
-    leave_seated asker seat now scopes holds (finish.Answer (refusal told)) kept c s
-seated_framed asker seat (Asks deed next) scopes holds marks now kept c s = (
+pub seated_framed : (role : Role) (seat : HostSeat) (tree : RequestTree) (scopes holds : List Hold)
+    (marks : List ℕ) (now : HostSeat) → KeepsGroups seat → Covers scopes holds → Seats role seat tree scopes now →
+    Seated role seat (framed seat tree holds marks) None now
+seated_framed role seat (Gives last) scopes holds marks now kept c s =
+    answered_seated role seat now (passes_with last) scopes holds (finish.Answer last) kept c s.0 s.1
+seated_framed role seat (Refuses told) scopes holds marks now kept c s =
+    leave_seated role seat now scopes holds (finish.Answer (refusal told)) kept c s
+seated_framed role seat (Asks deed next) scopes holds marks now kept c s = (
   (λ q. (s.1, record { scopes = scopes; covers = c; unwinds = s.0; bare = tt }, (λ is. absurd (cc)))),
   (λ step i t a.
       let told = step.reply in
@@ -433,15 +433,15 @@ seated_framed asker seat (Asks deed next) scopes holds marks now kept c s = (
       let later = seat_by now (Some deed) told in
       let under = covers_held deed told scopes holds c in
       let on = s.2 told (told_of deed step.deed told i t) (step_answer now deed step.deed told i a) in
-      subst (λ (z : HostSeat). Seated asker seat (follows seat (may_give_up told (next told)) (closings_in deed told)
+      subst (λ (z : HostSeat). Seated role seat (follows seat (may_give_up told (next told)) (closings_in deed told)
       after (framed seat (next told) after marks)) None z) (sym (step_seat now deed step.deed told i))
-      (follows_seated asker seat later (may_give_up told (next told)) (closings_in deed told) scopes after
-      (framed seat (next told) after marks) kept under (seats_unwind asker seat (next told) scopes later on.1) on.0
-      (seated_framed asker seat (next told) scopes after marks later kept under on.1))),
+      (follows_seated role seat later (may_give_up told (next told)) (closings_in deed told) scopes after
+      (framed seat (next told) after marks) kept under (seats_unwind role seat (next told) scopes later on.1) on.0
+      (seated_framed role seat (next told) scopes after marks later kept under on.1))),
 )
-seated_framed asker seat (Opens asked scope next) scopes holds marks now kept c s = (
+seated_framed role seat (Opens asked scope next) scopes holds marks now kept c s = (
   (λ q. (
-    own_made asker seat now asked s.1,
+    own_made role seat now asked s.1,
     record { scopes = scopes; covers = c; unwinds = s.0; bare = tt },
     (λ is. absurd (cc)),
   )),
@@ -452,18 +452,18 @@ seated_framed asker seat (Opens asked scope next) scopes holds marks now kept c 
       let later = seat_by now (Some (Calls asked)) told in
       let on = s.2 told (told_of (Calls asked) step.deed told i t) (step_answer now (Calls asked) step.deed told i a)
       in
-      let unwinds = seats_unwind asker seat (next told) worn later on in
+      let unwinds = seats_unwind role seat (next told) worn later on in
       let under = opened_covers scope told scopes holds later c unwinds in
-      subst (λ (z : HostSeat). Seated asker seat (follows seat (may_give_up told (next told)) 0 after
+      subst (λ (z : HostSeat). Seated role seat (follows seat (may_give_up told (next told)) 0 after
       (framed seat (next told) after marks)) None z) (sym (step_seat now (Calls asked) step.deed told i))
-      (follows_seated asker seat later (may_give_up told (next told)) 0 worn after
+      (follows_seated role seat later (may_give_up told (next told)) 0 worn after
       (framed seat (next told) after marks) kept under unwinds (inr refl)
-      (seated_framed asker seat (next told) worn after marks later kept under on))),
+      (seated_framed role seat (next told) worn after marks later kept under on))),
 )
   where
-    own_made : (asker : Option Identity) (seat now : HostSeat) (asked : Call) → is_seats_sort (sort_of asked) ≡ true →
-        IsMadeAs asker seat now (Some (Calls asked))
-    own_made asker seat now asked e = rw e tt
+    own_made : (role : Role) (seat now : HostSeat) (asked : Call) → is_seats_sort (sort_of asked) ≡ true →
+        IsMadeAs role seat now (Some (Calls asked))
+    own_made role seat now asked e = rw e tt
 
     -- what unwinds is a scope
     opened_covers : (scope : Hold) (told : ActReply) (scopes holds : List Hold) (later : HostSeat) →
@@ -475,54 +475,54 @@ seated_framed asker seat (Opens asked scope next) scopes holds marks now kept c 
     opened_covers scope (Host host.NoMemory) scopes holds later c u = c
     opened_covers scope (Event got) scopes holds later c u = c
     opened_covers scope NoCopy scopes holds later c u = c
-seated_framed asker seat (Bares rest) scopes holds marks now kept c s =
-    bare_seated asker seat now scopes holds (λ left. framed seat rest left marks) kept c s.0 (λ left clear.
-    seated_framed asker seat rest [] left marks seat kept clear s.1)
-seated_framed asker seat (Brackets rest) scopes holds marks now kept c s =
-    seated_framed asker seat rest scopes holds (length holds ∷ marks) now kept c s
-seated_framed asker seat (Shuts passes rest) scopes holds marks now kept c s =
+seated_framed role seat (Bares rest) scopes holds marks now kept c s =
+    bare_seated role seat now scopes holds (λ left. framed seat rest left marks) kept c s.0 (λ left clear.
+    seated_framed role seat rest [] left marks seat kept clear s.1)
+seated_framed role seat (Brackets rest) scopes holds marks now kept c s =
+    seated_framed role seat rest scopes holds (length holds ∷ marks) now kept c s
+seated_framed role seat (Shuts passes rest) scopes holds marks now kept c s =
     let clear : Clear holds = subst (λ (z : List Hold). Covers z holds) s.0 c in
     let parts = parted passes holds clear in
-    subst (λ (z : HostSeat). Seated asker seat (framed seat (Shuts passes rest) holds marks) None z) (sym s.1)
-    (shut_seated asker seat (front passes holds) (mark_in marks) (behind passes holds) (λ left.
+    subst (λ (z : HostSeat). Seated role seat (framed seat (Shuts passes rest) holds marks) None z) (sym s.1)
+    (shut_seated role seat (front passes holds) (mark_in marks) (behind passes holds) (λ left.
     framed seat rest left (outer marks)) parts.0 parts.1 (λ left clear.
-    seated_framed asker seat rest [] left (outer marks) seat kept clear s.2))
-seated_framed asker seat (Allocates rest) scopes holds marks now kept c s =
-    seated_framed asker seat rest scopes holds marks now kept c s
+    seated_framed role seat rest [] left (outer marks) seat kept clear s.2))
+seated_framed role seat (Allocates rest) scopes holds marks now kept c s =
+    seated_framed role seat rest scopes holds marks now kept c s
 
 -- a job may be cut wherever it stands
-cut_none : (asker : Option Identity) (seat now : HostSeat) (brings : Taken) (count : ℕ) (scopes holds : List Hold)
+cut_none : (role : Role) (seat now : HostSeat) (brings : Taken) (count : ℕ) (scopes holds : List Hold)
     (rest : Grammar) → Covers scopes holds → Unwinds seat scopes now → OwesBare brings count scopes →
-    Seated asker seat rest None now → Seated asker seat (close_first brings count holds rest) None now
-cut_none asker seat now taken.Nothing zero scopes holds rest c u b k = k
-cut_none asker seat now taken.Nothing (suc count) scopes holds rest c u b k =
-    closed_over asker seat now (suc count) scopes holds rest c u (inl b) k
-cut_none asker seat now taken.Slot count scopes holds rest c u b k =
-    cut_bare asker seat now taken.Slot count scopes holds rest c u b k
+    Seated role seat rest None now → Seated role seat (close_first brings count holds rest) None now
+cut_none role seat now taken.Nothing zero scopes holds rest c u b k = k
+cut_none role seat now taken.Nothing (suc count) scopes holds rest c u b k =
+    closed_over role seat now (suc count) scopes holds rest c u (inl b) k
+cut_none role seat now taken.Slot count scopes holds rest c u b k =
+    cut_bare role seat now taken.Slot count scopes holds rest c u b k
   where
-    cut_bare : (asker : Option Identity) (seat now : HostSeat) (brings : Taken) (count : ℕ) (scopes holds : List Hold)
+    cut_bare : (role : Role) (seat now : HostSeat) (brings : Taken) (count : ℕ) (scopes holds : List Hold)
         (rest : Grammar) → Covers scopes holds → Unwinds seat scopes now → scopes ≡ [] →
-        Seated asker seat rest None now → Seated asker seat (close_first brings count holds rest) None now
-    cut_bare asker seat now brings count scopes holds rest c u none k =
+        Seated role seat rest None now → Seated role seat (close_first brings count holds rest) None now
+    cut_bare role seat now brings count scopes holds rest c u none k =
         let clear : Clear holds = subst (λ (z : List Hold). Covers z holds) none c in
         let same : now ≡ seat = subst (λ (z : List Hold). Unwinds seat z now) none u in
-        subst (λ (z : HostSeat). Seated asker seat (close_first brings count holds rest) None z) (sym same)
-        (taken_seated asker seat brings count holds (closings count holds rest) clear
-        (closings_seated asker seat count holds rest clear
-        (subst (λ (z : HostSeat). Seated asker seat rest None z) same k)))
-cut_none asker seat now (taken.Fd fd slot) count scopes holds rest c u none k =
+        subst (λ (z : HostSeat). Seated role seat (close_first brings count holds rest) None z) (sym same)
+        (taken_seated role seat brings count holds (closings count holds rest) clear
+        (closings_seated role seat count holds rest clear
+        (subst (λ (z : HostSeat). Seated role seat rest None z) same k)))
+cut_none role seat now (taken.Fd fd slot) count scopes holds rest c u none k =
     let clear : Clear holds = subst (λ (z : List Hold). Covers z holds) none c in
     let same : now ≡ seat = subst (λ (z : List Hold). Unwinds seat z now) none u in
-    subst (λ (z : HostSeat). Seated asker seat (close_first (taken.Fd fd slot) count holds rest) None z) (sym same)
-    (taken_seated asker seat (taken.Fd fd slot) count holds (closings count holds rest) clear
-    (closings_seated asker seat count holds rest clear
-    (subst (λ (z : HostSeat). Seated asker seat rest None z) same k)))
+    subst (λ (z : HostSeat). Seated role seat (close_first (taken.Fd fd slot) count holds rest) None z) (sym same)
+    (taken_seated role seat (taken.Fd fd slot) count holds (closings count holds rest) clear
+    (closings_seated role seat count holds rest clear
+    (subst (λ (z : HostSeat). Seated role seat rest None z) same k)))
 
-pub seated_cut : (asker : Option Identity) (seat : HostSeat) (owed : Owed) (lost : Option Errno) (now : HostSeat) →
-    KeepsGroups seat → (lost ≡ None → Returns seat owed now) → Seated asker seat (cut seat owed) lost now
-seated_cut asker seat owed (Some errno) now kept r = lost_any asker seat (cut seat owed) errno now
-seated_cut asker seat owed None now kept r =
+pub seated_cut : (role : Role) (seat : HostSeat) (owed : Owed) (lost : Option Errno) (now : HostSeat) →
+    KeepsGroups seat → (lost ≡ None → Returns seat owed now) → Seated role seat (cut seat owed) lost now
+seated_cut role seat owed (Some errno) now kept r = lost_any role seat (cut seat owed) errno now
+seated_cut role seat owed None now kept r =
     let here = r refl in
-    cut_none asker seat now owed.taken owed.closings here.scopes owed.holds
+    cut_none role seat now owed.taken owed.closings here.scopes owed.holds
     (leave seat owed.holds (finish.Answer answer.Cut)) here.covers here.unwinds here.bare
-    (leave_seated asker seat now here.scopes owed.holds (finish.Answer answer.Cut) kept here.covers here.unwinds)
+    (leave_seated role seat now here.scopes owed.holds (finish.Answer answer.Cut) kept here.covers here.unwinds)

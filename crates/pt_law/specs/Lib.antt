@@ -4,6 +4,7 @@ pub mod World
 pub mod Ledger
 pub mod Settled
 pub mod Laws
+pub mod Agreed
 pub mod Naming
 pub mod Origins
 pub mod Giving

@@ -16,7 +16,7 @@ use Rattle.pt_frame.specs.declared.act.ActReply.{ActReply}
 use Rattle.pt_frame.specs.declared.act.ActReply.TheVariants.{Host}
 use Rattle.pt_frame.specs.declared.hold.Hold.{Hold}
 use Rattle.pt_law.specs.Told.{MayBeTold}
-use Rattle.pt_law.specs.Under.{Identity, IsMadeAs, SeatAnswers}
+use Rattle.pt_law.specs.Under.{Role, IsMadeAs, SeatAnswers}
 
 -- the seat after this scope was ended
 abbrev pub put_back : HostSeat → Hold → HostSeat → HostSeat
@@ -38,19 +38,19 @@ Unwinds seat (scope ∷ scopes) now =
     (is_scope scope ≡ true) × IsOwed now (giving seat scope) × Unwinds seat scopes (put_back seat scope now)
 
 -- On each path through the tree, under these open scopes and this seat.
-abbrev pub Seats : Option Identity → HostSeat → RequestTree → List Hold → HostSeat → Type 0
-Seats asker seat (Gives last) scopes now = Unwinds seat scopes now × (passes_with last ≡ true → scopes ≡ [])
-Seats asker seat (Refuses told) scopes now = Unwinds seat scopes now
-Seats asker seat (Asks deed next) scopes now =
-    Unwinds seat scopes now × IsMadeAs asker seat now (Some deed)
+abbrev pub Seats : Role → HostSeat → RequestTree → List Hold → HostSeat → Type 0
+Seats role seat (Gives last) scopes now = Unwinds seat scopes now × (passes_with last ≡ true → scopes ≡ [])
+Seats role seat (Refuses told) scopes now = Unwinds seat scopes now
+Seats role seat (Asks deed next) scopes now =
+    Unwinds seat scopes now × IsMadeAs role seat now (Some deed)
     × ((told : ActReply) → MayBeTold deed told → SeatAnswers now (Some deed) told →
     ((scopes ≡ []) ⊎ (closings_in deed told ≡ 0))
-    × Seats asker seat (next told) scopes (seat_by now (Some deed) told))
-Seats asker seat (Opens asked scope next) scopes now =
+    × Seats role seat (next told) scopes (seat_by now (Some deed) told))
+Seats role seat (Opens asked scope next) scopes now =
     Unwinds seat scopes now × (is_seats_sort (sort_of asked) ≡ true)
     × ((told : ActReply) → MayBeTold (Calls asked) told → SeatAnswers now (Some (Calls asked)) told →
-    Seats asker seat (next told) (opened scope told scopes) (seat_by now (Some (Calls asked)) told))
-Seats asker seat (Bares rest) scopes now = Unwinds seat scopes now × Seats asker seat rest [] seat
-Seats asker seat (Brackets rest) scopes now = Seats asker seat rest scopes now
-Seats asker seat (Shuts passes rest) scopes now = (scopes ≡ []) × (now ≡ seat) × Seats asker seat rest [] seat
-Seats asker seat (Allocates rest) scopes now = Seats asker seat rest scopes now
+    Seats role seat (next told) (opened scope told scopes) (seat_by now (Some (Calls asked)) told))
+Seats role seat (Bares rest) scopes now = Unwinds seat scopes now × Seats role seat rest [] seat
+Seats role seat (Brackets rest) scopes now = Seats role seat rest scopes now
+Seats role seat (Shuts passes rest) scopes now = (scopes ≡ []) × (now ≡ seat) × Seats role seat rest [] seat
+Seats role seat (Allocates rest) scopes now = Seats role seat rest scopes now

@@ -1,13 +1,14 @@
 //! Whatever jobs run, in whatever order their steps come: what holds after every step, and at the end.
 //! The parts that speak of no object hold over any host; those that do, over one that tells its tree.
 
-ghost use Rattle.std.specs.Prelude.{◌⊎◌, ◌≡◌, ◌≢◌, ◌<◌, ◌≤◌, ℕ, List, ◌++◌, ◌∷◌, true, Some};
+ghost use Rattle.std.specs.Prelude.{◌⊎◌, ◌≡◌, ◌≢◌, ◌<◌, ◌≤◌, ℕ, List, ◌++◌, ◌∷◌, true, Option, Some};
 ghost use Rattle.pt_host.specs.Words.{Each};
 ghost use Rattle.pt_host.specs.Tree.{IsOpenOn};
 ghost use Rattle.pt_host.specs.declared.flags.OpenFlags.{OpenFlags};
 ghost use Rattle.pt_host.specs.declared.ids.Fd.{Fd};
 ghost use Rattle.pt_host.specs.declared.ids.ObjIds.{ObjIds};
 ghost use Rattle.pt_session.specs.Tables.{Tables, Agree, empty_tables};
+ghost use Rattle.pt_session.specs.declared.form.Negotiated.{Negotiated};
 ghost use Rattle.pt_session.specs.declared.form.RowForm.{RowForm};
 ghost use Rattle.pt_session.specs.declared.row.Row.{Row};
 ghost use Rattle.pt_session.specs.declared.row.HandleRow.{HandleRow};
@@ -25,6 +26,7 @@ ghost use Rattle.pt_law.specs.Discipline.{AreDisciplined, AreEnded};
 ghost use Rattle.pt_law.specs.Laws.{Serves, IsCounted, IsStanding, HasEnded, SlotsAddUp, AreKept, NamesOpen};
 ghost use Rattle.pt_law.specs.Laws.{IsHonoured, IsOvertaken, TellsOvertaken, TellsGiven, BeginsFirst, IsAtRest};
 ghost use Rattle.pt_law.specs.Laws.{LeavesRows};
+ghost use Rattle.pt_law.specs.Agreed.{agreed_after, Decides};
 ghost use Rattle.pt_law.specs.Giving.{GivesBy, GivingPlaces, GivingPath, IsGiven};
 ghost use Rattle.pt_law.specs.Origins.{WasRoot, WasNamed};
 
@@ -64,6 +66,11 @@ pub fn every_run()
         BeginsFirst (steps_of turn.job (turns ++ turn ∷ more)) → AreDisciplined bound (turns ++ turn ∷ more) →
         TablesRun (empty_tables limit) turns now → TablesGo now turn.step.deed turn.step.reply next →
         IsOvertaken turn.job turns → TellsGiven turn.step.deed turn.step.reply → ⊥ }
+    ensures agreed { (limit bound : ℕ) (decided : ℕ → Option Negotiated) (turns more : List Turn) (now : Tables) →
+        ((job : ℕ) → job < bound → BeginsFirst (steps_of job (turns ++ more))) →
+        ((job : ℕ) → job < bound → Decides (decided job) (steps_of job (turns ++ more))) →
+        AreDisciplined bound (turns ++ more) → TablesRun (empty_tables limit) turns now →
+        now.negotiated ≡ agreed_after decided turns }
     ensures disciplined { (bound : ℕ) (turns : List Turn) → AreEnded bound turns → AreDisciplined bound turns }
     ensures rest { (limit bound : ℕ) (turns : List Turn) (now : Tables) →
         AreEnded bound turns → TablesRun (empty_tables limit) turns now → IsAtRest limit bound turns now }

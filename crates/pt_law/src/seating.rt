@@ -14,7 +14,7 @@ ghost use Rattle.pt_frame.specs.Tree.{RequestTree, grammar_of_tree};
 ghost use Rattle.pt_frame.specs.declared.act.ActReply.{ActReply};
 ghost use Rattle.pt_frame.specs.declared.finish.Finish.{Finish};
 ghost use Rattle.pt_law.specs.Told.{AllMayBeTold};
-ghost use Rattle.pt_law.specs.Under.{Identity, IsSeated, SeatAnswers, AllSeatsAnswer};
+ghost use Rattle.pt_law.specs.Under.{Role, IsSeated, SeatAnswers, AllSeatsAnswer};
 ghost use Rattle.pt_law.specs.Wearing.{Seats};
 
 use pt_host::Host;
@@ -38,15 +38,15 @@ pub fn steps_seated<H: Host>()
 {}
 
 /// Where a tree makes its calls under the right seats, the steps of its job are made so, whole or cut: an object as
-/// whoever asks, and all else as the job began; and the job ends with the seat that it began with. That holds until a
-/// step that restores the seat is refused.
+/// whoever asks, and all else as the job began, less the capabilities that a call lacks; and the job ends with the
+/// seat that it began with. That holds until a step that restores the seat fails.
 pub fn seats_in_runs()
-    ensures whole { (asker : Option Identity) (seat : HostSeat) (tree : RequestTree) (steps : List Step)
-        (end : Finish) → KeepsGroups seat → Tends seat tree [] → Seats asker seat tree [] seat →
+    ensures whole { (role : Role) (seat : HostSeat) (tree : RequestTree) (steps : List Step)
+        (end : Finish) → KeepsGroups seat → Tends seat tree [] → Seats role seat tree [] seat →
         AllMayBeTold steps → AllSeatsAnswer seat steps → Belongs (grammar_of_tree seat tree) steps end →
-        IsSeated asker seat steps }
-    ensures cut { (asker : Option Identity) (seat : HostSeat) (tree : RequestTree) (so_far steps : List Step)
-        (end : Finish) → KeepsGroups seat → Tends seat tree [] → Seats asker seat tree [] seat →
+        IsSeated role seat steps }
+    ensures cut { (role : Role) (seat : HostSeat) (tree : RequestTree) (so_far steps : List Step)
+        (end : Finish) → KeepsGroups seat → Tends seat tree [] → Seats role seat tree [] seat →
         AllMayBeTold (so_far ++ steps) → AllSeatsAnswer seat (so_far ++ steps) → (past_of so_far).lost ≡ None →
-        CutAfter seat (grammar_of_tree seat tree) so_far steps end → IsSeated asker seat (so_far ++ steps) }
+        CutAfter seat (grammar_of_tree seat tree) so_far steps end → IsSeated role seat (so_far ++ steps) }
 {}

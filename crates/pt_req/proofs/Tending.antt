@@ -15,7 +15,7 @@ use Rattle.pt_creds.specs.Steps.{id_to_set, group_calls, raise_calls}
 use Rattle.pt_iface.specs.declared.answer.Answer.TheVariants as answer
 use Rattle.pt_iface.specs.declared.request.Context.{Context}
 use Rattle.pt_iface.specs.declared.request.Request.{Request}
-use Rattle.pt_frame.specs.Deed.{Deed, Calls, Changes, lacks_memory}
+use Rattle.pt_frame.specs.Deed.{Deed, Calls, Changes, lacks_memory, LacksMemory}
 use Rattle.pt_frame.specs.Past.{is_open, worn_called, worn_after}
 use Rattle.pt_frame.specs.Replies.{closings_in, passes_with}
 use Rattle.pt_frame.specs.Sparing.{IsSparing}
@@ -23,35 +23,40 @@ use Rattle.pt_frame.specs.Tended.{is_seats_sort, is_of_seat, Tends, IsAskedOf, I
 use Rattle.pt_frame.specs.Tended.{IsOpening}
 use Rattle.pt_frame.specs.Tree.{RequestTree, Gives, Refuses, Asks, Opens, Bares, Brackets, Shuts, Allocates}
 use Rattle.pt_frame.specs.declared.act.ActReply.{ActReply}
-use Rattle.pt_frame.specs.declared.act.ActReply.TheVariants.{Host}
+use Rattle.pt_frame.specs.declared.act.ActReply.TheVariants.{Host, NoCopy}
 use Rattle.pt_frame.specs.declared.hold.Hold.{Hold}
 use Rattle.pt_frame.specs.declared.hold.Hold.TheVariants as hold
 use Rattle.pt_frame.specs.declared.hold.Taken.TheVariants.{Nothing}
 use Rattle.pt_frame.proofs.Wearing.{wears_same}
 use Rattle.pt_req.specs.Asker.{taken_on}
+use Rattle.pt_req.specs.Capability.{fsetid}
 use Rattle.pt_req.specs.Requests.{tree_of}
 use Rattle.pt_req.specs.Steps.{open_scope}
 use Rattle.pt_req.specs.declared.plan.Plan.{Plan}
 use Rattle.pt_req.proofs.Replying.{if_set}
-use Rattle.pt_req.proofs.Walking.{Walk, is_making, of_any, each_request}
+use Rattle.pt_req.proofs.Walking.{InScope, Walk, is_making, of_any, of_any_scopes, each_request}
 
 closes_bare : (count : ℕ) → ClosesBare Nothing count []
 closes_bare zero = tt
 closes_bare (suc count) = refl
 
+closes_none : (count : ℕ) (worn : List Call) → count ≡ 0 → ClosesBare Nothing count worn
+closes_none zero worn e = tt
+closes_none (suc count) worn e = absurd (cc)
+
 passes_bare : (passes : Bool) → PassesBare passes []
 passes_bare true = refl
 passes_bare false = tt
 
-asked_of : (sort : Sort) (asked : Call) → is_seats_sort sort ≡ false → IsAskedOf sort asked []
-asked_of (OpensWith flags) asked e = tt
-asked_of (EndsFd fd) asked e = tt
-asked_of OfSeat asked e = absurd (cc)
-asked_of Plain asked e = tt
+asked_of : (sort : Sort) (asked : Call) (worn : List Call) → is_seats_sort sort ≡ false → IsAskedOf sort asked worn
+asked_of (OpensWith flags) asked worn e = tt
+asked_of (EndsFd fd) asked worn e = tt
+asked_of OfSeat asked worn e = absurd (cc)
+asked_of Plain asked worn e = tt
 
-is_asked : (deed : Deed) → is_of_seat deed ≡ false → IsAsked deed []
-is_asked (Calls asked) e = asked_of (sort_of asked) asked e
-is_asked (Changes asked) e = tt
+is_asked : (deed : Deed) (worn : List Call) → is_of_seat deed ≡ false → IsAsked deed worn
+is_asked (Calls asked) worn e = asked_of (sort_of asked) asked worn e
+is_asked (Changes asked) worn e = tt
 
 -- a call that is Ok opens its scope
 worn_ok : (ends : Bool) (sort : Sort) (asked : Call) (told : HostValue) (worn : List Call) → ends ≡ false →
@@ -110,7 +115,7 @@ module _ (seat : HostSeat) (rest : RequestTree) (any : (worn : List Call) → Te
 plainly : (seat : HostSeat) (deed : Deed) (next : ActReply → RequestTree) → is_of_seat deed ≡ false →
     ((told : ActReply) → Tends seat (next told) []) → Tends seat (Asks deed next) []
 plainly seat deed next own so = (
-  is_asked deed own,
+  is_asked deed [] own,
   λ told.
       subst (λ (worn : List Call). ClosesBare Nothing (closings_in deed told) worn × Tends seat (next told) worn)
       (sym (wears_same deed told [] own)) (closes_bare (closings_in deed told), so told),
@@ -126,28 +131,55 @@ making_tends seat (call.MakeNode dir name mode rdev) next is so worn = (tt, λ t
 making_tends seat (call.SymLink dir name target) next is so worn = (tt, λ told. (tt, so told))
 making_tends seat asked next is so worn = absurd (cc)
 
+-- under the scope of the capability nothing else of the seat is changed, until it ends
+tends_in : (seat : HostSeat) (worn : List Call) (told : ActReply) (tree : RequestTree) →
+    InScope (λ dropped asked. Unit {0}) true (λ rest. Tends seat rest []) told tree → Tends seat tree worn
+tends_in seat worn told (Gives last) so = (so.0.0, passes_so (passes_with last) so.1)
+  where
+    passes_so : (passes : Bool) → passes ≡ false → PassesBare passes worn
+    passes_so true e = absurd (cc)
+    passes_so false e = tt
+tends_in seat worn told (Refuses same) so = tt
+tends_in seat worn told (Asks deed next) so = (
+  is_asked deed worn so.0,
+  λ later. subst
+      (λ (kept : List Call). ClosesBare Nothing (closings_in deed later) kept × Tends seat (next later) kept)
+      (sym (wears_same deed later worn so.0))
+      (closes_none (closings_in deed later) worn (so.3 later), tends_in seat worn later (next later) (so.4 later)),
+)
+tends_in seat worn told (Bares rest) so = so
+tends_in seat worn told (Opens asked scope next) so = absurd so
+tends_in seat worn told (Brackets rest) so = absurd so
+tends_in seat worn told (Shuts passes rest) so = absurd so
+tends_in seat worn told (Allocates rest) so = absurd so
+
 -- no scope is open
-pub bare : (seat : HostSeat) → Walk (λ creds own. Unit {0}) (λ tree. Tends seat tree [])
+pub bare : (seat : HostSeat) → Walk seat (λ creds. Unit {0}) (λ dropped asked. Unit {0}) (λ tree. Tends seat tree [])
     (λ told tree. Tends seat tree [])
 bare seat = record {
   gives = λ last is. (is.0, passes_bare (passes_with last));
   refuses = λ told. tt;
   had = λ told tree so. so;
-  asks = λ deed next own none so. plainly seat deed next own so;
-  ran_out = λ told deed lacks own none.
+  asks = λ deed next own none may so. plainly seat deed next own so;
+  ran_out = λ told deed lacks own none may.
       plainly seat deed (λ later. Gives answer.NoMemory) own (λ later. (refl, tt));
   brackets = λ rest so. so;
   shuts = λ passes rest so. (refl, so);
   shuts_after = λ told passes rest so. (refl, so);
-  makes_as = λ creds own making next is may so.
+  makes_as = λ creds making next is may so.
       on_steps seat (Asks (Calls making) (λ told. Bares (next told)))
-      (making_tends seat making next is so) creds.sup_gid (id_to_set creds.gid own.eff_gid)
-      (id_to_set creds.uid own.eff_uid) creds.keep_capability;
+      (making_tends seat making next is so) creds.sup_gid (id_to_set creds.gid seat.eff_gid)
+      (id_to_set creds.uid seat.eff_uid) creds.keep_capability;
+  bares = λ rest so. so;
+  drops = λ rest has so. scopes seat (call.DropCap fsetid) (hold.Dropped fsetid) rest []
+      (record { own = refl; scoped = refl; shut = refl; back = refl })
+      (tends_in seat (call.DropCap fsetid ∷ []) NoCopy rest (so NoCopy));
 }
 
 pub requests_tend : (plan : Plan) (seat : HostSeat) (who : Context) (asked : Request) →
     Tends seat (tree_of plan seat who asked) []
-requests_tend plan seat who asked = each_request (bare seat) plan seat who asked (of_any plan seat who asked)
+requests_tend plan seat who asked = each_request (bare seat) plan who asked (of_any plan who asked)
+    (of_any_scopes plan seat asked)
 
 lacks_so : (lacks : Bool) → lacks ≡ true → (lacks || false) ≡ true
 lacks_so true e = refl
@@ -208,24 +240,44 @@ out_before true lacks e = refl
 out_before false true e = refl
 out_before false false e = absurd (cc)
 
+-- under a scope
+spares_in : (told : ActReply) (tree : RequestTree) → InScope (λ dropped asked. Unit {0}) true (λ rest. IsSparing false rest) told tree →
+    IsSparing (lacks_memory told || false) tree
+spares_in told (Gives last) so = λ out. absurd (so.0.1 out)
+spares_in told (Refuses same) so = λ lacks.
+    lacks_so (lacks_memory told) (subst (λ (it : ActReply). LacksMemory it) so lacks)
+spares_in told (Asks deed next) so = λ later.
+    spares_more (lacks_memory later || false) (lacks_memory later || (lacks_memory told || false))
+    (more_or (lacks_memory later) false (lacks_memory told || false) (λ e. absurd (cc))) (next later)
+    (spares_in later (next later) (so.4 later))
+spares_in told (Bares rest) so = spares_more false (lacks_memory told || false) (λ e. absurd (cc)) rest so
+spares_in told (Opens asked scope next) so = absurd so
+spares_in told (Brackets rest) so = absurd so
+spares_in told (Shuts passes rest) so = absurd so
+spares_in told (Allocates rest) so = absurd so
+
 -- no memory ran out so far
-pub in_full : Walk (λ creds own. Unit {0}) (λ tree. IsSparing false tree)
+pub in_full : (seat : HostSeat) → Walk seat (λ creds. Unit {0}) (λ dropped asked. Unit {0}) (λ tree. IsSparing false tree)
     (λ told tree. IsSparing (lacks_memory told || false) tree)
-in_full = record {
+in_full seat = record {
   gives = λ last is. λ out. absurd (is.1 out);
   refuses = λ told. λ lacks. lacks_so (lacks_memory told) lacks;
   had = λ told tree so. spares_more false (lacks_memory told || false) (λ e. absurd (cc)) tree so;
-  asks = λ deed next own none so. so;
-  ran_out = λ told deed lacks own none. λ later. λ out. out_before (lacks_memory later) (lacks_memory told) lacks;
+  asks = λ deed next own none may so. so;
+  ran_out = λ told deed lacks own none may. λ later. λ out. out_before (lacks_memory later) (lacks_memory told) lacks;
   brackets = λ rest so. so;
   shuts = λ passes rest so. so;
   shuts_after = λ told passes rest so. so;
-  makes_as = λ creds own making next is may so.
+  makes_as = λ creds making next is may so.
       spares_steps (Asks (Calls making) (λ told. Bares (next told))) so creds.sup_gid
-      (id_to_set creds.gid own.eff_gid) (id_to_set creds.uid own.eff_uid)
-      (creds.keep_capability && is_some (id_to_set creds.uid own.eff_uid));
+      (id_to_set creds.gid seat.eff_gid) (id_to_set creds.uid seat.eff_uid)
+      (creds.keep_capability && is_some (id_to_set creds.uid seat.eff_uid));
+  bares = λ rest so. so;
+  drops = λ rest has so. if_set (λ told tree. IsSparing (lacks_memory told || false) tree) rest
+      (λ told. λ lacks. lacks_so (lacks_memory told) lacks) (λ told. spares_in (Host (host.Ok told)) rest (so _));
 }
 
 pub requests_spare : (plan : Plan) (seat : HostSeat) (who : Context) (asked : Request) →
     IsSparing false (tree_of plan seat who asked)
-requests_spare plan seat who asked = each_request in_full plan seat who asked (of_any plan seat who asked)
+requests_spare plan seat who asked = each_request (in_full seat) plan who asked (of_any plan who asked)
+    (of_any_scopes plan seat asked)

@@ -1,6 +1,6 @@
 -- What holds of plain answers and refusals, and passes through each step that is no call on the seat and through a
 -- making as whoever asks, holds of every request: none takes memory of its own.
-use Rattle.std.proofs.Common.{◌≡◌, ℕ, Bool, true, false, List, [], ◌∷◌, Option, Some, None, refl}
+use Rattle.std.proofs.Common.{◌≡◌, ℕ, Bool, true, false, ◌&&◌, List, [], ◌∷◌, Option, Some, None, refl, sym, subst}
 use Rattle.std.proofs.Common.{if◌then◌else◌}
 use Rattle.pt_host.specs.Call.{Call}
 use Rattle.pt_host.specs.Errno.{eperm, ebadf, einval, eopnotsupp, estale, errno_of}
@@ -28,24 +28,26 @@ use Rattle.pt_iface.specs.declared.request.Request.{Request}
 use Rattle.pt_iface.specs.declared.request.Request.TheVariants as request
 use Rattle.pt_iface.specs.declared.request.SecContext.{SecContext}
 use Rattle.pt_frame.specs.Deed.{Deed, Calls, Changes, lacks_memory}
-use Rattle.pt_frame.specs.Replies.{is_cut}
+use Rattle.pt_frame.specs.Replies.{is_cut, closings_in, passes_with}
 use Rattle.pt_frame.specs.Sparing.{IsNoMemory}
 use Rattle.pt_frame.specs.Tended.{is_of_seat}
-use Rattle.pt_frame.specs.Tree.{RequestTree, Gives, Refuses, Asks, Bares, Brackets, Shuts}
+use Rattle.pt_frame.specs.Tree.{RequestTree, Gives, Refuses, Asks, Opens, Bares, Brackets, Shuts, Allocates}
 use Rattle.pt_frame.specs.declared.act.ActReply.{ActReply}
-use Rattle.pt_frame.specs.declared.act.ActReply.TheVariants.{Host, NoCopy}
+use Rattle.pt_frame.specs.declared.act.ActReply.TheVariants.{Event, Host, NoCopy}
+use Rattle.pt_frame.specs.declared.hold.Hold.{Hold}
 use Rattle.pt_session.specs.Tables.{nothing_agreed}
 use Rattle.pt_req.specs.Options.{cleaned, inode_flags, with_bits, agreed_with, init_options, open_options}
-use Rattle.pt_req.specs.Options.{making_flags, create_options}
+use Rattle.pt_req.specs.Options.{making_flags, create_options, without_nofollow}
 use Rattle.pt_req.specs.Steps.{session_of, Resolved, on_began, on_cleared, on_resolved, on_fd, on_stat, on_bytes}
 use Rattle.pt_req.specs.Steps.{on_claim, on_taken, on_drawn, on_inserted, on_root, on_handle, on_pinned, on_done}
 use Rattle.pt_req.specs.Steps.{begin, clear, resolve, open_root, open_at, reopen, stat, read_at, claim, take_fd}
 use Rattle.pt_req.specs.Steps.{draw_node, draw_handle, insert, insert_root, insert_handle, pin_handle, forget_all}
 use Rattle.pt_req.specs.Steps.{release_handle, make_at, on_made, on_ok_or}
 use Rattle.pt_req.specs.Attributes.{is_blocked}
+use Rattle.pt_req.specs.Capability.{fsetid, drops_fsetid, without_fsetid}
 use Rattle.pt_req.specs.Entries.{is_bad_name, is_bad_offset, can_open}
 use Rattle.pt_req.specs.Parts.{by_path, file_of, open_form, numbered, looked_of}
-use Rattle.pt_req.specs.Parts.{look_up, open_num, root_open}
+use Rattle.pt_req.specs.Parts.{look_up, handled_num, open_inode, open_num, root_open}
 use Rattle.pt_req.specs.Asker.{taken_on, as_asker, asker_of}
 use Rattle.pt_req.specs.Creating.{are_same, handled, undone, labelled, named_handle, new_file, old_file, takes_old}
 use Rattle.pt_req.specs.Requests.{batch_forget, open_file, release, create, file_asked, unserved}
@@ -71,9 +73,43 @@ is_making (Calls (call.MakeNode dir name mode rdev)) = true
 is_making (Calls (call.SymLink dir name target)) = true
 is_making deed = false
 
--- Such a fact: of trees, and of trees after a reply; and what has to hold of a making.
+-- What has to hold of a call by which set-id bits may go, made without the capability or with it, and of the event
+-- that says what is agreed on. No other call is made without the capability.
+abbrev pub OfDeed : (Bool → Deed → Type 0) → Bool → Deed → Type 0
+OfDeed D dropped (Calls (call.Reopen fd flags)) = D dropped (Calls (call.Reopen fd flags))
+OfDeed D dropped (Calls (call.WriteAt fd offset bytes append)) =
+    D dropped (Calls (call.WriteAt fd offset bytes append))
+OfDeed D dropped (Calls (call.Truncate fd size)) = D dropped (Calls (call.Truncate fd size))
+OfDeed D dropped (Calls asked) = dropped ≡ false
+OfDeed D dropped (Changes (change.InsertRoot era form ids mode said)) =
+    D dropped (Changes (change.InsertRoot era form ids mode said))
+OfDeed D dropped (Changes asked) = Unit {0}
+
+-- Such a fact of a tree under a scope, behind this reply, until the scope ends: what ends the request before is a
+-- refusal.
+abbrev pub InScope : (Bool → Deed → Type 0) → Bool → (RequestTree → Type 0) → ActReply → RequestTree → Type 0
+InScope D dropped Q told (Gives last) = IsPlain last × (passes_with last ≡ false)
+InScope D dropped Q told (Refuses same) = same ≡ told
+InScope D dropped Q told (Asks deed next) =
+    (is_of_seat deed ≡ false) × (is_making deed ≡ false) × OfDeed D dropped deed
+    × ((later : ActReply) → closings_in deed later ≡ 0)
+    × ((later : ActReply) → InScope D dropped Q later (next later))
+InScope D dropped Q told (Bares rest) = Q rest
+InScope D dropped Q told (Opens asked scope next) = ⊥
+InScope D dropped Q told (Brackets rest) = ⊥
+InScope D dropped Q told (Shuts passes rest) = ⊥
+InScope D dropped Q told (Allocates rest) = ⊥
+
+-- whatever is replied before
+abbrev pub Scoped : (Bool → Deed → Type 0) → Bool → (RequestTree → Type 0) → RequestTree → Type 0
+Scoped D dropped Q tree = (told : ActReply) → InScope D dropped Q told tree
+
+-- Such a fact: of trees of jobs that begin with this seat, and of trees after a reply; and what has to hold of a
+-- making, and of each deed of which more is asked.
 pub record Walk
-    (M : Credentials → HostSeat → Type 0)
+    (seat : HostSeat)
+    (M : Credentials → Type 0)
+    (D : Bool → Deed → Type 0)
     (Q : RequestTree → Type 0)
     (R : ActReply → RequestTree → Type 0)
     : Type 0 where
@@ -81,126 +117,200 @@ pub record Walk
   pub refuses : (told : ActReply) → R told (Refuses told)
   pub had : (told : ActReply) (tree : RequestTree) → Q tree → R told tree
   pub asks : (deed : Deed) (next : ActReply → RequestTree) → is_of_seat deed ≡ false → is_making deed ≡ false →
-      ((told : ActReply) → R told (next told)) → Q (Asks deed next)
+      OfDeed D false deed → ((told : ActReply) → R told (next told)) → Q (Asks deed next)
   -- memory ran out, and that is answered behind one more deed
   pub ran_out : (told : ActReply) (deed : Deed) → lacks_memory told ≡ true → is_of_seat deed ≡ false →
-      is_making deed ≡ false → R told (Asks deed (λ later. Gives answer.NoMemory))
+      is_making deed ≡ false → OfDeed D false deed → R told (Asks deed (λ later. Gives answer.NoMemory))
   pub brackets : (rest : RequestTree) → Q rest → Q (Brackets rest)
   pub shuts : (passes : Bool) (rest : RequestTree) → Q rest → Q (Shuts passes rest)
   -- a bracket ends behind a reply
   pub shuts_after : (told : ActReply) (passes : Bool) (rest : RequestTree) → R told rest → R told (Shuts passes rest)
-  pub makes_as : (creds : Credentials) (seat : HostSeat) (making : Call) (next : ActReply → RequestTree) →
-      is_making (Calls making) ≡ true → M creds seat → ((told : ActReply) → R told (next told)) →
+  pub makes_as : (creds : Credentials) (making : Call) (next : ActReply → RequestTree) →
+      is_making (Calls making) ≡ true → M creds → ((told : ActReply) → R told (next told)) →
       Q (taken_on (calls_of (cred_steps creds seat)) (Asks (Calls making) (λ told. Bares (next told))))
+  -- no scope is open
+  pub bares : (rest : RequestTree) → Q rest → Q (Bares rest)
+  -- the capability is dropped, which is effective
+  pub drops : (rest : RequestTree) → includes seat.eff_caps.0 fsetid.0 ≡ true → Scoped D true Q rest →
+      Q (without_fsetid true rest)
 
 -- it holds of whoever asks, who tells this group
-abbrev pub OfAsker : (Credentials → HostSeat → Type 0) → Plan → HostSeat → Context → Option ℕ → Type 0
-OfAsker M plan seat who group =
-    (session : BegunSession) (creds : Credentials) → asker_of plan session who group ≡ Some creds → M creds seat
+abbrev pub OfAsker : (Credentials → Type 0) → Plan → Context → Option ℕ → Type 0
+OfAsker M plan who group =
+    (session : BegunSession) (creds : Credentials) → asker_of plan session who group ≡ Some creds → M creds
 
 -- and so of each making of a request
-abbrev pub OfMakings : (Credentials → HostSeat → Type 0) → Plan → HostSeat → Context → Request → Type 0
-OfMakings M plan seat who (request.Create parent name mode kill flags umask ext) =
-    OfAsker M plan seat who ext.sup_gid
-OfMakings M plan seat who asked = Unit {0}
+abbrev pub OfMakings : (Credentials → Type 0) → Plan → Context → Request → Type 0
+OfMakings M plan who (request.Create parent name mode kill flags umask ext) = OfAsker M plan who ext.sup_gid
+OfMakings M plan who asked = Unit {0}
 
-pub of_any : (plan : Plan) (seat : HostSeat) (who : Context) (asked : Request) →
-    OfMakings (λ creds seat. Unit {0}) plan seat who asked
-of_any plan seat who (request.Create parent name mode kill flags umask ext) = λ session creds e. tt
-of_any plan seat who asked = tt
+pub of_any : (plan : Plan) (who : Context) (asked : Request) → OfMakings (λ creds. Unit {0}) plan who asked
+of_any plan who (request.Create parent name mode kill flags umask ext) = λ session creds e. tt
+of_any plan who asked = tt
+
+-- what has to hold of each opening of a request
+abbrev pub OfOpening : (Bool → Deed → Type 0) → Bool → Type 0
+OfOpening D dropped = (fd : Fd) (how : OpenFlags) → D dropped (Calls (call.Reopen fd how))
+
+-- and of what it says to be agreed on, with the root
+abbrev pub OfRoot : (Bool → Deed → Type 0) → Option Negotiated → Type 0
+OfRoot D said =
+    (era : ℕ) (form : RowForm) (ids : ObjIds) (mode : ℕ) → D false (Changes (change.InsertRoot era form ids mode said))
+
+-- of each of these
+abbrev pub OfScopes : (Bool → Deed → Type 0) → Plan → HostSeat → Request → Type 0
+OfScopes D plan seat (request.Init capable) = OfRoot D (Some (agreed_with plan.config capable))
+OfScopes D plan seat request.Root = OfRoot D None
+OfScopes D plan seat (request.Open inode kill flags) = OfOpening D (drops_fsetid plan seat kill)
+OfScopes D plan seat (request.OpenDir inode flags) = OfOpening D (drops_fsetid plan seat false)
+OfScopes D plan seat (request.Create parent name mode kill flags umask ext) =
+    OfOpening D (drops_fsetid plan seat kill)
+OfScopes D plan seat asked = Unit {0}
+
+pub of_any_scopes : (plan : Plan) (seat : HostSeat) (asked : Request) →
+    OfScopes (λ dropped asked. Unit {0}) plan seat asked
+of_any_scopes plan seat (request.Init capable) = λ era form ids mode. tt
+of_any_scopes plan seat request.Root = λ era form ids mode. tt
+of_any_scopes plan seat (request.Open inode kill flags) = λ fd how. tt
+of_any_scopes plan seat (request.OpenDir inode flags) = λ fd how. tt
+of_any_scopes plan seat (request.Create parent name mode kill flags umask ext) = λ fd how. tt
+of_any_scopes plan seat asked = tt
+
+-- under a scope a number is looked up
+module _ (D : Bool → Deed → Type 0) (dropped : Bool) (Q : RequestTree → Type 0) where
+  pub in_resolves : (number : ℕ) (next : Resolved → RequestTree) →
+      ((row : Resolved) → Scoped D dropped Q (next row)) → Scoped D dropped Q (resolve number next)
+  in_resolves number next so = λ told. (
+    refl,
+    refl,
+    tt,
+    closes,
+    if_resolved (InScope D dropped Q) next (λ later. refl)
+        (λ row form ids mode. so (record { row = row; form = form; ids = ids; mode = mode }) _),
+  )
+    where
+      closes : (later : ActReply) → closings_in (Changes (change.Resolve number)) later ≡ 0
+      closes (Event told) = refl
+      closes (Host told) = refl
+      closes NoCopy = refl
+
+  -- a check refuses
+  pub in_checked : (is_good : Bool) (next : RequestTree) (errno : Errno) → Scoped D dropped Q next →
+      Scoped D dropped Q (if is_good then next else Gives (answer.Refused errno))
+  in_checked true next errno so = so
+  in_checked false next errno so = λ told. ((refl, λ out. out), refl)
+
+  -- an object is opened, and the scope ends
+  pub in_opens_form : (form : RowForm) (flags : ℕ) (next : Fd → RequestTree) → OfOpening D dropped →
+      ((fd : Fd) → Q (next fd)) → Scoped D dropped Q (open_form form flags (λ fd. Bares (next fd)))
+  in_opens_form (File fd) flags next may so = λ told. (
+    refl,
+    refl,
+    may fd (without_nofollow flags),
+    λ later. refl,
+    if_fd (InScope D dropped Q) (λ fd. Bares (next fd)) (λ later. refl) so,
+  )
+
+third : (one other last : Bool) → (one && other && last) ≡ true → last ≡ true
+third true true last e = e
+third true false last e = absurd (cc)
+third false other last e = absurd (cc)
 
 module _
-    {M : Credentials → HostSeat → Type 0}
+    {seat : HostSeat}
+    {M : Credentials → Type 0}
+    {D : Bool → Deed → Type 0}
     {Q : RequestTree → Type 0}
     {R : ActReply → RequestTree → Type 0}
-    (w : Walk M Q R)
+    (w : Walk seat M D Q R)
   where
     pub begins : (next : BegunSession → RequestTree) → ((session : BegunSession) → Q (next session)) → Q (begin next)
-    begins next so = w.asks (Changes change.Begin) (on_began next) refl refl
+    begins next so = w.asks (Changes change.Begin) (on_began next) refl refl tt
         (if_began R next w.refuses (λ era agreed. w.had _ _ (so (session_of era agreed))))
 
     pub clears : (next : ℕ → RequestTree) → ((era : ℕ) → Q (next era)) → Q (clear next)
-    clears next so = w.asks (Changes change.Clear) (on_cleared next) refl refl
+    clears next so = w.asks (Changes change.Clear) (on_cleared next) refl refl tt
         (if_cleared R next w.refuses (λ era closings. w.had _ _ (so era)))
 
     pub resolves : (number : ℕ) (next : Resolved → RequestTree) → ((row : Resolved) → Q (next row)) →
         Q (resolve number next)
-    resolves number next so = w.asks (Changes (change.Resolve number)) (on_resolved next) refl refl
+    resolves number next so = w.asks (Changes (change.Resolve number)) (on_resolved next) refl refl tt
         (if_resolved R next w.refuses (λ row form ids mode.
         w.had _ _ (so (record { row = row; form = form; ids = ids; mode = mode }))))
 
     pub opens_root : (dir : List ℕ) (flags : OpenFlags) (next : Fd → RequestTree) → ((fd : Fd) → Q (next fd)) →
         Q (open_root dir flags next)
-    opens_root dir flags next so = w.asks (Calls (call.OpenRoot dir flags)) (on_fd next) refl refl
+    opens_root dir flags next so = w.asks (Calls (call.OpenRoot dir flags)) (on_fd next) refl refl refl
         (if_fd R next w.refuses (λ fd. w.had _ _ (so fd)))
 
     pub opens_at : (dir : Fd) (name : List ℕ) (flags : OpenFlags) (next : Fd → RequestTree) →
         includes flags.0 o_creat ≡ false → ((fd : Fd) → Q (next fd)) → Q (open_at dir name flags next)
-    opens_at dir name flags next none so = w.asks (Calls (call.OpenAt dir name flags 0)) (on_fd next) refl none
+    opens_at dir name flags next none so = w.asks (Calls (call.OpenAt dir name flags 0)) (on_fd next) refl none refl
         (if_fd R next w.refuses (λ fd. w.had _ _ (so fd)))
 
-    pub reopens : (fd : Fd) (flags : OpenFlags) (next : Fd → RequestTree) → ((fd : Fd) → Q (next fd)) →
-        Q (reopen fd flags next)
-    reopens fd flags next so = w.asks (Calls (call.Reopen fd flags)) (on_fd next) refl refl
+    pub reopens : (fd : Fd) (flags : OpenFlags) (next : Fd → RequestTree) → D false (Calls (call.Reopen fd flags)) →
+        ((fd : Fd) → Q (next fd)) → Q (reopen fd flags next)
+    reopens fd flags next may so = w.asks (Calls (call.Reopen fd flags)) (on_fd next) refl refl may
         (if_fd R next w.refuses (λ fd. w.had _ _ (so fd)))
 
     pub stats : (fd : Fd) (next : Stat → RequestTree) → ((told : Stat) → Q (next told)) → Q (stat fd next)
-    stats fd next so = w.asks (Calls (call.Stat fd)) (on_stat next) refl refl
+    stats fd next so = w.asks (Calls (call.Stat fd)) (on_stat next) refl refl refl
         (if_stat R next w.refuses (λ told. w.had _ _ (so told)))
 
     pub reads_at : (fd : Fd) (offset size : ℕ) (next : List ℕ → RequestTree) → ((bytes : List ℕ) → Q (next bytes)) →
         Q (read_at fd offset size next)
-    reads_at fd offset size next so = w.asks (Calls (call.ReadAt fd offset size)) (on_bytes next) refl refl
+    reads_at fd offset size next so = w.asks (Calls (call.ReadAt fd offset size)) (on_bytes next) refl refl refl
         (if_bytes R next w.refuses (λ bytes. w.had _ _ (so bytes)))
 
     pub claims : (session : BegunSession) (handle : Option FileHandle) (ids : ObjIds)
         (next : ℕ → RequestTree) (absent : RequestTree) →
         ((number : ℕ) → Q (next number)) → Q absent → Q (claim session handle ids next absent)
     claims session handle ids next absent so other =
-        w.asks (Changes (change.Claim session.era handle ids)) (on_claim next absent) refl refl
+        w.asks (Changes (change.Claim session.era handle ids)) (on_claim next absent) refl refl tt
         (if_claimed R next absent w.refuses (λ number. w.had _ _ (so number)) (w.had _ _ other))
 
     pub takes : (next : RequestTree) → Q next → Q (take_fd next)
-    takes next so = w.asks (Changes change.TakeFd) (on_taken next) refl refl
+    takes next so = w.asks (Changes change.TakeFd) (on_taken next) refl refl tt
         (if_taken R next w.refuses (w.had _ _ so))
 
     pub draws_node : (next : ℕ → RequestTree) → ((number : ℕ) → Q (next number)) → Q (draw_node next)
-    draws_node next so = w.asks (Changes change.DrawNode) (on_drawn next) refl refl
+    draws_node next so = w.asks (Changes change.DrawNode) (on_drawn next) refl refl tt
         (if_drawn R next w.refuses (λ number. w.had _ _ (so number)))
 
     pub draws_handle : (next : ℕ → RequestTree) → ((number : ℕ) → Q (next number)) → Q (draw_handle next)
-    draws_handle next so = w.asks (Changes change.DrawHandle) (on_drawn next) refl refl
+    draws_handle next so = w.asks (Changes change.DrawHandle) (on_drawn next) refl refl tt
         (if_drawn R next w.refuses (λ number. w.had _ _ (so number)))
 
     pub inserts : (session : BegunSession) (fresh : ℕ) (form : RowForm) (told : Stat) (next : ℕ → RequestTree) →
         ((number : ℕ) → Q (next number)) → Q (insert session fresh form told next)
     inserts session fresh form told next so =
-        w.asks (Changes (change.Insert session.era fresh form told.ids told.mode)) (on_inserted next) refl refl
+        w.asks (Changes (change.Insert session.era fresh form told.ids told.mode)) (on_inserted next) refl refl tt
         (if_inserted R next w.refuses (λ number. w.had _ _ (so number)) (λ number. w.had _ _ (so number)))
 
     pub inserts_root : (session : BegunSession) (form : RowForm) (told : Stat) (agreed : Option Negotiated)
-        (next : RequestTree) → Q next → Q (insert_root session form told agreed next)
-    inserts_root session form told agreed next so =
+        (next : RequestTree) → OfRoot D agreed → Q next → Q (insert_root session form told agreed next)
+    inserts_root session form told agreed next may so =
         w.asks (Changes (change.InsertRoot session.era form told.ids told.mode agreed)) (on_root next) refl refl
+        (may session.era form told.ids told.mode)
         (if_root R next w.refuses (λ number. w.had _ _ so))
 
     pub inserts_handle : (session : BegunSession) (handle number : ℕ) (fd : Fd) (next : RequestTree) → Q next →
         Q (insert_handle session handle number fd next)
     inserts_handle session handle number fd next so =
-        w.asks (Changes (change.InsertHandle session.era handle number fd)) (on_handle next) refl refl
+        w.asks (Changes (change.InsertHandle session.era handle number fd)) (on_handle next) refl refl tt
         (if_handle R next w.refuses (λ handle. w.had _ _ so))
 
     pub pins : (handle number : ℕ) (next : Fd → RequestTree) → ((fd : Fd) → Q (next fd)) →
         Q (pin_handle handle number next)
-    pins handle number next so = w.asks (Changes (change.PinHandle handle number)) (on_pinned next) refl refl
+    pins handle number next so = w.asks (Changes (change.PinHandle handle number)) (on_pinned next) refl refl tt
         (if_pinned R next w.refuses (λ row fd. w.had _ _ (so fd)))
 
     pub forgets : (list : List (ℕ × ℕ)) (next : RequestTree) → Q next → Q (forget_all list next)
-    forgets list next so = w.asks (Changes (change.Forget list)) (on_done next) refl refl
+    forgets list next so = w.asks (Changes (change.Forget list)) (on_done next) refl refl tt
         (if_done R next w.refuses (λ closings. w.had _ _ so))
 
     pub releases : (handle number : ℕ) (next : RequestTree) → Q next → Q (release_handle handle number next)
-    releases handle number next so = w.asks (Changes (change.Release handle number)) (on_done next) refl refl
+    releases handle number next so = w.asks (Changes (change.Release handle number)) (on_done next) refl refl tt
         (if_done R next w.refuses (λ closings. w.had _ _ so))
 
     -- a check refuses at once
@@ -217,9 +327,17 @@ module _
     pub files : (form : RowForm) (next : Fd → RequestTree) → ((fd : Fd) → Q (next fd)) → Q (file_of form next)
     files (File fd) next so = so fd
 
-    pub opens_form : (form : RowForm) (flags : ℕ) (next : Fd → RequestTree) → ((fd : Fd) → Q (next fd)) →
-        Q (open_form form flags next)
-    opens_form (File fd) flags next so = reopens fd _ next so
+    pub opens_form : (form : RowForm) (flags : ℕ) (next : Fd → RequestTree) → OfOpening D false →
+        ((fd : Fd) → Q (next fd)) → Q (open_form form flags next)
+    opens_form (File fd) flags next may so = reopens fd _ next (may fd _) so
+
+    pub opens_inode : (plan : Plan) (session : BegunSession) (number flags : ℕ) (next : Fd → RequestTree) →
+        OfOpening D false → ((fd : Fd) → Q (next fd)) → Q (open_inode plan session number flags next)
+    opens_inode plan session number flags next may so =
+        resolves number _ (λ row.
+        checked (can_open row.mode) _ _ (
+        opens_form row.form (inode_flags plan.config session.agreed flags) next may so)
+        (w.gives (answer.Refused ebadf) (refl, λ out. out)))
 
     pub numbers : (session : BegunSession) (form : RowForm) (told : Stat) (next : ℕ → RequestTree) →
         ((number : ℕ) → Q (next number)) → Q (numbered session form told next)
@@ -243,46 +361,93 @@ module _
     pub refuses_so : (errno : Errno) → Q (Gives (answer.Refused errno))
     refuses_so errno = w.gives (answer.Refused errno) (refl, λ out. out)
 
-    pub opens_num : (plan : Plan) (session : BegunSession) (number flags : ℕ) (next : ℕ → RequestTree) →
-        ((handle : ℕ) → Q (next handle)) → Q (open_num plan session number flags next)
-    opens_num plan session number flags next so =
-        w.brackets _ (
-        resolves number _ (λ row.
-        checked (can_open row.mode) _ _ (
-        opens_form row.form (inode_flags plan.config (cleaned plan.config flags)) _ (λ fd.
+    -- what holds under a scope holds under none
+    behind_reply : (told : ActReply) (tree : RequestTree) → InScope D false Q told tree → R told tree
+    behind_reply told (Gives last) so = w.had told (Gives last) (w.gives last so.0)
+    behind_reply told (Refuses same) so = subst (λ it. R told (Refuses it)) (sym so) (w.refuses told)
+    behind_reply told (Asks deed next) so = w.had told (Asks deed next)
+        (w.asks deed next so.0 so.1 so.2 (λ later. behind_reply later (next later) (so.4 later)))
+    behind_reply told (Bares rest) so = w.had told (Bares rest) (w.bares rest so)
+    behind_reply told (Opens asked scope next) so = absurd so
+    behind_reply told (Brackets rest) so = absurd so
+    behind_reply told (Shuts passes rest) so = absurd so
+    behind_reply told (Allocates rest) so = absurd so
+
+    unscoped : (tree : RequestTree) → Scoped D false Q tree → Q tree
+    unscoped (Gives last) so = w.gives last (so NoCopy).0
+    unscoped (Refuses same) so = absurd (both same (so NoCopy) (so (Host host.NoMemory)))
+      where
+        both : (it : ActReply) → it ≡ NoCopy → it ≡ Host host.NoMemory → ⊥
+        both it e f = absurd (cc)
+    unscoped (Asks deed next) so = w.asks deed next (so NoCopy).0 (so NoCopy).1 (so NoCopy).2
+        (λ later. behind_reply later (next later) ((so NoCopy).4 later))
+    unscoped (Bares rest) so = w.bares rest (so NoCopy)
+    unscoped (Opens asked scope next) so = absurd (so NoCopy)
+    unscoped (Brackets rest) so = absurd (so NoCopy)
+    unscoped (Shuts passes rest) so = absurd (so NoCopy)
+    unscoped (Allocates rest) so = absurd (so NoCopy)
+
+    -- without the capability, where it is to be dropped
+    pub drops_if : (plan : Plan) (kill : Bool) (rest : RequestTree) →
+        Scoped D (drops_fsetid plan seat kill) Q rest → Q (without_fsetid (drops_fsetid plan seat kill) rest)
+    drops_if plan kill rest so =
+        either (drops_fsetid plan seat kill)
+        (third plan.config.killpriv_v2 kill (includes seat.eff_caps.0 fsetid.0)) so
+      where
+        either : (drops : Bool) → (drops ≡ true → includes seat.eff_caps.0 fsetid.0 ≡ true) →
+            Scoped D drops Q rest → Q (without_fsetid drops rest)
+        either true has so = w.drops rest (has refl) so
+        either false has so = unscoped rest so
+
+    pub handles_num : (session : BegunSession) (number : ℕ) (next : ℕ → RequestTree) (fd : Fd) →
+        ((handle : ℕ) → Q (next handle)) → Q (handled_num session number next fd)
+    handles_num session number next fd so =
         draws_handle _ (λ handle.
         takes _ (
         inserts_handle session handle number fd _ (
-        w.shuts false _ (so handle)))))) (refuses_so ebadf)))
+        w.shuts false _ (so handle))))
+
+    pub opens_num : (plan : Plan) (session : BegunSession) (number : ℕ) (kill : Bool) (flags : ℕ)
+        (next : ℕ → RequestTree) → OfOpening D (drops_fsetid plan seat kill) → ((handle : ℕ) → Q (next handle)) →
+        Q (open_num plan seat session number kill flags next)
+    opens_num plan session number kill flags next may so =
+        let dropped = drops_fsetid plan seat kill in
+        w.brackets _ (
+        drops_if plan kill _ (
+        in_resolves D dropped Q number _ (λ row.
+        in_checked D dropped Q (can_open row.mode) _ ebadf (
+        in_opens_form D dropped Q row.form (inode_flags plan.config session.agreed (cleaned plan.config flags))
+        (handled_num session number next) may (λ fd. handles_num session number next fd so)))))
 
     pub opens_shared : (plan : Plan) (session : BegunSession) (agreed : Option Negotiated) (next : RequestTree) →
-        Q next → Q (root_open plan session agreed next)
-    opens_shared plan session agreed next so =
+        OfRoot D agreed → Q next → Q (root_open plan session agreed next)
+    opens_shared plan session agreed next may so =
         opens_root plan.config.root_dir by_path _ (λ fd.
         stats fd _ (λ told.
         takes _ (
-        inserts_root session (File fd) told agreed next so)))
+        inserts_root session (File fd) told agreed next may so)))
 
-    pub opens : (plan : Plan) (inode flags : ℕ) → Q (open_file plan inode flags)
-    opens plan inode flags =
+    pub opens : (plan : Plan) (inode : ℕ) (kill : Bool) (flags : ℕ) → OfOpening D (drops_fsetid plan seat kill) →
+        Q (open_file plan seat inode kill flags)
+    opens plan inode kill flags may =
         begins _ (λ session.
-        opens_num plan session inode flags _ (λ handle.
+        opens_num plan session inode kill flags _ may (λ handle.
         w.gives (answer.Opened handle (open_options plan.config flags)) (refl, λ out. out)))
 
     -- as whoever asks, whose ids may be forbidden
-    pub makes : (seat : HostSeat) (asker : Option Credentials) (making : Call) (next : ActReply → RequestTree) →
-        is_making (Calls making) ≡ true → ((creds : Credentials) → asker ≡ Some creds → M creds seat) →
+    pub makes : (asker : Option Credentials) (making : Call) (next : ActReply → RequestTree) →
+        is_making (Calls making) ≡ true → ((creds : Credentials) → asker ≡ Some creds → M creds) →
         ((told : ActReply) → R told (next told)) →
         Q (as_asker seat asker (Asks (Calls making) (λ told. Bares (next told))))
-    makes seat None making next is may so = refuses_so eperm
-    makes seat (Some creds) making next is may so = w.makes_as creds seat making next is (may creds refl) so
+    makes None making next is may so = refuses_so eperm
+    makes (Some creds) making next is may so = w.makes_as creds making next is (may creds refl) so
 
-    pub makes_file : (seat : HostSeat) (asker : Option Credentials) (dir : Fd) (name : List ℕ) (flags mode : ℕ)
+    pub makes_file : (asker : Option Credentials) (dir : Fd) (name : List ℕ) (flags mode : ℕ)
         (next : Fd → RequestTree) (may_be : Bool) (there : RequestTree) →
-        ((creds : Credentials) → asker ≡ Some creds → M creds seat) → ((fd : Fd) → Q (next fd)) → Q there →
+        ((creds : Credentials) → asker ≡ Some creds → M creds) → ((fd : Fd) → Q (next fd)) → Q there →
         Q (as_asker seat asker (make_at dir name (making_flags flags) mode next may_be there))
-    makes_file seat asker dir name flags mode next may_be there may so other =
-        makes seat asker (call.OpenAt dir name (making_flags flags) mode) (on_made next may_be there)
+    makes_file asker dir name flags mode next may_be there may so other =
+        makes asker (call.OpenAt dir name (making_flags flags) mode) (on_made next may_be there)
         (creates_file flags) may (if_made R next may_be there w.refuses (λ fd. w.had _ _ (so fd))
         (λ errno. w.had _ _ other) (λ errno. w.had _ _ other))
 
@@ -295,47 +460,51 @@ module _
 
     -- a refusal behind one more call, whose reply is passed over
     pub undoes : (undoing : Call) (errno : Errno) → is_of_seat (Calls undoing) ≡ false →
-        is_making (Calls undoing) ≡ false → Q (undone undoing (answer.Refused errno))
-    undoes undoing errno own none = w.asks (Calls undoing) (λ told. Gives (answer.Refused errno)) own none
+        is_making (Calls undoing) ≡ false → OfDeed D false (Calls undoing) →
+        Q (undone undoing (answer.Refused errno))
+    undoes undoing errno own none may = w.asks (Calls undoing) (λ told. Gives (answer.Refused errno)) own none may
         (λ told. w.had _ _ (refuses_so errno))
 
     pub labels : (session : BegunSession) (fd : Fd) (undoing : Call) (label : Option SecContext)
-        (next : RequestTree) → is_of_seat (Calls undoing) ≡ false → is_making (Calls undoing) ≡ false → Q next →
-        Q (labelled session fd undoing label next)
-    labels session fd undoing None next own none so = so
-    labels session fd undoing (Some label) next own none so =
-        checks (is_blocked session.agreed label.name) _ _ (undoes undoing eopnotsupp own none)
+        (next : RequestTree) → is_of_seat (Calls undoing) ≡ false → is_making (Calls undoing) ≡ false →
+        OfDeed D false (Calls undoing) → Q next → Q (labelled session fd undoing label next)
+    labels session fd undoing None next own none may so = so
+    labels session fd undoing (Some label) next own none may so =
+        checks (is_blocked session.agreed label.name) _ _ (undoes undoing eopnotsupp own none may)
         (w.asks (Calls (call.SetXattr fd false label.name label.value 0)) (on_ok_or (undone undoing) next) refl refl
+        refl
         (if_ok_or R (undone undoing) next w.refuses (λ told. w.had _ _ so)
-        (λ errno. w.had _ _ (undoes undoing errno own none)) (λ errno. w.had _ _ (undoes undoing errno own none))
-        (w.ran_out (Host host.NoMemory) (Calls undoing) refl own none)
-        (w.ran_out NoCopy (Calls undoing) refl own none)))
+        (λ errno. w.had _ _ (undoes undoing errno own none may)) (λ errno. w.had _ _ (undoes undoing errno own none may))
+        (w.ran_out (Host host.NoMemory) (Calls undoing) refl own none may)
+        (w.ran_out NoCopy (Calls undoing) refl own none may)))
 
     pub news : (plan : Plan) (session : BegunSession) (asked : FileAsked) (dir fd : Fd)
         (next : NamedHandle → RequestTree) → ((named : NamedHandle) → Q (next named)) →
         Q (new_file plan session asked dir fd next)
     news plan session asked dir fd next so =
         stats fd _ (λ made.
-        labels session fd (call.Unlink dir asked.name) asked.secctx _ refl refl (
+        labels session fd (call.Unlink dir asked.name) asked.secctx _ refl refl refl (
         looks_up plan session asked.parent asked.name _ (λ looked.
         checked (are_same made.ids looked.ids) _ _ (handles session fd looked.entry next so) (refuses_so estale))))
 
     pub olds : (plan : Plan) (session : BegunSession) (asked : FileAsked) (next : NamedHandle → RequestTree) →
-        ((named : NamedHandle) → Q (next named)) → Q (old_file plan session asked next)
-    olds plan session asked next so =
+        OfOpening D (drops_fsetid plan seat asked.kill) → ((named : NamedHandle) → Q (next named)) →
+        Q (old_file plan seat session asked next)
+    olds plan session asked next may so =
         looks_up plan session asked.parent asked.name _ (λ looked.
-        opens_num plan session looked.entry.inode asked.flags _ (λ handle. so (named_handle looked.entry handle)))
+        opens_num plan session looked.entry.inode asked.kill asked.flags _ may
+        (λ handle. so (named_handle looked.entry handle)))
 
-    pub creates : (plan : Plan) (seat : HostSeat) (asked : FileAsked) → OfAsker M plan seat asked.who asked.sup_gid →
-        Q (create plan seat asked)
-    creates plan seat asked may =
+    pub creates : (plan : Plan) (asked : FileAsked) → OfAsker M plan asked.who asked.sup_gid →
+        OfOpening D (drops_fsetid plan seat asked.kill) → Q (create plan seat asked)
+    creates plan asked may opening =
         begins _ (λ session.
         checks (is_bad_name asked.name) _ _ (refuses_so einval) (
         resolves asked.parent _ (λ directory.
         files directory.form _ (λ dir.
-        makes_file seat (asker_of plan session asked.who asked.sup_gid) dir asked.name asked.flags asked.mode
+        makes_file (asker_of plan session asked.who asked.sup_gid) dir asked.name asked.flags asked.mode
         _ (takes_old asked) _ (may session) (λ fd. news plan session asked dir fd _ answers)
-        (olds plan session asked _ answers)))))
+        (olds plan session asked _ opening answers)))))
       where
         answers : (named : NamedHandle) →
             Q (Gives (answer.Created named.entry named.handle (create_options plan.config)))
@@ -351,30 +520,31 @@ module _
     pub unserves : Q unserved
     unserves = begins _ (λ session. refuses_so (errno_of 38))
 
-    pub each_request : (plan : Plan) (seat : HostSeat) (who : Context) (asked : Request) →
-        OfMakings M plan seat who asked → Q (tree_of plan seat who asked)
-    each_request plan seat who (request.Init capable) may =
+    pub each_request : (plan : Plan) (who : Context) (asked : Request) → OfMakings M plan who asked →
+        OfScopes D plan seat asked → Q (tree_of plan seat who asked)
+    each_request plan who (request.Init capable) may scopes =
         clears _ (λ era.
-        opens_shared plan (session_of era nothing_agreed) (Some (agreed_with capable)) _ (
-        w.gives (answer.Inited (init_options plan.config)) (refl, λ out. out)))
-    each_request plan seat who request.Destroy may = clears _ (λ era. w.gives answer.NoReply (refl, λ out. out))
-    each_request plan seat who request.Root may =
-        begins _ (λ session. opens_shared plan session None _ (w.gives answer.Done (refl, λ out. out)))
-    each_request plan seat who (request.Lookup parent name) may =
+        opens_shared plan (session_of era nothing_agreed) (Some (agreed_with plan.config capable)) _ scopes (
+        w.gives (answer.Inited (init_options plan.config capable)) (refl, λ out. out)))
+    each_request plan who request.Destroy may scopes = clears _ (λ era. w.gives answer.NoReply (refl, λ out. out))
+    each_request plan who request.Root may scopes =
+        begins _ (λ session. opens_shared plan session None _ scopes (w.gives answer.Done (refl, λ out. out)))
+    each_request plan who (request.Lookup parent name) may scopes =
         begins _ (λ session.
         checks (is_bad_name name) _ _ (refuses_so einval) (
         looks_up plan session parent name _ (λ looked. w.gives (answer.Entry looked.entry) (refl, λ out. out))))
-    each_request plan seat who (request.Forget inode count) may = forgets_all ((inode, count) ∷ [])
-    each_request plan seat who (request.BatchForget list) may = forgets_all list
-    each_request plan seat who (request.Open inode kill flags) may = opens plan inode flags
-    each_request plan seat who (request.OpenDir inode flags) may = opens plan inode (with_bits flags o_directory)
-    each_request plan seat who (request.Release inode handle) may = releases_it inode handle
-    each_request plan seat who (request.ReleaseDir inode handle) may = releases_it inode handle
-    each_request plan seat who (request.Read inode handle size offset) may =
+    each_request plan who (request.Forget inode count) may scopes = forgets_all ((inode, count) ∷ [])
+    each_request plan who (request.BatchForget list) may scopes = forgets_all list
+    each_request plan who (request.Open inode kill flags) may scopes = opens plan inode kill flags scopes
+    each_request plan who (request.OpenDir inode flags) may scopes =
+        opens plan inode false (with_bits flags o_directory) scopes
+    each_request plan who (request.Release inode handle) may scopes = releases_it inode handle
+    each_request plan who (request.ReleaseDir inode handle) may scopes = releases_it inode handle
+    each_request plan who (request.Read inode handle size offset) may scopes =
         begins _ (λ session.
         checks (is_bad_offset offset) _ _ (refuses_so einval) (
         pins handle inode _ (λ fd.
         reads_at fd offset size _ (λ bytes. w.gives (answer.Read bytes) (refl, λ out. out)))))
-    each_request plan seat who (request.Create parent name mode kill flags umask ext) may =
-        creates plan seat (file_asked who parent name mode flags ext) may
-    each_request plan seat who asked may = unserves
+    each_request plan who (request.Create parent name mode kill flags umask ext) may scopes =
+        creates plan (file_asked who parent name mode kill flags ext) may scopes
+    each_request plan who asked may scopes = unserves

@@ -63,10 +63,10 @@ new_file plan session asked dir fd next =
     handled session fd looked.entry next))))
 
 -- a file that was there: its name is looked up, and what has its number is opened
-abbrev pub old_file : Plan → BegunSession → FileAsked → (NamedHandle → RequestTree) → RequestTree
-old_file plan session asked next =
+abbrev pub old_file : Plan → HostSeat → BegunSession → FileAsked → (NamedHandle → RequestTree) → RequestTree
+old_file plan seat session asked next =
     look_up plan session asked.parent asked.name (λ looked.
-    open_num plan session looked.entry.inode asked.flags (λ handle.
+    open_num plan seat session looked.entry.inode asked.kill asked.flags (λ handle.
     next (named_handle looked.entry handle)))
 
 -- the guest takes a file that is there
@@ -79,4 +79,4 @@ make_file plan seat session asked dir next =
     as_asker seat (asker_of plan session asked.who asked.sup_gid) (
     make_at dir asked.name (making_flags asked.flags) asked.mode
     (λ fd. new_file plan session asked dir fd next)
-    (takes_old asked) (old_file plan session asked next))
+    (takes_old asked) (old_file plan seat session asked next))

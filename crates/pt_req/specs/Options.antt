@@ -1,6 +1,6 @@
 -- Believed. The bits of openings and sessions: which flags the host is given, and which options the guest is
--- answered.
-use Rattle.std.specs.Prelude.{ℕ, ◌+◌, ◌-◌, ◌^◌, Bool, true, false, bit_and, bit_or, if◌then◌else◌}
+-- answered. After virtiofsd's `do_open`, `open_inode`, `init`, and open(2).
+use Rattle.std.specs.Prelude.{ℕ, ◌+◌, ◌-◌, ◌^◌, Bool, true, false, ◌&&◌, ◌==◌, bit_and, bit_or, if◌then◌else◌}
 use Rattle.pt_host.specs.Flags.{includes, o_creat, o_excl, o_directory}
 use Rattle.pt_host.specs.declared.flags.OpenFlags.{OpenFlags}
 use Rattle.pt_session.specs.Tables.{nothing_agreed}
@@ -38,13 +38,37 @@ abbrev pub cleaned : Config → ℕ → ℕ
 cleaned config flags =
     if config.clean_noatime then without_bits (without_bits flags o_append) o_noatime else without_bits flags o_append
 
--- direct I/O of the guest is not passed on, unless it is allowed; the daemon runs no other program
-abbrev pub inode_flags : Config → ℕ → ℕ
-inode_flags config flags = with_bits (if config.allow_direct_io then flags else without_bits flags o_direct) o_cloexec
+-- the access mode, and two of its values
+abbrev pub o_accmode : ℕ
+o_accmode = 3
 
--- what a handle is opened with
-abbrev pub host_flags : Config → ℕ → ℕ
-host_flags config flags = inode_flags config (cleaned config flags)
+abbrev pub o_wronly : ℕ
+o_wronly = 1
+
+abbrev pub o_rdwr : ℕ
+o_rdwr = 2
+
+-- what is opened for writing only is opened for reading too
+abbrev pub readable : ℕ → ℕ
+readable flags =
+    if bit_and flags o_accmode == o_wronly then with_bits (without_bits flags o_accmode) o_rdwr else flags
+
+-- Where the guest keeps what it writes, which was agreed on, its kernel reads what it is to write a part of, and minds
+-- appends itself.
+abbrev pub written_back : Negotiated → ℕ → ℕ
+written_back agreed flags = if agreed.writeback then without_bits (readable flags) o_append else flags
+
+-- direct I/O of the guest is not passed on, unless it is allowed; the daemon runs no other program
+abbrev pub passed_on : Config → ℕ → ℕ
+passed_on config flags = with_bits (if config.allow_direct_io then flags else without_bits flags o_direct) o_cloexec
+
+-- what an object is opened with
+abbrev pub inode_flags : Config → Negotiated → ℕ → ℕ
+inode_flags config agreed flags = passed_on config (written_back agreed flags)
+
+-- what a handle is
+abbrev pub host_flags : Config → Negotiated → ℕ → ℕ
+host_flags config agreed flags = inode_flags config agreed (cleaned config flags)
 
 -- a descriptor's link in `/proc` is to be followed
 abbrev pub without_nofollow : ℕ → OpenFlags
@@ -81,17 +105,44 @@ open_options config flags = record { 0 = cache_options config.cache_policy (incl
 abbrev pub create_options : Config → OpenOptions
 create_options config = record { 0 = cache_options config.cache_policy false }
 
--- `CREATE_SUPP_GROUP`
-abbrev pub create_supp_group : ℕ
-create_supp_group = 512
-
--- what is agreed on with a guest that offers this
-abbrev pub agreed_with : FsOptions → Negotiated
-agreed_with capable = record nothing_agreed { sup_group = includes capable.0 create_supp_group }
-
 -- `DO_READDIRPLUS` and `READDIRPLUS_AUTO`
 abbrev pub readdirplus_bits : ℕ
 readdirplus_bits = 3
 
-abbrev pub init_options : Config → FsOptions
-init_options config = record { 0 = if config.readdirplus then readdirplus_bits else 0 }
+abbrev pub writeback_cache : ℕ
+writeback_cache = 4
+
+abbrev pub handle_killpriv_v2 : ℕ
+handle_killpriv_v2 = 8
+
+abbrev pub submounts : ℕ
+submounts = 256
+
+abbrev pub create_supp_group : ℕ
+create_supp_group = 512
+
+abbrev pub direct_io_allow_mmap : ℕ
+direct_io_allow_mmap = 1024
+
+-- What is agreed on with a guest that offers this: what is configured and offered; that it tells the group of who asks
+-- is offered alone.
+abbrev pub agreed_with : Config → FsOptions → Negotiated
+agreed_with config capable = record nothing_agreed {
+  writeback = config.writeback && includes capable.0 writeback_cache;
+  announce_submounts = config.announce_submounts && includes capable.0 submounts;
+  sup_group = includes capable.0 create_supp_group;
+}
+
+abbrev pub bits_if : Bool → ℕ → ℕ
+bits_if true bits = bits
+bits_if false bits = 0
+
+-- What it is answered: two of these need be configured alone, and two have to be offered too.
+abbrev pub init_options : Config → FsOptions → FsOptions
+init_options config capable = record {
+  0 =
+      bits_if config.readdirplus readdirplus_bits
+      + bits_if (config.writeback && includes capable.0 writeback_cache) writeback_cache
+      + bits_if (config.killpriv_v2 && includes capable.0 handle_killpriv_v2) handle_killpriv_v2
+      + bits_if config.allow_mmap direct_io_allow_mmap;
+}

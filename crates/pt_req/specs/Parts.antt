@@ -1,17 +1,19 @@
 -- Believed. The parts of requests, each with what it hands on. After virtiofsd's `open_inode`, `do_lookup`,
 -- `do_open`, `open_root_node`.
-use Rattle.std.specs.Prelude.{ℕ, true, false, if◌then◌else◌, List, Option, None}
+use Rattle.std.specs.Prelude.{ℕ, Bool, true, false, if◌then◌else◌, List, Option, None}
 use Rattle.pt_host.specs.Errno.{ebadf, einval}
 use Rattle.pt_host.specs.Flags.{path_flags}
 use Rattle.pt_host.specs.declared.ids.Fd.{Fd}
 use Rattle.pt_host.specs.declared.ids.ObjIds.{ObjIds}
+use Rattle.pt_host.specs.declared.seat.HostSeat.{HostSeat}
 use Rattle.pt_host.specs.declared.stat.Stat.{Stat}
 use Rattle.pt_host.specs.declared.flags.OpenFlags.{OpenFlags}
 use Rattle.pt_session.specs.declared.form.RowForm.{RowForm}
 use Rattle.pt_session.specs.declared.form.RowForm.TheVariants.{File}
 use Rattle.pt_session.specs.declared.form.Negotiated.{Negotiated}
 use Rattle.pt_iface.specs.declared.answer.Answer.TheVariants as answer
-use Rattle.pt_frame.specs.Tree.{RequestTree, Gives, Brackets, Shuts}
+use Rattle.pt_frame.specs.Tree.{RequestTree, Gives, Bares, Brackets, Shuts}
+use Rattle.pt_req.specs.Capability.{drops_fsetid, without_fsetid}
 use Rattle.pt_req.specs.Options.{cleaned, inode_flags, without_nofollow}
 use Rattle.pt_req.specs.Steps.{Resolved, resolve, open_root, open_at, reopen, stat, claim, take_fd, draw_node}
 use Rattle.pt_req.specs.Steps.{draw_handle, insert, insert_root, insert_handle}
@@ -44,9 +46,9 @@ abbrev pub open_row : Resolved → ℕ → (Fd → RequestTree) → RequestTree
 open_row row flags next = if can_open row.mode then open_form row.form flags next else Gives (answer.Refused ebadf)
 
 -- a number is opened
-abbrev pub open_inode : Plan → ℕ → ℕ → (Fd → RequestTree) → RequestTree
-open_inode plan number flags next =
-    resolve number (λ row. open_row row (inode_flags plan.config flags) next)
+abbrev pub open_inode : Plan → BegunSession → ℕ → ℕ → (Fd → RequestTree) → RequestTree
+open_inode plan session number flags next =
+    resolve number (λ row. open_row row (inode_flags plan.config session.agreed flags) next)
 
 -- what was opened gets the number of its object, where it has one, or a new one
 abbrev pub numbered : BegunSession → RowForm → Stat → (ℕ → RequestTree) → RequestTree
@@ -74,14 +76,20 @@ look_up plan session parent name next = Brackets (
     numbered session (File fd) told (λ number.
     Shuts true (next (looked_of plan session directory.ids told (File fd) number))))))))
 
--- a number is opened by a handle
-abbrev pub open_num : Plan → BegunSession → ℕ → ℕ → (ℕ → RequestTree) → RequestTree
-open_num plan session number flags next = Brackets (
-    open_inode plan number (cleaned plan.config flags) (λ fd.
+-- what was opened gets a handle, and the bracket of the opening ends
+abbrev pub handled_num : BegunSession → ℕ → (ℕ → RequestTree) → Fd → RequestTree
+handled_num session number next fd =
     draw_handle (λ handle.
     take_fd (
     insert_handle session handle number fd (
-    Shuts false (next handle))))))
+    Shuts false (next handle))))
+
+-- a number is opened by a handle: where `kill` asks for it, set-id bits of what is emptied by that go
+abbrev pub open_num : Plan → HostSeat → BegunSession → ℕ → Bool → ℕ → (ℕ → RequestTree) → RequestTree
+open_num plan seat session number kill flags next = Brackets (
+    without_fsetid (drops_fsetid plan seat kill) (
+    open_inode plan session number (cleaned plan.config flags) (λ fd.
+    Bares (handled_num session number next fd))))
 
 -- the shared directory is opened and numbered 1; what is agreed on is said, or left
 abbrev pub root_open : Plan → BegunSession → Option Negotiated → RequestTree → RequestTree

@@ -39,6 +39,7 @@ bound_of (request.StatFs inode) = 48
 bound_of (request.GetAttr inode) = 48
 bound_of (request.SetAttr inode handle valid attr) = 48
 bound_of (request.Access inode mask) = 48
+bound_of (request.SyncFs inode) = 48
 bound_of (request.Other opcode) = 48
 bound_of _ = 8
 

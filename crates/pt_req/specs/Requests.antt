@@ -1,6 +1,6 @@
 -- Believed. The requests, by their parts. After virtiofsd's passthrough file system: `init`, `open_root_node`,
 -- `lookup`, `forget`, `open`, `opendir`, `release`, `read`, `create`.
-use Rattle.std.specs.Prelude.{ℕ, List, [], ◌∷◌, Some, None}
+use Rattle.std.specs.Prelude.{ℕ, Bool, false, List, [], ◌∷◌, Some, None}
 use Rattle.pt_host.specs.Errno.{errno_of}
 use Rattle.pt_host.specs.Flags.{o_directory}
 use Rattle.pt_host.specs.declared.seat.HostSeat.{HostSeat}
@@ -23,8 +23,8 @@ use Rattle.pt_req.specs.declared.plan.Plan.{Plan}
 abbrev pub init : Plan → FsOptions → RequestTree
 init plan capable =
     clear (λ era.
-    root_open plan (session_of era nothing_agreed) (Some (agreed_with capable)) (
-    Gives (answer.Inited (init_options plan.config))))
+    root_open plan (session_of era nothing_agreed) (Some (agreed_with plan.config capable)) (
+    Gives (answer.Inited (init_options plan.config capable))))
 
 -- the session ends, and one without a root begins
 abbrev pub destroy : RequestTree
@@ -50,14 +50,14 @@ abbrev pub forget : ℕ → ℕ → RequestTree
 forget inode count = batch_forget ((inode, count) ∷ [])
 
 -- what a number stands for is opened by a handle, a directory or not
-abbrev pub open_file : Plan → ℕ → ℕ → RequestTree
-open_file plan inode flags =
+abbrev pub open_file : Plan → HostSeat → ℕ → Bool → ℕ → RequestTree
+open_file plan seat inode kill flags =
     begin (λ session.
-    open_num plan session inode flags (λ handle.
+    open_num plan seat session inode kill flags (λ handle.
     Gives (answer.Opened handle (open_options plan.config flags))))
 
-abbrev pub open_dir : Plan → ℕ → ℕ → RequestTree
-open_dir plan inode flags = open_file plan inode (with_bits flags o_directory)
+abbrev pub open_dir : Plan → HostSeat → ℕ → ℕ → RequestTree
+open_dir plan seat inode flags = open_file plan seat inode false (with_bits flags o_directory)
 
 -- the guest gives a handle back
 abbrev pub release : ℕ → ℕ → RequestTree
@@ -86,8 +86,7 @@ create plan seat asked =
 abbrev pub unserved : RequestTree
 unserved = begin (λ session. Gives (answer.Refused (errno_of 38)))
 
--- The requests that are served today. Whether an opening clears set-id bits comes with a switch of its own, and
--- whether the umask of who asks counts is agreed on with access control lists.
+-- The requests that are served today. Whether the umask of who asks counts is agreed on with access control lists.
 abbrev pub IsServed : Request → Type 0
 IsServed (request.Init capable) = Unit {0}
 IsServed request.Destroy = Unit {0}
@@ -103,14 +102,15 @@ IsServed (request.Read inode handle size offset) = Unit {0}
 IsServed (request.Create parent name mode kill flags umask ext) = Unit {0}
 IsServed _ = ⊥
 
-abbrev pub file_asked : Context → ℕ → List ℕ → ℕ → ℕ → Extensions → FileAsked
-file_asked who parent name mode flags ext = record {
+abbrev pub file_asked : Context → ℕ → List ℕ → ℕ → Bool → ℕ → Extensions → FileAsked
+file_asked who parent name mode kill flags ext = record {
   who = who;
   secctx = ext.secctx;
   sup_gid = ext.sup_gid;
   parent = parent;
   name = name;
   mode = mode;
+  kill = kill;
   flags = flags;
 }
 
@@ -122,11 +122,11 @@ tree_of plan seat who request.Root = root plan
 tree_of plan seat who (request.Lookup parent name) = lookup plan parent name
 tree_of plan seat who (request.Forget inode count) = forget inode count
 tree_of plan seat who (request.BatchForget list) = batch_forget list
-tree_of plan seat who (request.Open inode kill flags) = open_file plan inode flags
-tree_of plan seat who (request.OpenDir inode flags) = open_dir plan inode flags
+tree_of plan seat who (request.Open inode kill flags) = open_file plan seat inode kill flags
+tree_of plan seat who (request.OpenDir inode flags) = open_dir plan seat inode flags
 tree_of plan seat who (request.Release inode handle) = release inode handle
 tree_of plan seat who (request.ReleaseDir inode handle) = release inode handle
 tree_of plan seat who (request.Read inode handle size offset) = read inode handle size offset
 tree_of plan seat who (request.Create parent name mode kill flags umask ext) =
-    create plan seat (file_asked who parent name mode flags ext)
+    create plan seat (file_asked who parent name mode kill flags ext)
 tree_of plan seat who _ = unserved

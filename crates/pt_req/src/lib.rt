@@ -4,6 +4,7 @@
 mod begun;
 mod job;
 mod laws;
+mod named;
 mod parts;
 mod plan;
 mod requests;
@@ -11,9 +12,11 @@ mod requests;
 pub use begun::BegunSession;
 pub use job::JobState;
 pub use laws::{requests_spare, requests_tend};
+pub use named::InodeFileHandlesMode;
 pub use parts::{
-    EntryLookup, EntryLookupAt, Looked, Part, are_made, asker_of, attr_of, can_open, is_bad_name,
-    is_bad_offset, is_blocked, label_name, label_value, refused_so, take_step, want_step,
+    EntryLookup, EntryLookupAt, Looked, Part, are_made, asker_of, attr_of, can_open, drops_fsetid,
+    is_bad_name, is_bad_offset, is_blocked, label_name, label_value, refused_so, reopen_flags,
+    take_step, want_drop, want_step,
 };
 pub use plan::{CachePolicy, Config, Plan};
 pub use requests::RequestBody;

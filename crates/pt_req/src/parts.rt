@@ -1,5 +1,6 @@
 mod asked;
 mod asker;
+mod capability;
 mod entry;
 mod label;
 mod look_up;
@@ -16,6 +17,7 @@ mod root_open;
 
 pub use asked::{FileAsked, NamedHandle};
 pub use asker::{are_made, asker_of, take_step, want_step};
+pub use capability::{drops_fsetid, want_drop};
 pub use entry::attr_of;
 pub use label::{is_blocked, label_name, label_value};
 pub use look_up::{EntryLookup, EntryLookupAt};
@@ -24,7 +26,7 @@ pub use name::is_bad_name;
 pub use new_file::{NewFile, NewFileAt, refused_so};
 pub use offset::is_bad_offset;
 pub use old_file::{OldFile, OldFileAt};
-pub use open::{HandleOpen, HandleOpenAt, can_open};
-pub use options::{agreed_with, init_options, making_flags, open_options};
+pub use open::{HandleOpen, can_open};
+pub use options::{agreed_with, init_options, making_flags, open_options, reopen_flags};
 pub use part::Part;
 pub use root_open::{RootOpen, RootOpenAt};

@@ -33,12 +33,20 @@ pub struct Config {
     pub guest_fd_limit: u64,
     /// How the guest may cache what it opens.
     pub cache_policy: CachePolicy,
+    /// Whether the guest may keep what it writes for a while, where it offers to.
+    pub writeback: bool,
+    /// Whether the guest is told which directories are mounts, where it offers to mind them.
+    pub announce_submounts: bool,
     /// Whether the guest may read a directory together with its entries' attributes.
     pub readdirplus: bool,
     /// Whether `O_DIRECT` of the guest is passed on to the host.
     pub allow_direct_io: bool,
+    /// Whether set-id bits are cleared where the guest asks for it: such a call is made without `CAP_FSETID`.
+    pub killpriv_v2: bool,
     /// Whether `O_NOATIME` of the guest is left out: a host may refuse it to whom does not own the file.
     pub clean_noatime: bool,
+    /// Whether the guest may map a file that it reads and writes directly.
+    pub allow_mmap: bool,
     /// How the guest's uids and the host's become each other.
     pub uid_map: IdRules,
     /// How the gids do.
@@ -47,8 +55,8 @@ pub struct Config {
 
 impl Config {
     /// The defaults: timeouts of five seconds, the host's root, no limit of descriptors, cached as the guest decides,
-    /// with attributes of whole directories, neither direct I/O nor `O_NOATIME` on the host, and ids as they are. Its
-    /// one refusal is that memory ran out.
+    /// with attributes of whole directories, neither direct I/O nor `O_NOATIME` on the host, and ids as they are; every
+    /// other switch is off. Its one refusal is that memory ran out.
     pub fn new(alloc: Global) -> Result<Config, Refusal>
         ensures ok { IfOk result IsDefault }
         ensures err { OnErr result (result ≡ Err Refusal.Memory) }
@@ -64,9 +72,13 @@ impl Config {
             root_dir,
             guest_fd_limit: u64::MAX,
             cache_policy: CachePolicy::Auto,
+            writeback: false,
+            announce_submounts: false,
             readdirplus: true,
             allow_direct_io: false,
+            killpriv_v2: false,
             clean_noatime: true,
+            allow_mmap: false,
             uid_map: IdRules::new(alloc),
             gid_map: IdRules::new(alloc),
         })

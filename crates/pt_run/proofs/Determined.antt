@@ -116,9 +116,13 @@ default_one config other d e = λ i. record {
   root_dir = (d.root_dir ∙ sym e.root_dir) i;
   guest_fd_limit = (d.guest_fd_limit ∙ sym e.guest_fd_limit) i;
   cache_policy = (d.cache_policy ∙ sym e.cache_policy) i;
+  writeback = (d.writeback ∙ sym e.writeback) i;
+  announce_submounts = (d.announce_submounts ∙ sym e.announce_submounts) i;
   readdirplus = (d.readdirplus ∙ sym e.readdirplus) i;
   allow_direct_io = (d.allow_direct_io ∙ sym e.allow_direct_io) i;
+  killpriv_v2 = (d.killpriv_v2 ∙ sym e.killpriv_v2) i;
   clean_noatime = (d.clean_noatime ∙ sym e.clean_noatime) i;
+  allow_mmap = (d.allow_mmap ∙ sym e.allow_mmap) i;
   uid_map = (d.uid_map ∙ sym e.uid_map) i;
   gid_map = (d.gid_map ∙ sym e.gid_map) i;
 }

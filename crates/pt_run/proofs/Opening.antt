@@ -25,7 +25,7 @@ use Rattle.pt_iface.specs.declared.answer.Refusal.{Refusal}
 use Rattle.pt_iface.specs.declared.answer.Refusal.TheVariants as refusal
 use Rattle.pt_req.specs.declared.plan.Config.{Config}
 use Rattle.pt_fs.specs.FileSystem.{FileSystem, AreMapped, IsMadeBy, IsPlanned, IsUnmapped, opens_root, only_path}
-use Rattle.pt_run.specs.Configured.{IsConfigured, with_limit, with_maps}
+use Rattle.pt_run.specs.Configured.{IsConfigured}
 use Rattle.pt_run.specs.Run.{IsAsked, IsOpened, IsMapRefused, IsRefused, IsNotOpened, IsNoReport, start_seat}
 use Rattle.pt_script.specs.Parse.{IsScriptOf}
 use Rattle.pt_run.proofs.Rooted.{begun_root}
@@ -36,18 +36,10 @@ use Rattle.pt_run.specs.declared.status.Status.TheVariants as status
 
 -- the rules of the configuration are those that are set
 uids_set : (settings : Settings) (config : Config) → IsConfigured settings config → config.uid_map ≡ settings.uid_map
-uids_set settings config h = ap (λ (c : Config). c.uid_map) h.2 ∙ limited settings.guest_fd_limit
-  where
-    limited : (limit : Option ℕ) → (with_limit limit (with_maps settings h.0)).uid_map ≡ settings.uid_map
-    limited None = refl
-    limited (Some limit) = refl
+uids_set settings config h = ap (λ (c : Config). c.uid_map) h.2
 
 gids_set : (settings : Settings) (config : Config) → IsConfigured settings config → config.gid_map ≡ settings.gid_map
-gids_set settings config h = ap (λ (c : Config). c.gid_map) h.2 ∙ limited settings.guest_fd_limit
-  where
-    limited : (limit : Option ℕ) → (with_limit limit (with_maps settings h.0)).gid_map ≡ settings.gid_map
-    limited None = refl
-    limited (Some limit) = refl
+gids_set settings config h = ap (λ (c : Config). c.gid_map) h.2
 
 -- what the call that makes a file system was answered
 abbrev Asked : State → HostSeat → Result FileSystem Refusal → State → HostSeat → Type 0

@@ -1,20 +1,27 @@
 -- Believed. The configuration that a script runs with.
-use Rattle.std.specs.Prelude.{◌≡◌, ℕ, Option, Some, None}
+use Rattle.std.specs.Prelude.{◌≡◌, unwrap_or}
 use Rattle.pt_req.specs.declared.plan.Config.{Config}
 use Rattle.pt_req.specs.Plan.{IsDefault}
 use Rattle.pt_script.specs.declared.settings.Settings.{Settings}
 
-abbrev pub with_limit : Option ℕ → Config → Config
-with_limit None config = config
-with_limit (Some limit) config = record config { guest_fd_limit = limit }
-
--- the rules for ids that are set; by default there are none
-abbrev pub with_maps : Settings → Config → Config
-with_maps settings config = record config { uid_map = settings.uid_map; gid_map = settings.gid_map }
-
--- what is set, in place of the defaults
+-- what is set, in place of the defaults; by default there are no rules for ids
 abbrev pub configured : Settings → Config → Config
-configured settings config = with_limit settings.guest_fd_limit (with_maps settings config)
+configured settings default = record {
+  entry_timeout = unwrap_or settings.entry_timeout default.entry_timeout;
+  attr_timeout = unwrap_or settings.attr_timeout default.attr_timeout;
+  root_dir = unwrap_or settings.root_dir default.root_dir;
+  guest_fd_limit = unwrap_or settings.guest_fd_limit default.guest_fd_limit;
+  cache_policy = unwrap_or settings.cache_policy default.cache_policy;
+  writeback = unwrap_or settings.switches.writeback default.writeback;
+  announce_submounts = unwrap_or settings.switches.announce_submounts default.announce_submounts;
+  readdirplus = unwrap_or settings.switches.readdirplus default.readdirplus;
+  allow_direct_io = unwrap_or settings.switches.allow_direct_io default.allow_direct_io;
+  killpriv_v2 = unwrap_or settings.switches.killpriv_v2 default.killpriv_v2;
+  clean_noatime = unwrap_or settings.switches.clean_noatime default.clean_noatime;
+  allow_mmap = unwrap_or settings.switches.allow_mmap default.allow_mmap;
+  uid_map = settings.uid_map;
+  gid_map = settings.gid_map;
+}
 
 -- the default configuration but for what is set
 abbrev pub IsConfigured : Settings → Config → Type 0

@@ -51,21 +51,28 @@ fn jobs_of(alloc: Global, who: Identity, jobs: Vec<ScriptJob>) -> Result<Vec<Job
 }
 
 // The configuration with what is set in place of the defaults.
-fn configured(settings: Settings, mut config: Config) -> Config
-    ensures { result ≡ configured settings config }
+fn configured(settings: Settings, default: Config) -> Config
+    ensures { result ≡ configured settings default }
 {
-    let Settings {
-        guest_fd_limit,
-        uid_map,
-        gid_map,
-        ..
-    } = settings;
-    config.uid_map = uid_map;
-    config.gid_map = gid_map;
-    if let Some(limit) = guest_fd_limit {
-        config.guest_fd_limit = limit;
+    let switches = settings.switches;
+    Config {
+        entry_timeout: settings.entry_timeout.unwrap_or(default.entry_timeout),
+        attr_timeout: settings.attr_timeout.unwrap_or(default.attr_timeout),
+        root_dir: settings.root_dir.unwrap_or(default.root_dir),
+        guest_fd_limit: settings.guest_fd_limit.unwrap_or(default.guest_fd_limit),
+        cache_policy: settings.cache_policy.unwrap_or(default.cache_policy),
+        writeback: switches.writeback.unwrap_or(default.writeback),
+        announce_submounts: switches
+            .announce_submounts
+            .unwrap_or(default.announce_submounts),
+        readdirplus: switches.readdirplus.unwrap_or(default.readdirplus),
+        allow_direct_io: switches.allow_direct_io.unwrap_or(default.allow_direct_io),
+        killpriv_v2: switches.killpriv_v2.unwrap_or(default.killpriv_v2),
+        clean_noatime: switches.clean_noatime.unwrap_or(default.clean_noatime),
+        allow_mmap: switches.allow_mmap.unwrap_or(default.allow_mmap),
+        uid_map: settings.uid_map,
+        gid_map: settings.gid_map,
     }
-    config
 }
 
 // The file system over a host, with the default configuration but for what is set.

@@ -13,7 +13,11 @@ use Rattle.pt_script.specs.declared.line.ScriptJob.{ScriptJob}
 use Rattle.pt_script.specs.declared.line.Line.{Line}
 use Rattle.pt_script.specs.declared.line.Line.TheVariants.{Set, Tree, Fault, Job, Order, End}
 use Rattle.pt_script.specs.declared.settings.Setting.{Setting}
-use Rattle.pt_script.specs.declared.settings.Setting.TheVariants.{GuestFdLimit, Seat, UidRule, GidRule}
+use Rattle.pt_script.specs.declared.settings.Setting.TheVariants as key
+use Rattle.pt_script.specs.declared.switches.Switch.{Switch}
+use Rattle.pt_script.specs.declared.switches.Switch.TheVariants as switch
+use Rattle.pt_script.specs.declared.switches.Switches.{Switches}
+use Rattle.pt_script.specs.Switches.{switched, with_switch, switch_lines}
 use Rattle.pt_script.specs.declared.settings.Settings.{Settings}
 use Rattle.pt_script.specs.Settings.{may_set, with_setting, set_lines}
 use Rattle.std.specs.Option.{is_none, option_len}
@@ -21,7 +25,6 @@ use Rattle.pt_text.specs.Words.{lines_of}
 use Rattle.pt_tree.specs.Start.{StartsAs, IsCause}
 use Rattle.pt_script.specs.Begins.{planned_all}
 use Rattle.pt_script.specs.declared.line.PlannedFault.{PlannedFault}
-use Rattle.pt_script.specs.declared.settings.Identity.{Identity}
 use Rattle.pt_rules.specs.State.{State}
 use Rattle.pt_script.specs.Scan.{IsBadTree, moved, place_of, error_behind}
 use Rattle.pt_script.specs.Parse.{IsScriptOf, IsBadLine}
@@ -259,24 +262,40 @@ sound_order number begun places sound may =
           (and_true (is_empty begun.jobs) _ (and_true (is_empty begun.faults) _ none).1).1 in absurd (cc);
     }
 
+none_len : {A : Type 0} (o : Option A) → is_none o ≡ true → option_len o ≡ 0
+none_len None free = refl
+none_len (Some value) free = cc
+
+-- a switch that was not set
+one_switch : (switches : Switches) (one : Switch) (on : Bool) → is_none (switched switches one) ≡ true →
+    switch_lines (with_switch switches one on) ≡ switch_lines switches + 1
+one_switch switches switch.Writeback on free = let none = none_len switches.writeback free in omega (arith, none)
+one_switch switches switch.AnnounceSubmounts on free =
+    let none = none_len switches.announce_submounts free in omega (arith, none)
+one_switch switches switch.Readdirplus on free = let none = none_len switches.readdirplus free in omega (arith, none)
+one_switch switches switch.AllowDirectIo on free =
+    let none = none_len switches.allow_direct_io free in omega (arith, none)
+one_switch switches switch.KillprivV2 on free = let none = none_len switches.killpriv_v2 free in omega (arith, none)
+one_switch switches switch.CleanNoatime on free =
+    let none = none_len switches.clean_noatime free in omega (arith, none)
+one_switch switches switch.AllowMmap on free = let none = none_len switches.allow_mmap free in omega (arith, none)
+
 one_more : (settings : Settings) (setting : Setting) → may_set settings setting ≡ true →
     set_lines (with_setting settings setting) ≡ set_lines settings + 1
-one_more settings (GuestFdLimit limit) free =
-    go settings.guest_fd_limit (length settings.uid_map + length settings.gid_map) free
-  where
-    go : (o : Option ℕ) (rules : ℕ) → is_none o ≡ true →
-        1 + option_len settings.seat + rules ≡ option_len o + option_len settings.seat + rules + 1
-    go None rules e = omega arith
-    go (Some n) rules e = cc
-one_more settings (Seat who) free =
-    go settings.seat (length settings.uid_map + length settings.gid_map) free
-  where
-    go : (o : Option Identity) (rules : ℕ) → is_none o ≡ true →
-        option_len settings.guest_fd_limit + 1 + rules ≡ option_len settings.guest_fd_limit + option_len o + rules + 1
-    go None rules e = omega arith
-    go (Some n) rules e = cc
-one_more settings (UidRule rule) free = omega (arith, length-append settings.uid_map (rule ∷ []))
-one_more settings (GidRule rule) free = omega (arith, length-append settings.gid_map (rule ∷ []))
+one_more settings (key.GuestFdLimit limit) free =
+    let none = none_len settings.guest_fd_limit free in omega (arith, none)
+one_more settings (key.Seat who) free = let none = none_len settings.seat free in omega (arith, none)
+one_more settings (key.EntryTimeout timeout) free =
+    let none = none_len settings.entry_timeout free in omega (arith, none)
+one_more settings (key.AttrTimeout timeout) free =
+    let none = none_len settings.attr_timeout free in omega (arith, none)
+one_more settings (key.CachePolicy policy) free =
+    let none = none_len settings.cache_policy free in omega (arith, none)
+one_more settings (key.RootDir path) free = let none = none_len settings.root_dir free in omega (arith, none)
+one_more settings (key.Switch one on) free =
+    let more = one_switch settings.switches one on free in omega (arith, more)
+one_more settings (key.UidRule rule) free = omega (arith, length-append settings.uid_map (rule ∷ []))
+one_more settings (key.GidRule rule) free = omega (arith, length-append settings.gid_map (rule ∷ []))
 
 empty_is : (xs : List TreeLine) → is_empty xs ≡ true → xs ≡ []
 empty_is [] e = refl

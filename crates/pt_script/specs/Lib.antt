@@ -2,8 +2,10 @@
 pub mod NewObjects
 pub mod TreeLine
 pub mod Edit
+pub mod Switches
 pub mod Settings
 pub mod IdRules
+pub mod SettingLine
 pub mod Line
 pub mod Script
 pub mod Begins

@@ -7,15 +7,12 @@ use Rattle.pt_words.specs.Fields.{◌>>=◌, number_in, small_in, errno_in, plac
 use Rattle.pt_script.specs.TreeLine.{tree_line_in}
 use Rattle.pt_script.specs.Edit.{edit_in}
 use Rattle.pt_words.specs.Request.{request_in}
-use Rattle.pt_script.specs.IdRules.{id_rule_in}
+use Rattle.pt_script.specs.SettingLine.{setting_in}
 use Rattle.pt_script.specs.declared.line.ScriptJob.{ScriptJob}
 use Rattle.pt_script.specs.declared.line.ScriptJob.TheVariants as script_job
 use Rattle.pt_script.specs.declared.line.Line.{Line}
 use Rattle.pt_script.specs.declared.line.Line.TheVariants.{Set, Tree, Fault, Job, Order, End}
 use Rattle.pt_script.specs.declared.line.PlannedFault.{PlannedFault}
-use Rattle.pt_script.specs.declared.settings.Identity.{Identity}
-use Rattle.pt_script.specs.declared.settings.Setting.{Setting}
-use Rattle.pt_script.specs.declared.settings.Setting.TheVariants.{GuestFdLimit, Seat, UidRule, GidRule}
 
 -- `job UID GID REQUEST FIELDS`
 abbrev pub job_in : List (List ℕ) → Option ScriptJob
@@ -35,37 +32,6 @@ fault_in words = do
   call ← number_in words
   errno ← errno_in call.rest
   at_end errno.rest (record { call = call.value; errno = errno.value })
-
--- the value of `guest_fd_limit N`
-abbrev pub limit_in : List (List ℕ) → Option Setting
-limit_in words = do
-  limit ← number_in words
-  at_end limit.rest (GuestFdLimit limit.value)
-
--- `UID GID CAPS`
-abbrev pub identity_of : List (List ℕ) → Option Identity
-identity_of words = do
-  uid ← small_in words
-  gid ← small_in uid.rest
-  caps ← small_in gid.rest
-  at_end caps.rest (record { uid = uid.value; gid = gid.value; caps = record { 0 = caps.value } })
-
--- the value of `seat UID GID CAPS`
-abbrev pub seat_in : List (List ℕ) → Option Setting
-seat_in words = option_map Seat (identity_of words)
-
--- the setting of this key
-abbrev pub setting_as : List ℕ → List (List ℕ) → Option Setting
-setting_as key fields =
-    if bytes_eq key (codes "guest_fd_limit") then limit_in fields
-    else (if bytes_eq key (codes "seat") then seat_in fields
-    else (if bytes_eq key (codes "uidmap") then option_map UidRule (id_rule_in fields)
-    else (if bytes_eq key (codes "gidmap") then option_map GidRule (id_rule_in fields) else None)))
-
--- `KEY VALUE`
-abbrev pub setting_in : List (List ℕ) → Option Setting
-setting_in [] = None
-setting_in (key ∷ fields) = setting_as key fields
 
 abbrev pub line_in : List (List ℕ) → Option Line
 line_in [] = None

@@ -9,13 +9,17 @@ mod line;
 mod new_objects;
 mod scan;
 mod script;
+mod setting_line;
 mod settings;
+mod switches;
 mod tree_line;
 
 pub use edit::next_edit;
 pub use id_rule::next_id_rule;
 pub use laws::first_bad_line;
-pub use line::{Line, PlannedFault, ScriptJob, next_fault, next_identity, next_job, read_line};
+pub use line::{Line, PlannedFault, ScriptJob, next_fault, next_job, read_line};
 pub use script::{ParseError, Script, parse};
+pub use setting_line::next_identity;
 pub use settings::{Identity, Setting, Settings};
+pub use switches::{Switch, Switches};
 pub use tree_line::next_tree_line;

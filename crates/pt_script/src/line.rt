@@ -1,11 +1,11 @@
 ghost use Rattle.std.specs.Prelude.{◌≡◌, IfOk, Some, None};
-ghost use Rattle.pt_script.specs.Line.{limit_in, identity_of, setting_as, setting_in, fault_in, job_in, line_of};
+ghost use Rattle.pt_script.specs.Line.{fault_in, job_in, line_of};
 
 use crate::edit::next_edit;
-use crate::id_rule::next_id_rule;
-use crate::settings::{Identity, Setting};
+use crate::setting_line::next_setting;
+use crate::settings::Setting;
 use crate::tree_line::next_tree_line;
-use pt_host::{Caps, Edit, Errno};
+use pt_host::{Edit, Errno};
 use pt_iface::{Context, Request};
 use pt_text::Parts;
 use pt_tree::TreeLine;
@@ -43,53 +43,6 @@ pub enum Line {
     End,
 }
 
-fn next_limit(words: &mut Parts<'_>) -> Result<Setting, LineError>
-    ensures ok { IfOk result (λ setting. limit_in words.old ≡ Some setting) }
-    ensures bad { result ≡ Err LineError.Bad → limit_in words.old ≡ None }
-{
-    let limit = next_number(words)?;
-    end(words)?;
-    Ok(Setting::GuestFdLimit(limit))
-}
-
-/// Who a seat begins as, to the last word.
-pub fn next_identity(words: &mut Parts<'_>) -> Result<Identity, LineError>
-    ensures ok { IfOk result (λ who. identity_of words.old ≡ Some who) }
-    ensures bad { result ≡ Err LineError.Bad → identity_of words.old ≡ None }
-{
-    let uid = next_small(words)?;
-    let gid = next_small(words)?;
-    let caps = Caps(next_small(words)?);
-    end(words)?;
-    Ok(Identity { uid, gid, caps })
-}
-
-// The setting of this key.
-fn next_setting_as(key: &[u8], words: &mut Parts<'_>) -> Result<Setting, LineError>
-    ensures ok { IfOk result (λ setting. setting_as key.now words.old ≡ Some setting) }
-    ensures bad { result ≡ Err LineError.Bad → setting_as key.now words.old ≡ None }
-{
-    if key == b"guest_fd_limit".as_slice() {
-        next_limit(words)
-    } else if key == b"seat".as_slice() {
-        Ok(Setting::Seat(next_identity(words)?))
-    } else if key == b"uidmap".as_slice() {
-        Ok(Setting::UidRule(next_id_rule(words)?))
-    } else if key == b"gidmap".as_slice() {
-        Ok(Setting::GidRule(next_id_rule(words)?))
-    } else {
-        Err(LineError::Bad)
-    }
-}
-
-fn next_setting(words: &mut Parts<'_>) -> Result<Setting, LineError>
-    ensures ok { IfOk result (λ setting. setting_in words.old ≡ Some setting) }
-    ensures bad { result ≡ Err LineError.Bad → setting_in words.old ≡ None }
-{
-    let key = next_word(words)?;
-    next_setting_as(key, words)
-}
-
 /// A call of the host that is to fail, to the last word.
 pub fn next_fault(words: &mut Parts<'_>) -> Result<PlannedFault, LineError>
     ensures ok { IfOk result (λ fault. fault_in words.old ≡ Some fault) }
@@ -120,7 +73,7 @@ pub fn read_line(alloc: Global, text: &[u8]) -> Result<Line, LineError>
     let mut words = Parts::words(text);
     let word = next_word(&mut words)?;
     if word == b"set".as_slice() {
-        Ok(Line::Set(next_setting(&mut words)?))
+        Ok(Line::Set(next_setting(alloc, &mut words)?))
     } else if word == b"job".as_slice() {
         Ok(Line::Job(next_job(alloc, &mut words)?))
     } else if word == b"edit".as_slice() {

@@ -67,7 +67,7 @@ impl Lines {
         ensures { result ≡ may_stand self.now line.now }
     {
         match line {
-            Line::Set(setting) => self.tree.is_empty() && self.settings.may_set(*setting),
+            Line::Set(setting) => self.tree.is_empty() && self.settings.may_set(setting),
             Line::Tree(_) => !self.ended && self.faults.is_empty() && self.is_before_jobs(),
             Line::Fault(fault) => {
                 !self.ended

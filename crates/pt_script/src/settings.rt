@@ -1,8 +1,11 @@
 ghost use Rattle.std.specs.Prelude.{◌≡◌, ◌≤◌, ◌<◌, ◌+◌, ◌^◌, OnOk, OnErr};
 ghost use Rattle.pt_script.specs.Settings.{no_settings, may_set, with_setting, single_lines, set_lines, identity_in};
 
-use pt_host::Caps;
+use crate::switches::{Switch, Switches, lines_of};
+use pt_host::{Bytes, Caps};
+use pt_iface::Timeout;
 use pt_maps::{IdRule, IdRules};
+use pt_req::CachePolicy;
 use std::alloc::{AllocError, Global};
 
 /// Who a seat begins as: one uid, one gid and its capabilities.
@@ -14,12 +17,22 @@ pub struct Identity {
 }
 
 /// One setting of a script.
-#[derive(Clone, Copy, Debug, PartialEq, Eq)]
+#[derive(Debug, Drop)]
 pub enum Setting {
     /// How many descriptors the guest may hold.
     GuestFdLimit(u64),
     /// Who the daemon and each job begin as.
     Seat(Identity),
+    /// How long the guest may keep a name that it looked up.
+    EntryTimeout(Timeout),
+    /// How long the guest may keep an object's attributes.
+    AttrTimeout(Timeout),
+    /// How the guest may cache what it opens.
+    CachePolicy(CachePolicy),
+    /// The path of the shared directory on the host.
+    RootDir(Bytes),
+    /// A switch, on or off.
+    Switch(Switch, bool),
     /// One more rule by which the guest's uids and the host's become each other.
     UidRule(IdRule),
     /// One more rule for gids.
@@ -31,6 +44,11 @@ pub enum Setting {
 pub struct Settings {
     pub guest_fd_limit: Option<u64>,
     pub seat: Option<Identity>,
+    pub entry_timeout: Option<Timeout>,
+    pub attr_timeout: Option<Timeout>,
+    pub cache_policy: Option<CachePolicy>,
+    pub root_dir: Option<Bytes>,
+    pub switches: Switches,
     pub uid_map: IdRules,
     pub gid_map: IdRules,
 }
@@ -43,18 +61,28 @@ impl Settings {
         Settings {
             guest_fd_limit: None,
             seat: None,
+            entry_timeout: None,
+            attr_timeout: None,
+            cache_policy: None,
+            root_dir: None,
+            switches: Switches::none(),
             uid_map: IdRules::new(alloc),
             gid_map: IdRules::new(alloc),
         }
     }
 
     /// Whether it may be set: its key is not set yet, or it is a rule.
-    pub fn may_set(&self, setting: Setting) -> bool
-        ensures { result ≡ may_set self.now setting }
+    pub fn may_set(&self, setting: &Setting) -> bool
+        ensures { result ≡ may_set self.now setting.now }
     {
         match setting {
             Setting::GuestFdLimit(_) => self.guest_fd_limit.is_none(),
             Setting::Seat(_) => self.seat.is_none(),
+            Setting::EntryTimeout(_) => self.entry_timeout.is_none(),
+            Setting::AttrTimeout(_) => self.attr_timeout.is_none(),
+            Setting::CachePolicy(_) => self.cache_policy.is_none(),
+            Setting::RootDir(_) => self.root_dir.is_none(),
+            Setting::Switch(switch, _) => self.switches.get(*switch).is_none(),
             Setting::UidRule(_) | Setting::GidRule(_) => true,
         }
     }
@@ -67,6 +95,11 @@ impl Settings {
         match setting {
             Setting::GuestFdLimit(limit) => self.guest_fd_limit = Some(limit),
             Setting::Seat(who) => self.seat = Some(who),
+            Setting::EntryTimeout(timeout) => self.entry_timeout = Some(timeout),
+            Setting::AttrTimeout(timeout) => self.attr_timeout = Some(timeout),
+            Setting::CachePolicy(policy) => self.cache_policy = Some(policy),
+            Setting::RootDir(path) => self.root_dir = Some(path),
+            Setting::Switch(switch, on) => self.switches.set(switch, on),
             Setting::UidRule(rule) => self.uid_map.push(rule)?,
             Setting::GidRule(rule) => self.gid_map.push(rule)?,
         }
@@ -76,14 +109,15 @@ impl Settings {
     // How many lines set what stands once at most.
     fn single_lines(&self) -> u32
         ensures lines { result ≡ single_lines self.now }
-        ensures few { result ≤ 2 }
+        ensures few { result ≤ 13 }
     {
-        match (self.guest_fd_limit, self.seat) {
-            (None, None) => 0,
-            (Some(_), None) => 1,
-            (None, Some(_)) => 1,
-            (Some(_), Some(_)) => 2,
-        }
+        lines_of(&self.guest_fd_limit)
+            + lines_of(&self.seat)
+            + lines_of(&self.entry_timeout)
+            + lines_of(&self.attr_timeout)
+            + lines_of(&self.cache_policy)
+            + lines_of(&self.root_dir)
+            + self.switches.lines()
     }
 
     /// How many lines set them.

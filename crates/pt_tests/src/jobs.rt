@@ -3,7 +3,7 @@ use pt_frame::{ActReply, Finish, Want};
 use pt_host::{Bytes, Caps, Edit, Errno, Fd, HostReply, HostSeat, HostValue, ObjIds, Stat, Time};
 use pt_iface::{Context, Extensions, Request, SecContext};
 use pt_maps::IdMap;
-use pt_req::{CachePolicy, Config, Plan};
+use pt_req::{Config, Plan};
 use pt_session::{EventRefusal, EventReply, Negotiated, RowForm};
 use pt_show::Text;
 use std::alloc::Global;
@@ -187,16 +187,6 @@ impl Played {
             && self.step(alloc, CLOSE, gave(HostValue::Unit))
             && self.step(alloc, UNPIN, told(none_to_close()))
     }
-
-    /// The steps of an opening up to its `InsertHandle`.
-    fn opens_directory(&mut self, alloc: Global) -> bool {
-        let drawn = EventReply::Drawn { number: 7 };
-        self.step(alloc, b" Begin", told(began()))
-            && self.step(alloc, b" Resolve 2", told(resolved()))
-            && self.step(alloc, b" Reopen 4 589824", gave(HostValue::Fd(Fd(5))))
-            && self.step(alloc, b" DrawHandle", told(drawn))
-            && self.step(alloc, b" TakeFd", told(EventReply::Taken))
-    }
 }
 
 /// What a request brings that has a context of this name.
@@ -324,33 +314,11 @@ fn an_edit_that_is_cut_is_not_made(rt: HostRuntime) -> Result<(), Fail> {
     Ok(())
 }
 
-/// By another policy, which no line of a script sets yet.
-#[test]
-fn a_directory_is_opened_by_another_policy(rt: HostRuntime) -> Result<(), Fail> {
-    let alloc = rt.alloc();
-    let opening = Request::OpenDir { inode: 2, flags: 0 };
-    let mut job = Played::start(alloc, opening).ok_or("no job")?;
-    job.plan.config.cache_policy = CachePolicy::Metadata;
-    assert!(rt; job.opens_directory(alloc));
-    let inserted = EventReply::Inserted { number: 7 };
-    assert!(rt; job.step(alloc, b" InsertHandle 1 7 2 5", told(inserted)));
-    assert!(rt; job.step(alloc, UNPIN, told(none_to_close())));
-    assert!(rt; job.has_ended(alloc, b" Opened 7 10"));
-    Ok(())
-}
-
 /// No line of a script asks for it yet.
 #[test]
 fn what_is_not_implemented_is_refused(rt: HostRuntime) -> Result<(), Fail> {
     let alloc = rt.alloc();
-    let mut job = Played::start(
-        alloc,
-        Request::Flush {
-            inode: 1,
-            handle: 0,
-        },
-    )
-    .ok_or("no job")?;
+    let mut job = Played::start(alloc, Request::ListXattr { inode: 1, size: 0 }).ok_or("no job")?;
     assert!(rt; job.step(alloc, b" Begin", told(began())));
     assert!(rt; job.has_ended(alloc, b" Refused 38"));
     Ok(())

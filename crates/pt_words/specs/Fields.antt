@@ -49,19 +49,25 @@ switch_of word =
 abbrev pub switch_in : List (List ℕ) → Option (Field Bool)
 switch_in words = first_as switch_of words
 
--- the field that is behind `+`, or none for `-`
-abbrev pub optional_as : {A : Type 0} → (List (List ℕ) → Option (Field A)) → List ℕ → List (List ℕ) →
-    Option (Field (Option A))
-optional_as read word rest =
-    if bytes_eq word (codes "-") then Some (record { value = None; rest = rest })
-    else (if bytes_eq word (codes "+") then
-    read rest >>= (λ field. Some (record { value = Some field.value; rest = field.rest }))
-    else None)
+-- `+` before a field that is told, `-` where it is not
+abbrev pub sign_of : List ℕ → Option Bool
+sign_of word =
+    if bytes_eq word (codes "-") then Some false else (if bytes_eq word (codes "+") then Some true else None)
 
+abbrev pub sign_in : List (List ℕ) → Option (Field Bool)
+sign_in words = first_as sign_of words
+
+abbrev pub optional_as : {A : Type 0} → (List (List ℕ) → Option (Field A)) → Bool → List (List ℕ) →
+    Option (Field (Option A))
+optional_as read false rest = Some (record { value = None; rest = rest })
+optional_as read true rest = read rest >>= (λ field. Some (record { value = Some field.value; rest = field.rest }))
+
+-- the field that is behind `+`, or none for `-`
 abbrev pub optional_in : {A : Type 0} → (List (List ℕ) → Option (Field A)) → List (List ℕ) →
     Option (Field (Option A))
-optional_in read [] = None
-optional_in read (word ∷ rest) = optional_as read word rest
+optional_in read words = do
+  sign ← sign_in words
+  optional_as read sign.value sign.rest
 
 -- a pair of numbers
 abbrev pub pair_in : List (List ℕ) → Option (Field (ℕ × ℕ))

@@ -2,6 +2,7 @@
 pub mod Fields
 pub mod Numbers
 pub mod Handles
+pub mod Contents
 pub mod Making
 pub mod Naming
 pub mod Attributes

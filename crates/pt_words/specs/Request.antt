@@ -6,6 +6,8 @@ use Rattle.pt_iface.specs.declared.request.Request.TheVariants.{Destroy, Root, O
 use Rattle.pt_words.specs.Fields.{◌>>=◌, small_in, at_end}
 use Rattle.pt_words.specs.Numbers.{init_in, lookup_in, forget_in, batch_forget_in}
 use Rattle.pt_words.specs.Handles.{open_in, opendir_in, release_in, releasedir_in, read_in}
+use Rattle.pt_words.specs.Contents.{write_in, fallocate_in, lseek_in, copyfilerange_in, flush_in, fsync_in}
+use Rattle.pt_words.specs.Contents.{fsyncdir_in, syncfs_in}
 use Rattle.pt_words.specs.Making.{create_in, mkdir_in, mknod_in, symlink_in}
 use Rattle.pt_words.specs.Naming.{link_in, unlink_in, rmdir_in, rename_in}
 use Rattle.pt_words.specs.Attributes.{readlink_in, statfs_in, getattr_in, setattr_in, access_in}
@@ -41,6 +43,18 @@ making_request_in word fields =
     else (if bytes_eq word (codes "mknod") then mknod_in fields
     else (if bytes_eq word (codes "symlink") then symlink_in fields else naming_request_in word fields)))
 
+-- a request for what files hold, or one of the above
+abbrev pub contents_request_in : List ℕ → List (List ℕ) → Option Request
+contents_request_in word fields =
+    if bytes_eq word (codes "write") then write_in fields
+    else (if bytes_eq word (codes "fallocate") then fallocate_in fields
+    else (if bytes_eq word (codes "lseek") then lseek_in fields
+    else (if bytes_eq word (codes "copyfilerange") then copyfilerange_in fields
+    else (if bytes_eq word (codes "flush") then flush_in fields
+    else (if bytes_eq word (codes "fsync") then fsync_in fields
+    else (if bytes_eq word (codes "fsyncdir") then fsyncdir_in fields
+    else (if bytes_eq word (codes "syncfs") then syncfs_in fields else making_request_in word fields)))))))
+
 -- a request that begins or ends a handle, or reads by one, or one of the above
 abbrev pub handle_request_in : List ℕ → List (List ℕ) → Option Request
 handle_request_in word fields =
@@ -48,7 +62,7 @@ handle_request_in word fields =
     else (if bytes_eq word (codes "opendir") then opendir_in fields
     else (if bytes_eq word (codes "read") then read_in fields
     else (if bytes_eq word (codes "release") then release_in fields
-    else (if bytes_eq word (codes "releasedir") then releasedir_in fields else making_request_in word fields))))
+    else (if bytes_eq word (codes "releasedir") then releasedir_in fields else contents_request_in word fields))))
 
 -- a request of a number's life, or one of the above
 abbrev pub number_request_in : List ℕ → List (List ℕ) → Option Request

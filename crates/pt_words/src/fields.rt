@@ -6,7 +6,7 @@ ghost use Rattle.pt_words.specs.Fields.{
   errno_in,
   bytes_in,
   switch_in,
-  optional_as,
+  sign_in,
   optional_in,
   pair_in,
   pairs_in,
@@ -97,16 +97,16 @@ pub fn next_switch(words: &mut Parts<'_>) -> Result<bool, LineError>
     }
 }
 
-// The number that this word begins, where one is told.
-fn next_optional_number_as(word: &[u8], words: &mut Parts<'_>) -> Result<Option<u64>, LineError>
-    ensures ok { IfOk result (λ value. optional_as number_in word.now words.old
-        ≡ Some (record { value = value; rest = words.new })) }
-    ensures bad { result ≡ Err LineError.Bad → optional_as number_in word.now words.old ≡ None }
+// Whether a field is told: `+` before it, or `-` in its place.
+fn next_sign(words: &mut Parts<'_>) -> Result<bool, LineError>
+    ensures ok { IfOk result (λ told. sign_in words.old ≡ Some (record { value = told; rest = words.new })) }
+    ensures bad { result ≡ Err LineError.Bad → sign_in words.old ≡ None }
 {
+    let word = next_word(words)?;
     if word == b"-".as_slice() {
-        Ok(None)
+        Ok(false)
     } else if word == b"+".as_slice() {
-        Ok(Some(next_number(words)?))
+        Ok(true)
     } else {
         Err(LineError::Bad)
     }
@@ -118,22 +118,10 @@ pub fn next_optional_number(words: &mut Parts<'_>) -> Result<Option<u64>, LineEr
         ≡ Some (record { value = value; rest = words.new })) }
     ensures bad { result ≡ Err LineError.Bad → optional_in number_in words.old ≡ None }
 {
-    let word = next_word(words)?;
-    next_optional_number_as(word, words)
-}
-
-// The number that this word begins, where one is told.
-fn next_optional_small_as(word: &[u8], words: &mut Parts<'_>) -> Result<Option<u32>, LineError>
-    ensures ok { IfOk result (λ value. optional_as small_in word.now words.old
-        ≡ Some (record { value = value; rest = words.new })) }
-    ensures bad { result ≡ Err LineError.Bad → optional_as small_in word.now words.old ≡ None }
-{
-    if word == b"-".as_slice() {
-        Ok(None)
-    } else if word == b"+".as_slice() {
-        Ok(Some(next_small(words)?))
+    if next_sign(words)? {
+        Ok(Some(next_number(words)?))
     } else {
-        Err(LineError::Bad)
+        Ok(None)
     }
 }
 
@@ -143,8 +131,11 @@ pub fn next_optional_small(words: &mut Parts<'_>) -> Result<Option<u32>, LineErr
         ≡ Some (record { value = value; rest = words.new })) }
     ensures bad { result ≡ Err LineError.Bad → optional_in small_in words.old ≡ None }
 {
-    let word = next_word(words)?;
-    next_optional_small_as(word, words)
+    if next_sign(words)? {
+        Ok(Some(next_small(words)?))
+    } else {
+        Ok(None)
+    }
 }
 
 fn next_pair(words: &mut Parts<'_>) -> Result<(u64, u64), LineError>

@@ -2,6 +2,7 @@
 #![tactic(auto)]
 
 mod attributes;
+mod contents;
 mod fields;
 mod handles;
 mod making;

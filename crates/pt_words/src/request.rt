@@ -5,12 +5,17 @@ ghost use Rattle.pt_words.specs.Request.{
   attribute_request_in,
   naming_request_in,
   making_request_in,
+  contents_request_in,
   handle_request_in,
   number_request_in,
   request_in,
 };
 
 use crate::attributes::{next_access, next_getattr, next_readlink, next_setattr, next_statfs};
+use crate::contents::{
+    next_copyfilerange, next_fallocate, next_flush, next_fsync, next_fsyncdir, next_lseek,
+    next_syncfs, next_write,
+};
 use crate::fields::{LineError, end, next_small, next_word};
 use crate::handles::{next_open, next_opendir, next_read, next_release, next_releasedir};
 use crate::making::{next_create, next_mkdir, next_mknod, next_symlink};
@@ -109,6 +114,36 @@ fn next_making_request(
     }
 }
 
+// A request for what files hold, or one of the above.
+fn next_contents_request(
+    alloc: Global,
+    word: &[u8],
+    words: &mut Parts<'_>,
+) -> Result<Request, LineError>
+    ensures ok { IfOk result (λ request. contents_request_in word.now words.old ≡ Some request) }
+    ensures bad { result ≡ Err LineError.Bad → contents_request_in word.now words.old ≡ None }
+{
+    if word == b"write".as_slice() {
+        next_write(alloc, words)
+    } else if word == b"fallocate".as_slice() {
+        next_fallocate(words)
+    } else if word == b"lseek".as_slice() {
+        next_lseek(words)
+    } else if word == b"copyfilerange".as_slice() {
+        next_copyfilerange(words)
+    } else if word == b"flush".as_slice() {
+        next_flush(words)
+    } else if word == b"fsync".as_slice() {
+        next_fsync(words)
+    } else if word == b"fsyncdir".as_slice() {
+        next_fsyncdir(words)
+    } else if word == b"syncfs".as_slice() {
+        next_syncfs(words)
+    } else {
+        next_making_request(alloc, word, words)
+    }
+}
+
 // A request that begins or ends a handle, or reads by one, or one of the above.
 fn next_handle_request(
     alloc: Global,
@@ -129,7 +164,7 @@ fn next_handle_request(
     } else if word == b"releasedir".as_slice() {
         next_releasedir(words)
     } else {
-        next_making_request(alloc, word, words)
+        next_contents_request(alloc, word, words)
     }
 }
 

@@ -6,6 +6,7 @@ mod creds;
 mod flags;
 mod ids;
 mod lengths;
+mod modes;
 mod names;
 mod planned;
 mod seats;
@@ -25,6 +26,7 @@ fn answer(alloc: Global, seat: &mut HostSeat, words: &[&str]) -> Result<String, 
         ["seat", rest @ ..] => seats::answer(alloc, seat, rest),
         ["ids", rest @ ..] => ids::answer(alloc, rest),
         ["names", rest @ ..] => names::answer(alloc, rest),
+        ["mode", rest @ ..] => modes::answer(alloc, rest),
         ["creds", rest @ ..] => creds::creds(alloc, rest),
         ["cap", rest @ ..] => creds::cap(alloc, rest),
         ["mask", rest @ ..] => creds::mask(alloc, rest),

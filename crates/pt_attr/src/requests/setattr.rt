@@ -1,9 +1,8 @@
 ghost use Rattle.std.specs.Prelude.{◌≡◌, ◌≤◌};
-ghost use Rattle.pt_frame.specs.declared.machine.body.Next.TheVariants as next;
-ghost use Rattle.pt_frame.specs.declared.machine.body.Then.TheVariants as then;
-ghost use Rattle.pt_host.specs.Errno.{eperm};
+ghost use Rattle.pt_frame.specs.Machine.Next.{IsNext, asked, begun_in, counts_after};
+ghost use Rattle.pt_frame.specs.declared.act.ActReply.{ActReply};
 ghost use Rattle.pt_host.specs.declared.ids.Fd.{Fd};
-ghost use Rattle.pt_iface.specs.declared.answer.Answer.TheVariants as answer;
+ghost use Rattle.pt_host.specs.declared.seat.HostSeat.{HostSeat};
 ghost use Rattle.pt_maps.specs.Translated.{to_host};
 ghost use Rattle.pt_req.specs.Options.{without_nofollow};
 ghost use Rattle.pt_req.specs.declared.plan.Plan.{Plan};
@@ -11,13 +10,14 @@ ghost use Rattle.pt_attr.specs.Setting.{atime_set, id_set, is_missized, mtime_se
 ghost use Rattle.pt_attr.specs.Setting.{setting_flags, time_set};
 ghost use Rattle.pt_attr.specs.Machine.Setting.{filed_left, going_acts, going_left, going_room};
 ghost use Rattle.pt_attr.specs.Machine.Setting.{mode_left, owner_left, size_left, times_left};
-ghost use Rattle.pt_attr.specs.Machine.Setting.{set_at_acts, set_at_left, set_at_room};
+ghost use Rattle.pt_attr.specs.Machine.Setting.{set_acts, set_at_acts, set_at_left, set_at_room, set_left, set_room};
+ghost use Rattle.pt_attr.specs.declared.requests.setattr.SetAttrAt.TheVariants.{Begin, Resolve};
 
-use pt_frame::{Act, ActReply, Body, Next, Then, Wanted};
+use pt_frame::{Act, ActReply, Body, Edges, Next, Then, Wanted};
 use pt_host::{Errno, Fd, HostOp, HostReply, HostSeat, HostValue, OpenFlags, Time, TimeSet};
 use pt_iface::{Answer, SetattrIn, SetattrValid};
 use pt_maps::IdMap;
-use pt_req::{Plan, attr_of, can_open, is_bad_offset};
+use pt_req::{Plan, attr_of, can_open, drops_fsetid, is_bad_offset, want_drop};
 use pt_session::{Event, EventReply, RowForm};
 
 /// The id that leaves an owner as it is.
@@ -41,6 +41,8 @@ pub enum SetAttrAt {
     Pin { handle: u64, file: Fd },
     Mode { set: AttrFile },
     Owner { set: AttrFile, uid: u32, gid: u32 },
+    /// The capability is dropped for the size.
+    DropCap { set: AttrFile },
     Size { set: AttrFile },
     Times { set: AttrFile },
     Again,
@@ -130,7 +132,8 @@ fn id_set(is_set: bool, map: &IdMap, id: u32) -> Option<u32>
 impl AttrAsked {
     /// Where it stands with its times, which may not be asked for.
     fn at_times(&self, set: AttrFile) -> SetAttrAt
-        ensures left { (plan : Plan) → set_at_left result self.now plan ≡ times_left self.now plan set }
+        ensures left { (plan : Plan) (seat : HostSeat) →
+            set_at_left result self.now plan seat ≡ times_left self.now plan set }
         ensures acts { set_at_acts result ≤ 4 }
         ensures room { set_at_room result ≤ 1 }
     {
@@ -142,28 +145,31 @@ impl AttrAsked {
     }
 
     /// Where it stands with its size.
-    fn at_size(&self, set: AttrFile) -> SetAttrAt
-        ensures left { (plan : Plan) → set_at_left result self.now plan ≡ size_left self.now plan set }
-        ensures acts { set_at_acts result ≤ 5 }
-        ensures room { set_at_room result ≤ 1 }
+    fn at_size(&self, plan: &Plan, seat: &HostSeat, set: AttrFile) -> SetAttrAt
+        ensures left { set_at_left result self.now plan.now seat.now ≡ size_left self.now plan.now seat.now set }
+        ensures acts { set_at_acts result ≤ 7 }
+        ensures room { set_at_room result ≤ 2 }
     {
-        if self.valid.includes(SetattrValid::SIZE) {
-            SetAttrAt::Size { set }
+        if !self.valid.includes(SetattrValid::SIZE) {
+            return self.at_times(set);
+        }
+        if drops_fsetid(plan, seat, self.valid.includes(SetattrValid::KILL_SUIDGID)) {
+            SetAttrAt::DropCap { set }
         } else {
-            self.at_times(set)
+            SetAttrAt::Size { set }
         }
     }
 
     /// Where it stands with its owner; none where an id is forbidden.
-    fn at_owner(&self, plan: &Plan, set: AttrFile) -> Option<SetAttrAt>
-        ensures left { going_left result self.now plan.now ≡ owner_left self.now plan.now set }
-        ensures acts { going_acts result ≤ 6 }
-        ensures room { going_room result ≤ 1 }
+    fn at_owner(&self, plan: &Plan, seat: &HostSeat, set: AttrFile) -> Option<SetAttrAt>
+        ensures left { going_left result self.now plan.now seat.now ≡ owner_left self.now plan.now seat.now set }
+        ensures acts { going_acts result ≤ 8 }
+        ensures room { going_room result ≤ 2 }
     {
         let has_uid = self.valid.includes(SetattrValid::UID);
         let has_gid = self.valid.includes(SetattrValid::GID);
         if !has_uid && !has_gid {
-            return Some(self.at_size(set));
+            return Some(self.at_size(plan, seat, set));
         }
         let uid = id_set(has_uid, &plan.uid_map, self.attr.uid)?;
         let gid = id_set(has_gid, &plan.gid_map, self.attr.gid)?;
@@ -171,47 +177,99 @@ impl AttrAsked {
     }
 
     /// Where it stands with its mode.
-    fn at_mode(&self, plan: &Plan, set: AttrFile) -> Option<SetAttrAt>
-        ensures left { going_left result self.now plan.now ≡ mode_left self.now plan.now set }
-        ensures acts { going_acts result ≤ 7 }
-        ensures room { going_room result ≤ 1 }
+    fn at_mode(&self, plan: &Plan, seat: &HostSeat, set: AttrFile) -> Option<SetAttrAt>
+        ensures left { going_left result self.now plan.now seat.now ≡ mode_left self.now plan.now seat.now set }
+        ensures acts { going_acts result ≤ 9 }
+        ensures room { going_room result ≤ 2 }
     {
         if self.valid.includes(SetattrValid::MODE) {
             Some(SetAttrAt::Mode { set })
         } else {
-            self.at_owner(plan, set)
+            self.at_owner(plan, seat, set)
         }
     }
 
     /// Where it stands with its file.
-    fn at_file(&self, plan: &Plan, file: Fd) -> Option<SetAttrAt>
-        ensures left { going_left result self.now plan.now ≡ filed_left self.now plan.now file }
-        ensures acts { going_acts result ≤ 9 }
-        ensures room { going_room result ≤ 2 }
+    fn at_file(&self, plan: &Plan, seat: &HostSeat, file: Fd) -> Option<SetAttrAt>
+        ensures left { going_left result self.now plan.now seat.now ≡ filed_left self.now plan.now seat.now file }
+        ensures acts { going_acts result ≤ 11 }
+        ensures room { going_room result ≤ 3 }
     {
         match self.handle {
             Some(handle) => Some(SetAttrAt::Pin { handle, file }),
             None => {
                 let target = file;
                 let through = true;
-                self.at_mode(
-                    plan,
-                    AttrFile {
-                        file,
-                        target,
-                        through,
-                    },
-                )
+                let set = AttrFile {
+                    file,
+                    target,
+                    through,
+                };
+                self.at_mode(plan, seat, set)
             }
         }
     }
 }
 
-/// An id is forbidden that is to be set.
-fn forbidden() -> Next
-    ensures { result ≡ next.At (then.Gives (answer.Refused eperm)) }
-{
-    Next::At(Then::Gives(Answer::Refused(Errno::EPERM)))
+impl SetAttr {
+    /// Goes on there; where it stands nowhere, an id is forbidden that is to be set.
+    fn goes_if_allowed(&mut self, at: Option<SetAttrAt>) -> Next
+        ensures next { (plan : Plan) (seat : HostSeat) (told : ActReply) →
+            IsNext (going_left at self.old.asked plan seat) told result (set_left self.new plan seat) }
+        ensures acts { counts_after result (set_acts self.new) ≡ going_acts at }
+        ensures room { counts_after result (set_room self.new) ≡ going_room at }
+        ensures begins { begun_in result ≡ 0 }
+    {
+        match at {
+            Some(at) => {
+                self.at = at;
+                Next::At(Then::Goes)
+            }
+            None => Next::At(Then::Gives(Answer::Refused(Errno::EPERM))),
+        }
+    }
+
+    /// Goes on where the session has begun.
+    fn begun(&mut self, reply: ActReply) -> Next
+        ensures next { (plan : Plan) (seat : HostSeat) →
+            IsNext (asked (set_at_left Begin self.old.asked plan seat) reply) reply result
+            (set_left self.new plan seat) }
+        ensures acts { counts_after result (set_acts self.new) ≤ 15 }
+        ensures room { counts_after result (set_room self.new) ≤ 5 }
+        ensures begins { begun_in result ≡ 0 }
+    {
+        let ActReply::Event(EventReply::Began { .. }) = reply else {
+            return Next::At(Then::Refuses);
+        };
+        if is_missized(self.asked.valid, &self.asked.attr) {
+            return Next::At(Then::Gives(Answer::Refused(Errno::EINVAL)));
+        }
+        self.at = SetAttrAt::Resolve;
+        Next::At(Then::Goes)
+    }
+
+    /// Goes on where the object is known: its file may have to be opened for its size.
+    fn resolved(&mut self, plan: &Plan, seat: &HostSeat, reply: ActReply) -> Next
+        ensures next { IsNext (asked (set_at_left Resolve self.old.asked plan.now seat.now) reply) reply result
+            (set_left self.new plan.now seat.now) }
+        ensures acts { counts_after result (set_acts self.new) ≤ 13 }
+        ensures room { counts_after result (set_room self.new) ≤ 4 }
+        ensures begins { begun_in result ≡ 0 }
+    {
+        let ActReply::Event(EventReply::Resolved { form, mode, .. }) = reply else {
+            return Next::At(Then::Refuses);
+        };
+        let RowForm::File(path) = form;
+        if !opens_anew(self.asked.handle, self.asked.valid) {
+            let at = self.asked.at_file(plan, seat, path);
+            return self.goes_if_allowed(at);
+        }
+        if !can_open(mode) {
+            return Next::At(Then::Gives(Answer::Refused(Errno::EBADF)));
+        }
+        self.at = SetAttrAt::Reopen { path };
+        Next::At(Then::Goes)
+    }
 }
 
 impl Body for SetAttr {
@@ -252,6 +310,7 @@ impl Body for SetAttr {
                 uid,
                 gid,
             }),
+            SetAttrAt::DropCap { .. } => return want_drop(),
             SetAttrAt::Size { set } => Act::Host(HostOp::Truncate {
                 fd: set.target,
                 size: asked.attr.size,
@@ -267,36 +326,13 @@ impl Body for SetAttr {
         Wanted { act, opens: None }
     }
 
-    fn take(&mut self, plan: &Plan, _seat: &HostSeat, reply: ActReply) -> Next {
+    fn take(&mut self, plan: &Plan, seat: &HostSeat, reply: ActReply) -> Next {
         match (self.at, reply) {
-            (SetAttrAt::Begin, ActReply::Event(EventReply::Began { .. })) => {
-                if is_missized(self.asked.valid, &self.asked.attr) {
-                    return Next::At(Then::Gives(Answer::Refused(Errno::EINVAL)));
-                }
-                self.at = SetAttrAt::Resolve;
-                Next::At(Then::Goes)
-            }
-            (SetAttrAt::Resolve, ActReply::Event(EventReply::Resolved { form, mode, .. })) => {
-                let RowForm::File(path) = form;
-                if opens_anew(self.asked.handle, self.asked.valid) {
-                    if !can_open(mode) {
-                        return Next::At(Then::Gives(Answer::Refused(Errno::EBADF)));
-                    }
-                    self.at = SetAttrAt::Reopen { path };
-                    return Next::At(Then::Goes);
-                }
-                let Some(at) = self.asked.at_file(plan, path) else {
-                    return forbidden();
-                };
-                self.at = at;
-                Next::At(Then::Goes)
-            }
+            (SetAttrAt::Begin, reply) => self.begun(reply),
+            (SetAttrAt::Resolve, reply) => self.resolved(plan, seat, reply),
             (SetAttrAt::Reopen { .. }, ActReply::Host(HostReply::Ok(HostValue::Fd(fd)))) => {
-                let Some(at) = self.asked.at_file(plan, fd) else {
-                    return forbidden();
-                };
-                self.at = at;
-                Next::At(Then::Goes)
+                let at = self.asked.at_file(plan, seat, fd);
+                self.goes_if_allowed(at)
             }
             (SetAttrAt::Pin { file, .. }, ActReply::Event(EventReply::Pinned { fd, .. })) => {
                 let set = AttrFile {
@@ -304,26 +340,27 @@ impl Body for SetAttr {
                     target: fd,
                     through: false,
                 };
-                let Some(at) = self.asked.at_mode(plan, set) else {
-                    return forbidden();
-                };
-                self.at = at;
-                Next::At(Then::Goes)
+                let at = self.asked.at_mode(plan, seat, set);
+                self.goes_if_allowed(at)
             }
             (SetAttrAt::Mode { set }, ActReply::Host(HostReply::Ok(_))) => {
-                let Some(at) = self.asked.at_owner(plan, set) else {
-                    return forbidden();
-                };
-                self.at = at;
-                Next::At(Then::Goes)
+                let at = self.asked.at_owner(plan, seat, set);
+                self.goes_if_allowed(at)
             }
             (SetAttrAt::Owner { set, .. }, ActReply::Host(HostReply::Ok(_))) => {
-                self.at = self.asked.at_size(set);
+                let at = self.asked.at_size(plan, seat, set);
+                self.goes_if_allowed(Some(at))
+            }
+            (SetAttrAt::DropCap { set }, ActReply::Host(HostReply::Ok(_))) => {
+                self.at = SetAttrAt::Size { set };
                 Next::At(Then::Goes)
             }
             (SetAttrAt::Size { set }, ActReply::Host(HostReply::Ok(_))) => {
                 self.at = self.asked.at_times(set);
-                Next::At(Then::Goes)
+                Next::Over {
+                    edges: Edges::BARE,
+                    then: Then::Goes,
+                }
             }
             (SetAttrAt::Times { .. }, ActReply::Host(HostReply::Ok(_))) => {
                 self.at = SetAttrAt::Again;

@@ -2,6 +2,7 @@
 use Rattle.std.specs.Prelude.{ℕ, ◌+◌, List}
 use Rattle.pt_host.specs.declared.seat.HostSeat.{HostSeat}
 use Rattle.pt_iface.specs.declared.answer.Answer.TheVariants as answer
+use Rattle.pt_iface.specs.declared.flags.FsOptions.{FsOptions}
 use Rattle.pt_frame.specs.Tree.{RequestTree, Gives}
 use Rattle.pt_frame.specs.Machine.Next.{IsAsks}
 use Rattle.pt_req.specs.Options.{init_options, open_options}
@@ -133,24 +134,27 @@ forget_at_asks at_forget.Forget it = tt
 pub forget_asks : (it : Forget) (plan : Plan) (seat : HostSeat) → IsAsks (forget_left it plan seat)
 forget_asks it plan seat = forget_at_asks it.at it
 
+abbrev pub answers_inited : Plan → FsOptions → RequestTree
+answers_inited plan capable = Gives (answer.Inited (init_options plan.config capable))
+
 abbrev pub init_left : Init → Plan → HostSeat → RequestTree
 init_left (at_init.Clear capable) plan seat = init plan capable
-init_left (at_init.Open it) plan seat = root_open_left it plan (Gives (answer.Inited (init_options plan.config)))
+init_left (at_init.Open capable it) plan seat = root_open_left it plan (answers_inited plan capable)
 
 abbrev pub init_acts : Init → ℕ
 init_acts (at_init.Clear capable) = 7
-init_acts (at_init.Open it) = root_open_acts it
+init_acts (at_init.Open capable it) = root_open_acts it
 
 abbrev pub init_room : Init → ℕ
 init_room (at_init.Clear capable) = 2
-init_room (at_init.Open it) = root_open_room it
+init_room (at_init.Open capable it) = root_open_room it
 
 abbrev pub init_inserts : Init → ℕ
 init_inserts it = 1
 
 pub init_asks : (it : Init) (plan : Plan) (seat : HostSeat) → IsAsks (init_left it plan seat)
 init_asks (at_init.Clear capable) plan seat = tt
-init_asks (at_init.Open it) plan seat = root_open_asks it plan (Gives (answer.Inited (init_options plan.config)))
+init_asks (at_init.Open capable it) plan seat = root_open_asks it plan (answers_inited plan capable)
 
 abbrev pub destroy_left : Destroy → Plan → HostSeat → RequestTree
 destroy_left it plan seat = destroy
@@ -170,15 +174,15 @@ destroy_asks it plan seat = tt
 abbrev pub answers_opened : Plan → ℕ → ℕ → RequestTree
 answers_opened plan flags handle = Gives (answer.Opened handle (open_options plan.config flags))
 
-abbrev pub open_at_left : OpeningAt → ℕ → Plan → RequestTree
-open_at_left (at_open.Begin inode) flags plan = open_file plan inode flags
-open_at_left (at_open.Open it) flags plan = handle_open_left it plan (answers_opened plan flags)
+abbrev pub open_at_left : OpeningAt → ℕ → Plan → HostSeat → RequestTree
+open_at_left (at_open.Begin inode kill) flags plan seat = open_file plan seat inode kill flags
+open_at_left (at_open.Open it) flags plan seat = handle_open_left it plan (answers_opened plan flags)
 
 abbrev pub open_left : Open → Plan → HostSeat → RequestTree
-open_left it plan seat = open_at_left it.at it.flags plan
+open_left it plan seat = open_at_left it.at it.flags plan seat
 
 abbrev pub open_at_acts : OpeningAt → ℕ
-open_at_acts (at_open.Begin inode) = 9
+open_at_acts (at_open.Begin inode kill) = 11
 open_at_acts (at_open.Open it) = handle_open_acts it
 
 abbrev pub open_acts : Open → ℕ
@@ -186,7 +190,7 @@ open_acts it = open_at_acts it.at
 
 -- its bracket takes room as a hold does
 abbrev pub open_at_room : OpeningAt → ℕ
-open_at_room (at_open.Begin inode) = 4
+open_at_room (at_open.Begin inode kill) = 5
 open_at_room (at_open.Open it) = handle_open_room it
 
 abbrev pub open_room : Open → ℕ
@@ -195,12 +199,12 @@ open_room it = open_at_room it.at
 abbrev pub open_inserts : Open → ℕ
 open_inserts it = 1
 
-open_at_asks : (at : OpeningAt) (flags : ℕ) (plan : Plan) → IsAsks (open_at_left at flags plan)
-open_at_asks (at_open.Begin inode) flags plan = tt
-open_at_asks (at_open.Open it) flags plan = handle_open_asks it plan (answers_opened plan flags)
+open_at_asks : (at : OpeningAt) (flags : ℕ) (plan : Plan) (seat : HostSeat) → IsAsks (open_at_left at flags plan seat)
+open_at_asks (at_open.Begin inode kill) flags plan seat = tt
+open_at_asks (at_open.Open it) flags plan seat = handle_open_asks it plan (answers_opened plan flags)
 
 pub open_asks : (it : Open) (plan : Plan) (seat : HostSeat) → IsAsks (open_left it plan seat)
-open_asks it plan seat = open_at_asks it.at it.flags plan
+open_asks it plan seat = open_at_asks it.at it.flags plan seat
 
 abbrev pub release_at_left : ReleaseAt → Release → RequestTree
 release_at_left at_release.Begin it = release it.inode it.handle
@@ -269,17 +273,17 @@ abbrev pub create_at_left : CreateAt → FileAsked → Plan → HostSeat → Req
 create_at_left at_create.Begin asked plan seat = create plan seat asked
 create_at_left (at_create.Resolve session) asked plan seat = making_in plan seat session asked
 create_at_left (at_create.Make session dir steps) asked plan seat =
-    steps_tree steps (making asked plan session dir)
+    steps_tree steps (making asked plan seat session dir)
 create_at_left (at_create.New it) asked plan seat = new_left it asked plan
-create_at_left (at_create.Old it) asked plan seat = old_left it asked plan
+create_at_left (at_create.Old it) asked plan seat = old_left it asked plan seat
 
 abbrev pub create_left : Create → Plan → HostSeat → RequestTree
 create_left it plan seat = create_at_left it.at it.file plan seat
 
 abbrev pub create_at_acts : CreateAt → ℕ
-create_at_acts at_create.Begin = 32
-create_at_acts (at_create.Resolve session) = 31
-create_at_acts (at_create.Make session dir steps) = steps_acts steps + 22
+create_at_acts at_create.Begin = 34
+create_at_acts (at_create.Resolve session) = 33
+create_at_acts (at_create.Make session dir steps) = steps_acts steps + 24
 create_at_acts (at_create.New it) = new_acts it
 create_at_acts (at_create.Old it) = old_acts it
 
@@ -288,9 +292,9 @@ create_acts it = create_at_acts it.at
 
 -- its brackets take room as holds do
 abbrev pub create_at_room : CreateAt → ℕ
-create_at_room at_create.Begin = 15
-create_at_room (at_create.Resolve session) = 15
-create_at_room (at_create.Make session dir steps) = steps_room steps + 11
+create_at_room at_create.Begin = 16
+create_at_room (at_create.Resolve session) = 16
+create_at_room (at_create.Make session dir steps) = steps_room steps + 12
 create_at_room (at_create.New it) = new_room it
 create_at_room (at_create.Old it) = old_room it
 
@@ -312,9 +316,9 @@ create_at_asks : (at : CreateAt) (asked : FileAsked) (plan : Plan) (seat : HostS
 create_at_asks at_create.Begin asked plan seat = tt
 create_at_asks (at_create.Resolve session) asked plan seat = tt
 create_at_asks (at_create.Make session dir steps) asked plan seat =
-    steps_asks steps (making asked plan session dir) tt
+    steps_asks steps (making asked plan seat session dir) tt
 create_at_asks (at_create.New it) asked plan seat = new_asks it asked plan
-create_at_asks (at_create.Old it) asked plan seat = old_asks it asked plan
+create_at_asks (at_create.Old it) asked plan seat = old_asks it asked plan seat
 
 pub create_asks : (it : Create) (plan : Plan) (seat : HostSeat) → IsAsks (create_left it plan seat)
 create_asks it plan seat = create_at_asks it.at it.file plan seat

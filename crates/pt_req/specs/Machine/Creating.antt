@@ -186,26 +186,26 @@ abbrev pub old_opened : Plan → Entry → ℕ → RequestTree
 old_opened plan entry handle = answers_created plan (named_handle entry handle)
 
 -- what was found is opened
-abbrev pub old_looked : OldFile → FileAsked → Plan → Looked → RequestTree
-old_looked it asked plan looked =
-    open_num plan it.session looked.entry.inode asked.flags (old_opened plan looked.entry)
+abbrev pub old_looked : OldFile → FileAsked → Plan → HostSeat → Looked → RequestTree
+old_looked it asked plan seat looked =
+    open_num plan seat it.session looked.entry.inode asked.kill asked.flags (old_opened plan looked.entry)
 
-abbrev pub old_at_left : OldFileAt → OldFile → FileAsked → Plan → RequestTree
-old_at_left (at_old.LookUp part) it asked plan = look_up_left part asked.name plan (old_looked it asked plan)
-old_at_left (at_old.Open entry part) it asked plan = handle_open_left part plan (old_opened plan entry)
+abbrev pub old_at_left : OldFileAt → OldFile → FileAsked → Plan → HostSeat → RequestTree
+old_at_left (at_old.LookUp part) it asked plan seat = look_up_left part asked.name plan (old_looked it asked plan seat)
+old_at_left (at_old.Open entry part) it asked plan seat = handle_open_left part plan (old_opened plan entry)
 
-abbrev pub old_left : OldFile → FileAsked → Plan → RequestTree
-old_left it asked plan = old_at_left it.at it asked plan
+abbrev pub old_left : OldFile → FileAsked → Plan → HostSeat → RequestTree
+old_left it asked plan seat = old_at_left it.at it asked plan seat
 
 abbrev pub old_at_acts : OldFileAt → ℕ
-old_at_acts (at_old.LookUp part) = look_up_acts part + 8
+old_at_acts (at_old.LookUp part) = look_up_acts part + 10
 old_at_acts (at_old.Open entry part) = handle_open_acts part
 
 abbrev pub old_acts : OldFile → ℕ
 old_acts it = old_at_acts it.at
 
 abbrev pub old_at_room : OldFileAt → ℕ
-old_at_room (at_old.LookUp part) = look_up_room part + 4
+old_at_room (at_old.LookUp part) = look_up_room part + 5
 old_at_room (at_old.Open entry part) = handle_open_room part
 
 abbrev pub old_room : OldFile → ℕ
@@ -218,20 +218,21 @@ old_at_inserts (at_old.Open entry part) = 1
 abbrev pub old_inserts : OldFile → ℕ
 old_inserts it = old_at_inserts it.at
 
-old_at_asks : (at : OldFileAt) (it : OldFile) (asked : FileAsked) (plan : Plan) →
-    IsAsks (old_at_left at it asked plan)
-old_at_asks (at_old.LookUp part) it asked plan = look_up_asks part asked.name plan (old_looked it asked plan)
-old_at_asks (at_old.Open entry part) it asked plan = handle_open_asks part plan (old_opened plan entry)
+old_at_asks : (at : OldFileAt) (it : OldFile) (asked : FileAsked) (plan : Plan) (seat : HostSeat) →
+    IsAsks (old_at_left at it asked plan seat)
+old_at_asks (at_old.LookUp part) it asked plan seat = look_up_asks part asked.name plan (old_looked it asked plan seat)
+old_at_asks (at_old.Open entry part) it asked plan seat = handle_open_asks part plan (old_opened plan entry)
 
-pub old_asks : (it : OldFile) (asked : FileAsked) (plan : Plan) → IsAsks (old_left it asked plan)
-old_asks it asked plan = old_at_asks it.at it asked plan
+pub old_asks : (it : OldFile) (asked : FileAsked) (plan : Plan) (seat : HostSeat) →
+    IsAsks (old_left it asked plan seat)
+old_asks it asked plan seat = old_at_asks it.at it asked plan seat
 
 -- the call by which the file is made
-abbrev pub making : FileAsked → Plan → BegunSession → Fd → RequestTree
-making asked plan session dir =
+abbrev pub making : FileAsked → Plan → HostSeat → BegunSession → Fd → RequestTree
+making asked plan seat session dir =
     make_at dir asked.name (making_flags asked.flags) asked.mode
     (λ fd. new_file plan session asked dir fd (answers_created plan))
-    (takes_old asked) (old_file plan session asked (answers_created plan))
+    (takes_old asked) (old_file plan seat session asked (answers_created plan))
 
 -- in this directory, as whoever asks
 abbrev pub making_as : Plan → HostSeat → BegunSession → FileAsked → Fd → RequestTree

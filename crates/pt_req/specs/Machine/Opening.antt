@@ -1,11 +1,12 @@
 -- Inner. What is left of the opening of a number by a handle, inside its bracket.
-use Rattle.std.specs.Prelude.{ℕ, false}
+use Rattle.std.specs.Prelude.{ℕ, true, false}
 use Rattle.pt_host.specs.declared.ids.Fd.{Fd}
-use Rattle.pt_frame.specs.Tree.{RequestTree, Shuts}
+use Rattle.pt_frame.specs.Tree.{RequestTree, Bares, Shuts}
 use Rattle.pt_frame.specs.Machine.Next.{IsAsks}
+use Rattle.pt_req.specs.Capability.{without_fsetid}
 use Rattle.pt_req.specs.Options.{cleaned, host_flags, without_nofollow}
-use Rattle.pt_req.specs.Steps.{reopen, take_fd, draw_handle, insert_handle}
-use Rattle.pt_req.specs.Parts.{open_inode}
+use Rattle.pt_req.specs.Steps.{reopen, take_fd, insert_handle}
+use Rattle.pt_req.specs.Parts.{open_inode, handled_num}
 use Rattle.pt_req.specs.declared.plan.Plan.{Plan}
 use Rattle.pt_req.specs.declared.parts.open.HandleOpen.{HandleOpen}
 use Rattle.pt_req.specs.declared.parts.open.HandleOpenAt.{HandleOpenAt}
@@ -15,13 +16,21 @@ abbrev pub handle_inserted : HandleOpen → (ℕ → RequestTree) → Fd → ℕ
 handle_inserted it next fd handle = insert_handle it.session handle it.inode fd (Shuts false (next handle))
 
 abbrev pub handle_drawn : HandleOpen → (ℕ → RequestTree) → Fd → RequestTree
-handle_drawn it next fd = draw_handle (λ handle. take_fd (handle_inserted it next fd handle))
+handle_drawn it next fd = handled_num it.session it.inode next fd
+
+-- the scope ends where it is open
+abbrev pub handle_bared : HandleOpen → (ℕ → RequestTree) → Fd → RequestTree
+handle_bared it next fd = Bares (handle_drawn it next fd)
+
+abbrev pub handle_resolved : HandleOpen → Plan → (ℕ → RequestTree) → RequestTree
+handle_resolved it plan next =
+    open_inode plan it.session it.inode (cleaned plan.config it.flags) (handle_bared it next)
 
 abbrev pub handle_open_at_left : HandleOpenAt → HandleOpen → Plan → (ℕ → RequestTree) → RequestTree
-handle_open_at_left at.Resolve it plan next =
-    open_inode plan it.inode (cleaned plan.config it.flags) (handle_drawn it next)
+handle_open_at_left at.DropCap it plan next = without_fsetid true (handle_resolved it plan next)
+handle_open_at_left at.Resolve it plan next = handle_resolved it plan next
 handle_open_at_left (at.Reopen path) it plan next =
-    reopen path (without_nofollow (host_flags plan.config it.flags)) (handle_drawn it next)
+    reopen path (without_nofollow (host_flags plan.config it.session.agreed it.flags)) (handle_bared it next)
 handle_open_at_left (at.Draw fd) it plan next = handle_drawn it next fd
 handle_open_at_left (at.Take fd handle) it plan next = take_fd (handle_inserted it next fd handle)
 handle_open_at_left (at.Insert fd handle) it plan next = handle_inserted it next fd handle
@@ -31,6 +40,7 @@ handle_open_left it plan next = handle_open_at_left it.at it plan next
 
 -- an act that brings a hold counts twice
 abbrev pub handle_open_at_acts : HandleOpenAt → ℕ
+handle_open_at_acts at.DropCap = 10
 handle_open_at_acts at.Resolve = 8
 handle_open_at_acts (at.Reopen path) = 6
 handle_open_at_acts (at.Draw fd) = 4
@@ -41,6 +51,7 @@ abbrev pub handle_open_acts : HandleOpen → ℕ
 handle_open_acts it = handle_open_at_acts it.at
 
 abbrev pub handle_open_at_room : HandleOpenAt → ℕ
+handle_open_at_room at.DropCap = 4
 handle_open_at_room at.Resolve = 3
 handle_open_at_room (at.Reopen path) = 2
 handle_open_at_room (at.Draw fd) = 1
@@ -52,6 +63,7 @@ handle_open_room it = handle_open_at_room it.at
 
 handle_open_at_asks : (at : HandleOpenAt) (it : HandleOpen) (plan : Plan) (next : ℕ → RequestTree) →
     IsAsks (handle_open_at_left at it plan next)
+handle_open_at_asks at.DropCap it plan next = tt
 handle_open_at_asks at.Resolve it plan next = tt
 handle_open_at_asks (at.Reopen path) it plan next = tt
 handle_open_at_asks (at.Draw fd) it plan next = tt

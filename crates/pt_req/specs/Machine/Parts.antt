@@ -5,7 +5,7 @@ use Rattle.pt_host.specs.declared.ids.ObjIds.{ObjIds}
 use Rattle.pt_host.specs.declared.stat.Stat.{Stat}
 use Rattle.pt_session.specs.declared.form.RowForm.{RowForm}
 use Rattle.pt_session.specs.declared.form.RowForm.TheVariants.{File}
-use Rattle.pt_frame.specs.Tree.{RequestTree, Gives, Refuses, Shuts}
+use Rattle.pt_frame.specs.Tree.{RequestTree, Gives, Refuses, Bares, Shuts}
 use Rattle.pt_frame.specs.Machine.Next.{IsAsks}
 use Rattle.pt_frame.specs.declared.act.ActReply.{ActReply}
 use Rattle.pt_req.specs.Steps.{resolve, open_at, stat, take_fd, draw_node, insert, insert_root}
@@ -27,6 +27,7 @@ use Rattle.pt_req.specs.declared.parts.root_open.RootOpenAt.TheVariants as root_
 -- after a reply a part goes on, or its request ends, or it hands on what it had
 abbrev pub part_tree : {V : Type 0} → Part V → ActReply → RequestTree → (V → RequestTree) → RequestTree
 part_tree part.Goes told left next = left
+part_tree part.Bares told left next = Bares left
 part_tree part.Refuses told left next = Refuses told
 part_tree (part.Gives last) told left next = Gives last
 part_tree (part.Has value) told left next = next value
@@ -34,6 +35,7 @@ part_tree (part.Has value) told left next = next value
 -- what counts of it then: nothing of one that is over
 abbrev pub part_counts : {V : Type 0} → Part V → ℕ → ℕ
 part_counts part.Goes count = count
+part_counts part.Bares count = count
 part_counts part.Refuses count = 0
 part_counts (part.Gives last) count = 0
 part_counts (part.Has value) count = 0

@@ -12,6 +12,8 @@ pub struct FileAsked {
     pub parent: u64,
     pub name: Bytes,
     pub mode: u32,
+    /// Whether set-id bits are to go of a file that is there.
+    pub kill: bool,
     pub flags: u32,
 }
 

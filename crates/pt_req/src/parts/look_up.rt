@@ -138,6 +138,7 @@ impl EntryLookup {
                 at,
             } => match at.take(reply) {
                 Part::Goes => Part::Goes,
+                Part::Bares => Part::Bares,
                 Part::Refuses => Part::Refuses,
                 Part::Gives(answer) => Part::Gives(answer),
                 Part::Has(number) => {

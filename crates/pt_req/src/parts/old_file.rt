@@ -1,16 +1,18 @@
-ghost use Rattle.std.specs.Prelude.{◌≡◌, ◌+◌, ◌<◌, ◌≤◌, None};
+ghost use Rattle.std.specs.Prelude.{◌≡◌, ◌+◌, ◌<◌, ◌≤◌};
 ghost use Rattle.pt_frame.specs.Machine.Next.{asked, deed_in, AsksFor, IsNext, counts_after, begun_in};
 ghost use Rattle.pt_frame.specs.Machine.Room.{brings};
 ghost use Rattle.pt_frame.specs.Replies.{inserted_by};
+ghost use Rattle.pt_host.specs.declared.seat.HostSeat.{HostSeat};
 ghost use Rattle.pt_req.specs.Machine.Creating.{old_left, old_acts, old_room, old_inserts};
 
 use crate::begun::BegunSession;
 use crate::parts::asked::FileAsked;
 use crate::parts::look_up::EntryLookup;
-use crate::parts::open::{HandleOpen, HandleOpenAt};
+use crate::parts::open::HandleOpen;
 use crate::parts::options::create_options;
 use crate::plan::Plan;
-use pt_frame::{Act, ActReply, Edges, Next, Shut, Then};
+use pt_frame::{ActReply, Edges, Next, Shut, Then, Wanted};
+use pt_host::HostSeat;
 use pt_iface::{Answer, Entry};
 
 /// Where a file stands whose name was there: the part whose act it wants next.
@@ -35,37 +37,43 @@ const PASS_ON: Edges = Edges {
 };
 
 impl OldFile {
-    pub fn want<'a>(&'a self, plan: &Plan, file: &'a FileAsked) -> Act<'a>
-        ensures asks { AsksFor (old_left self.now file.now plan.now) result None }
-        ensures fits { brings (old_left self.now file.now plan.now) ≤ old_room self.now }
+    pub fn want<'a>(&'a self, plan: &Plan, file: &'a FileAsked) -> Wanted<'a>
+        ensures asks { (seat : HostSeat) →
+            AsksFor (old_left self.now file.now plan.now seat) result.act result.opens }
+        ensures fits { (seat : HostSeat) → brings (old_left self.now file.now plan.now seat) ≤ old_room self.now }
     {
         match &self.at {
-            OldFileAt::LookUp(part) => part.want(file.name.as_slice()),
+            OldFileAt::LookUp(part) => Wanted {
+                act: part.want(file.name.as_slice()),
+                opens: None,
+            },
             OldFileAt::Open { part, .. } => part.want(plan),
         }
     }
 
     /// Goes on from the reply of the act that was wanted.
-    pub fn take(&mut self, plan: &Plan, file: &FileAsked, reply: ActReply) -> Next
-        ensures next { IsNext (asked (old_left self.old file.now plan.now) reply) reply result
-            (old_left self.new file.now plan.now) }
-        ensures fewer { brings (old_left self.old file.now plan.now) + counts_after result (old_acts self.new)
+    pub fn take(&mut self, plan: &Plan, seat: &HostSeat, file: &FileAsked, reply: ActReply) -> Next
+        ensures next { IsNext (asked (old_left self.old file.now plan.now seat.now) reply) reply result
+            (old_left self.new file.now plan.now seat.now) }
+        ensures fewer { brings (old_left self.old file.now plan.now seat.now) + counts_after result (old_acts self.new)
             < old_acts self.old }
-        ensures room { brings (old_left self.old file.now plan.now) + begun_in result
+        ensures room { brings (old_left self.old file.now plan.now seat.now) + begun_in result
             + counts_after result (old_room self.new) ≤ old_room self.old }
-        ensures inserts { inserted_by (deed_in (old_left self.old file.now plan.now)) reply
+        ensures inserts { inserted_by (deed_in (old_left self.old file.now plan.now seat.now)) reply
             + counts_after result (old_inserts self.new) ≤ old_inserts self.old }
     {
         match &mut self.at {
             OldFileAt::LookUp(part) => match part.take(plan, reply).handed() {
                 Ok(looked) => {
                     let entry = looked.entry;
-                    let part = HandleOpen {
-                        session: self.session,
-                        inode: entry.inode,
-                        flags: file.flags,
-                        at: HandleOpenAt::Resolve,
-                    };
+                    let part = HandleOpen::of(
+                        plan,
+                        seat,
+                        self.session,
+                        entry.inode,
+                        file.kill,
+                        file.flags,
+                    );
                     self.at = OldFileAt::Open { entry, part };
                     Next::Over {
                         edges: PASS_ON,

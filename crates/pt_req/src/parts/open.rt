@@ -1,19 +1,21 @@
-ghost use Rattle.std.specs.Prelude.{◌≡◌, ◌+◌, ◌<◌, ◌≤◌, ℕ, None, false};
+ghost use Rattle.std.specs.Prelude.{◌≡◌, ◌+◌, ◌<◌, ◌≤◌, ℕ, false};
 ghost use Rattle.pt_frame.specs.Machine.Next.{asked, deed_in, with_memory, AsksFor};
 ghost use Rattle.pt_frame.specs.Machine.Room.{brings};
 ghost use Rattle.pt_frame.specs.Replies.{inserted_by};
-ghost use Rattle.pt_frame.specs.Tree.{RequestTree, Shuts};
+ghost use Rattle.pt_frame.specs.Tree.{RequestTree, Brackets, Shuts};
 ghost use Rattle.pt_req.specs.Entries.{can_open};
 ghost use Rattle.pt_req.specs.Machine.Opening.{handle_open_left, handle_open_acts, handle_open_room};
 ghost use Rattle.pt_req.specs.Machine.Parts.{part_tree, part_counts};
+ghost use Rattle.pt_req.specs.Parts.{open_num};
 ghost use Rattle.pt_req.specs.declared.plan.Plan.{Plan};
 
 use crate::begun::BegunSession;
-use crate::parts::options::reopen_flags;
+use crate::parts::capability::{drops_fsetid, want_drop};
+use crate::parts::options::{cleaned, reopen_flags};
 use crate::parts::part::Part;
 use crate::plan::Plan;
-use pt_frame::{Act, ActReply};
-use pt_host::{Errno, Fd, HostOp, HostReply, HostValue};
+use pt_frame::{Act, ActReply, Wanted};
+use pt_host::{Errno, Fd, HostOp, HostReply, HostSeat, HostValue};
 use pt_iface::Answer;
 use pt_session::{Event, EventReply, RowForm};
 
@@ -25,6 +27,8 @@ const DIRECTORY: u32 = 4;
 /// The act that an opening wants next.
 #[derive(Clone, Copy)]
 pub enum HandleOpenAt {
+    /// The capability by which a file keeps its set-id bits is dropped.
+    DropCap,
     Resolve,
     Reopen { path: Fd },
     Draw { fd: Fd },
@@ -49,15 +53,45 @@ pub fn can_open(mode: u32) -> bool
 }
 
 impl HandleOpen {
-    pub fn want<'a>(&self, plan: &Plan) -> Act<'a>
-        ensures asks { (next : ℕ → RequestTree) → AsksFor (handle_open_left self.now plan.now next) result None }
+    /// The opening at its first act. Where `kill` asks for it, set-id bits of what is emptied go.
+    pub fn of(
+        plan: &Plan,
+        seat: &HostSeat,
+        session: BegunSession,
+        inode: u64,
+        kill: bool,
+        flags: u32,
+    ) -> HandleOpen
+        ensures left { (next : ℕ → RequestTree) → open_num plan.now seat.now session inode kill flags next
+            ≡ Brackets (handle_open_left result plan.now next) }
+        ensures acts { handle_open_acts result ≤ 10 }
+        ensures room { handle_open_room result ≤ 4 }
+    {
+        let at = if drops_fsetid(plan, seat, kill) {
+            HandleOpenAt::DropCap
+        } else {
+            HandleOpenAt::Resolve
+        };
+        HandleOpen {
+            session,
+            inode,
+            flags,
+            at,
+        }
+    }
+
+    pub fn want<'a>(&self, plan: &Plan) -> Wanted<'a>
+        ensures asks { (next : ℕ → RequestTree) →
+            AsksFor (handle_open_left self.now plan.now next) result.act result.opens }
         ensures fits { (next : ℕ → RequestTree) →
             brings (handle_open_left self.now plan.now next) ≤ handle_open_room self.now }
     {
-        match self.at {
+        let act = match self.at {
+            HandleOpenAt::DropCap => return want_drop(),
             HandleOpenAt::Resolve => Act::Event(Event::Resolve { number: self.inode }),
             HandleOpenAt::Reopen { path } => {
-                let flags = reopen_flags(&plan.config, self.flags);
+                let flags = cleaned(&plan.config, self.flags);
+                let flags = reopen_flags(&plan.config, self.session.agreed, flags);
                 Act::Host(HostOp::Reopen { fd: path, flags })
             }
             HandleOpenAt::Draw { .. } => Act::Event(Event::DrawHandle),
@@ -68,7 +102,8 @@ impl HandleOpen {
                 number: self.inode,
                 fd,
             }),
-        }
+        };
+        Wanted { act, opens: None }
     }
 
     /// Goes on from the reply of the act that was wanted.
@@ -86,6 +121,10 @@ impl HandleOpen {
             inserted_by (deed_in (handle_open_left self.old plan next)) reply + part_counts result 1 ≤ 1 }
     {
         match (self.at, reply) {
+            (HandleOpenAt::DropCap, ActReply::Host(HostReply::Ok(_))) => {
+                self.at = HandleOpenAt::Resolve;
+                Part::Goes
+            }
             (HandleOpenAt::Resolve, ActReply::Event(EventReply::Resolved { form, mode, .. })) => {
                 if !can_open(mode) {
                     return Part::Gives(Answer::Refused(Errno::EBADF));
@@ -96,7 +135,7 @@ impl HandleOpen {
             }
             (HandleOpenAt::Reopen { .. }, ActReply::Host(HostReply::Ok(HostValue::Fd(fd)))) => {
                 self.at = HandleOpenAt::Draw { fd };
-                Part::Goes
+                Part::Bares
             }
             (HandleOpenAt::Draw { fd }, ActReply::Event(EventReply::Drawn { number })) => {
                 self.at = HandleOpenAt::Take { fd, handle: number };

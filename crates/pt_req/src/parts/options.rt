@@ -1,5 +1,6 @@
 ghost use Rattle.std.specs.Prelude.{◌≡◌};
-ghost use Rattle.pt_req.specs.Options.{without_bits, cleaned, inode_flags, host_flags, without_nofollow};
+ghost use Rattle.pt_req.specs.Options.{without_bits, cleaned, readable, written_back, passed_on, inode_flags};
+ghost use Rattle.pt_req.specs.Options.{without_nofollow, bits_if};
 ghost use Rattle.pt_req.specs.Options.{cache_options, open_options, create_options, making_flags, agreed_with};
 ghost use Rattle.pt_req.specs.Options.{init_options};
 
@@ -8,6 +9,12 @@ use pt_host::OpenFlags;
 use pt_iface::{FsOptions, OpenOptions};
 use pt_session::Negotiated;
 
+/// The bits that the access mode takes, the `O_ACCMODE` of `open(2)`.
+const O_ACCMODE: u32 = 3;
+
+/// Entries are read with their attributes, where the guest's kernel sees fit.
+const READDIRPLUS: FsOptions = FsOptions(3);
+
 fn without_bits(flags: u32, bits: u32) -> u32
     ensures { result ≡ without_bits flags bits }
 {
@@ -15,7 +22,7 @@ fn without_bits(flags: u32, bits: u32) -> u32
 }
 
 /// Without what no handle of the host has.
-fn cleaned(config: &Config, flags: u32) -> u32
+pub fn cleaned(config: &Config, flags: u32) -> u32
     ensures { result ≡ cleaned config.now flags }
 {
     let flags = without_bits(flags, OpenFlags::O_APPEND.0);
@@ -26,8 +33,30 @@ fn cleaned(config: &Config, flags: u32) -> u32
     }
 }
 
-fn inode_flags(config: &Config, flags: u32) -> u32
-    ensures { result ≡ inode_flags config.now flags }
+/// What is opened for writing only is opened for reading too.
+fn readable(flags: u32) -> u32
+    ensures { result ≡ readable flags }
+{
+    if flags & O_ACCMODE == OpenFlags::O_WRONLY.0 {
+        without_bits(flags, O_ACCMODE) | OpenFlags::O_RDWR.0
+    } else {
+        flags
+    }
+}
+
+/// Where the guest keeps what it writes, its kernel reads what it is to write a part of, and minds appends itself.
+fn written_back(agreed: Negotiated, flags: u32) -> u32
+    ensures { result ≡ written_back agreed flags }
+{
+    if agreed.writeback {
+        without_bits(readable(flags), OpenFlags::O_APPEND.0)
+    } else {
+        flags
+    }
+}
+
+fn passed_on(config: &Config, flags: u32) -> u32
+    ensures { result ≡ passed_on config.now flags }
 {
     if config.allow_direct_io {
         flags | OpenFlags::O_CLOEXEC.0
@@ -36,19 +65,11 @@ fn inode_flags(config: &Config, flags: u32) -> u32
     }
 }
 
-/// What a handle is opened with.
-fn host_flags(config: &Config, flags: u32) -> u32
-    ensures { result ≡ host_flags config.now flags }
+/// What an object is opened with, where a descriptor's link in `/proc` is followed.
+pub fn reopen_flags(config: &Config, agreed: Negotiated, flags: u32) -> OpenFlags
+    ensures { result ≡ without_nofollow (inode_flags config.now agreed flags) }
 {
-    let flags = cleaned(config, flags);
-    inode_flags(config, flags)
-}
-
-/// The same where a descriptor's link in `/proc` is followed.
-pub fn reopen_flags(config: &Config, flags: u32) -> OpenFlags
-    ensures { result ≡ without_nofollow (host_flags config.now flags) }
-{
-    let flags = host_flags(config, flags);
+    let flags = passed_on(config, written_back(agreed, flags));
     OpenFlags(without_bits(flags, OpenFlags::O_NOFOLLOW.0))
 }
 
@@ -93,24 +114,35 @@ pub fn making_flags(flags: u32) -> OpenFlags
 }
 
 /// What is agreed on with a guest that offers this.
-pub fn agreed_with(capable: FsOptions) -> Negotiated
-    ensures { result ≡ agreed_with capable }
+pub fn agreed_with(config: &Config, capable: FsOptions) -> Negotiated
+    ensures { result ≡ agreed_with config.now capable }
 {
     Negotiated {
-        writeback: false,
-        announce_submounts: false,
+        writeback: config.writeback && capable.includes(FsOptions::WRITEBACK_CACHE),
+        announce_submounts: config.announce_submounts && capable.includes(FsOptions::SUBMOUNTS),
         posix_acl: false,
         sup_group: capable.includes(FsOptions::CREATE_SUPP_GROUP),
     }
 }
 
-/// What a guest is granted at the beginning of its session.
-pub fn init_options(config: &Config) -> FsOptions
-    ensures { result ≡ init_options config.now }
+/// These options, where they are granted.
+fn bits_if(granted: bool, options: FsOptions) -> u32
+    ensures { result ≡ bits_if granted options.0 }
 {
-    if config.readdirplus {
-        FsOptions(FsOptions::DO_READDIRPLUS.0 | FsOptions::READDIRPLUS_AUTO.0)
-    } else {
-        FsOptions(0)
-    }
+    if granted { options.0 } else { 0 }
+}
+
+/// What a guest that offers this is granted at the beginning of its session.
+#[tactic(auto, using(crate::proofs::Granting::joined))]
+pub fn init_options(config: &Config, capable: FsOptions) -> FsOptions
+    ensures { result ≡ init_options config.now capable }
+{
+    let writeback = config.writeback && capable.includes(FsOptions::WRITEBACK_CACHE);
+    let killpriv = config.killpriv_v2 && capable.includes(FsOptions::HANDLE_KILLPRIV_V2);
+    FsOptions(
+        bits_if(config.readdirplus, READDIRPLUS)
+            | bits_if(writeback, FsOptions::WRITEBACK_CACHE)
+            | bits_if(killpriv, FsOptions::HANDLE_KILLPRIV_V2)
+            | bits_if(config.allow_mmap, FsOptions::DIRECT_IO_ALLOW_MMAP),
+    )
 }

@@ -5,7 +5,7 @@ ghost use Rattle.pt_frame.specs.declared.act.ActReply.{ActReply};
 ghost use Rattle.pt_req.specs.Machine.Parts.{part_tree, part_counts};
 ghost use Rattle.pt_req.specs.declared.parts.part.Part.TheVariants.{Has};
 
-use pt_frame::{Next, Then};
+use pt_frame::{Edges, Next, Then};
 use pt_iface::Answer;
 
 /// What a part does after a reply.
@@ -13,6 +13,8 @@ use pt_iface::Answer;
 pub enum Part<V> {
     /// It asks for its next act.
     Goes,
+    /// The same, and the open scopes end before.
+    Bares,
     /// The reply is answered as a refusal.
     Refuses,
     /// The request is answered so.
@@ -32,6 +34,10 @@ impl<V> Part<V> {
     {
         match self {
             Part::Goes => Err(Next::At(Then::Goes)),
+            Part::Bares => Err(Next::Over {
+                edges: Edges::BARE,
+                then: Then::Goes,
+            }),
             Part::Refuses => Err(Next::At(Then::Refuses)),
             Part::Gives(answer) => Err(Next::At(Then::Gives(answer))),
             Part::Has(value) => Ok(value),

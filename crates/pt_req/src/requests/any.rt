@@ -58,13 +58,12 @@ impl RequestBody {
                 let list = Forgotten::Many(list);
                 RequestBody::Forget(Forget { list, at })
             }
-            // Whether set-id bits are cleared is decided by a switch that is not there yet.
-            Request::Open { inode, flags, .. } => {
-                let at = OpeningAt::Begin { inode };
+            Request::Open { inode, kill, flags } => {
+                let at = OpeningAt::Begin { inode, kill };
                 RequestBody::Open(Open { flags, at })
             }
             Request::OpenDir { inode, flags } => {
-                let at = OpeningAt::Begin { inode };
+                let at = OpeningAt::Begin { inode, kill: false };
                 let flags = flags | OpenFlags::O_DIRECTORY.0;
                 RequestBody::Open(Open { flags, at })
             }
@@ -92,6 +91,7 @@ impl RequestBody {
                 parent,
                 name,
                 mode,
+                kill,
                 flags,
                 ext,
                 ..
@@ -105,6 +105,7 @@ impl RequestBody {
                     parent,
                     name,
                     mode,
+                    kill,
                     flags,
                 };
                 RequestBody::Create(Create { file, at })

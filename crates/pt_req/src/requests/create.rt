@@ -71,8 +71,8 @@ fn is_there(reply: &ActReply) -> bool
 fn begun(at: &mut CreateAt, file: &FileAsked, reply: ActReply) -> Next
     ensures next { (plan : Plan) (seat : HostSeat) →
         IsNext (asked (create plan seat file.now) reply) reply result (create_at_left at.new file.now plan seat) }
-    ensures acts { counts_after result (create_at_acts at.new) ≤ 31 }
-    ensures room { begun_in result + counts_after result (create_at_room at.new) ≤ 15 }
+    ensures acts { counts_after result (create_at_acts at.new) ≤ 33 }
+    ensures room { begun_in result + counts_after result (create_at_room at.new) ≤ 16 }
     ensures inserts { counts_after result (create_at_inserts at.new) ≤ 2 }
 {
     match reply {
@@ -99,7 +99,7 @@ fn steps_for(
 ) -> Option<CredSteps>
     ensures some { IfSome result (λ steps. (dir : Fd) →
         with_memory (making_as plan.now seat.now session file.now dir)
-        ≡ steps_tree steps (making file.now plan.now session dir)) }
+        ≡ steps_tree steps (making file.now plan.now seat.now session dir)) }
     ensures none { IfNone result ((dir : Fd) →
         with_memory (making_as plan.now seat.now session file.now dir) ≡ Gives (answer.Refused eperm)) }
     ensures acts { IfSome result (λ steps. steps_acts steps ≤ 7) }
@@ -120,8 +120,8 @@ fn resolved(
 ) -> Next
     ensures next { IsNext (asked (making_in plan.now seat.now session file.now) reply) reply result
         (create_at_left at.new file.now plan.now seat.now) }
-    ensures acts { counts_after result (create_at_acts at.new) ≤ 29 }
-    ensures room { begun_in result + counts_after result (create_at_room at.new) ≤ 14 }
+    ensures acts { counts_after result (create_at_acts at.new) ≤ 31 }
+    ensures room { begun_in result + counts_after result (create_at_room at.new) ≤ 15 }
     ensures inserts { counts_after result (create_at_inserts at.new) ≤ 2 }
 {
     match reply {
@@ -150,10 +150,10 @@ fn made(
     reply: ActReply,
 ) -> Next
     ensures next { (plan : Plan) (seat : HostSeat) →
-        IsNext (asked (making file.now plan session dir) reply) reply result
+        IsNext (asked (making file.now plan seat session dir) reply) reply result
         (create_at_left at.new file.now plan seat) }
-    ensures acts { counts_after result (create_at_acts at.new) ≤ 20 }
-    ensures room { begun_in result + counts_after result (create_at_room at.new) ≤ 10 }
+    ensures acts { counts_after result (create_at_acts at.new) ≤ 22 }
+    ensures room { begun_in result + counts_after result (create_at_room at.new) ≤ 11 }
     ensures inserts { counts_after result (create_at_inserts at.new) ≤ 2 }
 {
     if let ActReply::Host(HostReply::Ok(HostValue::Fd(fd))) = &reply {
@@ -221,7 +221,7 @@ impl Body for Create {
                 }),
             },
             CreateAt::New(part) => part.want(&self.file),
-            CreateAt::Old(part) => part.want(plan, &self.file),
+            CreateAt::Old(part) => return part.want(plan, &self.file),
         };
         Wanted { act, opens: None }
     }
@@ -247,7 +247,7 @@ impl Body for Create {
                 made(&mut self.at, session, dir, &self.file, reply)
             }
             CreateAt::New(part) => part.take(plan, &self.file, reply),
-            CreateAt::Old(part) => part.take(plan, &self.file, reply),
+            CreateAt::Old(part) => part.take(plan, seat, &self.file, reply),
         }
     }
 

@@ -10,7 +10,7 @@ use pt_session::{Event, EventReply, Negotiated};
 #[derive(Drop)]
 pub enum Init {
     Clear { capable: FsOptions },
-    Open(RootOpen),
+    Open { capable: FsOptions, part: RootOpen },
 }
 
 impl Body for Init {
@@ -29,7 +29,7 @@ impl Body for Init {
     fn want<'a>(&'a self, plan: &'a Plan, _seat: &'a HostSeat) -> Wanted<'a> {
         let act = match self {
             Init::Clear { .. } => Act::Event(Event::Clear),
-            Init::Open(part) => part.want(plan),
+            Init::Open { part, .. } => part.want(plan),
         };
         Wanted { act, opens: None }
     }
@@ -40,18 +40,20 @@ impl Body for Init {
                 ActReply::Event(EventReply::Cleared { era, .. }) => {
                     let agreed = Negotiated::NONE;
                     let session = BegunSession { era, agreed };
-                    *self = Init::Open(RootOpen {
+                    let capable = *capable;
+                    let part = RootOpen {
                         session,
-                        agreed: Some(agreed_with(*capable)),
+                        agreed: Some(agreed_with(&plan.config, capable)),
                         at: RootOpenAt::Open,
-                    });
+                    };
+                    *self = Init::Open { capable, part };
                     Next::At(Then::Goes)
                 }
                 _ => Next::At(Then::Refuses),
             },
-            Init::Open(part) => match part.take(reply).handed() {
+            Init::Open { capable, part } => match part.take(reply).handed() {
                 Ok(()) => {
-                    let options = init_options(&plan.config);
+                    let options = init_options(&plan.config, *capable);
                     Next::At(Then::Gives(Answer::Inited(options)))
                 }
                 Err(next) => next,

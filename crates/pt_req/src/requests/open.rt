@@ -1,5 +1,5 @@
 use crate::begun::BegunSession;
-use crate::parts::{HandleOpen, HandleOpenAt, open_options};
+use crate::parts::{HandleOpen, open_options};
 use crate::plan::Plan;
 use pt_frame::{Act, ActReply, Body, Edges, Next, Then, Wanted};
 use pt_host::HostSeat;
@@ -9,7 +9,7 @@ use pt_session::{Event, EventReply};
 /// Where the request `open` stands.
 #[derive(Drop)]
 pub enum OpeningAt {
-    Begin { inode: u64 },
+    Begin { inode: u64, kill: bool },
     Open(HandleOpen),
 }
 
@@ -36,22 +36,19 @@ impl Body for Open {
     fn want<'a>(&'a self, plan: &'a Plan, _seat: &'a HostSeat) -> Wanted<'a> {
         let act = match &self.at {
             OpeningAt::Begin { .. } => Act::Event(Event::Begin),
-            OpeningAt::Open(part) => part.want(plan),
+            OpeningAt::Open(part) => return part.want(plan),
         };
         Wanted { act, opens: None }
     }
 
-    fn take(&mut self, plan: &Plan, _seat: &HostSeat, reply: ActReply) -> Next {
+    fn take(&mut self, plan: &Plan, seat: &HostSeat, reply: ActReply) -> Next {
         match &mut self.at {
-            OpeningAt::Begin { inode } => match reply {
+            OpeningAt::Begin { inode, kill } => match reply {
                 ActReply::Event(EventReply::Began { era, negotiated }) => {
                     let agreed = negotiated;
-                    self.at = OpeningAt::Open(HandleOpen {
-                        session: BegunSession { era, agreed },
-                        inode: *inode,
-                        flags: self.flags,
-                        at: HandleOpenAt::Resolve,
-                    });
+                    let session = BegunSession { era, agreed };
+                    let part = HandleOpen::of(plan, seat, session, *inode, *kill, self.flags);
+                    self.at = OpeningAt::Open(part);
                     Next::Over {
                         edges: Edges::BEGIN,
                         then: Then::Goes,

@@ -3,6 +3,7 @@ use Rattle.pt_fit.proofs.Asked.{comes_ends, job_full, job_caused, created_asked}
 use Rattle.pt_fit.proofs.Beginning.{job_first}
 use Rattle.pt_fit.proofs.Entries.{entry_named}
 use Rattle.pt_fit.proofs.Keeping.{asked_keeps}
+use Rattle.pt_fit.proofs.Saying.{job_decides}
 
 pub returns-clause-ends : goal.returns-clause-ends
 returns-clause-ends c = comes_ends
@@ -24,3 +25,6 @@ returns-clause-created c = created_asked
 
 pub returns-clause-handled : goal.returns-clause-handled
 returns-clause-handled c = asked_keeps
+
+pub returns-clause-decides : goal.returns-clause-decides
+returns-clause-decides c = job_decides

@@ -4,7 +4,7 @@ use Rattle.pt_session.specs.Pending.{pending_in}
 use Rattle.pt_law.proofs.Hosts.{Tells}
 use Rattle.pt_fs.specs.Trace.{room_of}
 use Rattle.pt_fs.proofs.Concluding.{is_run}
-use Rattle.pt_fs.proofs.Ended.{started_length, started_calm}
+use Rattle.pt_fs.proofs.Ended.{started_length, started_calm, started_fits}
 use Rattle.pt_fs.proofs.Finale.{LostEnd, runs_lost, long_end, length_lost, comes_lost, bounded_lost, spent_lost}
 use Rattle.pt_fs.proofs.Finale.{loses_seat}
 use Rattle.pt_fs.proofs.Going.{there_took}
@@ -84,6 +84,7 @@ returns-in-None g c =
     let new = c.requires.new in
     let trace = c.run_all.new.trace.items in
     let bounds = started_bounds _ jobs running c.in-Ok.ensures.started in
+    let fits = started_fits _ jobs running c.in-Ok.ensures.started in
     let none = ap pending_in new.1 in
     let spent = spent_whole whole in
     let had = c.in-Ok.ensures.trace_room in
@@ -97,9 +98,9 @@ returns-in-None g c =
     (runs_jobs g.H.Host.does plan jobs trace _ _ _ _ _ _ (runs_whole whole) (same_whole whole) (length_whole whole)
     (comes_whole whole) _ seats)
     (seats_back g.H.Host.does plan jobs trace _ _ _ _ _ _ (runs_whole whole) (same_whole whole) (length_whole whole)
-    (comes_whole whole) g.H.Host.faults g.met.H.Host.promised c.requires.seats _ seats)
+    (comes_whole whole) g.H.Host.faults g.met.H.Host.promised c.requires.seats fits _ seats)
     (each_seated g.H.Host.does plan jobs trace _ _ _ _ _ _ (runs_whole whole) (same_whole whole) (length_whole whole)
-    (comes_whole whole) g.H.Host.faults g.met.H.Host.promised c.requires.seats)
+    (comes_whole whole) g.H.Host.faults g.met.H.Host.promised c.requires.seats fits)
     (bounded_whole whole) (omega (arith, bounds, none, spent)) in
     record {
       run = rw (fs, room) is;
@@ -138,6 +139,7 @@ returns-in-Some g c =
     let seats = c.finish_run-left.ensures.seats in
     let new = c.requires.new in
     let bounds = started_bounds _ jobs running c.in-Ok.ensures.started in
+    let fits = started_fits _ jobs running c.in-Ok.ensures.started in
     let none = ap pending_in new.1 in
     let spent = spent_lost e in
     let had = c.in-Ok.ensures.trace_room in
@@ -151,9 +153,9 @@ returns-in-Some g c =
     (runs_jobs g.H.Host.does plan jobs trace _ _ _ _ _ _ (runs_lost e) (long_end e) (length_lost e) (comes_lost e) _
     seats)
     (seats_back g.H.Host.does plan jobs trace _ _ _ _ _ _ (runs_lost e) (long_end e) (length_lost e) (comes_lost e)
-    g.H.Host.faults g.met.H.Host.promised c.requires.seats _ seats)
+    g.H.Host.faults g.met.H.Host.promised c.requires.seats fits _ seats)
     (each_seated g.H.Host.does plan jobs trace _ _ _ _ _ _ (runs_lost e) (long_end e) (length_lost e) (comes_lost e)
-    g.H.Host.faults g.met.H.Host.promised c.requires.seats)
+    g.H.Host.faults g.met.H.Host.promised c.requires.seats fits)
     (bounded_lost e) (omega (arith, bounds, none, spent)) in
     record {
       run = rw (fs, room) is;

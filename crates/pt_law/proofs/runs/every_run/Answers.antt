@@ -6,6 +6,7 @@ use Rattle.pt_law.proofs.Next.{honoured_law}
 use Rattle.pt_law.proofs.Standing.{standing_law}
 use Rattle.pt_law.proofs.HandlesOnce.{handles_once_law}
 use Rattle.pt_law.proofs.Overtaking.{overtaken_law, shut_out_law}
+use Rattle.pt_law.proofs.Agreeing.{agreed_law}
 
 pub returns-clause-agree : goal.returns-clause-agree
 returns-clause-agree c = agree_law
@@ -48,3 +49,6 @@ returns-clause-overtaken c = overtaken_law
 
 pub returns-clause-shut_out : goal.returns-clause-shut_out
 returns-clause-shut_out c = shut_out_law
+
+pub returns-clause-agreed : goal.returns-clause-agreed
+returns-clause-agreed c = agreed_law

@@ -6,8 +6,8 @@ use Rattle.pt_iface.specs.declared.request.Extensions.{Extensions}
 use Rattle.pt_iface.specs.declared.request.Request.{Request}
 use Rattle.pt_iface.specs.declared.request.Request.TheVariants as request
 use Rattle.pt_iface.specs.declared.request.SetattrIn.{SetattrIn}
-use Rattle.pt_req.specs.Requests.{tree_of as tree_there}
 use Rattle.pt_req.specs.declared.plan.Plan.{Plan}
+use Rattle.pt_attr.specs.Contents.{tree_of as tree_there}
 use Rattle.pt_attr.specs.Pattern.{tree_of}
 use Rattle.pt_attr.proofs.body.AnyBody.of.Goals as goal
 
@@ -53,12 +53,12 @@ served_there plan seat who asked a b c d e f g h i j k l = refl
 
 pub returns-in_default : goal.returns-in_default
 returns-in_default c = record {
-  left = λ plan seat. c.of.ensures.left plan seat
+  left = λ plan seat. c.on_contents.ensures.left plan seat
       ∙ served_there plan seat c.args.who c.args.request c.in_default.not-Readlink c.in_default.not-StatFs
       c.in_default.not-GetAttr c.in_default.not-Access c.in_default.not-Unlink c.in_default.not-Rmdir
       c.in_default.not-Mkdir c.in_default.not-Mknod c.in_default.not-Symlink c.in_default.not-Link
       c.in_default.not-Rename c.in_default.not-SetAttr;
-  acts = c.of.ensures.acts;
-  room = c.of.ensures.room;
-  inserts = c.of.ensures.inserts;
+  acts = c.on_contents.ensures.acts;
+  room = c.on_contents.ensures.room;
+  inserts = c.on_contents.ensures.inserts;
 }

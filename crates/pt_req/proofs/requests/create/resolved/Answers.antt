@@ -27,7 +27,7 @@ returns-clause-next c = elim c.match-reply.branch [
       let told : c.args.reply ≡ Event (event.Resolved r.field-0-0 r.form r.field-0-2 r.field-0-3) = search rules in
       let some : (dir : Fd) →
       with_memory (making_as c.args.plan.now c.args.seat.now c.args.session c.args.file.now dir)
-      ≡ steps_tree w.in-Some.steps (making c.args.file.now c.args.plan.now c.args.session dir) =
+      ≡ steps_tree w.in-Some.steps (making c.args.file.now c.args.plan.now c.args.seat.now c.args.session dir) =
       rw w.in-Some.is at w.steps_for.ensures.some in
       rw w.result-is (rw w.at-is (rw told (rw (is_file r.form) (some (dir_of r.form)))))
   | in_default w ↦ rw w.result-is (elim w.in_default.branch [

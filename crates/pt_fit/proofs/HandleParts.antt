@@ -1,0 +1,331 @@
+-- The parts of requests keep it: a handle that is inserted is the one that is answered.
+use Rattle.std.proofs.Common.{◌≡◌, ◌+◌, ◌∷◌, ◌∙◌, [], if◌then◌else◌, ℕ, Bool, List, None, Option, Some}
+use Rattle.std.proofs.Common.{ap, arith, false, refl, subst, sym, true}
+use Rattle.pt_host.specs.Call.{Call}
+use Rattle.pt_host.specs.Errno.{eacces, ebadf}
+use Rattle.pt_host.specs.Words.{is}
+use Rattle.pt_host.specs.declared.ids.Errno.{Errno}
+use Rattle.pt_host.specs.declared.ids.Fd.{Fd}
+use Rattle.pt_host.specs.declared.op.KeptHostOp.TheVariants as call
+use Rattle.pt_host.specs.declared.reply.HostReply.TheVariants as host
+use Rattle.pt_host.specs.declared.seat.HostSeat.{HostSeat}
+use Rattle.pt_host.specs.declared.stat.Stat.{Stat}
+use Rattle.pt_session.proofs.Cases.{cases}
+use Rattle.pt_session.specs.declared.event.KeptEvent.TheVariants as change
+use Rattle.pt_session.specs.declared.form.Negotiated.{Negotiated}
+use Rattle.pt_session.specs.declared.form.RowForm.{RowForm}
+use Rattle.pt_session.specs.declared.form.RowForm.TheVariants.{File}
+use Rattle.pt_session.specs.declared.reply.EventRefusal.{EventRefusal}
+use Rattle.pt_session.specs.declared.reply.EventRefusal.TheVariants as refused
+use Rattle.pt_session.specs.declared.reply.EventReply.TheVariants as event
+use Rattle.pt_iface.specs.declared.answer.Answer.{Answer}
+use Rattle.pt_iface.specs.declared.answer.Answer.TheVariants as answer
+use Rattle.pt_iface.specs.declared.request.Request.TheVariants as request
+use Rattle.pt_frame.specs.Deed.{Calls, Changes, Deed, IsStepOf, Step}
+use Rattle.pt_frame.specs.Replies.{event_refusal, refusal}
+use Rattle.pt_frame.specs.Tree.{Asks, Bares, Brackets, Gives, Opens, Refuses, RequestTree, Shuts}
+use Rattle.pt_frame.specs.declared.act.ActReply.{ActReply}
+use Rattle.pt_frame.specs.declared.act.ActReply.TheVariants.{Event, Host, NoCopy}
+use Rattle.pt_frame.specs.declared.hold.Hold.{Hold}
+use Rattle.pt_frame.specs.declared.hold.Hold.TheVariants as hold
+use Rattle.pt_req.specs.Capability.{drops_fsetid, fsetid, without_fsetid}
+use Rattle.pt_req.specs.Entries.{can_open}
+use Rattle.pt_req.specs.Options.{cleaned, inode_flags}
+use Rattle.pt_req.specs.Options.{without_nofollow}
+use Rattle.pt_req.specs.Parts.{by_path, file_of, look_up, looked_of, numbered, open_form, open_inode, open_num}
+use Rattle.pt_req.specs.Parts.{root_open}
+use Rattle.pt_req.specs.Steps.{Resolved, begin, clear, draw_handle, draw_node, insert, insert_handle}
+use Rattle.pt_req.specs.Steps.{on_began, on_claim, on_cleared, on_done, on_drawn, on_fd, on_handle, on_inserted}
+use Rattle.pt_req.specs.Steps.{on_resolved, on_root, on_set, on_stat, on_taken}
+use Rattle.pt_req.specs.Steps.{resolve, session_of, stat, take_fd}
+use Rattle.pt_req.specs.declared.begun.BegunSession.{BegunSession}
+use Rattle.pt_req.specs.declared.parts.looked.Looked.{Looked}
+use Rattle.pt_req.specs.declared.plan.Plan.{Plan}
+use Rattle.pt_req.proofs.Replying.{if_began, if_claimed, if_cleared, if_done, if_drawn, if_fd, if_inserted}
+use Rattle.pt_req.proofs.Replying.{if_resolved, if_root, if_set, if_stat, if_taken}
+use Rattle.pt_attr.specs.Requests.{file_by, files_by}
+use Rattle.pt_attr.specs.Steps.{do_call}
+use Rattle.pt_law.specs.Branch.{Along}
+use Rattle.pt_law.specs.Ledger.{handle_inserted_if}
+use Rattle.pt_law.specs.Told.{AllMayBeTold, MayBeTold, StepMayBeTold}
+use Rattle.pt_fit.specs.Handled.{handle_count, handles_in}
+
+-- On each of its branches, by replies that may come, what was inserted is what is answered.
+pub record Keeps (tree : RequestTree) : Type 0 where
+  pub on : (path : List Step) (last : Answer) → AllMayBeTold path → Along tree path last → (handle : ℕ) →
+      handles_in handle path ≡ handle_count handle last
+
+-- an answer without a handle
+pub gives : (last : Answer) → ((handle : ℕ) → handle_count handle last ≡ 0) → Keeps (Gives last)
+gives last without = record { on = go }
+  where
+    go : (path : List Step) (told : Answer) → AllMayBeTold path → Along (Gives last) path told → (handle : ℕ) →
+        handles_in handle path ≡ handle_count handle told
+    go [] told m a handle = sym (ap (handle_count handle) a ∙ without handle)
+    go (step ∷ path) told m a handle = absurd a
+
+pub event_none : (why : EventRefusal) (handle : ℕ) → handle_count handle (event_refusal why) ≡ 0
+event_none refused.Memory handle = refl
+event_none why handle = refl
+
+pub refusal_none : (told : ActReply) (handle : ℕ) → handle_count handle (refusal told) ≡ 0
+refusal_none (Event (event.Refused why)) handle = event_none why handle
+refusal_none (Host (host.Refused errno)) handle = refl
+refusal_none (Host (host.Fault errno)) handle = refl
+refusal_none (Host host.NoMemory) handle = refl
+refusal_none (Host (host.Ok value)) handle = refl
+refusal_none told handle = refl
+
+pub refuses : (told : ActReply) → Keeps (Refuses told)
+refuses told = record { on = go }
+  where
+    go : (path : List Step) (last : Answer) → AllMayBeTold path → Along (Refuses told) path last → (handle : ℕ) →
+        handles_in handle path ≡ handle_count handle last
+    go [] last m a handle = sym (ap (handle_count handle) a ∙ refusal_none told handle)
+    go (step ∷ path) last m a handle = absurd a
+
+-- a step that inserts no handle, whatever it is told
+abbrev pub InsertsNone : Deed → Type 0
+InsertsNone deed = (handle : ℕ) (told : ActReply) → handle_inserted_if handle (Some deed) told ≡ 0
+
+pub step_none : (deed : Deed) (did : Option Deed) (told : ActReply) (handle : ℕ) → InsertsNone deed →
+    IsStepOf deed did told → handle_inserted_if handle did told ≡ 0
+step_none deed None told handle spares i = refl
+step_none deed (Some same) NoCopy handle spares i =
+    ap (λ (d : Deed). handle_inserted_if handle (Some d) NoCopy) i.0 ∙ spares handle NoCopy
+step_none deed (Some same) told handle spares i =
+    ap (λ (d : Deed). handle_inserted_if handle (Some d) told) i ∙ spares handle told
+
+pub asks : (deed : Deed) (next : ActReply → RequestTree) → InsertsNone deed →
+    ((told : ActReply) → Keeps (next told)) →
+    Keeps (Asks deed next)
+asks deed next spares so = record { on = go }
+  where
+    go : (path : List Step) (last : Answer) → AllMayBeTold path → Along (Asks deed next) path last → (handle : ℕ) →
+        handles_in handle path ≡ handle_count handle last
+    go [] last m a handle = absurd a
+    go (step ∷ path) last m a handle =
+        let one = step_none deed step.deed step.reply handle spares a.0 in
+        let rest = (so step.reply).on path last m.1 a.1 handle in
+        omega (arith, one, rest)
+
+pub opens : (asked : Call) (scope : Hold) (next : ActReply → RequestTree) → ((told : ActReply) → Keeps (next told)) →
+    Keeps (Opens asked scope next)
+opens asked scope next so = record { on = go }
+  where
+    go : (path : List Step) (last : Answer) → AllMayBeTold path → Along (Opens asked scope next) path last →
+        (handle : ℕ) → handles_in handle path ≡ handle_count handle last
+    go [] last m a handle = absurd a
+    go (step ∷ path) last m a handle =
+        let one = step_none (Calls asked) step.deed step.reply handle (λ h told. refl) a.0 in
+        let rest = (so step.reply).on path last m.1 a.1 handle in
+        omega (arith, one, rest)
+
+pub bares : (rest : RequestTree) → Keeps rest → Keeps (Bares rest)
+bares rest so = record { on = so.on }
+
+pub brackets : (rest : RequestTree) → Keeps rest → Keeps (Brackets rest)
+brackets rest so = record { on = so.on }
+
+pub shuts : (passes : Bool) (rest : RequestTree) → Keeps rest → Keeps (Shuts passes rest)
+shuts passes rest so = record { on = so.on }
+
+-- what follows its insertion is answered with the handle, at once
+pub record Hands (handle : ℕ) (tree : RequestTree) : Type 0 where
+  pub on : (path : List Step) (last : Answer) → Along tree path last → (h : ℕ) →
+      is handle h + handles_in h path ≡ handle_count h last
+
+pub hands : (handle : ℕ) (last : Answer) → ((h : ℕ) → is handle h ≡ handle_count h last) → Hands handle (Gives last)
+hands handle last same = record { on = go }
+  where
+    go : (path : List Step) (told : Answer) → Along (Gives last) path told → (h : ℕ) →
+        is handle h + handles_in h path ≡ handle_count h told
+    go [] told a h = let e = same h in let f = ap (handle_count h) a in omega (arith, e, f)
+    go (step ∷ path) told a h = absurd a
+
+pub hands_shut : (handle : ℕ) (passes : Bool) (rest : RequestTree) → Hands handle rest →
+    Hands handle (Shuts passes rest)
+hands_shut handle passes rest so = record { on = so.on }
+
+pub inserts_handle : (session : BegunSession) (handle number : ℕ) (fd : Fd) (next : RequestTree) → Hands handle next →
+    Keeps (insert_handle session handle number fd next)
+inserts_handle session handle number fd next so = record { on = go }
+  where
+    asked : Deed
+    asked = Changes (change.InsertHandle session.era handle number fd)
+
+    -- by a reply that may come
+    replied : (told : ActReply) (path : List Step) (last : Answer) → MayBeTold asked told → AllMayBeTold path →
+        Along (on_handle next told) path last → (h : ℕ) →
+        handle_inserted_if h (Some asked) told + handles_in h path ≡ handle_count h last
+    replied (Event (event.Inserted given)) path last may m a h =
+        let inserting = change.InsertHandle session.era handle number fd in
+        let e = (cases may.0 may.1 inserting (event.Inserted given) may.2).3 in
+        let f = ap (λ n. is n h) e in
+        let k = so.on path last a h in
+        omega (arith, f, k)
+    replied told path last may m a h = let k = (refuses told).on path last m a h in omega (arith, k)
+
+    at : (did : Option Deed) (told : ActReply) (path : List Step) (last : Answer) → IsStepOf asked did told →
+        StepMayBeTold did told → AllMayBeTold path → Along (on_handle next told) path last → (h : ℕ) →
+        handle_inserted_if h did told + handles_in h path ≡ handle_count h last
+    at None told path last i may m a h = absurd (uncopied told i)
+      where
+        uncopied : (told : ActReply) → IsStepOf asked None told → ⊥
+        uncopied NoCopy i = i
+        uncopied told i = i
+    at (Some same) NoCopy path last i may m a h =
+        let k = (refuses NoCopy).on path last m a h in
+        let z = ap (λ (d : Deed). handle_inserted_if h (Some d) NoCopy) i.0 in
+        omega (arith, k, z)
+    at (Some same) told path last i may m a h =
+        ap (λ (d : Deed). handle_inserted_if h (Some d) told + handles_in h path) i
+        ∙ replied told path last (subst (λ (d : Deed). MayBeTold d told) i may) m a h
+
+    go : (path : List Step) (last : Answer) → AllMayBeTold path →
+        Along (insert_handle session handle number fd next) path last → (h : ℕ) →
+        handles_in h path ≡ handle_count h last
+    go [] last m a h = absurd a
+    go (step ∷ path) last m a h = at step.deed step.reply path last a.0 m.0 m.1 a.1 h
+
+-- Each part of a request.
+
+abbrev pub P : ActReply → RequestTree → Type 0
+P told tree = Keeps tree
+
+pub begins : (next : BegunSession → RequestTree) → ((session : BegunSession) → Keeps (next session)) →
+    Keeps (begin next)
+begins next so = asks (Changes change.Begin) (on_began next) (λ h told. refl)
+    (if_began P next refuses (λ era agreed. so (session_of era agreed)))
+
+pub clears : (next : ℕ → RequestTree) → ((era : ℕ) → Keeps (next era)) → Keeps (clear next)
+clears next so = asks (Changes change.Clear) (on_cleared next) (λ h told. refl)
+    (if_cleared P next refuses (λ era closings. so era))
+
+pub resolves : (number : ℕ) (next : Resolved → RequestTree) → ((row : Resolved) → Keeps (next row)) →
+    Keeps (resolve number next)
+resolves number next so = asks (Changes (change.Resolve number)) (on_resolved next) (λ h told. refl)
+    (if_resolved P next refuses (λ row form ids mode.
+    so (record { row = row; form = form; ids = ids; mode = mode })))
+
+pub calls_fd : (asked : Call) (next : Fd → RequestTree) → ((fd : Fd) → Keeps (next fd)) →
+    Keeps (Asks (Calls asked) (on_fd next))
+calls_fd asked next so = asks (Calls asked) (on_fd next) (λ h told. refl) (if_fd P next refuses so)
+
+pub stats : (fd : Fd) (next : Stat → RequestTree) → ((told : Stat) → Keeps (next told)) → Keeps (stat fd next)
+stats fd next so = asks (Calls (call.Stat fd)) (on_stat next) (λ h told. refl) (if_stat P next refuses so)
+
+pub takes : (next : RequestTree) → Keeps next → Keeps (take_fd next)
+takes next so = asks (Changes change.TakeFd) (on_taken next) (λ h told. refl) (if_taken P next refuses so)
+
+pub draws_handle : (next : ℕ → RequestTree) → ((handle : ℕ) → Keeps (next handle)) → Keeps (draw_handle next)
+draws_handle next so = asks (Changes change.DrawHandle) (on_drawn next) (λ h told. refl) (if_drawn P next refuses so)
+
+pub dones : (deed : Deed) (next : RequestTree) → InsertsNone deed → Keeps next → Keeps (Asks deed (on_done next))
+dones deed next spares so = asks deed (on_done next) spares (if_done P next refuses (λ closings. so))
+
+pub checks : (bad : Bool) (one next : RequestTree) → Keeps one → Keeps next → Keeps (if bad then one else next)
+checks true one next so other = so
+checks false one next so other = other
+
+pub refuses_so : (errno : Errno) → Keeps (Gives (answer.Refused errno))
+refuses_so errno = gives (answer.Refused errno) (λ h. refl)
+
+pub files : (form : RowForm) (next : Fd → RequestTree) → ((fd : Fd) → Keeps (next fd)) → Keeps (file_of form next)
+files (File fd) next so = so fd
+
+pub both_files : (first second : ℕ) (next : Fd → Fd → RequestTree) → ((from to : Fd) → Keeps (next from to)) →
+    Keeps (files_by first second next)
+both_files first second next so =
+    resolves first _ (λ one.
+    resolves second _ (λ other.
+    files one.form _ (λ from.
+    files other.form _ (λ to. so from to))))
+
+pub does : (asked : Call) (next : RequestTree) → Keeps next → Keeps (do_call asked next)
+does asked next so = asks (Calls asked) (on_set next) (λ h told. refl) (if_set P next refuses (λ told. so))
+
+pub decides : (granted : Bool) → Keeps (Gives (if granted then answer.Done else answer.Refused eacces))
+decides true = gives answer.Done (λ h. refl)
+decides false = refuses_so eacces
+
+pub one_file : (number : ℕ) (next : Fd → RequestTree) → ((fd : Fd) → Keeps (next fd)) → Keeps (file_by number next)
+one_file number next so = resolves number _ (λ row. files row.form next so)
+
+pub numbers : (session : BegunSession) (form : RowForm) (told : Stat) (next : ℕ → RequestTree) →
+    ((number : ℕ) → Keeps (next number)) → Keeps (numbered session form told next)
+numbers session form told next so =
+    let adds : ℕ → RequestTree = λ fresh. insert session fresh form told next in
+    asks (Changes (change.Claim session.era None told.ids)) (on_claim next (take_fd (draw_node adds)))
+    (λ h told. refl)
+    (if_claimed P next (take_fd (draw_node adds)) refuses so (
+    takes (draw_node adds) (
+    asks (Changes change.DrawNode) (on_drawn adds) (λ h told. refl) (
+    if_drawn P adds refuses (λ fresh.
+    asks (Changes (change.Insert session.era fresh form told.ids told.mode)) (on_inserted next) (λ h told. refl)
+    (if_inserted P next refuses so so))))))
+
+pub looks_up : (plan : Plan) (session : BegunSession) (parent : ℕ) (name : List ℕ) (next : Looked → RequestTree) →
+    ((looked : Looked) → Keeps (next looked)) → Keeps (look_up plan session parent name next)
+looks_up plan session parent name next so =
+    brackets _ (
+    resolves parent _ (λ directory.
+    files directory.form _ (λ dir.
+    calls_fd (call.OpenAt dir name by_path 0) _ (λ fd.
+    stats fd _ (λ told.
+    numbers session (File fd) told _ (λ number.
+    shuts true _ (so (looked_of plan session directory.ids told (File fd) number))))))))
+
+-- a handle is drawn, takes its slot and is inserted, for what was opened
+pub gets_handle : (session : BegunSession) (number : ℕ) (fd : Fd) (next : ℕ → RequestTree) →
+    ((handle : ℕ) → Hands handle (next handle)) →
+    Keeps (draw_handle (λ handle. take_fd (insert_handle session handle number fd (next handle))))
+gets_handle session number fd next so =
+    draws_handle _ (λ handle.
+    takes _ (inserts_handle session handle number fd (next handle) (so handle)))
+
+pub reopens : (form : RowForm) (flags : ℕ) (next : Fd → RequestTree) → ((fd : Fd) → Keeps (next fd)) →
+    Keeps (open_form form flags next)
+reopens (File fd) flags next so = calls_fd (call.Reopen fd (without_nofollow flags)) next so
+
+pub sets_on : (asked : Call) (scope : Hold) (next : RequestTree) → Keeps next →
+    Keeps (Opens asked scope (on_set next))
+sets_on asked scope next so = opens asked scope (on_set next) (if_set P next refuses (λ told. so))
+
+pub good : (can : Bool) (one other : RequestTree) → Keeps one → Keeps other → Keeps (if can then one else other)
+good true one other so also = so
+good false one other so also = also
+
+-- what keeps it in a scope keeps it in none
+pub without : (dropped : Bool) (next : RequestTree) → Keeps next → Keeps (without_fsetid dropped next)
+without true next so = sets_on (call.DropCap fsetid) (hold.Dropped fsetid) next so
+without false next so = so
+
+pub opens_inode : (plan : Plan) (session : BegunSession) (number flags : ℕ) (next : Fd → RequestTree) →
+    ((fd : Fd) → Keeps (next fd)) → Keeps (open_inode plan session number flags next)
+opens_inode plan session number flags next so =
+    let bits = inode_flags plan.config session.agreed flags in
+    resolves number _ (λ row.
+    good (can_open row.mode) (open_form row.form bits next) (Gives (answer.Refused ebadf))
+    (reopens row.form bits next so) (refuses_so ebadf))
+
+pub opens_num : (plan : Plan) (seat : HostSeat) (session : BegunSession) (number : ℕ) (kill : Bool) (flags : ℕ)
+    (next : ℕ → RequestTree) → ((handle : ℕ) → Hands handle (next handle)) →
+    Keeps (open_num plan seat session number kill flags next)
+opens_num plan seat session number kill flags next so =
+    brackets _ (
+    without (drops_fsetid plan seat kill) _ (
+    opens_inode plan session number (cleaned plan.config flags) _ (λ fd.
+    bares _ (
+    gets_handle session number fd (λ handle. Shuts false (next handle)) (λ handle.
+    hands_shut handle false (next handle) (so handle))))))
+
+pub opens_shared : (plan : Plan) (session : BegunSession) (agreed : Option Negotiated) (next : RequestTree) →
+    Keeps next →
+    Keeps (root_open plan session agreed next)
+opens_shared plan session agreed next so =
+    calls_fd (call.OpenRoot plan.config.root_dir by_path) _ (λ fd.
+    stats fd _ (λ told.
+    takes _ (
+    asks (Changes (change.InsertRoot session.era (File fd) told.ids told.mode agreed)) (on_root next) (λ h told. refl)
+    (if_root P next refuses (λ number. so)))))

@@ -1,0 +1,26 @@
+-- Believed. A call without the capability by which a file keeps its set-id bits where it is written, emptied or
+-- shortened. After virtiofsd's `drop_effective_cap`, capabilities(7).
+use Rattle.std.specs.Prelude.{Bool, true, false, ◌&&◌}
+use Rattle.pt_host.specs.Flags.{includes}
+use Rattle.pt_host.specs.declared.flags.Caps.{Caps}
+use Rattle.pt_host.specs.declared.op.KeptHostOp.TheVariants as call
+use Rattle.pt_host.specs.declared.seat.HostSeat.{HostSeat}
+use Rattle.pt_frame.specs.Tree.{RequestTree}
+use Rattle.pt_frame.specs.declared.hold.Hold.TheVariants as hold
+use Rattle.pt_req.specs.Steps.{open_scope}
+use Rattle.pt_req.specs.declared.plan.Plan.{Plan}
+
+-- `CAP_FSETID`
+abbrev pub fsetid : Caps
+fsetid = record { 0 = 16 }
+
+-- The guest asks that set-id bits go, that is configured, and the capability is effective in the seat that the job
+-- began with.
+abbrev pub drops_fsetid : Plan → HostSeat → Bool → Bool
+drops_fsetid plan seat kill = plan.config.killpriv_v2 && kill && includes seat.eff_caps.0 fsetid.0
+
+-- Without it, where it is to be dropped. `Bares` ends the scope behind the call for which it is opened; where that or
+-- what comes before it is refused, the scope ends with the request, and first of all that it holds.
+abbrev pub without_fsetid : Bool → RequestTree → RequestTree
+without_fsetid true next = open_scope (call.DropCap fsetid) (hold.Dropped fsetid) next
+without_fsetid false next = next

@@ -1,0 +1,122 @@
+ghost use Rattle.std.specs.Prelude.{◌≡◌, ◌≤◌, ◌+◌};
+ghost use Rattle.std.specs.Option.{option_len};
+ghost use Rattle.pt_script.specs.Switches.{switch_named, no_switches, switched, with_switch, switch_lines};
+
+/// A switch of the configuration, by virtiofsd's name.
+#[derive(Clone, Copy, Debug, PartialEq, Eq)]
+pub enum Switch {
+    Writeback,
+    AnnounceSubmounts,
+    Readdirplus,
+    AllowDirectIo,
+    KillprivV2,
+    CleanNoatime,
+    AllowMmap,
+}
+
+/// The switch of a key.
+pub fn switch_named(key: &[u8]) -> Option<Switch>
+    ensures { result ≡ switch_named key.now }
+{
+    if key == b"writeback".as_slice() {
+        Some(Switch::Writeback)
+    } else if key == b"announce_submounts".as_slice() {
+        Some(Switch::AnnounceSubmounts)
+    } else if key == b"readdirplus".as_slice() {
+        Some(Switch::Readdirplus)
+    } else if key == b"allow_direct_io".as_slice() {
+        Some(Switch::AllowDirectIo)
+    } else if key == b"killpriv_v2".as_slice() {
+        Some(Switch::KillprivV2)
+    } else if key == b"clean_noatime".as_slice() {
+        Some(Switch::CleanNoatime)
+    } else if key == b"allow_mmap".as_slice() {
+        Some(Switch::AllowMmap)
+    } else {
+        None
+    }
+}
+
+/// The switches that a script sets, each once at most.
+#[derive(Clone, Copy, Debug, PartialEq, Eq)]
+pub struct Switches {
+    pub writeback: Option<bool>,
+    pub announce_submounts: Option<bool>,
+    pub readdirplus: Option<bool>,
+    pub allow_direct_io: Option<bool>,
+    pub killpriv_v2: Option<bool>,
+    pub clean_noatime: Option<bool>,
+    pub allow_mmap: Option<bool>,
+}
+
+impl Switches {
+    /// None is set.
+    pub fn none() -> Switches
+        ensures { result ≡ no_switches }
+    {
+        Switches {
+            writeback: None,
+            announce_submounts: None,
+            readdirplus: None,
+            allow_direct_io: None,
+            killpriv_v2: None,
+            clean_noatime: None,
+            allow_mmap: None,
+        }
+    }
+
+    /// How it is set.
+    pub fn get(&self, switch: Switch) -> Option<bool>
+        ensures { result ≡ switched self.now switch }
+    {
+        match switch {
+            Switch::Writeback => self.writeback,
+            Switch::AnnounceSubmounts => self.announce_submounts,
+            Switch::Readdirplus => self.readdirplus,
+            Switch::AllowDirectIo => self.allow_direct_io,
+            Switch::KillprivV2 => self.killpriv_v2,
+            Switch::CleanNoatime => self.clean_noatime,
+            Switch::AllowMmap => self.allow_mmap,
+        }
+    }
+
+    pub fn set(&mut self, switch: Switch, on: bool)
+        ensures set { self.new ≡ with_switch self.old switch on }
+        ensures few { switch_lines self.new ≤ switch_lines self.old + 1 }
+    {
+        match switch {
+            Switch::Writeback => self.writeback = Some(on),
+            Switch::AnnounceSubmounts => self.announce_submounts = Some(on),
+            Switch::Readdirplus => self.readdirplus = Some(on),
+            Switch::AllowDirectIo => self.allow_direct_io = Some(on),
+            Switch::KillprivV2 => self.killpriv_v2 = Some(on),
+            Switch::CleanNoatime => self.clean_noatime = Some(on),
+            Switch::AllowMmap => self.allow_mmap = Some(on),
+        }
+    }
+
+    /// How many of them are set.
+    pub fn lines(&self) -> u32
+        ensures lines { result ≡ switch_lines self.now }
+        ensures few { result ≤ 7 }
+    {
+        lines_of(&self.writeback)
+            + lines_of(&self.announce_submounts)
+            + lines_of(&self.readdirplus)
+            + lines_of(&self.allow_direct_io)
+            + lines_of(&self.killpriv_v2)
+            + lines_of(&self.clean_noatime)
+            + lines_of(&self.allow_mmap)
+    }
+}
+
+/// How many lines set what stands once at most.
+pub fn lines_of<T>(value: &Option<T>) -> u32
+    ensures lines { result ≡ option_len value.now }
+    ensures few { result ≤ 1 }
+{
+    match value {
+        None => 0,
+        Some(_) => 1,
+    }
+}
