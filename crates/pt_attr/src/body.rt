@@ -7,8 +7,8 @@ ghost use Rattle.pt_attr.specs.Machine.Bodies.{any_left, any_acts, any_room, any
 ghost use Rattle.pt_attr.specs.Pattern.{tree_of, bound_of, most_inserted};
 
 use crate::requests::{
-    AttrAsked, ByHandle, ByNumber, CopyAsked, CopyAt, CopyFileRange, FileCall, HandleCall, Link,
-    LinkAt, Made, Making, Rename, RenameAt, SetAttr, SetAttrAt, SyncFs, SyncFsAt, appends,
+    AttrAsked, ByHandle, ByNumber, CopyAsked, CopyFileRange, FileCall, HandleCall, Link, Made,
+    Making, Rename, SetAttr, SetAttrAt, SyncFs, appends,
 };
 use pt_frame::{ActReply, Body, Next, Wanted};
 use pt_host::HostSeat;
@@ -100,8 +100,7 @@ impl AnyBody {
                     length,
                     flags,
                 };
-                let at = CopyAt::Begin;
-                AnyBody::CopyFileRange(CopyFileRange { asked, at })
+                AnyBody::CopyFileRange(CopyFileRange::new(asked))
             }
             Request::Flush { inode, handle } => {
                 AnyBody::ByHandle(ByHandle::new(inode, handle, HandleCall::Flush))
@@ -110,11 +109,8 @@ impl AnyBody {
                 inode,
                 handle,
                 datasync,
-            } => {
-                let call = HandleCall::Sync { datasync };
-                AnyBody::ByHandle(ByHandle::new(inode, handle, call))
             }
-            Request::FsyncDir {
+            | Request::FsyncDir {
                 inode,
                 handle,
                 datasync,
@@ -122,10 +118,7 @@ impl AnyBody {
                 let call = HandleCall::Sync { datasync };
                 AnyBody::ByHandle(ByHandle::new(inode, handle, call))
             }
-            Request::SyncFs { inode } => {
-                let at = SyncFsAt::Begin;
-                AnyBody::SyncFs(SyncFs { inode, at })
-            }
+            Request::SyncFs { inode } => AnyBody::SyncFs(SyncFs::new(inode)),
             request => AnyBody::Request(RequestBody::of(who, request)),
         }
     }
@@ -190,26 +183,14 @@ impl AnyBody {
                 inode,
                 newparent,
                 newname,
-            } => AnyBody::Link(Link {
-                inode,
-                newparent,
-                newname,
-                at: LinkAt::Begin,
-            }),
+            } => AnyBody::Link(Link::new(inode, newparent, newname)),
             Request::Rename {
                 olddir,
                 oldname,
                 newdir,
                 newname,
                 flags,
-            } => AnyBody::Rename(Rename {
-                olddir,
-                oldname,
-                newdir,
-                newname,
-                flags,
-                at: RenameAt::Begin,
-            }),
+            } => AnyBody::Rename(Rename::new(olddir, oldname, newdir, newname, flags)),
             Request::SetAttr {
                 inode,
                 handle,

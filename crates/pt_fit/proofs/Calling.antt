@@ -1,5 +1,5 @@
 -- The calls on what is open: what may follow the awaited reply is fit, and any other reply refuses the request.
-use Rattle.std.proofs.Common.{◌≡◌, ℕ, List, ◌∷◌, Option, None, Some, refl, sym, subst}
+use Rattle.std.proofs.Common.{◌≡◌, ℕ, List, ◌∷◌, None, Some, refl, sym, subst}
 use Rattle.pt_host.specs.Call.{Call}
 use Rattle.pt_host.specs.Promises.{FitsCall}
 use Rattle.pt_host.specs.Words.{Takes.{here}}

@@ -1,5 +1,5 @@
 -- The requests on what files hold are fit.
-use Rattle.std.proofs.Common.{◌≡◌, ◌∷◌, [], inl, inr, ℕ, Bool, false, List, None, refl, subst, sym}
+use Rattle.std.proofs.Common.{◌∷◌, [], inl, inr, ℕ, Bool, false, List, None, refl, subst, sym}
 use Rattle.std.specs.Int.{w64, cast_signed}
 use Rattle.pt_host.specs.Words.{Takes.{here, there}}
 use Rattle.pt_host.specs.declared.ids.Fd.{Fd}
@@ -9,7 +9,6 @@ use Rattle.pt_host.specs.declared.seat.HostSeat.{HostSeat}
 use Rattle.pt_iface.specs.declared.answer.Answer.TheVariants as answer
 use Rattle.pt_iface.specs.declared.request.Context.{Context}
 use Rattle.pt_iface.specs.declared.request.Request.TheVariants as request
-use Rattle.pt_frame.specs.Deed.{Calls}
 use Rattle.pt_frame.specs.declared.hold.Hold.{Hold}
 use Rattle.pt_frame.specs.declared.hold.Hold.TheVariants as hold
 use Rattle.pt_req.specs.Capability.{drops_fsetid}
@@ -23,7 +22,8 @@ use Rattle.pt_fit.specs.Cause.{Asking, asking}
 use Rattle.pt_fit.proofs.Calling.{TellsCount, fit_count_of, fit_do_call}
 use Rattle.pt_fit.proofs.Holds.{nothing_bare, over, unscoped_over}
 use Rattle.pt_fit.proofs.Joined.{fit_gives, fit_open_inode}
-use Rattle.pt_fit.proofs.Parts.{Goes, fit_bares, fit_begin, fit_checked, fit_pin_handle, fit_without_fsetid}
+use Rattle.pt_fit.proofs.Parts.{Goes, fit_begin, fit_checked, fit_pin_handle}
+use Rattle.pt_fit.proofs.Scopes.{fit_bares, fit_without_fsetid}
 
 -- the handle's descriptor is pinned, also under the scope of the capability
 pinned : (dropped : Bool) (row : ℕ) (fd : Fd) → Knows (unscoped (over dropped (hold.HandlePin row fd ∷ []))) fd

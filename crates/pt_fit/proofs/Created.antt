@@ -36,7 +36,8 @@ use Rattle.pt_fit.specs.Opened.{InsertionGives, IsLookedUp, inserting}
 use Rattle.pt_fit.proofs.Entered.{WayAt, created_places}
 use Rattle.pt_fit.proofs.Handling.{each_join}
 use Rattle.pt_fit.proofs.Leading.{IsStill, StillSort}
-use Rattle.pt_fit.proofs.Making.{NewWay, OldWay, all_still_resolve, created_parts}
+use Rattle.pt_fit.proofs.Making.{NewWay, OldWay, created_parts}
+use Rattle.pt_fit.proofs.Still.{all_still_resolve}
 
 -- A still step neither closes a descriptor nor hands one over.
 

@@ -1,9 +1,10 @@
 -- `create` is fit: as whoever asks a file is made, or one that is there is opened.
 use Rattle.std.proofs.Common.{◌≡◌, ◌++◌, ◌∷◌, ◌⊎◌, ◌∙◌, ◌&&◌, [], if◌then◌else◌, ℕ, Bool, List, None, Option, Some}
-use Rattle.std.proofs.Common.{ap, false, inl, inr, is_some, refl, subst, sym, true}
+use Rattle.std.proofs.Common.{ap, false, inl, inr, is_some, not, refl, subst, sym, true}
 use Rattle.std.proofs.Common.{◌==◌}
 use Rattle.std.proofs.lemmas.Bool.{eqb-true}
 use Rattle.pt_host.specs.Errno.{eperm, estale}
+use Rattle.pt_host.specs.Flags.{includes, o_excl}
 use Rattle.pt_host.specs.Words.{Takes.{here, there}}
 use Rattle.pt_host.specs.declared.ids.Fd.{Fd}
 use Rattle.pt_host.specs.declared.ids.ObjIds.{ObjIds}
@@ -25,7 +26,7 @@ use Rattle.pt_frame.specs.declared.hold.Hold.TheVariants as hold
 use Rattle.pt_session.specs.declared.form.Negotiated.{Negotiated}
 use Rattle.pt_req.specs.Asker.{as_asker, asker_from, asker_of, taken_on}
 use Rattle.pt_req.specs.Attributes.{is_blocked}
-use Rattle.pt_req.specs.Creating.{are_same, if_same, make_file, new_file, old_file}
+use Rattle.pt_req.specs.Creating.{are_same, if_same, make_file, new_file, old_file, takes_old}
 use Rattle.pt_req.specs.Entries.{is_bad_name}
 use Rattle.pt_req.specs.Options.{create_options, making_flags}
 use Rattle.pt_req.specs.Requests.{file_asked}
@@ -39,10 +40,11 @@ use Rattle.pt_fit.specs.Cause.{Asking, BlocksLabel, IsBlockedLabel, OwnCause, Te
 use Rattle.pt_fit.proofs.Holds.{nothing_bare}
 use Rattle.pt_fit.proofs.Joined.{after_any_step, fit_gives, fit_look_up, fit_open_num}
 use Rattle.pt_fit.proofs.Labelling.{fit_labelled}
-use Rattle.pt_fit.proofs.Parts.{Agreed, Covers, Goes, Seen, Told, blocked_by, fit_begin, fit_checked}
+use Rattle.pt_fit.proofs.Parts.{Agreed, Goes, Seen, Told, blocked_by, fit_begin, fit_checked}
 use Rattle.pt_fit.proofs.Parts.{fit_draw_handle, fit_file_of}
-use Rattle.pt_fit.proofs.Parts.{fit_insert_given, fit_make_at, fit_open_scope, fit_raise, fit_resolve, fit_stat}
+use Rattle.pt_fit.proofs.Parts.{fit_insert_given, fit_resolve, fit_stat}
 use Rattle.pt_fit.proofs.Parts.{fit_take_under}
+use Rattle.pt_fit.proofs.Scopes.{Covers, fit_make_at, fit_open_scope, fit_raise}
 
 -- scopes lie on what holds none
 pub covers_none : (row : ℕ) (dir : Fd) → Covers (hold.Pin row (Some dir) ∷ []) (hold.Pin row (Some dir) ∷ [])
@@ -120,6 +122,10 @@ same_ids one other e =
     let mnt = eqb-true one.mnt_id other.mnt_id most.1 in
     λ i. record { ino = ino i; dev = dev i; mnt_id = mnt i }
 
+not_set : (set : Bool) → not set ≡ true → set ≡ false
+not_set true e = absurd (cc)
+not_set false e = refl
+
 -- an object of the same ids goes on, and another one is stale
 fit_if_same : {asked : Asking} {seen : List Seen} {holds : List Hold} {marks : List ℕ} {notes : Notes}
     (made found : ObjIds) (next : RequestTree) →
@@ -175,12 +181,13 @@ module _ (plan : Plan) (who : Context) (parent : ℕ) (name : List ℕ) (mode : 
 
   -- what was there gets one by its own
   fit_old : {marks : List ℕ} {notes : Notes} (seat : HostSeat) (session : BegunSession) (row : ℕ) (dir : Fd) →
-      notes.era ≡ Some session.era →
+      notes.era ≡ Some session.era → takes_old file ≡ true →
       Goes asks (Agreed session.agreed ∷ []) (old_file plan seat session file answers)
       (hold.Pin row (Some dir) ∷ []) marks notes
-  fit_old seat session row dir e =
+  fit_old seat session row dir e takes =
       fit_look_up plan session parent name _ (λ one. refl) e (λ looked later l.
-      fit_open_num plan seat session looked.entry.inode kill flags _ tt (λ one. refl) (l.era ∙ e) (λ handle last.
+      fit_open_num plan seat session looked.entry.inode kill flags _ (not_set (includes flags o_excl) takes)
+      (λ one. refl) (l.era ∙ e) (λ handle last.
       fit_gives (answer.Created looked.entry handle (create_options plan.config)) (λ path. (refl, tt, tt))))
 
   fit_making : {marks : List ℕ} {notes : Notes} (seat : HostSeat) (session : BegunSession) (row : ℕ) (dir : Fd) →

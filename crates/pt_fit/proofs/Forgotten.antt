@@ -4,6 +4,7 @@ use Rattle.std.proofs.Common.{if◌then◌else◌, append_assoc, arith, Option, 
 use Rattle.std.specs.Prelude.{◌&&◌}
 use Rattle.pt_host.specs.Errno.{ebadf, einval}
 use Rattle.pt_host.specs.Flags.{includes, o_directory}
+use Rattle.pt_host.specs.declared.ids.Errno.{Errno}
 use Rattle.pt_host.specs.declared.ids.Fd.{Fd}
 use Rattle.pt_host.specs.declared.op.KeptHostOp.TheVariants as call
 use Rattle.pt_host.specs.declared.reply.HostReply.TheVariants as host
@@ -336,19 +337,26 @@ gone_at number job later was now one step two a c r i e =
     record { t = k.0; t' = k.2.0; none = stays_gone number l.0 was k.0 a c k.1 (omega (arith, n, i)); go = k.2.1 }
 
 -- a step among others
-fails_among : (one two : List Step) (step : Step) → FailsToDrop step.deed step.reply →
-    SomeFailsToDrop (one ++ step ∷ two)
-fails_among [] two step f = inl f
-fails_among (first ∷ one) two step f = inr (fails_among one two step f)
+fails_among : (one two : List Step) (step : Step) (errno : Errno) → FailsToDrop step.deed step.reply errno →
+    SomeFailsToDrop (one ++ step ∷ two) errno
+fails_among [] two step errno f = inl f
+fails_among (first ∷ one) two step errno f = inr (fails_among one two step errno f)
 
--- or it ends before, where the capability was to be dropped
+-- or it ends before, where the capability was to be dropped, and is answered as that call was
 abbrev Ends : List Step → Finish → Bool → Type 0
-Ends steps end dropped = Answers end ⊎ ((dropped ≡ true) × SomeFailsToDrop steps)
+Ends steps end dropped =
+    Answers end
+    ⊎ ((errno : Errno) × (dropped ≡ true) × SomeFailsToDrop steps errno
+    × (end ≡ finish.Answer (answer.Refused errno)))
+
+-- a call's reply is this refusal, or this failure
+abbrev FailsBy : ActReply → Errno → Type 0
+FailsBy told errno = (told ≡ Host (host.Refused errno)) ⊎ (told ≡ Host (host.Fault errno))
 
 -- the reply to the call that drops the capability
 data DropTold (step : Step) : Type 0 where
   done : (got : HostValue) → step.reply ≡ Host (host.Ok got) → DropTold step
-  fails : FailsToDrop step.deed step.reply → DropTold step
+  fails : (errno : Errno) → FailsToDrop step.deed step.reply errno → FailsBy step.reply errno → DropTold step
   out : (step.reply ≡ Host host.NoMemory) ⊎ (step.reply ≡ NoCopy) → DropTold step
 
 drop_told : (step : Step) (t t' : Tables) → IsStepOf (Calls (call.DropCap fsetid)) step.deed step.reply →
@@ -359,9 +367,11 @@ drop_told step t t' i go = at step.deed step.reply i go
         TablesGo t did told t' → DropTold (record { deed = did; reply = told })
     at did (Host (host.Ok got)) i go = done got refl
     at (Some same) (Host (host.Refused errno)) i go =
-        fails (subst (λ (d : Deed). FailsToDrop (Some d) (Host (host.Refused errno))) (sym i) tt)
+        fails errno (subst (λ (d : Deed). FailsToDrop (Some d) (Host (host.Refused errno)) errno) (sym i) refl)
+        (inl refl)
     at (Some same) (Host (host.Fault errno)) i go =
-        fails (subst (λ (d : Deed). FailsToDrop (Some d) (Host (host.Fault errno))) (sym i) tt)
+        fails errno (subst (λ (d : Deed). FailsToDrop (Some d) (Host (host.Fault errno)) errno) (sym i) refl)
+        (inr refl)
     at None (Host told) i go = absurd i
     at did (Host host.NoMemory) i go = out (inl refl)
     at did NoCopy i go = out (inr refl)
@@ -372,18 +382,20 @@ pub gone_answered_law : (limit job : ℕ) (plan : Plan) (seat : HostSeat) (who :
     (turns later : List Turn) (was now : Tables) (number : ℕ) (end : Finish) →
     TablesRun (empty_tables limit) turns was → NoRow was (HasNumber number) → TablesRun was later now →
     inserted number later ≡ 0 → IsOn number what → Belongs (grammar_of plan seat who what) (steps_of job later) end →
-    (end ≡ finish.Answer (answer.Refused ebadf)) ⊎ IsGivenUp end ⊎ EndsBefore plan seat what (steps_of job later)
+    (end ≡ finish.Answer (answer.Refused ebadf)) ⊎ IsGivenUp end
+    ⊎ EndsBefore plan seat what (steps_of job later) end
 gone_answered_law limit job plan seat who what turns later was now number end r none k i on b =
     let s = resolves plan seat who what number on in
     ends_so what (first (steps_of job later) refl (drops_before plan seat what) s.0 s.1
     (subst (λ tree. Belongs (grammar_of_tree seat tree) (steps_of job later) end) s.2 b))
   where
     ends_so : (asked : Request) → Ends (steps_of job later) end (drops_before plan seat asked) →
-        (end ≡ finish.Answer (answer.Refused ebadf)) ⊎ IsGivenUp end ⊎ EndsBefore plan seat asked (steps_of job later)
+        (end ≡ finish.Answer (answer.Refused ebadf)) ⊎ IsGivenUp end
+        ⊎ EndsBefore plan seat asked (steps_of job later) end
     ends_so asked (inl (inl e)) = inl e
     ends_so asked (inl (inr up)) = inr (inl up)
     ends_so (request.Open inode kill flags) (inr before) = inr (inr before)
-    ends_so asked (inr before) = let no = before.0 in absurd (cc)
+    ends_so asked (inr before) = let no = before.1 in absurd (cc)
 
     at : (one : List Step) (step : Step) (two : List Step) → steps_of job later ≡ one ++ step ∷ two → Gone number step
     at one step two e =
@@ -421,7 +433,10 @@ gone_answered_law limit job plan seat who what turns later was now number end r 
             | inr on ↦ inl (second (one ++ step ∷ []) steps (hold.Dropped fsetid ∷ []) marks next
                 (e ∙ sym (append_assoc one (step ∷ []) steps)) on)
           ]
-          | fails f ↦ inr (refl, subst SomeFailsToDrop (sym e) (fails_among one steps step f))
+          | fails errno f (inl is) ↦ told_so one steps step errno e f
+              (dropped_on (resolve number next) marks (Host (host.Refused errno)) steps (moved is b.1))
+          | fails errno f (inr is) ↦ told_so one steps step errno e f
+              (dropped_on (resolve number next) marks (Host (host.Fault errno)) steps (moved is b.1))
           | out (inl is) ↦ inl (inr (out_so (dropped_on (resolve number next) marks (Host host.NoMemory) steps
               (moved is b.1))))
           | out (inr is) ↦ inl (inr (out_so (dropped_on (resolve number next) marks NoCopy steps (moved is b.1))))
@@ -438,6 +453,23 @@ gone_answered_law limit job plan seat who what turns later was now number end r 
             Belongs (framed_follows seat (may_give_up told (on_set (resolve number next) told)) 0
             (opened (hold.Dropped fsetid) told []) (framed seat (on_set (resolve number next) told)
             (opened (hold.Dropped fsetid) told []) marks)) steps end) is x
+
+        told_so : (one steps : List Step) (step : Step) (errno : Errno) → steps_of job later ≡ one ++ step ∷ steps →
+            FailsToDrop step.deed step.reply errno →
+            IsGivenUp end ⊎ Belongs (leave seat [] (finish.Answer (answer.Refused errno))) steps end →
+            Ends (steps_of job later) end true
+        told_so one steps step errno e f (inl up) = inl (inr up)
+        told_so one steps step errno e f (inr on) =
+            elim (end_leave seat [] (finish.Answer (answer.Refused errno)) steps end on).0 [
+              | inl is ↦ inr (
+                errno,
+                refl,
+                subst (λ (all : List Step). SomeFailsToDrop all errno) (sym e)
+                    (fails_among one steps step errno f),
+                is,
+              )
+              | inr lost ↦ inl (inr (lost_up end lost))
+            ]
 
         out_so : IsGivenUp end ⊎ Belongs (leave seat [] (finish.Answer answer.NoMemory)) steps end → IsGivenUp end
         out_so (inl up) = up

@@ -33,9 +33,10 @@ use Rattle.pt_fit.specs.Fit.{Fit}
 use Rattle.pt_fit.proofs.Holds.{IsBare, nothing_bare, over}
 use Rattle.pt_fit.proofs.Parts.{Goes, GoesAfter, fit_begin, fit_brackets, fit_claim, fit_draw_handle, fit_draw_node}
 use Rattle.pt_fit.proofs.Parts.{fit_file_of, fit_insert, fit_insert_handle, fit_insert_root, fit_open_at}
-use Rattle.pt_fit.proofs.Parts.{fit_bares, fit_open_root, fit_reopen, fit_resolve, fit_resolve_over, fit_shuts}
-use Rattle.pt_fit.proofs.Parts.{fit_shuts_passing, fit_stat, fit_take_fd, fit_without_fsetid, noting, resolution}
+use Rattle.pt_fit.proofs.Parts.{fit_open_root, fit_reopen, fit_resolve, fit_resolve_over, fit_shuts}
+use Rattle.pt_fit.proofs.Parts.{fit_shuts_passing, fit_stat, fit_take_fd, noting, resolution}
 use Rattle.pt_fit.proofs.Parts.{still, Seen, Ids}
+use Rattle.pt_fit.proofs.Scopes.{fit_bares, fit_without_fsetid}
 
 -- a leaf
 pub fit_gives : {asked : Asking} {seen : List Seen} {holds : List Hold} {marks : List ℕ} {notes : Notes}

@@ -1,6 +1,7 @@
 pub mod Holds
 pub mod Refused
 pub mod Parts
+pub mod Scopes
 pub mod Calling
 pub mod Joined
 pub mod Labelling
@@ -18,6 +19,7 @@ pub mod Saying
 pub mod Leading
 pub mod Looking
 pub mod Handling
+pub mod Still
 pub mod Making
 pub mod ObjectEntries
 pub mod Entered

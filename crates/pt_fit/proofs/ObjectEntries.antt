@@ -45,7 +45,8 @@ use Rattle.pt_fit.specs.Opened.{IsLookedUp}
 use Rattle.pt_fit.proofs.Leading.{HasEntry, Leads, given_none, goes_on, in_bracket, none_told, refused_none, replied}
 use Rattle.pt_fit.proofs.Leading.{shut_none, shuts_on}
 use Rattle.pt_fit.proofs.Looking.{began, good_name, looks, resolved, then_step}
-use Rattle.pt_fit.proofs.Making.{bare_comes, set_on, still_set, taken_comes}
+use Rattle.pt_fit.proofs.Making.{bare_comes, set_on, taken_comes}
+use Rattle.pt_fit.proofs.Still.{still_set}
 
 -- By some steps the job comes to this tree.
 record Reaches (seat : HostSeat) (last : Answer) (tree : RequestTree) (steps : List Step) : Type 0 where

@@ -46,8 +46,9 @@ use Rattle.pt_fit.specs.Fit.{Fit, MayAnswer}
 use Rattle.pt_fit.proofs.Creating.{covers_none, fit_as_asker}
 use Rattle.pt_fit.proofs.Holds.{down_over, nothing_bare}
 use Rattle.pt_fit.proofs.Joined.{after_any_step, fit_gives, fit_look_up}
-use Rattle.pt_fit.proofs.Parts.{Covers, Goes, Seen, Told, blocked_by, fit_begin, fit_checked, fit_file_of}
+use Rattle.pt_fit.proofs.Parts.{Goes, Seen, Told, blocked_by, fit_begin, fit_checked, fit_file_of}
 use Rattle.pt_fit.proofs.Parts.{fit_resolve, still}
+use Rattle.pt_fit.proofs.Scopes.{Covers}
 use Rattle.pt_fit.proofs.Refused.{IsHeededCall, refused_by}
 
 -- The object is made, and the scopes end.

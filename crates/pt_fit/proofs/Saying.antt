@@ -1,7 +1,6 @@
 -- What a job says to be agreed on is what it decides, for a session that it begins itself.
-use Rattle.std.proofs.Common.{◌≡◌, inl, inr, Bool, true, false, List, [], ◌∷◌, ◌++◌, Option, Some, None, refl, sym, subst}
+use Rattle.std.proofs.Common.{inl, inr, Bool, true, false, List, [], ◌∷◌, ◌++◌, Option, refl, sym, subst}
 use Rattle.pt_host.specs.Call.{Call}
-use Rattle.pt_host.specs.Words.{Each}
 use Rattle.pt_host.specs.declared.op.KeptHostOp.TheVariants as call
 use Rattle.pt_host.specs.declared.reply.HostReply.TheVariants as host
 use Rattle.pt_host.specs.declared.seat.HostSeat.{HostSeat}
@@ -16,7 +15,7 @@ use Rattle.pt_frame.specs.Frame.{giving, CutAfter}
 use Rattle.pt_frame.specs.Grammar.{Belongs}
 use Rattle.pt_frame.specs.Tree.{RequestTree, Gives, Refuses, Asks, Opens, Bares, Brackets, Shuts, Allocates}
 use Rattle.pt_frame.specs.declared.act.ActReply.{ActReply}
-use Rattle.pt_frame.specs.declared.act.ActReply.TheVariants.{Host, NoCopy}
+use Rattle.pt_frame.specs.declared.act.ActReply.TheVariants.{Host}
 use Rattle.pt_frame.specs.declared.finish.Finish.{Finish}
 use Rattle.pt_frame.specs.declared.hold.Hold.{Hold}
 use Rattle.pt_frame.specs.declared.hold.Hold.TheVariants as hold
@@ -26,7 +25,7 @@ use Rattle.pt_req.proofs.Replying.{if_set}
 use Rattle.pt_req.proofs.Walking.{InScope, OfDeed, Walk}
 use Rattle.pt_attr.specs.Pattern.{Asked, Requests, Edits, grammar_for, tree_of}
 use Rattle.pt_attr.proofs.Walking.{OfScopes, each_request, of_any}
-use Rattle.pt_law.specs.Agreed.{Says, IfMade, Begins, Decides}
+use Rattle.pt_law.specs.Agreed.{Says, Begins, Decides}
 use Rattle.pt_law.proofs.Doing.{Does, OfReturns, All, all_framed, steps_so, cut_so}
 use Rattle.pt_fit.specs.Answered.{ComesTo}
 use Rattle.pt_fit.specs.Decided.{decides}

@@ -35,8 +35,9 @@ use Rattle.pt_fit.specs.Cause.{Asking, IsForbiddenOwner, asking}
 use Rattle.pt_fit.proofs.Calling.{IsStillCall, fit_do_call, fit_look_at}
 use Rattle.pt_fit.proofs.Holds.{IsBare, nothing_bare, unscoped_over}
 use Rattle.pt_fit.proofs.Joined.{after_any_step, fit_file_by, fit_gives, fit_open_row}
-use Rattle.pt_fit.proofs.Parts.{Goes, GoesAfter, Seen, fit_bares, fit_begin, fit_checked, fit_file_of, fit_pin_handle}
-use Rattle.pt_fit.proofs.Parts.{fit_resolve, fit_without_fsetid, noting, resolution}
+use Rattle.pt_fit.proofs.Parts.{Goes, GoesAfter, Seen, fit_begin, fit_checked, fit_file_of, fit_pin_handle}
+use Rattle.pt_fit.proofs.Parts.{fit_resolve, noting, resolution}
+use Rattle.pt_fit.proofs.Scopes.{fit_bares, fit_without_fsetid}
 use Rattle.pt_fit.proofs.Refused.{IsHeeded}
 
 fit_do_if : {asked : Asking} {seen : List Seen} {holds : List Hold} {marks : List ℕ} {notes : Notes} (is : Bool)

@@ -4,6 +4,7 @@ use Rattle.std.specs.Prelude.{◌≡◌, ◌⊎◌, ◌↔◌, ℕ, Bool, true, 
 use Rattle.std.specs.List.{list_any}
 use Rattle.pt_host.specs.Call.{Call}
 use Rattle.pt_host.specs.Errno.{errno_of, eperm, eacces, ebadf, eio, einval, enfile, eoverflow, eopnotsupp, estale}
+use Rattle.pt_host.specs.Flags.{includes, o_excl}
 use Rattle.pt_host.specs.Sorts.{Sort, OpensWith, EndsFd, OfSeat, Plain, sort_of}
 use Rattle.pt_host.specs.declared.edit.Edit.{Edit}
 use Rattle.pt_host.specs.declared.ids.Errno.{Errno}
@@ -51,12 +52,12 @@ pub record Asking : Type 0 where
 abbrev pub asking : Plan → Context → Request → Asking
 asking plan who what = record { plan = plan; who = who; request = what }
 
--- it opens a number, as `create` does where the name is there, `setattr` for a size that no handle sets, and `syncfs`
--- what stands for its file system
+-- it opens a number, as `create` does where the name is there and the guest takes what is there, `setattr` for a size
+-- that no handle sets, and `syncfs` what stands for its file system
 abbrev pub IsOpening : Request → Type 0
 IsOpening (request.Open inode kill flags) = Unit {0}
 IsOpening (request.OpenDir inode flags) = Unit {0}
-IsOpening (request.Create parent name mode kill flags umask ext) = Unit {0}
+IsOpening (request.Create parent name mode kill flags umask ext) = includes flags o_excl ≡ false
 IsOpening (request.SetAttr inode handle valid attr) = opens_anew handle valid ≡ true
 IsOpening (request.SyncFs inode) = Unit {0}
 IsOpening asked = ⊥

@@ -17,8 +17,7 @@ ghost use Rattle.pt_law.specs.Ledger.{inserted};
 ghost use Rattle.pt_fit.specs.Uses.{EndsBefore, IsOn};
 
 /// A request on a number that is gone is answered EBADF for as long as it is not inserted again, unless it gives up,
-/// loses its seat, or is an opening that could not drop its capability.
-
+/// loses its seat, or is an opening that could not drop its capability, and tells by which error.
 pub fn gone_number()
     ensures { (limit job : ℕ) (plan : Plan) (seat : HostSeat) (who : Context) (what : Request)
         (turns later : List Turn) (was now : Tables) (number : ℕ) (end : Finish) →
@@ -26,5 +25,5 @@ pub fn gone_number()
         inserted number later ≡ 0 → IsOn number what →
         Belongs (grammar_of plan seat who what) (steps_of job later) end →
         (end ≡ finish.Answer (answer.Refused ebadf)) ⊎ IsGivenUp end
-        ⊎ EndsBefore plan seat what (steps_of job later) }
+        ⊎ EndsBefore plan seat what (steps_of job later) end }
 {}

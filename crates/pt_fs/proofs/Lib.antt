@@ -16,6 +16,7 @@ pub mod Objects
 pub mod Leads
 pub mod Seated
 pub mod Whole
+pub mod LostStep
 pub mod Finale
 pub mod Concluding
 pub mod OneLoss

@@ -1,12 +1,10 @@
 -- What is agreed on is what the steps tell: what the job decides that began the session.
-use Rattle.std.proofs.Common.{◌≡◌, ◌≤◌, ◌<◌, inl, ℕ, ◌+◌, Bool, true, false, List, [], ◌∷◌, ◌++◌, Option, Some, None}
+use Rattle.std.proofs.Common.{◌≡◌, ◌≤◌, ◌<◌, ℕ, ◌+◌, Bool, true, false, List, [], ◌∷◌, ◌++◌, Option, Some, None}
 use Rattle.std.proofs.Common.{refl, sym, ap, subst, ◌∙◌, arith, append_assoc, append-nil, if◌then◌else◌, eq-eqb}
-use Rattle.std.specs.Prelude.{◌==◌}
-use Rattle.pt_host.specs.Call.{Call}
 use Rattle.pt_host.specs.Words.{Each}
 use Rattle.pt_session.specs.Change.{Change}
-use Rattle.pt_session.specs.Tables.{Tables, empty_tables, nothing_agreed}
-use Rattle.pt_session.specs.Happens.{Happens, new_row, with_row, agreed}
+use Rattle.pt_session.specs.Tables.{Tables, empty_tables}
+use Rattle.pt_session.specs.Happens.{new_row, with_row, agreed}
 use Rattle.pt_session.specs.declared.form.Negotiated.{Negotiated}
 use Rattle.pt_session.specs.declared.event.KeptEvent.TheVariants as change
 use Rattle.pt_session.specs.declared.reply.EventReply.{EventReply}
@@ -14,10 +12,10 @@ use Rattle.pt_session.specs.declared.reply.EventReply.TheVariants as event
 use Rattle.pt_session.proofs.Cases.{Case, cases}
 use Rattle.pt_frame.specs.Deed.{Deed, Calls, Changes, Step, IsStepOf}
 use Rattle.pt_frame.specs.declared.act.ActReply.{ActReply}
-use Rattle.pt_frame.specs.declared.act.ActReply.TheVariants.{Event, NoCopy}
+use Rattle.pt_frame.specs.declared.act.ActReply.TheVariants.{Event}
 use Rattle.pt_law.specs.Agreed.{Session, first_session, is_starter, or_before, session_by, session_after, agreed_after}
 use Rattle.pt_law.specs.Agreed.{Says, IfMade, Begins, Decides}
-use Rattle.pt_law.specs.Discipline.{Job, Notes, idle, AreDisciplined, Disciplined, MovesIf}
+use Rattle.pt_law.specs.Discipline.{Job, idle, AreDisciplined, Disciplined}
 use Rattle.pt_law.specs.Laws.{BeginsFirst, IsBeginning, TellsGiven}
 use Rattle.pt_law.specs.World.{Turn, turn_by, TablesGo, TablesRun, steps_of}
 use Rattle.pt_law.proofs.Cuts.{located}
@@ -28,7 +26,7 @@ use Rattle.pt_law.proofs.Interleaving.{steps_append, steps_same, tables_split}
 use Rattle.pt_law.proofs.Laws.{Between, between, era_grows}
 use Rattle.pt_law.proofs.Next.{owner_of, next_move}
 use Rattle.pt_law.proofs.Reliance.{tables_append}
-use Rattle.pt_law.proofs.Overtaking.{IsClearing, begins_where, begun_era, era_step, given_era, noted_steps, some_same}
+use Rattle.pt_law.proofs.Overtaking.{begins_where, begun_era, era_step, given_era, noted_steps, some_same}
 
 abbrev options_of : Tables → Negotiated
 options_of t = t.negotiated

@@ -1,6 +1,6 @@
 -- What holds of each deed of a tree's own part, and of all that gives back, holds of each step of its job, whole or
 -- cut.
-use Rattle.std.proofs.Common.{◌≡◌, inl, inr, ◌⊎◌, ℕ, zero, suc, Bool, true, false, List, [], ◌∷◌, ◌++◌, length, Option}
+use Rattle.std.proofs.Common.{inl, inr, ℕ, zero, suc, Bool, true, false, List, [], ◌∷◌, ◌++◌, length, Option}
 use Rattle.std.proofs.Common.{Some, None, sym, subst, if◌then◌else◌, nat_lt}
 use Rattle.pt_host.specs.Words.{Each}
 use Rattle.pt_host.specs.declared.ids.Errno.{Errno}
@@ -12,14 +12,14 @@ use Rattle.pt_iface.specs.declared.answer.Answer.{Answer}
 use Rattle.pt_iface.specs.declared.answer.Answer.TheVariants as answer
 use Rattle.pt_frame.specs.Deed.{Deed, Calls, Changes, Step, IsStepOf}
 use Rattle.pt_frame.specs.Frame.{giving, closings, give_taken, give, leave, or_lost, bare_one, bare, shut, front}
-use Rattle.pt_frame.specs.Frame.{behind, under, mark_in, outer, answered_by, close_first, cut, CutAfter}
+use Rattle.pt_frame.specs.Frame.{behind, under, mark_in, outer, answered_by, cut, CutAfter}
 use Rattle.pt_frame.specs.Grammar.{Grammar, End, Do, May, Owed, Belongs}
 use Rattle.pt_frame.specs.Held.{held, is_scope, opened}
 use Rattle.pt_frame.specs.Replies.{closings_in, fault_if, passes_with, refusal, restored, taken_in}
 use Rattle.pt_frame.specs.Tree.{RequestTree, Gives, Refuses, Asks, Opens, Bares, Brackets, Shuts, Allocates, framed}
 use Rattle.pt_frame.specs.Tree.{follows, may_give_up}
 use Rattle.pt_frame.specs.declared.act.ActReply.{ActReply}
-use Rattle.pt_frame.specs.declared.act.ActReply.TheVariants.{Event, Host, NoCopy}
+use Rattle.pt_frame.specs.declared.act.ActReply.TheVariants.{NoCopy}
 use Rattle.pt_frame.specs.declared.finish.Finish.{Finish}
 use Rattle.pt_frame.specs.declared.finish.Finish.TheVariants as finish
 use Rattle.pt_frame.specs.declared.hold.Hold.{Hold}

@@ -50,6 +50,7 @@ pub mod Carried
 pub mod Handled
 pub mod Made
 pub mod Placing
+pub mod ExampleAgreed
 pub mod ExampleShutOut
 pub mod ExampleSettled
 pub mod ExampleBracket

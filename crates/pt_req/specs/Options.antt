@@ -124,11 +124,15 @@ create_supp_group = 512
 abbrev pub direct_io_allow_mmap : ℕ
 direct_io_allow_mmap = 1024
 
+-- the guest keeps what it writes: that is configured, and offered
+abbrev pub keeps_writes : Config → FsOptions → Bool
+keeps_writes config capable = config.writeback && includes capable.0 writeback_cache
+
 -- What is agreed on with a guest that offers this: what is configured and offered; that it tells the group of who asks
 -- is offered alone.
 abbrev pub agreed_with : Config → FsOptions → Negotiated
 agreed_with config capable = record nothing_agreed {
-  writeback = config.writeback && includes capable.0 writeback_cache;
+  writeback = keeps_writes config capable;
   announce_submounts = config.announce_submounts && includes capable.0 submounts;
   sup_group = includes capable.0 create_supp_group;
 }
@@ -142,7 +146,7 @@ abbrev pub init_options : Config → FsOptions → FsOptions
 init_options config capable = record {
   0 =
       bits_if config.readdirplus readdirplus_bits
-      + bits_if (config.writeback && includes capable.0 writeback_cache) writeback_cache
+      + bits_if (keeps_writes config capable) writeback_cache
       + bits_if (config.killpriv_v2 && includes capable.0 handle_killpriv_v2) handle_killpriv_v2
       + bits_if config.allow_mmap direct_io_allow_mmap;
 }

@@ -53,8 +53,8 @@ switch_as key fields = do
   at_end on.rest (setting.Switch switch on.value)
 
 -- the setting of this key, by which the file system serves
-abbrev pub policy_setting_as : List ℕ → List (List ℕ) → Option Setting
-policy_setting_as key fields =
+abbrev pub serving_setting_as : List ℕ → List (List ℕ) → Option Setting
+serving_setting_as key fields =
     if bytes_eq key (codes "entry_timeout") then option_map setting.EntryTimeout (timeout_in fields)
     else (if bytes_eq key (codes "attr_timeout") then option_map setting.AttrTimeout (timeout_in fields)
     else (if bytes_eq key (codes "cache_policy") then option_map setting.CachePolicy (policy_in fields)
@@ -67,7 +67,7 @@ setting_as key fields =
     else (if bytes_eq key (codes "seat") then option_map setting.Seat (identity_of fields)
     else (if bytes_eq key (codes "uidmap") then option_map setting.UidRule (id_rule_in fields)
     else (if bytes_eq key (codes "gidmap") then option_map setting.GidRule (id_rule_in fields)
-    else policy_setting_as key fields)))
+    else serving_setting_as key fields)))
 
 -- `KEY VALUE`
 abbrev pub setting_in : List (List ℕ) → Option Setting

@@ -6,7 +6,7 @@ ghost use Rattle.pt_script.specs.SettingLine.{
   policy_in,
   root_dir_in,
   switch_as,
-  policy_setting_as,
+  serving_setting_as,
   setting_as,
   setting_in,
 };
@@ -85,13 +85,13 @@ fn next_switch_as(key: &[u8], words: &mut Parts<'_>) -> Result<Setting, LineErro
 }
 
 // The setting of this key, by which the file system serves.
-fn next_policy_setting_as(
+fn next_serving_setting_as(
     alloc: Global,
     key: &[u8],
     words: &mut Parts<'_>,
 ) -> Result<Setting, LineError>
-    ensures ok { IfOk result (λ setting. policy_setting_as key.now words.old ≡ Some setting) }
-    ensures bad { result ≡ Err LineError.Bad → policy_setting_as key.now words.old ≡ None }
+    ensures ok { IfOk result (λ setting. serving_setting_as key.now words.old ≡ Some setting) }
+    ensures bad { result ≡ Err LineError.Bad → serving_setting_as key.now words.old ≡ None }
 {
     if key == b"entry_timeout".as_slice() {
         Ok(Setting::EntryTimeout(next_timeout(words)?))
@@ -120,7 +120,7 @@ fn next_setting_as(alloc: Global, key: &[u8], words: &mut Parts<'_>) -> Result<S
     } else if key == b"gidmap".as_slice() {
         Ok(Setting::GidRule(next_id_rule(words)?))
     } else {
-        next_policy_setting_as(alloc, key, words)
+        next_serving_setting_as(alloc, key, words)
     }
 }
 

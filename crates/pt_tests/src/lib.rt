@@ -13,4 +13,6 @@ mod one_directory;
 #[cfg(test)]
 mod parsed;
 #[cfg(test)]
+mod plays;
+#[cfg(test)]
 mod streams;

@@ -1,9 +1,10 @@
 -- Believed. The requests of a script for what files hold, each by a handle but for `syncfs`.
-use Rattle.std.specs.Prelude.{ℕ, List, Option}
+use Rattle.std.specs.Prelude.{ℕ, Bool, List, Option, Some}
 use Rattle.pt_iface.specs.declared.request.Request.{Request}
 use Rattle.pt_iface.specs.declared.request.Request.TheVariants.{Write, Fallocate, Lseek, CopyFileRange, Flush, Fsync}
 use Rattle.pt_iface.specs.declared.request.Request.TheVariants.{FsyncDir, SyncFs}
 use Rattle.pt_words.specs.Fields.{◌>>=◌, number_in, small_in, bytes_in, switch_in, at_end}
+use Rattle.pt_words.specs.Handles.{handle_in}
 
 -- `write INODE HANDLE OFFSET BYTES DELAYED KILL FLAGS`
 abbrev pub write_in : List (List ℕ) → Option Request
@@ -52,26 +53,23 @@ copyfilerange_in words = do
 
 -- `flush INODE HANDLE`
 abbrev pub flush_in : List (List ℕ) → Option Request
-flush_in words = do
+flush_in words = handle_in words >>= (λ told. Some (Flush told.0 told.1))
+
+-- `INODE HANDLE DATASYNC`, and no more
+abbrev pub sync_in : List (List ℕ) → Option (ℕ × ℕ × Bool)
+sync_in words = do
   inode ← number_in words
   handle ← number_in inode.rest
-  at_end handle.rest (Flush inode.value handle.value)
+  datasync ← switch_in handle.rest
+  at_end datasync.rest (inode.value, handle.value, datasync.value)
 
 -- `fsync INODE HANDLE DATASYNC`
 abbrev pub fsync_in : List (List ℕ) → Option Request
-fsync_in words = do
-  inode ← number_in words
-  handle ← number_in inode.rest
-  datasync ← switch_in handle.rest
-  at_end datasync.rest (Fsync inode.value handle.value datasync.value)
+fsync_in words = sync_in words >>= (λ told. Some (Fsync told.0 told.1 told.2))
 
 -- `fsyncdir INODE HANDLE DATASYNC`
 abbrev pub fsyncdir_in : List (List ℕ) → Option Request
-fsyncdir_in words = do
-  inode ← number_in words
-  handle ← number_in inode.rest
-  datasync ← switch_in handle.rest
-  at_end datasync.rest (FsyncDir inode.value handle.value datasync.value)
+fsyncdir_in words = sync_in words >>= (λ told. Some (FsyncDir told.0 told.1 told.2))
 
 -- `syncfs INODE`
 abbrev pub syncfs_in : List (List ℕ) → Option Request

@@ -1,8 +1,9 @@
 -- Believed. The requests of a script that begin and end numbers, and a session.
-use Rattle.std.specs.Prelude.{ℕ, List, Option}
+use Rattle.std.specs.Prelude.{ℕ, List, Option, Some}
 use Rattle.pt_iface.specs.declared.request.Request.{Request}
 use Rattle.pt_iface.specs.declared.request.Request.TheVariants.{Init, Lookup, Forget, BatchForget}
-use Rattle.pt_words.specs.Fields.{◌>>=◌, number_in, small_in, bytes_in, pairs_in, at_end}
+use Rattle.pt_words.specs.Fields.{◌>>=◌, number_in, small_in, pairs_in, at_end}
+use Rattle.pt_words.specs.Naming.{name_in}
 
 -- `init CAPABLE`
 abbrev pub init_in : List (List ℕ) → Option Request
@@ -12,10 +13,7 @@ init_in words = do
 
 -- `lookup PARENT NAME`
 abbrev pub lookup_in : List (List ℕ) → Option Request
-lookup_in words = do
-  parent ← number_in words
-  name ← bytes_in parent.rest
-  at_end name.rest (Lookup parent.value name.value)
+lookup_in words = name_in words >>= (λ told. Some (Lookup told.0 told.1))
 
 -- `forget INODE COUNT`
 abbrev pub forget_in : List (List ℕ) → Option Request

@@ -19,7 +19,7 @@ other_in words = do
   at_end opcode.rest (Other opcode.value)
 
 -- a request for what an object tells, or for a change of that
-abbrev pub attribute_request_in : List ℕ → List (List ℕ) → Option Request
+unfoldable pub attribute_request_in : List ℕ → List (List ℕ) → Option Request
 attribute_request_in word fields =
     if bytes_eq word (codes "readlink") then readlink_in fields
     else (if bytes_eq word (codes "statfs") then statfs_in fields
@@ -28,7 +28,7 @@ attribute_request_in word fields =
     else (if bytes_eq word (codes "access") then access_in fields else None))))
 
 -- a request that gives a name or takes one away, or one of the above
-abbrev pub naming_request_in : List ℕ → List (List ℕ) → Option Request
+unfoldable pub naming_request_in : List ℕ → List (List ℕ) → Option Request
 naming_request_in word fields =
     if bytes_eq word (codes "link") then link_in fields
     else (if bytes_eq word (codes "unlink") then unlink_in fields
@@ -36,7 +36,7 @@ naming_request_in word fields =
     else (if bytes_eq word (codes "rename") then rename_in fields else attribute_request_in word fields)))
 
 -- a request that makes an object, or one of the above
-abbrev pub making_request_in : List ℕ → List (List ℕ) → Option Request
+unfoldable pub making_request_in : List ℕ → List (List ℕ) → Option Request
 making_request_in word fields =
     if bytes_eq word (codes "create") then create_in fields
     else (if bytes_eq word (codes "mkdir") then mkdir_in fields
@@ -44,7 +44,7 @@ making_request_in word fields =
     else (if bytes_eq word (codes "symlink") then symlink_in fields else naming_request_in word fields)))
 
 -- a request for what files hold, or one of the above
-abbrev pub contents_request_in : List ℕ → List (List ℕ) → Option Request
+unfoldable pub contents_request_in : List ℕ → List (List ℕ) → Option Request
 contents_request_in word fields =
     if bytes_eq word (codes "write") then write_in fields
     else (if bytes_eq word (codes "fallocate") then fallocate_in fields
@@ -56,7 +56,7 @@ contents_request_in word fields =
     else (if bytes_eq word (codes "syncfs") then syncfs_in fields else making_request_in word fields)))))))
 
 -- a request that begins or ends a handle, or reads by one, or one of the above
-abbrev pub handle_request_in : List ℕ → List (List ℕ) → Option Request
+unfoldable pub handle_request_in : List ℕ → List (List ℕ) → Option Request
 handle_request_in word fields =
     if bytes_eq word (codes "open") then open_in fields
     else (if bytes_eq word (codes "opendir") then opendir_in fields
@@ -65,7 +65,7 @@ handle_request_in word fields =
     else (if bytes_eq word (codes "releasedir") then releasedir_in fields else contents_request_in word fields))))
 
 -- a request of a number's life, or one of the above
-abbrev pub number_request_in : List ℕ → List (List ℕ) → Option Request
+unfoldable pub number_request_in : List ℕ → List (List ℕ) → Option Request
 number_request_in word fields =
     if bytes_eq word (codes "lookup") then lookup_in fields
     else (if bytes_eq word (codes "forget") then forget_in fields

@@ -5,12 +5,14 @@ ghost use Rattle.pt_words.specs.Contents.{
   lseek_in,
   copyfilerange_in,
   flush_in,
+  sync_in,
   fsync_in,
   fsyncdir_in,
   syncfs_in,
 };
 
 use crate::fields::{LineError, end, next_bytes, next_number, next_small, next_switch};
+use crate::handles::next_handle;
 use pt_iface::Request;
 use pt_text::Parts;
 use std::alloc::Global;
@@ -103,20 +105,27 @@ pub fn next_flush(words: &mut Parts<'_>) -> Result<Request, LineError>
     ensures ok { IfOk result (λ request. flush_in words.old ≡ Some request) }
     ensures bad { result ≡ Err LineError.Bad → flush_in words.old ≡ None }
 {
+    let (inode, handle) = next_handle(words)?;
+    Ok(Request::Flush { inode, handle })
+}
+
+/// An inode, its handle, and whether the data alone is meant; and no more.
+fn next_sync(words: &mut Parts<'_>) -> Result<(u64, u64, bool), LineError>
+    ensures ok { IfOk result (λ told. sync_in words.old ≡ Some told) }
+    ensures bad { result ≡ Err LineError.Bad → sync_in words.old ≡ None }
+{
     let inode = next_number(words)?;
     let handle = next_number(words)?;
+    let datasync = next_switch(words)?;
     end(words)?;
-    Ok(Request::Flush { inode, handle })
+    Ok((inode, handle, datasync))
 }
 
 pub fn next_fsync(words: &mut Parts<'_>) -> Result<Request, LineError>
     ensures ok { IfOk result (λ request. fsync_in words.old ≡ Some request) }
     ensures bad { result ≡ Err LineError.Bad → fsync_in words.old ≡ None }
 {
-    let inode = next_number(words)?;
-    let handle = next_number(words)?;
-    let datasync = next_switch(words)?;
-    end(words)?;
+    let (inode, handle, datasync) = next_sync(words)?;
     Ok(Request::Fsync {
         inode,
         handle,
@@ -128,10 +137,7 @@ pub fn next_fsyncdir(words: &mut Parts<'_>) -> Result<Request, LineError>
     ensures ok { IfOk result (λ request. fsyncdir_in words.old ≡ Some request) }
     ensures bad { result ≡ Err LineError.Bad → fsyncdir_in words.old ≡ None }
 {
-    let inode = next_number(words)?;
-    let handle = next_number(words)?;
-    let datasync = next_switch(words)?;
-    end(words)?;
+    let (inode, handle, datasync) = next_sync(words)?;
     Ok(Request::FsyncDir {
         inode,
         handle,

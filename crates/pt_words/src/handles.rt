@@ -1,5 +1,5 @@
 ghost use Rattle.std.specs.Prelude.{◌≡◌, IfOk, Some, None};
-ghost use Rattle.pt_words.specs.Handles.{open_in, opendir_in, release_in, releasedir_in, read_in};
+ghost use Rattle.pt_words.specs.Handles.{open_in, opendir_in, handle_in, release_in, releasedir_in, read_in};
 
 use crate::fields::{LineError, end, next_number, next_small, next_switch};
 use pt_iface::Request;
@@ -26,13 +26,22 @@ pub fn next_opendir(words: &mut Parts<'_>) -> Result<Request, LineError>
     Ok(Request::OpenDir { inode, flags })
 }
 
-pub fn next_release(words: &mut Parts<'_>) -> Result<Request, LineError>
-    ensures ok { IfOk result (λ request. release_in words.old ≡ Some request) }
-    ensures bad { result ≡ Err LineError.Bad → release_in words.old ≡ None }
+/// An inode and its handle, and no more.
+pub fn next_handle(words: &mut Parts<'_>) -> Result<(u64, u64), LineError>
+    ensures ok { IfOk result (λ told. handle_in words.old ≡ Some told) }
+    ensures bad { result ≡ Err LineError.Bad → handle_in words.old ≡ None }
 {
     let inode = next_number(words)?;
     let handle = next_number(words)?;
     end(words)?;
+    Ok((inode, handle))
+}
+
+pub fn next_release(words: &mut Parts<'_>) -> Result<Request, LineError>
+    ensures ok { IfOk result (λ request. release_in words.old ≡ Some request) }
+    ensures bad { result ≡ Err LineError.Bad → release_in words.old ≡ None }
+{
+    let (inode, handle) = next_handle(words)?;
     Ok(Request::Release { inode, handle })
 }
 
@@ -40,9 +49,7 @@ pub fn next_releasedir(words: &mut Parts<'_>) -> Result<Request, LineError>
     ensures ok { IfOk result (λ request. releasedir_in words.old ≡ Some request) }
     ensures bad { result ≡ Err LineError.Bad → releasedir_in words.old ≡ None }
 {
-    let inode = next_number(words)?;
-    let handle = next_number(words)?;
-    end(words)?;
+    let (inode, handle) = next_handle(words)?;
     Ok(Request::ReleaseDir { inode, handle })
 }
 

@@ -1,7 +1,8 @@
 ghost use Rattle.std.specs.Prelude.{◌≡◌, IfOk, Some, None};
 ghost use Rattle.pt_words.specs.Numbers.{init_in, lookup_in, forget_in, batch_forget_in};
 
-use crate::fields::{LineError, end, next_bytes, next_number, next_pairs, next_small};
+use crate::fields::{LineError, end, next_number, next_pairs, next_small};
+use crate::naming::next_name;
 use pt_iface::{ForgetList, FsOptions, Request};
 use pt_text::Parts;
 use std::alloc::Global;
@@ -19,9 +20,7 @@ pub fn next_lookup(alloc: Global, words: &mut Parts<'_>) -> Result<Request, Line
     ensures ok { IfOk result (λ request. lookup_in words.old ≡ Some request) }
     ensures bad { result ≡ Err LineError.Bad → lookup_in words.old ≡ None }
 {
-    let parent = next_number(words)?;
-    let name = next_bytes(alloc, words)?;
-    end(words)?;
+    let (parent, name) = next_name(alloc, words)?;
     Ok(Request::Lookup { parent, name })
 }
 

@@ -51,6 +51,7 @@ fn next_other(words: &mut Parts<'_>) -> Result<Request, LineError>
 }
 
 // A request for what an object tells, or for a change of that.
+#[tactic(auto, unfolding(crate::specs::Request::attribute_request_in))]
 fn next_attribute_request(word: &[u8], words: &mut Parts<'_>) -> Result<Request, LineError>
     ensures ok { IfOk result (λ request. attribute_request_in word.now words.old ≡ Some request) }
     ensures bad { result ≡ Err LineError.Bad → attribute_request_in word.now words.old ≡ None }
@@ -71,6 +72,7 @@ fn next_attribute_request(word: &[u8], words: &mut Parts<'_>) -> Result<Request,
 }
 
 // A request that gives a name or takes one away, or one of the above.
+#[tactic(auto, unfolding(crate::specs::Request::naming_request_in))]
 fn next_naming_request(
     alloc: Global,
     word: &[u8],
@@ -93,6 +95,7 @@ fn next_naming_request(
 }
 
 // A request that makes an object, or one of the above.
+#[tactic(auto, unfolding(crate::specs::Request::making_request_in))]
 fn next_making_request(
     alloc: Global,
     word: &[u8],
@@ -115,6 +118,7 @@ fn next_making_request(
 }
 
 // A request for what files hold, or one of the above.
+#[tactic(auto, unfolding(crate::specs::Request::contents_request_in))]
 fn next_contents_request(
     alloc: Global,
     word: &[u8],
@@ -145,6 +149,7 @@ fn next_contents_request(
 }
 
 // A request that begins or ends a handle, or reads by one, or one of the above.
+#[tactic(auto, unfolding(crate::specs::Request::handle_request_in))]
 fn next_handle_request(
     alloc: Global,
     word: &[u8],
@@ -169,6 +174,7 @@ fn next_handle_request(
 }
 
 // A request of a number's life, or one of the above.
+#[tactic(auto, unfolding(crate::specs::Request::number_request_in))]
 fn next_number_request(
     alloc: Global,
     word: &[u8],

@@ -3,6 +3,7 @@ ghost use Rattle.pt_frame.specs.Tree.{RequestTree, Gives};
 ghost use Rattle.pt_host.specs.Errno.{einval};
 ghost use Rattle.pt_iface.specs.declared.answer.Answer.TheVariants as answer;
 ghost use Rattle.pt_req.specs.Parts.{placed};
+ghost use Rattle.pt_attr.specs.declared.requests.copy.CopyAt.TheVariants.{Begin};
 
 use pt_frame::{Act, ActReply, Body, Next, Then, Wanted};
 use pt_host::{Errno, Fd, HostOp, HostReply, HostSeat, HostValue};
@@ -48,6 +49,16 @@ impl CopyAsked {
 pub struct CopyFileRange {
     pub asked: CopyAsked,
     pub at: CopyAt,
+}
+
+impl CopyFileRange {
+    /// One that begins.
+    pub fn new(asked: CopyAsked) -> CopyFileRange
+        ensures { result ≡ record { asked = asked; at = Begin } }
+    {
+        let at = CopyAt::Begin;
+        CopyFileRange { asked, at }
+    }
 }
 
 impl Body for CopyFileRange {

@@ -1,3 +1,6 @@
+ghost use Rattle.std.specs.Prelude.{◌≡◌};
+ghost use Rattle.pt_attr.specs.declared.requests.link.LinkAt.TheVariants.{Begin};
+
 use pt_frame::{Act, ActReply, Body, Edges, Next, Then, Wanted};
 use pt_host::{Bytes, Errno, Fd, HostOp, HostReply, HostSeat};
 use pt_iface::Answer;
@@ -30,6 +33,21 @@ pub struct Link {
     pub newparent: u64,
     pub newname: Bytes,
     pub at: LinkAt,
+}
+
+impl Link {
+    /// One that begins.
+    pub fn new(inode: u64, newparent: u64, newname: Bytes) -> Link
+        ensures { result ≡ record { inode = inode; newparent = newparent; newname = newname; at = Begin } }
+    {
+        let at = LinkAt::Begin;
+        Link {
+            inode,
+            newparent,
+            newname,
+            at,
+        }
+    }
 }
 
 impl Body for Link {

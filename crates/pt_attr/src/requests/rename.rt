@@ -1,3 +1,6 @@
+ghost use Rattle.std.specs.Prelude.{◌≡◌};
+ghost use Rattle.pt_attr.specs.declared.requests.rename.RenameAt.TheVariants.{Begin};
+
 use pt_frame::{Act, ActReply, Body, Next, Then, Wanted};
 use pt_host::{Bytes, Errno, Fd, HostOp, HostReply, HostSeat};
 use pt_iface::Answer;
@@ -22,6 +25,31 @@ pub struct Rename {
     pub newname: Bytes,
     pub flags: u32,
     pub at: RenameAt,
+}
+
+impl Rename {
+    /// One that begins.
+    pub fn new(olddir: u64, oldname: Bytes, newdir: u64, newname: Bytes, flags: u32) -> Rename
+        ensures { result
+            ≡ record {
+              olddir = olddir;
+              oldname = oldname;
+              newdir = newdir;
+              newname = newname;
+              flags = flags;
+              at = Begin;
+            } }
+    {
+        let at = RenameAt::Begin;
+        Rename {
+            olddir,
+            oldname,
+            newdir,
+            newname,
+            flags,
+            at,
+        }
+    }
 }
 
 impl Body for Rename {

@@ -1,3 +1,6 @@
+ghost use Rattle.std.specs.Prelude.{◌≡◌};
+ghost use Rattle.pt_attr.specs.declared.requests.sync_fs.SyncFsAt.TheVariants.{Begin};
+
 use pt_frame::{Act, ActReply, Body, Next, Then, Wanted};
 use pt_host::{Errno, Fd, HostOp, HostReply, HostSeat, HostValue, OpenFlags};
 use pt_iface::Answer;
@@ -18,6 +21,16 @@ pub enum SyncFsAt {
 pub struct SyncFs {
     pub inode: u64,
     pub at: SyncFsAt,
+}
+
+impl SyncFs {
+    /// One that begins.
+    pub fn new(inode: u64) -> SyncFs
+        ensures { result ≡ record { inode = inode; at = Begin } }
+    {
+        let at = SyncFsAt::Begin;
+        SyncFs { inode, at }
+    }
 }
 
 impl Body for SyncFs {

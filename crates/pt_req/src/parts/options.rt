@@ -2,7 +2,7 @@ ghost use Rattle.std.specs.Prelude.{◌≡◌};
 ghost use Rattle.pt_req.specs.Options.{without_bits, cleaned, readable, written_back, passed_on, inode_flags};
 ghost use Rattle.pt_req.specs.Options.{without_nofollow, bits_if};
 ghost use Rattle.pt_req.specs.Options.{cache_options, open_options, create_options, making_flags, agreed_with};
-ghost use Rattle.pt_req.specs.Options.{init_options};
+ghost use Rattle.pt_req.specs.Options.{init_options, keeps_writes};
 
 use crate::plan::{CachePolicy, Config};
 use pt_host::OpenFlags;
@@ -13,7 +13,9 @@ use pt_session::Negotiated;
 const O_ACCMODE: u32 = 3;
 
 /// Entries are read with their attributes, where the guest's kernel sees fit.
-const READDIRPLUS: FsOptions = FsOptions(3);
+const READDIRPLUS: FsOptions = FsOptions(
+    FsOptions::DO_READDIRPLUS.0 | FsOptions::READDIRPLUS_AUTO.0,
+);
 
 fn without_bits(flags: u32, bits: u32) -> u32
     ensures { result ≡ without_bits flags bits }
@@ -113,12 +115,19 @@ pub fn making_flags(flags: u32) -> OpenFlags
     OpenFlags(without_bits(flags, OpenFlags::O_APPEND.0) | new)
 }
 
+/// Whether the guest keeps what it writes: that is configured, and offered.
+fn keeps_writes(config: &Config, capable: FsOptions) -> bool
+    ensures { result ≡ keeps_writes config.now capable }
+{
+    config.writeback && capable.includes(FsOptions::WRITEBACK_CACHE)
+}
+
 /// What is agreed on with a guest that offers this.
 pub fn agreed_with(config: &Config, capable: FsOptions) -> Negotiated
     ensures { result ≡ agreed_with config.now capable }
 {
     Negotiated {
-        writeback: config.writeback && capable.includes(FsOptions::WRITEBACK_CACHE),
+        writeback: keeps_writes(config, capable),
         announce_submounts: config.announce_submounts && capable.includes(FsOptions::SUBMOUNTS),
         posix_acl: false,
         sup_group: capable.includes(FsOptions::CREATE_SUPP_GROUP),
@@ -137,11 +146,10 @@ fn bits_if(granted: bool, options: FsOptions) -> u32
 pub fn init_options(config: &Config, capable: FsOptions) -> FsOptions
     ensures { result ≡ init_options config.now capable }
 {
-    let writeback = config.writeback && capable.includes(FsOptions::WRITEBACK_CACHE);
     let killpriv = config.killpriv_v2 && capable.includes(FsOptions::HANDLE_KILLPRIV_V2);
     FsOptions(
         bits_if(config.readdirplus, READDIRPLUS)
-            | bits_if(writeback, FsOptions::WRITEBACK_CACHE)
+            | bits_if(keeps_writes(config, capable), FsOptions::WRITEBACK_CACHE)
             | bits_if(killpriv, FsOptions::HANDLE_KILLPRIV_V2)
             | bits_if(config.allow_mmap, FsOptions::DIRECT_IO_ALLOW_MMAP),
     )

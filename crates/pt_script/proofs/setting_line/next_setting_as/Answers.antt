@@ -8,4 +8,4 @@ returns-else-eq-4-clause-ok c =
     (passed _ word _ _ _ _ _ c.eq-else-eq.ensures c.as_slice-else-eq.ensures c.if-eq-2.false
     (passed _ word _ _ _ _ _ c.eq-else-eq-2.ensures c.as_slice-else-eq-2.ensures c.if-eq-3.false
     (passed _ word _ _ _ _ _ c.eq-else-eq-3.ensures c.as_slice-else-eq-3.ensures c.if-eq-4.false
-    c.next_policy_setting_as.ensures.ok)))
+    c.next_serving_setting_as.ensures.ok)))
