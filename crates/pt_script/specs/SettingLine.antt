@@ -53,7 +53,7 @@ switch_as key fields = do
   at_end on.rest (setting.Switch switch on.value)
 
 -- the setting of this key, by which the file system serves
-abbrev pub serving_setting_as : List ℕ → List (List ℕ) → Option Setting
+unfoldable pub serving_setting_as : List ℕ → List (List ℕ) → Option Setting
 serving_setting_as key fields =
     if bytes_eq key (codes "entry_timeout") then option_map setting.EntryTimeout (timeout_in fields)
     else (if bytes_eq key (codes "attr_timeout") then option_map setting.AttrTimeout (timeout_in fields)

@@ -16,6 +16,7 @@ pub struct RuleIds {
 fn next_rule_ids(words: &mut Parts<'_>) -> Result<RuleIds, LineError>
     ensures ok { IfOk result (λ ids. rule_ids_in words.old ≡ Some ids) }
     ensures bad { result ≡ Err LineError.Bad → rule_ids_in words.old ≡ None }
+    ensures no_memory { result ≡ Err LineError.Memory → ⊥ }
 {
     let first = next_small(words)?;
     let target = next_small(words)?;
@@ -31,6 +32,7 @@ fn next_rule_ids(words: &mut Parts<'_>) -> Result<RuleIds, LineError>
 fn next_forbidden(words: &mut Parts<'_>) -> Result<IdRule, LineError>
     ensures ok { IfOk result (λ rule. forbidden_in words.old ≡ Some rule) }
     ensures bad { result ≡ Err LineError.Bad → forbidden_in words.old ≡ None }
+    ensures no_memory { result ≡ Err LineError.Memory → ⊥ }
 {
     let first = next_small(words)?;
     let count = next_small(words)?;
@@ -42,6 +44,7 @@ fn next_forbidden(words: &mut Parts<'_>) -> Result<IdRule, LineError>
 fn next_id_rule_as(word: &[u8], words: &mut Parts<'_>) -> Result<IdRule, LineError>
     ensures ok { IfOk result (λ rule. id_rule_as word.now words.old ≡ Some rule) }
     ensures bad { result ≡ Err LineError.Bad → id_rule_as word.now words.old ≡ None }
+    ensures no_memory { result ≡ Err LineError.Memory → ⊥ }
 {
     if word == b"guest".as_slice() {
         let ids = next_rule_ids(words)?;
@@ -69,6 +72,7 @@ fn next_id_rule_as(word: &[u8], words: &mut Parts<'_>) -> Result<IdRule, LineErr
 pub fn next_id_rule(words: &mut Parts<'_>) -> Result<IdRule, LineError>
     ensures ok { IfOk result (λ rule. id_rule_in words.old ≡ Some rule) }
     ensures bad { result ≡ Err LineError.Bad → id_rule_in words.old ≡ None }
+    ensures no_memory { result ≡ Err LineError.Memory → ⊥ }
 {
     let word = next_word(words)?;
     next_id_rule_as(word, words)

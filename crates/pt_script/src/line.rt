@@ -47,6 +47,7 @@ pub enum Line {
 pub fn next_fault(words: &mut Parts<'_>) -> Result<PlannedFault, LineError>
     ensures ok { IfOk result (λ fault. fault_in words.old ≡ Some fault) }
     ensures bad { result ≡ Err LineError.Bad → fault_in words.old ≡ None }
+    ensures no_memory { result ≡ Err LineError.Memory → ⊥ }
 {
     let call = next_number(words)?;
     let errno = next_errno(words)?;

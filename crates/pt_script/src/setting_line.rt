@@ -24,6 +24,7 @@ use std::alloc::Global;
 fn next_limit(words: &mut Parts<'_>) -> Result<Setting, LineError>
     ensures ok { IfOk result (λ setting. limit_in words.old ≡ Some setting) }
     ensures bad { result ≡ Err LineError.Bad → limit_in words.old ≡ None }
+    ensures no_memory { result ≡ Err LineError.Memory → ⊥ }
 {
     let limit = next_number(words)?;
     end(words)?;
@@ -34,6 +35,7 @@ fn next_limit(words: &mut Parts<'_>) -> Result<Setting, LineError>
 pub fn next_identity(words: &mut Parts<'_>) -> Result<Identity, LineError>
     ensures ok { IfOk result (λ who. identity_of words.old ≡ Some who) }
     ensures bad { result ≡ Err LineError.Bad → identity_of words.old ≡ None }
+    ensures no_memory { result ≡ Err LineError.Memory → ⊥ }
 {
     let uid = next_small(words)?;
     let gid = next_small(words)?;
@@ -46,6 +48,7 @@ pub fn next_identity(words: &mut Parts<'_>) -> Result<Identity, LineError>
 fn next_timeout(words: &mut Parts<'_>) -> Result<Timeout, LineError>
     ensures ok { IfOk result (λ timeout. timeout_in words.old ≡ Some timeout) }
     ensures bad { result ≡ Err LineError.Bad → timeout_in words.old ≡ None }
+    ensures no_memory { result ≡ Err LineError.Memory → ⊥ }
 {
     let secs = next_number(words)?;
     let nanos = next_small(words)?;
@@ -57,6 +60,7 @@ fn next_timeout(words: &mut Parts<'_>) -> Result<Timeout, LineError>
 fn next_policy(words: &mut Parts<'_>) -> Result<CachePolicy, LineError>
     ensures ok { IfOk result (λ policy. policy_in words.old ≡ Some policy) }
     ensures bad { result ≡ Err LineError.Bad → policy_in words.old ≡ None }
+    ensures no_memory { result ≡ Err LineError.Memory → ⊥ }
 {
     let word = next_word(words)?;
     let policy = CachePolicy::named(word).ok_or(LineError::Bad)?;
@@ -77,6 +81,7 @@ fn next_root_dir(alloc: Global, words: &mut Parts<'_>) -> Result<Setting, LineEr
 fn next_switch_as(key: &[u8], words: &mut Parts<'_>) -> Result<Setting, LineError>
     ensures ok { IfOk result (λ setting. switch_as key.now words.old ≡ Some setting) }
     ensures bad { result ≡ Err LineError.Bad → switch_as key.now words.old ≡ None }
+    ensures no_memory { result ≡ Err LineError.Memory → ⊥ }
 {
     let switch = switch_named(key).ok_or(LineError::Bad)?;
     let on = next_switch(words)?;
@@ -85,6 +90,7 @@ fn next_switch_as(key: &[u8], words: &mut Parts<'_>) -> Result<Setting, LineErro
 }
 
 // The setting of this key, by which the file system serves.
+#[tactic(auto, unfolding(crate::specs::SettingLine::serving_setting_as))]
 fn next_serving_setting_as(
     alloc: Global,
     key: &[u8],

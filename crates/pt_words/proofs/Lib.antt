@@ -1,3 +1,2 @@
 pub mod PairsRead
 pub mod PlacesRead
-pub mod Passed

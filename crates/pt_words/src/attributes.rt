@@ -8,6 +8,7 @@ use pt_text::Parts;
 pub fn next_readlink(words: &mut Parts<'_>) -> Result<Request, LineError>
     ensures ok { IfOk result (λ request. readlink_in words.old ≡ Some request) }
     ensures bad { result ≡ Err LineError.Bad → readlink_in words.old ≡ None }
+    ensures no_memory { result ≡ Err LineError.Memory → ⊥ }
 {
     let inode = next_number(words)?;
     end(words)?;
@@ -17,6 +18,7 @@ pub fn next_readlink(words: &mut Parts<'_>) -> Result<Request, LineError>
 pub fn next_statfs(words: &mut Parts<'_>) -> Result<Request, LineError>
     ensures ok { IfOk result (λ request. statfs_in words.old ≡ Some request) }
     ensures bad { result ≡ Err LineError.Bad → statfs_in words.old ≡ None }
+    ensures no_memory { result ≡ Err LineError.Memory → ⊥ }
 {
     let inode = next_number(words)?;
     end(words)?;
@@ -26,6 +28,7 @@ pub fn next_statfs(words: &mut Parts<'_>) -> Result<Request, LineError>
 pub fn next_getattr(words: &mut Parts<'_>) -> Result<Request, LineError>
     ensures ok { IfOk result (λ request. getattr_in words.old ≡ Some request) }
     ensures bad { result ≡ Err LineError.Bad → getattr_in words.old ≡ None }
+    ensures no_memory { result ≡ Err LineError.Memory → ⊥ }
 {
     let inode = next_number(words)?;
     end(words)?;
@@ -35,6 +38,7 @@ pub fn next_getattr(words: &mut Parts<'_>) -> Result<Request, LineError>
 pub fn next_access(words: &mut Parts<'_>) -> Result<Request, LineError>
     ensures ok { IfOk result (λ request. access_in words.old ≡ Some request) }
     ensures bad { result ≡ Err LineError.Bad → access_in words.old ≡ None }
+    ensures no_memory { result ≡ Err LineError.Memory → ⊥ }
 {
     let inode = next_number(words)?;
     let mask = next_small(words)?;
@@ -47,6 +51,7 @@ fn next_attributes(words: &mut Parts<'_>) -> Result<SetattrIn, LineError>
     ensures ok { IfOk result (λ attr. attributes_in words.old
         ≡ Some (record { value = attr; rest = words.new })) }
     ensures bad { result ≡ Err LineError.Bad → attributes_in words.old ≡ None }
+    ensures no_memory { result ≡ Err LineError.Memory → ⊥ }
 {
     let mode = next_small(words)?;
     let uid = next_small(words)?;
@@ -71,6 +76,7 @@ fn next_attributes(words: &mut Parts<'_>) -> Result<SetattrIn, LineError>
 pub fn next_setattr(words: &mut Parts<'_>) -> Result<Request, LineError>
     ensures ok { IfOk result (λ request. setattr_in words.old ≡ Some request) }
     ensures bad { result ≡ Err LineError.Bad → setattr_in words.old ≡ None }
+    ensures no_memory { result ≡ Err LineError.Memory → ⊥ }
 {
     let inode = next_number(words)?;
     let handle = next_optional_number(words)?;

@@ -43,6 +43,7 @@ pub fn next_write(alloc: Global, words: &mut Parts<'_>) -> Result<Request, LineE
 pub fn next_fallocate(words: &mut Parts<'_>) -> Result<Request, LineError>
     ensures ok { IfOk result (λ request. fallocate_in words.old ≡ Some request) }
     ensures bad { result ≡ Err LineError.Bad → fallocate_in words.old ≡ None }
+    ensures no_memory { result ≡ Err LineError.Memory → ⊥ }
 {
     let inode = next_number(words)?;
     let handle = next_number(words)?;
@@ -62,6 +63,7 @@ pub fn next_fallocate(words: &mut Parts<'_>) -> Result<Request, LineError>
 pub fn next_lseek(words: &mut Parts<'_>) -> Result<Request, LineError>
     ensures ok { IfOk result (λ request. lseek_in words.old ≡ Some request) }
     ensures bad { result ≡ Err LineError.Bad → lseek_in words.old ≡ None }
+    ensures no_memory { result ≡ Err LineError.Memory → ⊥ }
 {
     let inode = next_number(words)?;
     let handle = next_number(words)?;
@@ -79,6 +81,7 @@ pub fn next_lseek(words: &mut Parts<'_>) -> Result<Request, LineError>
 pub fn next_copyfilerange(words: &mut Parts<'_>) -> Result<Request, LineError>
     ensures ok { IfOk result (λ request. copyfilerange_in words.old ≡ Some request) }
     ensures bad { result ≡ Err LineError.Bad → copyfilerange_in words.old ≡ None }
+    ensures no_memory { result ≡ Err LineError.Memory → ⊥ }
 {
     let inode = next_number(words)?;
     let handle = next_number(words)?;
@@ -104,6 +107,7 @@ pub fn next_copyfilerange(words: &mut Parts<'_>) -> Result<Request, LineError>
 pub fn next_flush(words: &mut Parts<'_>) -> Result<Request, LineError>
     ensures ok { IfOk result (λ request. flush_in words.old ≡ Some request) }
     ensures bad { result ≡ Err LineError.Bad → flush_in words.old ≡ None }
+    ensures no_memory { result ≡ Err LineError.Memory → ⊥ }
 {
     let (inode, handle) = next_handle(words)?;
     Ok(Request::Flush { inode, handle })
@@ -113,6 +117,7 @@ pub fn next_flush(words: &mut Parts<'_>) -> Result<Request, LineError>
 fn next_sync(words: &mut Parts<'_>) -> Result<(u64, u64, bool), LineError>
     ensures ok { IfOk result (λ told. sync_in words.old ≡ Some told) }
     ensures bad { result ≡ Err LineError.Bad → sync_in words.old ≡ None }
+    ensures no_memory { result ≡ Err LineError.Memory → ⊥ }
 {
     let inode = next_number(words)?;
     let handle = next_number(words)?;
@@ -124,6 +129,7 @@ fn next_sync(words: &mut Parts<'_>) -> Result<(u64, u64, bool), LineError>
 pub fn next_fsync(words: &mut Parts<'_>) -> Result<Request, LineError>
     ensures ok { IfOk result (λ request. fsync_in words.old ≡ Some request) }
     ensures bad { result ≡ Err LineError.Bad → fsync_in words.old ≡ None }
+    ensures no_memory { result ≡ Err LineError.Memory → ⊥ }
 {
     let (inode, handle, datasync) = next_sync(words)?;
     Ok(Request::Fsync {
@@ -136,6 +142,7 @@ pub fn next_fsync(words: &mut Parts<'_>) -> Result<Request, LineError>
 pub fn next_fsyncdir(words: &mut Parts<'_>) -> Result<Request, LineError>
     ensures ok { IfOk result (λ request. fsyncdir_in words.old ≡ Some request) }
     ensures bad { result ≡ Err LineError.Bad → fsyncdir_in words.old ≡ None }
+    ensures no_memory { result ≡ Err LineError.Memory → ⊥ }
 {
     let (inode, handle, datasync) = next_sync(words)?;
     Ok(Request::FsyncDir {
@@ -148,6 +155,7 @@ pub fn next_fsyncdir(words: &mut Parts<'_>) -> Result<Request, LineError>
 pub fn next_syncfs(words: &mut Parts<'_>) -> Result<Request, LineError>
     ensures ok { IfOk result (λ request. syncfs_in words.old ≡ Some request) }
     ensures bad { result ≡ Err LineError.Bad → syncfs_in words.old ≡ None }
+    ensures no_memory { result ≡ Err LineError.Memory → ⊥ }
 {
     let inode = next_number(words)?;
     end(words)?;

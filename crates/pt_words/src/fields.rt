@@ -40,6 +40,7 @@ pub fn next_word<'a>(words: &mut Parts<'a>) -> Result<&'a [u8], LineError>
 pub fn next_number(words: &mut Parts<'_>) -> Result<u64, LineError>
     ensures ok { IfOk result (λ value. number_in words.old ≡ Some (record { value = value; rest = words.new })) }
     ensures bad { result ≡ Err LineError.Bad → number_in words.old ≡ None }
+    ensures no_memory { result ≡ Err LineError.Memory → ⊥ }
 {
     let word = next_word(words)?;
     read_number(word).ok_or(LineError::Bad)
@@ -49,6 +50,7 @@ pub fn next_number(words: &mut Parts<'_>) -> Result<u64, LineError>
 pub fn next_small(words: &mut Parts<'_>) -> Result<u32, LineError>
     ensures ok { IfOk result (λ value. small_in words.old ≡ Some (record { value = value; rest = words.new })) }
     ensures bad { result ≡ Err LineError.Bad → small_in words.old ≡ None }
+    ensures no_memory { result ≡ Err LineError.Memory → ⊥ }
 {
     let word = next_word(words)?;
     match read_number(word) {
@@ -61,6 +63,7 @@ pub fn next_small(words: &mut Parts<'_>) -> Result<u32, LineError>
 pub fn next_errno(words: &mut Parts<'_>) -> Result<Errno, LineError>
     ensures ok { IfOk result (λ errno. errno_in words.old ≡ Some (record { value = errno; rest = words.new })) }
     ensures bad { result ≡ Err LineError.Bad → errno_in words.old ≡ None }
+    ensures no_memory { result ≡ Err LineError.Memory → ⊥ }
 {
     let word = next_word(words)?;
     match read_number(word) {
@@ -86,6 +89,7 @@ pub fn next_bytes(alloc: Global, words: &mut Parts<'_>) -> Result<Bytes, LineErr
 pub fn next_switch(words: &mut Parts<'_>) -> Result<bool, LineError>
     ensures ok { IfOk result (λ value. switch_in words.old ≡ Some (record { value = value; rest = words.new })) }
     ensures bad { result ≡ Err LineError.Bad → switch_in words.old ≡ None }
+    ensures no_memory { result ≡ Err LineError.Memory → ⊥ }
 {
     let word = next_word(words)?;
     if word == b"0".as_slice() {
@@ -101,6 +105,7 @@ pub fn next_switch(words: &mut Parts<'_>) -> Result<bool, LineError>
 fn next_sign(words: &mut Parts<'_>) -> Result<bool, LineError>
     ensures ok { IfOk result (λ told. sign_in words.old ≡ Some (record { value = told; rest = words.new })) }
     ensures bad { result ≡ Err LineError.Bad → sign_in words.old ≡ None }
+    ensures no_memory { result ≡ Err LineError.Memory → ⊥ }
 {
     let word = next_word(words)?;
     if word == b"-".as_slice() {
@@ -117,6 +122,7 @@ pub fn next_optional_number(words: &mut Parts<'_>) -> Result<Option<u64>, LineEr
     ensures ok { IfOk result (λ value. optional_in number_in words.old
         ≡ Some (record { value = value; rest = words.new })) }
     ensures bad { result ≡ Err LineError.Bad → optional_in number_in words.old ≡ None }
+    ensures no_memory { result ≡ Err LineError.Memory → ⊥ }
 {
     if next_sign(words)? {
         Ok(Some(next_number(words)?))
@@ -130,6 +136,7 @@ pub fn next_optional_small(words: &mut Parts<'_>) -> Result<Option<u32>, LineErr
     ensures ok { IfOk result (λ value. optional_in small_in words.old
         ≡ Some (record { value = value; rest = words.new })) }
     ensures bad { result ≡ Err LineError.Bad → optional_in small_in words.old ≡ None }
+    ensures no_memory { result ≡ Err LineError.Memory → ⊥ }
 {
     if next_sign(words)? {
         Ok(Some(next_small(words)?))
@@ -141,6 +148,7 @@ pub fn next_optional_small(words: &mut Parts<'_>) -> Result<Option<u32>, LineErr
 fn next_pair(words: &mut Parts<'_>) -> Result<(u64, u64), LineError>
     ensures ok { IfOk result (λ pair. pair_in words.old ≡ Some (record { value = pair; rest = words.new })) }
     ensures bad { result ≡ Err LineError.Bad → pair_in words.old ≡ None }
+    ensures no_memory { result ≡ Err LineError.Memory → ⊥ }
 {
     let first = next_number(words)?;
     let second = next_number(words)?;

@@ -8,6 +8,7 @@ use pt_text::Parts;
 pub fn next_open(words: &mut Parts<'_>) -> Result<Request, LineError>
     ensures ok { IfOk result (λ request. open_in words.old ≡ Some request) }
     ensures bad { result ≡ Err LineError.Bad → open_in words.old ≡ None }
+    ensures no_memory { result ≡ Err LineError.Memory → ⊥ }
 {
     let inode = next_number(words)?;
     let kill = next_switch(words)?;
@@ -19,6 +20,7 @@ pub fn next_open(words: &mut Parts<'_>) -> Result<Request, LineError>
 pub fn next_opendir(words: &mut Parts<'_>) -> Result<Request, LineError>
     ensures ok { IfOk result (λ request. opendir_in words.old ≡ Some request) }
     ensures bad { result ≡ Err LineError.Bad → opendir_in words.old ≡ None }
+    ensures no_memory { result ≡ Err LineError.Memory → ⊥ }
 {
     let inode = next_number(words)?;
     let flags = next_small(words)?;
@@ -30,6 +32,7 @@ pub fn next_opendir(words: &mut Parts<'_>) -> Result<Request, LineError>
 pub fn next_handle(words: &mut Parts<'_>) -> Result<(u64, u64), LineError>
     ensures ok { IfOk result (λ told. handle_in words.old ≡ Some told) }
     ensures bad { result ≡ Err LineError.Bad → handle_in words.old ≡ None }
+    ensures no_memory { result ≡ Err LineError.Memory → ⊥ }
 {
     let inode = next_number(words)?;
     let handle = next_number(words)?;
@@ -40,6 +43,7 @@ pub fn next_handle(words: &mut Parts<'_>) -> Result<(u64, u64), LineError>
 pub fn next_release(words: &mut Parts<'_>) -> Result<Request, LineError>
     ensures ok { IfOk result (λ request. release_in words.old ≡ Some request) }
     ensures bad { result ≡ Err LineError.Bad → release_in words.old ≡ None }
+    ensures no_memory { result ≡ Err LineError.Memory → ⊥ }
 {
     let (inode, handle) = next_handle(words)?;
     Ok(Request::Release { inode, handle })
@@ -48,6 +52,7 @@ pub fn next_release(words: &mut Parts<'_>) -> Result<Request, LineError>
 pub fn next_releasedir(words: &mut Parts<'_>) -> Result<Request, LineError>
     ensures ok { IfOk result (λ request. releasedir_in words.old ≡ Some request) }
     ensures bad { result ≡ Err LineError.Bad → releasedir_in words.old ≡ None }
+    ensures no_memory { result ≡ Err LineError.Memory → ⊥ }
 {
     let (inode, handle) = next_handle(words)?;
     Ok(Request::ReleaseDir { inode, handle })
@@ -56,6 +61,7 @@ pub fn next_releasedir(words: &mut Parts<'_>) -> Result<Request, LineError>
 pub fn next_read(words: &mut Parts<'_>) -> Result<Request, LineError>
     ensures ok { IfOk result (λ request. read_in words.old ≡ Some request) }
     ensures bad { result ≡ Err LineError.Bad → read_in words.old ≡ None }
+    ensures no_memory { result ≡ Err LineError.Memory → ⊥ }
 {
     let inode = next_number(words)?;
     let handle = next_number(words)?;

@@ -13,6 +13,7 @@ use std::alloc::Global;
 fn next_group(words: &mut Parts<'_>) -> Result<Extensions, LineError>
     ensures ok { IfOk result (λ ext. group_in words.old ≡ Some (record { value = ext; rest = words.new })) }
     ensures bad { result ≡ Err LineError.Bad → group_in words.old ≡ None }
+    ensures no_memory { result ≡ Err LineError.Memory → ⊥ }
 {
     let sup_gid = next_optional_small(words)?;
     Ok(Extensions {
@@ -26,6 +27,7 @@ fn next_extensions(words: &mut Parts<'_>) -> Result<Extensions, LineError>
     ensures ok { IfOk result (λ ext. extensions_in words.old
         ≡ Some (record { value = ext; rest = words.new })) }
     ensures bad { result ≡ Err LineError.Bad → extensions_in words.old ≡ None }
+    ensures no_memory { result ≡ Err LineError.Memory → ⊥ }
 {
     let label = next_word(words)?;
     if label != b"-".as_slice() {

@@ -10,6 +10,7 @@ use std::alloc::Global;
 pub fn next_init(words: &mut Parts<'_>) -> Result<Request, LineError>
     ensures ok { IfOk result (λ request. init_in words.old ≡ Some request) }
     ensures bad { result ≡ Err LineError.Bad → init_in words.old ≡ None }
+    ensures no_memory { result ≡ Err LineError.Memory → ⊥ }
 {
     let capable = FsOptions(next_small(words)?);
     end(words)?;
@@ -27,6 +28,7 @@ pub fn next_lookup(alloc: Global, words: &mut Parts<'_>) -> Result<Request, Line
 pub fn next_forget(words: &mut Parts<'_>) -> Result<Request, LineError>
     ensures ok { IfOk result (λ request. forget_in words.old ≡ Some request) }
     ensures bad { result ≡ Err LineError.Bad → forget_in words.old ≡ None }
+    ensures no_memory { result ≡ Err LineError.Memory → ⊥ }
 {
     let inode = next_number(words)?;
     let count = next_number(words)?;

@@ -28,6 +28,7 @@ use std::alloc::Global;
 fn next_destroy(words: &mut Parts<'_>) -> Result<Request, LineError>
     ensures ok { IfOk result (λ request. at_end words.old Request.Destroy ≡ Some request) }
     ensures bad { result ≡ Err LineError.Bad → at_end words.old Request.Destroy ≡ None }
+    ensures no_memory { result ≡ Err LineError.Memory → ⊥ }
 {
     end(words)?;
     Ok(Request::Destroy)
@@ -36,6 +37,7 @@ fn next_destroy(words: &mut Parts<'_>) -> Result<Request, LineError>
 fn next_root(words: &mut Parts<'_>) -> Result<Request, LineError>
     ensures ok { IfOk result (λ request. at_end words.old Request.Root ≡ Some request) }
     ensures bad { result ≡ Err LineError.Bad → at_end words.old Request.Root ≡ None }
+    ensures no_memory { result ≡ Err LineError.Memory → ⊥ }
 {
     end(words)?;
     Ok(Request::Root)
@@ -44,6 +46,7 @@ fn next_root(words: &mut Parts<'_>) -> Result<Request, LineError>
 fn next_other(words: &mut Parts<'_>) -> Result<Request, LineError>
     ensures ok { IfOk result (λ request. other_in words.old ≡ Some request) }
     ensures bad { result ≡ Err LineError.Bad → other_in words.old ≡ None }
+    ensures no_memory { result ≡ Err LineError.Memory → ⊥ }
 {
     let opcode = next_small(words)?;
     end(words)?;
@@ -55,6 +58,7 @@ fn next_other(words: &mut Parts<'_>) -> Result<Request, LineError>
 fn next_attribute_request(word: &[u8], words: &mut Parts<'_>) -> Result<Request, LineError>
     ensures ok { IfOk result (λ request. attribute_request_in word.now words.old ≡ Some request) }
     ensures bad { result ≡ Err LineError.Bad → attribute_request_in word.now words.old ≡ None }
+    ensures no_memory { result ≡ Err LineError.Memory → ⊥ }
 {
     if word == b"readlink".as_slice() {
         next_readlink(words)
