@@ -1,4 +1,4 @@
-ghost use Rattle.std.specs.Prelude.{◌≡◌, ◌+◌, ◌*◌, ◌<◌, ◌≤◌, true, false, IfOk, IfErr, None};
+ghost use Rattle.std.specs.Prelude.{◌≡◌, ◌+◌, ◌*◌, ◌^◌, ◌<◌, ◌≤◌, true, false, IfOk, IfErr, None};
 ghost use Rattle.pt_host.specs.declared.seat.HostSeat.{HostSeat};
 ghost use Rattle.pt_req.specs.declared.plan.Plan.{Plan};
 
@@ -34,8 +34,22 @@ impl AnyJob {
     ghost use Rattle.pt_attr.specs.Machine.Job.{own_left, events_left, restores_now};
     ghost use Rattle.pt_attr.specs.Pattern.{grammar_of, bound_of, most_inserted};
 
-    /// A job that has made no step. An `Err`, which gives the request back, says that memory ran out; the requests of
-    /// today take none.
+    /// A job that has made no step. No request of today takes memory for it.
+    pub fn begin(who: Context, request: Request) -> AnyJob
+        ensures left { (plan : Plan) (seat : HostSeat) →
+            owes plan seat result ≡ grammar_of plan seat who request }
+        ensures going { is_finished result ≡ false }
+        ensures fewer { steps_left result ≤ 2 ^ 66 * bound_of request }
+        ensures bound { steps_bound result ≤ bound_of request }
+        ensures events { events_left result ≤ bound_of request }
+        ensures inserts { inserts_left result ≤ most_inserted }
+        ensures lost { lost_of result ≡ None }
+    {
+        let work = Work::Request(Framed::start(AnyBody::of(who, request)));
+        AnyJob { work }
+    }
+
+    /// The same, where memory may run out: an `Err`, which gives the request back, would say so.
     pub fn start(
         _alloc: Global,
         _plan: &Plan,
@@ -50,13 +64,14 @@ impl AnyJob {
         ensures lost { IfOk result (λ job. lost_of job ≡ None) }
         ensures back { IfErr result (λ back. back ≡ request) }
     {
-        let work = Work::Request(Framed::start(AnyBody::of(who, request)));
-        Ok(AnyJob { work })
+        Ok(AnyJob::begin(who, request))
     }
 
     /// An edit that has not been made, which is one step.
     pub fn edit(edit: Edit) -> AnyJob
         ensures left { (plan : Plan) (seat : HostSeat) → owes plan seat result ≡ edit_grammar edit }
+        ensures going { is_finished result ≡ false }
+        ensures fewer { steps_left result ≡ 1 }
         ensures bound { steps_bound result ≡ 1 }
         ensures events { events_left result ≡ 0 }
         ensures inserts { inserts_left result ≡ 0 }

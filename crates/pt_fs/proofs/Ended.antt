@@ -4,6 +4,7 @@ use Rattle.std.proofs.Common.{None, refl, ap, sym, subst, map, length, slice_get
 use Rattle.std.proofs.Common.{length-append, arith, ◌^◌}
 use Rattle.std.proofs.lemmas.Option.{same_Some}
 use Rattle.pt_host.specs.Seat.{IsStartingSeat}
+use Rattle.pt_host.specs.Words.{Each}
 use Rattle.pt_host.specs.declared.ids.Errno.{Errno}
 use Rattle.pt_host.specs.declared.seat.HostSeat.{HostSeat}
 use Rattle.pt_iface.specs.declared.answer.Answer.{Answer}
@@ -16,20 +17,20 @@ use Rattle.pt_frame.specs.Replies.{is_cut}
 use Rattle.pt_frame.specs.Tended.{Tended, IsFinish, IsUncut}
 use Rattle.pt_frame.specs.declared.finish.Finish.{Finish}
 use Rattle.pt_frame.specs.declared.finish.Finish.TheVariants as finish
-use Rattle.pt_attr.specs.Machine.Job.{owes, steps_bound, lost_of}
 use Rattle.pt_attr.specs.Pattern.{Asked, Requests, Edits, grammar_for, bound_for}
 use Rattle.pt_attr.proofs.Answering.{tends}
 use Rattle.pt_req.specs.declared.plan.Plan.{Plan}
 use Rattle.pt_fs.specs.Each.{IsStarted, EachStarted, EachAnswered, EndsAs, answer_of}
 use Rattle.pt_fs.specs.GoesOn.{EachWent}
 use Rattle.pt_fs.specs.Jobs.{StartAll, job_seat, job_start, job_grammar, asked_of, IsAnsweredBy}
+use Rattle.pt_fs.specs.Laid.{waiting}
 use Rattle.pt_fs.specs.Order.{rest_of, owner, count_of, with_left, MayBeLeft, Owns}
+use Rattle.pt_fs.specs.Running.{Running, owes, steps_bound, lost_of}
 use Rattle.pt_fs.specs.Took.{IsFinishedAt, NoneLost}
 use Rattle.pt_fs.specs.Trace.{AnswersEach, IsBounded, steps_by, closings_told}
 use Rattle.pt_fs.specs.Went.{StepsLead, Went, run_seat}
 use Rattle.pt_fs.specs.declared.job.Job.{Job}
 use Rattle.pt_fs.specs.declared.job.Job.TheVariants as job
-use Rattle.pt_fs.specs.declared.running.Running.{Running}
 use Rattle.pt_fs.specs.declared.trace.TraceStep.{TraceStep}
 use Rattle.pt_fs.proofs.Orders.{same_function}
 use Rattle.pt_fs.proofs.Stepping.{leads_on, leads_belongs, leads_past}
@@ -38,14 +39,6 @@ use Rattle.pt_fs.proofs.Traces.{length-steps_by, closings_told-append}
 pub nothing_left : {X : Type 0} (xs : List X) → length xs ≡ 0 → xs ≡ []
 nothing_left [] e = refl
 nothing_left (x ∷ xs) e = absurd (omega arith)
-
--- one job more is started
-pub started_more : (plan : Plan) (all rest : List Job) (job : Job) (run : Running) (running : List Running) →
-    IsStarted plan job run →
-    ((later : List Running) → EachStarted plan (job ∷ rest) later → EachStarted plan all (running ++ later)) →
-    (later : List Running) → EachStarted plan rest later → EachStarted plan all ((running ++ run ∷ []) ++ later)
-started_more plan all rest job run running started so_far later h =
-    rw append_assoc (so_far (run ∷ later) (started, h))
 
 -- the answers so far, and those of the rest
 pub answered_more : (all rest : List Running) (run : Running) (told : Answer) (answers : List Answer) →
@@ -64,6 +57,23 @@ started_seats plan [] [] h = refl
 started_seats plan (job ∷ jobs) (run ∷ running) h = rw (h.0.seat, started_seats plan jobs running h.1) refl
 started_seats plan [] (run ∷ running) h = absurd h
 started_seats plan (job ∷ jobs) [] h = absurd h
+
+-- jobs that have made no step have so begun
+pub waiting_started : (plan : Plan) (jobs : List Job) →
+    Each (λ (job : Job). (job_start job).eff_caps.0 < 2 ^ 32) jobs → EachStarted plan jobs (map waiting jobs)
+waiting_started plan [] each = tt
+waiting_started plan (job ∷ jobs) each = (
+  record {
+    seat = refl;
+    start = refl;
+    fits = each.0;
+    left = refl;
+    bound = omega arith;
+    inserts = omega arith;
+    lost = refl;
+  },
+  waiting_started plan jobs each.1,
+)
 
 pub started_length : (plan : Plan) (jobs : List Job) (running : List Running) → EachStarted plan jobs running →
     length running ≡ length jobs

@@ -22,7 +22,7 @@ use Rattle.pt_frame.specs.declared.act.ActReply.TheVariants.{Host}
 use Rattle.pt_frame.specs.declared.finish.Finish.{Finish}
 use Rattle.pt_frame.specs.declared.finish.Finish.TheVariants as finish
 use Rattle.pt_frame.proofs.Ending.{is_cut_off}
-use Rattle.pt_attr.specs.Machine.Job.{owes, is_finished, lost_of, steps_bound}
+use Rattle.pt_fs.specs.Running.{owes, is_finished, lost_of, steps_bound}
 use Rattle.pt_attr.specs.Pattern.{bound_for}
 use Rattle.pt_req.specs.declared.plan.Plan.{Plan}
 use Rattle.pt_law.proofs.Told.{Promises}
@@ -39,7 +39,7 @@ use Rattle.pt_fs.specs.Trace.{TraceRuns, IsBounded, step_of, steps_by, closings_
 use Rattle.pt_fs.specs.Went.{StepsLead, Went, run_seat}
 use Rattle.pt_fs.specs.Work.{work}
 use Rattle.pt_fs.specs.declared.job.Job.{Job}
-use Rattle.pt_fs.specs.declared.running.Running.{Running}
+use Rattle.pt_fs.specs.Running.{Running}
 use Rattle.pt_fs.specs.declared.trace.TraceStep.{TraceStep}
 use Rattle.pt_fs.proofs.Ended.{started_fits, started_seats, started_length, one_for_each, EachRan, JobRan, each_ran}
 use Rattle.pt_fs.proofs.Ended.{ran_on, ran_at}

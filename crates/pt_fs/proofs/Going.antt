@@ -1,17 +1,17 @@
 -- Any number of steps, one after the other.
-use Rattle.std.proofs.Common.{◌≡◌, ◌≢◌, inl, inr, ℕ, suc, ◌+◌, ◌≤◌, Bool, get_or, List, [], ◌∷◌, ◌++◌, ◌∙◌}
+use Rattle.std.proofs.Common.{◌≡◌, ◌≢◌, inl, inr, ℕ, suc, ◌+◌, ◌≤◌, Bool, List, [], ◌∷◌, ◌++◌, ◌∙◌}
 use Rattle.std.proofs.Common.{refl, ap, sym, subst, map, length, slice_get, slice_set, append_assoc, append-nil}
 use Rattle.std.proofs.Common.{Option, Some, None, option_map, true, false, ◌<◌, length-append, arith}
 use Rattle.std.proofs.lemmas.Bool.{cases_eq}
 use Rattle.std.proofs.lemmas.List.{length-set, map-set}
-use Rattle.std.proofs.lemmas.Option.{same_Some, slice_get-map, get_or_from_slice_get}
+use Rattle.std.proofs.lemmas.Option.{same_Some, slice_get-map}
 use Rattle.pt_host.specs.Relation.{HostRelation}
 use Rattle.pt_host.specs.declared.ids.Errno.{Errno}
 use Rattle.pt_host.specs.declared.seat.HostSeat.{HostSeat}
 use Rattle.pt_session.specs.Tables.{Tables}
 use Rattle.pt_frame.specs.Deed.{Step}
 use Rattle.pt_frame.specs.Grammar.{is_end}
-use Rattle.pt_attr.specs.Machine.Job.{owes, is_finished, lost_of}
+use Rattle.pt_fs.specs.Running.{owes, is_finished, lost_of}
 use Rattle.pt_req.specs.declared.plan.Plan.{Plan}
 use Rattle.pt_fs.specs.GoesOn.{GoesOn, EachWent}
 use Rattle.pt_fs.specs.Order.{order, rest_of, Owns}
@@ -19,7 +19,7 @@ use Rattle.pt_fs.specs.Took.{Took, TookOrStays, IsFinishedAt, IsUnfinished, None
 use Rattle.pt_fs.specs.Trace.{MadeAt, step_of, steps_by}
 use Rattle.pt_fs.specs.Went.{Went, StepsLead, run_seat}
 use Rattle.pt_fs.specs.Work.{work}
-use Rattle.pt_fs.specs.declared.running.Running.{Running}
+use Rattle.pt_fs.specs.Running.{Running}
 use Rattle.pt_fs.specs.declared.trace.TraceStep.{TraceStep}
 use Rattle.pt_fs.proofs.Orders.{owns_none, owns_on, owns_place, owns_idle, owns_first, owns_next}
 use Rattle.pt_fs.proofs.Places.{get-set_same, get-set_other}
@@ -241,16 +241,16 @@ goes_next does plan place jobs host running tables trace finished = record {
   spent = same_work (work running tables);
 }
 
--- the job at a place that was read
-pub finished_at : (running : List Running) (place : ℕ) (d run : Running) (ends : Bool) →
-    slice_get running place ≡ Some run → is_finished (get_or running place d).state ≡ ends →
-    is_finished run.state ≡ ends
-finished_at running place d run ends at e = rw (get_or_from_slice_get running place run d at) at e
+-- the job of a place, as it was told
+pub finished_at : (running : List Running) (place : ℕ) (ends : Bool) →
+    ((run : Running) → slice_get running place ≡ Some run → is_finished run.state ≡ ends) → ends ≡ true →
+    IsFinishedAt running place
+finished_at running place ends so is run at = so run at ∙ is
 
-pub unfinished_at : (running : List Running) (place : ℕ) (d : Running) (plan : Plan) (ends : Bool) →
-    ends ≡ is_finished (get_or running place d).state →
-    ((p : Plan) (seat : HostSeat) → is_end (owes p seat (get_or running place d).state) ≡ ends) → ends ≡ false →
+pub unfinished_at : (running : List Running) (place : ℕ) (plan : Plan) (ends : Bool) →
+    ((run : Running) → slice_get running place ≡ Some run → is_finished run.state ≡ ends) →
+    ((run : Running) → slice_get running place ≡ Some run →
+    (p : Plan) (seat : HostSeat) → is_end (owes p seat run.state) ≡ ends) → ends ≡ false →
     IsUnfinished plan running place
-unfinished_at running place d plan ends finished end not run at =
-    let same = get_or_from_slice_get running place run d at in
-    (rw same at (sym finished ∙ not), rw same at (end plan run.start ∙ not))
+unfinished_at running place plan ends finished end not run at =
+    (finished run at ∙ not, end run at plan run.start ∙ not)

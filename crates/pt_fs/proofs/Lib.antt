@@ -1,8 +1,10 @@
 pub mod Places
+pub mod Laying
 pub mod Traces
 pub mod Orders
 pub mod Pending
 pub mod Works
+pub mod Through
 pub mod Stepping
 pub mod Going
 pub mod Losing

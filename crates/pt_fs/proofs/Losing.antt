@@ -1,10 +1,10 @@
 -- A seat that is lost, and what follows it.
-use Rattle.std.proofs.Common.{◌≡◌, ◌≢◌, ◌≤◌, inl, inr, ℕ, suc, ◌+◌, get_or, Bool, true, false, List, [], ◌∷◌}
+use Rattle.std.proofs.Common.{◌≡◌, ◌≢◌, ◌≤◌, inl, inr, ℕ, suc, ◌+◌, Bool, true, false, List, [], ◌∷◌}
 use Rattle.std.proofs.Common.{◌++◌, ◌∙◌, Option, Some, None, refl, ap, sym, subst, length, slice_get, slice_set, arith}
 use Rattle.std.proofs.Common.{eq-eqb, cond}
 use Rattle.std.specs.Prelude.{IfNone, IfSome}
 use Rattle.std.proofs.lemmas.Bool.{cases_eq, ne_eqb}
-use Rattle.std.proofs.lemmas.Option.{same_Some, get_or_from_slice_get, slice_get_within}
+use Rattle.std.proofs.lemmas.Option.{same_Some, slice_get_within}
 use Rattle.pt_host.specs.Relation.{HostRelation}
 use Rattle.pt_host.specs.declared.ids.Errno.{Errno}
 use Rattle.pt_host.specs.declared.seat.HostSeat.{HostSeat}
@@ -13,7 +13,7 @@ use Rattle.pt_frame.specs.Deed.{Step, kept_deed_of}
 use Rattle.pt_frame.specs.Grammar.{Grammar, End, Do, May, restores, is_end, IsSettled}
 use Rattle.pt_frame.specs.Past.{Past, past_made, past_from}
 use Rattle.pt_frame.specs.Tended.{Tended}
-use Rattle.pt_attr.specs.Machine.Job.{owes, lost_of, is_finished}
+use Rattle.pt_fs.specs.Running.{owes, lost_of, is_finished}
 use Rattle.pt_req.specs.declared.plan.Plan.{Plan}
 use Rattle.pt_fs.specs.Advances.{Advances}
 use Rattle.pt_fs.specs.Ends.{IsRestoringStep, RestoresOnly}
@@ -22,7 +22,7 @@ use Rattle.pt_fs.specs.Loses.{LostAt, Restored, IsOver, IsCutFrom, CutAll, CutBe
 use Rattle.pt_fs.specs.Order.{order, rest_of}
 use Rattle.pt_fs.specs.Took.{Took, IsUnfinished, NoneLost}
 use Rattle.pt_fs.specs.Trace.{step_of, steps_by}
-use Rattle.pt_fs.specs.declared.running.Running.{Running}
+use Rattle.pt_fs.specs.Running.{Running}
 use Rattle.pt_fs.specs.declared.trace.TraceStep.{TraceStep}
 use Rattle.pt_fs.proofs.Going.{goes_none, goes_on, goes_took, goes_there, goes_first}
 use Rattle.pt_fs.proofs.Places.{get-set_same, get-set_other}
@@ -182,31 +182,31 @@ restored_more does plan plan1 job h0 h1 h2 s0 s1 s2 r0 r1 r2 t0 t1 t2 lost same 
     restored_step does plan job h0 h1 h2 s0 s1 s2 r0 r1 r2 t0 t1 t2 lost restored
     (subst (λ (p : Plan). Took does p job h1 s1 r1 t1 h2 s2 r2 t2 lost) same took) (is plan)
 
--- what is told of the job at a place that was read
-pub restores_at : (running : List Running) (place : ℕ) (d run : Running) (plan : Plan) (restoring : Bool) →
+-- what is told of the job of a place
+pub restores_at : (running : List Running) (place : ℕ) (run : Running) (plan : Plan) (restoring : Bool) →
     slice_get running place ≡ Some run →
-    ((p : Plan) (seat : HostSeat) → restoring ≡ restores (owes p seat (get_or running place d).state)) →
+    ((run : Running) → slice_get running place ≡ Some run →
+    (p : Plan) (seat : HostSeat) → restoring ≡ restores (owes p seat run.state)) →
     restores (owes plan run.start run.state) ≡ restoring
-restores_at running place d run plan restoring at e =
-    rw (get_or_from_slice_get running place run d at) at (sym (e plan run.start))
+restores_at running place run plan restoring at e = sym (e run at plan run.start)
 
-pub over_at : (running : List Running) (place : ℕ) (d : Running) (plan : Plan) (restoring : Bool) →
-    restoring ≡ false →
-    ((p : Plan) (seat : HostSeat) → restoring ≡ restores (owes p seat (get_or running place d).state)) →
-    ((p : Plan) (seat : HostSeat) → IsSettled (owes p seat (get_or running place d).state)) →
+pub over_at : (running : List Running) (place : ℕ) (plan : Plan) (restoring : Bool) → restoring ≡ false →
+    ((run : Running) → slice_get running place ≡ Some run →
+    (p : Plan) (seat : HostSeat) → restoring ≡ restores (owes p seat run.state)) →
+    ((run : Running) → slice_get running place ≡ Some run →
+    (p : Plan) (seat : HostSeat) → IsSettled (owes p seat run.state)) →
     IsOver plan place running
-over_at running place d plan restoring none e settled run at = (
-  restores_at running place d run plan restoring at e ∙ none,
-  rw (get_or_from_slice_get running place run d at) at (settled plan run.start),
-)
+over_at running place plan restoring none e settled run at =
+    (restores_at running place run plan restoring at e ∙ none, settled run at plan run.start)
 
-pub going_at : (running : List Running) (place : ℕ) (d : Running) (plan : Plan) (restoring : Bool) →
-    restoring ≡ true → (restoring ≡ true → is_finished (get_or running place d).state ≡ false) →
-    ((p : Plan) (seat : HostSeat) → restoring ≡ restores (owes p seat (get_or running place d).state)) →
+pub going_at : (running : List Running) (place : ℕ) (plan : Plan) (restoring : Bool) → restoring ≡ true →
+    ((run : Running) → slice_get running place ≡ Some run → restoring ≡ true → is_finished run.state ≡ false) →
+    ((run : Running) → slice_get running place ≡ Some run →
+    (p : Plan) (seat : HostSeat) → restoring ≡ restores (owes p seat run.state)) →
     IsUnfinished plan running place
-going_at running place d plan restoring on unfinished e run at = (
-  rw (get_or_from_slice_get running place run d at) at (unfinished on),
-  marked_goes (owes plan run.start run.state) (restores_at running place d run plan restoring at e ∙ on),
+going_at running place plan restoring on unfinished e run at = (
+  unfinished run at on,
+  marked_goes (owes plan run.start run.state) (restores_at running place run plan restoring at e ∙ on),
 )
 
 -- The cut.

@@ -15,12 +15,12 @@ use Rattle.pt_frame.specs.Past.{or_first, lost_after}
 use Rattle.pt_frame.specs.Replies.{fault_in}
 use Rattle.pt_frame.specs.declared.act.ActReply.{ActReply}
 use Rattle.pt_frame.specs.declared.act.ActReply.TheVariants.{Event, Host, NoCopy}
-use Rattle.pt_attr.specs.Machine.Job.{is_finished}
+use Rattle.pt_fs.specs.Running.{is_finished}
 use Rattle.pt_law.proofs.Told.{Promises}
 use Rattle.pt_fs.specs.Loses.{IsCutFrom}
 use Rattle.pt_fs.specs.Order.{order, owner, with_left, MayBeLeft}
 use Rattle.pt_fs.specs.Went.{run_seat}
-use Rattle.pt_fs.specs.declared.running.Running.{Running}
+use Rattle.pt_fs.specs.Running.{Running}
 use Rattle.pt_fs.specs.declared.trace.TraceStep.{TraceStep}
 
 pub marked_lost : (marked : Bool) (reply : ActReply) (now : Option Errno) (errno : Errno) →

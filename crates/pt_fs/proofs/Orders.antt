@@ -3,9 +3,9 @@ use Rattle.std.proofs.Common.{◌++◌, ◌∙◌, Some, refl, ap, sym, map, sli
 use Rattle.std.proofs.lemmas.Bool.{cases_eq, ne_eqb, lt-ltb}
 use Rattle.std.proofs.lemmas.List.{length-set, map-append}
 use Rattle.std.proofs.lemmas.Option.{same_Some, slice_get_within, slice_get_cases}
-use Rattle.pt_attr.specs.Machine.Job.{is_finished}
+use Rattle.pt_fs.specs.Running.{is_finished}
 use Rattle.pt_fs.specs.declared.trace.TraceStep.{TraceStep}
-use Rattle.pt_fs.specs.declared.running.Running.{Running}
+use Rattle.pt_fs.specs.Running.{Running}
 use Rattle.pt_fs.specs.Order.{lowered, rest_of, order, owner, count_of, with_left, MayBeLeft, Owns}
 use Rattle.pt_fs.specs.Took.{IsFinishedAt}
 use Rattle.pt_fs.proofs.Places.{get-set_other}

@@ -32,7 +32,7 @@ use Rattle.pt_fs.specs.Trace.{TraceRuns, RunsJobs, SeatsBack, seated, AnswersEac
 use Rattle.pt_fs.specs.Went.{run_seat}
 use Rattle.pt_fs.specs.Work.{work}
 use Rattle.pt_fs.specs.declared.job.Job.{Job}
-use Rattle.pt_fs.specs.declared.running.Running.{Running}
+use Rattle.pt_fs.specs.Running.{Running}
 use Rattle.pt_fs.specs.declared.trace.TraceStep.{TraceStep}
 use Rattle.pt_fs.proofs.Ended.{started_seats, started_length, one_for_each, EachRan, each_ran, ran_at, ran_past}
 use Rattle.pt_fs.proofs.Ended.{CapsFit, ran_end, each_at, groups_at, finish_plain, answered_by, answered_at}

@@ -8,7 +8,7 @@ use Rattle.pt_host.specs.declared.seat.HostSeat.{HostSeat}
 use Rattle.pt_session.specs.Pending.{pending_in}
 use Rattle.pt_session.specs.Tables.{Tables}
 use Rattle.pt_frame.specs.Deed.{Deed, Changes, Calls}
-use Rattle.pt_attr.specs.Machine.Job.{steps_bound, inserts_left}
+use Rattle.pt_fs.specs.Running.{steps_bound, inserts_left}
 use Rattle.pt_host.specs.Relation.{HostRelation}
 use Rattle.pt_frame.specs.Made.{Made}
 use Rattle.pt_frame.specs.declared.act.ActReply.{ActReply}
@@ -19,7 +19,7 @@ use Rattle.pt_fs.specs.Each.{EachStarted}
 use Rattle.pt_fs.specs.Trace.{MadeFrom, told_by, room_of}
 use Rattle.pt_fs.specs.Work.{work, bounds_in}
 use Rattle.pt_fs.specs.declared.job.Job.{Job}
-use Rattle.pt_fs.specs.declared.running.Running.{Running}
+use Rattle.pt_fs.specs.Running.{Running}
 use Rattle.pt_fs.proofs.Pending.{event_puts}
 use Rattle.pt_fs.proofs.Traces.{made_from}
 

@@ -3,14 +3,14 @@ use Rattle.std.specs.Prelude.{◌≡◌, ◌≤◌, ◌<◌, ◌^◌, List, [], 
 use Rattle.pt_iface.specs.declared.answer.Answer.{Answer}
 use Rattle.pt_iface.specs.declared.answer.Answer.TheVariants as answer
 use Rattle.pt_frame.specs.Grammar.{End}
-use Rattle.pt_attr.specs.Machine.Job.{owes, steps_bound, inserts_left, lost_of}
+use Rattle.pt_fs.specs.Running.{owes, steps_bound, inserts_left, lost_of}
 use Rattle.pt_attr.specs.Pattern.{bound_for, most_inserted}
 use Rattle.pt_frame.specs.declared.finish.Finish.{Finish}
 use Rattle.pt_frame.specs.declared.finish.Finish.TheVariants as finish
 use Rattle.pt_req.specs.declared.plan.Plan.{Plan}
 use Rattle.pt_fs.specs.Jobs.{job_seat, job_start, job_grammar, asked_of}
 use Rattle.pt_fs.specs.declared.job.Job.{Job}
-use Rattle.pt_fs.specs.declared.running.Running.{Running}
+use Rattle.pt_fs.specs.Running.{Running}
 
 -- the job has its seat, if any, and from that seat, whose capabilities are 32 bits, owes all of what it asks
 pub record IsStarted (plan : Plan) (job : Job) (run : Running) : Type 0 where

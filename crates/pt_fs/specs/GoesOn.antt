@@ -8,7 +8,7 @@ use Rattle.pt_fs.specs.Went.{Went, run_seat}
 use Rattle.pt_fs.specs.Trace.{TraceRuns, steps_by}
 use Rattle.pt_fs.specs.Work.{work}
 use Rattle.pt_fs.specs.declared.trace.TraceStep.{TraceStep}
-use Rattle.pt_fs.specs.declared.running.Running.{Running}
+use Rattle.pt_fs.specs.Running.{Running}
 
 -- each job went on by its own steps of the list
 abbrev pub EachWent : Plan → List Running → List TraceStep → List Running → Type 0

@@ -2,8 +2,10 @@
 pub mod FileSystem
 pub mod Jobs
 pub mod Trace
+pub mod Running
 pub mod Order
 pub mod Advances
+pub mod Laid
 pub mod Went
 pub mod Work
 pub mod Took

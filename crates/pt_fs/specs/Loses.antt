@@ -8,14 +8,14 @@ use Rattle.pt_frame.specs.Frame.{cut}
 use Rattle.pt_frame.specs.Grammar.{owed_by, restores, IsDo, IsSettled}
 use Rattle.pt_frame.specs.Past.{Past, KeepsGroups}
 use Rattle.pt_frame.specs.Tended.{Tended}
-use Rattle.pt_attr.specs.Machine.Job.{owes, is_finished, lost_of, steps_bound}
+use Rattle.pt_fs.specs.Running.{owes, is_finished, lost_of, steps_bound}
 use Rattle.pt_req.specs.declared.plan.Plan.{Plan}
 use Rattle.pt_fs.specs.Ends.{RestoresOnly}
 use Rattle.pt_fs.specs.GoesOn.{GoesOn}
 use Rattle.pt_fs.specs.Order.{rest_of}
 use Rattle.pt_fs.specs.Took.{Took, NoneLost}
 use Rattle.pt_fs.specs.Work.{bounds_in}
-use Rattle.pt_fs.specs.declared.running.Running.{Running}
+use Rattle.pt_fs.specs.Running.{Running}
 use Rattle.pt_fs.specs.declared.trace.TraceStep.{TraceStep}
 
 -- the trace went on, and its last step lost that job's seat so

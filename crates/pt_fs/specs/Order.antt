@@ -1,9 +1,9 @@
 -- Believed. Whom the steps of a trace belong to.
 use Rattle.std.specs.Prelude.{◌≡◌, ℕ, zero, suc, ◌+◌, ◌-◌, ◌<◌, ◌≤◌, ◌==◌, nat_lt, true, false, List, [], ◌∷◌, ◌++◌}
 use Rattle.std.specs.Prelude.{Some, length, map, replicate, slice_get, if◌then◌else◌}
-use Rattle.pt_attr.specs.Machine.Job.{is_finished}
+use Rattle.pt_fs.specs.Running.{is_finished}
 use Rattle.pt_fs.specs.declared.trace.TraceStep.{TraceStep}
-use Rattle.pt_fs.specs.declared.running.Running.{Running}
+use Rattle.pt_fs.specs.Running.{Running}
 
 -- one step of a job fewer
 abbrev pub lowered : (ℕ → ℕ) → ℕ → ℕ → ℕ

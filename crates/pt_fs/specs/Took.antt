@@ -6,14 +6,14 @@ use Rattle.pt_frame.specs.Deed.{kept_deed_of}
 use Rattle.pt_host.specs.declared.ids.Errno.{Errno}
 use Rattle.pt_frame.specs.Grammar.{is_end, restores}
 use Rattle.pt_frame.specs.Past.{lost_after}
-use Rattle.pt_attr.specs.Machine.Job.{owes, steps_left, steps_bound, is_finished, lost_of}
+use Rattle.pt_fs.specs.Running.{owes, steps_left, steps_bound, is_finished, lost_of}
 use Rattle.pt_host.specs.Relation.{HostRelation}
 use Rattle.pt_req.specs.declared.plan.Plan.{Plan}
 use Rattle.pt_fs.specs.Advances.{Advances}
 use Rattle.pt_fs.specs.Trace.{MadeFrom, told_by}
 use Rattle.pt_fs.specs.Work.{work}
 use Rattle.pt_fs.specs.declared.trace.TraceStep.{TraceStep}
-use Rattle.pt_fs.specs.declared.running.Running.{Running}
+use Rattle.pt_fs.specs.Running.{Running}
 
 -- the job of this number has a step to take
 abbrev pub IsUnfinished : Plan → List Running → ℕ → Type 0

@@ -5,11 +5,11 @@ use Rattle.pt_host.specs.declared.seat.HostSeat.{HostSeat}
 use Rattle.pt_frame.specs.Deed.{Step}
 use Rattle.pt_frame.specs.Grammar.{Grammar, restores}
 use Rattle.pt_frame.specs.Past.{lost_after}
-use Rattle.pt_attr.specs.Machine.Job.{owes, steps_bound, lost_of}
+use Rattle.pt_fs.specs.Running.{owes, steps_bound, lost_of}
 use Rattle.pt_req.specs.declared.plan.Plan.{Plan}
 use Rattle.pt_fs.specs.Advances.{Advances}
 use Rattle.pt_fs.specs.Trace.{closings_told}
-use Rattle.pt_fs.specs.declared.running.Running.{Running}
+use Rattle.pt_fs.specs.Running.{Running}
 
 -- these steps lead from what is to be done, and what was lost before them, to these
 abbrev pub StepsLead : List Step → Grammar → Option Errno → Grammar → Option Errno → Type 0

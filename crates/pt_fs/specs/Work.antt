@@ -2,8 +2,8 @@
 use Rattle.std.specs.Prelude.{ℕ, ◌+◌, ◌*◌, List, [], ◌∷◌}
 use Rattle.pt_session.specs.Pending.{pending_in}
 use Rattle.pt_session.specs.Tables.{Tables}
-use Rattle.pt_attr.specs.Machine.Job.{steps_bound, inserts_left}
-use Rattle.pt_fs.specs.declared.running.Running.{Running}
+use Rattle.pt_fs.specs.Running.{steps_bound, inserts_left}
+use Rattle.pt_fs.specs.Running.{Running}
 
 -- the steps of each job, and three for the closing of each row that it may still insert
 abbrev pub bounds_in : List Running → ℕ

@@ -5,11 +5,12 @@
 mod ends;
 mod fs;
 mod job;
+mod jobs;
 mod lost;
+mod machine;
 mod passthrough;
 mod room;
 mod run;
-mod running;
 mod schedule;
 mod step;
 mod trace;

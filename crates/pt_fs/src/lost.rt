@@ -1,7 +1,7 @@
 //! What follows a lost seat.
 
-ghost use Rattle.std.specs.Prelude.{vec_capacity, ◌≡◌, ◌+◌, ◌<◌, ◌≤◌, ◌^◌, ℕ, suc, length};
-ghost use Rattle.pt_attr.specs.Machine.Job.{steps_bound, inserts_left};
+ghost use Rattle.std.specs.Prelude.{vec_capacity, ◌≡◌, ◌+◌, ◌<◌, ◌≤◌, ◌^◌, ℕ, Some, suc, length, slice_get, slice_set};
+ghost use Rattle.pt_fs.specs.Running.{Running, steps_bound, inserts_left};
 ghost use Rattle.pt_fs.specs.GoesOn.{GoesOn};
 ghost use Rattle.pt_fs.specs.Loses.{Restored, IsOver, IsCutFrom, CutAll, WindsUp};
 ghost use Rattle.pt_fs.specs.Order.{rest_of};
@@ -9,8 +9,7 @@ ghost use Rattle.pt_fs.specs.Took.{IsFinishedAt};
 ghost use Rattle.pt_fs.specs.Work.{work, bounds_in};
 
 use crate::fs::SteppedFs;
-use crate::running::Running;
-use crate::step::take_step;
+use crate::jobs::{Jobs, take_step};
 use crate::trace::TraceStep;
 use pt_host::Host;
 use std::alloc::Global;
@@ -20,7 +19,7 @@ fn restore_rest<H: Host, F: SteppedFs>(
     alloc: Global,
     host: &mut H,
     fs: &mut F,
-    running: &mut [Running],
+    running: &mut Jobs,
     trace: &mut Vec<TraceStep>,
     job: u32,
 )
@@ -34,34 +33,35 @@ fn restore_rest<H: Host, F: SteppedFs>(
     ensures capacity { vec_capacity trace.old ≤ vec_capacity trace.new }
     ensures room { length trace.new.items + work running.new (F.tables fs.new) < vec_capacity trace.new }
 {
-    while running[job as usize].state.restoring() {
+    while running.restoring(job as usize) {
         let _lost = take_step(alloc, host, fs, running, trace, job);
     }
 }
 
-/// Cuts a job that has not finished, unless it is the one that lost its seat.
-fn cut_one(run: &mut Running, place: usize, job: u32)
-    ensures cut { IsCutFrom job place run.old run.new }
-    ensures bound { steps_bound run.new.state ≤ steps_bound run.old.state }
-    ensures inserts { inserts_left run.new.state ≤ inserts_left run.old.state }
+/// Cuts the job of this number, unless it has finished or is the one that lost its seat.
+fn cut_one(running: &mut Jobs, place: usize, job: u32)
+    requires named { place < length running.old }
+    ensures cut { (run : Running) → slice_get running.old place ≡ Some run →
+        (run' : Running) × (running.new ≡ slice_set running.old place run') × IsCutFrom job place run run'
+        × (steps_bound run'.state ≤ steps_bound run.state) × (inserts_left run'.state ≤ inserts_left run.state) }
 {
     if place == job as usize {
         return;
     }
-    if run.state.is_finished() {
+    if running.is_finished(place) {
         return;
     }
-    run.state.cut();
+    running.cut(place);
 }
 
 /// Cuts each unfinished job but the one that lost its seat, which gives all back by itself.
-fn cut_all(running: &mut [Running], job: u32)
+fn cut_all(running: &mut Jobs, job: u32)
     ensures cut { CutAll job running.old running.new }
     ensures same { length running.new ≡ length running.old }
     ensures bounds { bounds_in running.new ≤ bounds_in running.old }
 {
     for place in 0..running.len() {
-        cut_one(&mut running[place], place, job);
+        cut_one(running, place, job);
     }
 }
 
@@ -70,7 +70,7 @@ fn end_one<H: Host, F: SteppedFs>(
     alloc: Global,
     host: &mut H,
     fs: &mut F,
-    running: &mut [Running],
+    running: &mut Jobs,
     trace: &mut Vec<TraceStep>,
     place: u32,
 )
@@ -87,7 +87,7 @@ fn end_one<H: Host, F: SteppedFs>(
     ensures others { (j : ℕ) → IsFinishedAt running.old j → IsFinishedAt running.new j }
     ensures room { length trace.new.items + work running.new (F.tables fs.new) < vec_capacity trace.new }
 {
-    while !running[place as usize].state.is_finished() {
+    while !running.is_finished(place as usize) {
         let _lost = take_step(alloc, host, fs, running, trace, place);
     }
 }
@@ -97,7 +97,7 @@ fn end_all<H: Host, F: SteppedFs>(
     alloc: Global,
     host: &mut H,
     fs: &mut F,
-    running: &mut [Running],
+    running: &mut Jobs,
     trace: &mut Vec<TraceStep>,
 )
     requires named { length running.old < 2 ^ 32 }
@@ -117,11 +117,11 @@ fn end_all<H: Host, F: SteppedFs>(
 }
 
 /// The job's other restoring steps, then the cut, and then all is given back.
-fn wind_up<H: Host, F: SteppedFs>(
+pub fn wind_up<H: Host, F: SteppedFs>(
     alloc: Global,
     host: &mut H,
     fs: &mut F,
-    running: &mut [Running],
+    running: &mut Jobs,
     trace: &mut Vec<TraceStep>,
     job: u32,
 )
@@ -134,31 +134,9 @@ fn wind_up<H: Host, F: SteppedFs>(
     ensures root { F.root fs.new ≡ F.root fs.old }
     ensures capacity { vec_capacity trace.old ≤ vec_capacity trace.new }
     ensures finished { (j : ℕ) → IsFinishedAt running.new j }
+    ensures same { length running.new ≡ length running.old }
 {
     restore_rest(alloc, host, fs, running, trace, job);
     cut_all(running, job);
     end_all(alloc, host, fs, running, trace);
-}
-
-/// The same over a vector of jobs.
-pub fn wind_up_all<H: Host, F: SteppedFs>(
-    alloc: Global,
-    host: &mut H,
-    fs: &mut F,
-    running: &mut Vec<Running>,
-    trace: &mut Vec<TraceStep>,
-    job: u32,
-)
-    requires few { length running.old.items < 2 ^ 32 }
-    requires named { job < length running.old.items }
-    requires room { length trace.old.items + work running.old.items (F.tables fs.old) < vec_capacity trace.old }
-    ensures winds_up { WindsUp H.does (F.plan_of fs.old) job host.old running.old.items (F.tables fs.old)
-        trace.old.items host.new running.new.items (F.tables fs.new) trace.new.items }
-    ensures plan { F.plan_of fs.new ≡ F.plan_of fs.old }
-    ensures root { F.root fs.new ≡ F.root fs.old }
-    ensures capacity { vec_capacity trace.old ≤ vec_capacity trace.new }
-    ensures finished { (j : ℕ) → IsFinishedAt running.new.items j }
-    ensures same { length running.new.items ≡ length running.old.items }
-{
-    wind_up(alloc, host, fs, running.as_mut_slice(), trace, job);
 }

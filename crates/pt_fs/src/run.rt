@@ -7,14 +7,14 @@ ghost use Rattle.pt_fs.specs.Run.{IsRun};
 ghost use Rattle.pt_fs.specs.Took.{IsFinishedAt};
 ghost use Rattle.pt_fs.specs.Trace.{seated, room_of as room};
 ghost use Rattle.pt_fs.specs.Went.{run_seat};
+ghost use Rattle.pt_req.specs.declared.plan.Plan.{Plan};
 
-use crate::ends::{finish_jobs, start_all};
 use crate::fs::SteppedFs;
 use crate::job::Job;
-use crate::lost::wind_up_all;
+use crate::jobs::Jobs;
+use crate::lost::wind_up;
 use crate::room::{room_of, with_room};
-use crate::running::Running;
-use crate::schedule::run_all;
+use crate::schedule::run_jobs;
 use crate::trace::TraceStep;
 use pt_host::{Errno, Host, HostSeat};
 use pt_iface::Answer;
@@ -80,11 +80,11 @@ pub fn drive<H: Host, F: SteppedFs>(
     ensures nothing_done { OnMemory result (λ back. host.new ≡ host.old) }
     ensures handed_back { OnMemory result (λ back. back ≡ fs) }
 {
-    let (mut running, mut room) = match start_in_room(alloc, &fs, jobs) {
+    let (mut running, mut room) = match start_in_room(alloc, jobs) {
         Ok(started) => started,
         Err(_) => return Err(DriveError::Memory(fs)),
     };
-    match run_all(
+    match run_jobs(
         alloc,
         host,
         &mut fs,
@@ -94,7 +94,7 @@ pub fn drive<H: Host, F: SteppedFs>(
     ) {
         None => Ok(finish_run(fs, running, room)),
         Some(loss) => {
-            wind_up_all(
+            wind_up(
                 alloc,
                 host,
                 &mut fs,
@@ -109,18 +109,18 @@ pub fn drive<H: Host, F: SteppedFs>(
 }
 
 /// What is left where each job has finished.
-fn finish_run<F>(fs: F, running: Vec<Running>, mut room: Room) -> Driven<F>
-    requires finished { (j : ℕ) → IsFinishedAt running.items j }
+fn finish_run<F>(fs: F, running: Jobs, mut room: Room) -> Driven<F>
+    requires finished { (j : ℕ) → IsFinishedAt running j }
     requires no_answers { room.answers.items ≡ [] }
     requires no_seats { room.seats.items ≡ [] }
-    requires room_answers { length running.items ≤ vec_capacity room.answers }
-    requires room_seats { length running.items ≤ vec_capacity room.seats }
+    requires room_answers { length running ≤ vec_capacity room.answers }
+    requires room_seats { length running ≤ vec_capacity room.seats }
     ensures fs { result.fs ≡ fs }
     ensures trace { result.trace ≡ room.trace }
-    ensures answers { EachAnswered running.items result.answers.items }
-    ensures seats { result.seats.items ≡ seated (map run_seat running.items) }
+    ensures answers { EachAnswered running result.answers.items }
+    ensures seats { result.seats.items ≡ seated (map run_seat running) }
 {
-    finish_jobs(running, &mut room.answers, &mut room.seats);
+    running.finish(&mut room.answers, &mut room.seats);
     Driven {
         fs,
         answers: room.answers,
@@ -137,24 +137,20 @@ struct Room {
     seats: Vec<HostSeat>,
 }
 
-/// Starts the jobs, and has the room for their answers, their seats and their steps, and for one step more, since a
-/// step is taken where it is to lie.
-fn start_in_room<F: SteppedFs>(
-    alloc: Global,
-    fs: &F,
-    jobs: Vec<Job>,
-) -> Result<(Vec<Running>, Room), AllocError>
+/// The jobs, none of which has made a step, and the room for their answers, their seats and their steps, and for one
+/// step more, since a step is taken where it is to lie.
+fn start_in_room(alloc: Global, jobs: Vec<Job>) -> Result<(Jobs, Room), AllocError>
     requires { length jobs.items < 2 ^ 32 }
-    ensures started { IfOk result (λ r. EachStarted (F.plan_of fs.now) jobs.items r.0.items) }
+    ensures started { IfOk result (λ r. (plan : Plan) → EachStarted plan jobs.items r.0) }
     ensures trace { IfOk result (λ r. r.1.trace.items ≡ []) }
     ensures answers { IfOk result (λ r. r.1.answers.items ≡ []) }
     ensures seats { IfOk result (λ r. r.1.seats.items ≡ []) }
     ensures trace_room { IfOk result (λ r. room jobs.items < vec_capacity r.1.trace) }
-    ensures answers_room { IfOk result (λ r. length r.0.items ≤ vec_capacity r.1.answers) }
-    ensures seats_room { IfOk result (λ r. length r.0.items ≤ vec_capacity r.1.seats) }
+    ensures answers_room { IfOk result (λ r. length r.0 ≤ vec_capacity r.1.answers) }
+    ensures seats_room { IfOk result (λ r. length r.0 ≤ vec_capacity r.1.seats) }
 {
     let trace = with_room(alloc, room_of(&jobs) + 1)?;
-    let running = start_all(alloc, fs, jobs)?;
+    let running = Jobs::new(alloc, jobs)?;
     let answers = with_room(alloc, running.len())?;
     let seats = with_room(alloc, running.len())?;
     Ok((

@@ -7,8 +7,7 @@ ghost use Rattle.pt_fs.specs.Took.{Took, IsFinishedAt, NoneLost, TookOrStays};
 ghost use Rattle.pt_fs.specs.Work.{work};
 
 use crate::fs::SteppedFs;
-use crate::running::Running;
-use crate::step::take_step;
+use crate::jobs::{Jobs, take_step};
 use crate::trace::TraceStep;
 use pt_host::{Errno, Host};
 use std::alloc::Global;
@@ -26,7 +25,7 @@ fn take_if_unfinished<H: Host, F: SteppedFs>(
     alloc: Global,
     host: &mut H,
     fs: &mut F,
-    running: &mut [Running],
+    running: &mut Jobs,
     trace: &mut Vec<TraceStep>,
     place: u32,
 ) -> Option<Errno>
@@ -43,7 +42,7 @@ fn take_if_unfinished<H: Host, F: SteppedFs>(
     if place as usize >= running.len() {
         return None;
     }
-    if running[place as usize].state.is_finished() {
+    if running.is_finished(place as usize) {
         return None;
     }
     take_step(alloc, host, fs, running, trace, place)
@@ -54,7 +53,7 @@ pub fn run_schedule<H: Host, F: SteppedFs>(
     alloc: Global,
     host: &mut H,
     fs: &mut F,
-    running: &mut [Running],
+    running: &mut Jobs,
     trace: &mut Vec<TraceStep>,
     schedule: &[u32],
 ) -> Option<Loss>
@@ -85,7 +84,7 @@ fn finish_one<H: Host, F: SteppedFs>(
     alloc: Global,
     host: &mut H,
     fs: &mut F,
-    running: &mut [Running],
+    running: &mut Jobs,
     trace: &mut Vec<TraceStep>,
     place: u32,
 ) -> Option<Errno>
@@ -107,7 +106,7 @@ fn finish_one<H: Host, F: SteppedFs>(
     ensures capacity { vec_capacity trace.old ≤ vec_capacity trace.new }
     ensures room { length trace.new.items + work running.new (F.tables fs.new) < vec_capacity trace.new }
 {
-    while !running[place as usize].state.is_finished() {
+    while !running.is_finished(place as usize) {
         if let Some(errno) = take_step(alloc, host, fs, running, trace, place) {
             return Some(errno);
         }
@@ -120,7 +119,7 @@ pub fn finish_all<H: Host, F: SteppedFs>(
     alloc: Global,
     host: &mut H,
     fs: &mut F,
-    running: &mut [Running],
+    running: &mut Jobs,
     trace: &mut Vec<TraceStep>,
 ) -> Option<Loss>
     requires named { length running.old < 2 ^ 32 }
@@ -150,11 +149,11 @@ pub fn finish_all<H: Host, F: SteppedFs>(
 
 /// The jobs take their steps in the order of the schedule, and then all that are left, job by job, as long as no seat
 /// is lost.
-fn run_jobs<H: Host, F: SteppedFs>(
+pub fn run_jobs<H: Host, F: SteppedFs>(
     alloc: Global,
     host: &mut H,
     fs: &mut F,
-    running: &mut [Running],
+    running: &mut Jobs,
     trace: &mut Vec<TraceStep>,
     schedule: &[u32],
 ) -> Option<Loss>
@@ -178,33 +177,4 @@ fn run_jobs<H: Host, F: SteppedFs>(
         return Some(loss);
     }
     finish_all(alloc, host, fs, running, trace)
-}
-
-/// The same over a vector of jobs.
-pub fn run_all<H: Host, F: SteppedFs>(
-    alloc: Global,
-    host: &mut H,
-    fs: &mut F,
-    running: &mut Vec<Running>,
-    trace: &mut Vec<TraceStep>,
-    schedule: &[u32],
-) -> Option<Loss>
-    requires named { length running.old.items < 2 ^ 32 }
-    requires room { length trace.old.items + work running.old.items (F.tables fs.old) < vec_capacity trace.old }
-    requires calm { NoneLost running.old.items }
-    ensures goes { IfNone result (GoesOn H.does (F.plan_of fs.old)
-        (order schedule.now (length running.old.items)) host.old running.old.items (F.tables fs.old) trace.old.items
-        (rest_of 0 (length running.old.items)) host.new running.new.items (F.tables fs.new) trace.new.items) }
-    ensures finished { IfNone result ((j : ℕ) → IsFinishedAt running.new.items j) }
-    ensures calm { IfNone result (NoneLost running.new.items) }
-    ensures lost { IfSome result (λ loss. LostAt H.does (F.plan_of fs.old)
-        (order schedule.now (length running.old.items)) host.old running.old.items (F.tables fs.old)
-        trace.old.items host.new running.new.items (F.tables fs.new) trace.new.items loss.job loss.errno) }
-    ensures plan { F.plan_of fs.new ≡ F.plan_of fs.old }
-    ensures root { F.root fs.new ≡ F.root fs.old }
-    ensures capacity { vec_capacity trace.old ≤ vec_capacity trace.new }
-    ensures room { length trace.new.items + work running.new.items (F.tables fs.new) < vec_capacity trace.new }
-    ensures same { length running.new.items ≡ length running.old.items }
-{
-    run_jobs(alloc, host, fs, running.as_mut_slice(), trace, schedule)
 }

@@ -1,17 +1,14 @@
-ghost use Rattle.std.specs.Prelude.{◌+◌, ◌*◌, ◌≤◌, vec_capacity, ◌≡◌, ◌<◌, true, false, Some, None, length, OnOk, OnErr};
+ghost use Rattle.std.specs.Prelude.{◌+◌, ◌*◌, ◌≤◌, ◌≡◌, ◌<◌, true, false, Some, None, OnOk, OnErr};
 ghost use Rattle.pt_frame.specs.Deed.{deed_of, kept_deed_of, MayFailToCopy, HoldsReplyBytes};
 ghost use Rattle.pt_frame.specs.Grammar.{is_end, restores};
 ghost use Rattle.pt_frame.specs.Past.{lost_after};
 ghost use Rattle.pt_attr.specs.Machine.Job.{owes, steps_left, steps_bound, inserts_left, is_finished, lost_of};
 ghost use Rattle.pt_frame.specs.Made.{Made};
 ghost use Rattle.pt_fs.specs.Advances.{Advances, IsWanted, IsShown, inserted_in};
-ghost use Rattle.pt_fs.specs.Took.{Took, IsUnfinished};
 ghost use Rattle.pt_fs.specs.Trace.{MadeFrom, told_by};
-ghost use Rattle.pt_fs.specs.Work.{work};
 
 use crate::fs::SteppedFs;
-use crate::room::push_within;
-use crate::running::{Running, no_seat};
+use crate::machine::{Machine, no_seat};
 use crate::trace::TraceStep;
 use pt_frame::{Act, ActReply, KeptAct, Want};
 use pt_host::{Errno, Host, HostSeat};
@@ -36,11 +33,11 @@ fn keep_in(alloc: Global, act: &Act<'_>, place: &mut KeptAct) -> Result<(), Allo
 }
 
 /// Writes what the job is to do next, or word that its bytes could not be copied.
-fn want_in<F: SteppedFs>(alloc: Global, fs: &F, running: &Running, place: &mut KeptAct)
-    requires { is_end (owes (F.plan_of fs.now) running.now.start running.now.state) ≡ false }
-    ensures { IsWanted (owes (F.plan_of fs.now) running.now.start running.now.state) (kept_deed_of place.new) }
+fn want_in<F: SteppedFs>(alloc: Global, fs: &F, machine: &Machine, place: &mut KeptAct)
+    requires { is_end (owes (F.plan_of fs.now) machine.now.start machine.now.state) ≡ false }
+    ensures { IsWanted (owes (F.plan_of fs.now) machine.now.start machine.now.state) (kept_deed_of place.new) }
 {
-    match running.state.want(fs.plan(), &running.start) {
+    match machine.state.want(fs.plan(), &machine.start) {
         Want::Finished => *place = KeptAct::NoCopy,
         Want::Step(act) => match keep_in(alloc, &act, place) {
             Ok(()) => {}
@@ -122,80 +119,46 @@ fn tell_in(alloc: Global, reply: &mut ActReply, told: &mut ActReply)
 }
 
 /// What the job's last step lost of its seat, which a restoring step alone can.
-fn lost_by(restored: bool, running: &Running) -> Option<Errno>
+fn lost_by(restored: bool, machine: &Machine) -> Option<Errno>
     ensures unmarked { restored ≡ false → result ≡ None }
-    ensures marked { restored ≡ true → result ≡ lost_of running.now.state }
+    ensures marked { restored ≡ true → result ≡ lost_of machine.now.state }
 {
-    if restored { running.state.lost() } else { None }
+    if restored { machine.state.lost() } else { None }
 }
 
 /// Takes the next step of a job, writes it where it is to lie, and tells what it lost of the job's seat.
-fn advance<H: Host, F: SteppedFs>(
+pub fn advance<H: Host, F: SteppedFs>(
     alloc: Global,
     host: &mut H,
     fs: &mut F,
-    running: &mut Running,
+    machine: &mut Machine,
     step: &mut TraceStep,
 ) -> Option<Errno>
-    requires unfinished { is_finished running.old.state ≡ false }
-    requires going { is_end (owes (F.plan_of fs.old) running.old.start running.old.state) ≡ false }
+    requires unfinished { is_finished machine.old.state ≡ false }
+    requires going { is_end (owes (F.plan_of fs.old) machine.old.start machine.old.state) ≡ false }
     ensures owner { step.new.job ≡ step.old.job }
-    ensures start { running.new.start ≡ running.old.start }
-    ensures made { MadeFrom H.does (kept_deed_of step.new.act) step.new.reply host.old running.old.seat
-        (F.tables fs.old) host.new running.new.seat (F.tables fs.new) }
+    ensures place { machine.new.place ≡ machine.old.place }
+    ensures start { machine.new.start ≡ machine.old.start }
+    ensures made { MadeFrom H.does (kept_deed_of step.new.act) step.new.reply host.old machine.old.seat
+        (F.tables fs.old) host.new machine.new.seat (F.tables fs.new) }
     ensures plan { F.plan_of fs.new ≡ F.plan_of fs.old }
     ensures root { F.root fs.new ≡ F.root fs.old }
-    ensures advances { Advances (owes (F.plan_of fs.old) running.old.start running.old.state)
-        (kept_deed_of step.new.act) step.new.reply (owes (F.plan_of fs.old) running.old.start running.new.state) }
-    ensures loses { lost_of running.new.state ≡ lost_after (lost_of running.old.state)
-        (restores (owes (F.plan_of fs.old) running.old.start running.old.state)) step.new.reply }
-    ensures told { lost_of running.old.state ≡ None → lost_of running.new.state ≡ result }
-    ensures fewer { steps_left running.new.state < steps_left running.old.state }
-    ensures within { steps_bound running.new.state + 1
-        ≤ steps_bound running.old.state + 3 * told_by (kept_deed_of step.new.act) step.new.reply }
-    ensures inserts { inserts_left running.new.state + inserted_in (kept_deed_of step.new.act) step.new.reply
-        ≤ inserts_left running.old.state }
+    ensures advances { Advances (owes (F.plan_of fs.old) machine.old.start machine.old.state)
+        (kept_deed_of step.new.act) step.new.reply (owes (F.plan_of fs.old) machine.old.start machine.new.state) }
+    ensures loses { lost_of machine.new.state ≡ lost_after (lost_of machine.old.state)
+        (restores (owes (F.plan_of fs.old) machine.old.start machine.old.state)) step.new.reply }
+    ensures told { lost_of machine.old.state ≡ None → lost_of machine.new.state ≡ result }
+    ensures fewer { steps_left machine.new.state < steps_left machine.old.state }
+    ensures within { steps_bound machine.new.state + 1
+        ≤ steps_bound machine.old.state + 3 * told_by (kept_deed_of step.new.act) step.new.reply }
+    ensures inserts { inserts_left machine.new.state + inserted_in (kept_deed_of step.new.act) step.new.reply
+        ≤ inserts_left machine.old.state }
 {
-    want_in(alloc, fs, running, &mut step.act);
-    make_from(host, fs, &mut running.seat, &step.act, &mut step.reply);
+    want_in(alloc, fs, machine, &mut step.act);
+    make_from(host, fs, &mut machine.seat, &step.act, &mut step.reply);
     let mut told = ActReply::NoCopy;
     tell_in(alloc, &mut step.reply, &mut told);
-    let restored = running.state.restoring();
-    running.state.take(fs.plan(), told, &running.start);
-    lost_by(restored, running)
-}
-
-/// Takes the next step of the job of this number, writes it down, and tells what it lost of the job's seat.
-pub fn take_step<H: Host, F: SteppedFs>(
-    alloc: Global,
-    host: &mut H,
-    fs: &mut F,
-    running: &mut [Running],
-    trace: &mut Vec<TraceStep>,
-    place: u32,
-) -> Option<Errno>
-    requires named { place < length running.old }
-    requires unfinished { IsUnfinished (F.plan_of fs.old) running.old place }
-    requires room { length trace.old.items + work running.old (F.tables fs.old) < vec_capacity trace.old }
-    ensures took { Took H.does (F.plan_of fs.old) place host.old running.old
-        (F.tables fs.old) trace.old.items host.new running.new (F.tables fs.new) trace.new.items result }
-    ensures plan { F.plan_of fs.new ≡ F.plan_of fs.old }
-    ensures root { F.root fs.new ≡ F.root fs.old }
-    ensures capacity { vec_capacity trace.old ≤ vec_capacity trace.new }
-    ensures room { length trace.new.items + work running.new (F.tables fs.new) < vec_capacity trace.new }
-{
-    let last = trace.len();
-    let step = TraceStep {
-        job: place,
-        act: KeptAct::NoCopy,
-        reply: ActReply::NoCopy,
-    };
-    push_within(trace, step);
-    advance(
-        alloc,
-        host,
-        fs,
-        &mut running[place as usize],
-        &mut trace[last],
-    )
+    let restored = machine.state.restoring();
+    machine.state.take(fs.plan(), told, &machine.start);
+    lost_by(restored, machine)
 }

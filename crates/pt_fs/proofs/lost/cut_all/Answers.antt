@@ -1,7 +1,7 @@
-use Rattle.std.proofs.Common.{◌∙◌, get_or, refl, arith}
+use Rattle.std.proofs.Common.{◌<◌, ◌∙◌, refl, ap, length, arith}
 use Rattle.std.proofs.lemmas.List.{length-set}
-use Rattle.std.proofs.lemmas.Option.{slice_get-get_or}
 use Rattle.pt_fs.proofs.Losing.{cut_none, cut_more, cut_whole}
+use Rattle.pt_fs.proofs.Places.{got}
 use Rattle.pt_fs.proofs.Works.{bounds-set}
 use Rattle.pt_fs.proofs.lost.cut_all.Goals as goal
 
@@ -12,21 +12,14 @@ pub loop-place-preserved : goal.loop-place-preserved
 loop-place-preserved c =
     let running = c.loop-place.running in
     let place = c.loop-place.place in
-    let run = get_or running place c.index-running-place.result in
-    let there = slice_get-get_or running place c.index-running-place.result
-    (omega (arith, c.loop-place-test.true, c.loop-place.invariant.same)) in
-    let sums = bounds-set running place run c.cut_one.new.run there in
+    let inside : place < length running = omega (arith, c.loop-place-test.true, c.loop-place.invariant.same) in
+    let run = got running place inside in
+    let cut = c.cut_one.ensures.cut run.0 run.1 in
+    let sums = bounds-set running place run.0 cut.0 run.1 in
     record {
-      cut = cut_more place c.args.job _ running run c.cut_one.new.run c.loop-place.invariant.cut there
-          c.cut_one.ensures.cut;
-      same = length-set running place c.cut_one.new.run ∙ c.loop-place.invariant.same;
-      bounds = omega (
-        arith,
-        sums,
-        c.cut_one.ensures.bound,
-        c.cut_one.ensures.inserts,
-        c.loop-place.invariant.bounds,
-      );
+      cut = rw cut.1 (cut_more place c.args.job _ running run.0 cut.0 c.loop-place.invariant.cut run.1 cut.2);
+      same = ap length cut.1 ∙ length-set running place cut.0 ∙ c.loop-place.invariant.same;
+      bounds = rw cut.1 (omega (arith, sums, cut.3, cut.4, c.loop-place.invariant.bounds));
     }
 
 pub returns-clause-cut : goal.returns-clause-cut

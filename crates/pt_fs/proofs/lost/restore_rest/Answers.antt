@@ -15,7 +15,7 @@ loop-alloc-init g c = record {
 
 pub take_step-lost-requires-clause-unfinished : goal.take_step-lost-requires-clause-unfinished
 take_step-lost-requires-clause-unfinished g c =
-    going_at c.loop-alloc.running c.args.job c.index-running-job.result _ _ c.loop-alloc-test.true
+    going_at c.loop-alloc.running c.args.job _ _ c.loop-alloc-test.true
     c.restoring.ensures.unfinished c.restoring.ensures.restores
 
 pub loop-alloc-smaller : goal.loop-alloc-smaller
@@ -30,12 +30,12 @@ loop-alloc-preserved g c = record {
       omega (arith, one, so_far);
   restored = restored_more _ _ _ _ _ _ _ _ _ _ _ _ _ _ _ _ _ c.loop-alloc.invariant.plan
       c.loop-alloc.invariant.restored c.take_step-lost.ensures.took (λ plan run at.
-      restores_at c.loop-alloc.running c.args.job c.index-running-job.result run plan _ at
+      restores_at c.loop-alloc.running c.args.job run plan _ at
       c.restoring.ensures.restores ∙ c.loop-alloc-test.true);
   inside = length_took c.take_step-lost.ensures.took c.loop-alloc.invariant.inside;
 }
 
 pub returns-clause-over : goal.returns-clause-over
 returns-clause-over g c =
-    over_at c.loop-alloc.running c.args.job c.index-running-job.result _ _ c.loop-alloc-test.false
+    over_at c.loop-alloc.running c.args.job _ _ c.loop-alloc-test.false
     c.restoring.ensures.restores c.restoring.ensures.settled

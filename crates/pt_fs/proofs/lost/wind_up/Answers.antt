@@ -1,3 +1,4 @@
+use Rattle.std.proofs.Common.{◌∙◌}
 use Rattle.pt_fs.proofs.lost.wind_up.Goals as goal
 
 pub returns-clause-winds_up : goal.returns-clause-winds_up
@@ -14,3 +15,7 @@ returns-clause-winds_up g c = record {
   bounds = c.cut_all.ensures.bounds;
   back = rw c.restore_rest.ensures.plan at c.end_all.ensures.goes;
 }
+
+pub returns-clause-same : goal.returns-clause-same
+returns-clause-same g c =
+    c.end_all.ensures.goes.same ∙ c.cut_all.ensures.same ∙ c.restore_rest.ensures.restored.goes.same

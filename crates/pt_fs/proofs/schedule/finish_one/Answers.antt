@@ -1,4 +1,4 @@
-use Rattle.std.proofs.Common.{suc, refl, ◌+◌, ◌∙◌, sym, arith}
+use Rattle.std.proofs.Common.{suc, refl, ◌+◌, ◌∙◌, arith}
 use Rattle.pt_fs.specs.Order.{rest_of}
 use Rattle.pt_fs.proofs.Going.{goes_none, goes_on, goes_first, goes_next, finished_took, fewer_took, length_took}
 use Rattle.pt_fs.proofs.Going.{calm_took}
@@ -21,8 +21,8 @@ loop-alloc-init g c =
 
 pub take_step-requires-clause-unfinished : goal.take_step-requires-clause-unfinished
 take_step-requires-clause-unfinished g c =
-    unfinished_at c.loop-alloc.running c.args.place c.index-running-place.result _ _ c.is_finished.ensures.result
-    c.is_finished.ensures.end c.loop-alloc-test.true
+    unfinished_at c.loop-alloc.running c.args.place _ _ c.is_finished.ensures.result c.is_finished.ensures.end
+    c.loop-alloc-test.true
 
 pub returns-in-Some-clause-lost : goal.returns-in-Some-clause-lost
 returns-in-Some-clause-lost g c =
@@ -53,11 +53,9 @@ returns-clause-goes g c =
     λ jobs. goes_on _ _ _ (rest_of (suc jobs) c.args.place) (rest_of (suc jobs) c.args.place)
     (rest_of jobs (c.args.place + 1)) _ _ _ _ _ _ _ _ _ _ _ _ c.loop-alloc.invariant.plan
     (c.loop-alloc.invariant.goes jobs)
-    (goes_next _ _ c.args.place jobs _ _ _ _ (λ run at.
-    finished_at c.loop-alloc.running c.args.place c.index-running-place.result run _ at
-    (sym c.is_finished.ensures.result ∙ c.loop-alloc-test.false)))
+    (goes_next _ _ c.args.place jobs _ _ _ _
+    (finished_at c.loop-alloc.running c.args.place _ c.is_finished.ensures.result c.loop-alloc-test.false))
 
 pub returns-clause-finished : goal.returns-clause-finished
 returns-clause-finished g c =
-    λ run at. finished_at c.loop-alloc.running c.args.place c.index-running-place.result run _ at
-    (sym c.is_finished.ensures.result ∙ c.loop-alloc-test.false)
+    finished_at c.loop-alloc.running c.args.place _ c.is_finished.ensures.result c.loop-alloc-test.false

@@ -13,22 +13,22 @@ pub returns-clause-advances : goal.returns-clause-advances
 returns-clause-advances g c =
     let made = c.make_from in
     let told = c.tell_in in
-    let start = c.args.running.now.start in
-    let was = c.args.running.now.state in
+    let start = c.args.machine.now.start in
+    let was = c.args.machine.now.state in
     let job = c.take.new.self in
     let goes = subst (λ (plan : Plan). IsChosen (after told.new.told (owes plan start was)) (owes plan start job))
     (c.plan.ensures ∙ made.ensures.plan) c.take.ensures.left in
     advanced g.H.Host.does g.H.Host.faults g.met.H.Host.promised
     (owes (g.F.SteppedFs.plan_of c.args.fs.now) start was) (owes (g.F.SteppedFs.plan_of c.args.fs.now) start job)
     (kept_deed_of c.want_in.new.place) made.new.place
-    told.new.reply told.new.told c.args.host.now c.args.running.now.seat
+    told.new.reply told.new.told c.args.host.now c.args.machine.now.seat
     (g.F.SteppedFs.tables c.args.fs.now) made.new.host made.new.seat
     (g.F.SteppedFs.tables made.new.fs) c.want_in.ensures made.ensures.made
     told.ensures.told told.ensures.same goes
 
 pub returns-clause-loses : goal.returns-clause-loses
 returns-clause-loses g c =
-    let was = c.args.running.now in
+    let was = c.args.machine.now in
     let marked : restores_now was.state
     ≡ restores (owes (g.F.SteppedFs.plan_of c.args.fs.now) was.start was.state) =
     sym c.restoring-restored.ensures.result
@@ -40,14 +40,14 @@ returns-clause-loses g c =
 
 pub returns-clause-told : goal.returns-clause-told
 returns-clause-told g c = λ none.
-    told_by_mark c.restoring-restored.result (restores_now c.args.running.now.state) (lost_of c.args.running.now.state)
+    told_by_mark c.restoring-restored.result (restores_now c.args.machine.now.state) (lost_of c.args.machine.now.state)
     (lost_of c.take.new.self) c.tell_in.new.told c.lost_by.result c.restoring-restored.ensures.result
     c.take.ensures.lost none c.lost_by.ensures.unmarked c.lost_by.ensures.marked
 
 pub returns-clause-within : goal.returns-clause-within
 returns-clause-within g c =
-    let start = c.args.running.now.start in
-    let was = c.args.running.now.state in
+    let start = c.args.machine.now.start in
+    let was = c.args.machine.now.state in
     let job = c.take.new.self in
     let told = c.tell_in in
     told_within (owes (g.F.SteppedFs.plan_of c.args.fs.now) start was)
@@ -59,8 +59,8 @@ returns-clause-within g c =
 
 pub returns-clause-inserts : goal.returns-clause-inserts
 returns-clause-inserts g c =
-    let start = c.args.running.now.start in
-    let was = c.args.running.now.state in
+    let start = c.args.machine.now.start in
+    let was = c.args.machine.now.state in
     let job = c.take.new.self in
     let told = c.tell_in in
     inserted_within (owes (g.F.SteppedFs.plan_of c.args.fs.now) start was)

@@ -1,0 +1,566 @@
+-- How the jobs lie, and what a change of one of them leaves of the others.
+use Rattle.std.proofs.Common.{◌≡◌, ◌≢◌, ◌<◌, ◌+◌, ◌∙◌, inl, inr, ℕ, zero, suc, List, [], ◌∷◌, ◌++◌, Option, Some}
+use Rattle.std.proofs.Common.{None}
+use Rattle.std.proofs.Common.{true, false, refl, ap, sym, subst, map, length, get_or, option_map, slice_get}
+use Rattle.std.proofs.Common.{slice_set, arith}
+use Rattle.std.proofs.lemmas.Bool.{cases_eq}
+use Rattle.std.proofs.lemmas.List.{length-set}
+use Rattle.std.proofs.lemmas.Option.{same_Some, slice_get_within, slice_get-get_or, slice_get-map}
+use Rattle.std.proofs.lemmas.Option.{get_or_from_slice_get}
+use Rattle.pt_host.specs.declared.seat.HostSeat.{HostSeat}
+use Rattle.pt_frame.specs.Grammar.{End, is_end}
+use Rattle.pt_attr.specs.Machine.Job.{owes as job_owes, is_finished as is_job_over, lost_of as job_lost}
+use Rattle.pt_req.specs.declared.plan.Plan.{Plan}
+use Rattle.pt_fs.specs.Laid.{Laid, AllGo, GoElsewhere, Stays, Wakes, Settles, waiting, on_its_way, found_run, run_at}
+use Rattle.pt_fs.specs.Laid.{runs_in, waits, still}
+use Rattle.pt_fs.specs.Running.{Running, is_finished, owes}
+use Rattle.pt_fs.specs.declared.job.Job.{Job}
+use Rattle.pt_fs.specs.declared.machine.Machine.{Machine}
+use Rattle.pt_fs.specs.declared.jobs.Place.{Place}
+use Rattle.pt_fs.specs.declared.jobs.Place.TheVariants.{Waits, Goes, Ended as Ends}
+use Rattle.pt_fs.specs.declared.machine.Over.{Over}
+use Rattle.pt_fs.proofs.Places.{get-set_same, get-set_other}
+
+-- Lists.
+
+-- what is behind the last one
+pub get-past : {X : Type 0} (xs : List X) (x : X) → slice_get (xs ++ x ∷ []) (length xs) ≡ Some x
+get-past [] x = refl
+get-past (y ∷ xs) x = get-past xs x
+
+-- and before it
+pub get-before : {X : Type 0} (xs : List X) (x y : X) (i : ℕ) → slice_get xs i ≡ Some y →
+    slice_get (xs ++ x ∷ []) i ≡ Some y
+get-before [] x y i e = absurd (cc)
+get-before (z ∷ xs) x y zero e = e
+get-before (z ∷ xs) x y (suc i) e = get-before xs x y i e
+
+-- what is not the last one was there
+pub get-within : {X : Type 0} (xs : List X) (x y : X) (i : ℕ) → slice_get (xs ++ x ∷ []) i ≡ Some y → i ≢ length xs →
+    slice_get xs i ≡ Some y
+get-within [] x y zero e not = absurd (not refl)
+get-within [] x y (suc i) e not = absurd (cc)
+get-within (z ∷ xs) x y zero e not = e
+get-within (z ∷ xs) x y (suc i) e not = get-within xs x y i e (λ s. not (ap suc s))
+
+pub set-set : {X : Type 0} (xs : List X) (i : ℕ) (x y : X) → slice_set (slice_set xs i x) i y ≡ slice_set xs i y
+set-set [] i x y = refl
+set-set (z ∷ xs) zero x y = refl
+set-set (z ∷ xs) (suc i) x y = rw (set-set xs i x y) refl
+
+pub set-same : {X : Type 0} (xs : List X) (i : ℕ) (x : X) → slice_get xs i ≡ Some x → xs ≡ slice_set xs i x
+set-same [] i x e = refl
+set-same {X = X} (z ∷ xs) zero x e = ap (λ (y : X). y ∷ xs) (same_Some z x e)
+set-same {X = X} (z ∷ xs) (suc i) x e = ap (λ (l : List X). z ∷ l) (set-same xs i x e)
+
+pub map_alike : {X Y : Type 0} (xs ys : List X) (f g : X → Y) → length ys ≡ length xs →
+    ((j : ℕ) (x y : X) → slice_get xs j ≡ Some x → slice_get ys j ≡ Some y → g y ≡ f x) → map g ys ≡ map f xs
+map_alike [] [] f g long each = refl
+map_alike [] (y ∷ ys) f g long each = absurd (omega (arith, long))
+map_alike (x ∷ xs) [] f g long each = absurd (omega (arith, long))
+map_alike (x ∷ xs) (y ∷ ys) f g long each =
+    rw (each 0 x y refl refl, map_alike xs ys f g (omega (arith, long)) (λ j a b. each (suc j) a b)) refl
+
+-- all but one are alike
+pub map_but : {X Y : Type 0} (xs ys : List X) (f g : X → Y) (i : ℕ) (z : Y) → length ys ≡ length xs →
+    ((y : X) → slice_get ys i ≡ Some y → g y ≡ z) →
+    ((j : ℕ) (x y : X) → j ≢ i → slice_get xs j ≡ Some x → slice_get ys j ≡ Some y → g y ≡ f x) →
+    map g ys ≡ slice_set (map f xs) i z
+map_but [] [] f g i z long here else = refl
+map_but [] (y ∷ ys) f g i z long here else = absurd (omega (arith, long))
+map_but (x ∷ xs) [] f g i z long here else = absurd (omega (arith, long))
+map_but (x ∷ xs) (y ∷ ys) f g zero z long here else =
+    rw (here y refl, map_alike xs ys f g (omega (arith, long)) (λ j a b. else (suc j) a b (λ e. absurd (cc)))) refl
+map_but (x ∷ xs) (y ∷ ys) f g (suc i) z long here else =
+    rw (
+      else 0 x y (λ e. absurd (cc)) refl refl,
+      map_but xs ys f g i z (omega (arith, long)) here (λ j a b not. else (suc j) a b (λ e. not (omega (arith, e)))),
+    )
+    refl
+
+-- How many wait.
+
+pub still-set : (places : List Place) (i : ℕ) (p q : Place) → slice_get places i ≡ Some p →
+    still (slice_set places i q) + waits p ≡ still places + waits q
+still-set [] i p q e = absurd (cc)
+still-set (first ∷ places) zero p q e =
+    let same : waits first ≡ waits p = ap waits (same_Some first p e) in omega arith
+still-set (first ∷ places) (suc i) p q e = let more = still-set places i p q e in omega arith
+
+-- One machine.
+
+goes_one : (a b : ℕ) → Goes a ≡ Goes b → a ≡ b
+goes_one a b e = cc
+
+module _ {places : List Place} {going : List Machine} (laid : Laid places going) where
+  -- two places have not one machine
+  pub apart : (i j index : ℕ) → slice_get places i ≡ Some (Goes index) → slice_get places j ≡ Some (Goes index) → j ≡ i
+  apart i j index one other =
+      let first = laid.there i index one in
+      let second = laid.there j index other in
+      let same : first.0 ≡ second.0 = same_Some first.0 second.0 (sym first.1 ∙ second.1) in
+      sym second.2 ∙ ap (λ (it : Machine). it.place) (sym same) ∙ first.2
+
+  -- A job that waits is given a machine.
+  module _ {place : ℕ} {job : Job} (it : Machine) (waits_there : slice_get places place ≡ Some (Waits job))
+      (own : it.place ≡ place) where
+    pub wakes_laid : Laid (slice_set places place (Goes (length going))) (going ++ it ∷ [])
+    wakes_laid = record {
+      there = λ j index at. elim (cases_eq j place) [
+        | inl same ↦
+            let is : length going ≡ index = goes_one (length going) index (same_Some (Goes (length going)) (Goes index)
+            (sym (get-set_same places place (Waits job) (Goes (length going)) waits_there)
+            ∙ ap (slice_get (slice_set places place (Goes (length going)))) (sym same) ∙ at)) in
+            (it, ap (slice_get (going ++ it ∷ [])) (sym is) ∙ get-past going it, own ∙ sym same)
+        | inr other ↦
+            let was = laid.there j index (sym (get-set_other places place j (Goes (length going)) other) ∙ at) in
+            (was.0, get-before going it was.0 index was.1, was.2)
+      ];
+      back = λ index one at. elim (cases_eq index (length going)) [
+        | inl last ↦
+            let is : it ≡ one = same_Some it one
+            (sym (get-past going it) ∙ ap (slice_get (going ++ it ∷ [])) (sym last) ∙ at) in
+            ap (slice_get (slice_set places place (Goes (length going)))) (ap (λ (g : Machine). g.place) (sym is) ∙ own)
+            ∙ get-set_same places place (Waits job) (Goes (length going)) waits_there
+            ∙ ap (λ (n : ℕ). Some (Goes n)) (sym last)
+        | inr before ↦
+            let was = laid.back index one (get-within going it one index at before) in
+            get-set_other places place one.place (Goes (length going))
+            (λ e. let no = sym waits_there ∙ ap (slice_get places) (sym e) ∙ was in absurd (cc)) ∙ was
+      ];
+    }
+
+    pub wakes_runs : runs_in (slice_set places place (Goes (length going))) (going ++ it ∷ [])
+        ≡ slice_set (runs_in places going) place (on_its_way it)
+    wakes_runs = map_but places (slice_set places place (Goes (length going))) (run_at going)
+        (run_at (going ++ it ∷ [])) place (on_its_way it)
+        (length-set places place (Goes (length going)))
+        (λ p at.
+        let is : Goes (length going) ≡ p = same_Some (Goes (length going)) p
+        (sym (get-set_same places place (Waits job) (Goes (length going)) waits_there) ∙ at) in
+        ap (run_at (going ++ it ∷ [])) (sym is) ∙ ap found_run (get-past going it))
+        (λ j p q other at now.
+        let is : p ≡ q = same_Some p q
+        (sym at ∙ sym (get-set_other places place j (Goes (length going)) other) ∙ now) in
+        ap (run_at (going ++ it ∷ [])) (sym is) ∙ kept j p at)
+      where
+        kept : (j : ℕ) (p : Place) → slice_get places j ≡ Some p → run_at (going ++ it ∷ []) p ≡ run_at going p
+        kept j (Waits other) at = refl
+        kept j (Ends over) at = refl
+        kept j (Goes index) at =
+            let was = laid.there j index at in
+            ap found_run (get-before going it was.0 index was.1 ∙ sym was.1)
+
+  -- A job that has finished needs its machine no more: the last machine goes where it lay, and is found there.
+  -- The machine of this index is that of this place; `on` are the machines behind that.
+  module _ (place index : ℕ) (own : slice_get places place ≡ Some (Goes index)) where
+    -- another place has another machine
+    elsewhere : (j s : ℕ) → j ≢ place → slice_get places j ≡ Some (Goes s) → s ≢ index
+    elsewhere j s other at e =
+        other (apart place j index own (at ∙ ap (λ (n : ℕ). Some (Goes n)) e))
+
+    -- and another machine is of another place
+    not_own : (s : ℕ) (it : Machine) → s ≢ index → slice_get going s ≡ Some it → it.place ≢ place
+    not_own s it other at e =
+        other (goes_one s index (same_Some (Goes s) (Goes index)
+        (sym (laid.back s it at) ∙ ap (slice_get places) e ∙ own)))
+
+    -- Its machine was the last.
+    module _ (over : Over) (on : List Machine) (few : suc (length on) ≡ length going) (last : index ≡ length on)
+        (kept : (s : ℕ) → s < length on → slice_get on s ≡ slice_get going s) where
+      still_there : (j s : ℕ) → j ≢ place → slice_get places j ≡ Some (Goes s) →
+          (it : Machine) × (slice_get on s ≡ Some it) × (slice_get going s ≡ Some it) × (it.place ≡ j)
+      still_there j s other at =
+          let was = laid.there j s at in
+          let not = elsewhere j s other at in
+          let inside = slice_get_within going s was.0 was.1 in
+          (was.0, kept s (omega (arith, few, last, not, inside)) ∙ was.1, was.1, was.2)
+
+      pub last_laid : Laid (slice_set places place (Ends over)) on
+      last_laid = record {
+        there = λ j s at. elim (cases_eq j place) [
+          | inl same ↦
+              let no = sym (get-set_same places place (Goes index) (Ends over) own)
+              ∙ ap (slice_get (slice_set places place (Ends over))) (sym same) ∙ at in absurd (cc)
+          | inr other ↦
+              let it = still_there j s other (sym (get-set_other places place j (Ends over) other) ∙ at) in
+              (it.0, it.1, it.3)
+        ];
+        back = λ s it at.
+            let inside = slice_get_within on s it at in
+            let was = sym (kept s inside) ∙ at in
+            get-set_other places place it.place (Ends over)
+            (not_own s it (λ e. absurd (omega (arith, inside, e, last))) was) ∙ laid.back s it was;
+      }
+
+      pub last_runs : runs_in (slice_set places place (Ends over)) on
+          ≡ slice_set (runs_in places going) place (run_at on (Ends over))
+      last_runs = map_but places (slice_set places place (Ends over)) (run_at going) (run_at on) place
+          (run_at on (Ends over)) (length-set places place (Ends over))
+          (λ p at. ap (run_at on) (same_Some p (Ends over)
+          (sym at ∙ get-set_same places place (Goes index) (Ends over) own)))
+          (λ j p q other at now.
+          let is : p ≡ q = same_Some p q (sym at ∙ sym (get-set_other places place j (Ends over) other) ∙ now) in
+          ap (run_at on) (sym is) ∙ same j p other at)
+        where
+          same : (j : ℕ) (p : Place) → j ≢ place → slice_get places j ≡ Some p → run_at on p ≡ run_at going p
+          same j (Waits job) other at = refl
+          same j (Ends done) other at = refl
+          same j (Goes s) other at =
+              let it = still_there j s other at in ap found_run (it.1 ∙ sym it.2)
+
+      pub last_goes : GoElsewhere index going → AllGo on
+      last_goes goes s it at =
+          let inside = slice_get_within on s it at in
+          goes s it (λ e. absurd (omega (arith, inside, e, last))) (sym (kept s inside) ∙ at)
+
+    -- It was not, and the last one is moved to where it was.
+    module _ (over : Over) (on : List Machine) (moved : Machine) (few : suc (length on) ≡ length going)
+        (inside : index < length on) (top : slice_get going (length on) ≡ Some moved)
+        (in_place : slice_get on index ≡ Some moved)
+        (kept : (s : ℕ) → s ≢ index → s < length on → slice_get on s ≡ slice_get going s) where
+      abbrev first_set : List Place
+      first_set = slice_set places place (Ends over)
+
+      abbrev pub both_set : List Place
+      both_set = slice_set first_set moved.place (Goes index)
+
+      top_at : slice_get places moved.place ≡ Some (Goes (length on))
+      top_at = laid.back (length on) moved top
+
+      top_other : moved.place ≢ place
+      top_other = not_own (length on) moved (λ e. absurd (omega (arith, e, inside))) top
+
+      at_place : slice_get both_set place ≡ Some (Ends over)
+      at_place = get-set_other first_set moved.place place (Goes index) (λ e. top_other (sym e))
+          ∙ get-set_same places place (Goes index) (Ends over) own
+
+      pub moved_was : slice_get first_set moved.place ≡ Some (Goes (length on))
+      moved_was = get-set_other places place moved.place (Ends over) top_other ∙ top_at
+
+      at_moved : slice_get both_set moved.place ≡ Some (Goes index)
+      at_moved = get-set_same first_set moved.place (Goes (length on)) (Goes index) moved_was
+
+      at_else : (j : ℕ) → j ≢ place → j ≢ moved.place → slice_get both_set j ≡ slice_get places j
+      at_else j other another = get-set_other first_set moved.place j (Goes index) another
+          ∙ get-set_other places place j (Ends over) other
+
+      stays_there : (j s : ℕ) → j ≢ place → j ≢ moved.place → slice_get places j ≡ Some (Goes s) →
+          (it : Machine) × (slice_get on s ≡ Some it) × (slice_get going s ≡ Some it) × (it.place ≡ j)
+      stays_there j s other another at =
+          let was = laid.there j s at in
+          let not = elsewhere j s other at in
+          let low : s ≢ length on = λ e.
+          another (sym was.2 ∙ ap (λ (g : Machine). g.place) (same_Some was.0 moved
+          (sym was.1 ∙ ap (slice_get going) e ∙ top))) in
+          let within = slice_get_within going s was.0 was.1 in
+          (was.0, kept s not (omega (arith, few, low, within)) ∙ was.1, was.1, was.2)
+
+      pub moved_laid : Laid both_set on
+      moved_laid = record {
+        there = λ j s at. elim (cases_eq j place) [
+          | inl same ↦
+              let no = sym at_place ∙ ap (slice_get both_set) (sym same) ∙ at in absurd (cc)
+          | inr other ↦ elim (cases_eq j moved.place) [
+            | inl same ↦
+                let is : index ≡ s = goes_one index s (same_Some (Goes index) (Goes s)
+                (sym at_moved ∙ ap (slice_get both_set) (sym same) ∙ at)) in
+                (moved, ap (slice_get on) (sym is) ∙ in_place, sym same)
+            | inr another ↦
+                let it = stays_there j s other another (sym (at_else j other another) ∙ at) in
+                (it.0, it.1, it.3)
+          ]
+        ];
+        back = λ s it at. elim (cases_eq s index) [
+          | inl same ↦
+              let is : moved ≡ it = same_Some moved it (sym in_place ∙ ap (slice_get on) (sym same) ∙ at) in
+              ap (slice_get both_set) (ap (λ (g : Machine). g.place) (sym is)) ∙ at_moved
+              ∙ ap (λ (n : ℕ). Some (Goes n)) (sym same)
+          | inr not ↦
+              let low = slice_get_within on s it at in
+              let was = sym (kept s not low) ∙ at in
+              let named = laid.back s it was in
+              at_else it.place (not_own s it not was) (λ e.
+              let is = goes_one s (length on) (same_Some (Goes s) (Goes (length on))
+              (sym named ∙ ap (slice_get places) e ∙ top_at)) in absurd (omega (arith, is, low))) ∙ named
+        ];
+      }
+
+      pub moved_runs : runs_in both_set on ≡ slice_set (runs_in places going) place (run_at on (Ends over))
+      moved_runs = map_but places both_set (run_at going) (run_at on) place (run_at on (Ends over))
+          (length-set first_set moved.place (Goes index) ∙ length-set places place (Ends over))
+          (λ p at. ap (run_at on) (same_Some p (Ends over) (sym at ∙ at_place)))
+          (λ j p q other at now. elim (cases_eq j moved.place) [
+            | inl same ↦
+                let was : Goes (length on) ≡ p = same_Some (Goes (length on)) p
+                (sym top_at ∙ ap (slice_get places) (sym same) ∙ at) in
+                let is : Goes index ≡ q = same_Some (Goes index) q
+                (sym at_moved ∙ ap (slice_get both_set) (sym same) ∙ now) in
+                ap (run_at on) (sym is) ∙ ap found_run (in_place ∙ sym top) ∙ ap (run_at going) was
+            | inr another ↦
+                let is : p ≡ q = same_Some p q (sym at ∙ sym (at_else j other another) ∙ now) in
+                ap (run_at on) (sym is) ∙ same j p other another at
+          ])
+        where
+          same : (j : ℕ) (p : Place) → j ≢ place → j ≢ moved.place → slice_get places j ≡ Some p →
+              run_at on p ≡ run_at going p
+          same j (Waits job) other another at = refl
+          same j (Ends done) other another at = refl
+          same j (Goes s) other another at =
+              let it = stays_there j s other another at in ap found_run (it.1 ∙ sym it.2)
+
+      pub moved_goes : GoElsewhere index going → AllGo on
+      moved_goes goes s it at = elim (cases_eq s index) [
+        | inl same ↦
+            let is : moved ≡ it = same_Some moved it (sym in_place ∙ ap (slice_get on) (sym same) ∙ at) in
+            ap (λ (g : Machine). is_job_over g.state) (sym is)
+            ∙ goes (length on) moved (λ e. absurd (omega (arith, e, inside))) top
+        | inr not ↦
+            let low = slice_get_within on s it at in
+            goes s it not (sym (kept s not low) ∙ at)
+      ]
+
+  -- A machine goes on.
+  module _ (place index : ℕ) (own : slice_get places place ≡ Some (Goes index)) (it it' : Machine)
+      (at_index : slice_get going index ≡ Some it) (same_place : it'.place ≡ it.place) where
+    pub on_laid : Laid places (slice_set going index it')
+    on_laid = record {
+      there = λ j s at.
+          let was = laid.there j s at in
+          elim (cases_eq s index) [
+            | inl same ↦
+                let is : was.0 ≡ it = same_Some was.0 it (sym was.1 ∙ ap (slice_get going) same ∙ at_index) in (
+                  it',
+                  ap (slice_get (slice_set going index it')) same ∙ get-set_same going index it it' at_index,
+                  same_place ∙ ap (λ (g : Machine). g.place) (sym is) ∙ was.2,
+                )
+            | inr other ↦ (was.0, get-set_other going index s it' other ∙ was.1, was.2)
+          ];
+      back = λ s one at. elim (cases_eq s index) [
+        | inl same ↦
+            let is : it' ≡ one = same_Some it' one
+            (sym (get-set_same going index it it' at_index) ∙ ap (slice_get (slice_set going index it')) (sym same)
+            ∙ at) in
+            ap (slice_get places) (ap (λ (g : Machine). g.place) (sym is) ∙ same_place) ∙ laid.back index it at_index
+            ∙ ap (λ (n : ℕ). Some (Goes n)) (sym same)
+        | inr other ↦ laid.back s one (sym (get-set_other going index s it' other) ∙ at)
+      ];
+    }
+
+    pub on_runs : runs_in places (slice_set going index it')
+        ≡ slice_set (runs_in places going) place (on_its_way it')
+    on_runs = map_but places places (run_at going) (run_at (slice_set going index it')) place
+        (on_its_way it') refl
+        (λ p at. ap (run_at (slice_set going index it')) (same_Some p (Goes index) (sym at ∙ own))
+        ∙ ap found_run (get-set_same going index it it' at_index))
+        (λ j p q other at now.
+        ap (run_at (slice_set going index it')) (same_Some q p (sym now ∙ at)) ∙ same j p other at)
+      where
+        same : (j : ℕ) (p : Place) → j ≢ place → slice_get places j ≡ Some p →
+            run_at (slice_set going index it') p ≡ run_at going p
+        same j (Waits job) other at = refl
+        same j (Ends done) other at = refl
+        same j (Goes s) other at = ap found_run (get-set_other going index s it'
+            (λ e. other (apart place j index own (at ∙ ap (λ (n : ℕ). Some (Goes n)) e))))
+
+    pub on_goes : AllGo going → GoElsewhere index (slice_set going index it')
+    on_goes goes s one other at = goes s one (sym (get-set_other going index s it' other) ∙ at)
+
+-- Where a job is.
+
+pub runs_at : (places : List Place) (going : List Machine) (j : ℕ) (p : Place) → slice_get places j ≡ Some p →
+    slice_get (runs_in places going) j ≡ Some (run_at going p)
+runs_at places going j p at = slice_get-map (run_at going) places j ∙ ap (option_map (run_at going)) at
+
+pub stays_same : (run : Running) → Stays run run
+stays_same run = record {
+  start = refl;
+  seat = refl;
+  left = λ plan seat. refl;
+  finished = refl;
+  lost = refl;
+  fewer = omega arith;
+  bound = omega arith;
+  inserts = omega arith;
+}
+
+-- one that has its machine
+pub wakes_none : {places : List Place} {going : List Machine} → Laid places going → (j index : ℕ) →
+    slice_get places j ≡ Some (Goes index) → Wakes places going j places going index
+wakes_none {places} {going} laid j index own =
+    let it = laid.there j index own in
+    let at : slice_get (runs_in places going) j ≡ Some (on_its_way it.0) =
+    runs_at places going j (Goes index) own ∙ ap (λ (o : Option Machine). Some (found_run o)) it.1 in
+    record {
+      run = on_its_way it.0;
+      it = it.0;
+      was = at;
+      there = it.1;
+      own = it.2;
+      stays = stays_same (on_its_way it.0);
+      runs = set-same (runs_in places going) j (on_its_way it.0) at;
+    }
+
+-- one that waited
+pub wakes_one : {places : List Place} {going : List Machine} → Laid places going → (j : ℕ) (job : Job) (it : Machine) →
+    slice_get places j ≡ Some (Waits job) → it.place ≡ j → Stays (waiting job) (on_its_way it) →
+    Wakes places going j (slice_set places j (Goes (length going))) (going ++ it ∷ []) (length going)
+wakes_one {places} {going} laid j job it waits_there own stays = record {
+  run = waiting job;
+  it = it;
+  was = runs_at places going j (Waits job) waits_there;
+  there = get-past going it;
+  own = own;
+  stays = stays;
+  runs = wakes_runs laid it waits_there own;
+}
+
+pub some_wait : (places : List Place) (j : ℕ) (job : Job) → slice_get places j ≡ Some (Waits job) → 0 < still places
+some_wait places j job at = let sums = still-set places j (Waits job) (Goes 0) at in omega arith
+
+-- one that has ended
+pub has_ended : (places : List Place) (going : List Machine) (j : ℕ) (over : Over) →
+    slice_get places j ≡ Some (Ends over) →
+    ((run : Running) → slice_get (runs_in places going) j ≡ Some run → is_finished run.state ≡ false) → ⊥
+has_ended places going j over at not =
+    let no = not (run_at going (Ends over)) (runs_at places going j (Ends over) at) in absurd (cc)
+
+-- and what all of them are with one more on its way
+pub all_go_on : (going : List Machine) (it : Machine) → AllGo going → is_job_over it.state ≡ false →
+    AllGo (going ++ it ∷ [])
+all_go_on going it goes this index one at = elim (cases_eq index (length going)) [
+  | inl last ↦
+      let is : it ≡ one = same_Some it one
+      (sym (get-past going it) ∙ ap (slice_get (going ++ it ∷ [])) (sym last) ∙ at) in
+      ap (λ (g : Machine). is_job_over g.state) (sym is) ∙ this
+  | inr before ↦ goes index one (get-within going it one index at before)
+]
+
+-- one that has finished, and what is left of it
+pub settled_stays : (machine : Machine) (over : Over) (on : List Machine) → is_job_over machine.state ≡ true →
+    over.start ≡ machine.start → over.seat ≡ machine.seat →
+    ((plan : Plan) (seat : HostSeat) → job_owes plan seat machine.state ≡ End over.last) →
+    over.lost ≡ job_lost machine.state → Stays (on_its_way machine) (run_at on (Ends over))
+settled_stays machine over on ends start seat left lost = record {
+  start = start;
+  seat = seat;
+  left = λ plan from. sym (left plan from);
+  finished = sym ends;
+  lost = lost;
+  fewer = omega arith;
+  bound = omega arith;
+  inserts = omega arith;
+}
+
+-- one that goes on
+pub settles_none : {places : List Place} {going : List Machine} → Laid places going → (j index : ℕ) →
+    slice_get places j ≡ Some (Goes index) → Settles places going j index places going
+settles_none {places} {going} laid j index own =
+    let it = laid.there j index own in
+    record {
+      it = it.0;
+      run = on_its_way it.0;
+      was = it.1;
+      stays = stays_same (on_its_way it.0);
+      runs = set-same (runs_in places going) j (on_its_way it.0)
+          (runs_at places going j (Goes index) own ∙ ap (λ (o : Option Machine). Some (found_run o)) it.1);
+    }
+
+pub all_go_still : (going : List Machine) (index : ℕ) (it : Machine) → slice_get going index ≡ Some it →
+    is_job_over it.state ≡ false → GoElsewhere index going → AllGo going
+all_go_still going index it at this goes s one there = elim (cases_eq s index) [
+  | inl same ↦
+      let is : it ≡ one = same_Some it one (sym at ∙ ap (slice_get going) (sym same) ∙ there) in
+      ap (λ (g : Machine). is_job_over g.state) (sym is) ∙ this
+  | inr other ↦ goes s one other there
+]
+
+-- what reads alike is alike
+pub get_alike : {X : Type 0} (xs ys : List X) (i j : ℕ) → i < length xs → j < length ys →
+    ((d : X) → get_or ys j d ≡ get_or xs i d) → slice_get ys j ≡ slice_get xs i
+get_alike [] ys i j low short same = absurd (omega (arith, low))
+get_alike {X = X} (x ∷ xs) ys i j low short same =
+    slice_get-get_or ys j x short ∙ ap (λ (y : X). Some y) (same x) ∙ sym (slice_get-get_or (x ∷ xs) i x low)
+
+-- The job of one place was given its machine, where it had none; the machine went on; and it was put away, where it
+-- had finished.
+pub record Through (running : List Running) (j : ℕ) (seen went : Machine) (running' : List Running) : Type 0 where
+  pub run : Running
+  pub run' : Running
+  pub was : slice_get running j ≡ Some run
+  pub before : Stays run (on_its_way seen)
+  pub after : Stays (on_its_way went) run'
+  pub runs : running' ≡ slice_set running j run'
+
+-- the machine that was read is that of the place
+pub seen_there : {places places1 : List Place} {going going1 : List Machine} {j index : ℕ} (seen : Machine)
+    (wakes : Wakes places going j places1 going1 index) → seen ≡ get_or going1 index seen → seen ≡ wakes.it
+seen_there {going1 = going1} {index = index} seen wakes read =
+    read ∙ get_or_from_slice_get going1 index wakes.it seen wakes.there
+
+pub went_through : {places places1 places2 : List Place} {going going1 going2 : List Machine} {j index : ℕ}
+    (seen went : Machine) (wakes : Wakes places going j places1 going1 index) → Laid places1 going1 →
+    slice_get places1 j ≡ Some (Goes index) → seen ≡ get_or going1 index seen → went.place ≡ seen.place →
+    Settles places1 (slice_set going1 index went) j index places2 going2 →
+    Through (runs_in places going) j seen went (runs_in places2 going2)
+went_through {places} {places1} {going = going} {going1 = going1} {j = j} {index = index} seen went wakes laid own read
+    same settles =
+    let it : seen ≡ wakes.it = seen_there seen wakes read in
+    let is : settles.it ≡ went = same_Some settles.it went
+    (sym settles.was ∙ get-set_same going1 index wakes.it went wakes.there) in
+    let runs = on_runs laid j index own wakes.it went wakes.there (same ∙ ap (λ (g : Machine). g.place) it) in
+    record {
+      run = wakes.run;
+      run' = settles.run;
+      was = wakes.was;
+      before = subst (λ (g : Machine). Stays wakes.run (on_its_way g)) (sym it) wakes.stays;
+      after = subst (λ (g : Machine). Stays (on_its_way g) settles.run) is settles.stays;
+      runs = settles.runs
+          ∙ ap (λ (l : List Running). slice_set l j settles.run) (runs
+          ∙ ap (λ (l : List Running). slice_set l j (on_its_way went)) wakes.runs)
+          ∙ ap (λ (l : List Running). slice_set l j settles.run)
+          (set-set (runs_in places going) j (on_its_way wakes.it) (on_its_way went))
+          ∙ set-set (runs_in places going) j (on_its_way went) settles.run;
+    }
+
+-- a machine that was seen goes on where its job has not finished
+pub waked_goes : (run : Running) (it seen : Machine) (plan : Plan) → seen ≡ it → Stays run (on_its_way it) →
+    (is_finished run.state ≡ false) × (is_end (owes plan run.start run.state) ≡ false) →
+    (is_job_over seen.state ≡ false)
+    × (is_end (job_owes plan seen.start seen.state) ≡ false)
+waked_goes run it seen plan is stays goes =
+    let same : (g : Machine) → g ≡ it → (is_job_over g.state ≡ false)
+    × (is_end (job_owes plan g.start g.state) ≡ false) = λ g e. (
+      ap (λ (x : Machine). is_job_over x.state) e ∙ stays.finished ∙ goes.0,
+      ap (λ (x : Machine). is_end (job_owes plan x.start x.state)) e
+          ∙ ap is_end (stays.left plan it.start
+          ∙ ap (λ (s : HostSeat). owes plan s run.state) stays.start) ∙ goes.1,
+    ) in
+    same seen is
+
+-- where no machine has finished, who has finished needs none
+pub ended_place : (going : List Machine) → AllGo going → (p : Place) → is_finished (run_at going p).state ≡ true →
+    (over : Over) × (p ≡ Ends over)
+ended_place going goes (Waits job) ends = absurd (cc)
+ended_place going goes (Ends over) ends = (over, refl)
+ended_place going goes (Goes index) ends = absurd (no (slice_get going index) refl ends)
+  where
+    no : (found : Option Machine) → slice_get going index ≡ found → is_finished (found_run found).state ≡ true → ⊥
+    no None at end = cc
+    no (Some it) at end = let on = goes index it at in cc
+
+-- Jobs that all wait.
+
+pub still-append : (places : List Place) (p : Place) → still (places ++ p ∷ []) ≡ still places + waits p
+still-append [] p = omega arith
+still-append (first ∷ places) p = let more = still-append places p in omega arith
+
+pub none_more : (places : List Place) (job : Job) →
+    ((j index : ℕ) → slice_get places j ≡ Some (Goes index) → ⊥) → (j index : ℕ) →
+    slice_get (places ++ Waits job ∷ []) j ≡ Some (Goes index) → ⊥
+none_more places job none j index at = elim (cases_eq j (length places)) [
+  | inl last ↦
+      let no = sym (get-past places (Waits job)) ∙ ap (slice_get (places ++ Waits job ∷ [])) (sym last) ∙ at in
+      absurd (cc)
+  | inr before ↦ none j index (get-within places (Waits job) (Goes index) j at before)
+]
