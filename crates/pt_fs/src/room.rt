@@ -23,7 +23,7 @@ pub fn push_within<T: Drop>(v: &mut Vec<T>, item: T)
     ensures items { v.new.items ≡ v.old.items ++ item ∷ [] }
     ensures capacity { vec_capacity v.old ≤ vec_capacity v.new }
 {
-    let _pushed = v.push(item);
+    v.push_reserved(item);
 }
 
 /// How many steps a request takes at most, three for each closing aside.
