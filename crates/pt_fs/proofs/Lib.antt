@@ -8,6 +8,7 @@ pub mod Through
 pub mod Stepping
 pub mod Going
 pub mod Losing
+pub mod Recording
 pub mod Ended
 pub mod Advancing
 pub mod SeatsAt

@@ -152,6 +152,24 @@ pub record LosesSeat
   pub one_each : length answers ≡ length jobs
   pub left_as : OfEachJob jobs answers (IsLeftAs plan lost errno front.left (before ++ step ∷ []) (others ++ back))
 
+-- the run ended so: whole, or with this job's seat lost by this error
+abbrev pub EndsSo :
+    {H : Type 0} →
+    (does : HostRelation H) →
+    (faults : H → ℕ) →
+    (plan : Plan) →
+    (jobs : List Job) →
+    (schedule : List ℕ) →
+    (host : H) →
+    (tables : Tables) →
+    (trace : List TraceStep) →
+    (answers : List Answer) →
+    (lost : Option (ℕ × Errno)) →
+    Type 0
+EndsSo does faults plan jobs schedule host tables trace answers None = EndsWhole plan jobs schedule trace answers
+EndsSo does faults plan jobs schedule host tables trace answers (Some lost) =
+    LosesSeat does faults plan jobs schedule host tables trace answers lost.0 lost.1
+
 -- of what a run left, however it ended
 abbrev pub OnDriven : {F : Type 0} → Result (Driven F) (DriveError F) → (Driven F → Type 0) → Type 0
 OnDriven (Ok driven) P = P driven

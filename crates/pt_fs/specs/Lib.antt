@@ -10,6 +10,7 @@ pub mod Went
 pub mod Work
 pub mod Took
 pub mod GoesOn
+pub mod Recorded
 pub mod Each
 pub mod Keeps
 pub mod Run

@@ -1,6 +1,6 @@
 -- Inner. One step of one of the jobs.
 use Rattle.std.specs.Prelude.{◌+◌, ◌*◌, ◌≤◌, ◌≡◌, ◌<◌, ◌⊎◌, None, ℕ, List, [], ◌∷◌, ◌++◌, Option, Some, true, false}
-use Rattle.std.specs.Prelude.{slice_get, slice_set}
+use Rattle.std.specs.Prelude.{slice_get, slice_set, Result, Ok, Err}
 use Rattle.pt_session.specs.Tables.{Tables}
 use Rattle.pt_frame.specs.Deed.{kept_deed_of}
 use Rattle.pt_host.specs.declared.ids.Errno.{Errno}
@@ -91,3 +91,15 @@ run_steps (Some run) = steps_left run.state
 -- what falls with each step of the job of this number
 abbrev pub steps_left_at : List Running → ℕ → ℕ
 steps_left_at running place = run_steps (slice_get running place)
+
+-- of steps that were written down and lost no seat
+abbrev pub OnKept : {X E : Type 0} → Result (Option X) E → Type 0 → Type 0
+OnKept (Ok None) holds = holds
+OnKept (Ok (Some loss)) holds = Unit {0}
+OnKept (Err error) holds = Unit {0}
+
+-- and of those that lost one
+abbrev pub OnLoss : {X E : Type 0} → Result (Option X) E → (X → Type 0) → Type 0
+OnLoss (Ok None) holds = Unit {0}
+OnLoss (Ok (Some loss)) holds = holds loss
+OnLoss (Err error) holds = Unit {0}

@@ -1,5 +1,5 @@
 -- Inner. A bound on all steps that are left.
-use Rattle.std.specs.Prelude.{ℕ, ◌+◌, ◌*◌, List, [], ◌∷◌}
+use Rattle.std.specs.Prelude.{ℕ, ◌+◌, ◌*◌, ◌≤◌, List, [], ◌∷◌}
 use Rattle.pt_session.specs.Pending.{pending_in}
 use Rattle.pt_session.specs.Tables.{Tables}
 use Rattle.pt_fs.specs.Running.{steps_bound, inserts_left}
@@ -13,3 +13,7 @@ bounds_in (run ∷ running) = steps_bound run.state + 3 * inserts_left run.state
 -- and three for the closing of each row that is there
 abbrev pub work : List Running → Tables → ℕ
 work running tables = bounds_in running + 3 * pending_in tables
+
+-- the room for steps fell by no more than the work did
+abbrev pub KeepsPace : (room left room' left' : ℕ) → Type 0
+KeepsPace room left room' left' = room + left' ≤ room' + left

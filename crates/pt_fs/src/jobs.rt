@@ -1,7 +1,7 @@
 //! The jobs of a run, each in its place. One that has made no step is what it asks, and one that has ended is its
 //! answer; the machines of those on their way lie side by side, so that they take room only while they are needed.
 
-ghost use Rattle.std.specs.Prelude.{◌≡◌, ◌+◌, ◌<◌, ◌≤◌, ◌^◌, ◌++◌, ◌∷◌, ℕ, [], true, false, Some, length, map, IfOk};
+ghost use Rattle.std.specs.Prelude.{◌≡◌, ◌+◌, ◌<◌, ◌≤◌, ◌^◌, ◌++◌, ◌∷◌, ℕ, [], true, false, Some, length, map, IfOk, OnErr};
 ghost use Rattle.std.specs.Prelude.{slice_get, slice_set, vec_capacity};
 ghost use Rattle.pt_host.specs.Words.{Each};
 ghost use Rattle.pt_host.specs.declared.seat.HostSeat.{HostSeat};
@@ -12,11 +12,12 @@ ghost use Rattle.pt_fs.specs.Each.{EachAnswered, answer_of};
 ghost use Rattle.pt_fs.specs.Jobs.{job_start};
 ghost use Rattle.pt_fs.specs.Laid.{AllGo, GoElsewhere, Laid, Settles, Wakes, runs_in, still, waiting};
 ghost use Rattle.pt_fs.specs.Loses.{CutRun};
+ghost use Rattle.pt_fs.specs.Recorded.{Wrote};
 ghost use Rattle.pt_fs.specs.Running.{Running, is_finished, inserts_left, owes};
 ghost use Rattle.pt_fs.specs.Took.{Took, IsFinishedAt, IsUnfinished};
 ghost use Rattle.pt_fs.specs.Trace.{seated};
 ghost use Rattle.pt_fs.specs.Went.{run_seat};
-ghost use Rattle.pt_fs.specs.Work.{work};
+ghost use Rattle.pt_fs.specs.Work.{KeepsPace, work};
 ghost use Rattle.pt_fs.specs.declared.job.Job.{Job};
 ghost use Rattle.pt_fs.specs.declared.jobs.Place.TheVariants as place_at;
 ghost use Rattle.pt_fs.specs.declared.machine.Machine.{Machine};
@@ -26,6 +27,7 @@ use crate::ends::{answered, push_seat};
 use crate::fs::SteppedFs;
 use crate::job::Job;
 use crate::machine::{Machine, Over, begun, ended};
+use crate::record::Record;
 use crate::room::{push_within, with_room};
 use crate::step::advance;
 use crate::trace::TraceStep;
@@ -269,39 +271,39 @@ impl Jobs {
 }
 
 /// Takes the next step of the job of this number, writes it down, and tells what it lost of the job's seat.
-pub fn take_step<H: Host, F: SteppedFs>(
+pub fn take_step<H: Host, F: SteppedFs, R: Record>(
     alloc: Global,
     host: &mut H,
     fs: &mut F,
     running: &mut Jobs,
-    trace: &mut Vec<TraceStep>,
+    record: &mut R,
     place: u32,
-) -> Option<Errno>
+) -> Result<Option<Errno>, AllocError>
     requires named { place < length running.old }
     requires unfinished { IsUnfinished (F.plan_of fs.old) running.old place }
-    requires room { length trace.old.items + work running.old (F.tables fs.old) < vec_capacity trace.old }
-    ensures took { Took H.does (F.plan_of fs.old) place host.old running.old
-        (F.tables fs.old) trace.old.items host.new running.new (F.tables fs.new) trace.new.items result }
+    ensures took { IfOk result (λ lost. Wrote R.wrote record.old record.new (λ steps.
+        Took H.does (F.plan_of fs.old) place host.old running.old (F.tables fs.old) [] host.new running.new
+        (F.tables fs.new) steps lost)) }
     ensures plan { F.plan_of fs.new ≡ F.plan_of fs.old }
     ensures root { F.root fs.new ≡ F.root fs.old }
-    ensures capacity { vec_capacity trace.old ≤ vec_capacity trace.new }
-    ensures room { length trace.new.items + work running.new (F.tables fs.new) < vec_capacity trace.new }
+    ensures room { IfOk result (λ lost. KeepsPace (R.room record.old) (work running.old (F.tables fs.old))
+        (R.room record.new) (work running.new (F.tables fs.new))) }
+    ensures full { OnErr result (R.room record.old < work running.old (F.tables fs.old)) }
 {
-    let last = trace.len();
-    let step = TraceStep {
+    let mut step = TraceStep {
         job: place,
         act: KeptAct::NoCopy,
         reply: ActReply::NoCopy,
     };
-    push_within(trace, step);
     let index = wake(&mut running.places, &mut running.going, place as usize);
     let machine = &mut running.going[index];
-    let lost = advance(alloc, host, fs, machine, &mut trace[last]);
+    let lost = advance(alloc, host, fs, machine, &mut step);
     settle(
         &mut running.places,
         &mut running.going,
         place as usize,
         index,
     );
-    lost
+    record.write(step)?;
+    Ok(lost)
 }

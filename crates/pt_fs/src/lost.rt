@@ -1,41 +1,45 @@
 //! What follows a lost seat.
 
-ghost use Rattle.std.specs.Prelude.{vec_capacity, ◌≡◌, ◌+◌, ◌<◌, ◌≤◌, ◌^◌, ℕ, Some, suc, length, slice_get, slice_set};
+ghost use Rattle.std.specs.Prelude.{◌≡◌, ◌+◌, ◌<◌, ◌≤◌, ◌^◌, ℕ, [], Some, suc, length, slice_get, slice_set};
+ghost use Rattle.std.specs.Prelude.{OnErr, OnOk};
 ghost use Rattle.pt_fs.specs.Running.{Running, steps_bound, inserts_left};
 ghost use Rattle.pt_fs.specs.GoesOn.{GoesOn};
 ghost use Rattle.pt_fs.specs.Loses.{Restored, IsOver, IsCutFrom, CutAll, WindsUp};
 ghost use Rattle.pt_fs.specs.Order.{rest_of};
+ghost use Rattle.pt_fs.specs.Recorded.{Wrote};
 ghost use Rattle.pt_fs.specs.Took.{IsFinishedAt};
-ghost use Rattle.pt_fs.specs.Work.{work, bounds_in};
+ghost use Rattle.pt_fs.specs.Work.{KeepsPace, bounds_in, work};
 
 use crate::fs::SteppedFs;
 use crate::jobs::{Jobs, take_step};
-use crate::trace::TraceStep;
+use crate::record::Record;
 use pt_host::Host;
-use std::alloc::Global;
+use std::alloc::{AllocError, Global};
 
 /// The other restoring steps of the job that lost its seat, each once.
-fn restore_rest<H: Host, F: SteppedFs>(
+fn restore_rest<H: Host, F: SteppedFs, R: Record>(
     alloc: Global,
     host: &mut H,
     fs: &mut F,
     running: &mut Jobs,
-    trace: &mut Vec<TraceStep>,
+    record: &mut R,
     job: u32,
-)
+) -> Result<(), AllocError>
     requires named { job < length running.old }
-    requires room { length trace.old.items + work running.old (F.tables fs.old) < vec_capacity trace.old }
-    ensures restored { Restored H.does (F.plan_of fs.old) job host.old running.old (F.tables fs.old) trace.old.items
-        host.new running.new (F.tables fs.new) trace.new.items }
-    ensures over { IsOver (F.plan_of fs.old) job running.new }
+    ensures restored { OnOk result (Wrote R.wrote record.old record.new (λ steps.
+        Restored H.does (F.plan_of fs.old) job host.old running.old (F.tables fs.old) [] host.new running.new
+        (F.tables fs.new) steps)) }
+    ensures over { OnOk result (IsOver (F.plan_of fs.old) job running.new) }
     ensures plan { F.plan_of fs.new ≡ F.plan_of fs.old }
     ensures root { F.root fs.new ≡ F.root fs.old }
-    ensures capacity { vec_capacity trace.old ≤ vec_capacity trace.new }
-    ensures room { length trace.new.items + work running.new (F.tables fs.new) < vec_capacity trace.new }
+    ensures room { OnOk result (KeepsPace (R.room record.old) (work running.old (F.tables fs.old))
+        (R.room record.new) (work running.new (F.tables fs.new))) }
+    ensures full { OnErr result (R.room record.old < work running.old (F.tables fs.old)) }
 {
     while running.restoring(job as usize) {
-        let _lost = take_step(alloc, host, fs, running, trace, job);
+        let _lost = take_step(alloc, host, fs, running, record, job)?;
     }
+    Ok(())
 }
 
 /// Cuts the job of this number, unless it has finished or is the one that lost its seat.
@@ -66,77 +70,80 @@ fn cut_all(running: &mut Jobs, job: u32)
 }
 
 /// One job gives back all that it holds, whatever that is answered.
-fn end_one<H: Host, F: SteppedFs>(
+fn end_one<H: Host, F: SteppedFs, R: Record>(
     alloc: Global,
     host: &mut H,
     fs: &mut F,
     running: &mut Jobs,
-    trace: &mut Vec<TraceStep>,
+    record: &mut R,
     place: u32,
-)
+) -> Result<(), AllocError>
     requires named { place < length running.old }
-    requires room { length trace.old.items + work running.old (F.tables fs.old) < vec_capacity trace.old }
-    ensures goes { (jobs : ℕ) →
-        GoesOn H.does (F.plan_of fs.old) (rest_of (suc jobs) place) host.old running.old
-        (F.tables fs.old) trace.old.items (rest_of jobs (place + 1)) host.new running.new
-        (F.tables fs.new) trace.new.items }
+    ensures goes { OnOk result ((jobs : ℕ) → Wrote R.wrote record.old record.new (λ steps.
+        GoesOn H.does (F.plan_of fs.old) (rest_of (suc jobs) place) host.old running.old (F.tables fs.old) []
+        (rest_of jobs (place + 1)) host.new running.new (F.tables fs.new) steps)) }
     ensures plan { F.plan_of fs.new ≡ F.plan_of fs.old }
     ensures root { F.root fs.new ≡ F.root fs.old }
-    ensures capacity { vec_capacity trace.old ≤ vec_capacity trace.new }
-    ensures finished { IsFinishedAt running.new place }
-    ensures others { (j : ℕ) → IsFinishedAt running.old j → IsFinishedAt running.new j }
-    ensures room { length trace.new.items + work running.new (F.tables fs.new) < vec_capacity trace.new }
+    ensures finished { OnOk result (IsFinishedAt running.new place) }
+    ensures others { OnOk result ((j : ℕ) → IsFinishedAt running.old j → IsFinishedAt running.new j) }
+    ensures room { OnOk result (KeepsPace (R.room record.old) (work running.old (F.tables fs.old))
+        (R.room record.new) (work running.new (F.tables fs.new))) }
+    ensures full { OnErr result (R.room record.old < work running.old (F.tables fs.old)) }
 {
     while !running.is_finished(place as usize) {
-        let _lost = take_step(alloc, host, fs, running, trace, place);
+        let _lost = take_step(alloc, host, fs, running, record, place)?;
     }
+    Ok(())
 }
 
 /// The jobs in order give back all that they hold.
-fn end_all<H: Host, F: SteppedFs>(
+fn end_all<H: Host, F: SteppedFs, R: Record>(
     alloc: Global,
     host: &mut H,
     fs: &mut F,
     running: &mut Jobs,
-    trace: &mut Vec<TraceStep>,
-)
+    record: &mut R,
+) -> Result<(), AllocError>
     requires named { length running.old < 2 ^ 32 }
-    requires room { length trace.old.items + work running.old (F.tables fs.old) < vec_capacity trace.old }
-    ensures goes { GoesOn H.does (F.plan_of fs.old) (rest_of (length running.old) 0) host.old running.old
-        (F.tables fs.old) trace.old.items (rest_of 0 (length running.old)) host.new running.new
-        (F.tables fs.new) trace.new.items }
+    ensures goes { OnOk result (Wrote R.wrote record.old record.new (λ steps.
+        GoesOn H.does (F.plan_of fs.old) (rest_of (length running.old) 0) host.old running.old (F.tables fs.old) []
+        (rest_of 0 (length running.old)) host.new running.new (F.tables fs.new) steps)) }
     ensures plan { F.plan_of fs.new ≡ F.plan_of fs.old }
     ensures root { F.root fs.new ≡ F.root fs.old }
-    ensures capacity { vec_capacity trace.old ≤ vec_capacity trace.new }
-    ensures finished { (j : ℕ) → IsFinishedAt running.new j }
-    ensures room { length trace.new.items + work running.new (F.tables fs.new) < vec_capacity trace.new }
+    ensures finished { OnOk result ((j : ℕ) → IsFinishedAt running.new j) }
+    ensures room { OnOk result (KeepsPace (R.room record.old) (work running.old (F.tables fs.old))
+        (R.room record.new) (work running.new (F.tables fs.new))) }
+    ensures full { OnErr result (R.room record.old < work running.old (F.tables fs.old)) }
 {
     for place in 0..running.len() {
-        end_one(alloc, host, fs, running, trace, place as u32);
+        end_one(alloc, host, fs, running, record, place as u32)?;
     }
+    Ok(())
 }
 
 /// The job's other restoring steps, then the cut, and then all is given back.
-pub fn wind_up<H: Host, F: SteppedFs>(
+pub fn wind_up<H: Host, F: SteppedFs, R: Record>(
     alloc: Global,
     host: &mut H,
     fs: &mut F,
     running: &mut Jobs,
-    trace: &mut Vec<TraceStep>,
+    record: &mut R,
     job: u32,
-)
+) -> Result<(), AllocError>
     requires few { length running.old < 2 ^ 32 }
     requires named { job < length running.old }
-    requires room { length trace.old.items + work running.old (F.tables fs.old) < vec_capacity trace.old }
-    ensures winds_up { WindsUp H.does (F.plan_of fs.old) job host.old running.old (F.tables fs.old) trace.old.items
-        host.new running.new (F.tables fs.new) trace.new.items }
+    ensures winds_up { OnOk result (Wrote R.wrote record.old record.new (λ steps.
+        WindsUp H.does (F.plan_of fs.old) job host.old running.old (F.tables fs.old) [] host.new running.new
+        (F.tables fs.new) steps)) }
     ensures plan { F.plan_of fs.new ≡ F.plan_of fs.old }
     ensures root { F.root fs.new ≡ F.root fs.old }
-    ensures capacity { vec_capacity trace.old ≤ vec_capacity trace.new }
-    ensures finished { (j : ℕ) → IsFinishedAt running.new j }
-    ensures same { length running.new ≡ length running.old }
+    ensures finished { OnOk result ((j : ℕ) → IsFinishedAt running.new j) }
+    ensures same { OnOk result (length running.new ≡ length running.old) }
+    ensures room { OnOk result (KeepsPace (R.room record.old) (work running.old (F.tables fs.old))
+        (R.room record.new) (work running.new (F.tables fs.new))) }
+    ensures full { OnErr result (R.room record.old < work running.old (F.tables fs.old)) }
 {
-    restore_rest(alloc, host, fs, running, trace, job);
+    restore_rest(alloc, host, fs, running, record, job)?;
     cut_all(running, job);
-    end_all(alloc, host, fs, running, trace);
+    end_all(alloc, host, fs, running, record)
 }

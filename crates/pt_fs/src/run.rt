@@ -1,24 +1,18 @@
-ghost use Rattle.std.specs.Prelude.{◌≤◌, vec_capacity, ◌≡◌, ◌<◌, ◌^◌, ℕ, [], length, map, IfOk};
+ghost use Rattle.std.specs.Prelude.{◌≤◌, vec_capacity, ◌≡◌, ◌<◌, ◌^◌, ℕ, length, IfOk};
 ghost use Rattle.pt_session.specs.Tables.{empty_tables};
-ghost use Rattle.pt_fs.specs.Each.{EachStarted, EachAnswered};
 ghost use Rattle.pt_fs.specs.Ends.{EndsWhole, LosesSeat, OnDriven, OnLost, OnMemory};
 ghost use Rattle.pt_fs.specs.Jobs.{StartAll};
 ghost use Rattle.pt_fs.specs.Run.{IsRun};
-ghost use Rattle.pt_fs.specs.Took.{IsFinishedAt};
-ghost use Rattle.pt_fs.specs.Trace.{seated, room_of as room};
-ghost use Rattle.pt_fs.specs.Went.{run_seat};
-ghost use Rattle.pt_req.specs.declared.plan.Plan.{Plan};
+ghost use Rattle.pt_fs.specs.Trace.{room_of as room};
 
 use crate::fs::SteppedFs;
 use crate::job::Job;
-use crate::jobs::Jobs;
-use crate::lost::wind_up;
+use crate::recorded::{DriveIntoError, Left, drive_into};
 use crate::room::{room_of, with_room};
-use crate::schedule::run_jobs;
 use crate::trace::TraceStep;
 use pt_host::{Errno, Host, HostSeat};
 use pt_iface::Answer;
-use std::alloc::{AllocError, Global};
+use std::alloc::Global;
 
 /// What a run leaves: the file system, the answers and the steps of its jobs, and the seats of those that are no
 /// edit.
@@ -45,7 +39,7 @@ pub enum DriveError<F> {
 /// the unfinished jobs are cut, and all is given back.
 pub fn drive<H: Host, F: SteppedFs>(
     alloc: Global,
-    mut fs: F,
+    fs: F,
     host: &mut H,
     jobs: Vec<Job>,
     schedule: &[u32],
@@ -80,85 +74,33 @@ pub fn drive<H: Host, F: SteppedFs>(
     ensures nothing_done { OnMemory result (λ back. host.new ≡ host.old) }
     ensures handed_back { OnMemory result (λ back. back ≡ fs) }
 {
-    let (mut running, mut room) = match start_in_room(alloc, jobs) {
-        Ok(started) => started,
+    let mut trace = match with_room(alloc, room_of(&jobs)) {
+        Ok(trace) => trace,
         Err(_) => return Err(DriveError::Memory(fs)),
     };
-    match run_jobs(
-        alloc,
-        host,
-        &mut fs,
-        &mut running,
-        &mut room.trace,
-        schedule,
-    ) {
-        None => Ok(finish_run(fs, running, room)),
-        Some(loss) => {
-            wind_up(
-                alloc,
-                host,
-                &mut fs,
-                &mut running,
-                &mut room.trace,
-                loss.job,
-            );
-            let left = finish_run(fs, running, room);
-            Err(DriveError::CredentialsLost(loss.job, loss.errno, left))
+    match drive_into(alloc, fs, host, jobs, schedule, &mut trace) {
+        Ok(left) => Ok(with_trace(left, trace)),
+        Err(DriveIntoError::CredentialsLost(job, errno, left)) => {
+            Err(DriveError::CredentialsLost(job, errno, with_trace(left, trace)))
+        }
+        // The trace has room, so that it is the jobs that find no memory.
+        Err(DriveIntoError::Memory(fs)) | Err(DriveIntoError::Record(fs)) => {
+            Err(DriveError::Memory(fs))
         }
     }
 }
 
-/// What is left where each job has finished.
-fn finish_run<F>(fs: F, running: Jobs, mut room: Room) -> Driven<F>
-    requires finished { (j : ℕ) → IsFinishedAt running j }
-    requires no_answers { room.answers.items ≡ [] }
-    requires no_seats { room.seats.items ≡ [] }
-    requires room_answers { length running ≤ vec_capacity room.answers }
-    requires room_seats { length running ≤ vec_capacity room.seats }
-    ensures fs { result.fs ≡ fs }
-    ensures trace { result.trace ≡ room.trace }
-    ensures answers { EachAnswered running result.answers.items }
-    ensures seats { result.seats.items ≡ seated (map run_seat running) }
+/// What a run left, and its steps.
+fn with_trace<F>(left: Left<F>, trace: Vec<TraceStep>) -> Driven<F>
+    ensures fs { result.fs ≡ left.fs }
+    ensures answers { result.answers ≡ left.answers }
+    ensures trace { result.trace ≡ trace }
+    ensures seats { result.seats ≡ left.seats }
 {
-    running.finish(&mut room.answers, &mut room.seats);
     Driven {
-        fs,
-        answers: room.answers,
-        trace: room.trace,
-        seats: room.seats,
+        fs: left.fs,
+        answers: left.answers,
+        trace,
+        seats: left.seats,
     }
-}
-
-/// Room for all that a run writes down.
-#[derive(Drop)]
-struct Room {
-    trace: Vec<TraceStep>,
-    answers: Vec<Answer>,
-    seats: Vec<HostSeat>,
-}
-
-/// The jobs, none of which has made a step, and the room for their answers, their seats and their steps, and for one
-/// step more, since a step is taken where it is to lie.
-fn start_in_room(alloc: Global, jobs: Vec<Job>) -> Result<(Jobs, Room), AllocError>
-    requires { length jobs.items < 2 ^ 32 }
-    ensures started { IfOk result (λ r. (plan : Plan) → EachStarted plan jobs.items r.0) }
-    ensures trace { IfOk result (λ r. r.1.trace.items ≡ []) }
-    ensures answers { IfOk result (λ r. r.1.answers.items ≡ []) }
-    ensures seats { IfOk result (λ r. r.1.seats.items ≡ []) }
-    ensures trace_room { IfOk result (λ r. room jobs.items < vec_capacity r.1.trace) }
-    ensures answers_room { IfOk result (λ r. length r.0 ≤ vec_capacity r.1.answers) }
-    ensures seats_room { IfOk result (λ r. length r.0 ≤ vec_capacity r.1.seats) }
-{
-    let trace = with_room(alloc, room_of(&jobs) + 1)?;
-    let running = Jobs::new(alloc, jobs)?;
-    let answers = with_room(alloc, running.len())?;
-    let seats = with_room(alloc, running.len())?;
-    Ok((
-        running,
-        Room {
-            trace,
-            answers,
-            seats,
-        },
-    ))
 }

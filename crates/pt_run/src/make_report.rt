@@ -1,11 +1,13 @@
 ghost use Rattle.std.specs.Prelude.{◌≡◌, ◌≤◌, ◌+◌, ◌<◌, ◌^◌, ◌++◌, List, ℕ, IfOk, IfErr, OnOk, length, map};
 ghost use Rattle.pt_tree.specs.Listing.{listing_of};
+ghost use Rattle.pt_fs.specs.declared.trace.TraceStep.{TraceStep};
+ghost use Rattle.pt_run.specs.Report.{step_lines};
 ghost use Rattle.pt_run.specs.TableLines.{live_lines, handle_lines, slots_line};
 ghost use Rattle.pt_run.specs.Configured.{configured};
 ghost use Rattle.pt_run.specs.Run.{
   job_of,
   seat_of,
-  report_of,
+  rest_of,
   status_for,
   AreLive,
   IsOpened,
@@ -15,10 +17,10 @@ ghost use Rattle.pt_run.specs.Run.{
   IsNoReport,
 };
 
-use crate::report::{LostJob, push_answers, push_lost, push_steps};
+use crate::report::{LostJob, StepLines, push_answers, push_lost};
 use crate::status::Status;
 use crate::table_lines::{push_handles, push_lives, push_slots};
-use pt_fs::{DriveError, Driven, Job, PassthroughFs, SteppedFs, drive};
+use pt_fs::{DriveIntoError, Job, Left, PassthroughFs, SteppedFs, drive_into};
 use pt_host::HostSeat;
 use pt_iface::{Refusal, Request};
 use pt_req::Config;
@@ -116,34 +118,30 @@ fn push_objects(alloc: Global, out: &mut Vec<u8>, host: &TreeHost) -> Result<(),
     }
 }
 
-// The report of a run that left this host.
-fn report_on(
+// Appends what the report says behind the lines of the steps, of a run that left this host.
+fn push_rest(
     alloc: Global,
-    driven: &Driven<PassthroughFs>,
+    out: &mut Vec<u8>,
+    left: &Left<PassthroughFs>,
     host: &TreeHost,
     lost: Option<LostJob>,
-) -> Result<Vec<u8>, AllocError>
-    ensures { IfOk result (λ report. (lives : List (ℕ × ℕ)) × (handles : List (ℕ × ℕ))
-        × AreLive driven.now.fs.tables lives handles
-        × (report.items ≡ report_of driven.now.trace.items driven.now.answers.items lives handles
-        driven.now.fs.tables host.now lost)) }
+) -> Result<(), AllocError>
+    ensures { OnOk result ((lives : List (ℕ × ℕ)) × (handles : List (ℕ × ℕ))
+        × AreLive left.now.fs.tables lives handles × (out.new.items ≡ out.old.items
+        ++ rest_of left.now.answers.items lives handles left.now.fs.tables host.now lost)) }
 {
-    let mut out = Vec::new(alloc);
-    // A line of a step has about so many bytes. Where there is no room for all, it is had as the lines come.
-    let _room = out.reserve(driven.trace.len().saturating_mul(64));
-    push_steps(&mut out, driven.trace.as_slice())?;
-    push_answers(&mut out, driven.answers.as_slice())?;
-    push_tables(&mut out, &driven.fs)?;
-    push_objects(alloc, &mut out, host)?;
-    push_lost(&mut out, lost)?;
-    push_text(&mut out, b"end\n")?;
-    Ok(out)
+    push_answers(out, left.answers.as_slice())?;
+    push_tables(out, &left.fs)?;
+    push_objects(alloc, out, host)?;
+    push_lost(out, lost)?;
+    push_text(out, b"end\n")
 }
 
-/// What a run left, and whether it lost a seat.
+/// What a run left, the lines of its steps, and whether it lost a seat.
 #[derive(Drop)]
 struct Ran {
-    driven: Driven<PassthroughFs>,
+    left: Left<PassthroughFs>,
+    lines: StepLines,
     lost: Option<LostJob>,
 }
 
@@ -156,21 +154,29 @@ fn run_jobs(
     schedule: &[u32],
 ) -> Result<Ran, Status>
     requires { length jobs.items < 2 ^ 32 }
-    ensures ok { IfOk result (λ ran. IsRunFrom settings host.old jobs.items schedule.now
-        ran.driven.trace.items ran.driven.answers.items ran.driven.fs.tables host.new ran.lost) }
+    ensures ok { IfOk result (λ ran. (trace : List TraceStep) × (ran.lines.text.items ≡ step_lines trace)
+        × IsRunFrom settings host.old jobs.items schedule.now
+        trace ran.left.answers.items ran.left.fs.tables host.new ran.lost) }
     ensures err { IfErr result (λ status. IsNotOpened settings host.old status) }
 {
     let Ok(jobs) = jobs_of(alloc, settings.identity(), jobs) else {
         return Err(Status::NoMemory);
     };
     let fs = open_fs(alloc, settings, host)?;
-    match drive(alloc, fs, host, jobs, schedule) {
-        Ok(driven) => Ok(Ran { driven, lost: None }),
-        Err(DriveError::CredentialsLost(job, errno, driven)) => {
+    let mut lines = StepLines {
+        text: Vec::new(alloc),
+    };
+    match drive_into(alloc, fs, host, jobs, schedule, &mut lines) {
+        Ok(left) => Ok(Ran {
+            left,
+            lines,
+            lost: None,
+        }),
+        Err(DriveIntoError::CredentialsLost(job, errno, left)) => {
             let lost = Some(LostJob { job, errno });
-            Ok(Ran { driven, lost })
+            Ok(Ran { left, lines, lost })
         }
-        Err(DriveError::Memory(_)) => Err(Status::NoMemory),
+        Err(DriveIntoError::Memory(_)) | Err(DriveIntoError::Record(_)) => Err(Status::NoMemory),
     }
 }
 
@@ -208,14 +214,18 @@ pub(crate) fn report_of_script(alloc: Global, bytes: &[u8]) -> Result<Report, St
         jobs,
         schedule,
     } = script;
-    let ran = match run_jobs(alloc, settings, &mut host, jobs, schedule.as_slice()) {
-        Ok(ran) => ran,
-        Err(status) => return Err(status),
-    };
-    match report_on(alloc, &ran.driven, &host, ran.lost) {
-        Ok(text) => Ok(Report {
+    let Ran { left, lines, lost } = run_jobs(
+        alloc,
+        settings,
+        &mut host,
+        jobs,
+        schedule.as_slice(),
+    )?;
+    let mut text = lines.text;
+    match push_rest(alloc, &mut text, &left, &host, lost) {
+        Ok(()) => Ok(Report {
             text,
-            ends: status_for(ran.lost),
+            ends: status_for(lost),
         }),
         Err(_) => Err(Status::NoMemory),
     }

@@ -1,8 +1,8 @@
 ghost use Rattle.std.specs.Prelude.{◌≡◌, ◌++◌, OnOk};
-ghost use Rattle.pt_run.specs.Report.{step_line, step_lines, answer_line, answer_lines, lost_lines};
+ghost use Rattle.pt_run.specs.Report.{step_line, answer_line, answer_lines, lost_lines};
 
 use pt_frame::{ActReply, KeptAct};
-use pt_fs::TraceStep;
+use pt_fs::{Record, TraceStep};
 use pt_host::Errno;
 use pt_iface::Answer;
 use pt_show::Text;
@@ -27,14 +27,24 @@ fn push_step(out: &mut Vec<u8>, job: u32, act: &KeptAct, reply: &ActReply) -> Re
     push_text(out, b"\n")
 }
 
-/// Appends the lines of the steps. After an `Err` part of them may stand there, as after each of these calls.
-pub(crate) fn push_steps(out: &mut Vec<u8>, trace: &[TraceStep]) -> Result<(), AllocError>
-    ensures { OnOk result (out.new.items ≡ out.old.items ++ step_lines trace.now) }
-{
-    for step in trace {
-        push_step(out, step.job, &step.act, &step.reply)?;
+/// The lines of a run's steps, each written where its step was made. After an `Err` part of a line may stand there.
+#[derive(Drop)]
+pub(crate) struct StepLines {
+    pub text: Vec<u8>,
+}
+
+impl Record for StepLines {
+    ghost use Rattle.std.specs.Prelude.{◌≡◌, ◌++◌};
+    ghost use Rattle.pt_run.specs.Report.{step_line};
+
+    ghost wrote = { λ lines step longer.
+        longer.text.items ≡ lines.text.items ++ step_line step.job step.act step.reply };
+
+    ghost room = { λ lines. 0 };
+
+    fn write(&mut self, step: TraceStep) -> Result<(), AllocError> {
+        push_step(&mut self.text, step.job, &step.act, &step.reply)
     }
-    Ok(())
 }
 
 fn push_answer(out: &mut Vec<u8>, job: u64, answer: &Answer) -> Result<(), AllocError>

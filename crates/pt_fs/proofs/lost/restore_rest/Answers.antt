@@ -1,38 +1,37 @@
 use Rattle.std.proofs.Common.{◌∙◌, refl, arith}
 use Rattle.pt_fs.proofs.Going.{fewer_took, length_took}
 use Rattle.pt_fs.proofs.Losing.{restored_none, restored_more, restores_at, over_at, going_at}
+use Rattle.pt_fs.proofs.Recording.{wrote_none, wrote_on, took_behind, paces_on}
 use Rattle.pt_fs.proofs.lost.restore_rest.Goals as goal
 
 pub loop-alloc-init : goal.loop-alloc-init
 loop-alloc-init g c = record {
-  room = c.requires.room;
+  room = omega arith;
   plan = refl;
   root = refl;
-  capacity = omega arith;
-  restored = restored_none _ _ _ _ _ _ _;
+  restored = wrote_none (restored_none _ _ _ _ _ _ _);
   inside = c.requires.named;
 }
 
-pub take_step-lost-requires-clause-unfinished : goal.take_step-lost-requires-clause-unfinished
-take_step-lost-requires-clause-unfinished g c =
+pub take_step-requires-clause-unfinished : goal.take_step-requires-clause-unfinished
+take_step-requires-clause-unfinished g c =
     going_at c.loop-alloc.running c.args.job _ _ c.loop-alloc-test.true
     c.restoring.ensures.unfinished c.restoring.ensures.restores
 
 pub loop-alloc-smaller : goal.loop-alloc-smaller
-loop-alloc-smaller g c = fewer_took c.take_step-lost.ensures.took
+loop-alloc-smaller g c = fewer_took c.in_ok-_lost.ensures.took.so
 
 pub loop-alloc-preserved : goal.loop-alloc-preserved
 loop-alloc-preserved g c = record {
-  room = c.take_step-lost.ensures.room;
-  plan = c.take_step-lost.ensures.plan ∙ c.loop-alloc.invariant.plan;
-  root = c.take_step-lost.ensures.root ∙ c.loop-alloc.invariant.root;
-  capacity = let one = c.take_step-lost.ensures.capacity in let so_far = c.loop-alloc.invariant.capacity in
-      omega (arith, one, so_far);
-  restored = restored_more _ _ _ _ _ _ _ _ _ _ _ _ _ _ _ _ _ c.loop-alloc.invariant.plan
-      c.loop-alloc.invariant.restored c.take_step-lost.ensures.took (λ plan run at.
+  room = paces_on _ _ _ _ _ _ c.loop-alloc.invariant.room c.in_ok-_lost.ensures.room;
+  plan = c.in_ok-_lost.ensures.plan ∙ c.loop-alloc.invariant.plan;
+  root = c.in_ok-_lost.ensures.root ∙ c.loop-alloc.invariant.root;
+  restored = wrote_on c.loop-alloc.invariant.restored c.in_ok-_lost.ensures.took (λ xs ys restored took.
+      restored_more _ _ _ _ _ _ _ _ _ _ _ _ _ _ _ _ _ c.loop-alloc.invariant.plan
+      restored (took_behind xs took) (λ plan run at.
       restores_at c.loop-alloc.running c.args.job run plan _ at
-      c.restoring.ensures.restores ∙ c.loop-alloc-test.true);
-  inside = length_took c.take_step-lost.ensures.took c.loop-alloc.invariant.inside;
+      c.restoring.ensures.restores ∙ c.loop-alloc-test.true));
+  inside = length_took c.in_ok-_lost.ensures.took.so c.loop-alloc.invariant.inside;
 }
 
 pub returns-clause-over : goal.returns-clause-over

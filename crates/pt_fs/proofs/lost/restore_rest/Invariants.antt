@@ -1,17 +1,19 @@
-use Rattle.std.proofs.Common.{◌≡◌, ◌+◌, ◌≤◌, vec_capacity, ◌<◌, length}
+use Rattle.std.proofs.Common.{◌≡◌, ◌<◌, length, []}
 use Rattle.pt_fs.specs.Loses.{Restored}
+use Rattle.pt_fs.specs.Recorded.{Wrote}
 use Rattle.pt_fs.specs.Took.{steps_left_at}
-use Rattle.pt_fs.specs.Work.{work}
+use Rattle.pt_fs.specs.Work.{KeepsPace, work}
 use Rattle.pt_fs.proofs.lost.restore_rest.Given as goal
 
 abbrev pub invariant-loop-alloc : goal.invariant-loop-alloc
 invariant-loop-alloc g l = record {
-  room : length l.trace.items + work l.running (g.F.SteppedFs.tables l.fs) < vec_capacity l.trace;
+  room : KeepsPace (g.R.Record.room l.fn.record) (work l.fn.running (g.F.SteppedFs.tables l.fn.fs))
+      (g.R.Record.room l.record) (work l.running (g.F.SteppedFs.tables l.fs));
   plan : g.F.SteppedFs.plan_of l.fs ≡ g.F.SteppedFs.plan_of l.fn.fs;
   root : g.F.SteppedFs.root l.fs ≡ g.F.SteppedFs.root l.fn.fs;
-  capacity : vec_capacity l.fn.trace ≤ vec_capacity l.trace;
-  restored : Restored g.H.Host.does (g.F.SteppedFs.plan_of l.fn.fs) l.fn.job l.fn.host l.fn.running
-      (g.F.SteppedFs.tables l.fn.fs) l.fn.trace.items l.host l.running (g.F.SteppedFs.tables l.fs) l.trace.items;
+  restored : Wrote g.R.Record.wrote l.fn.record l.record (λ steps.
+      Restored g.H.Host.does (g.F.SteppedFs.plan_of l.fn.fs) l.fn.job l.fn.host l.fn.running
+      (g.F.SteppedFs.tables l.fn.fs) [] l.host l.running (g.F.SteppedFs.tables l.fs) steps);
   inside : l.job < length l.running;
 }
 

@@ -1,21 +1,25 @@
 use Rattle.std.proofs.Common.{◌∙◌}
+use Rattle.pt_fs.proofs.Recording.{wrote_on, goes_behind, ok_on}
 use Rattle.pt_fs.proofs.lost.wind_up.Goals as goal
 
 pub returns-clause-winds_up : goal.returns-clause-winds_up
-returns-clause-winds_up g c = record {
-  mid = c.restore_rest.new.host;
-  stood = c.restore_rest.new.running;
-  cut = c.cut_all.new.running;
-  left = g.F.SteppedFs.tables c.restore_rest.new.fs;
-  so_far = c.restore_rest.new.trace.items;
-  restored = c.restore_rest.ensures.restored;
-  over = c.restore_rest.ensures.over;
-  same = c.cut_all.ensures.same;
-  cuts = c.cut_all.ensures.cut;
-  bounds = c.cut_all.ensures.bounds;
-  back = rw c.restore_rest.ensures.plan at c.end_all.ensures.goes;
-}
+returns-clause-winds_up g c =
+    ok_on c.end_all.result _ _ (rw c.in_ok-restore_rest.ensures.plan at c.end_all.ensures.goes) (λ back.
+    wrote_on c.in_ok-restore_rest.ensures.restored back (λ xs ys restored then. record {
+      mid = c.restore_rest.new.host;
+      stood = c.restore_rest.new.running;
+      cut = c.cut_all.new.running;
+      left = g.F.SteppedFs.tables c.restore_rest.new.fs;
+      so_far = xs;
+      restored = restored;
+      over = c.in_ok-restore_rest.ensures.over;
+      same = c.cut_all.ensures.same;
+      cuts = c.cut_all.ensures.cut;
+      bounds = c.cut_all.ensures.bounds;
+      back = goes_behind xs then;
+    }))
 
 pub returns-clause-same : goal.returns-clause-same
 returns-clause-same g c =
-    c.end_all.ensures.goes.same ∙ c.cut_all.ensures.same ∙ c.restore_rest.ensures.restored.goes.same
+    ok_on c.end_all.result _ _ c.end_all.ensures.goes (λ back.
+    back.so.same ∙ c.cut_all.ensures.same ∙ c.in_ok-restore_rest.ensures.restored.so.goes.same)

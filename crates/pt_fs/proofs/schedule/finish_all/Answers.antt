@@ -4,16 +4,16 @@ use Rattle.std.proofs.lemmas.Option.{slice_get_within}
 use Rattle.pt_fs.specs.Order.{rest_of}
 use Rattle.pt_fs.proofs.Going.{goes_none, goes_on}
 use Rattle.pt_fs.proofs.Losing.{lost_on}
+use Rattle.pt_fs.proofs.Recording.{wrote_none, wrote_on, lost_behind, goes_behind, paces_on}
 use Rattle.pt_fs.proofs.schedule.finish_all.Goals as goal
 
 pub loop-place-init : goal.loop-place-init
 loop-place-init g c = let e : length c.args.running.now - 0 ≡ length c.args.running.now = omega arith in
     record {
-      room = c.requires.room;
+      room = omega arith;
       plan = refl;
       root = refl;
-      capacity = omega arith;
-      goes = rw e (goes_none _ _ _ _ _ _ _);
+      goes = rw e (wrote_none (goes_none _ _ _ _ _ _ _));
       finished = λ j below. absurd (omega arith);
       calm = c.requires.calm;
     }
@@ -23,9 +23,9 @@ returns-in-Some-clause-lost g c =
     let n = length c.args.running.now in
     let k = c.loop-place.place in
     let more : n - k ≡ suc (n - (k + 1)) = omega (arith, c.loop-place-test.true) in
-    lost_on _ _ _ (rest_of n 0) (rest_of (suc (n - (k + 1))) k) _ _ _ _ _ _ _ _ _ _ _ _ _ _
-    c.loop-place.invariant.plan (rw more at c.loop-place.invariant.goes)
-    (rw c.in-Some.is at c.finish_one.ensures.lost (n - (k + 1)))
+    wrote_on (rw more at c.loop-place.invariant.goes) ((rw c.in-Some.is at c.in_ok-errno.ensures.lost) (n - (k + 1)))
+    (λ xs ys goes lost. lost_on _ _ _ (rest_of n 0) (rest_of (suc (n - (k + 1))) k) _ _ _ _ _ _ _ _ _ _ _ _ _ _
+    c.loop-place.invariant.plan goes (lost_behind xs lost))
 
 pub loop-place-preserved : goal.loop-place-preserved
 loop-place-preserved g c =
@@ -33,21 +33,20 @@ loop-place-preserved g c =
     let k = c.loop-place.place in
     let more : n - k ≡ suc (n - (k + 1)) = omega (arith, c.loop-place-test.true) in
     record {
-      room = c.finish_one.ensures.room;
-      plan = c.finish_one.ensures.plan ∙ c.loop-place.invariant.plan;
-      root = c.finish_one.ensures.root ∙ c.loop-place.invariant.root;
-      capacity = let one = c.finish_one.ensures.capacity in let so_far = c.loop-place.invariant.capacity in
-          omega (arith, one, so_far);
-      goes = goes_on _ _ _ (rest_of n 0) (rest_of (suc (n - (k + 1))) k)
+      room = paces_on _ _ _ _ _ _ c.loop-place.invariant.room c.in_ok-errno.ensures.room;
+      plan = c.in_ok-errno.ensures.plan ∙ c.loop-place.invariant.plan;
+      root = c.in_ok-errno.ensures.root ∙ c.loop-place.invariant.root;
+      goes = wrote_on (rw more at c.loop-place.invariant.goes)
+          ((rw c.in_default.is at c.in_ok-errno.ensures.goes) (n - (k + 1))) (λ xs ys goes one.
+          goes_on _ _ _ (rest_of n 0) (rest_of (suc (n - (k + 1))) k)
           (rest_of (n - (k + 1)) (k + 1)) _ _ _ _ _ _ _ _ _ _ _ _ c.loop-place.invariant.plan
-          (rw more at c.loop-place.invariant.goes)
-          ((rw c.in_default.is at c.finish_one.ensures.goes) (n - (k + 1)));
+          goes (goes_behind xs one));
       finished = λ j below. elim (cases_eq j k) [
-        | inl same ↦ rw same (rw c.in_default.is at c.finish_one.ensures.finished)
-        | inr other ↦ (rw c.in_default.is at c.finish_one.ensures.others) j
+        | inl same ↦ rw same (rw c.in_default.is at c.in_ok-errno.ensures.finished)
+        | inr other ↦ (rw c.in_default.is at c.in_ok-errno.ensures.others) j
             (c.loop-place.invariant.finished j (omega arith))
       ];
-      calm = rw c.in_default.is at c.finish_one.ensures.calm;
+      calm = rw c.in_default.is at c.in_ok-errno.ensures.calm;
     }
 
 pub returns-clause-finished : goal.returns-clause-finished

@@ -1,20 +1,22 @@
-use Rattle.std.proofs.Common.{◌≡◌, ◌+◌, ◌≤◌, vec_capacity, ℕ, suc, ◌<◌, length}
+use Rattle.std.proofs.Common.{◌≡◌, ℕ, suc, ◌<◌, length, []}
 use Rattle.pt_fs.specs.GoesOn.{GoesOn}
 use Rattle.pt_fs.specs.Order.{rest_of}
+use Rattle.pt_fs.specs.Recorded.{Wrote}
 use Rattle.pt_fs.specs.Took.{IsFinishedAt, NoneLost, steps_left_at}
-use Rattle.pt_fs.specs.Work.{work}
+use Rattle.pt_fs.specs.Work.{KeepsPace, work}
 use Rattle.pt_fs.proofs.schedule.finish_one.Given as goal
 
 abbrev pub invariant-loop-alloc : goal.invariant-loop-alloc
 invariant-loop-alloc g l = record {
-  room : length l.trace.items + work l.running (g.F.SteppedFs.tables l.fs) < vec_capacity l.trace;
+  room : KeepsPace (g.R.Record.room l.fn.record) (work l.fn.running (g.F.SteppedFs.tables l.fn.fs))
+      (g.R.Record.room l.record) (work l.running (g.F.SteppedFs.tables l.fs));
   plan : g.F.SteppedFs.plan_of l.fs ≡ g.F.SteppedFs.plan_of l.fn.fs;
   root : g.F.SteppedFs.root l.fs ≡ g.F.SteppedFs.root l.fn.fs;
-  capacity : vec_capacity l.fn.trace ≤ vec_capacity l.trace;
   goes : (jobs : ℕ) →
+      Wrote g.R.Record.wrote l.fn.record l.record (λ steps.
       GoesOn g.H.Host.does (g.F.SteppedFs.plan_of l.fn.fs) (rest_of (suc jobs) l.fn.place) l.fn.host l.fn.running
-      (g.F.SteppedFs.tables l.fn.fs) l.fn.trace.items (rest_of (suc jobs) l.fn.place) l.host l.running
-      (g.F.SteppedFs.tables l.fs) l.trace.items;
+      (g.F.SteppedFs.tables l.fn.fs) [] (rest_of (suc jobs) l.fn.place) l.host l.running
+      (g.F.SteppedFs.tables l.fs) steps);
   others : (j : ℕ) → IsFinishedAt l.fn.running j → IsFinishedAt l.running j;
   calm : NoneLost l.running;
   inside : l.place < length l.running;

@@ -1,23 +1,26 @@
 use Rattle.std.proofs.Common.{◌≡◌, length}
 use Rattle.pt_fs.specs.Order.{order, rest_of}
 use Rattle.pt_fs.proofs.Going.{goes_on}
-use Rattle.pt_fs.proofs.Losing.{lost_on, none_on, some_on}
+use Rattle.pt_fs.proofs.Losing.{lost_on}
+use Rattle.pt_fs.proofs.Recording.{wrote_on, goes_behind, lost_behind, kept_on, loss_on}
 use Rattle.pt_fs.proofs.schedule.run_jobs.Goals as goal
 
 pub returns-clause-goes : goal.returns-clause-goes
 returns-clause-goes g c =
     let n = length c.args.running.now in
-    let so_far = rw c.in_default.is at c.run_schedule.ensures.goes in
-    let same : length c.run_schedule.new.running ≡ n = so_far.same in
-    none_on c.finish_all.result _ _ (rw same at c.finish_all.ensures.goes) (λ more.
+    let so_far = rw c.in_default.is at c.in_ok-loss.ensures.goes in
+    let same : length c.run_schedule.new.running ≡ n = so_far.so.same in
+    kept_on c.finish_all.result _ _ (rw same at c.finish_all.ensures.goes) (λ more.
+    wrote_on so_far more (λ xs ys goes then.
     goes_on _ _ _ (order c.args.schedule.now n) (rest_of n 0) (rest_of 0 n) _ _ _ _ _ _ _ _ _ _ _ _
-    c.run_schedule.ensures.plan so_far more)
+    c.in_ok-loss.ensures.plan goes (goes_behind xs then)))
 
 pub returns-clause-lost : goal.returns-clause-lost
 returns-clause-lost g c =
     let n = length c.args.running.now in
-    let so_far = rw c.in_default.is at c.run_schedule.ensures.goes in
-    let same : length c.run_schedule.new.running ≡ n = so_far.same in
-    some_on c.finish_all.result _ _ (rw same at c.finish_all.ensures.lost) (λ loss more.
+    let so_far = rw c.in_default.is at c.in_ok-loss.ensures.goes in
+    let same : length c.run_schedule.new.running ≡ n = so_far.so.same in
+    loss_on c.finish_all.result _ _ (rw same at c.finish_all.ensures.lost) (λ loss more.
+    wrote_on so_far more (λ xs ys goes then.
     lost_on _ _ _ (order c.args.schedule.now n) (rest_of n 0) _ _ _ _ _ _ _ _ _ _ _ _ loss.job loss.errno
-    c.run_schedule.ensures.plan so_far more)
+    c.in_ok-loss.ensures.plan goes (lost_behind xs then)))

@@ -1,5 +1,5 @@
 use Rattle.pt_fs.proofs.Ended.{waiting_started}
-use Rattle.pt_fs.proofs.run.start_in_room.Goals as goal
+use Rattle.pt_fs.proofs.recorded.start_in_room.Goals as goal
 
 pub returns-clause-started : goal.returns-clause-started
 returns-clause-started c = λ plan.

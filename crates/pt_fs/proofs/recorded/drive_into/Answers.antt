@@ -1,0 +1,147 @@
+use Rattle.std.proofs.Common.{◌∙◌, ap, ◌++◌, [], refl, arith}
+use Rattle.std.proofs.lemmas.Option.{slice_get_within}
+use Rattle.pt_session.specs.Pending.{pending_in}
+use Rattle.pt_law.proofs.Hosts.{Tells}
+use Rattle.pt_fs.proofs.Concluding.{is_run}
+use Rattle.pt_fs.proofs.Ended.{started_length, started_calm, started_fits}
+use Rattle.pt_fs.proofs.Finale.{LostEnd, runs_lost, long_end, length_lost, comes_lost, bounded_lost, spent_lost}
+use Rattle.pt_fs.proofs.Finale.{loses_seat}
+use Rattle.pt_fs.proofs.Going.{there_took}
+use Rattle.pt_fs.proofs.Recording.{wrote_on, wrote_so, winds_behind}
+use Rattle.pt_fs.proofs.Whole.{Whole, runs_whole, same_whole, length_whole, comes_whole, bounded_whole, spent_whole}
+use Rattle.pt_fs.proofs.Whole.{ends_whole, runs_jobs, seats_back, each_seated, ran_of}
+use Rattle.pt_fs.proofs.Works.{started_bounds}
+use Rattle.pt_fs.proofs.recorded.drive_into.Given as given
+use Rattle.pt_fs.proofs.recorded.drive_into.Goals as goal
+
+pub run_jobs-requires-clause-named : goal.run_jobs-requires-clause-named
+run_jobs-requires-clause-named g c =
+    let plan = g.F.SteppedFs.plan_of c.args.fs in
+    let same = started_length plan c.args.jobs.items c.in-Ok.started.0 (c.in-Ok.ensures.started plan) in
+    let few = c.requires.few in
+    omega (arith, same, few)
+
+pub run_jobs-requires-clause-calm : goal.run_jobs-requires-clause-calm
+run_jobs-requires-clause-calm g c =
+    let plan = g.F.SteppedFs.plan_of c.args.fs in
+    started_calm plan c.args.jobs.items c.in-Ok.started.0 (c.in-Ok.ensures.started plan)
+
+pub wind_up-requires-clause-few : goal.wind_up-requires-clause-few
+wind_up-requires-clause-few g c =
+    let lost = (rw c.in-Ok-Some.field-0-is at c.in-Ok-Some.ensures.lost).so in
+    let same = lost.last.same ∙ lost.goes.same in
+    let plan = g.F.SteppedFs.plan_of c.args.fs in
+    let long = started_length plan c.args.jobs.items c.in-Ok.started.0 (c.in-Ok.ensures.started plan) in
+    let few = c.requires.few in
+    omega (arith, same, long, few)
+
+pub wind_up-requires-clause-named : goal.wind_up-requires-clause-named
+wind_up-requires-clause-named g c =
+    let took = (rw c.in-Ok-Some.field-0-is at c.in-Ok-Some.ensures.lost).so.took in
+    slice_get_within c.run_jobs.new.running c.in-Ok-Some.loss.job took.run' (there_took took)
+
+-- what the host keeps
+lawful_of : (g : given.Over) → Tells g.H.Host.does g.H.Host.tree
+lawful_of g = λ from seat asked reply to seat_after made before at.
+    let l = g.met.H.Host.lawful from seat asked reply to seat_after made before at in
+    (l.0, l.1, l.2)
+
+pub returns-in-Ok-None-clause-run : goal.returns-in-Ok-None-clause-run
+returns-in-Ok-None-clause-run g c =
+    let jobs = c.args.jobs.items in
+    let plan = g.F.SteppedFs.plan_of c.args.fs in
+    let running = c.in-Ok.started.0 in
+    let seats = c.finish_run.ensures.seats in
+    let new = c.requires.new in
+    let bounds = started_bounds _ jobs running (c.in-Ok.ensures.started plan) in
+    let fits = started_fits _ jobs running (c.in-Ok.ensures.started plan) in
+    let none = ap pending_in new.1 in
+    let fs = c.finish_run.ensures.fs in
+    wrote_so (rw c.in-Ok-None.field-0-is at c.in-Ok-None.ensures.goes) (λ trace goes.
+    let whole : Whole g.H.Host.does plan c.args.schedule.now c.args.host.now jobs running
+    (g.F.SteppedFs.tables c.args.fs) c.run_jobs.new.host c.run_jobs.new.running
+    (g.F.SteppedFs.tables c.run_jobs.new.fs) trace c.finish_run.result.answers.items =
+    record {
+      none = [];
+      empty = refl;
+      seats = c.requires.seats;
+      started = c.in-Ok.ensures.started plan;
+      goes = goes;
+      finished = rw c.in-Ok-None.field-0-is at c.in-Ok-None.ensures.finished;
+      calm = rw c.in-Ok-None.field-0-is at c.in-Ok-None.ensures.calm;
+      answered = c.finish_run.ensures.answers;
+    } in
+    let spent = spent_whole whole in
+    let is = is_run g.H.Host.does g.H.Host.tree g.H.Host.faults g.met.H.Host.promised (lawful_of g) plan jobs _ _ _ _
+    trace _ _
+    (ran_of g.H.Host.does plan jobs trace _ _ _ _ _ _ (runs_whole whole) (same_whole whole) (length_whole whole)
+    (comes_whole whole) new)
+    (runs_jobs g.H.Host.does plan jobs trace _ _ _ _ _ _ (runs_whole whole) (same_whole whole) (length_whole whole)
+    (comes_whole whole) _ seats)
+    (seats_back g.H.Host.does plan jobs trace _ _ _ _ _ _ (runs_whole whole) (same_whole whole) (length_whole whole)
+    (comes_whole whole) g.H.Host.faults g.met.H.Host.promised c.requires.seats fits _ seats)
+    (each_seated g.H.Host.does plan jobs trace _ _ _ _ _ _ (runs_whole whole) (same_whole whole) (length_whole whole)
+    (comes_whole whole) g.H.Host.faults g.met.H.Host.promised c.requires.seats fits)
+    (bounded_whole whole) (omega (arith, bounds, none, spent)) in
+    (rw fs is, ends_whole whole))
+
+pub returns-in-Ok-wind_up-clause-run : goal.returns-in-Ok-wind_up-clause-run
+returns-in-Ok-wind_up-clause-run g c =
+    let jobs = c.args.jobs.items in
+    let plan = g.F.SteppedFs.plan_of c.args.fs in
+    let running = c.in-Ok.started.0 in
+    let seats = c.finish_run-left.ensures.seats in
+    let new = c.requires.new in
+    let bounds = started_bounds _ jobs running (c.in-Ok.ensures.started plan) in
+    let fits = started_fits _ jobs running (c.in-Ok.ensures.started plan) in
+    let none = ap pending_in new.1 in
+    let fs = c.finish_run-left.ensures.fs in
+    wrote_on (rw c.in-Ok-Some.field-0-is at c.in-Ok-Some.ensures.lost) (rw c.run_jobs.ensures.plan at c.in-Ok-wind_up.ensures.winds_up)
+    (λ so_far back lost winds.
+    let trace = so_far ++ back in
+    let e : LostEnd g.H.Host.does plan c.args.schedule.now jobs c.args.host.now c.wind_up.new.host running
+    c.wind_up.new.running (g.F.SteppedFs.tables c.args.fs) (g.F.SteppedFs.tables c.wind_up.new.fs) trace
+    c.finish_run-left.result.answers.items c.in-Ok-Some.loss.job c.in-Ok-Some.loss.errno =
+    record {
+      none = [];
+      mid = c.run_jobs.new.host;
+      stood = c.run_jobs.new.running;
+      left = g.F.SteppedFs.tables c.run_jobs.new.fs;
+      so_far = so_far;
+      empty = refl;
+      seats = c.requires.seats;
+      started = c.in-Ok.ensures.started plan;
+      lost = lost;
+      winds = winds_behind so_far winds;
+      finished = c.in-Ok-wind_up.ensures.finished;
+      answered = c.finish_run-left.ensures.answers;
+    } in
+    let spent = spent_lost e in
+    let is = is_run g.H.Host.does g.H.Host.tree g.H.Host.faults g.met.H.Host.promised (lawful_of g) plan jobs _ _ _ _
+    trace _ _
+    (ran_of g.H.Host.does plan jobs trace _ _ _ _ _ _ (runs_lost e) (long_end e) (length_lost e) (comes_lost e) new)
+    (runs_jobs g.H.Host.does plan jobs trace _ _ _ _ _ _ (runs_lost e) (long_end e) (length_lost e) (comes_lost e) _
+    seats)
+    (seats_back g.H.Host.does plan jobs trace _ _ _ _ _ _ (runs_lost e) (long_end e) (length_lost e) (comes_lost e)
+    g.H.Host.faults g.met.H.Host.promised c.requires.seats fits _ seats)
+    (each_seated g.H.Host.does plan jobs trace _ _ _ _ _ _ (runs_lost e) (long_end e) (length_lost e) (comes_lost e)
+    g.H.Host.faults g.met.H.Host.promised c.requires.seats fits)
+    (bounded_lost e) (omega (arith, bounds, none, spent)) in
+    (rw fs is, loses_seat e g.H.Host.faults g.met.H.Host.promised))
+
+pub returns-in-Err-run_jobs-clause-full : goal.returns-in-Err-run_jobs-clause-full
+returns-in-Err-run_jobs-clause-full g c =
+    let plan = g.F.SteppedFs.plan_of c.args.fs in
+    let bounds = started_bounds _ c.args.jobs.items c.in-Ok.started.0 (c.in-Ok.ensures.started plan) in
+    let none = ap pending_in c.requires.new.1 in
+    let full = c.in-Err-run_jobs.ensures.full in
+    omega (arith, bounds, none, full)
+
+pub returns-in-Err-wind_up-clause-full : goal.returns-in-Err-wind_up-clause-full
+returns-in-Err-wind_up-clause-full g c =
+    let plan = g.F.SteppedFs.plan_of c.args.fs in
+    let bounds = started_bounds _ c.args.jobs.items c.in-Ok.started.0 (c.in-Ok.ensures.started plan) in
+    let none = ap pending_in c.requires.new.1 in
+    let paced = c.in-Ok-Some.ensures.room in
+    let full = c.in-Err-wind_up.ensures.full in
+    omega (arith, bounds, none, paced, full)

@@ -1,0 +1,139 @@
+//! A run whose steps are written down as they are made.
+
+ghost use Rattle.std.specs.Prelude.{◌≡◌, ◌≤◌, ◌<◌, ◌^◌, ℕ, [], length, map, vec_capacity, IfOk};
+ghost use Rattle.pt_session.specs.Tables.{empty_tables};
+ghost use Rattle.pt_fs.specs.Each.{EachStarted, EachAnswered};
+ghost use Rattle.pt_fs.specs.Ends.{EndsSo};
+ghost use Rattle.pt_fs.specs.Jobs.{StartAll};
+ghost use Rattle.pt_fs.specs.Recorded.{OnEnd, OnNoRoom, OnUnwritten, Wrote};
+ghost use Rattle.pt_fs.specs.Run.{IsRun};
+ghost use Rattle.pt_fs.specs.Took.{IsFinishedAt};
+ghost use Rattle.pt_fs.specs.Trace.{seated, room_of as room};
+ghost use Rattle.pt_fs.specs.Went.{run_seat};
+ghost use Rattle.pt_req.specs.declared.plan.Plan.{Plan};
+
+use crate::fs::SteppedFs;
+use crate::job::Job;
+use crate::jobs::Jobs;
+use crate::lost::wind_up;
+use crate::record::Record;
+use crate::room::with_room;
+use crate::schedule::run_jobs;
+use pt_host::{Errno, Host, HostSeat};
+use pt_iface::Answer;
+use std::alloc::{AllocError, Global};
+
+/// What a run leaves, its steps aside: the file system, the answers of its jobs, and the seats of those that are no
+/// edit.
+#[derive(Drop)]
+pub struct Left<F> {
+    pub fs: F,
+    pub answers: Vec<Answer>,
+    pub seats: Vec<HostSeat>,
+}
+
+/// Why a run did not begin, or did not come to its end.
+#[derive(Drop)]
+pub enum DriveIntoError<F> {
+    /// The jobs find no memory; the file system is handed back.
+    Memory(F),
+    /// A step that was made could not be written down, and the run stopped there. What its jobs hold is not given
+    /// back.
+    Record(F),
+    /// The seat of this job could not be restored, and this is why. All jobs gave back what they held, and this is
+    /// what is left.
+    CredentialsLost(u32, Errno, Left<F>),
+}
+
+/// Takes the jobs' steps in the order of the schedule, and then all that are left, job by job, and writes each down
+/// where it was made. A place of the schedule that names no unfinished job does nothing. Where a seat is lost, its
+/// job makes its other restoring steps, the unfinished jobs are cut, and all is given back.
+pub fn drive_into<H: Host, F: SteppedFs, R: Record>(
+    alloc: Global,
+    mut fs: F,
+    host: &mut H,
+    jobs: Vec<Job>,
+    schedule: &[u32],
+    record: &mut R,
+) -> Result<Left<F>, DriveIntoError<F>>
+    requires few { length jobs.items < 2 ^ 32 }
+    requires new { (limit : ℕ) × (F.tables fs ≡ empty_tables limit) }
+    requires seats { StartAll jobs.items }
+
+    // However the run ended, the steps that were written down are its trace, of which each clause of a run holds:
+    // where it leads, each job's answer, and what tables and tree keep after every step and at the end. Where no seat
+    // was lost they are in the schedule's order, each job is answered by its pattern, and none is cut. A seat is lost
+    // exactly where a restoring step failed; exactly the jobs that were unfinished there are cut.
+    ensures run { OnEnd result (λ left lost. Wrote R.wrote record.old record.new (λ trace.
+        IsRun H.does (F.plan_of fs) jobs.items host.old (H.tree host.old) (F.tables fs)
+        trace left.answers.items host.new (H.tree host.new) left.seats.items (F.tables left.fs)
+        × EndsSo H.does H.faults (F.plan_of fs) jobs.items schedule.now host.old (F.tables fs) trace
+        left.answers.items lost)) }
+
+    // The configuration and the descriptor of the host's root stay.
+    ensures plan { OnEnd result (λ left lost. F.plan_of left.fs ≡ F.plan_of fs) }
+    ensures root { OnEnd result (λ left lost. F.root left.fs ≡ F.root fs) }
+
+    // Want of memory for the jobs comes before the first step, and the file system comes back as it was.
+    ensures nothing_done { OnNoRoom result (λ back. (host.new ≡ host.old) × (record.new ≡ record.old)) }
+    ensures handed_back { OnNoRoom result (λ back. back ≡ fs) }
+
+    // A record with room for all steps is not full.
+    ensures full { OnUnwritten result (λ stopped. R.room record.old < room jobs.items) }
+{
+    let (mut running, ends) = match start_in_room(alloc, jobs) {
+        Ok(started) => started,
+        Err(_) => return Err(DriveIntoError::Memory(fs)),
+    };
+    match run_jobs(alloc, host, &mut fs, &mut running, record, schedule) {
+        Ok(None) => Ok(finish_run(fs, running, ends)),
+        Ok(Some(loss)) => match wind_up(alloc, host, &mut fs, &mut running, record, loss.job) {
+            Ok(()) => {
+                let left = finish_run(fs, running, ends);
+                Err(DriveIntoError::CredentialsLost(loss.job, loss.errno, left))
+            }
+            Err(_) => Err(DriveIntoError::Record(fs)),
+        },
+        Err(_) => Err(DriveIntoError::Record(fs)),
+    }
+}
+
+/// What is left where each job has finished.
+fn finish_run<F>(fs: F, running: Jobs, mut ends: Ends) -> Left<F>
+    requires finished { (j : ℕ) → IsFinishedAt running j }
+    requires no_answers { ends.answers.items ≡ [] }
+    requires no_seats { ends.seats.items ≡ [] }
+    requires room_answers { length running ≤ vec_capacity ends.answers }
+    requires room_seats { length running ≤ vec_capacity ends.seats }
+    ensures fs { result.fs ≡ fs }
+    ensures answers { EachAnswered running result.answers.items }
+    ensures seats { result.seats.items ≡ seated (map run_seat running) }
+{
+    running.finish(&mut ends.answers, &mut ends.seats);
+    Left {
+        fs,
+        answers: ends.answers,
+        seats: ends.seats,
+    }
+}
+
+/// Room for what jobs leave at their ends.
+#[derive(Drop)]
+struct Ends {
+    answers: Vec<Answer>,
+    seats: Vec<HostSeat>,
+}
+
+/// The jobs, none of which has made a step, and the room for their answers and their seats.
+fn start_in_room(alloc: Global, jobs: Vec<Job>) -> Result<(Jobs, Ends), AllocError>
+    ensures started { IfOk result (λ r. (plan : Plan) → EachStarted plan jobs.items r.0) }
+    ensures answers { IfOk result (λ r. r.1.answers.items ≡ []) }
+    ensures seats { IfOk result (λ r. r.1.seats.items ≡ []) }
+    ensures answers_room { IfOk result (λ r. length r.0 ≤ vec_capacity r.1.answers) }
+    ensures seats_room { IfOk result (λ r. length r.0 ≤ vec_capacity r.1.seats) }
+{
+    let running = Jobs::new(alloc, jobs)?;
+    let answers = with_room(alloc, running.len())?;
+    let seats = with_room(alloc, running.len())?;
+    Ok((running, Ends { answers, seats }))
+}
