@@ -1,13 +1,17 @@
 -- The report of a run is that of the script.
-use Rattle.std.proofs.Common.{◌≡◌, ◌≤◌, ℕ, List, Option, length, sym, subst}
+use Rattle.std.proofs.Common.{◌≡◌, ◌≤◌, ◌∙◌, ◌++◌, [], ◌∷◌, ℕ, List, Option, length, ap, sym, subst, append_assoc}
+use Rattle.std.proofs.Common.{append-nil}
+use Rattle.std.specs.Prelude.{OnOk, Result, Ok, Err}
 use Rattle.pt_rules.specs.State.{State}
 use Rattle.pt_session.specs.Tables.{Tables}
 use Rattle.pt_iface.specs.declared.answer.Answer.{Answer}
+use Rattle.pt_fs.specs.Recorded.{Writes}
 use Rattle.pt_fs.specs.declared.trace.TraceStep.{TraceStep}
 use Rattle.pt_script.specs.Parse.{IsScriptOf}
 use Rattle.pt_script.specs.declared.line.ScriptJob.{ScriptJob}
 use Rattle.pt_script.specs.declared.settings.Settings.{Settings}
 use Rattle.pt_run.specs.Output.{IsWritten}
+use Rattle.pt_run.specs.Report.{step_line, step_lines}
 use Rattle.pt_run.specs.Streams.{IsAll}
 use Rattle.pt_run.specs.Run.{AreLive, IsReadWith, IsReportWith, IsRunFrom, report_of, status_for}
 use Rattle.pt_run.specs.declared.report.LostJob.{LostJob}
@@ -52,3 +56,28 @@ pub read_as : (left : Option (List ℕ)) (bytes : List ℕ) (result ends : Statu
     (report : List ℕ) × IsReadWith left ends report × IsWritten old report new
 read_as left bytes result ends old new all short told ended =
     let there = told ended in (there.0, ((bytes, all, short, there.1.0), there.1.1), there.2)
+
+-- the lines of steps that were written down one after another
+pub lines_told : {R : Type 0} (text : R → List ℕ) (wrote : R → TraceStep → R → Type 0) →
+    ((a : R) (step : TraceStep) (b : R) → wrote a step b → text b ≡ text a ++ step_line step.job step.act step.reply) →
+    (a b : R) (steps : List TraceStep) → Writes wrote a steps b → text b ≡ text a ++ step_lines steps
+lines_told text wrote each a b [] writes = ap text writes ∙ sym (append-nil (text a))
+lines_told text wrote each a b (step ∷ steps) writes =
+    lines_told text wrote each writes.0 b steps writes.2
+    ∙ ap (λ (l : List ℕ). l ++ step_lines steps) (each a step writes.0 writes.1)
+    ∙ append_assoc (text a) (step_line step.job step.act step.reply) (step_lines steps)
+
+pub ok_on : {X E : Type 0} (r : Result X E) (P Q : Type 0) → OnOk r P → (P → Q) → OnOk r Q
+ok_on (Ok x) P Q p f = f p
+ok_on (Err error) P Q p f = tt
+
+-- the parts behind the lines of the steps, each put behind the one before it
+pub rest_put : (old one two three four new a l h s o lost end : List ℕ) → one ≡ old ++ a →
+    two ≡ one ++ l ++ h ++ s → three ≡ two ++ o → four ≡ three ++ lost → new ≡ four ++ end →
+    new ≡ old ++ a ++ l ++ h ++ s ++ o ++ lost ++ end
+rest_put old one two three four new a l h s o lost end e1 e2 e3 e4 e5 =
+    e5
+    ∙ ap (λ (z : List ℕ). z ++ end) e4
+    ∙ ap (λ (z : List ℕ). z ++ lost ++ end) e3
+    ∙ ap (λ (z : List ℕ). z ++ o ++ lost ++ end) e2
+    ∙ ap (λ (z : List ℕ). z ++ l ++ h ++ s ++ o ++ lost ++ end) e1

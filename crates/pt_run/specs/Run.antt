@@ -130,14 +130,15 @@ pub record IsRunFrom
 abbrev pub AreLive : Tables → List (ℕ × ℕ) → List (ℕ × ℕ) → Type 0
 AreLive tables lives handles = LivesAbove tables.rows None lives × HandlesAbove tables.handles None handles
 
--- what a report says behind the lines of the steps
-abbrev pub rest_of :
+-- these lines, and behind them what a report says of answers, live numbers and handles, slots, objects and a lost seat
+abbrev pub report_behind :
+    (lines : List ℕ) →
     (answers : List Answer) →
     (lives : List (ℕ × ℕ)) →
     (handles : List (ℕ × ℕ)) →
     Tables → State → Option LostJob → List ℕ
-rest_of answers lives handles tables host lost =
-    answer_lines 0 answers ++ live_lines lives ++ handle_lines handles
+report_behind lines answers lives handles tables host lost =
+    lines ++ answer_lines 0 answers ++ live_lines lives ++ handle_lines handles
     ++ slots_line tables.slots ++ listing_of host ++ lost_lines lost
     ++ codes "end\n"
 
@@ -149,7 +150,7 @@ abbrev pub report_of :
     (handles : List (ℕ × ℕ)) →
     Tables → State → Option LostJob → List ℕ
 report_of trace answers lives handles tables host lost =
-    step_lines trace ++ rest_of answers lives handles tables host lost
+    report_behind (step_lines trace) answers lives handles tables host lost
 
 -- this is the report of one run of the script that the bytes are
 pub record IsReportOf (bytes report : List ℕ) : Type 0 where

@@ -7,7 +7,7 @@ ghost use Rattle.pt_run.specs.Configured.{configured};
 ghost use Rattle.pt_run.specs.Run.{
   job_of,
   seat_of,
-  rest_of,
+  report_behind,
   status_for,
   AreLive,
   IsOpened,
@@ -127,8 +127,8 @@ fn push_rest(
     lost: Option<LostJob>,
 ) -> Result<(), AllocError>
     ensures { OnOk result ((lives : List (ℕ × ℕ)) × (handles : List (ℕ × ℕ))
-        × AreLive left.now.fs.tables lives handles × (out.new.items ≡ out.old.items
-        ++ rest_of left.now.answers.items lives handles left.now.fs.tables host.now lost)) }
+        × AreLive left.now.fs.tables lives handles × (out.new.items ≡ report_behind out.old.items
+        left.now.answers.items lives handles left.now.fs.tables host.now lost)) }
 {
     push_answers(out, left.answers.as_slice())?;
     push_tables(out, &left.fs)?;
@@ -214,18 +214,15 @@ pub(crate) fn report_of_script(alloc: Global, bytes: &[u8]) -> Result<Report, St
         jobs,
         schedule,
     } = script;
-    let Ran { left, lines, lost } = run_jobs(
-        alloc,
-        settings,
-        &mut host,
-        jobs,
-        schedule.as_slice(),
-    )?;
-    let mut text = lines.text;
-    match push_rest(alloc, &mut text, &left, &host, lost) {
+    let ran = match run_jobs(alloc, settings, &mut host, jobs, schedule.as_slice()) {
+        Ok(ran) => ran,
+        Err(status) => return Err(status),
+    };
+    let mut text = ran.lines.text;
+    match push_rest(alloc, &mut text, &ran.left, &host, ran.lost) {
         Ok(()) => Ok(Report {
             text,
-            ends: status_for(lost),
+            ends: status_for(ran.lost),
         }),
         Err(_) => Err(Status::NoMemory),
     }
