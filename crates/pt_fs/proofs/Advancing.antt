@@ -1,18 +1,24 @@
 -- One step of a job belongs to what it has to do.
-use Rattle.std.proofs.Common.{◌≡◌, ◌≤◌, ◌+◌, ◌*◌, inl, inr, ℕ, Option, Some, None, refl, ap, sym, subst}
+use Rattle.std.proofs.Common.{◌≡◌, ◌≤◌, ◌<◌, ◌+◌, ◌*◌, ◌∙◌, inl, inr, ℕ, Bool, Option, Some, None, refl, ap, sym, subst}
 use Rattle.pt_host.specs.declared.seat.HostSeat.{HostSeat}
 use Rattle.pt_session.specs.Tables.{Tables}
-use Rattle.pt_frame.specs.Deed.{Deed, Calls, Changes, IsStepOf, MayTellBytes, HoldsReplyBytes}
-use Rattle.pt_frame.specs.Grammar.{Grammar, End, Do, May, IsChosen, after, Owed, told_closings, told_inserted}
+use Rattle.pt_frame.specs.Deed.{Deed, Calls, Changes, IsStepOf, MayTellBytes, HoldsReplyBytes, kept_deed_of}
+use Rattle.pt_frame.specs.Grammar.{Grammar, End, Do, May, IsChosen, after, Owed, told_closings, told_inserted, restores}
+use Rattle.pt_frame.specs.Past.{lost_after}
 use Rattle.pt_frame.specs.Replies.{closings_in, inserted_by}
 use Rattle.pt_host.specs.Relation.{HostRelation}
 use Rattle.pt_frame.specs.Made.{Made}
 use Rattle.pt_frame.specs.declared.act.ActReply.{ActReply}
 use Rattle.pt_frame.specs.declared.act.ActReply.TheVariants.{Event, Host, NoCopy}
+use Rattle.pt_frame.specs.declared.act.KeptAct.{KeptAct}
+use Rattle.pt_attr.specs.Machine.Job.{owes, lost_of, restores_now, steps_left, steps_bound, inserts_left}
 use Rattle.pt_law.proofs.Told.{Promises, bytes_told}
+use Rattle.pt_req.specs.declared.plan.Plan.{Plan}
 use Rattle.pt_fs.specs.Advances.{IsWanted, IsShown, Advances, inserted_in}
 use Rattle.pt_fs.specs.Jobs.{no_seat}
+use Rattle.pt_fs.specs.Stepped.{Stepped}
 use Rattle.pt_fs.specs.Trace.{MadeFrom, told_by}
+use Rattle.pt_fs.specs.declared.machine.Machine.{Machine}
 
 module _ {H : Type 0} (does : HostRelation H) (faults : H → ℕ) (promises : Promises does faults) where
   -- a reply that held bytes came to a call that may tell some
@@ -125,3 +131,71 @@ inserted_within (Do deed owed next) new kept shown told was now advances same wi
     (subst (λ (r : ActReply). now + inserted_by deed r ≤ was) same within)
 inserted_within (End last) new kept shown told was now advances same within = absurd advances
 inserted_within (May one other) new kept shown told was now advances same within = absurd advances
+
+-- what was made is so as it is shown, too
+made_shown : {H : Type 0} (does : HostRelation H) (kept : Option Deed) (reply shown : ActReply) (host : H)
+    (seat : HostSeat) (tables : Tables) (host' : H) (seat' : HostSeat) (tables' : Tables) →
+    Made does kept reply host seat tables host' seat' tables' → IsShown reply shown →
+    Made does kept shown host seat tables host' seat' tables'
+made_shown does kept reply shown host seat tables host' seat' tables' made (inl same) =
+    subst (λ (r : ActReply). Made does kept r host seat tables host' seat' tables') (sym same) made
+made_shown does (Some (Calls asked)) (Host told) shown host seat tables host' seat' tables' made (inr lost) =
+    subst (λ (r : ActReply). Made does (Some (Calls asked)) r host seat tables host' seat' tables') (sym lost.0)
+    ((told, lost.1, made.0), made.1)
+made_shown does (Some (Changes asked)) (Host told) shown host seat tables host' seat' tables' made (inr lost) =
+    absurd made
+made_shown does None (Host told) shown host seat tables host' seat' tables' made (inr lost) = absurd made
+made_shown does kept (Event told) shown host seat tables host' seat' tables' made (inr lost) = absurd lost.1
+made_shown does kept NoCopy shown host seat tables host' seat' tables' made (inr lost) = absurd lost.1
+
+made_from_shown : {H : Type 0} (does : HostRelation H) (kept : Option Deed) (reply shown : ActReply) (host : H)
+    (seat : Option HostSeat) (tables : Tables) (host' : H) (seat' : Option HostSeat) (tables' : Tables) →
+    MadeFrom does kept reply host seat tables host' seat' tables' → IsShown reply shown →
+    MadeFrom does kept shown host seat tables host' seat' tables'
+made_from_shown does kept reply shown host (Some seat) tables host' (Some seat') tables' made is =
+    made_shown does kept reply shown host seat tables host' seat' tables' made is
+made_from_shown does kept reply shown host None tables host' None tables' made is =
+    (made.0, made_shown does kept reply shown host no_seat tables host' made.0 tables' made.1 is)
+made_from_shown does kept reply shown host (Some seat) tables host' None tables' made is = absurd made
+made_from_shown does kept reply shown host None tables host' (Some seat') tables' made is = absurd made
+
+-- a machine that asked for a step, was shown its reply and went on from there
+pub stepped : {H : Type 0} (does : HostRelation H) (faults : H → ℕ) → Promises does faults → (plan later : Plan)
+    (job : ℕ) (host host' : H) (was now : Machine) (tables tables' : Tables) (act : KeptAct) (reply shown : ActReply)
+    (restoring : Bool) → later ≡ plan → now.place ≡ was.place → now.start ≡ was.start →
+    IsWanted (owes plan was.start was.state) (kept_deed_of act) →
+    MadeFrom does (kept_deed_of act) reply host was.seat tables host' now.seat tables' → IsShown reply shown →
+    IsChosen (after shown (owes later was.start was.state)) (owes later was.start now.state) →
+    restoring ≡ restores_now was.state → restoring ≡ restores (owes plan was.start was.state) →
+    lost_of now.state ≡ lost_after (lost_of was.state) (restores_now was.state) shown →
+    steps_left now.state < steps_left was.state →
+    steps_bound now.state + 1
+    ≤ steps_bound was.state + 3 * told_closings (owes later was.start was.state) shown →
+    inserts_left now.state + told_inserted (owes later was.start was.state) shown ≤ inserts_left was.state →
+    Stepped does plan job host was tables (record { job = job; act = act; reply = shown }) host' now tables'
+stepped does faults promises plan later job host host' was now tables tables' act reply shown restoring same place
+    start wanted made is goes mark marked lost fewer within inserts =
+    let old = owes plan was.start was.state in
+    let new = owes plan was.start now.state in
+    let advances : Advances old (kept_deed_of act) shown new =
+    advanced does faults promises old new (kept_deed_of act) reply shown shown host was.seat tables host' now.seat
+    tables' wanted made is refl
+    (subst (λ (p : Plan). IsChosen (after shown (owes p was.start was.state)) (owes p was.start now.state)) same
+    goes) in
+    record {
+      owner = refl;
+      place = place;
+      start = start;
+      made = made_from_shown does (kept_deed_of act) reply shown host was.seat tables host' now.seat tables' made is;
+      advances = advances;
+      loses = lost ∙ ap (λ (b : Bool). lost_after (lost_of was.state) b shown) (sym mark ∙ marked);
+      fewer = fewer;
+      within = told_within old new (kept_deed_of act) shown shown (steps_bound was.state) (steps_bound now.state)
+          advances refl
+          (subst (λ (p : Plan). steps_bound now.state + 1
+          ≤ steps_bound was.state + 3 * told_closings (owes p was.start was.state) shown) same within);
+      inserts = inserted_within old new (kept_deed_of act) shown shown (inserts_left was.state)
+          (inserts_left now.state) advances refl
+          (subst (λ (p : Plan). inserts_left now.state + told_inserted (owes p was.start was.state) shown
+          ≤ inserts_left was.state) same inserts);
+    }

@@ -2,7 +2,7 @@
 use Rattle.std.proofs.Common.{◌≡◌, inl, inr, ℕ, ◌+◌, ◌≤◌, List, [], ◌∷◌, ◌++◌, ◌∙◌, Option, refl, ap, sym}
 use Rattle.std.proofs.Common.{append_assoc, append-nil, arith, ◌<◌}
 use Rattle.std.proofs.Common.{Some, None}
-use Rattle.std.specs.Prelude.{OnErr, OnOk, Result, Ok, Err}
+use Rattle.std.specs.Prelude.{IfOk, OnErr, OnOk, Result, Ok, Err}
 use Rattle.pt_host.specs.Relation.{HostRelation}
 use Rattle.pt_host.specs.declared.ids.Errno.{Errno}
 use Rattle.pt_session.specs.Tables.{Tables}
@@ -158,10 +158,6 @@ winds_behind {does = does} {plan = plan} {job = job} {host = host} {host' = host
       back = goes_past others winds.so_far steps winds.back;
     } in rw (append-nil others) at then
 
-pub on_err : {X E : Type 0} (r : Result X E) {P : Type 0} → P → OnErr r P
-on_err (Ok x) p = tt
-on_err (Err error) p = p
-
 -- where a step is left, there is work
 pub work_left : (left more room : ℕ) → more + 1 ≤ left → room ≡ 0 → room < left
 work_left left more room falls none = omega arith
@@ -205,3 +201,17 @@ listed items capacity wrote each a b (step ∷ steps) writes =
       rest.0 ∙ ap (λ (l : List TraceStep). l ++ steps) one.0 ∙ append_assoc (items a) (step ∷ []) steps,
       omega (arith, grown, more),
     )
+
+-- of a step that was made, whether it could be written down or not
+pub told_so : {X E : Type 0} (r : Result X E) {wrote told : X → Type 0} {written : Type 0} → OnOk r written → IfOk r told →
+    ((x : X) → written → told x → wrote x) → IfOk r wrote
+told_so (Ok x) w t f = f x w t
+told_so (Err error) w t f = tt
+
+pub full_so : {X E : Type 0} (r : Result X E) {P Q : Type 0} → OnErr r P → (P → Q) → OnErr r Q
+full_so (Ok x) p f = tt
+full_so (Err error) p f = f p
+
+pub paced_so : {X E : Type 0} (r : Result X E) {P : Type 0} {Q : Type 0} → OnOk r P → (P → Q) → IfOk r (λ x. Q)
+paced_so (Ok x) p f = f p
+paced_so (Err error) p f = tt

@@ -5,6 +5,7 @@ pub mod Trace
 pub mod Running
 pub mod Order
 pub mod Advances
+pub mod Stepped
 pub mod Laid
 pub mod Went
 pub mod Work

@@ -20,6 +20,10 @@ use Rattle.pt_fs.specs.declared.trace.TraceStep.{TraceStep}
 abbrev pub step_of : TraceStep → Step
 step_of step = record { deed = kept_deed_of step.act; reply = step.reply }
 
+-- the step as it is told with this reply
+abbrev pub with_reply : TraceStep → ActReply → TraceStep
+with_reply step reply = record { job = step.job; act = step.act; reply = reply }
+
 -- a step of a job that has a seat, which may be another after it, or of one that has none
 abbrev pub MadeFrom :
     {H : Type 0} →

@@ -30,8 +30,6 @@ use crate::machine::{Machine, Over, begun, ended};
 use crate::record::Record;
 use crate::room::{push_within, with_room};
 use crate::step::advance;
-use crate::trace::TraceStep;
-use pt_frame::{ActReply, KeptAct};
 use pt_host::{Errno, Host, HostSeat};
 use pt_iface::Answer;
 use std::alloc::{AllocError, Global};
@@ -290,20 +288,14 @@ pub fn take_step<H: Host, F: SteppedFs, R: Record>(
         (R.room record.new) (work running.new (F.tables fs.new))) }
     ensures full { OnErr result (R.room record.old < work running.old (F.tables fs.old)) }
 {
-    let mut step = TraceStep {
-        job: place,
-        act: KeptAct::NoCopy,
-        reply: ActReply::NoCopy,
-    };
     let index = wake(&mut running.places, &mut running.going, place as usize);
     let machine = &mut running.going[index];
-    let lost = advance(alloc, host, fs, machine, &mut step);
+    let lost = advance(alloc, host, fs, machine, record, place);
     settle(
         &mut running.places,
         &mut running.going,
         place as usize,
         index,
     );
-    record.write(step)?;
-    Ok(lost)
+    lost
 }

@@ -7,7 +7,7 @@ use pt_host::Errno;
 use pt_iface::Answer;
 use pt_show::Text;
 use pt_text::push_text;
-use std::alloc::AllocError;
+use std::alloc::{AllocError, Global};
 
 /// The job whose seat was lost, and what its restoring step was answered.
 #[derive(Clone, Copy)]
@@ -42,7 +42,7 @@ impl Record for StepLines {
 
     ghost room = { λ lines. 0 };
 
-    fn write(&mut self, step: TraceStep) -> Result<(), AllocError> {
+    fn write(&mut self, _alloc: Global, step: &mut TraceStep) -> Result<(), AllocError> {
         push_step(&mut self.text, step.job, &step.act, &step.reply)
     }
 }

@@ -5,7 +5,7 @@ use Rattle.pt_fs.specs.Running.{Running}
 use Rattle.pt_fs.specs.Trace.{told_by}
 use Rattle.pt_fs.specs.declared.machine.Machine.{Machine}
 use Rattle.pt_fs.proofs.Laying.{on_laid, on_goes, seen_there, waked_goes, went_through}
-use Rattle.pt_fs.proofs.Recording.{on_err, work_left, paces}
+use Rattle.pt_fs.proofs.Recording.{told_so, full_so, paced_so, work_left, paces}
 use Rattle.pt_fs.proofs.Through.{start_through, made_through, advances_through, loses_through, told_through}
 use Rattle.pt_fs.proofs.Through.{fewer_through, within_through, spent_through}
 use Rattle.pt_fs.proofs.jobs.take_step.Goals as goal
@@ -25,7 +25,7 @@ settle-requires g c =
     let it = seen_there c.index_mut-machine.result.now wakes c.index_mut-machine.ensures.value in
     let laid = c.wake-index.ensures.laid in
     let own = c.wake-index.ensures.index in
-    let same = c.advance-lost.ensures.place ∙ ap (λ (g : Machine). g.place) it in
+    let same = c.advance-lost.ensures.stepped.2.place ∙ ap (λ (g : Machine). g.place) it in
     record {
       laid = on_laid laid c.args.place c.wake-index.result own wakes.it _ wakes.there same;
       others_go = on_goes laid c.args.place c.wake-index.result own wakes.it _ wakes.there same
@@ -34,29 +34,18 @@ settle-requires g c =
       index = own;
     }
 
-pub returns-in_err-write-clause-full : goal.returns-in_err-write-clause-full
-returns-in_err-write-clause-full g c =
-    let th = went_through c.index_mut-machine.result.now c.advance-lost.new.machine c.wake-index.ensures.wakes
-    c.wake-index.ensures.laid c.wake-index.ensures.index c.index_mut-machine.ensures.value
-    c.advance-lost.ensures.place c.settle.ensures.settles in
-    let step = c.advance-lost.new.step in
-    let spent = rw c.running.view_is at (spent_through th g.H.Host.does (kept_deed_of step.act) step.reply
-    c.args.host.now c.advance-lost.new.host (g.F.SteppedFs.tables c.args.fs.now)
-    (g.F.SteppedFs.tables c.advance-lost.new.fs) c.advance-lost.ensures.made c.advance-lost.ensures.within
-    c.advance-lost.ensures.inserts) in
-    on_err _ (work_left _ _ _ spent c.in_err-write.ensures.full)
-
 pub returns-clause-took : goal.returns-clause-took
 returns-clause-took g c =
     let th = went_through c.index_mut-machine.result.now c.advance-lost.new.machine c.wake-index.ensures.wakes
     c.wake-index.ensures.laid c.wake-index.ensures.index c.index_mut-machine.ensures.value
-    c.advance-lost.ensures.place c.settle.ensures.settles in
+    c.advance-lost.ensures.stepped.2.place c.settle.ensures.settles in
+    let step = c.advance-lost.ensures.stepped.0 in
+    let it = c.advance-lost.ensures.stepped.2 in
     let there = ap (λ (l : List Running). slice_get l c.args.place) (sym c.running.view_is) ∙ th.was in
     let plan = g.F.SteppedFs.plan_of c.args.fs.now in
-    let step = c.advance-lost.new.step in
-    record {
+    told_so c.advance-lost.result c.advance-lost.ensures.stepped.1 c.advance-lost.ensures.told (λ lost wrote told. record {
       steps = step ∷ [];
-      written = (c.write.new.self, c.in_ok-write.ensures.wrote, refl);
+      written = (c.advance-lost.new.record, wrote, refl);
       so = record {
         run = th.run;
         run' = th.run';
@@ -64,32 +53,43 @@ returns-clause-took g c =
         was = there;
         is = th.runs ∙ ap (λ (l : List Running). slice_set l c.args.place th.run') c.running.view_is;
         longer = refl;
-        owner = c.advance-lost.ensures.owner;
-        start = start_through th c.advance-lost.ensures.start;
+        owner = it.owner;
+        start = start_through th it.start;
         unfinished = (c.requires.unfinished th.run there).0;
         made = made_through th g.H.Host.does (kept_deed_of step.act) step.reply c.args.host.now
             c.advance-lost.new.host (g.F.SteppedFs.tables c.args.fs.now) (g.F.SteppedFs.tables c.advance-lost.new.fs)
-            c.advance-lost.ensures.made;
-        advances = advances_through th plan (kept_deed_of step.act) step.reply c.advance-lost.ensures.advances;
-        loses = loses_through th plan step.reply c.advance-lost.ensures.loses;
-        told = told_through th c.advance-lost.result c.advance-lost.ensures.told;
-        fewer = fewer_through th c.advance-lost.ensures.fewer;
-        within = within_through th (told_by (kept_deed_of step.act) step.reply) c.advance-lost.ensures.within;
+            it.made;
+        advances = advances_through th plan (kept_deed_of step.act) step.reply it.advances;
+        loses = loses_through th plan step.reply it.loses;
+        told = told_through th lost told;
+        fewer = fewer_through th it.fewer;
+        within = within_through th (told_by (kept_deed_of step.act) step.reply) it.within;
         spent = rw (sym c.running.view_is) (spent_through th g.H.Host.does (kept_deed_of step.act) step.reply
             c.args.host.now c.advance-lost.new.host (g.F.SteppedFs.tables c.args.fs.now)
-            (g.F.SteppedFs.tables c.advance-lost.new.fs) c.advance-lost.ensures.made c.advance-lost.ensures.within
-            c.advance-lost.ensures.inserts);
+            (g.F.SteppedFs.tables c.advance-lost.new.fs) it.made it.within it.inserts);
       };
-    }
+    })
 
 pub returns-clause-room : goal.returns-clause-room
 returns-clause-room g c =
     let th = went_through c.index_mut-machine.result.now c.advance-lost.new.machine c.wake-index.ensures.wakes
     c.wake-index.ensures.laid c.wake-index.ensures.index c.index_mut-machine.ensures.value
-    c.advance-lost.ensures.place c.settle.ensures.settles in
-    let step = c.advance-lost.new.step in
-    paces _ _ _ _ c.in_ok-write.ensures.room
-    (rw (sym c.running.view_is) (spent_through th g.H.Host.does (kept_deed_of step.act) step.reply
+    c.advance-lost.ensures.stepped.2.place c.settle.ensures.settles in
+    let step = c.advance-lost.ensures.stepped.0 in
+    let it = c.advance-lost.ensures.stepped.2 in
+    let spent = rw c.running.view_is at (spent_through th g.H.Host.does (kept_deed_of step.act) step.reply
     c.args.host.now c.advance-lost.new.host (g.F.SteppedFs.tables c.args.fs.now)
-    (g.F.SteppedFs.tables c.advance-lost.new.fs) c.advance-lost.ensures.made c.advance-lost.ensures.within
-    c.advance-lost.ensures.inserts))
+    (g.F.SteppedFs.tables c.advance-lost.new.fs) it.made it.within it.inserts) in
+    paced_so c.advance-lost.result c.advance-lost.ensures.room (λ room. paces _ _ _ _ room spent)
+
+pub returns-clause-full : goal.returns-clause-full
+returns-clause-full g c =
+    let th = went_through c.index_mut-machine.result.now c.advance-lost.new.machine c.wake-index.ensures.wakes
+    c.wake-index.ensures.laid c.wake-index.ensures.index c.index_mut-machine.ensures.value
+    c.advance-lost.ensures.stepped.2.place c.settle.ensures.settles in
+    let step = c.advance-lost.ensures.stepped.0 in
+    let it = c.advance-lost.ensures.stepped.2 in
+    let spent = rw c.running.view_is at (spent_through th g.H.Host.does (kept_deed_of step.act) step.reply
+    c.args.host.now c.advance-lost.new.host (g.F.SteppedFs.tables c.args.fs.now)
+    (g.F.SteppedFs.tables c.advance-lost.new.fs) it.made it.within it.inserts) in
+    full_so c.advance-lost.result c.advance-lost.ensures.full (λ full. work_left _ _ _ spent full)
