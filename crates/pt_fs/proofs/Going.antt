@@ -22,7 +22,7 @@ use Rattle.pt_fs.specs.Work.{work}
 use Rattle.pt_fs.specs.Running.{Running}
 use Rattle.pt_fs.specs.declared.trace.TraceStep.{TraceStep}
 use Rattle.pt_fs.proofs.Orders.{owns_none, owns_on, owns_place, owns_idle, owns_first, owns_next}
-use Rattle.pt_fs.proofs.Places.{get-set_same, get-set_other}
+use Rattle.pt_fs.proofs.Lists.{get-set_same, get-set_other}
 use Rattle.pt_fs.proofs.Stepping.{leads_on}
 use Rattle.pt_fs.proofs.Traces.{runs_on, steps_by-append, steps_by_same, steps_by_other, closings_told-append}
 

@@ -1,82 +1,33 @@
 -- How the jobs lie, and what a change of one of them leaves of the others.
-use Rattle.std.proofs.Common.{◌≡◌, ◌≢◌, ◌<◌, ◌+◌, ◌∙◌, inl, inr, ℕ, zero, suc, List, [], ◌∷◌, ◌++◌, Option, Some}
+use Rattle.std.proofs.Common.{◌≡◌, ◌≢◌, ◌<◌, ◌+◌, ◌∙◌, ◌⊎◌, inl, inr, ℕ, zero, suc, List, [], ◌∷◌, ◌++◌, Option, Some}
 use Rattle.std.proofs.Common.{None}
 use Rattle.std.proofs.Common.{true, false, refl, ap, sym, subst, map, length, get_or, option_map, slice_get}
 use Rattle.std.proofs.Common.{slice_set, arith}
 use Rattle.std.proofs.lemmas.Bool.{cases_eq}
-use Rattle.std.proofs.lemmas.List.{length-set}
-use Rattle.std.proofs.lemmas.Option.{same_Some, slice_get_within, slice_get-get_or, slice_get-map}
+use Rattle.std.proofs.lemmas.List.{length-map, length-set}
+use Rattle.std.proofs.lemmas.Option.{same_Some, slice_get_within, slice_get-map}
 use Rattle.std.proofs.lemmas.Option.{get_or_from_slice_get}
+use Rattle.pt_host.specs.declared.ids.Errno.{Errno}
 use Rattle.pt_host.specs.declared.seat.HostSeat.{HostSeat}
-use Rattle.pt_frame.specs.Grammar.{End, is_end}
+use Rattle.pt_iface.specs.declared.request.Request.TheVariants as request
+use Rattle.pt_frame.specs.Grammar.{End, IsSettled, is_end, restores}
 use Rattle.pt_attr.specs.Machine.Job.{owes as job_owes, is_finished as is_job_over, lost_of as job_lost}
+use Rattle.pt_attr.specs.Pattern.{Asked, Requests, Edits, grammar_for}
 use Rattle.pt_req.specs.declared.plan.Plan.{Plan}
+use Rattle.pt_fs.specs.Each.{EachAnswered, EndsAs}
 use Rattle.pt_fs.specs.Laid.{Laid, AllGo, GoElsewhere, Stays, Wakes, Settles, waiting, on_its_way, found_run, run_at}
 use Rattle.pt_fs.specs.Laid.{runs_in, waits, still}
 use Rattle.pt_fs.specs.Running.{Running, is_finished, owes}
+use Rattle.pt_fs.specs.Went.{run_seat}
 use Rattle.pt_fs.specs.declared.job.Job.{Job}
 use Rattle.pt_fs.specs.declared.machine.Machine.{Machine}
-use Rattle.pt_fs.specs.declared.jobs.Place.{Place}
-use Rattle.pt_fs.specs.declared.jobs.Place.TheVariants.{Waits, Goes, Ended as Ends}
+use Rattle.pt_fs.specs.Jobs.{asked_of}
+use Rattle.pt_fs.specs.Placed.{Place, Waits, Goes, Ended as Ends, AllEnded, answer_at, seat_at, stage_of}
 use Rattle.pt_fs.specs.declared.machine.Over.{Over}
-use Rattle.pt_fs.proofs.Places.{get-set_same, get-set_other}
-
--- Lists.
-
--- what is behind the last one
-pub get-past : {X : Type 0} (xs : List X) (x : X) → slice_get (xs ++ x ∷ []) (length xs) ≡ Some x
-get-past [] x = refl
-get-past (y ∷ xs) x = get-past xs x
-
--- and before it
-pub get-before : {X : Type 0} (xs : List X) (x y : X) (i : ℕ) → slice_get xs i ≡ Some y →
-    slice_get (xs ++ x ∷ []) i ≡ Some y
-get-before [] x y i e = absurd (cc)
-get-before (z ∷ xs) x y zero e = e
-get-before (z ∷ xs) x y (suc i) e = get-before xs x y i e
-
--- what is not the last one was there
-pub get-within : {X : Type 0} (xs : List X) (x y : X) (i : ℕ) → slice_get (xs ++ x ∷ []) i ≡ Some y → i ≢ length xs →
-    slice_get xs i ≡ Some y
-get-within [] x y zero e not = absurd (not refl)
-get-within [] x y (suc i) e not = absurd (cc)
-get-within (z ∷ xs) x y zero e not = e
-get-within (z ∷ xs) x y (suc i) e not = get-within xs x y i e (λ s. not (ap suc s))
-
-pub set-set : {X : Type 0} (xs : List X) (i : ℕ) (x y : X) → slice_set (slice_set xs i x) i y ≡ slice_set xs i y
-set-set [] i x y = refl
-set-set (z ∷ xs) zero x y = refl
-set-set (z ∷ xs) (suc i) x y = rw (set-set xs i x y) refl
-
-pub set-same : {X : Type 0} (xs : List X) (i : ℕ) (x : X) → slice_get xs i ≡ Some x → xs ≡ slice_set xs i x
-set-same [] i x e = refl
-set-same {X = X} (z ∷ xs) zero x e = ap (λ (y : X). y ∷ xs) (same_Some z x e)
-set-same {X = X} (z ∷ xs) (suc i) x e = ap (λ (l : List X). z ∷ l) (set-same xs i x e)
-
-pub map_alike : {X Y : Type 0} (xs ys : List X) (f g : X → Y) → length ys ≡ length xs →
-    ((j : ℕ) (x y : X) → slice_get xs j ≡ Some x → slice_get ys j ≡ Some y → g y ≡ f x) → map g ys ≡ map f xs
-map_alike [] [] f g long each = refl
-map_alike [] (y ∷ ys) f g long each = absurd (omega (arith, long))
-map_alike (x ∷ xs) [] f g long each = absurd (omega (arith, long))
-map_alike (x ∷ xs) (y ∷ ys) f g long each =
-    rw (each 0 x y refl refl, map_alike xs ys f g (omega (arith, long)) (λ j a b. each (suc j) a b)) refl
-
--- all but one are alike
-pub map_but : {X Y : Type 0} (xs ys : List X) (f g : X → Y) (i : ℕ) (z : Y) → length ys ≡ length xs →
-    ((y : X) → slice_get ys i ≡ Some y → g y ≡ z) →
-    ((j : ℕ) (x y : X) → j ≢ i → slice_get xs j ≡ Some x → slice_get ys j ≡ Some y → g y ≡ f x) →
-    map g ys ≡ slice_set (map f xs) i z
-map_but [] [] f g i z long here else = refl
-map_but [] (y ∷ ys) f g i z long here else = absurd (omega (arith, long))
-map_but (x ∷ xs) [] f g i z long here else = absurd (omega (arith, long))
-map_but (x ∷ xs) (y ∷ ys) f g zero z long here else =
-    rw (here y refl, map_alike xs ys f g (omega (arith, long)) (λ j a b. else (suc j) a b (λ e. absurd (cc)))) refl
-map_but (x ∷ xs) (y ∷ ys) f g (suc i) z long here else =
-    rw (
-      else 0 x y (λ e. absurd (cc)) refl refl,
-      map_but xs ys f g i z (omega (arith, long)) here (λ j a b not. else (suc j) a b (λ e. not (omega (arith, e)))),
-    )
-    refl
+use Rattle.pt_fs.specs.declared.places.Stage.{Stage}
+use Rattle.pt_fs.specs.declared.places.Stage.TheVariants as stage
+use Rattle.pt_fs.proofs.Lists.{get-set_same, get-set_other, get-past, get-before, get-within, set-set, set-same}
+use Rattle.pt_fs.proofs.Lists.{map_but}
 
 -- How many wait.
 
@@ -475,13 +426,6 @@ all_go_still going index it at this goes s one there = elim (cases_eq s index) [
   | inr other ↦ goes s one other there
 ]
 
--- what reads alike is alike
-pub get_alike : {X : Type 0} (xs ys : List X) (i j : ℕ) → i < length xs → j < length ys →
-    ((d : X) → get_or ys j d ≡ get_or xs i d) → slice_get ys j ≡ slice_get xs i
-get_alike [] ys i j low short same = absurd (omega (arith, low))
-get_alike {X = X} (x ∷ xs) ys i j low short same =
-    slice_get-get_or ys j x short ∙ ap (λ (y : X). Some y) (same x) ∙ sym (slice_get-get_or (x ∷ xs) i x low)
-
 -- The job of one place was given its machine, where it had none; the machine went on; and it was put away, where it
 -- had finished.
 pub record Through (running : List Running) (j : ℕ) (seen went : Machine) (running' : List Running) : Type 0 where
@@ -549,18 +493,103 @@ ended_place going goes (Goes index) ends = absurd (no (slice_get going index) re
     no None at end = cc
     no (Some it) at end = let on = goes index it at in cc
 
--- Jobs that all wait.
+-- Who is asked where a job is.
 
-pub still-append : (places : List Place) (p : Place) → still (places ++ p ∷ []) ≡ still places + waits p
-still-append [] p = omega arith
-still-append (first ∷ places) p = let more = still-append places p in omega arith
+pub runs_long : (places : List Place) (going : List Machine) → length (runs_in places going) ≡ length places
+runs_long places going = length-map places (run_at going)
 
-pub none_more : (places : List Place) (job : Job) →
-    ((j index : ℕ) → slice_get places j ≡ Some (Goes index) → ⊥) → (j index : ℕ) →
-    slice_get (places ++ Waits job ∷ []) j ≡ Some (Goes index) → ⊥
-none_more places job none j index at = elim (cases_eq j (length places)) [
-  | inl last ↦
-      let no = sym (get-past places (Waits job)) ∙ ap (slice_get (places ++ Waits job ∷ [])) (sym last) ∙ at in
-      absurd (cc)
-  | inr before ↦ none j index (get-within places (Waits job) (Goes index) j at before)
-]
+-- the job of a place is what the place says
+pub run_there : (places : List Place) (going : List Machine) (j : ℕ) (p : Place) (run : Running) →
+    slice_get places j ≡ Some p → slice_get (runs_in places going) j ≡ Some run → run_at going p ≡ run
+run_there places going j p run at there =
+    same_Some (run_at going p) run (sym (runs_at places going j p at) ∙ there)
+
+-- and that of a machine that was read
+pub goes_there : {places : List Place} {going : List Machine} → Laid places going → (j index : ℕ) (seen : Machine)
+    (run : Running) → slice_get places j ≡ Some (Goes index) → seen ≡ get_or going index seen →
+    slice_get (runs_in places going) j ≡ Some run → on_its_way seen ≡ run
+goes_there {places} {going} laid j index seen run at read there =
+    let it = laid.there j index at in
+    ap on_its_way (read ∙ get_or_from_slice_get going index it.0 seen it.1)
+    ∙ ap found_run (sym it.1) ∙ run_there places going j (Goes index) run at there
+
+-- a job that waits has not finished
+pub waits_on : (plan : Plan) (seat : HostSeat) (asked : Asked) → is_end (grammar_for plan seat asked) ≡ false
+waits_on plan seat (Requests who (request.Init capable)) = refl
+waits_on plan seat (Requests who request.Destroy) = refl
+waits_on plan seat (Requests who request.Root) = refl
+waits_on plan seat (Requests who asked) = refl
+waits_on plan seat (Edits edit) = refl
+
+-- and restores nothing
+pub waits_bare : (plan : Plan) (seat : HostSeat) (asked : Asked) → false ≡ restores (grammar_for plan seat asked)
+waits_bare plan seat (Requests who (request.Init capable)) = refl
+waits_bare plan seat (Requests who request.Destroy) = refl
+waits_bare plan seat (Requests who request.Root) = refl
+waits_bare plan seat (Requests who asked) = refl
+waits_bare plan seat (Edits edit) = refl
+
+pub waits_settled : (plan : Plan) (seat : HostSeat) (asked : Asked) → IsSettled (grammar_for plan seat asked)
+waits_settled plan seat (Requests who (request.Init capable)) = tt
+waits_settled plan seat (Requests who request.Destroy) = tt
+waits_settled plan seat (Requests who request.Root) = tt
+waits_settled plan seat (Requests who asked) = tt
+waits_settled plan seat (Edits edit) = tt
+
+-- a job that waits or has ended restores nothing
+pub rests : (going : List Machine) (p : Place) (at : Stage) → at ≡ stage_of p →
+    ((at ≡ stage.Waits) ⊎ ((by : Option Errno) × (lost : Option Errno) × (at ≡ stage.Ended by lost))) → (plan : Plan)
+    (seat : HostSeat) → (false ≡ restores (owes plan seat (run_at going p).state))
+    × IsSettled (owes plan seat (run_at going p).state)
+rests going (Waits job) at is not plan seat = (
+  waits_bare plan seat (asked_of job),
+  waits_settled plan seat (asked_of job),
+)
+rests going (Ends over) at is not plan seat = (refl, tt)
+rests going (Goes index) at is (inl waits) plan seat = let no = sym is ∙ waits in absurd (cc)
+rests going (Goes index) at is (inr ended) plan seat = let no = sym is ∙ ended.2 in absurd (cc)
+
+-- Where all have ended.
+
+pub each_told : (places : List Place) (going : List Machine) → AllEnded places →
+    EachAnswered (runs_in places going) (map answer_at places)
+each_told [] going ended = tt
+each_told (p ∷ places) going ended = (
+  told p (ended 0 p refl),
+  each_told places going (λ j it at. ended (suc j) it at),
+)
+  where
+    told : (p : Place) → (over : Over) × (p ≡ Ends over) → EndsAs (run_at going p) (answer_at p)
+    told (Waits job) is = let no = is.1 in absurd (cc)
+    told (Goes index) is = let no = is.1 in absurd (cc)
+    told (Ends over) is = (over.last, (λ plan. refl), refl)
+
+pub each_left : (places : List Place) (going : List Machine) → AllEnded places →
+    map seat_at places ≡ map run_seat (runs_in places going)
+each_left [] going ended = refl
+each_left (p ∷ places) going ended =
+    ap (λ (seat : Option HostSeat). seat ∷ map seat_at places) (left p (ended 0 p refl))
+    ∙ ap (λ (l : List (Option HostSeat)). run_seat (run_at going p) ∷ l)
+    (each_left places going (λ j it at. ended (suc j) it at))
+  where
+    left : (p : Place) → (over : Over) × (p ≡ Ends over) → seat_at p ≡ run_seat (run_at going p)
+    left (Waits job) is = let no = is.1 in absurd (cc)
+    left (Goes index) is = let no = is.1 in absurd (cc)
+    left (Ends over) is = refl
+
+-- jobs that have made no step
+pub laid_waiting : (jobs : List Job) → Laid (map Waits jobs) []
+laid_waiting jobs = record { there = λ j index at. absurd (no jobs j index at); back = λ index it at. absurd (cc) }
+  where
+    no : (jobs : List Job) (j index : ℕ) → slice_get (map Waits jobs) j ≡ Some (Goes index) → ⊥
+    no [] j index at = cc
+    no (job ∷ jobs) zero index at = cc
+    no (job ∷ jobs) (suc j) index at = no jobs j index at
+
+pub all_still : (jobs : List Job) → still (map Waits jobs) ≡ length jobs
+all_still [] = refl
+all_still (job ∷ jobs) = let rest = all_still jobs in omega (arith, rest)
+
+pub runs_waiting : (jobs : List Job) (going : List Machine) → runs_in (map Waits jobs) going ≡ map waiting jobs
+runs_waiting [] going = refl
+runs_waiting (job ∷ jobs) going = ap (λ (l : List Running). waiting job ∷ l) (runs_waiting jobs going)

@@ -1,4 +1,5 @@
-pub mod Places
+pub mod Lists
+pub mod Placing
 pub mod Laying
 pub mod Traces
 pub mod Orders

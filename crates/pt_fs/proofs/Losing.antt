@@ -25,7 +25,7 @@ use Rattle.pt_fs.specs.Trace.{step_of, steps_by}
 use Rattle.pt_fs.specs.Running.{Running}
 use Rattle.pt_fs.specs.declared.trace.TraceStep.{TraceStep}
 use Rattle.pt_fs.proofs.Going.{goes_none, goes_on, goes_took, goes_there, goes_first}
-use Rattle.pt_fs.proofs.Places.{get-set_same, get-set_other}
+use Rattle.pt_fs.proofs.Lists.{get-set_same, get-set_other}
 use Rattle.pt_fs.proofs.Stepping.{advance_restores, leads_tended}
 
 -- a seat is lost after some steps

@@ -8,7 +8,7 @@ use Rattle.pt_fs.specs.declared.trace.TraceStep.{TraceStep}
 use Rattle.pt_fs.specs.Running.{Running}
 use Rattle.pt_fs.specs.Order.{lowered, rest_of, order, owner, count_of, with_left, MayBeLeft, Owns}
 use Rattle.pt_fs.specs.Took.{IsFinishedAt}
-use Rattle.pt_fs.proofs.Places.{get-set_other}
+use Rattle.pt_fs.proofs.Lists.{get-set_other}
 
 -- functions that agree everywhere are one
 pub same_function : {A B : Type 0} (f g : A → B) → ((x : A) → f x ≡ g x) → f ≡ g

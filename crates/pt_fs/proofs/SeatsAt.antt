@@ -12,7 +12,7 @@ use Rattle.pt_frame.specs.declared.act.ActReply.{ActReply}
 use Rattle.pt_law.specs.Under.{SeatAnswers, AllSeatsAnswer}
 use Rattle.pt_law.proofs.Seats.{made_seat, made_answer}
 use Rattle.pt_law.proofs.Told.{Promises}
-use Rattle.pt_fs.proofs.Places.{get-set_other, get-set_same}
+use Rattle.pt_fs.proofs.Lists.{get-set_other, get-set_same}
 use Rattle.pt_fs.specs.Trace.{MadeFrom, TraceRuns, step_of, steps_by}
 use Rattle.pt_fs.specs.declared.trace.TraceStep.{TraceStep}
 

@@ -11,8 +11,7 @@ use Rattle.pt_fs.specs.Running.{Waits, Goes, Ended, Running, owes, steps_left, s
 use Rattle.pt_fs.specs.Running.{is_finished, lost_of}
 use Rattle.pt_fs.specs.declared.job.Job.{Job}
 use Rattle.pt_fs.specs.declared.machine.Machine.{Machine}
-use Rattle.pt_fs.specs.declared.jobs.Place.{Place}
-use Rattle.pt_fs.specs.declared.jobs.Place.TheVariants as place
+use Rattle.pt_fs.specs.Placed.{Place, Waits as Awaits, Goes as Runs, Ended as Ends}
 
 -- a job before its first step
 abbrev pub waiting : Job → Running
@@ -31,9 +30,9 @@ found_run None = nowhere
 found_run (Some it) = on_its_way it
 
 abbrev pub run_at : List Machine → Place → Running
-run_at going (place.Waits job) = waiting job
-run_at going (place.Goes index) = found_run (slice_get going index)
-run_at going (place.Ended over) =
+run_at going (Awaits job) = waiting job
+run_at going (Runs index) = found_run (slice_get going index)
+run_at going (Ends over) =
     record { start = over.start; seat = over.seat; state = Ended over.last over.lost }
 
 -- the jobs in order
@@ -42,9 +41,9 @@ runs_in places going = map (run_at going) places
 
 -- how many have made no step
 abbrev pub waits : Place → ℕ
-waits (place.Waits job) = 1
-waits (place.Goes index) = 0
-waits (place.Ended over) = 0
+waits (Awaits job) = 1
+waits (Runs index) = 0
+waits (Ends over) = 0
 
 abbrev pub still : List Place → ℕ
 still [] = 0
@@ -52,10 +51,10 @@ still (one ∷ places) = waits one + still places
 
 -- each place that names a machine names its own, and each machine is that which its place names
 pub record Laid (places : List Place) (going : List Machine) : Type 0 where
-  pub there : (j index : ℕ) → slice_get places j ≡ Some (place.Goes index) →
+  pub there : (j index : ℕ) → slice_get places j ≡ Some (Runs index) →
       (it : Machine) × (slice_get going index ≡ Some it) × (it.place ≡ j)
   pub back : (index : ℕ) (it : Machine) → slice_get going index ≡ Some it →
-      slice_get places it.place ≡ Some (place.Goes index)
+      slice_get places it.place ≡ Some (Runs index)
 
 -- no machine but this one has finished
 abbrev pub GoElsewhere : ℕ → List Machine → Type 0

@@ -6,13 +6,14 @@ pub mod Running
 pub mod Order
 pub mod Advances
 pub mod Stepped
+pub mod Each
+pub mod Placed
 pub mod Laid
 pub mod Went
 pub mod Work
 pub mod Took
 pub mod GoesOn
 pub mod Recorded
-pub mod Each
 pub mod Keeps
 pub mod Run
 pub mod Ends

@@ -8,25 +8,23 @@ ghost use Rattle.pt_host.specs.declared.seat.HostSeat.{HostSeat};
 ghost use Rattle.pt_frame.specs.Grammar.{is_end, restores, IsSettled};
 ghost use Rattle.pt_attr.specs.Machine.Job.{is_finished as is_job_over};
 ghost use Rattle.pt_req.specs.declared.plan.Plan.{Plan};
-ghost use Rattle.pt_fs.specs.Each.{EachAnswered, answer_of};
+ghost use Rattle.pt_fs.specs.Each.{EachAnswered};
 ghost use Rattle.pt_fs.specs.Jobs.{job_start};
 ghost use Rattle.pt_fs.specs.Laid.{AllGo, GoElsewhere, Laid, Settles, Wakes, runs_in, still, waiting};
 ghost use Rattle.pt_fs.specs.Loses.{CutRun};
+ghost use Rattle.pt_fs.specs.Placed.{Goes, Waits};
 ghost use Rattle.pt_fs.specs.Recorded.{Wrote};
 ghost use Rattle.pt_fs.specs.Running.{Running, is_finished, inserts_left, owes};
 ghost use Rattle.pt_fs.specs.Took.{Took, IsFinishedAt, IsUnfinished};
-ghost use Rattle.pt_fs.specs.Trace.{seated};
 ghost use Rattle.pt_fs.specs.Went.{run_seat};
 ghost use Rattle.pt_fs.specs.Work.{KeepsPace, work};
 ghost use Rattle.pt_fs.specs.declared.job.Job.{Job};
-ghost use Rattle.pt_fs.specs.declared.jobs.Place.TheVariants as place_at;
 ghost use Rattle.pt_fs.specs.declared.machine.Machine.{Machine};
-ghost use Rattle.pt_fs.specs.declared.machine.Over.{Over};
 
-use crate::ends::{answered, push_seat};
 use crate::fs::SteppedFs;
 use crate::job::Job;
-use crate::machine::{Machine, Over, begun, ended};
+use crate::machine::{Machine, begun, ended};
+use crate::places::{Places, Stage};
 use crate::record::Record;
 use crate::room::{push_within, with_room};
 use crate::step::advance;
@@ -34,22 +32,11 @@ use pt_host::{Errno, Host, HostSeat};
 use pt_iface::Answer;
 use std::alloc::{AllocError, Global};
 use std::marker::Model;
-use std::mem;
-
-/// Where a job is.
-#[derive(Drop)]
-pub enum Place {
-    /// It has made no step.
-    Waits(Job),
-    /// It is on its way, and its machine is this one of them.
-    Goes(usize),
-    Ended(Over),
-}
 
 /// The jobs of a run, in order.
 #[derive(Drop)]
 pub struct Jobs {
-    places: Vec<Place>,
+    places: Places,
     going: Vec<Machine>,
 }
 
@@ -60,123 +47,86 @@ impl Model for Jobs {
 
     ghost Value = { List Running };
 
-    ghost view = { λ jobs. runs_in jobs.places.items jobs.going.items };
+    ghost view = { λ jobs. runs_in jobs.places jobs.going.items };
 
     ghost invariant = { λ jobs.
-        Laid jobs.places.items jobs.going.items
+        Laid jobs.places jobs.going.items
         × AllGo jobs.going.items
-        × (still jobs.places.items + length jobs.going.items ≤ vec_capacity jobs.going) };
-}
-
-/// The place of a job that has made no step.
-fn waits(job: Job) -> Place
-    ensures place { result ≡ place_at.Waits job }
-    ensures fits { (job_start job).eff_caps.0 < 2 ^ 32 }
-{
-    Place::Waits(job)
-}
-
-/// The answer of a job that has ended, and its seat if it has one, where there is room for them.
-fn push_end(place: Place, answers: &mut Vec<Answer>, seats: &mut Vec<HostSeat>)
-    requires ended { (over : Over) × (place ≡ place_at.Ended over) }
-    requires room_answers { length answers.old.items < vec_capacity answers.old }
-    requires room_seats { length seats.old.items < vec_capacity seats.old }
-    ensures answers { (over : Over) → place ≡ place_at.Ended over →
-        answers.new.items ≡ answers.old.items ++ answer_of over.last ∷ [] }
-    ensures seats { (over : Over) → place ≡ place_at.Ended over →
-        seats.new.items ≡ seats.old.items ++ seated (over.seat ∷ []) }
-    ensures capacity { vec_capacity answers.old ≤ vec_capacity answers.new }
-    ensures seat_capacity { vec_capacity seats.old ≤ vec_capacity seats.new }
-{
-    if let Place::Ended(over) = place {
-        push_within(answers, answered(over.last));
-        push_seat(seats, over.seat);
-    }
-}
-
-/// Puts what a place now has into it.
-fn put(places: &mut Vec<Place>, place: usize, it: Place)
-    requires { place < length places.old.items }
-    ensures { places.new.items ≡ slice_set places.old.items place it }
-{
-    places[place] = it;
+        × (still jobs.places + length jobs.going.items ≤ vec_capacity jobs.going) };
 }
 
 /// Begins a job that waits: tells the index of its machine, for which there is room.
-fn begin(places: &mut Vec<Place>, going: &mut Vec<Machine>, place: usize) -> usize
-    requires waits { (job : Job) × (slice_get places.old.items place ≡ Some (place_at.Waits job)) }
-    requires laid { Laid places.old.items going.old.items }
+fn begin(places: &mut Places, going: &mut Vec<Machine>, place: usize) -> usize
+    requires waits { (job : Job) × (slice_get places.old place ≡ Some (Waits job)) }
+    requires laid { Laid places.old going.old.items }
     requires all_go { AllGo going.old.items }
-    requires room { still places.old.items + length going.old.items ≤ vec_capacity going.old }
-    ensures laid { Laid places.new.items going.new.items }
+    requires room { still places.old + length going.old.items ≤ vec_capacity going.old }
+    ensures laid { Laid places.new going.new.items }
     ensures all_go { AllGo going.new.items }
-    ensures room { still places.new.items + length going.new.items ≤ vec_capacity going.new }
-    ensures same { length places.new.items ≡ length places.old.items }
-    ensures index { slice_get places.new.items place ≡ Some (place_at.Goes result) }
-    ensures wakes { Wakes places.old.items going.old.items place places.new.items going.new.items result }
+    ensures room { still places.new + length going.new.items ≤ vec_capacity going.new }
+    ensures same { length places.new ≡ length places.old }
+    ensures index { slice_get places.new place ≡ Some (Goes result) }
+    ensures wakes { Wakes places.old going.old.items place places.new going.new.items result }
 {
     let index = going.len();
-    if let Place::Waits(job) = mem::replace(&mut places[place], Place::Goes(index)) {
-        push_within(going, begun(place, job));
-    }
+    push_within(going, begun(place, places.begin(place, index)));
     index
 }
 
 /// Tells the index of the machine of a job that has not finished, which it is given where it waits.
-fn wake(places: &mut Vec<Place>, going: &mut Vec<Machine>, place: usize) -> usize
-    requires named { place < length places.old.items }
-    requires laid { Laid places.old.items going.old.items }
+fn wake(places: &mut Places, going: &mut Vec<Machine>, place: usize) -> usize
+    requires named { place < length places.old }
+    requires laid { Laid places.old going.old.items }
     requires all_go { AllGo going.old.items }
-    requires room { still places.old.items + length going.old.items ≤ vec_capacity going.old }
-    requires unfinished { (run : Running) → slice_get (runs_in places.old.items going.old.items) place ≡ Some run →
+    requires room { still places.old + length going.old.items ≤ vec_capacity going.old }
+    requires unfinished { (run : Running) → slice_get (runs_in places.old going.old.items) place ≡ Some run →
         is_finished run.state ≡ false }
-    ensures laid { Laid places.new.items going.new.items }
+    ensures laid { Laid places.new going.new.items }
     ensures all_go { AllGo going.new.items }
-    ensures room { still places.new.items + length going.new.items ≤ vec_capacity going.new }
-    ensures same { length places.new.items ≡ length places.old.items }
-    ensures index { slice_get places.new.items place ≡ Some (place_at.Goes result) }
-    ensures wakes { Wakes places.old.items going.old.items place places.new.items going.new.items result }
+    ensures room { still places.new + length going.new.items ≤ vec_capacity going.new }
+    ensures same { length places.new ≡ length places.old }
+    ensures index { slice_get places.new place ≡ Some (Goes result) }
+    ensures wakes { Wakes places.old going.old.items place places.new going.new.items result }
 {
-    match &places[place] {
-        Place::Waits(_) => begin(places, going, place),
-        Place::Goes(index) => *index,
-        Place::Ended(_) => 0,
+    match places.stage(place) {
+        Stage::Waits => begin(places, going, place),
+        Stage::Goes(index) => index,
+        Stage::Ended(_, _) => 0,
     }
 }
 
 /// Puts a job that has finished where it needs no machine, and the last machine where its own was.
-fn put_away(places: &mut Vec<Place>, going: &mut Vec<Machine>, place: usize, index: usize)
-    requires laid { Laid places.old.items going.old.items }
+fn put_away(places: &mut Places, going: &mut Vec<Machine>, place: usize, index: usize)
+    requires laid { Laid places.old going.old.items }
     requires ended { (it : Machine) → slice_get going.old.items index ≡ Some it →
         is_job_over it.state ≡ true }
     requires others_go { GoElsewhere index going.old.items }
-    requires room { still places.old.items + length going.old.items ≤ vec_capacity going.old }
-    requires index { slice_get places.old.items place ≡ Some (place_at.Goes index) }
-    ensures laid { Laid places.new.items going.new.items }
+    requires room { still places.old + length going.old.items ≤ vec_capacity going.old }
+    requires index { slice_get places.old place ≡ Some (Goes index) }
+    ensures laid { Laid places.new going.new.items }
     ensures all_go { AllGo going.new.items }
-    ensures room { still places.new.items + length going.new.items ≤ vec_capacity going.new }
-    ensures same { length places.new.items ≡ length places.old.items }
-    ensures settles { Settles places.old.items going.old.items place index places.new.items going.new.items }
+    ensures room { still places.new + length going.new.items ≤ vec_capacity going.new }
+    ensures same { length places.new ≡ length places.old }
+    ensures settles { Settles places.old going.old.items place index places.new going.new.items }
 {
     let it = going.swap_remove(index);
-    put(places, place, Place::Ended(ended(it)));
+    places.end(place, ended(it));
     if index < going.len() {
-        let moved = going[index].place;
-        put(places, moved, Place::Goes(index));
+        places.go(going[index].place, index);
     }
 }
 
 /// Puts a job away, if it has finished. That is apart, as each step comes here and few put a job away.
-fn settle(places: &mut Vec<Place>, going: &mut Vec<Machine>, place: usize, index: usize)
-    requires laid { Laid places.old.items going.old.items }
+fn settle(places: &mut Places, going: &mut Vec<Machine>, place: usize, index: usize)
+    requires laid { Laid places.old going.old.items }
     requires others_go { GoElsewhere index going.old.items }
-    requires room { still places.old.items + length going.old.items ≤ vec_capacity going.old }
-    requires index { slice_get places.old.items place ≡ Some (place_at.Goes index) }
-    ensures laid { Laid places.new.items going.new.items }
+    requires room { still places.old + length going.old.items ≤ vec_capacity going.old }
+    requires index { slice_get places.old place ≡ Some (Goes index) }
+    ensures laid { Laid places.new going.new.items }
     ensures all_go { AllGo going.new.items }
-    ensures room { still places.new.items + length going.new.items ≤ vec_capacity going.new }
-    ensures same { length places.new.items ≡ length places.old.items }
-    ensures settles { Settles places.old.items going.old.items place index places.new.items going.new.items }
+    ensures room { still places.new + length going.new.items ≤ vec_capacity going.new }
+    ensures same { length places.new ≡ length places.old }
+    ensures settles { Settles places.old going.old.items place index places.new going.new.items }
 {
     if going[index].state.is_finished() {
         put_away(places, going, place, index);
@@ -190,11 +140,8 @@ impl Jobs {
         ensures fits { IfOk result (λ running.
             Each (λ (job : Job). (job_start job).eff_caps.0 < 2 ^ 32) jobs.items) }
     {
-        let mut places = with_room(alloc, jobs.len())?;
         let going = with_room(alloc, jobs.len())?;
-        for job in jobs {
-            push_within(&mut places, waits(job));
-        }
+        let places = Places::new(alloc, jobs)?;
         Ok(Jobs { places, going })
     }
 
@@ -211,10 +158,10 @@ impl Jobs {
         ensures end { (run : Running) → slice_get self.now place ≡ Some run →
             (plan : Plan) (seat : HostSeat) → is_end (owes plan seat run.state) ≡ result }
     {
-        match &self.places[place] {
-            Place::Waits(_) => false,
-            Place::Goes(index) => self.going[*index].state.is_finished(),
-            Place::Ended(_) => true,
+        match self.places.stage(place) {
+            Stage::Waits => false,
+            Stage::Goes(index) => self.going[index].state.is_finished(),
+            Stage::Ended(_, _) => true,
         }
     }
 
@@ -228,9 +175,9 @@ impl Jobs {
         ensures settled { (run : Running) → slice_get self.now place ≡ Some run →
             (plan : Plan) (seat : HostSeat) → IsSettled (owes plan seat run.state) }
     {
-        match &self.places[place] {
-            Place::Goes(index) => self.going[*index].state.restoring(),
-            Place::Waits(_) | Place::Ended(_) => false,
+        match self.places.stage(place) {
+            Stage::Goes(index) => self.going[index].state.restoring(),
+            Stage::Waits | Stage::Ended(_, _) => false,
         }
     }
 
@@ -248,23 +195,17 @@ impl Jobs {
         settle(&mut self.places, &mut self.going, place, index);
     }
 
-    /// Each job's answer, and its seat if it has one, where there is room for them.
-    pub fn finish(self, answers: &mut Vec<Answer>, seats: &mut Vec<HostSeat>)
+    /// Each job's answer, and its seat if it has one.
+    pub fn finish(self) -> (Vec<Answer>, Vec<Option<HostSeat>>)
         requires finished { (j : ℕ) → IsFinishedAt self j }
-        requires no_answers { answers.old.items ≡ [] }
-        requires no_seats { seats.old.items ≡ [] }
-        requires room_answers { length self ≤ vec_capacity answers.old }
-        requires room_seats { length self ≤ vec_capacity seats.old }
-        ensures answers { EachAnswered self answers.new.items }
-        ensures seats { seats.new.items ≡ seated (map run_seat self) }
+        ensures answers { EachAnswered self result.0.items }
+        ensures seats { result.1.items ≡ map run_seat self }
     {
         let Jobs {
             places,
             going: _going,
         } = self;
-        for place in places {
-            push_end(place, answers, seats);
-        }
+        places.finish()
     }
 }
 

@@ -9,6 +9,7 @@ mod jobs;
 mod lost;
 mod machine;
 mod passthrough;
+mod places;
 mod record;
 mod recorded;
 mod room;

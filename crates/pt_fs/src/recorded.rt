@@ -17,19 +17,17 @@ use crate::job::Job;
 use crate::jobs::Jobs;
 use crate::lost::wind_up;
 use crate::record::Record;
-use crate::room::with_room;
 use crate::schedule::run_jobs;
 use pt_host::{Errno, Host, HostSeat};
 use pt_iface::Answer;
-use std::alloc::{AllocError, Global};
+use std::alloc::Global;
 
-/// What a run leaves, its steps aside: the file system, the answers of its jobs, and the seats of those that are no
-/// edit.
+/// What a run leaves, its steps aside: the file system, the answer of each job, and its seat, which an edit has not.
 #[derive(Drop)]
 pub struct Left<F> {
     pub fs: F,
     pub answers: Vec<Answer>,
-    pub seats: Vec<HostSeat>,
+    pub seats: Vec<Option<HostSeat>>,
 }
 
 /// Why a run did not begin, or did not come to its end.
@@ -66,9 +64,12 @@ pub fn drive_into<H: Host, F: SteppedFs, R: Record>(
     // exactly where a restoring step failed; exactly the jobs that were unfinished there are cut.
     ensures run { OnEnd result (λ left lost. Wrote R.wrote record.old record.new (λ trace.
         IsRun H.does (F.plan_of fs) jobs.items host.old (H.tree host.old) (F.tables fs)
-        trace left.answers.items host.new (H.tree host.new) left.seats.items (F.tables left.fs)
+        trace left.answers.items host.new (H.tree host.new) (seated left.seats.items) (F.tables left.fs)
         × EndsSo H.does H.faults (F.plan_of fs) jobs.items schedule.now host.old (F.tables fs) trace
         left.answers.items lost)) }
+
+    // Each job has its seat's place, also an edit, which has none.
+    ensures one_each { OnEnd result (λ left lost. length left.seats.items ≡ length jobs.items) }
 
     // The configuration and the descriptor of the host's root stay.
     ensures plan { OnEnd result (λ left lost. F.plan_of left.fs ≡ F.plan_of fs) }
@@ -81,15 +82,15 @@ pub fn drive_into<H: Host, F: SteppedFs, R: Record>(
     // A record with room for all steps is not full.
     ensures full { OnUnwritten result (λ stopped. R.room record.old < room jobs.items) }
 {
-    let (mut running, ends) = match start_in_room(alloc, jobs) {
-        Ok(started) => started,
+    let mut running = match Jobs::new(alloc, jobs) {
+        Ok(running) => running,
         Err(_) => return Err(DriveIntoError::Memory(fs)),
     };
     match run_jobs(alloc, host, &mut fs, &mut running, record, schedule) {
-        Ok(None) => Ok(finish_run(fs, running, ends)),
+        Ok(None) => Ok(finish_run(fs, running)),
         Ok(Some(loss)) => match wind_up(alloc, host, &mut fs, &mut running, record, loss.job) {
             Ok(()) => {
-                let left = finish_run(fs, running, ends);
+                let left = finish_run(fs, running);
                 Err(DriveIntoError::CredentialsLost(loss.job, loss.errno, left))
             }
             Err(_) => Err(DriveIntoError::Record(fs)),
@@ -99,41 +100,12 @@ pub fn drive_into<H: Host, F: SteppedFs, R: Record>(
 }
 
 /// What is left where each job has finished.
-fn finish_run<F>(fs: F, running: Jobs, mut ends: Ends) -> Left<F>
+fn finish_run<F>(fs: F, running: Jobs) -> Left<F>
     requires finished { (j : ℕ) → IsFinishedAt running j }
-    requires no_answers { ends.answers.items ≡ [] }
-    requires no_seats { ends.seats.items ≡ [] }
-    requires room_answers { length running ≤ vec_capacity ends.answers }
-    requires room_seats { length running ≤ vec_capacity ends.seats }
     ensures fs { result.fs ≡ fs }
     ensures answers { EachAnswered running result.answers.items }
-    ensures seats { result.seats.items ≡ seated (map run_seat running) }
+    ensures seats { result.seats.items ≡ map run_seat running }
 {
-    running.finish(&mut ends.answers, &mut ends.seats);
-    Left {
-        fs,
-        answers: ends.answers,
-        seats: ends.seats,
-    }
-}
-
-/// Room for what jobs leave at their ends.
-#[derive(Drop)]
-struct Ends {
-    answers: Vec<Answer>,
-    seats: Vec<HostSeat>,
-}
-
-/// The jobs, none of which has made a step, and the room for their answers and their seats.
-fn start_in_room(alloc: Global, jobs: Vec<Job>) -> Result<(Jobs, Ends), AllocError>
-    ensures started { IfOk result (λ r. (plan : Plan) → EachStarted plan jobs.items r.0) }
-    ensures answers { IfOk result (λ r. r.1.answers.items ≡ []) }
-    ensures seats { IfOk result (λ r. r.1.seats.items ≡ []) }
-    ensures answers_room { IfOk result (λ r. length r.0 ≤ vec_capacity r.1.answers) }
-    ensures seats_room { IfOk result (λ r. length r.0 ≤ vec_capacity r.1.seats) }
-{
-    let running = Jobs::new(alloc, jobs)?;
-    let answers = with_room(alloc, running.len())?;
-    let seats = with_room(alloc, running.len())?;
-    Ok((running, Ends { answers, seats }))
+    let (answers, seats) = running.finish();
+    Left { fs, answers, seats }
 }

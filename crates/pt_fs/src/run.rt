@@ -1,10 +1,11 @@
-ghost use Rattle.std.specs.Prelude.{◌≤◌, vec_capacity, ◌≡◌, ◌<◌, ◌^◌, ℕ, length, IfOk};
+ghost use Rattle.std.specs.Prelude.{◌≤◌, vec_capacity, ◌≡◌, ◌<◌, ◌^◌, ℕ, [], length, IfOk};
 ghost use Rattle.pt_session.specs.Tables.{empty_tables};
 ghost use Rattle.pt_fs.specs.Ends.{EndsWhole, LosesSeat, OnDriven, OnLost, OnMemory};
 ghost use Rattle.pt_fs.specs.Jobs.{StartAll};
 ghost use Rattle.pt_fs.specs.Run.{IsRun};
-ghost use Rattle.pt_fs.specs.Trace.{room_of as room};
+ghost use Rattle.pt_fs.specs.Trace.{room_of as room, seated};
 
+use crate::ends::push_seat;
 use crate::fs::SteppedFs;
 use crate::job::Job;
 use crate::recorded::{DriveIntoError, Left, drive_into};
@@ -78,10 +79,14 @@ pub fn drive<H: Host, F: SteppedFs>(
         Ok(trace) => trace,
         Err(_) => return Err(DriveError::Memory(fs)),
     };
+    let seats = match with_room(alloc, jobs.len()) {
+        Ok(seats) => seats,
+        Err(_) => return Err(DriveError::Memory(fs)),
+    };
     match drive_into(alloc, fs, host, jobs, schedule, &mut trace) {
-        Ok(left) => Ok(with_trace(left, trace)),
+        Ok(left) => Ok(with_trace(left, trace, seats)),
         Err(DriveIntoError::CredentialsLost(job, errno, left)) => {
-            Err(DriveError::CredentialsLost(job, errno, with_trace(left, trace)))
+            Err(DriveError::CredentialsLost(job, errno, with_trace(left, trace, seats)))
         }
         // The trace has room, so that it is the jobs that find no memory.
         Err(DriveIntoError::Memory(fs)) | Err(DriveIntoError::Record(fs)) => {
@@ -90,17 +95,22 @@ pub fn drive<H: Host, F: SteppedFs>(
     }
 }
 
-/// What a run left, and its steps.
-fn with_trace<F>(left: Left<F>, trace: Vec<TraceStep>) -> Driven<F>
+/// What a run left, and its steps, and the seats of those that are no edit, for which there is room.
+fn with_trace<F>(left: Left<F>, trace: Vec<TraceStep>, mut seats: Vec<HostSeat>) -> Driven<F>
+    requires no_seats { seats.items ≡ [] }
+    requires room { length left.seats.items ≤ vec_capacity seats }
     ensures fs { result.fs ≡ left.fs }
     ensures answers { result.answers ≡ left.answers }
     ensures trace { result.trace ≡ trace }
-    ensures seats { result.seats ≡ left.seats }
+    ensures seats { result.seats.items ≡ seated left.seats.items }
 {
+    for seat in left.seats {
+        push_seat(&mut seats, seat);
+    }
     Driven {
         fs: left.fs,
         answers: left.answers,
         trace,
-        seats: left.seats,
+        seats,
     }
 }

@@ -5,8 +5,9 @@ use Rattle.std.proofs.lemmas.Option.{slice_get_within, slice_get_read, get_or_fr
 use Rattle.pt_attr.specs.Machine.Job.{is_finished}
 use Rattle.pt_fs.specs.Laid.{Stays, on_its_way, run_at}
 use Rattle.pt_fs.specs.declared.machine.Machine.{Machine}
-use Rattle.pt_fs.specs.declared.jobs.Place.TheVariants.{Goes, Ended}
-use Rattle.pt_fs.proofs.Laying.{settled_stays, get_alike, still-set}
+use Rattle.pt_fs.specs.Placed.{Goes, Ended}
+use Rattle.pt_fs.proofs.Lists.{get_alike}
+use Rattle.pt_fs.proofs.Laying.{settled_stays, still-set}
 use Rattle.pt_fs.proofs.Laying.{moved_was}
 use Rattle.pt_fs.proofs.Laying.{last_laid, last_runs, last_goes, moved_laid, moved_runs, moved_goes}
 use Rattle.pt_fs.proofs.jobs.put_away.Goals as goal
@@ -24,12 +25,12 @@ ended-requires c =
     c.swap_remove-it.ensures.value ∙ get_or_from_slice_get c.args.going.now.items c.args.index own.0 _ own.1 in
     ap (λ (g : Machine). is_finished g.state) is ∙ c.requires.ended own.0 own.1
 
-pub put-requires : goal.put-requires
-put-requires c = slice_get_within c.args.places.now.items c.args.place _ c.requires.index
+pub end-requires : goal.end-requires
+end-requires c = record { named = slice_get_within c.args.places.now c.args.place _ c.requires.index }
 
-pub put-requires-then-index-len : goal.put-requires-then-index-len
-put-requires-then-index-len c =
-    let places = c.args.places.now.items in
+pub go-requires : goal.go-requires
+go-requires c =
+    let places = c.args.places.now in
     let going = c.args.going.now.items in
     let on = c.swap_remove-it.new.self.items in
     let own = c.requires.laid.there c.args.place c.args.index c.requires.index in
@@ -48,11 +49,11 @@ put-requires-then-index-len c =
     (omega (arith, few, c.args.going.now.ok.0)))) ∙ in_place in
     let named = slice_get_within places moved.place _ (c.requires.laid.back (length on) moved top) in
     let long = length-set places c.args.place (Ended c.ended.result) in
-    rw c.put.ensures (omega (arith, named, long))
+    record { named = rw c.end.ensures (omega (arith, named, long)) }
 
 pub returns-then-index-len : goal.returns-then-index-len
 returns-then-index-len c =
-    let places = c.args.places.now.items in
+    let places = c.args.places.now in
     let going = c.args.going.now.items in
     let on = c.swap_remove-it.new.self.items in
     let own = c.requires.laid.there c.args.place c.args.index c.requires.index in
@@ -86,7 +87,7 @@ returns-then-index-len c =
     let same = c.swap_remove-it.ensures.capacity in
     let stays = settled_stays c.swap_remove-it.result over on ends c.ended.ensures.start
     c.ended.ensures.seat c.ended.ensures.left c.ended.ensures.lost in
-    rw (c.put-then-index-len.ensures, c.put.ensures) record {
+    rw (c.go.ensures, c.end.ensures) record {
       laid = moved_laid c.requires.laid c.args.place c.args.index c.requires.index over on moved few low top in_place
           kept;
       all_go = moved_goes c.requires.laid c.args.place c.args.index c.requires.index over on moved few low top in_place
@@ -106,7 +107,7 @@ returns-then-index-len c =
 
 pub returns-else-index-len : goal.returns-else-index-len
 returns-else-index-len c =
-    let places = c.args.places.now.items in
+    let places = c.args.places.now in
     let going = c.args.going.now.items in
     let on = c.swap_remove-it.new.self.items in
     let own = c.requires.laid.there c.args.place c.args.index c.requires.index in
@@ -131,7 +132,7 @@ returns-else-index-len c =
     let same = c.swap_remove-it.ensures.capacity in
     let stays = settled_stays c.swap_remove-it.result over on ends c.ended.ensures.start
     c.ended.ensures.seat c.ended.ensures.left c.ended.ensures.lost in
-    rw c.put.ensures record {
+    rw c.end.ensures record {
       laid = laid;
       all_go = last_goes c.requires.laid c.args.place c.args.index c.requires.index over on few last kept
           c.requires.others_go;

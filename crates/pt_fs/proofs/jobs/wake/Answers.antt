@@ -1,22 +1,22 @@
-use Rattle.std.proofs.Common.{◌≡◌, ◌∙◌, Some, refl, ap, slice_get}
-use Rattle.std.proofs.lemmas.Option.{slice_get_read}
-use Rattle.pt_fs.specs.declared.jobs.Place.{Place}
-use Rattle.pt_fs.specs.declared.jobs.Place.TheVariants.{Goes, Ended}
+use Rattle.std.proofs.Common.{◌≡◌, ◌∙◌, Some, refl, ap, sym, slice_get}
+use Rattle.pt_fs.specs.Placed.{Place, Goes}
+use Rattle.pt_fs.proofs.Lists.{got}
 use Rattle.pt_fs.proofs.Laying.{wakes_none, has_ended}
+use Rattle.pt_fs.proofs.Placing.{stage_waits, stage_goes, stage_ended}
 use Rattle.pt_fs.proofs.jobs.wake.Goals as goal
 
 pub begin-requires-clause-waits : goal.begin-requires-clause-waits
-begin-requires-clause-waits c = (
-  c.in-Waits.field-0,
-  slice_get_read c.args.places.now.items _ c.args.place c.index.result.now refl c.requires.named c.index.ensures
-      ∙ ap (λ (p : Place). Some p) c.in-Waits.is,
-)
+begin-requires-clause-waits c =
+    let it = got c.args.places.now c.args.place c.requires.named in
+    let waits = stage_waits it.0 (sym (c.stage.ensures it.0 it.1) ∙ c.in-Waits.is) in
+    (waits.0, it.1 ∙ ap (λ (p : Place). Some p) waits.1)
 
 pub returns-in-Goes : goal.returns-in-Goes
 returns-in-Goes c =
-    let own : slice_get c.args.places.now.items c.args.place ≡ Some (Goes c.in-Goes.index) =
-    slice_get_read c.args.places.now.items _ c.args.place c.index.result.now refl c.requires.named c.index.ensures
-    ∙ ap (λ (p : Place). Some p) c.in-Goes.is in
+    let it = got c.args.places.now c.args.place c.requires.named in
+    let own : slice_get c.args.places.now c.args.place ≡ Some (Goes c.in-Goes.index) =
+    it.1 ∙ ap (λ (p : Place). Some p) (stage_goes it.0 c.in-Goes.index (sym (c.stage.ensures it.0 it.1)
+    ∙ c.in-Goes.is)) in
     record {
       laid = c.requires.laid;
       all_go = c.requires.all_go;
@@ -28,8 +28,8 @@ returns-in-Goes c =
 
 pub returns-in-Ended : goal.returns-in-Ended
 returns-in-Ended c =
-    let own : slice_get c.args.places.now.items c.args.place ≡ Some (Ended c.in-Ended.field-0) =
-    slice_get_read c.args.places.now.items _ c.args.place c.index.result.now refl c.requires.named c.index.ensures
-    ∙ ap (λ (p : Place). Some p) c.in-Ended.is in
-    absurd (has_ended c.args.places.now.items c.args.going.now.items c.args.place c.in-Ended.field-0 own
-    c.requires.unfinished)
+    let it = got c.args.places.now c.args.place c.requires.named in
+    let over = stage_ended it.0 c.in-Ended.field-0 c.in-Ended.field-1
+    (sym (c.stage.ensures it.0 it.1) ∙ c.in-Ended.is) in
+    absurd (has_ended c.args.places.now c.args.going.now.items c.args.place over.0
+    (it.1 ∙ ap (λ (p : Place). Some p) over.1) c.requires.unfinished)

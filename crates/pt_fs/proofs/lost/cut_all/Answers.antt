@@ -1,7 +1,7 @@
 use Rattle.std.proofs.Common.{◌<◌, ◌∙◌, refl, ap, length, arith}
 use Rattle.std.proofs.lemmas.List.{length-set}
 use Rattle.pt_fs.proofs.Losing.{cut_none, cut_more, cut_whole}
-use Rattle.pt_fs.proofs.Places.{got}
+use Rattle.pt_fs.proofs.Lists.{got}
 use Rattle.pt_fs.proofs.Works.{bounds-set}
 use Rattle.pt_fs.proofs.lost.cut_all.Goals as goal
 

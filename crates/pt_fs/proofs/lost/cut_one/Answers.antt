@@ -1,5 +1,5 @@
 use Rattle.std.proofs.Common.{◌∙◌, inl, inr, refl, arith}
-use Rattle.pt_fs.proofs.Laying.{set-same}
+use Rattle.pt_fs.proofs.Lists.{set-same}
 use Rattle.pt_fs.proofs.lost.cut_one.Goals as goal
 
 pub returns-then-place-job : goal.returns-then-place-job

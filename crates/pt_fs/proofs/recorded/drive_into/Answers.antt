@@ -1,9 +1,13 @@
-use Rattle.std.proofs.Common.{◌∙◌, ap, ◌++◌, [], refl, arith}
+use Rattle.std.proofs.Common.{length, ◌∙◌, ap, ◌++◌, [], refl, arith}
+use Rattle.std.proofs.lemmas.List.{length-map}
 use Rattle.std.proofs.lemmas.Option.{slice_get_within}
 use Rattle.pt_session.specs.Pending.{pending_in}
 use Rattle.pt_law.proofs.Hosts.{Tells}
+use Rattle.pt_fs.specs.Each.{EachStarted}
+use Rattle.pt_fs.specs.Went.{run_seat}
+use Rattle.pt_fs.specs.Trace.{seated}
 use Rattle.pt_fs.proofs.Concluding.{is_run}
-use Rattle.pt_fs.proofs.Ended.{started_length, started_calm, started_fits}
+use Rattle.pt_fs.proofs.Ended.{waiting_started, started_length, started_calm, started_fits}
 use Rattle.pt_fs.proofs.Finale.{LostEnd, runs_lost, long_end, length_lost, comes_lost, bounded_lost, spent_lost}
 use Rattle.pt_fs.proofs.Finale.{loses_seat}
 use Rattle.pt_fs.proofs.Going.{there_took}
@@ -17,21 +21,27 @@ use Rattle.pt_fs.proofs.recorded.drive_into.Goals as goal
 pub run_jobs-requires-clause-named : goal.run_jobs-requires-clause-named
 run_jobs-requires-clause-named g c =
     let plan = g.F.SteppedFs.plan_of c.args.fs in
-    let same = started_length plan c.args.jobs.items c.in-Ok.started.0 (c.in-Ok.ensures.started plan) in
+    let started : EachStarted plan c.args.jobs.items c.in-Ok.running =
+    rw c.in-Ok.ensures.waiting (waiting_started plan c.args.jobs.items c.in-Ok.ensures.fits) in
+    let same = started_length plan c.args.jobs.items c.in-Ok.running started in
     let few = c.requires.few in
     omega (arith, same, few)
 
 pub run_jobs-requires-clause-calm : goal.run_jobs-requires-clause-calm
 run_jobs-requires-clause-calm g c =
     let plan = g.F.SteppedFs.plan_of c.args.fs in
-    started_calm plan c.args.jobs.items c.in-Ok.started.0 (c.in-Ok.ensures.started plan)
+    let started : EachStarted plan c.args.jobs.items c.in-Ok.running =
+    rw c.in-Ok.ensures.waiting (waiting_started plan c.args.jobs.items c.in-Ok.ensures.fits) in
+    started_calm plan c.args.jobs.items c.in-Ok.running started
 
 pub wind_up-requires-clause-few : goal.wind_up-requires-clause-few
 wind_up-requires-clause-few g c =
     let lost = (rw c.in-Ok-Some.field-0-is at c.in-Ok-Some.ensures.lost).so in
     let same = lost.last.same ∙ lost.goes.same in
     let plan = g.F.SteppedFs.plan_of c.args.fs in
-    let long = started_length plan c.args.jobs.items c.in-Ok.started.0 (c.in-Ok.ensures.started plan) in
+    let started : EachStarted plan c.args.jobs.items c.in-Ok.running =
+    rw c.in-Ok.ensures.waiting (waiting_started plan c.args.jobs.items c.in-Ok.ensures.fits) in
+    let long = started_length plan c.args.jobs.items c.in-Ok.running started in
     let few = c.requires.few in
     omega (arith, same, long, few)
 
@@ -50,11 +60,13 @@ pub returns-in-Ok-None-clause-run : goal.returns-in-Ok-None-clause-run
 returns-in-Ok-None-clause-run g c =
     let jobs = c.args.jobs.items in
     let plan = g.F.SteppedFs.plan_of c.args.fs in
-    let running = c.in-Ok.started.0 in
-    let seats = c.finish_run.ensures.seats in
+    let started : EachStarted plan c.args.jobs.items c.in-Ok.running =
+    rw c.in-Ok.ensures.waiting (waiting_started plan c.args.jobs.items c.in-Ok.ensures.fits) in
+    let running = c.in-Ok.running in
+    let seats = ap seated c.finish_run.ensures.seats in
     let new = c.requires.new in
-    let bounds = started_bounds _ jobs running (c.in-Ok.ensures.started plan) in
-    let fits = started_fits _ jobs running (c.in-Ok.ensures.started plan) in
+    let bounds = started_bounds _ jobs running started in
+    let fits = started_fits _ jobs running started in
     let none = ap pending_in new.1 in
     let fs = c.finish_run.ensures.fs in
     wrote_so (rw c.in-Ok-None.field-0-is at c.in-Ok-None.ensures.goes) (λ trace goes.
@@ -65,7 +77,7 @@ returns-in-Ok-None-clause-run g c =
       none = [];
       empty = refl;
       seats = c.requires.seats;
-      started = c.in-Ok.ensures.started plan;
+      started = started;
       goes = goes;
       finished = rw c.in-Ok-None.field-0-is at c.in-Ok-None.ensures.finished;
       calm = rw c.in-Ok-None.field-0-is at c.in-Ok-None.ensures.calm;
@@ -89,11 +101,13 @@ pub returns-in-Ok-wind_up-clause-run : goal.returns-in-Ok-wind_up-clause-run
 returns-in-Ok-wind_up-clause-run g c =
     let jobs = c.args.jobs.items in
     let plan = g.F.SteppedFs.plan_of c.args.fs in
-    let running = c.in-Ok.started.0 in
-    let seats = c.finish_run-left.ensures.seats in
+    let started : EachStarted plan c.args.jobs.items c.in-Ok.running =
+    rw c.in-Ok.ensures.waiting (waiting_started plan c.args.jobs.items c.in-Ok.ensures.fits) in
+    let running = c.in-Ok.running in
+    let seats = ap seated c.finish_run-left.ensures.seats in
     let new = c.requires.new in
-    let bounds = started_bounds _ jobs running (c.in-Ok.ensures.started plan) in
-    let fits = started_fits _ jobs running (c.in-Ok.ensures.started plan) in
+    let bounds = started_bounds _ jobs running started in
+    let fits = started_fits _ jobs running started in
     let none = ap pending_in new.1 in
     let fs = c.finish_run-left.ensures.fs in
     wrote_on (rw c.in-Ok-Some.field-0-is at c.in-Ok-Some.ensures.lost) (rw c.run_jobs.ensures.plan at c.in-Ok-wind_up.ensures.winds_up)
@@ -110,7 +124,7 @@ returns-in-Ok-wind_up-clause-run g c =
       so_far = so_far;
       empty = refl;
       seats = c.requires.seats;
-      started = c.in-Ok.ensures.started plan;
+      started = started;
       lost = lost;
       winds = winds_behind so_far winds;
       finished = c.in-Ok-wind_up.ensures.finished;
@@ -132,7 +146,9 @@ returns-in-Ok-wind_up-clause-run g c =
 pub returns-in-Err-run_jobs-clause-full : goal.returns-in-Err-run_jobs-clause-full
 returns-in-Err-run_jobs-clause-full g c =
     let plan = g.F.SteppedFs.plan_of c.args.fs in
-    let bounds = started_bounds _ c.args.jobs.items c.in-Ok.started.0 (c.in-Ok.ensures.started plan) in
+    let started : EachStarted plan c.args.jobs.items c.in-Ok.running =
+    rw c.in-Ok.ensures.waiting (waiting_started plan c.args.jobs.items c.in-Ok.ensures.fits) in
+    let bounds = started_bounds _ c.args.jobs.items c.in-Ok.running started in
     let none = ap pending_in c.requires.new.1 in
     let full = c.in-Err-run_jobs.ensures.full in
     omega (arith, bounds, none, full)
@@ -140,8 +156,29 @@ returns-in-Err-run_jobs-clause-full g c =
 pub returns-in-Err-wind_up-clause-full : goal.returns-in-Err-wind_up-clause-full
 returns-in-Err-wind_up-clause-full g c =
     let plan = g.F.SteppedFs.plan_of c.args.fs in
-    let bounds = started_bounds _ c.args.jobs.items c.in-Ok.started.0 (c.in-Ok.ensures.started plan) in
+    let started : EachStarted plan c.args.jobs.items c.in-Ok.running =
+    rw c.in-Ok.ensures.waiting (waiting_started plan c.args.jobs.items c.in-Ok.ensures.fits) in
+    let bounds = started_bounds _ c.args.jobs.items c.in-Ok.running started in
     let none = ap pending_in c.requires.new.1 in
     let paced = c.in-Ok-Some.ensures.room in
     let full = c.in-Err-wind_up.ensures.full in
     omega (arith, bounds, none, paced, full)
+
+pub returns-in-Ok-None-clause-one_each : goal.returns-in-Ok-None-clause-one_each
+returns-in-Ok-None-clause-one_each g c =
+    let plan = g.F.SteppedFs.plan_of c.args.fs in
+    let started : EachStarted plan c.args.jobs.items c.in-Ok.running =
+    rw c.in-Ok.ensures.waiting (waiting_started plan c.args.jobs.items c.in-Ok.ensures.fits) in
+    let goes = rw c.in-Ok-None.field-0-is at c.in-Ok-None.ensures.goes in
+    ap length c.finish_run.ensures.seats ∙ length-map c.run_jobs.new.running run_seat ∙ goes.so.same
+    ∙ started_length plan c.args.jobs.items c.in-Ok.running started
+
+pub returns-in-Ok-wind_up-clause-one_each : goal.returns-in-Ok-wind_up-clause-one_each
+returns-in-Ok-wind_up-clause-one_each g c =
+    let plan = g.F.SteppedFs.plan_of c.args.fs in
+    let started : EachStarted plan c.args.jobs.items c.in-Ok.running =
+    rw c.in-Ok.ensures.waiting (waiting_started plan c.args.jobs.items c.in-Ok.ensures.fits) in
+    let lost = (rw c.in-Ok-Some.field-0-is at c.in-Ok-Some.ensures.lost).so in
+    ap length c.finish_run-left.ensures.seats ∙ length-map c.wind_up.new.running run_seat
+    ∙ c.in-Ok-wind_up.ensures.same ∙ lost.last.same ∙ lost.goes.same
+    ∙ started_length plan c.args.jobs.items c.in-Ok.running started

@@ -61,3 +61,16 @@ returns-in-Err-CredentialsLost-clause-room g c =
     let kept = all.1 in
     let asked = c.room_of.ensures.room ∙ ap room_of c.deref.ensures.value in
     rw left.trace (omega (arith, had, kept, asked))
+
+pub with_trace-requires-clause-room : goal.with_trace-requires-clause-room
+with_trace-requires-clause-room g c =
+    let each = c.in-Ok-drive_into.ensures.one_each in
+    let had = c.in-Ok-with_room.ensures.room in
+    omega (arith, each, had, c.len.ensures, c.args.jobs.ok.0)
+
+pub with_trace-requires-in-Err-CredentialsLost-clause-room :
+    goal.with_trace-requires-in-Err-CredentialsLost-clause-room
+with_trace-requires-in-Err-CredentialsLost-clause-room g c =
+    let each = rw c.in-Err-CredentialsLost.field-0-is at c.in-Err-CredentialsLost.ensures.one_each in
+    let had = c.in-Ok-with_room.ensures.room in
+    omega (arith, each, had, c.len.ensures, c.args.jobs.ok.0)

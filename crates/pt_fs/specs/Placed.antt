@@ -1,0 +1,68 @@
+-- Inner. Where a job is, and the parts in which that is kept.
+use Rattle.std.specs.Prelude.{◌≡◌, ℕ, List, [], ◌∷◌, Option, Some, None, slice_get}
+use Rattle.pt_host.specs.declared.ids.Errno.{Errno}
+use Rattle.pt_host.specs.declared.seat.HostSeat.{HostSeat}
+use Rattle.pt_iface.specs.declared.answer.Answer.{Answer}
+use Rattle.pt_iface.specs.declared.answer.Answer.TheVariants as answer
+use Rattle.pt_frame.specs.declared.finish.Finish.{Finish}
+use Rattle.pt_frame.specs.declared.finish.Finish.TheVariants as finish
+use Rattle.pt_fs.specs.Each.{answer_of}
+use Rattle.pt_fs.specs.Jobs.{job_start}
+use Rattle.pt_fs.specs.declared.job.Job.{Job}
+use Rattle.pt_fs.specs.declared.machine.Over.{Over}
+use Rattle.pt_fs.specs.declared.places.Stage.{Stage}
+use Rattle.pt_fs.specs.declared.places.Stage.TheVariants as stage
+
+-- it has made no step, its machine is this one, or it has ended
+pub data Place : Type 0 where
+  Waits : Job → Place
+  Goes : ℕ → Place
+  Ended : Over → Place
+
+-- the error by which a job ended that lost its seat
+abbrev pub lost_in : Finish → Option Errno
+lost_in (finish.Answer told) = None
+lost_in (finish.Lost errno) = Some errno
+
+-- how a job ended, from that error and its answer
+abbrev pub last_of : Option Errno → Answer → Finish
+last_of None told = finish.Answer told
+last_of (Some errno) told = finish.Lost errno
+
+abbrev pub stage_of : Place → Stage
+stage_of (Waits job) = stage.Waits
+stage_of (Goes index) = stage.Goes index
+stage_of (Ended over) = stage.Ended (lost_in over.last) over.lost
+
+-- a place from its parts
+abbrev pub place_of : Job → Stage → Answer → Option HostSeat → Place
+place_of job stage.Waits told seat = Waits job
+place_of job (stage.Goes index) told seat = Goes index
+place_of job (stage.Ended last lost) told seat =
+    Ended (record { start = job_start job; seat = seat; last = last_of last told; lost = lost })
+
+-- the places in order, as many as there are all parts of
+abbrev pub places_in : List Job → List Stage → List Answer → List (Option HostSeat) → List Place
+places_in (job ∷ jobs) (stage ∷ stages) (told ∷ answers) (seat ∷ seats) =
+    place_of job stage told seat ∷ places_in jobs stages answers seats
+places_in jobs stages answers seats = []
+
+-- who ended by the loss of its seat is answered that it was cut
+abbrev pub CutWhereLost : List Stage → List Answer → Type 0
+CutWhereLost stages answers =
+    (j : ℕ) (errno : Errno) (lost : Option Errno) → slice_get stages j ≡ Some (stage.Ended (Some errno) lost) →
+    slice_get answers j ≡ Some answer.Cut
+
+-- the answer of a job that has ended, and its seat
+abbrev pub answer_at : Place → Answer
+answer_at (Waits job) = answer.Cut
+answer_at (Goes index) = answer.Cut
+answer_at (Ended over) = answer_of over.last
+
+abbrev pub seat_at : Place → Option HostSeat
+seat_at (Waits job) = None
+seat_at (Goes index) = None
+seat_at (Ended over) = over.seat
+
+abbrev pub AllEnded : List Place → Type 0
+AllEnded places = (j : ℕ) (it : Place) → slice_get places j ≡ Some it → (over : Over) × (it ≡ Ended over)
