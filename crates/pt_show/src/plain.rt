@@ -1,4 +1,4 @@
-ghost use Rattle.std.specs.Prelude.{◌≡◌, ◌++◌, ◌<◌, OnOk};
+ghost use Rattle.std.specs.Prelude.{◌≡◌, ◌+◌, ◌++◌, ◌%◌, OnOk};
 ghost use Rattle.pt_show.specs.Texts.{word, all_digits, number_text, signed_text, bytes_text, switch_text};
 ghost use Rattle.pt_show.specs.Texts.{option_text};
 
@@ -16,7 +16,8 @@ pub(crate) fn push_word(out: &mut Vec<u8>, text: &[u8]) -> Result<(), AllocError
     push_text(out, text)
 }
 
-/// Appends a name and one value.
+/// Appends a name, which is mostly a constant, and one value.
+#[inline(always)]
 pub(crate) fn push_named<T: Text>(
     out: &mut Vec<u8>,
     name: &[u8],
@@ -93,32 +94,61 @@ pub(crate) fn push_five<A: Text, B: Text, C: Text, D: Text, E: Text>(
     fifth.write(out)
 }
 
-/// Appends the one digit of a number, as most have.
-fn push_digit(out: &mut Vec<u8>, number: u8) -> Result<(), AllocError>
-    requires { number < 10 }
-    ensures { OnOk result (out.new.items ≡ out.old.items ++ all_digits number) }
+// The last digit of a number.
+fn last_digit(number: u64) -> u8
+    ensures { result ≡ 48 + number % 10 }
 {
-    out.push(b'0' + number)?;
-    Ok(())
+    b'0' + (number % 10) as u8
 }
 
-/// Appends a number in decimal.
-fn push_digits(out: &mut Vec<u8>, number: u64) -> Result<(), AllocError>
-    ensures { OnOk result (out.new.items ≡ out.old.items ++ all_digits number) }
+// Appends a number of any size.
+#[inline(never)]
+fn push_long(out: &mut Vec<u8>, number: u64) -> Result<(), AllocError>
+    ensures { OnOk result (out.new.items ≡ out.old.items ++ number_text number) }
 {
-    if number < 10 {
-        return push_digit(out, number as u8);
-    }
+    out.push(b' ')?;
     push_decimal(out, number)
+}
+
+/// Appends a number in decimal. One of up to four digits, as most are, is appended whole where there is room.
+#[inline(never)]
+fn push_number(out: &mut Vec<u8>, number: u64) -> Result<(), AllocError>
+    ensures { OnOk result (out.new.items ≡ out.old.items ++ number_text number) }
+{
+    if out.capacity() - out.len() < 5 {
+        return push_long(out, number);
+    }
+    match number {
+        0..=9 => out.extend_from_slice(&[b' ', last_digit(number)]),
+        10..=99 => out.extend_from_slice(&[b' ', last_digit(number / 10), last_digit(number)]),
+        100..=999 => {
+            let (high, low) = (number / 100, number % 100);
+            out.extend_from_slice(&[
+                b' ',
+                last_digit(high),
+                last_digit(low / 10),
+                last_digit(low),
+            ])
+        }
+        1000..=9999 => {
+            let (high, low) = (number / 100, number % 100);
+            out.extend_from_slice(&[
+                b' ',
+                last_digit(high / 10),
+                last_digit(high),
+                last_digit(low / 10),
+                last_digit(low),
+            ])
+        }
+        _ => push_long(out, number),
+    }
 }
 
 impl Text for u64 {
     ghost text = { number_text };
 
     fn write(&self, out: &mut Vec<u8>) -> Result<(), AllocError> {
-        let number = *self;
-        out.push(b' ')?;
-        push_digits(out, number)
+        push_number(out, *self)
     }
 }
 
@@ -135,6 +165,9 @@ impl Text for i64 {
 
     fn write(&self, out: &mut Vec<u8>) -> Result<(), AllocError> {
         let number = *self;
+        if number >= 0 {
+            return push_number(out, number as u64);
+        }
         out.push(b' ')?;
         push_signed(out, number)
     }
@@ -152,7 +185,7 @@ impl Text for bool {
     ghost text = { switch_text };
 
     fn write(&self, out: &mut Vec<u8>) -> Result<(), AllocError> {
-        push_word(out, if *self { b"1" } else { b"0" })
+        push_number(out, u64::from(*self))
     }
 }
 
