@@ -1,3 +1,4 @@
+mod DigitTables
 pub mod Readers
 pub mod PlainTexts
 pub mod HostReaders

@@ -8,6 +8,7 @@ use Rattle.std.specs.Char.{digit_char}
 use Rattle.std.specs.Int.Signed.{mag}
 use Rattle.std.specs.Fmt.{digit_glyph, digits_onto, digits, signed_decimal}
 use Rattle.std.proofs.lemmas.Bool.Decides.{nat_tests}
+use Rattle.std.proofs.lemmas.Fmt.{decimal_digit, decimal_step}
 use Rattle.pt_text.specs.ByteWord.{stands_for_itself, escaped, byte_word}
 use Rattle.pt_show.specs.Texts.{all_digits, signed_digits, number_text, signed_text, bytes_text, switch_text}
 use Rattle.pt_show.specs.Laws.{is_separator}
@@ -135,53 +136,30 @@ pub digits_are_decimal : (n : ℕ) → n < 2 ^ 64 → all_digits n ≡ decimal n
 unfolding all_digits digits
 digits_are_decimal n small = sym (onto-room 64 (suc n) n [] (omega arith) (omega arith) (omega arith))
 
--- a digit behind others
-onto_more : (k n : ℕ) (acc : List ℕ) → 10 ≤ n →
-    digits_onto (suc k) 10 false n acc ≡ digits_onto k 10 false (n / 10) ((48 + n % 10) ∷ acc)
-onto_more k n acc large =
-    let low : n % 10 < 10 = omega arith in
-    let more : (n / 10 == 0) ≡ false = grind (arith, nat_tests) in
-    ap (λ (t : Bool). cond t (digit_glyph false (n % 10) ∷ acc)
-    (digits_onto k 10 false (n / 10) (digit_glyph false (n % 10) ∷ acc))) more
-    ∙ ap (λ (c : ℕ). digits_onto k 10 false (n / 10) (c ∷ acc)) (glyph (n % 10) low)
-
--- the first digit
-onto_first : (k n : ℕ) (acc : List ℕ) → n < 10 → digits_onto (suc k) 10 false n acc ≡ (48 + n) ∷ acc
-onto_first k n acc small =
-    let none : n / 10 ≡ 0 = omega arith in
-    let same : n % 10 ≡ n = omega arith in
-    ap (λ (m : ℕ). cond (m == 0) (digit_glyph false (n % 10) ∷ acc)
-    (digits_onto k 10 false (n / 10) (digit_glyph false (n % 10) ∷ acc))) none
-    ∙ ap (λ (c : ℕ). c ∷ acc) (ap (λ (m : ℕ). digit_glyph false m) same ∙ glyph n small)
-
-short_digits : (n : ℕ) → n < 10000 → all_digits n ≡ digits_onto 4 10 false n []
-unfolding all_digits
-short_digits n small = sym (onto-room 4 (suc n) n [] (omega arith) (omega arith) (omega arith))
-
 pub one_digit : (n : ℕ) → n < 10 → all_digits n ≡ (48 + n) ∷ []
-one_digit n small = short_digits n (omega arith) ∙ onto_first 3 n [] small
+one_digit n small = digits_are_decimal n (omega arith) ∙ decimal_digit n small
+
+-- a number's digits are those of its tenth and one more
+digits_more : (n : ℕ) → 10 ≤ n → n < 2 ^ 64 → all_digits n ≡ all_digits (n / 10) ++ (48 + n % 10) ∷ []
+digits_more n large small =
+    digits_are_decimal n small ∙ decimal_step n large small
+    ∙ ap (λ (text : List ℕ). text ++ (48 + n % 10) ∷ []) (sym (digits_are_decimal (n / 10) (omega arith)))
 
 pub two_digits : (n : ℕ) → 10 ≤ n → n < 100 → all_digits n ≡ (48 + n / 10) ∷ (48 + n % 10) ∷ []
-two_digits n large small =
-    short_digits n (omega arith) ∙ onto_more 3 n [] large ∙ onto_first 2 (n / 10) _ (omega arith)
+two_digits n large small = rw (digits_more n large (omega arith), one_digit (n / 10) (omega arith)) refl
 
 pub three_digits : (n : ℕ) → 100 ≤ n → n < 1000 →
     all_digits n ≡ (48 + n / 100) ∷ (48 + n / 10 % 10) ∷ (48 + n % 10) ∷ []
 three_digits n large small =
     let high : n / 10 / 10 ≡ n / 100 = omega arith in
-    short_digits n (omega arith) ∙ onto_more 3 n [] (omega arith) ∙ onto_more 2 (n / 10) _ (omega arith)
-    ∙ onto_first 1 (n / 10 / 10) _ (omega arith)
-    ∙ ap (λ (m : ℕ). (48 + m) ∷ (48 + n / 10 % 10) ∷ (48 + n % 10) ∷ []) high
+    rw (digits_more n (omega arith) (omega arith), two_digits (n / 10) (omega arith) (omega arith), high) refl
 
 pub four_digits : (n : ℕ) → 1000 ≤ n → n < 10000 →
     all_digits n ≡ (48 + n / 1000) ∷ (48 + n / 100 % 10) ∷ (48 + n / 10 % 10) ∷ (48 + n % 10) ∷ []
 four_digits n large small =
+    let top : n / 10 / 100 ≡ n / 1000 = omega arith in
     let high : n / 10 / 10 ≡ n / 100 = omega arith in
-    let top : n / 10 / 10 / 10 ≡ n / 1000 = omega arith in
-    short_digits n small ∙ onto_more 3 n [] (omega arith) ∙ onto_more 2 (n / 10) _ (omega arith)
-    ∙ onto_more 1 (n / 10 / 10) _ (omega arith) ∙ onto_first 0 (n / 10 / 10 / 10) _ (omega arith)
-    ∙ ap (λ (m : ℕ). (48 + m) ∷ (48 + n / 10 / 10 % 10) ∷ (48 + n / 10 % 10) ∷ (48 + n % 10) ∷ []) top
-    ∙ ap (λ (m : ℕ). (48 + n / 1000) ∷ (48 + m % 10) ∷ (48 + n / 10 % 10) ∷ (48 + n % 10) ∷ []) high
+    rw (digits_more n (omega arith) (omega arith), three_digits (n / 10) (omega arith) (omega arith), top, high) refl
 
 pub signed_digits_are_decimal : (n : ℤ) → mag n < 2 ^ 63 → signed_digits n ≡ signed_decimal n
 signed_digits_are_decimal (pos n) small = digits_are_decimal n (omega arith)

@@ -1,6 +1,6 @@
 ghost use Rattle.pt_show.specs.ActTexts.{act_text, act_reply_text};
 
-use crate::plain::push_word;
+use crate::plain::push_name;
 use crate::text::Text;
 use pt_frame::{ActReply, KeptAct};
 use std::alloc::AllocError;
@@ -12,7 +12,7 @@ impl Text for KeptAct {
         match self {
             KeptAct::Event(event) => event.write(out),
             KeptAct::Host(call) => call.write(out),
-            KeptAct::NoCopy => push_word(out, b"NoCopy"),
+            KeptAct::NoCopy => push_name(out, b" NoCopy"),
         }
     }
 }
@@ -24,7 +24,7 @@ impl Text for ActReply {
         match self {
             ActReply::Event(reply) => reply.write(out),
             ActReply::Host(reply) => reply.write(out),
-            ActReply::NoCopy => push_word(out, b"NoCopy"),
+            ActReply::NoCopy => push_name(out, b" NoCopy"),
         }
     }
 }

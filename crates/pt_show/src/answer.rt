@@ -1,7 +1,7 @@
 ghost use Rattle.pt_show.specs.AnswerTexts.{timeout_text, attr_text, entry_text, options_text, open_options_text};
 ghost use Rattle.pt_show.specs.AnswerTexts.{dir_entry_text, listing_text, xattr_text, xattrs_text, answer_text};
 
-use crate::plain::{push_named, push_word};
+use crate::plain::{push_name, push_named};
 use crate::text::Text;
 use pt_iface::{
     Answer, Attr, DirEntries, DirEntry, Entry, FsOptions, GetxattrReply, ListxattrReply,
@@ -95,8 +95,8 @@ impl Text for GetxattrReply {
 
     fn write(&self, out: &mut Vec<u8>) -> Result<(), AllocError> {
         match self {
-            GetxattrReply::Value(bytes) => push_named(out, b"Value", bytes),
-            GetxattrReply::Count(count) => push_named(out, b"Count", count),
+            GetxattrReply::Value(bytes) => push_named(out, b" Value", bytes),
+            GetxattrReply::Count(count) => push_named(out, b" Count", count),
         }
     }
 }
@@ -106,8 +106,8 @@ impl Text for ListxattrReply {
 
     fn write(&self, out: &mut Vec<u8>) -> Result<(), AllocError> {
         match self {
-            ListxattrReply::Names(bytes) => push_named(out, b"Names", bytes),
-            ListxattrReply::Count(count) => push_named(out, b"Count", count),
+            ListxattrReply::Names(bytes) => push_named(out, b" Names", bytes),
+            ListxattrReply::Count(count) => push_named(out, b" Count", count),
         }
     }
 }
@@ -117,36 +117,36 @@ impl Text for Answer {
 
     fn write(&self, out: &mut Vec<u8>) -> Result<(), AllocError> {
         match self {
-            Answer::NoReply => push_word(out, b"NoReply"),
-            Answer::Done => push_word(out, b"Done"),
-            Answer::Inited(options) => push_named(out, b"Inited", options),
-            Answer::Entry(entry) => push_named(out, b"Entry", entry),
+            Answer::NoReply => push_name(out, b" NoReply"),
+            Answer::Done => push_name(out, b" Done"),
+            Answer::Inited(options) => push_named(out, b" Inited", options),
+            Answer::Entry(entry) => push_named(out, b" Entry", entry),
             Answer::Opened(handle, options) => {
-                push_named(out, b"Opened", handle)?;
+                push_named(out, b" Opened", handle)?;
                 options.write(out)
             }
             Answer::Created(entry, handle, options) => {
-                push_named(out, b"Created", entry)?;
+                push_named(out, b" Created", entry)?;
                 handle.write(out)?;
                 options.write(out)
             }
             Answer::Attr(attr, timeout) => {
-                push_named(out, b"Attr", attr)?;
+                push_named(out, b" Attr", attr)?;
                 timeout.write(out)
             }
-            Answer::Read(bytes) => push_named(out, b"Read", bytes),
-            Answer::Wrote(count) => push_named(out, b"Wrote", count),
-            Answer::Link(target) => push_named(out, b"Link", target),
-            Answer::FsStat(stat) => push_named(out, b"FsStat", stat),
-            Answer::Listing(entries) => push_named(out, b"Listing", entries),
-            Answer::Xattr(told) => push_named(out, b"Xattr", told),
-            Answer::Xattrs(told) => push_named(out, b"Xattrs", told),
-            Answer::Offset(place) => push_named(out, b"Offset", place),
-            Answer::Edited => push_word(out, b"Edited"),
-            Answer::EditRefused(errno) => push_named(out, b"EditRefused", errno),
-            Answer::Refused(errno) => push_named(out, b"Refused", errno),
-            Answer::NoMemory => push_word(out, b"NoMemory"),
-            Answer::Cut => push_word(out, b"Cut"),
+            Answer::Read(bytes) => push_named(out, b" Read", bytes),
+            Answer::Wrote(count) => push_named(out, b" Wrote", count),
+            Answer::Link(target) => push_named(out, b" Link", target),
+            Answer::FsStat(stat) => push_named(out, b" FsStat", stat),
+            Answer::Listing(entries) => push_named(out, b" Listing", entries),
+            Answer::Xattr(told) => push_named(out, b" Xattr", told),
+            Answer::Xattrs(told) => push_named(out, b" Xattrs", told),
+            Answer::Offset(place) => push_named(out, b" Offset", place),
+            Answer::Edited => push_name(out, b" Edited"),
+            Answer::EditRefused(errno) => push_named(out, b" EditRefused", errno),
+            Answer::Refused(errno) => push_named(out, b" Refused", errno),
+            Answer::NoMemory => push_name(out, b" NoMemory"),
+            Answer::Cut => push_name(out, b" Cut"),
         }
     }
 }

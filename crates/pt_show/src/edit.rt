@@ -10,9 +10,9 @@ impl Text for Edit {
 
     fn write(&self, out: &mut Vec<u8>) -> Result<(), AllocError> {
         match self {
-            Edit::Unlink { path } => push_named(out, b"Unlink", path),
+            Edit::Unlink { path } => push_named(out, b" Unlink", path),
             Edit::Rename { old, new } => {
-                push_named(out, b"Rename", old)?;
+                push_named(out, b" Rename", old)?;
                 new.write(out)
             }
             Edit::File {
@@ -22,7 +22,7 @@ impl Text for Edit {
                 gid,
                 bytes,
             } => {
-                push_named(out, b"File", path)?;
+                push_named(out, b" File", path)?;
                 mode.write(out)?;
                 uid.write(out)?;
                 gid.write(out)?;
@@ -34,13 +34,13 @@ impl Text for Edit {
                 uid,
                 gid,
             } => {
-                push_named(out, b"Dir", path)?;
+                push_named(out, b" Dir", path)?;
                 mode.write(out)?;
                 uid.write(out)?;
                 gid.write(out)
             }
             Edit::Write { path, bytes } => {
-                push_named(out, b"Write", path)?;
+                push_named(out, b" Write", path)?;
                 bytes.write(out)
             }
         }

@@ -1,7 +1,7 @@
 ghost use Rattle.pt_show.specs.HostTexts.{errno_text, fd_text, flags_text, ids_text, time_text, stat_text};
 ghost use Rattle.pt_show.specs.HostTexts.{fs_stat_text, c_handle_text, handle_text, value_text, host_reply_text};
 
-use crate::plain::{push_bytes, push_named, push_word};
+use crate::plain::{push_bytes, push_name, push_named};
 use crate::text::Text;
 use pt_host::{
     CFileHandle, Errno, Fd, FileHandle, FsStat, HostReply, HostValue, ObjIds, OpenFlags, Stat, Time,
@@ -108,13 +108,13 @@ impl Text for HostValue {
 
     fn write(&self, out: &mut Vec<u8>) -> Result<(), AllocError> {
         match self {
-            HostValue::Unit => push_word(out, b"Unit"),
-            HostValue::Fd(fd) => push_named(out, b"Fd", fd),
-            HostValue::Stat(stat) => push_named(out, b"Stat", stat),
-            HostValue::Handle(handle) => push_named(out, b"Handle", handle),
-            HostValue::FsStat(stat) => push_named(out, b"FsStat", stat),
-            HostValue::Bytes(bytes) => push_named(out, b"Bytes", bytes),
-            HostValue::Count(count) => push_named(out, b"Count", count),
+            HostValue::Unit => push_name(out, b" Unit"),
+            HostValue::Fd(fd) => push_named(out, b" Fd", fd),
+            HostValue::Stat(stat) => push_named(out, b" Stat", stat),
+            HostValue::Handle(handle) => push_named(out, b" Handle", handle),
+            HostValue::FsStat(stat) => push_named(out, b" FsStat", stat),
+            HostValue::Bytes(bytes) => push_named(out, b" Bytes", bytes),
+            HostValue::Count(count) => push_named(out, b" Count", count),
         }
     }
 }
@@ -124,10 +124,10 @@ impl Text for HostReply {
 
     fn write(&self, out: &mut Vec<u8>) -> Result<(), AllocError> {
         match self {
-            HostReply::Ok(value) => push_named(out, b"Ok", value),
-            HostReply::Refused(errno) => push_named(out, b"Refused", errno),
-            HostReply::Fault(errno) => push_named(out, b"Fault", errno),
-            HostReply::NoMemory => push_word(out, b"NoMemory"),
+            HostReply::Ok(value) => push_named(out, b" Ok", value),
+            HostReply::Refused(errno) => push_named(out, b" Refused", errno),
+            HostReply::Fault(errno) => push_named(out, b" Fault", errno),
+            HostReply::NoMemory => push_name(out, b" NoMemory"),
         }
     }
 }

@@ -1,31 +1,29 @@
-ghost use Rattle.std.specs.Prelude.{◌≡◌, ◌+◌, ◌++◌, ◌%◌, OnOk};
-ghost use Rattle.pt_show.specs.Texts.{word, all_digits, number_text, signed_text, bytes_text, switch_text};
-ghost use Rattle.pt_show.specs.Texts.{option_text};
+ghost use Rattle.std.specs.Prelude.{◌≡◌, ◌<◌, ◌+◌, ◌++◌, ◌/◌, ◌%◌, OnOk};
+ghost use Rattle.pt_show.specs.Texts.{number_text, signed_text, bytes_text, switch_text, option_text};
 
 use crate::text::Text;
 use pt_host::Bytes;
 use pt_text::{push_byte_word, push_decimal, push_signed, push_text};
 use std::alloc::AllocError;
 
-/// Appends a word, which is mostly a constant.
+/// Appends a name, given with the space before it; it is mostly a constant.
 #[inline(always)]
-pub(crate) fn push_word(out: &mut Vec<u8>, text: &[u8]) -> Result<(), AllocError>
-    ensures { OnOk result (out.new.items ≡ out.old.items ++ word text.now) }
+pub(crate) fn push_name(out: &mut Vec<u8>, name: &[u8]) -> Result<(), AllocError>
+    ensures { OnOk result (out.new.items ≡ out.old.items ++ name.now) }
 {
-    out.push(b' ')?;
-    push_text(out, text)
+    push_text(out, name)
 }
 
-/// Appends a name, which is mostly a constant, and one value.
+/// Appends such a name and one value.
 #[inline(always)]
 pub(crate) fn push_named<T: Text>(
     out: &mut Vec<u8>,
     name: &[u8],
     value: &T,
 ) -> Result<(), AllocError>
-    ensures { OnOk result (out.new.items ≡ out.old.items ++ (word name.now ++ T.text value.now)) }
+    ensures { OnOk result (out.new.items ≡ out.old.items ++ (name.now ++ T.text value.now)) }
 {
-    push_word(out, name)?;
+    push_name(out, name)?;
     value.write(out)
 }
 
@@ -37,7 +35,7 @@ pub(crate) fn push_two<A: Text, B: Text>(
     second: &B,
 ) -> Result<(), AllocError>
     ensures { OnOk result
-        (out.new.items ≡ out.old.items ++ (word name.now ++ A.text first.now ++ B.text second.now)) }
+        (out.new.items ≡ out.old.items ++ (name.now ++ A.text first.now ++ B.text second.now)) }
 {
     push_named(out, name, first)?;
     second.write(out)
@@ -52,7 +50,7 @@ pub(crate) fn push_three<A: Text, B: Text, C: Text>(
     third: &C,
 ) -> Result<(), AllocError>
     ensures { OnOk result (out.new.items ≡ out.old.items
-        ++ (word name.now ++ A.text first.now ++ B.text second.now ++ C.text third.now)) }
+        ++ (name.now ++ A.text first.now ++ B.text second.now ++ C.text third.now)) }
 {
     push_two(out, name, first, second)?;
     third.write(out)
@@ -68,7 +66,7 @@ pub(crate) fn push_four<A: Text, B: Text, C: Text, D: Text>(
     fourth: &D,
 ) -> Result<(), AllocError>
     ensures { OnOk result (out.new.items
-        ≡ out.old.items ++ (word name.now ++ A.text first.now ++ B.text second.now ++ C.text third.now
+        ≡ out.old.items ++ (name.now ++ A.text first.now ++ B.text second.now ++ C.text third.now
         ++ D.text fourth.now)) }
 {
     push_three(out, name, first, second, third)?;
@@ -87,18 +85,32 @@ pub(crate) fn push_five<A: Text, B: Text, C: Text, D: Text, E: Text>(
 ) -> Result<(), AllocError>
     ensures { OnOk result (out.new.items
         ≡ out.old.items
-        ++ (word name.now ++ A.text first.now ++ B.text second.now ++ C.text third.now ++ D.text fourth.now
+        ++ (name.now ++ A.text first.now ++ B.text second.now ++ C.text third.now ++ D.text fourth.now
         ++ E.text fifth.now)) }
 {
     push_four(out, name, first, second, third, fourth)?;
     fifth.write(out)
 }
 
-// The last digit of a number.
-fn last_digit(number: u64) -> u8
+// The tens and the ones of each number below 100: to look them up is cheaper than to divide.
+static TENS: [u8; 100] =
+    *b"0000000000111111111122222222223333333333444444444455555555556666666666777777777788888888889999999999";
+
+static ONES: [u8; 100] =
+    *b"0123456789012345678901234567890123456789012345678901234567890123456789012345678901234567890123456789";
+
+fn tens(number: u64) -> u8
+    requires { number < 100 }
+    ensures { result ≡ 48 + number / 10 }
+{
+    TENS[number as usize]
+}
+
+fn ones(number: u64) -> u8
+    requires { number < 100 }
     ensures { result ≡ 48 + number % 10 }
 {
-    b'0' + (number % 10) as u8
+    ONES[number as usize]
 }
 
 // Appends a number of any size.
@@ -119,26 +131,15 @@ fn push_number(out: &mut Vec<u8>, number: u64) -> Result<(), AllocError>
         return push_long(out, number);
     }
     match number {
-        0..=9 => out.extend_from_slice(&[b' ', last_digit(number)]),
-        10..=99 => out.extend_from_slice(&[b' ', last_digit(number / 10), last_digit(number)]),
+        0..=9 => out.extend_from_slice(&[b' ', b'0' + number as u8]),
+        10..=99 => out.extend_from_slice(&[b' ', tens(number), ones(number)]),
         100..=999 => {
             let (high, low) = (number / 100, number % 100);
-            out.extend_from_slice(&[
-                b' ',
-                last_digit(high),
-                last_digit(low / 10),
-                last_digit(low),
-            ])
+            out.extend_from_slice(&[b' ', ones(high), tens(low), ones(low)])
         }
         1000..=9999 => {
             let (high, low) = (number / 100, number % 100);
-            out.extend_from_slice(&[
-                b' ',
-                last_digit(high / 10),
-                last_digit(high),
-                last_digit(low / 10),
-                last_digit(low),
-            ])
+            out.extend_from_slice(&[b' ', tens(high), ones(high), tens(low), ones(low)])
         }
         _ => push_long(out, number),
     }
@@ -210,9 +211,9 @@ impl<T: Text> Text for Option<T> {
 
     fn write(&self, out: &mut Vec<u8>) -> Result<(), AllocError> {
         match self {
-            None => push_word(out, b"-"),
+            None => push_name(out, b" -"),
             Some(value) => {
-                push_word(out, b"+")?;
+                push_name(out, b" +")?;
                 value.write(out)
             }
         }

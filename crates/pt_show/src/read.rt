@@ -2,9 +2,8 @@
 ghost use Rattle.std.specs.Prelude.{◌≡◌, IfOk, true};
 ghost use Rattle.pt_show.specs.Texts.{word};
 
-use crate::plain::push_word;
 use crate::text::Text;
-use pt_text::Parts;
+use pt_text::{Parts, push_text};
 use std::alloc::{AllocError, Global};
 
 /// Why a text was not read.
@@ -100,7 +99,8 @@ fn has_text<T: Text>(alloc: Global, value: &T, text: &[u8]) -> Result<bool, Allo
     ensures { result ≡ Ok true → T.text value.now ≡ word text.now }
 {
     let mut wanted = Vec::new(alloc);
-    push_word(&mut wanted, text)?;
+    wanted.push(b' ')?;
+    push_text(&mut wanted, text)?;
     let mut written = Vec::new(alloc);
     value.write(&mut written)?;
     Ok(written.as_slice() == wanted.as_slice())

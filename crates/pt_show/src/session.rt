@@ -1,10 +1,10 @@
 ghost use Rattle.std.specs.Prelude.{◌≡◌, ◌++◌, OnOk};
 ghost use Rattle.pt_show.specs.SessionTexts.{form_text, row_text, negotiated_text, pair_text, forgets_text};
-ghost use Rattle.pt_show.specs.SessionTexts.{new_handle_text, event_text, refusal_text, event_reply_text};
+ghost use Rattle.pt_show.specs.SessionTexts.{event_text, refusal_text, event_reply_text};
 
-use crate::plain::{push_named, push_word};
+use crate::plain::{push_four, push_name, push_named};
 use crate::text::Text;
-use pt_host::{Fd, ObjIds};
+use pt_host::ObjIds;
 use pt_session::{EventRefusal, EventReply, ForgetPairs, KeptEvent, Negotiated, RowForm};
 use std::alloc::AllocError;
 
@@ -13,7 +13,7 @@ impl Text for RowForm {
 
     fn write(&self, out: &mut Vec<u8>) -> Result<(), AllocError> {
         match self {
-            RowForm::File(fd) => push_named(out, b"File", fd),
+            RowForm::File(fd) => push_named(out, b" File", fd),
         }
     }
 }
@@ -60,39 +60,22 @@ impl Text for ForgetPairs {
     }
 }
 
-// A name and what a new handle is told by.
-fn push_new_handle(
-    out: &mut Vec<u8>,
-    name: &[u8],
-    era: u64,
-    handle: u64,
-    number: u64,
-    fd: Fd,
-) -> Result<(), AllocError>
-    ensures { OnOk result (out.new.items ≡ out.old.items ++ new_handle_text name.now era handle number fd) }
-{
-    push_named(out, name, &era)?;
-    handle.write(out)?;
-    number.write(out)?;
-    fd.write(out)
-}
-
 impl Text for KeptEvent {
     ghost text = { event_text };
 
     fn write(&self, out: &mut Vec<u8>) -> Result<(), AllocError> {
         match self {
-            KeptEvent::Begin => push_word(out, b"Begin"),
-            KeptEvent::Resolve { number } => push_named(out, b"Resolve", number),
-            KeptEvent::Unpin { row } => push_named(out, b"Unpin", row),
+            KeptEvent::Begin => push_name(out, b" Begin"),
+            KeptEvent::Resolve { number } => push_named(out, b" Resolve", number),
+            KeptEvent::Unpin { row } => push_named(out, b" Unpin", row),
             KeptEvent::Claim { era, handle, ids } => {
-                push_named(out, b"Claim", era)?;
+                push_named(out, b" Claim", era)?;
                 handle.write(out)?;
                 ids.write(out)
             }
-            KeptEvent::TakeFd => push_word(out, b"TakeFd"),
-            KeptEvent::GiveFd => push_word(out, b"GiveFd"),
-            KeptEvent::DrawNode => push_word(out, b"DrawNode"),
+            KeptEvent::TakeFd => push_name(out, b" TakeFd"),
+            KeptEvent::GiveFd => push_name(out, b" GiveFd"),
+            KeptEvent::DrawNode => push_name(out, b" DrawNode"),
             KeptEvent::Insert {
                 era,
                 number,
@@ -100,7 +83,7 @@ impl Text for KeptEvent {
                 ids,
                 mode,
             } => {
-                push_named(out, b"Insert", era)?;
+                push_named(out, b" Insert", era)?;
                 number.write(out)?;
                 write_row(out, form, *ids, *mode)
             }
@@ -111,33 +94,33 @@ impl Text for KeptEvent {
                 mode,
                 negotiated,
             } => {
-                push_named(out, b"InsertRoot", era)?;
+                push_named(out, b" InsertRoot", era)?;
                 write_row(out, form, *ids, *mode)?;
                 negotiated.write(out)
             }
-            KeptEvent::Forget { list } => push_named(out, b"Forget", list),
+            KeptEvent::Forget { list } => push_named(out, b" Forget", list),
             KeptEvent::GiveBack { era, number } => {
-                push_named(out, b"GiveBack", era)?;
+                push_named(out, b" GiveBack", era)?;
                 number.write(out)
             }
-            KeptEvent::DrawHandle => push_word(out, b"DrawHandle"),
+            KeptEvent::DrawHandle => push_name(out, b" DrawHandle"),
             KeptEvent::InsertHandle {
                 era,
                 handle,
                 number,
                 fd,
-            } => push_new_handle(out, b"InsertHandle", *era, *handle, *number, *fd),
+            } => push_four(out, b" InsertHandle", era, handle, number, fd),
             KeptEvent::PinHandle { handle, number } => {
-                push_named(out, b"PinHandle", handle)?;
+                push_named(out, b" PinHandle", handle)?;
                 number.write(out)
             }
-            KeptEvent::UnpinHandle { row } => push_named(out, b"UnpinHandle", row),
+            KeptEvent::UnpinHandle { row } => push_named(out, b" UnpinHandle", row),
             KeptEvent::Release { handle, number } => {
-                push_named(out, b"Release", handle)?;
+                push_named(out, b" Release", handle)?;
                 number.write(out)
             }
-            KeptEvent::Clear => push_word(out, b"Clear"),
-            KeptEvent::TakeClosing => push_word(out, b"TakeClosing"),
+            KeptEvent::Clear => push_name(out, b" Clear"),
+            KeptEvent::TakeClosing => push_name(out, b" TakeClosing"),
         }
     }
 }
@@ -147,12 +130,12 @@ impl Text for EventRefusal {
 
     fn write(&self, out: &mut Vec<u8>) -> Result<(), AllocError> {
         match self {
-            EventRefusal::NotLive => push_word(out, b"NotLive"),
-            EventRefusal::Overtaken => push_word(out, b"Overtaken"),
-            EventRefusal::NoSlot => push_word(out, b"NoSlot"),
-            EventRefusal::Last => push_word(out, b"Last"),
-            EventRefusal::Live => push_word(out, b"Live"),
-            EventRefusal::Memory => push_word(out, b"Memory"),
+            EventRefusal::NotLive => push_name(out, b" NotLive"),
+            EventRefusal::Overtaken => push_name(out, b" Overtaken"),
+            EventRefusal::NoSlot => push_name(out, b" NoSlot"),
+            EventRefusal::Last => push_name(out, b" Last"),
+            EventRefusal::Live => push_name(out, b" Live"),
+            EventRefusal::Memory => push_name(out, b" Memory"),
         }
     }
 }
@@ -163,7 +146,7 @@ impl Text for EventReply {
     fn write(&self, out: &mut Vec<u8>) -> Result<(), AllocError> {
         match self {
             EventReply::Began { era, negotiated } => {
-                push_named(out, b"Began", era)?;
+                push_named(out, b" Began", era)?;
                 negotiated.write(out)
             }
             EventReply::Resolved {
@@ -172,30 +155,30 @@ impl Text for EventReply {
                 ids,
                 mode,
             } => {
-                push_named(out, b"Resolved", row)?;
+                push_named(out, b" Resolved", row)?;
                 write_row(out, form, *ids, *mode)
             }
-            EventReply::Done { closings } => push_named(out, b"Done", closings),
-            EventReply::Claimed { number } => push_named(out, b"Claimed", number),
-            EventReply::Absent => push_word(out, b"Absent"),
-            EventReply::Taken => push_word(out, b"Taken"),
-            EventReply::Given => push_word(out, b"Given"),
-            EventReply::Drawn { number } => push_named(out, b"Drawn", number),
-            EventReply::Inserted { number } => push_named(out, b"Inserted", number),
-            EventReply::Found { number } => push_named(out, b"Found", number),
+            EventReply::Done { closings } => push_named(out, b" Done", closings),
+            EventReply::Claimed { number } => push_named(out, b" Claimed", number),
+            EventReply::Absent => push_name(out, b" Absent"),
+            EventReply::Taken => push_name(out, b" Taken"),
+            EventReply::Given => push_name(out, b" Given"),
+            EventReply::Drawn { number } => push_named(out, b" Drawn", number),
+            EventReply::Inserted { number } => push_named(out, b" Inserted", number),
+            EventReply::Found { number } => push_named(out, b" Found", number),
             EventReply::Closing { fd, slot } => {
-                push_named(out, b"Closing", fd)?;
+                push_named(out, b" Closing", fd)?;
                 slot.write(out)
             }
             EventReply::Pinned { row, fd } => {
-                push_named(out, b"Pinned", row)?;
+                push_named(out, b" Pinned", row)?;
                 fd.write(out)
             }
             EventReply::Cleared { era, closings } => {
-                push_named(out, b"Cleared", era)?;
+                push_named(out, b" Cleared", era)?;
                 closings.write(out)
             }
-            EventReply::Refused(refusal) => push_named(out, b"Refused", refusal),
+            EventReply::Refused(refusal) => push_named(out, b" Refused", refusal),
         }
     }
 }
