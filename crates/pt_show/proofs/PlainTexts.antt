@@ -161,6 +161,16 @@ four_digits n large small =
     let high : n / 10 / 10 ≡ n / 100 = omega arith in
     rw (digits_more n (omega arith) (omega arith), three_digits (n / 10) (omega arith) (omega arith), top, high) refl
 
+pub five_digits : (n : ℕ) → 10000 ≤ n → n < 100000 →
+    all_digits n
+    ≡ (48 + n / 10000) ∷ (48 + n / 1000 % 10) ∷ (48 + n / 100 % 10) ∷ (48 + n / 10 % 10) ∷ (48 + n % 10) ∷ []
+five_digits n large small =
+    let top : n / 10 / 1000 ≡ n / 10000 = omega arith in
+    let next : n / 10 / 100 ≡ n / 1000 = omega arith in
+    let high : n / 10 / 10 ≡ n / 100 = omega arith in
+    rw (digits_more n (omega arith) (omega arith), four_digits (n / 10) (omega arith) (omega arith), top, next, high)
+    refl
+
 pub signed_digits_are_decimal : (n : ℤ) → mag n < 2 ^ 63 → signed_digits n ≡ signed_decimal n
 signed_digits_are_decimal (pos n) small = digits_are_decimal n (omega arith)
 signed_digits_are_decimal (negsuc n) small = ap (λ (text : List ℕ). 45 ∷ text)

@@ -122,12 +122,12 @@ fn push_long(out: &mut Vec<u8>, number: u64) -> Result<(), AllocError>
     push_decimal(out, number)
 }
 
-/// Appends a number in decimal. One of up to four digits, as most are, is appended whole where there is room.
+/// Appends a number in decimal. One of up to five digits, as most are, is appended whole where there is room.
 #[inline(never)]
 fn push_number(out: &mut Vec<u8>, number: u64) -> Result<(), AllocError>
     ensures { OnOk result (out.new.items ≡ out.old.items ++ number_text number) }
 {
-    if out.capacity() - out.len() < 5 {
+    if out.capacity() - out.len() < 6 {
         return push_long(out, number);
     }
     match number {
@@ -140,6 +140,17 @@ fn push_number(out: &mut Vec<u8>, number: u64) -> Result<(), AllocError>
         1000..=9999 => {
             let (high, low) = (number / 100, number % 100);
             out.extend_from_slice(&[b' ', tens(high), ones(high), tens(low), ones(low)])
+        }
+        10000..=99999 => {
+            let (top, high, low) = (number / 10000, number / 100 % 100, number % 100);
+            out.extend_from_slice(&[
+                b' ',
+                ones(top),
+                tens(high),
+                ones(high),
+                tens(low),
+                ones(low),
+            ])
         }
         _ => push_long(out, number),
     }
