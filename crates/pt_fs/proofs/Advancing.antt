@@ -14,10 +14,10 @@ use Rattle.pt_frame.specs.declared.act.KeptAct.{KeptAct}
 use Rattle.pt_attr.specs.Machine.Job.{owes, lost_of, restores_now, steps_left, steps_bound, inserts_left}
 use Rattle.pt_law.proofs.Told.{Promises, bytes_told}
 use Rattle.pt_req.specs.declared.plan.Plan.{Plan}
-use Rattle.pt_fs.specs.Advances.{IsWanted, IsShown, Advances, inserted_in}
+use Rattle.pt_fs.specs.Advances.{IsWanted, Advances, inserted_in}
 use Rattle.pt_fs.specs.Jobs.{no_seat}
 use Rattle.pt_fs.specs.Stepped.{Stepped}
-use Rattle.pt_fs.specs.Trace.{MadeFrom, told_by}
+use Rattle.pt_fs.specs.Trace.{IsShown, MadeFrom, told_by}
 use Rattle.pt_fs.specs.declared.machine.Machine.{Machine}
 
 module _ {H : Type 0} (does : HostRelation H) (faults : H → ℕ) (promises : Promises does faults) where

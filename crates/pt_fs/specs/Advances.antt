@@ -1,20 +1,15 @@
 -- Inner. One step of a job: what it wants, what it is told, and how its grammar goes on.
-use Rattle.std.specs.Prelude.{◌≡◌, ◌⊎◌, ℕ, Option, Some, None}
-use Rattle.pt_frame.specs.Deed.{Deed, IsStepOf, MayFailToCopy, HoldsReplyBytes}
+use Rattle.std.specs.Prelude.{◌≡◌, ℕ, Option, Some, None}
+use Rattle.pt_frame.specs.Deed.{Deed, IsStepOf, MayFailToCopy}
 use Rattle.pt_frame.specs.Grammar.{Grammar, End, Do, May, IsChosen}
 use Rattle.pt_frame.specs.Replies.{inserted_by}
 use Rattle.pt_frame.specs.declared.act.ActReply.{ActReply}
-use Rattle.pt_frame.specs.declared.act.ActReply.TheVariants as told
 
 -- what is made is what is to be done, or its bytes could not be copied
 abbrev pub IsWanted : Grammar → Option Deed → Type 0
 IsWanted (Do deed owed next) (Some same) = same ≡ deed
 IsWanted (Do deed owed next) None = MayFailToCopy deed
 IsWanted _ _ = ⊥
-
--- the reply is told, or word that its bytes could not be copied
-abbrev pub IsShown : ActReply → ActReply → Type 0
-IsShown reply shown = (shown ≡ reply) ⊎ ((shown ≡ told.NoCopy) × HoldsReplyBytes reply)
 
 -- how many rows a step inserted
 abbrev pub inserted_in : Option Deed → ActReply → ℕ

@@ -1,4 +1,4 @@
--- Believed. All that holds of a run: what `drive` and every program over it say.
+-- Believed. All that holds of a run: what `drive_into`, `drive` and every program over them say.
 use Rattle.std.specs.Prelude.{◌≤◌, List, length, Option}
 use Rattle.pt_host.specs.Tree.{Tree}
 use Rattle.pt_host.specs.declared.seat.HostSeat.{HostSeat}
@@ -42,7 +42,7 @@ pub record IsRun
   -- it for that call, and the first that was not Ok is a fault.
   pub seats_back : SeatsBack jobs trace seats
   pub seated : SeatedEach plan jobs trace
-  -- Each job keeps its bound, and all of them the room that is had before the first step.
+  -- Each job keeps its bound, and all of them the room for a job list.
   pub bounded : IsBounded jobs trace
   pub room : length trace ≤ room_of jobs
   -- Each refusal has its cause, in what was asked or at a step of its job. An edit is refused exactly where its step

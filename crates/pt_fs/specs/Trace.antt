@@ -1,16 +1,17 @@
 -- Believed. Traces: where their steps lead, and what they say of each job.
-use Rattle.std.specs.Prelude.{◌≡◌, ◌≤◌, ℕ, ◌+◌, ◌*◌, ◌==◌, List, [], ◌∷◌, Option, Some, None, length, map, slice_get}
+use Rattle.std.specs.Prelude.{◌≡◌, ◌≤◌, ◌⊎◌, ℕ, ◌+◌, ◌*◌, ◌==◌, List, [], ◌∷◌, Option, Some, None, length, map, slice_get}
 use Rattle.std.specs.Prelude.{slice_set, if◌then◌else◌}
 use Rattle.pt_host.specs.declared.seat.HostSeat.{HostSeat}
 use Rattle.pt_session.specs.Tables.{Tables}
 use Rattle.pt_iface.specs.declared.answer.Answer.{Answer}
-use Rattle.pt_frame.specs.Deed.{Deed, Step, kept_deed_of}
+use Rattle.pt_frame.specs.Deed.{Deed, HoldsReplyBytes, Step, kept_deed_of}
 use Rattle.pt_frame.specs.Replies.{closings_in}
 use Rattle.pt_host.specs.Relation.{HostRelation}
 use Rattle.pt_frame.specs.Made.{Made}
 use Rattle.pt_frame.specs.Past.{past_of}
 use Rattle.pt_attr.specs.Pattern.{bound_for, most_inserted}
 use Rattle.pt_frame.specs.declared.act.ActReply.{ActReply}
+use Rattle.pt_frame.specs.declared.act.ActReply.TheVariants as act_reply
 use Rattle.pt_req.specs.declared.plan.Plan.{Plan}
 use Rattle.pt_fs.specs.Jobs.{no_seat, job_seat, asked_of, IsAnsweredBy}
 use Rattle.pt_fs.specs.declared.job.Job.{Job}
@@ -23,6 +24,10 @@ step_of step = record { deed = kept_deed_of step.act; reply = step.reply }
 -- the step as it is told with this reply
 abbrev pub with_reply : TraceStep → ActReply → TraceStep
 with_reply step reply = record { job = step.job; act = step.act; reply = reply }
+
+-- the reply is told, or word that its bytes could not be copied
+abbrev pub IsShown : ActReply → ActReply → Type 0
+IsShown reply shown = (shown ≡ reply) ⊎ ((shown ≡ act_reply.NoCopy) × HoldsReplyBytes reply)
 
 -- a step of a job that has a seat, which may be another after it, or of one that has none
 abbrev pub MadeFrom :

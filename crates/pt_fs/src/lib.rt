@@ -1,5 +1,6 @@
-//! The file system that takes its requests step by step, and `drive`, which runs many jobs over one host and one file
-//! system in a given order, to their ends or to a lost seat.
+//! The file system that takes its requests step by step, and `drive_into`, which runs many jobs over one host and one
+//! file system in a given order, to their ends or to a lost seat, and writes each step down where it is made. `drive`
+//! does so into a list.
 #![tactic(auto)]
 
 mod ends;

@@ -1,7 +1,6 @@
 ghost use Rattle.std.specs.Prelude.{◌≡◌, ◌≤◌, ◌+◌, ◌-◌, ◌++◌, ◌∷◌, [], ℕ, IfOk, OnOk, OnErr, length, vec_capacity};
 ghost use Rattle.pt_frame.specs.Deed.{HoldsReplyBytes};
-ghost use Rattle.pt_fs.specs.Advances.{IsShown};
-ghost use Rattle.pt_fs.specs.Trace.{with_reply};
+ghost use Rattle.pt_fs.specs.Trace.{IsShown, with_reply};
 ghost use Rattle.pt_fs.specs.declared.trace.TraceStep.{TraceStep};
 
 use crate::trace::TraceStep;

@@ -28,7 +28,7 @@ pub struct Driven<F> {
 /// Why a run did not begin, or did not come to its end.
 #[derive(Drop)]
 pub enum DriveError<F> {
-    /// The run's records find no memory; the file system is handed back.
+    /// The run finds no memory; the file system is handed back.
     Memory(F),
     /// The seat of this job could not be restored, and this is why. All jobs gave back what they held, and this is
     /// what is left.

@@ -1,4 +1,5 @@
 use Rattle.std.proofs.Common.{◌≡◌, ◌++◌, ◌∙◌, List, ℕ, ap, map}
+use Rattle.pt_fs.specs.Trace.{seated}
 use Rattle.pt_script.specs.declared.settings.Identity.{Identity}
 use Rattle.pt_run.specs.Report.{step_lines}
 use Rattle.pt_run.specs.Run.{seat_of, job_of, jobs_of}
@@ -26,7 +27,7 @@ returns-in-Ok-drive_into-clause-ok c =
         opened_host = c.open_fs.new.host;
         opened = c.in_ok-fs.ensures.ok;
         well_formed = opened_well _ _ _ _ c.in_ok-fs.ensures.ok;
-        seats = c.in-Ok-drive_into.left.seats.items;
+        seats = seated c.in-Ok-drive_into.left.seats.items;
         run = rw (← made) ran.so.0;
         ends = rw (← made) ran.so.1;
       },
@@ -46,7 +47,7 @@ returns-in-Err-CredentialsLost-clause-ok c =
         opened_host = c.open_fs.new.host;
         opened = c.in_ok-fs.ensures.ok;
         well_formed = opened_well _ _ _ _ c.in_ok-fs.ensures.ok;
-        seats = there.left.seats.items;
+        seats = seated there.left.seats.items;
         run = rw (← made) ran.so.0;
         ends = rw (← made) ran.so.1;
       },
