@@ -1,5 +1,5 @@
 -- Inner. How the jobs of a run lie: each in its place, and the machines of those on their way side by side.
-use Rattle.std.specs.Prelude.{◌≡◌, ◌≢◌, ◌≤◌, ◌+◌, ℕ, List, [], ◌∷◌, Option, Some, None, false, map, slice_get}
+use Rattle.std.specs.Prelude.{◌≡◌, ◌≢◌, ◌≤◌, ◌+◌, ℕ, List, [], ◌∷◌, Option, Some, None, false, length, map, slice_get}
 use Rattle.std.specs.Prelude.{slice_set}
 use Rattle.pt_host.specs.declared.seat.HostSeat.{HostSeat}
 use Rattle.pt_iface.specs.declared.request.Request.TheVariants as request
@@ -64,6 +64,13 @@ GoElsewhere but going =
 -- no machine has finished
 abbrev pub AllGo : List Machine → Type 0
 AllGo going = (index : ℕ) (it : Machine) → slice_get going index ≡ Some it → is_job_over it.state ≡ false
+
+-- The jobs lie well: each with its machine, none of which has finished, and so many fit that each that waits has room
+-- for its own.
+pub record Kept (places : List Place) (going : List Machine) (room : ℕ) : Type 0 where
+  pub laid : Laid places going
+  pub all_go : AllGo going
+  pub fit : still places + length going ≤ room
 
 -- the job is where it was, whatever way that is kept
 pub record Stays (run run' : Running) : Type 0 where

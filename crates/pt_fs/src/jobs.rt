@@ -10,7 +10,7 @@ ghost use Rattle.pt_attr.specs.Machine.Job.{is_finished as is_job_over};
 ghost use Rattle.pt_req.specs.declared.plan.Plan.{Plan};
 ghost use Rattle.pt_fs.specs.Each.{EachAnswered};
 ghost use Rattle.pt_fs.specs.Jobs.{job_start};
-ghost use Rattle.pt_fs.specs.Laid.{AllGo, GoElsewhere, Laid, Settles, Wakes, runs_in, still, waiting};
+ghost use Rattle.pt_fs.specs.Laid.{GoElsewhere, Kept, Laid, Settles, Wakes, runs_in, still, waiting};
 ghost use Rattle.pt_fs.specs.Loses.{CutRun};
 ghost use Rattle.pt_fs.specs.Placed.{Goes, Waits};
 ghost use Rattle.pt_fs.specs.Recorded.{Wrote};
@@ -41,29 +41,22 @@ pub struct Jobs {
 }
 
 impl Model for Jobs {
-    ghost use Rattle.std.specs.Prelude.{List, ◌+◌, ◌≤◌, length, vec_capacity};
-    ghost use Rattle.pt_fs.specs.Laid.{AllGo, Laid, runs_in, still};
+    ghost use Rattle.std.specs.Prelude.{List, vec_capacity};
+    ghost use Rattle.pt_fs.specs.Laid.{Kept, runs_in};
     ghost use Rattle.pt_fs.specs.Running.{Running};
 
     ghost Value = { List Running };
 
     ghost view = { λ jobs. runs_in jobs.places jobs.going.items };
 
-    ghost invariant = { λ jobs.
-        Laid jobs.places jobs.going.items
-        × AllGo jobs.going.items
-        × (still jobs.places + length jobs.going.items ≤ vec_capacity jobs.going) };
+    ghost invariant = { λ jobs. Kept jobs.places jobs.going.items (vec_capacity jobs.going) };
 }
 
 /// Begins a job that waits: tells the index of its machine, for which there is room.
 fn begin(places: &mut Places, going: &mut Vec<Machine>, place: usize) -> usize
     requires waits { (job : Job) × (slice_get places.old place ≡ Some (Waits job)) }
-    requires laid { Laid places.old going.old.items }
-    requires all_go { AllGo going.old.items }
-    requires room { still places.old + length going.old.items ≤ vec_capacity going.old }
-    ensures laid { Laid places.new going.new.items }
-    ensures all_go { AllGo going.new.items }
-    ensures room { still places.new + length going.new.items ≤ vec_capacity going.new }
+    requires kept { Kept places.old going.old.items (vec_capacity going.old) }
+    ensures kept { Kept places.new going.new.items (vec_capacity going.new) }
     ensures same { length places.new ≡ length places.old }
     ensures index { slice_get places.new place ≡ Some (Goes result) }
     ensures wakes { Wakes places.old going.old.items place places.new going.new.items result }
@@ -76,14 +69,10 @@ fn begin(places: &mut Places, going: &mut Vec<Machine>, place: usize) -> usize
 /// Tells the index of the machine of a job that has not finished, which it is given where it waits.
 fn wake(places: &mut Places, going: &mut Vec<Machine>, place: usize) -> usize
     requires named { place < length places.old }
-    requires laid { Laid places.old going.old.items }
-    requires all_go { AllGo going.old.items }
-    requires room { still places.old + length going.old.items ≤ vec_capacity going.old }
+    requires kept { Kept places.old going.old.items (vec_capacity going.old) }
     requires unfinished { (run : Running) → slice_get (runs_in places.old going.old.items) place ≡ Some run →
         is_finished run.state ≡ false }
-    ensures laid { Laid places.new going.new.items }
-    ensures all_go { AllGo going.new.items }
-    ensures room { still places.new + length going.new.items ≤ vec_capacity going.new }
+    ensures kept { Kept places.new going.new.items (vec_capacity going.new) }
     ensures same { length places.new ≡ length places.old }
     ensures index { slice_get places.new place ≡ Some (Goes result) }
     ensures wakes { Wakes places.old going.old.items place places.new going.new.items result }
@@ -103,9 +92,7 @@ fn put_away(places: &mut Places, going: &mut Vec<Machine>, place: usize, index: 
     requires others_go { GoElsewhere index going.old.items }
     requires room { still places.old + length going.old.items ≤ vec_capacity going.old }
     requires index { slice_get places.old place ≡ Some (Goes index) }
-    ensures laid { Laid places.new going.new.items }
-    ensures all_go { AllGo going.new.items }
-    ensures room { still places.new + length going.new.items ≤ vec_capacity going.new }
+    ensures kept { Kept places.new going.new.items (vec_capacity going.new) }
     ensures same { length places.new ≡ length places.old }
     ensures settles { Settles places.old going.old.items place index places.new going.new.items }
 {
@@ -122,9 +109,7 @@ fn settle(places: &mut Places, going: &mut Vec<Machine>, place: usize, index: us
     requires others_go { GoElsewhere index going.old.items }
     requires room { still places.old + length going.old.items ≤ vec_capacity going.old }
     requires index { slice_get places.old place ≡ Some (Goes index) }
-    ensures laid { Laid places.new going.new.items }
-    ensures all_go { AllGo going.new.items }
-    ensures room { still places.new + length going.new.items ≤ vec_capacity going.new }
+    ensures kept { Kept places.new going.new.items (vec_capacity going.new) }
     ensures same { length places.new ≡ length places.old }
     ensures settles { Settles places.old going.old.items place index places.new going.new.items }
 {
@@ -215,23 +200,23 @@ pub fn take_step<H: Host, F: SteppedFs, R: Record>(
     host: &mut H,
     fs: &mut F,
     running: &mut Jobs,
-    record: &mut R,
+    writer: &mut R,
     place: u32,
 ) -> Result<Option<Errno>, AllocError>
     requires named { place < length running.old }
     requires unfinished { IsUnfinished (F.plan_of fs.old) running.old place }
-    ensures took { IfOk result (λ lost. Wrote R.wrote record.old record.new (λ steps.
+    ensures took { IfOk result (λ lost. Wrote R.wrote writer.old writer.new (λ steps.
         Took H.does (F.plan_of fs.old) place host.old running.old (F.tables fs.old) [] host.new running.new
         (F.tables fs.new) steps lost)) }
     ensures plan { F.plan_of fs.new ≡ F.plan_of fs.old }
     ensures root { F.root fs.new ≡ F.root fs.old }
-    ensures room { IfOk result (λ lost. KeepsPace (R.room record.old) (work running.old (F.tables fs.old))
-        (R.room record.new) (work running.new (F.tables fs.new))) }
-    ensures full { OnErr result (R.room record.old < work running.old (F.tables fs.old)) }
+    ensures room { IfOk result (λ lost. KeepsPace (R.room writer.old) (work running.old (F.tables fs.old))
+        (R.room writer.new) (work running.new (F.tables fs.new))) }
+    ensures full { OnErr result (R.room writer.old < work running.old (F.tables fs.old)) }
 {
     let index = wake(&mut running.places, &mut running.going, place as usize);
     let machine = &mut running.going[index];
-    let lost = advance(alloc, host, fs, machine, record, place);
+    let lost = advance(alloc, host, fs, machine, writer, place);
     settle(
         &mut running.places,
         &mut running.going,

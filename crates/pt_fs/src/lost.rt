@@ -22,22 +22,22 @@ fn restore_rest<H: Host, F: SteppedFs, R: Record>(
     host: &mut H,
     fs: &mut F,
     running: &mut Jobs,
-    record: &mut R,
+    writer: &mut R,
     job: u32,
 ) -> Result<(), AllocError>
     requires named { job < length running.old }
-    ensures restored { OnOk result (Wrote R.wrote record.old record.new (λ steps.
+    ensures restored { OnOk result (Wrote R.wrote writer.old writer.new (λ steps.
         Restored H.does (F.plan_of fs.old) job host.old running.old (F.tables fs.old) [] host.new running.new
         (F.tables fs.new) steps)) }
     ensures over { OnOk result (IsOver (F.plan_of fs.old) job running.new) }
     ensures plan { F.plan_of fs.new ≡ F.plan_of fs.old }
     ensures root { F.root fs.new ≡ F.root fs.old }
-    ensures room { OnOk result (KeepsPace (R.room record.old) (work running.old (F.tables fs.old))
-        (R.room record.new) (work running.new (F.tables fs.new))) }
-    ensures full { OnErr result (R.room record.old < work running.old (F.tables fs.old)) }
+    ensures room { OnOk result (KeepsPace (R.room writer.old) (work running.old (F.tables fs.old))
+        (R.room writer.new) (work running.new (F.tables fs.new))) }
+    ensures full { OnErr result (R.room writer.old < work running.old (F.tables fs.old)) }
 {
     while running.restoring(job as usize) {
-        let _lost = take_step(alloc, host, fs, running, record, job)?;
+        let _lost = take_step(alloc, host, fs, running, writer, job)?;
     }
     Ok(())
 }
@@ -75,23 +75,23 @@ fn end_one<H: Host, F: SteppedFs, R: Record>(
     host: &mut H,
     fs: &mut F,
     running: &mut Jobs,
-    record: &mut R,
+    writer: &mut R,
     place: u32,
 ) -> Result<(), AllocError>
     requires named { place < length running.old }
-    ensures goes { OnOk result ((jobs : ℕ) → Wrote R.wrote record.old record.new (λ steps.
+    ensures goes { OnOk result ((jobs : ℕ) → Wrote R.wrote writer.old writer.new (λ steps.
         GoesOn H.does (F.plan_of fs.old) (rest_of (suc jobs) place) host.old running.old (F.tables fs.old) []
         (rest_of jobs (place + 1)) host.new running.new (F.tables fs.new) steps)) }
     ensures plan { F.plan_of fs.new ≡ F.plan_of fs.old }
     ensures root { F.root fs.new ≡ F.root fs.old }
     ensures finished { OnOk result (IsFinishedAt running.new place) }
     ensures others { OnOk result ((j : ℕ) → IsFinishedAt running.old j → IsFinishedAt running.new j) }
-    ensures room { OnOk result (KeepsPace (R.room record.old) (work running.old (F.tables fs.old))
-        (R.room record.new) (work running.new (F.tables fs.new))) }
-    ensures full { OnErr result (R.room record.old < work running.old (F.tables fs.old)) }
+    ensures room { OnOk result (KeepsPace (R.room writer.old) (work running.old (F.tables fs.old))
+        (R.room writer.new) (work running.new (F.tables fs.new))) }
+    ensures full { OnErr result (R.room writer.old < work running.old (F.tables fs.old)) }
 {
     while !running.is_finished(place as usize) {
-        let _lost = take_step(alloc, host, fs, running, record, place)?;
+        let _lost = take_step(alloc, host, fs, running, writer, place)?;
     }
     Ok(())
 }
@@ -102,21 +102,21 @@ fn end_all<H: Host, F: SteppedFs, R: Record>(
     host: &mut H,
     fs: &mut F,
     running: &mut Jobs,
-    record: &mut R,
+    writer: &mut R,
 ) -> Result<(), AllocError>
     requires named { length running.old < 2 ^ 32 }
-    ensures goes { OnOk result (Wrote R.wrote record.old record.new (λ steps.
+    ensures goes { OnOk result (Wrote R.wrote writer.old writer.new (λ steps.
         GoesOn H.does (F.plan_of fs.old) (rest_of (length running.old) 0) host.old running.old (F.tables fs.old) []
         (rest_of 0 (length running.old)) host.new running.new (F.tables fs.new) steps)) }
     ensures plan { F.plan_of fs.new ≡ F.plan_of fs.old }
     ensures root { F.root fs.new ≡ F.root fs.old }
     ensures finished { OnOk result ((j : ℕ) → IsFinishedAt running.new j) }
-    ensures room { OnOk result (KeepsPace (R.room record.old) (work running.old (F.tables fs.old))
-        (R.room record.new) (work running.new (F.tables fs.new))) }
-    ensures full { OnErr result (R.room record.old < work running.old (F.tables fs.old)) }
+    ensures room { OnOk result (KeepsPace (R.room writer.old) (work running.old (F.tables fs.old))
+        (R.room writer.new) (work running.new (F.tables fs.new))) }
+    ensures full { OnErr result (R.room writer.old < work running.old (F.tables fs.old)) }
 {
     for place in 0..running.len() {
-        end_one(alloc, host, fs, running, record, place as u32)?;
+        end_one(alloc, host, fs, running, writer, place as u32)?;
     }
     Ok(())
 }
@@ -127,23 +127,23 @@ pub fn wind_up<H: Host, F: SteppedFs, R: Record>(
     host: &mut H,
     fs: &mut F,
     running: &mut Jobs,
-    record: &mut R,
+    writer: &mut R,
     job: u32,
 ) -> Result<(), AllocError>
     requires few { length running.old < 2 ^ 32 }
     requires named { job < length running.old }
-    ensures winds_up { OnOk result (Wrote R.wrote record.old record.new (λ steps.
+    ensures winds_up { OnOk result (Wrote R.wrote writer.old writer.new (λ steps.
         WindsUp H.does (F.plan_of fs.old) job host.old running.old (F.tables fs.old) [] host.new running.new
         (F.tables fs.new) steps)) }
     ensures plan { F.plan_of fs.new ≡ F.plan_of fs.old }
     ensures root { F.root fs.new ≡ F.root fs.old }
     ensures finished { OnOk result ((j : ℕ) → IsFinishedAt running.new j) }
     ensures same { OnOk result (length running.new ≡ length running.old) }
-    ensures room { OnOk result (KeepsPace (R.room record.old) (work running.old (F.tables fs.old))
-        (R.room record.new) (work running.new (F.tables fs.new))) }
-    ensures full { OnErr result (R.room record.old < work running.old (F.tables fs.old)) }
+    ensures room { OnOk result (KeepsPace (R.room writer.old) (work running.old (F.tables fs.old))
+        (R.room writer.new) (work running.new (F.tables fs.new))) }
+    ensures full { OnErr result (R.room writer.old < work running.old (F.tables fs.old)) }
 {
-    restore_rest(alloc, host, fs, running, record, job)?;
+    restore_rest(alloc, host, fs, running, writer, job)?;
     cut_all(running, job);
-    end_all(alloc, host, fs, running, record)
+    end_all(alloc, host, fs, running, writer)
 }

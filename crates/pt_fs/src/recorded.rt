@@ -52,7 +52,7 @@ pub fn drive_into<H: Host, F: SteppedFs, R: Record>(
     host: &mut H,
     jobs: Vec<Job>,
     schedule: &[u32],
-    record: &mut R,
+    writer: &mut R,
 ) -> Result<Left<F>, DriveIntoError<F>>
     requires few { length jobs.items < 2 ^ 32 }
     requires new { (limit : ℕ) × (F.tables fs ≡ empty_tables limit) }
@@ -62,7 +62,7 @@ pub fn drive_into<H: Host, F: SteppedFs, R: Record>(
     // where it leads, each job's answer, and what tables and tree keep after every step and at the end. Where no seat
     // was lost they are in the schedule's order, each job is answered by its pattern, and none is cut. A seat is lost
     // exactly where a restoring step failed; exactly the jobs that were unfinished there are cut.
-    ensures run { OnEnd result (λ left lost. Wrote R.wrote record.old record.new (λ trace.
+    ensures run { OnEnd result (λ left lost. Wrote R.wrote writer.old writer.new (λ trace.
         IsRun H.does (F.plan_of fs) jobs.items host.old (H.tree host.old) (F.tables fs)
         trace left.answers.items host.new (H.tree host.new) (seated left.seats.items) (F.tables left.fs)
         × EndsSo H.does H.faults (F.plan_of fs) jobs.items schedule.now host.old (F.tables fs) trace
@@ -76,19 +76,19 @@ pub fn drive_into<H: Host, F: SteppedFs, R: Record>(
     ensures root { OnEnd result (λ left lost. F.root left.fs ≡ F.root fs) }
 
     // Want of memory for the jobs comes before the first step, and the file system comes back as it was.
-    ensures nothing_done { OnNoRoom result (λ back. (host.new ≡ host.old) × (record.new ≡ record.old)) }
+    ensures nothing_done { OnNoRoom result (λ back. (host.new ≡ host.old) × (writer.new ≡ writer.old)) }
     ensures handed_back { OnNoRoom result (λ back. back ≡ fs) }
 
     // A record with room for all steps is not full.
-    ensures full { OnUnwritten result (λ stopped. R.room record.old < room jobs.items) }
+    ensures full { OnUnwritten result (λ stopped. R.room writer.old < room jobs.items) }
 {
     let mut running = match Jobs::new(alloc, jobs) {
         Ok(running) => running,
         Err(_) => return Err(DriveIntoError::Memory(fs)),
     };
-    match run_jobs(alloc, host, &mut fs, &mut running, record, schedule) {
+    match run_jobs(alloc, host, &mut fs, &mut running, writer, schedule) {
         Ok(None) => Ok(finish_run(fs, running)),
-        Ok(Some(loss)) => match wind_up(alloc, host, &mut fs, &mut running, record, loss.job) {
+        Ok(Some(loss)) => match wind_up(alloc, host, &mut fs, &mut running, writer, loss.job) {
             Ok(()) => {
                 let left = finish_run(fs, running);
                 Err(DriveIntoError::CredentialsLost(loss.job, loss.errno, left))

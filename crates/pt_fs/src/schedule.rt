@@ -26,20 +26,20 @@ fn take_if_unfinished<H: Host, F: SteppedFs, R: Record>(
     host: &mut H,
     fs: &mut F,
     running: &mut Jobs,
-    record: &mut R,
+    writer: &mut R,
     place: u32,
 ) -> Result<Option<Errno>, AllocError>
-    ensures goes { OnKept result (Wrote R.wrote record.old record.new (λ steps.
+    ensures goes { OnKept result (Wrote R.wrote writer.old writer.new (λ steps.
         TookOrStays H.does (F.plan_of fs.old) place host.old running.old (F.tables fs.old) [] host.new running.new
         (F.tables fs.new) steps)) }
-    ensures lost { OnLoss result (λ errno. Wrote R.wrote record.old record.new (λ steps.
+    ensures lost { OnLoss result (λ errno. Wrote R.wrote writer.old writer.new (λ steps.
         Took H.does (F.plan_of fs.old) place host.old running.old (F.tables fs.old) [] host.new running.new
         (F.tables fs.new) steps (Some errno))) }
     ensures plan { F.plan_of fs.new ≡ F.plan_of fs.old }
     ensures root { F.root fs.new ≡ F.root fs.old }
-    ensures room { IfOk result (λ told. KeepsPace (R.room record.old) (work running.old (F.tables fs.old))
-        (R.room record.new) (work running.new (F.tables fs.new))) }
-    ensures full { OnErr result (R.room record.old < work running.old (F.tables fs.old)) }
+    ensures room { IfOk result (λ told. KeepsPace (R.room writer.old) (work running.old (F.tables fs.old))
+        (R.room writer.new) (work running.new (F.tables fs.new))) }
+    ensures full { OnErr result (R.room writer.old < work running.old (F.tables fs.old)) }
 {
     if place as usize >= running.len() {
         return Ok(None);
@@ -47,7 +47,7 @@ fn take_if_unfinished<H: Host, F: SteppedFs, R: Record>(
     if running.is_finished(place as usize) {
         return Ok(None);
     }
-    take_step(alloc, host, fs, running, record, place)
+    take_step(alloc, host, fs, running, writer, place)
 }
 
 /// Each place of the schedule that names an unfinished job takes that job's next step, as long as no seat is lost.
@@ -56,25 +56,25 @@ pub fn run_schedule<H: Host, F: SteppedFs, R: Record>(
     host: &mut H,
     fs: &mut F,
     running: &mut Jobs,
-    record: &mut R,
+    writer: &mut R,
     schedule: &[u32],
 ) -> Result<Option<Loss>, AllocError>
     requires calm { NoneLost running.old }
-    ensures goes { OnKept result (Wrote R.wrote record.old record.new (λ steps.
+    ensures goes { OnKept result (Wrote R.wrote writer.old writer.new (λ steps.
         GoesOn H.does (F.plan_of fs.old) (order schedule.now (length running.old)) host.old running.old
         (F.tables fs.old) [] (rest_of (length running.old) 0) host.new running.new (F.tables fs.new) steps)) }
     ensures calm { OnKept result (NoneLost running.new) }
-    ensures lost { OnLoss result (λ loss. Wrote R.wrote record.old record.new (λ steps.
+    ensures lost { OnLoss result (λ loss. Wrote R.wrote writer.old writer.new (λ steps.
         LostAt H.does (F.plan_of fs.old) (order schedule.now (length running.old)) host.old running.old
         (F.tables fs.old) [] host.new running.new (F.tables fs.new) steps loss.job loss.errno)) }
     ensures plan { F.plan_of fs.new ≡ F.plan_of fs.old }
     ensures root { F.root fs.new ≡ F.root fs.old }
-    ensures room { IfOk result (λ told. KeepsPace (R.room record.old) (work running.old (F.tables fs.old))
-        (R.room record.new) (work running.new (F.tables fs.new))) }
-    ensures full { OnErr result (R.room record.old < work running.old (F.tables fs.old)) }
+    ensures room { IfOk result (λ told. KeepsPace (R.room writer.old) (work running.old (F.tables fs.old))
+        (R.room writer.new) (work running.new (F.tables fs.new))) }
+    ensures full { OnErr result (R.room writer.old < work running.old (F.tables fs.old)) }
 {
     for &place in schedule {
-        if let Some(errno) = take_if_unfinished(alloc, host, fs, running, record, place)? {
+        if let Some(errno) = take_if_unfinished(alloc, host, fs, running, writer, place)? {
             return Ok(Some(Loss { job: place, errno }));
         }
     }
@@ -87,28 +87,28 @@ fn finish_one<H: Host, F: SteppedFs, R: Record>(
     host: &mut H,
     fs: &mut F,
     running: &mut Jobs,
-    record: &mut R,
+    writer: &mut R,
     place: u32,
 ) -> Result<Option<Errno>, AllocError>
     requires named { place < length running.old }
     requires calm { NoneLost running.old }
-    ensures goes { OnKept result ((jobs : ℕ) → Wrote R.wrote record.old record.new (λ steps.
+    ensures goes { OnKept result ((jobs : ℕ) → Wrote R.wrote writer.old writer.new (λ steps.
         GoesOn H.does (F.plan_of fs.old) (rest_of (suc jobs) place) host.old running.old (F.tables fs.old) []
         (rest_of jobs (place + 1)) host.new running.new (F.tables fs.new) steps)) }
     ensures finished { OnKept result (IsFinishedAt running.new place) }
     ensures others { OnKept result ((j : ℕ) → IsFinishedAt running.old j → IsFinishedAt running.new j) }
     ensures calm { OnKept result (NoneLost running.new) }
-    ensures lost { OnLoss result (λ errno. (jobs : ℕ) → Wrote R.wrote record.old record.new (λ steps.
+    ensures lost { OnLoss result (λ errno. (jobs : ℕ) → Wrote R.wrote writer.old writer.new (λ steps.
         LostAt H.does (F.plan_of fs.old) (rest_of (suc jobs) place) host.old running.old (F.tables fs.old) []
         host.new running.new (F.tables fs.new) steps place errno)) }
     ensures plan { F.plan_of fs.new ≡ F.plan_of fs.old }
     ensures root { F.root fs.new ≡ F.root fs.old }
-    ensures room { IfOk result (λ told. KeepsPace (R.room record.old) (work running.old (F.tables fs.old))
-        (R.room record.new) (work running.new (F.tables fs.new))) }
-    ensures full { OnErr result (R.room record.old < work running.old (F.tables fs.old)) }
+    ensures room { IfOk result (λ told. KeepsPace (R.room writer.old) (work running.old (F.tables fs.old))
+        (R.room writer.new) (work running.new (F.tables fs.new))) }
+    ensures full { OnErr result (R.room writer.old < work running.old (F.tables fs.old)) }
 {
     while !running.is_finished(place as usize) {
-        if let Some(errno) = take_step(alloc, host, fs, running, record, place)? {
+        if let Some(errno) = take_step(alloc, host, fs, running, writer, place)? {
             return Ok(Some(errno));
         }
     }
@@ -121,27 +121,27 @@ pub fn finish_all<H: Host, F: SteppedFs, R: Record>(
     host: &mut H,
     fs: &mut F,
     running: &mut Jobs,
-    record: &mut R,
+    writer: &mut R,
 ) -> Result<Option<Loss>, AllocError>
     requires named { length running.old < 2 ^ 32 }
     requires calm { NoneLost running.old }
-    ensures goes { OnKept result (Wrote R.wrote record.old record.new (λ steps.
+    ensures goes { OnKept result (Wrote R.wrote writer.old writer.new (λ steps.
         GoesOn H.does (F.plan_of fs.old) (rest_of (length running.old) 0) host.old running.old
         (F.tables fs.old) [] (rest_of 0 (length running.old)) host.new running.new (F.tables fs.new) steps)) }
     ensures finished { OnKept result ((j : ℕ) → IsFinishedAt running.new j) }
     ensures calm { OnKept result (NoneLost running.new) }
-    ensures lost { OnLoss result (λ loss. Wrote R.wrote record.old record.new (λ steps.
+    ensures lost { OnLoss result (λ loss. Wrote R.wrote writer.old writer.new (λ steps.
         LostAt H.does (F.plan_of fs.old) (rest_of (length running.old) 0) host.old running.old
         (F.tables fs.old) [] host.new running.new (F.tables fs.new) steps loss.job loss.errno)) }
     ensures plan { F.plan_of fs.new ≡ F.plan_of fs.old }
     ensures root { F.root fs.new ≡ F.root fs.old }
-    ensures room { IfOk result (λ told. KeepsPace (R.room record.old) (work running.old (F.tables fs.old))
-        (R.room record.new) (work running.new (F.tables fs.new))) }
-    ensures full { OnErr result (R.room record.old < work running.old (F.tables fs.old)) }
+    ensures room { IfOk result (λ told. KeepsPace (R.room writer.old) (work running.old (F.tables fs.old))
+        (R.room writer.new) (work running.new (F.tables fs.new))) }
+    ensures full { OnErr result (R.room writer.old < work running.old (F.tables fs.old)) }
 {
     for place in 0..running.len() {
         let job = place as u32;
-        if let Some(errno) = finish_one(alloc, host, fs, running, record, job)? {
+        if let Some(errno) = finish_one(alloc, host, fs, running, writer, job)? {
             return Ok(Some(Loss { job, errno }));
         }
     }
@@ -155,27 +155,27 @@ pub fn run_jobs<H: Host, F: SteppedFs, R: Record>(
     host: &mut H,
     fs: &mut F,
     running: &mut Jobs,
-    record: &mut R,
+    writer: &mut R,
     schedule: &[u32],
 ) -> Result<Option<Loss>, AllocError>
     requires named { length running.old < 2 ^ 32 }
     requires calm { NoneLost running.old }
-    ensures goes { OnKept result (Wrote R.wrote record.old record.new (λ steps.
+    ensures goes { OnKept result (Wrote R.wrote writer.old writer.new (λ steps.
         GoesOn H.does (F.plan_of fs.old) (order schedule.now (length running.old)) host.old running.old
         (F.tables fs.old) [] (rest_of 0 (length running.old)) host.new running.new (F.tables fs.new) steps)) }
     ensures finished { OnKept result ((j : ℕ) → IsFinishedAt running.new j) }
     ensures calm { OnKept result (NoneLost running.new) }
-    ensures lost { OnLoss result (λ loss. Wrote R.wrote record.old record.new (λ steps.
+    ensures lost { OnLoss result (λ loss. Wrote R.wrote writer.old writer.new (λ steps.
         LostAt H.does (F.plan_of fs.old) (order schedule.now (length running.old)) host.old running.old
         (F.tables fs.old) [] host.new running.new (F.tables fs.new) steps loss.job loss.errno)) }
     ensures plan { F.plan_of fs.new ≡ F.plan_of fs.old }
     ensures root { F.root fs.new ≡ F.root fs.old }
-    ensures room { IfOk result (λ told. KeepsPace (R.room record.old) (work running.old (F.tables fs.old))
-        (R.room record.new) (work running.new (F.tables fs.new))) }
-    ensures full { OnErr result (R.room record.old < work running.old (F.tables fs.old)) }
+    ensures room { IfOk result (λ told. KeepsPace (R.room writer.old) (work running.old (F.tables fs.old))
+        (R.room writer.new) (work running.new (F.tables fs.new))) }
+    ensures full { OnErr result (R.room writer.old < work running.old (F.tables fs.old)) }
 {
-    if let Some(loss) = run_schedule(alloc, host, fs, running, record, schedule)? {
+    if let Some(loss) = run_schedule(alloc, host, fs, running, writer, schedule)? {
         return Ok(Some(loss));
     }
-    finish_all(alloc, host, fs, running, record)
+    finish_all(alloc, host, fs, running, writer)
 }

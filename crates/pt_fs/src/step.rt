@@ -104,19 +104,19 @@ pub fn advance<H: Host, F: SteppedFs, R: Record>(
     host: &mut H,
     fs: &mut F,
     machine: &mut Machine,
-    record: &mut R,
+    writer: &mut R,
     job: u32,
 ) -> Result<Option<Errno>, AllocError>
     requires unfinished { is_finished machine.old.state ≡ false }
     requires going { is_end (owes (F.plan_of fs.old) machine.old.start machine.old.state) ≡ false }
     ensures plan { F.plan_of fs.new ≡ F.plan_of fs.old }
     ensures root { F.root fs.new ≡ F.root fs.old }
-    ensures stepped { (step : TraceStep) × OnOk result (R.wrote record.old step record.new)
+    ensures stepped { (step : TraceStep) × OnOk result (R.wrote writer.old step writer.new)
         × Stepped H.does (F.plan_of fs.old) job host.old machine.old (F.tables fs.old) step host.new machine.new
         (F.tables fs.new) }
     ensures told { IfOk result (λ lost. lost_of machine.old.state ≡ None → lost_of machine.new.state ≡ lost) }
-    ensures room { OnOk result (R.room record.old ≤ R.room record.new + 1) }
-    ensures full { OnErr result (R.room record.old ≡ 0) }
+    ensures room { OnOk result (R.room writer.old ≤ R.room writer.new + 1) }
+    ensures full { OnErr result (R.room writer.old ≡ 0) }
 {
     let mut step = TraceStep {
         job,
@@ -125,7 +125,7 @@ pub fn advance<H: Host, F: SteppedFs, R: Record>(
     };
     want_in(alloc, fs, machine, &mut step.act);
     make_from(host, fs, &mut machine.seat, &step.act, &mut step.reply);
-    let written = record.write(alloc, &mut step);
+    let written = writer.write(alloc, &mut step);
     let restored = machine.state.restoring();
     machine.state.take(fs.plan(), step.reply, &machine.start);
     let lost = lost_by(restored, machine);

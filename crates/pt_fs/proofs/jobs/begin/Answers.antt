@@ -8,7 +8,7 @@ use Rattle.pt_fs.proofs.jobs.begin.Goals as goal
 pub push_within-requires : goal.push_within-requires
 push_within-requires c =
     let some = some_wait c.args.places.now c.args.place c.requires.waits.0 c.requires.waits.1 in
-    omega (arith, some, c.requires.room)
+    omega (arith, some, c.requires.kept.fit)
 
 pub returns : goal.returns
 returns c =
@@ -21,14 +21,16 @@ returns c =
     let end : c.len-index.result ≡ length going = omega (arith, c.len-index.ensures, c.args.going.now.ok.0) in
     let sums = still-set places c.args.place (Waits job) (Goes (length going)) there in
     let long = length-append going (it ∷ []) in
-    let room = c.requires.room in
+    let room = c.requires.kept.fit in
     let grown = c.push_within.ensures.capacity in
     let stays = c.begun.ensures.stays in
     rw (c.begin.ensures.goes, end, c.push_within.ensures.items) record {
-      laid = wakes_laid c.requires.laid it there own;
-      all_go = all_go_on going it c.requires.all_go stays.finished;
-      room = omega (arith, sums, long, room, grown);
+      kept = record {
+        laid = wakes_laid c.requires.kept.laid it there own;
+        all_go = all_go_on going it c.requires.kept.all_go stays.finished;
+        fit = omega (arith, sums, long, room, grown);
+      };
       same = length-set places c.args.place (Goes (length going));
       index = get-set_same places c.args.place (Waits job) (Goes (length going)) there;
-      wakes = wakes_one c.requires.laid c.args.place job it there own stays;
+      wakes = wakes_one c.requires.kept.laid c.args.place job it there own stays;
     }

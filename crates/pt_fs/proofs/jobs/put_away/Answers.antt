@@ -88,11 +88,13 @@ returns-then-index-len c =
     let stays = settled_stays c.swap_remove-it.result over on ends c.ended.ensures.start
     c.ended.ensures.seat c.ended.ensures.left c.ended.ensures.lost in
     rw (c.go.ensures, c.end.ensures) record {
-      laid = moved_laid c.requires.laid c.args.place c.args.index c.requires.index over on moved few low top in_place
-          kept;
-      all_go = moved_goes c.requires.laid c.args.place c.args.index c.requires.index over on moved few low top in_place
-          kept c.requires.others_go;
-      room = omega (arith, first, second, room, few, same);
+      kept = record {
+        laid = moved_laid c.requires.laid c.args.place c.args.index c.requires.index over on moved few low top
+            in_place kept;
+        all_go = moved_goes c.requires.laid c.args.place c.args.index c.requires.index over on moved few low top
+            in_place kept c.requires.others_go;
+        fit = omega (arith, first, second, room, few, same);
+      };
       same = length-set (slice_set places c.args.place (Ended over)) moved.place (Goes c.args.index)
           ∙ length-set places c.args.place (Ended over);
       settles = record {
@@ -133,10 +135,12 @@ returns-else-index-len c =
     let stays = settled_stays c.swap_remove-it.result over on ends c.ended.ensures.start
     c.ended.ensures.seat c.ended.ensures.left c.ended.ensures.lost in
     rw c.end.ensures record {
-      laid = laid;
-      all_go = last_goes c.requires.laid c.args.place c.args.index c.requires.index over on few last kept
-          c.requires.others_go;
-      room = omega (arith, sums, room, few, same);
+      kept = record {
+        laid = laid;
+        all_go = last_goes c.requires.laid c.args.place c.args.index c.requires.index over on few last kept
+            c.requires.others_go;
+        fit = omega (arith, sums, room, few, same);
+      };
       same = length-set places c.args.place (Ended over);
       settles = record {
         it = own.0;

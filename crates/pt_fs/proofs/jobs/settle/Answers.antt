@@ -17,11 +17,13 @@ returns-else-is_finished c =
     let seen : c.index.result.now ≡ own.0 =
     c.index.ensures ∙ get_or_from_slice_get c.args.going.now.items c.args.index own.0 _ own.1 in
     record {
-      laid = c.requires.laid;
-      all_go = all_go_still c.args.going.now.items c.args.index own.0 own.1
-          (ap (λ (g : Machine). is_finished g.state) (sym seen) ∙ sym c.is_finished.ensures.result
-          ∙ c.if-is_finished.false) c.requires.others_go;
-      room = c.requires.room;
+      kept = record {
+        laid = c.requires.laid;
+        all_go = all_go_still c.args.going.now.items c.args.index own.0 own.1
+            (ap (λ (g : Machine). is_finished g.state) (sym seen) ∙ sym c.is_finished.ensures.result
+            ∙ c.if-is_finished.false) c.requires.others_go;
+        fit = c.requires.room;
+      };
       same = refl;
       settles = settles_none c.requires.laid c.args.place c.args.index c.requires.index;
     }

@@ -23,21 +23,21 @@ pub settle-requires : goal.settle-requires
 settle-requires g c =
     let wakes = c.wake-index.ensures.wakes in
     let it = seen_there c.index_mut-machine.result.now wakes c.index_mut-machine.ensures.value in
-    let laid = c.wake-index.ensures.laid in
+    let laid = c.wake-index.ensures.kept.laid in
     let own = c.wake-index.ensures.index in
     let same = c.advance-lost.ensures.stepped.2.place ∙ ap (λ (g : Machine). g.place) it in
     record {
       laid = on_laid laid c.args.place c.wake-index.result own wakes.it _ wakes.there same;
       others_go = on_goes laid c.args.place c.wake-index.result own wakes.it _ wakes.there same
-          c.wake-index.ensures.all_go;
-      room = rw length-set c.wake-index.ensures.room;
+          c.wake-index.ensures.kept.all_go;
+      room = rw length-set c.wake-index.ensures.kept.fit;
       index = own;
     }
 
 pub returns-clause-took : goal.returns-clause-took
 returns-clause-took g c =
     let th = went_through c.index_mut-machine.result.now c.advance-lost.new.machine c.wake-index.ensures.wakes
-    c.wake-index.ensures.laid c.wake-index.ensures.index c.index_mut-machine.ensures.value
+    c.wake-index.ensures.kept.laid c.wake-index.ensures.index c.index_mut-machine.ensures.value
     c.advance-lost.ensures.stepped.2.place c.settle.ensures.settles in
     let step = c.advance-lost.ensures.stepped.0 in
     let it = c.advance-lost.ensures.stepped.2 in
@@ -45,7 +45,7 @@ returns-clause-took g c =
     let plan = g.F.SteppedFs.plan_of c.args.fs.now in
     told_so c.advance-lost.result c.advance-lost.ensures.stepped.1 c.advance-lost.ensures.told (λ lost wrote told. record {
       steps = step ∷ [];
-      written = (c.advance-lost.new.record, wrote, refl);
+      written = (c.advance-lost.new.writer, wrote, refl);
       so = record {
         run = th.run;
         run' = th.run';
@@ -73,7 +73,7 @@ returns-clause-took g c =
 pub returns-clause-room : goal.returns-clause-room
 returns-clause-room g c =
     let th = went_through c.index_mut-machine.result.now c.advance-lost.new.machine c.wake-index.ensures.wakes
-    c.wake-index.ensures.laid c.wake-index.ensures.index c.index_mut-machine.ensures.value
+    c.wake-index.ensures.kept.laid c.wake-index.ensures.index c.index_mut-machine.ensures.value
     c.advance-lost.ensures.stepped.2.place c.settle.ensures.settles in
     let step = c.advance-lost.ensures.stepped.0 in
     let it = c.advance-lost.ensures.stepped.2 in
@@ -85,7 +85,7 @@ returns-clause-room g c =
 pub returns-clause-full : goal.returns-clause-full
 returns-clause-full g c =
     let th = went_through c.index_mut-machine.result.now c.advance-lost.new.machine c.wake-index.ensures.wakes
-    c.wake-index.ensures.laid c.wake-index.ensures.index c.index_mut-machine.ensures.value
+    c.wake-index.ensures.kept.laid c.wake-index.ensures.index c.index_mut-machine.ensures.value
     c.advance-lost.ensures.stepped.2.place c.settle.ensures.settles in
     let step = c.advance-lost.ensures.stepped.0 in
     let it = c.advance-lost.ensures.stepped.2 in

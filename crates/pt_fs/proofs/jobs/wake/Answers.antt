@@ -18,12 +18,10 @@ returns-in-Goes c =
     it.1 ∙ ap (λ (p : Place). Some p) (stage_goes it.0 c.in-Goes.index (sym (c.stage.ensures it.0 it.1)
     ∙ c.in-Goes.is)) in
     record {
-      laid = c.requires.laid;
-      all_go = c.requires.all_go;
-      room = c.requires.room;
+      kept = c.requires.kept;
       same = refl;
       index = own;
-      wakes = wakes_none c.requires.laid c.args.place c.in-Goes.index own;
+      wakes = wakes_none c.requires.kept.laid c.args.place c.in-Goes.index own;
     }
 
 pub returns-in-Ended : goal.returns-in-Ended

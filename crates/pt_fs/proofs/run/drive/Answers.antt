@@ -7,7 +7,7 @@ use Rattle.pt_fs.proofs.run.drive.Goals as goal
 pub returns-in-Ok-drive_into-clause-run : goal.returns-in-Ok-drive_into-clause-run
 returns-in-Ok-drive_into-clause-run g c =
     let ran = c.in-Ok-drive_into.ensures.run in
-    let all = listed (λ v. v.items) vec_capacity _ (λ a step b one. one) c.in-Ok.trace c.drive_into.new.record
+    let all = listed (λ v. v.items) vec_capacity _ (λ a step b one. one) c.in-Ok.trace c.drive_into.new.writer
     ran.steps ran.written in
     let left = c.with_trace.ensures in
     let is = all.0 ∙ ap (λ (l : List TraceStep). l ++ ran.steps) c.in-Ok.ensures.empty in
@@ -16,7 +16,7 @@ returns-in-Ok-drive_into-clause-run g c =
 pub returns-in-Ok-drive_into-clause-whole : goal.returns-in-Ok-drive_into-clause-whole
 returns-in-Ok-drive_into-clause-whole g c =
     let ran = c.in-Ok-drive_into.ensures.run in
-    let all = listed (λ v. v.items) vec_capacity _ (λ a step b one. one) c.in-Ok.trace c.drive_into.new.record
+    let all = listed (λ v. v.items) vec_capacity _ (λ a step b one. one) c.in-Ok.trace c.drive_into.new.writer
     ran.steps ran.written in
     let left = c.with_trace.ensures in
     let is = all.0 ∙ ap (λ (l : List TraceStep). l ++ ran.steps) c.in-Ok.ensures.empty in
@@ -25,7 +25,7 @@ returns-in-Ok-drive_into-clause-whole g c =
 pub returns-in-Ok-drive_into-clause-room : goal.returns-in-Ok-drive_into-clause-room
 returns-in-Ok-drive_into-clause-room g c =
     let ran = c.in-Ok-drive_into.ensures.run in
-    let all = listed (λ v. v.items) vec_capacity _ (λ a step b one. one) c.in-Ok.trace c.drive_into.new.record
+    let all = listed (λ v. v.items) vec_capacity _ (λ a step b one. one) c.in-Ok.trace c.drive_into.new.writer
     ran.steps ran.written in
     let left = c.with_trace.ensures in
     let had = c.in-Ok.ensures.room in
@@ -36,7 +36,7 @@ returns-in-Ok-drive_into-clause-room g c =
 pub returns-in-Err-CredentialsLost-clause-run : goal.returns-in-Err-CredentialsLost-clause-run
 returns-in-Err-CredentialsLost-clause-run g c =
     let ran = rw c.in-Err-CredentialsLost.field-0-is at c.in-Err-CredentialsLost.ensures.run in
-    let all = listed (λ v. v.items) vec_capacity _ (λ a step b one. one) c.in-Ok.trace c.drive_into.new.record
+    let all = listed (λ v. v.items) vec_capacity _ (λ a step b one. one) c.in-Ok.trace c.drive_into.new.writer
     ran.steps ran.written in
     let left = c.with_trace-in-Err-CredentialsLost.ensures in
     let is = all.0 ∙ ap (λ (l : List TraceStep). l ++ ran.steps) c.in-Ok.ensures.empty in
@@ -45,7 +45,7 @@ returns-in-Err-CredentialsLost-clause-run g c =
 pub returns-in-Err-CredentialsLost-clause-lost_seat : goal.returns-in-Err-CredentialsLost-clause-lost_seat
 returns-in-Err-CredentialsLost-clause-lost_seat g c =
     let ran = rw c.in-Err-CredentialsLost.field-0-is at c.in-Err-CredentialsLost.ensures.run in
-    let all = listed (λ v. v.items) vec_capacity _ (λ a step b one. one) c.in-Ok.trace c.drive_into.new.record
+    let all = listed (λ v. v.items) vec_capacity _ (λ a step b one. one) c.in-Ok.trace c.drive_into.new.writer
     ran.steps ran.written in
     let left = c.with_trace-in-Err-CredentialsLost.ensures in
     let is = all.0 ∙ ap (λ (l : List TraceStep). l ++ ran.steps) c.in-Ok.ensures.empty in
@@ -54,7 +54,7 @@ returns-in-Err-CredentialsLost-clause-lost_seat g c =
 pub returns-in-Err-CredentialsLost-clause-room : goal.returns-in-Err-CredentialsLost-clause-room
 returns-in-Err-CredentialsLost-clause-room g c =
     let ran = rw c.in-Err-CredentialsLost.field-0-is at c.in-Err-CredentialsLost.ensures.run in
-    let all = listed (λ v. v.items) vec_capacity _ (λ a step b one. one) c.in-Ok.trace c.drive_into.new.record
+    let all = listed (λ v. v.items) vec_capacity _ (λ a step b one. one) c.in-Ok.trace c.drive_into.new.writer
     ran.steps ran.written in
     let left = c.with_trace-in-Err-CredentialsLost.ensures in
     let had = c.in-Ok.ensures.room in

@@ -8,11 +8,11 @@ use Rattle.pt_fs.proofs.schedule.finish_all.Given as goal
 
 abbrev pub invariant-loop-place : goal.invariant-loop-place
 invariant-loop-place g l = record {
-  room : KeepsPace (g.R.Record.room l.fn.record) (work l.fn.running (g.F.SteppedFs.tables l.fn.fs))
-      (g.R.Record.room l.record) (work l.running (g.F.SteppedFs.tables l.fs));
+  room : KeepsPace (g.R.Record.room l.fn.writer) (work l.fn.running (g.F.SteppedFs.tables l.fn.fs))
+      (g.R.Record.room l.writer) (work l.running (g.F.SteppedFs.tables l.fs));
   plan : g.F.SteppedFs.plan_of l.fs ≡ g.F.SteppedFs.plan_of l.fn.fs;
   root : g.F.SteppedFs.root l.fs ≡ g.F.SteppedFs.root l.fn.fs;
-  goes : Wrote g.R.Record.wrote l.fn.record l.record (λ steps.
+  goes : Wrote g.R.Record.wrote l.fn.writer l.writer (λ steps.
       GoesOn g.H.Host.does (g.F.SteppedFs.plan_of l.fn.fs) (rest_of (length l.fn.running) 0) l.fn.host l.fn.running
       (g.F.SteppedFs.tables l.fn.fs) []
       (rest_of (length l.fn.running - l.place) l.place) l.host l.running (g.F.SteppedFs.tables l.fs) steps);

@@ -8,12 +8,12 @@ use Rattle.pt_fs.proofs.schedule.finish_one.Given as goal
 
 abbrev pub invariant-loop-alloc : goal.invariant-loop-alloc
 invariant-loop-alloc g l = record {
-  room : KeepsPace (g.R.Record.room l.fn.record) (work l.fn.running (g.F.SteppedFs.tables l.fn.fs))
-      (g.R.Record.room l.record) (work l.running (g.F.SteppedFs.tables l.fs));
+  room : KeepsPace (g.R.Record.room l.fn.writer) (work l.fn.running (g.F.SteppedFs.tables l.fn.fs))
+      (g.R.Record.room l.writer) (work l.running (g.F.SteppedFs.tables l.fs));
   plan : g.F.SteppedFs.plan_of l.fs ≡ g.F.SteppedFs.plan_of l.fn.fs;
   root : g.F.SteppedFs.root l.fs ≡ g.F.SteppedFs.root l.fn.fs;
   goes : (jobs : ℕ) →
-      Wrote g.R.Record.wrote l.fn.record l.record (λ steps.
+      Wrote g.R.Record.wrote l.fn.writer l.writer (λ steps.
       GoesOn g.H.Host.does (g.F.SteppedFs.plan_of l.fn.fs) (rest_of (suc jobs) l.fn.place) l.fn.host l.fn.running
       (g.F.SteppedFs.tables l.fn.fs) [] (rest_of (suc jobs) l.fn.place) l.host l.running
       (g.F.SteppedFs.tables l.fs) steps);

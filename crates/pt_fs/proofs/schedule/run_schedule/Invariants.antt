@@ -8,7 +8,7 @@ use Rattle.pt_fs.proofs.schedule.run_schedule.Given as goal
 
 abbrev pub invariant-loop-place : goal.invariant-loop-place
 invariant-loop-place g l = record {
-  goes : Wrote g.R.Record.wrote l.fn.record l.record (λ steps.
+  goes : Wrote g.R.Record.wrote l.fn.writer l.writer (λ steps.
       GoesOn g.H.Host.does (g.F.SteppedFs.plan_of l.fn.fs)
       (order l.schedule (length l.fn.running)) l.fn.host l.fn.running (g.F.SteppedFs.tables l.fn.fs) []
       (order (drop l.place-index l.schedule) (length l.fn.running)) l.host l.running
@@ -16,6 +16,6 @@ invariant-loop-place g l = record {
   calm : NoneLost l.running;
   plan : g.F.SteppedFs.plan_of l.fs ≡ g.F.SteppedFs.plan_of l.fn.fs;
   root : g.F.SteppedFs.root l.fs ≡ g.F.SteppedFs.root l.fn.fs;
-  room : KeepsPace (g.R.Record.room l.fn.record) (work l.fn.running (g.F.SteppedFs.tables l.fn.fs))
-      (g.R.Record.room l.record) (work l.running (g.F.SteppedFs.tables l.fs));
+  room : KeepsPace (g.R.Record.room l.fn.writer) (work l.fn.running (g.F.SteppedFs.tables l.fn.fs))
+      (g.R.Record.room l.writer) (work l.running (g.F.SteppedFs.tables l.fs));
 }

@@ -20,7 +20,7 @@ returns-in-Ok-drive_into-clause-ok c =
     c.in-Ok.ensures ∙ ap (λ (who : Identity). map (job_of (seat_of who)) c.args.jobs.items) c.identity.ensures in
     let ran = c.in-Ok-drive_into.ensures.run in (
       ran.steps,
-      lines_told (λ lines. lines.text.items) _ (λ a step b one. one) _ c.drive_into.new.record ran.steps ran.written
+      lines_told (λ lines. lines.text.items) _ (λ a step b one. one) _ c.drive_into.new.writer ran.steps ran.written
           ∙ ap (λ (l : List ℕ). l ++ step_lines ran.steps) c.new.ensures.items,
       record {
         fs = c.in_ok-fs.fs;
@@ -40,7 +40,7 @@ returns-in-Err-CredentialsLost-clause-ok c =
     c.in-Ok.ensures ∙ ap (λ (who : Identity). map (job_of (seat_of who)) c.args.jobs.items) c.identity.ensures in
     let ran = rw there.field-0-is at there.ensures.run in (
       ran.steps,
-      lines_told (λ lines. lines.text.items) _ (λ a step b one. one) _ c.drive_into.new.record ran.steps ran.written
+      lines_told (λ lines. lines.text.items) _ (λ a step b one. one) _ c.drive_into.new.writer ran.steps ran.written
           ∙ ap (λ (l : List ℕ). l ++ step_lines ran.steps) c.new.ensures.items,
       record {
         fs = c.in_ok-fs.fs;

@@ -18,7 +18,7 @@ index-requires c =
     let p = got places c.args.place (omega (arith, long, seen, c.requires.named)) in
     let at : slice_get places c.args.place ≡ Some (Goes c.in-Goes.index) =
     p.1 ∙ ap (λ (x : Place). Some x) (stage_goes p.0 c.in-Goes.index (sym (c.stage.ensures p.0 p.1) ∙ c.in-Goes.is)) in
-    let it = c.self.invariant.0.there c.args.place c.in-Goes.index at in
+    let it = c.self.invariant.laid.there c.args.place c.in-Goes.index at in
     let inside = slice_get_within going c.in-Goes.index it.0 it.1 in
     omega (arith, inside, c.self.inside.going.ok.0)
 
@@ -55,7 +55,7 @@ returns-in-Goes-clause-result c = λ run there.
     let p = got places c.args.place (omega (arith, long, seen, c.requires.named)) in
     let at : slice_get places c.args.place ≡ Some (Goes c.in-Goes.index) =
     p.1 ∙ ap (λ (x : Place). Some x) (stage_goes p.0 c.in-Goes.index (sym (c.stage.ensures p.0 p.1) ∙ c.in-Goes.is)) in
-    let is = goes_there c.self.invariant.0 c.args.place c.in-Goes.index c.index.result.now run at c.index.ensures
+    let is = goes_there c.self.invariant.laid c.args.place c.in-Goes.index c.index.result.now run at c.index.ensures
     (ap (λ (l : List Running). slice_get l c.args.place) c.self.view_is ∙ there) in
     ap (λ (r : Running). is_finished r.state) (sym is) ∙ sym c.is_finished.ensures.result
 
@@ -68,7 +68,7 @@ returns-in-Goes-clause-end c = λ run there plan seat.
     let p = got places c.args.place (omega (arith, long, seen, c.requires.named)) in
     let at : slice_get places c.args.place ≡ Some (Goes c.in-Goes.index) =
     p.1 ∙ ap (λ (x : Place). Some x) (stage_goes p.0 c.in-Goes.index (sym (c.stage.ensures p.0 p.1) ∙ c.in-Goes.is)) in
-    let is = goes_there c.self.invariant.0 c.args.place c.in-Goes.index c.index.result.now run at c.index.ensures
+    let is = goes_there c.self.invariant.laid c.args.place c.in-Goes.index c.index.result.now run at c.index.ensures
     (ap (λ (l : List Running). slice_get l c.args.place) c.self.view_is ∙ there) in
     ap (λ (r : Running). is_end (owes plan seat r.state)) (sym is) ∙ c.is_finished.ensures.end plan seat
 

@@ -8,11 +8,11 @@ invariant_of-result c =
     let one = c.len.ensures in
     let long = c.args.jobs.ok.0 in
     let sums = all_still c.args.jobs.items in
-    rw (c.in_ok-places.ensures.waiting, c.in_ok-going.ensures.empty) (
-      laid_waiting c.args.jobs.items,
-      (λ index it at. absurd (cc)),
-      omega (arith, room, one, long, sums),
-    )
+    rw (c.in_ok-places.ensures.waiting, c.in_ok-going.ensures.empty) record {
+      laid = laid_waiting c.args.jobs.items;
+      all_go = λ index it at. absurd (cc);
+      fit = omega (arith, room, one, long, sums);
+    }
 
 pub returns-clause-waiting : goal.returns-clause-waiting
 returns-clause-waiting c = rw c.in_ok-places.ensures.waiting (runs_waiting c.args.jobs.items _)

@@ -17,7 +17,7 @@ index-requires c =
     let p = got places c.args.place (omega (arith, long, seen, c.requires.named)) in
     let at : slice_get places c.args.place ≡ Some (Goes c.in-Goes.index) =
     p.1 ∙ ap (λ (x : Place). Some x) (stage_goes p.0 c.in-Goes.index (sym (c.stage.ensures p.0 p.1) ∙ c.in-Goes.is)) in
-    let it = c.self.invariant.0.there c.args.place c.in-Goes.index at in
+    let it = c.self.invariant.laid.there c.args.place c.in-Goes.index at in
     let inside = slice_get_within going c.in-Goes.index it.0 it.1 in
     omega (arith, inside, c.self.inside.going.ok.0)
 
@@ -30,7 +30,7 @@ returns-in-Goes-clause-restores c = λ run there plan seat.
     let p = got places c.args.place (omega (arith, long, seen, c.requires.named)) in
     let at : slice_get places c.args.place ≡ Some (Goes c.in-Goes.index) =
     p.1 ∙ ap (λ (x : Place). Some x) (stage_goes p.0 c.in-Goes.index (sym (c.stage.ensures p.0 p.1) ∙ c.in-Goes.is)) in
-    let is = goes_there c.self.invariant.0 c.args.place c.in-Goes.index c.index.result.now run at c.index.ensures
+    let is = goes_there c.self.invariant.laid c.args.place c.in-Goes.index c.index.result.now run at c.index.ensures
     (ap (λ (l : List Running). slice_get l c.args.place) c.self.view_is ∙ there) in
     c.restoring.ensures.restores plan seat ∙ ap (λ (r : Running). restores (owes plan seat r.state)) is
 
@@ -43,7 +43,7 @@ returns-in-Goes-clause-unfinished c = λ run there restores.
     let p = got places c.args.place (omega (arith, long, seen, c.requires.named)) in
     let at : slice_get places c.args.place ≡ Some (Goes c.in-Goes.index) =
     p.1 ∙ ap (λ (x : Place). Some x) (stage_goes p.0 c.in-Goes.index (sym (c.stage.ensures p.0 p.1) ∙ c.in-Goes.is)) in
-    let is = goes_there c.self.invariant.0 c.args.place c.in-Goes.index c.index.result.now run at c.index.ensures
+    let is = goes_there c.self.invariant.laid c.args.place c.in-Goes.index c.index.result.now run at c.index.ensures
     (ap (λ (l : List Running). slice_get l c.args.place) c.self.view_is ∙ there) in
     ap (λ (r : Running). is_finished r.state) (sym is) ∙ c.restoring.ensures.unfinished restores
 
@@ -56,7 +56,7 @@ returns-in-Goes-clause-settled c = λ run there plan seat.
     let p = got places c.args.place (omega (arith, long, seen, c.requires.named)) in
     let at : slice_get places c.args.place ≡ Some (Goes c.in-Goes.index) =
     p.1 ∙ ap (λ (x : Place). Some x) (stage_goes p.0 c.in-Goes.index (sym (c.stage.ensures p.0 p.1) ∙ c.in-Goes.is)) in
-    let is = goes_there c.self.invariant.0 c.args.place c.in-Goes.index c.index.result.now run at c.index.ensures
+    let is = goes_there c.self.invariant.laid c.args.place c.in-Goes.index c.index.result.now run at c.index.ensures
     (ap (λ (l : List Running). slice_get l c.args.place) c.self.view_is ∙ there) in
     subst (λ (r : Running). IsSettled (owes plan seat r.state)) is (c.restoring.ensures.settled plan seat)
 
