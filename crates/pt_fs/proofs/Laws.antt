@@ -1,5 +1,6 @@
 -- The laws of whole runs, read for a trace.
-use Rattle.std.proofs.Common.{◌≡◌, ◌⊎◌, ◌<◌, ◌++◌, ◌∙◌, ℕ, List, [], ◌∷◌, Option, Some, None, ap, sym, subst, refl, length}
+use Rattle.std.proofs.Common.{◌≡◌, ◌⊎◌, ◌<◌, ◌++◌, ◌∙◌, ℕ, List, [], ◌∷◌, Option, Some, None, ap, sym, subst, refl}
+use Rattle.std.proofs.Common.{length}
 use Rattle.std.proofs.Common.{inl, slice_get}
 use Rattle.std.proofs.Common.{inr, arith, cond, eqb, append-nil}
 use Rattle.std.proofs.lemmas.Grind.{common_steps}
@@ -49,7 +50,8 @@ use Rattle.pt_fit.specs.Handled.{KeepsHandle}
 use Rattle.pt_fs.specs.Jobs.{job_start, job_grammar, asked_of}
 use Rattle.pt_fs.specs.Trace.{TraceRuns, steps_by, step_of}
 use Rattle.pt_fs.specs.Keeps.{turn_of, turns_of, AfterEach, KeepsCounts, KeepsHandles, InsertsOnce, OvertakenAsTold}
-use Rattle.pt_fs.specs.Keeps.{KeepsOptions, decision, decided_by, ShutsOut, OfEachJob, GivesAllBack, IsCausedIn, RanOutIn, ReachesEach, HonoursEach}
+use Rattle.pt_fs.specs.Keeps.{KeepsOptions, decision, decided_by, ShutsOut, OfEachJob, GivesAllBack, IsCausedIn}
+use Rattle.pt_fs.specs.Keeps.{RanOutIn, ReachesEach, HonoursEach}
 use Rattle.pt_fs.specs.declared.job.Job.{Job}
 use Rattle.pt_fs.specs.declared.trace.TraceStep.{TraceStep}
 use Rattle.pt_fs.proofs.Ended.{one_for_each, at_below}

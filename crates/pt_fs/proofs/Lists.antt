@@ -1,5 +1,6 @@
 -- What a list is where one item is put or is put behind it.
-use Rattle.std.proofs.Common.{◌≡◌, ◌≢◌, ◌<◌, ◌∙◌, ◌++◌, ℕ, zero, suc, List, [], ◌∷◌, Some, refl, ap, sym, map, length, get_or}
+use Rattle.std.proofs.Common.{◌≡◌, ◌≢◌, ◌<◌, ◌∙◌, ◌++◌, ℕ, zero, suc, List, [], ◌∷◌, Some, refl, ap, sym, map}
+use Rattle.std.proofs.Common.{length, get_or}
 use Rattle.std.proofs.Common.{slice_get, slice_set, arith}
 use Rattle.std.proofs.lemmas.Option.{same_Some, slice_get-get_or}
 

@@ -113,11 +113,13 @@ module _ {H : Type 0} {does : HostRelation H} {plan : Plan} {host host' : H} {ru
 -- and likewise where a seat is lost
 pub lost_behind : {H : Type 0} {does : HostRelation H} {plan : Plan} {before : (ℕ → ℕ) → List ℕ} {host host' : H}
     {running running' : List Running} {tables tables' : Tables} {steps : List TraceStep} {job : ℕ}
-    {errno : Errno} (others : List TraceStep) → LostAt does plan before host running tables [] host' running' tables' steps job errno →
+    {errno : Errno} (others : List TraceStep) →
+    LostAt does plan before host running tables [] host' running' tables' steps job errno →
     LostAt does plan before host running tables others host' running' tables' (others ++ steps) job errno
 unfolding goes_past took_past
 lost_behind {does = does} {plan = plan} {before = before} {host = host} {host' = host'} {running = running}
-    {running' = running'} {tables = tables} {tables' = tables'} {steps = steps} {job = job} {errno = errno} others lost =
+    {running' = running'} {tables = tables} {tables' = tables'} {steps = steps} {job = job} {errno = errno} others
+    lost =
     let then : LostAt does plan before host running tables (others ++ []) host' running' tables' (others ++ steps) job
     errno = record {
       mid = lost.mid;
@@ -141,7 +143,8 @@ pub winds_behind : {H : Type 0} {does : HostRelation H} {plan : Plan} {job : ℕ
 unfolding goes_past
 winds_behind {does = does} {plan = plan} {job = job} {host = host} {host' = host'} {running = running}
     {running' = running'} {tables = tables} {tables' = tables'} {steps = steps} others winds =
-    let then : WindsUp does plan job host running tables (others ++ []) host' running' tables' (others ++ steps) = record {
+    let then : WindsUp does plan job host running tables (others ++ []) host' running' tables'
+    (others ++ steps) = record {
       mid = winds.mid;
       stood = winds.stood;
       cut = winds.cut;
@@ -203,7 +206,8 @@ listed items capacity wrote each a b (step ∷ steps) writes =
     )
 
 -- of a step that was made, whether it could be written down or not
-pub told_so : {X E : Type 0} (r : Result X E) {wrote told : X → Type 0} {written : Type 0} → OnOk r written → IfOk r told →
+pub told_so : {X E : Type 0} (r : Result X E) {wrote told : X → Type 0} {written : Type 0} → OnOk r written →
+    IfOk r told →
     ((x : X) → written → told x → wrote x) → IfOk r wrote
 told_so (Ok x) w t f = f x w t
 told_so (Err error) w t f = tt

@@ -43,7 +43,8 @@ returns-clause-took g c =
     let it = c.advance-lost.ensures.stepped.2 in
     let there = ap (λ (l : List Running). slice_get l c.args.place) (sym c.running.view_is) ∙ th.was in
     let plan = g.F.SteppedFs.plan_of c.args.fs.now in
-    told_so c.advance-lost.result c.advance-lost.ensures.stepped.1 c.advance-lost.ensures.told (λ lost wrote told. record {
+    told_so c.advance-lost.result c.advance-lost.ensures.stepped.1 c.advance-lost.ensures.told
+    (λ lost wrote told. record {
       steps = step ∷ [];
       written = (c.advance-lost.new.writer, wrote, refl);
       so = record {

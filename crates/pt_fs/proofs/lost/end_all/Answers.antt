@@ -25,7 +25,8 @@ loop-place-preserved g c =
       room = paces_on _ _ _ _ _ _ c.loop-place.invariant.room c.in_ok-end_one.ensures.room;
       plan = c.in_ok-end_one.ensures.plan ∙ c.loop-place.invariant.plan;
       root = c.in_ok-end_one.ensures.root ∙ c.loop-place.invariant.root;
-      goes = wrote_on (rw more at c.loop-place.invariant.goes) (c.in_ok-end_one.ensures.goes (n - (k + 1))) (λ xs ys goes one.
+      goes = wrote_on (rw more at c.loop-place.invariant.goes) (c.in_ok-end_one.ensures.goes (n - (k + 1)))
+          (λ xs ys goes one.
           goes_on _ _ _ (rest_of n 0) (rest_of (suc (n - (k + 1))) k)
           (rest_of (n - (k + 1)) (k + 1)) _ _ _ _ _ _ _ _ _ _ _ _ c.loop-place.invariant.plan
           goes (goes_behind xs one));

@@ -110,7 +110,8 @@ returns-in-Ok-wind_up-clause-run g c =
     let fits = started_fits _ jobs running started in
     let none = ap pending_in new.1 in
     let fs = c.finish_run-left.ensures.fs in
-    wrote_on (rw c.in-Ok-Some.field-0-is at c.in-Ok-Some.ensures.lost) (rw c.run_jobs.ensures.plan at c.in-Ok-wind_up.ensures.winds_up)
+    wrote_on (rw c.in-Ok-Some.field-0-is at c.in-Ok-Some.ensures.lost)
+    (rw c.run_jobs.ensures.plan at c.in-Ok-wind_up.ensures.winds_up)
     (λ so_far back lost winds.
     let trace = so_far ++ back in
     let e : LostEnd g.H.Host.does plan c.args.schedule.now jobs c.args.host.now c.wind_up.new.host running

@@ -12,21 +12,24 @@ pub settle-requires-clause-laid : goal.settle-requires-clause-laid
 settle-requires-clause-laid c =
     let wakes = c.wake-index.ensures.wakes in
     let it = seen_there c.index_mut.result.now wakes c.index_mut.ensures.value in
-    on_laid c.wake-index.ensures.kept.laid c.args.place c.wake-index.result c.wake-index.ensures.index wakes.it _ wakes.there
+    on_laid c.wake-index.ensures.kept.laid c.args.place c.wake-index.result c.wake-index.ensures.index wakes.it _
+    wakes.there
     (ap (λ (g : Machine). g.place) it)
 
 pub settle-requires-clause-others_go : goal.settle-requires-clause-others_go
 settle-requires-clause-others_go c =
     let wakes = c.wake-index.ensures.wakes in
     let it = seen_there c.index_mut.result.now wakes c.index_mut.ensures.value in
-    on_goes c.wake-index.ensures.kept.laid c.args.place c.wake-index.result c.wake-index.ensures.index wakes.it _ wakes.there
+    on_goes c.wake-index.ensures.kept.laid c.args.place c.wake-index.result c.wake-index.ensures.index wakes.it _
+    wakes.there
     (ap (λ (g : Machine). g.place) it) c.wake-index.ensures.kept.all_go
 
 pub returns : goal.returns
 returns c = record {
   cut = λ run at.
       let seen = c.index_mut.result.now in
-      let through = went_through seen _ c.wake-index.ensures.wakes c.wake-index.ensures.kept.laid c.wake-index.ensures.index
+      let through = went_through seen _ c.wake-index.ensures.wakes c.wake-index.ensures.kept.laid
+      c.wake-index.ensures.index
       c.index_mut.ensures.value refl c.settle.ensures.settles in
       let is : through.run ≡ run = same_Some through.run run
       (sym through.was ∙ ap (λ (l : List Running). slice_get l c.args.place) c.self.view_is ∙ at) in

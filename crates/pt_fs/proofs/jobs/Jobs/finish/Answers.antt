@@ -16,7 +16,8 @@ finish-requires c = record {
 
 pub returns-clause-answers : goal.returns-clause-answers
 returns-clause-answers c =
-    let ended : AllEnded c.self.inside.places = λ j it at. ended_place c.self.inside.going.items c.self.invariant.all_go it
+    let ended : AllEnded c.self.inside.places = λ j it at.
+    ended_place c.self.inside.going.items c.self.invariant.all_go it
     (c.requires.finished j (run_at c.self.inside.going.items it)
     (ap (λ (l : List Running). slice_get l j) (sym c.self.view_is)
     ∙ runs_at c.self.inside.places c.self.inside.going.items j it at)) in
@@ -24,7 +25,8 @@ returns-clause-answers c =
 
 pub returns-clause-seats : goal.returns-clause-seats
 returns-clause-seats c =
-    let ended : AllEnded c.self.inside.places = λ j it at. ended_place c.self.inside.going.items c.self.invariant.all_go it
+    let ended : AllEnded c.self.inside.places = λ j it at.
+    ended_place c.self.inside.going.items c.self.invariant.all_go it
     (c.requires.finished j (run_at c.self.inside.going.items it)
     (ap (λ (l : List Running). slice_get l j) (sym c.self.view_is)
     ∙ runs_at c.self.inside.places c.self.inside.going.items j it at)) in

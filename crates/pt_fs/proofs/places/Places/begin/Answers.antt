@@ -31,8 +31,8 @@ invariant_of-self c =
     c.self.inside.seats.items i.0 i.1 i.2 in
     let seen = ap length c.self.view_is in
     let named = slice_get_within c.args.self.now c.args.place (Waits c.requires.waits.0) c.requires.waits.1 in
-    let inside : c.args.place < length (places_in c.self.inside.asked.items c.self.inside.stages.items c.self.inside.answers.items
-    c.self.inside.seats.items) = omega (arith, seen, named) in
+    let inside : c.args.place < length (places_in c.self.inside.asked.items c.self.inside.stages.items
+    c.self.inside.answers.items c.self.inside.seats.items) = omega (arith, seen, named) in
     let at = stage_there c.self.inside.asked.items c.self.inside.stages.items c.self.inside.answers.items
     c.self.inside.seats.items i.0 i.1 i.2 c.args.place inside in
     let same = length-set c.self.inside.asked.items c.args.place c.replace.new.dest in (
@@ -49,8 +49,8 @@ returns-clause-job c =
     c.self.inside.seats.items i.0 i.1 i.2 in
     let seen = ap length c.self.view_is in
     let named = slice_get_within c.args.self.now c.args.place (Waits c.requires.waits.0) c.requires.waits.1 in
-    let inside : c.args.place < length (places_in c.self.inside.asked.items c.self.inside.stages.items c.self.inside.answers.items
-    c.self.inside.seats.items) = omega (arith, seen, named) in
+    let inside : c.args.place < length (places_in c.self.inside.asked.items c.self.inside.stages.items
+    c.self.inside.answers.items c.self.inside.seats.items) = omega (arith, seen, named) in
     let read = slice_get_read c.self.inside.asked.items _ c.args.place c.index_mut-2.result.now refl
     (omega (arith, all, inside)) c.index_mut-2.ensures.value in
     let is = asked_is c.self.inside.asked.items c.self.inside.stages.items c.self.inside.answers.items
@@ -65,8 +65,8 @@ returns-clause-goes c =
     c.self.inside.seats.items i.0 i.1 i.2 in
     let seen = ap length c.self.view_is in
     let named = slice_get_within c.args.self.now c.args.place (Waits c.requires.waits.0) c.requires.waits.1 in
-    let inside : c.args.place < length (places_in c.self.inside.asked.items c.self.inside.stages.items c.self.inside.answers.items
-    c.self.inside.seats.items) = omega (arith, seen, named) in
+    let inside : c.args.place < length (places_in c.self.inside.asked.items c.self.inside.stages.items
+    c.self.inside.answers.items c.self.inside.seats.items) = omega (arith, seen, named) in
     begun c.self.inside.asked.items c.self.inside.stages.items c.self.inside.answers.items
     c.self.inside.seats.items i.0 i.1 i.2 c.args.place inside c.replace.new.dest c.args.index
     ∙ ap (λ (l : List Place). slice_set l c.args.place (Goes c.args.index)) c.self.view_is

@@ -43,8 +43,8 @@ invariant_of-self c =
     let all = length_all c.self.inside.asked.items c.self.inside.stages.items c.self.inside.answers.items
     c.self.inside.seats.items i.0 i.1 i.2 in
     let seen = ap length c.self.view_is in
-    let inside : c.args.place < length (places_in c.self.inside.asked.items c.self.inside.stages.items c.self.inside.answers.items
-    c.self.inside.seats.items) = omega (arith, seen, c.requires.named) in
+    let inside : c.args.place < length (places_in c.self.inside.asked.items c.self.inside.stages.items
+    c.self.inside.answers.items c.self.inside.seats.items) = omega (arith, seen, c.requires.named) in
     let at = stage_there c.self.inside.asked.items c.self.inside.stages.items c.self.inside.answers.items
     c.self.inside.seats.items i.0 i.1 i.2 c.args.place inside in
     let told = answer_there c.self.inside.asked.items c.self.inside.stages.items c.self.inside.answers.items
@@ -65,6 +65,6 @@ returns c =
     rw (c.put.ensures, c.put-2.ensures, c.put-3.ensures, c.answered.ensures, c.loss_of.ensures)
     (set_all c.self.inside.asked.items c.self.inside.stages.items c.self.inside.answers.items
     c.self.inside.seats.items c.args.place _ _ _ _
-    ∙ ap (λ (p : Place). slice_set (places_in c.self.inside.asked.items c.self.inside.stages.items c.self.inside.answers.items
-    c.self.inside.seats.items) c.args.place p) (over_kept c.args.over)
+    ∙ ap (λ (p : Place). slice_set (places_in c.self.inside.asked.items c.self.inside.stages.items
+    c.self.inside.answers.items c.self.inside.seats.items) c.args.place p) (over_kept c.args.over)
     ∙ ap (λ (l : List Place). slice_set l c.args.place (Ended c.args.over)) c.self.view_is)

@@ -19,8 +19,8 @@ invariant_of-self c =
     let all = length_all c.self.inside.asked.items c.self.inside.stages.items c.self.inside.answers.items
     c.self.inside.seats.items i.0 i.1 i.2 in
     let seen = ap length c.self.view_is in
-    let inside : c.args.place < length (places_in c.self.inside.asked.items c.self.inside.stages.items c.self.inside.answers.items
-    c.self.inside.seats.items) = omega (arith, seen, c.requires.named) in
+    let inside : c.args.place < length (places_in c.self.inside.asked.items c.self.inside.stages.items
+    c.self.inside.answers.items c.self.inside.seats.items) = omega (arith, seen, c.requires.named) in
     let at = stage_there c.self.inside.asked.items c.self.inside.stages.items c.self.inside.answers.items
     c.self.inside.seats.items i.0 i.1 i.2 c.args.place inside in (
       length-set c.self.inside.stages.items c.args.place _ ∙ i.0,
@@ -35,8 +35,8 @@ returns c =
     let all = length_all c.self.inside.asked.items c.self.inside.stages.items c.self.inside.answers.items
     c.self.inside.seats.items i.0 i.1 i.2 in
     let seen = ap length c.self.view_is in
-    let inside : c.args.place < length (places_in c.self.inside.asked.items c.self.inside.stages.items c.self.inside.answers.items
-    c.self.inside.seats.items) = omega (arith, seen, c.requires.named) in
+    let inside : c.args.place < length (places_in c.self.inside.asked.items c.self.inside.stages.items
+    c.self.inside.answers.items c.self.inside.seats.items) = omega (arith, seen, c.requires.named) in
     gone c.self.inside.asked.items c.self.inside.stages.items c.self.inside.answers.items
     c.self.inside.seats.items i.0 i.1 i.2 c.args.place inside c.args.index
     ∙ ap (λ (l : List Place). slice_set l c.args.place (Goes c.args.index)) c.self.view_is
