@@ -1,7 +1,7 @@
 //! The jobs of a run, each in its place. One that has made no step is what it asks, and one that has ended is its
 //! answer; the machines of those on their way lie side by side, so that they take room only while they are needed.
 
-ghost use Rattle.std.specs.Prelude.{◌≡◌, ◌+◌, ◌<◌, ◌≤◌, ◌^◌, ◌++◌, ◌∷◌, ℕ, [], true, false, Some, length, map};
+ghost use Rattle.std.specs.Prelude.{◌≡◌, ◌+◌, ◌<◌, ◌≤◌, ◌^◌, ℕ, [], true, false, Some, length, map};
 ghost use Rattle.std.specs.Prelude.{IfOk, OnErr};
 ghost use Rattle.std.specs.Prelude.{slice_get, slice_set, vec_capacity};
 ghost use Rattle.pt_host.specs.Words.{Each};

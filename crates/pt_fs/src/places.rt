@@ -4,7 +4,6 @@ ghost use Rattle.std.specs.Prelude.{◌≡◌, ◌<◌, ◌^◌, length, map, sl
 ghost use Rattle.pt_host.specs.Words.{Each};
 ghost use Rattle.pt_host.specs.declared.seat.HostSeat.{HostSeat};
 ghost use Rattle.pt_iface.specs.declared.answer.Answer.{Answer};
-ghost use Rattle.pt_fs.specs.Each.{answer_of};
 ghost use Rattle.pt_fs.specs.Jobs.{job_start};
 ghost use Rattle.pt_fs.specs.Placed.{Ended, Goes, Place, Waits, AllEnded, answer_at, lost_in, seat_at, stage_of};
 ghost use Rattle.pt_fs.specs.declared.job.Job.{Job};
@@ -107,6 +106,7 @@ impl Places {
         let mut answers = with_room(alloc, jobs.len())?;
         let mut seats = with_room(alloc, jobs.len())?;
         for job in &jobs {
+            // That they are 32 bits is known of what is read alone.
             let _fits = caps_of(job);
             push_within(&mut stages, Stage::Waits);
             push_within(&mut answers, Answer::Cut);

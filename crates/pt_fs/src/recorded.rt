@@ -1,8 +1,8 @@
 //! A run whose steps are written down as they are made.
 
-ghost use Rattle.std.specs.Prelude.{◌≡◌, ◌≤◌, ◌<◌, ◌^◌, ℕ, [], length, map, vec_capacity, IfOk};
+ghost use Rattle.std.specs.Prelude.{◌≡◌, ◌<◌, ◌^◌, ℕ, length, map};
 ghost use Rattle.pt_session.specs.Tables.{empty_tables};
-ghost use Rattle.pt_fs.specs.Each.{EachStarted, EachAnswered};
+ghost use Rattle.pt_fs.specs.Each.{EachAnswered};
 ghost use Rattle.pt_fs.specs.Ends.{EndsSo};
 ghost use Rattle.pt_fs.specs.Jobs.{StartAll};
 ghost use Rattle.pt_fs.specs.Recorded.{OnEnd, OnNoRoom, OnUnwritten, Wrote};
@@ -10,7 +10,6 @@ ghost use Rattle.pt_fs.specs.Run.{IsRun};
 ghost use Rattle.pt_fs.specs.Took.{IsFinishedAt};
 ghost use Rattle.pt_fs.specs.Trace.{seated, room_of as room};
 ghost use Rattle.pt_fs.specs.Went.{run_seat};
-ghost use Rattle.pt_req.specs.declared.plan.Plan.{Plan};
 
 use crate::fs::SteppedFs;
 use crate::job::Job;

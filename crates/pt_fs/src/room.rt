@@ -1,4 +1,4 @@
-ghost use Rattle.std.specs.Prelude.{◌≡◌, ◌+◌, ◌*◌, ◌<◌, ◌≤◌, ◌^◌, [], ◌∷◌, ◌++◌, length, IfOk, vec_capacity};
+ghost use Rattle.std.specs.Prelude.{◌≡◌, ◌+◌, ◌<◌, ◌≤◌, ◌^◌, [], ◌∷◌, ◌++◌, length, IfOk, vec_capacity};
 ghost use Rattle.pt_attr.specs.Pattern.{bound_of, bound_for};
 ghost use Rattle.pt_fs.specs.Jobs.{asked_of};
 ghost use Rattle.pt_fs.specs.Trace.{room_of as room};
