@@ -163,9 +163,10 @@ fn run_jobs(
         return Err(Status::NoMemory);
     };
     let fs = open_fs(alloc, settings, host)?;
-    let mut lines = StepLines {
-        text: Vec::new(alloc),
-    };
+    let mut text = Vec::new(alloc);
+    // The lines of a job's steps have about so many bytes. Where there is no room for all, it is had as they come.
+    let _room = text.reserve(jobs.len().saturating_mul(768));
+    let mut lines = StepLines { text };
     match drive_into(alloc, fs, host, jobs, schedule, &mut lines) {
         Ok(left) => Ok(Ran {
             left,

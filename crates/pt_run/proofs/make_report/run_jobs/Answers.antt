@@ -21,7 +21,8 @@ returns-in-Ok-drive_into-clause-ok c =
     let ran = c.in-Ok-drive_into.ensures.run in (
       ran.steps,
       lines_told (λ lines. lines.text.items) _ (λ a step b one. one) _ c.drive_into.new.writer ran.steps ran.written
-          ∙ ap (λ (l : List ℕ). l ++ step_lines ran.steps) c.new.ensures.items,
+          ∙ ap (λ (l : List ℕ). l ++ step_lines ran.steps)
+          (c.reserve-room.ensures.items ∙ c.new-text.ensures.items),
       record {
         fs = c.in_ok-fs.fs;
         opened_host = c.open_fs.new.host;
@@ -41,7 +42,8 @@ returns-in-Err-CredentialsLost-clause-ok c =
     let ran = rw there.field-0-is at there.ensures.run in (
       ran.steps,
       lines_told (λ lines. lines.text.items) _ (λ a step b one. one) _ c.drive_into.new.writer ran.steps ran.written
-          ∙ ap (λ (l : List ℕ). l ++ step_lines ran.steps) c.new.ensures.items,
+          ∙ ap (λ (l : List ℕ). l ++ step_lines ran.steps)
+          (c.reserve-room.ensures.items ∙ c.new-text.ensures.items),
       record {
         fs = c.in_ok-fs.fs;
         opened_host = c.open_fs.new.host;
