@@ -1,7 +1,10 @@
 -- One step of a job belongs to what it has to do.
 use Rattle.std.proofs.Common.{◌≡◌, ◌≤◌, ◌<◌, ◌+◌, ◌*◌, ◌∙◌, inl, inr, ℕ, Bool, Option, Some, None, refl, ap, sym, subst}
 use Rattle.pt_host.specs.declared.seat.HostSeat.{HostSeat}
+use Rattle.pt_session.specs.Change.{Change}
+use Rattle.pt_session.specs.Happens.{Happens}
 use Rattle.pt_session.specs.Tables.{Tables}
+use Rattle.pt_session.specs.declared.reply.EventReply.{EventReply}
 use Rattle.pt_frame.specs.Deed.{Deed, Calls, Changes, IsStepOf, MayTellBytes, HoldsReplyBytes, kept_deed_of}
 use Rattle.pt_frame.specs.Grammar.{Grammar, End, Do, May, IsChosen, after, Owed, told_closings, told_inserted, restores}
 use Rattle.pt_frame.specs.Past.{lost_after}
@@ -11,6 +14,7 @@ use Rattle.pt_frame.specs.Made.{Made}
 use Rattle.pt_frame.specs.declared.act.ActReply.{ActReply}
 use Rattle.pt_frame.specs.declared.act.ActReply.TheVariants.{Event, Host, NoCopy}
 use Rattle.pt_frame.specs.declared.act.KeptAct.{KeptAct}
+use Rattle.pt_frame.specs.declared.act.KeptAct.TheVariants as kept_act
 use Rattle.pt_attr.specs.Machine.Job.{owes, lost_of, restores_now, steps_left, steps_bound, inserts_left}
 use Rattle.pt_law.proofs.Told.{Promises, bytes_told}
 use Rattle.pt_req.specs.declared.plan.Plan.{Plan}
@@ -19,6 +23,33 @@ use Rattle.pt_fs.specs.Jobs.{no_seat}
 use Rattle.pt_fs.specs.Stepped.{Stepped}
 use Rattle.pt_fs.specs.Trace.{IsShown, MadeFrom, told_by}
 use Rattle.pt_fs.specs.declared.machine.Machine.{Machine}
+
+-- an event needs no seat, nor does what was not made
+module _ {H : Type 0} (does : HostRelation H) (host : H) where
+  happened_from : (asked : Change) (reply : EventReply) (seat : Option HostSeat) (tables tables' : Tables) →
+      Happens tables asked reply tables' →
+      MadeFrom does (Some (Changes asked)) (Event reply) host seat tables host seat tables'
+  happened_from asked reply (Some seat) tables tables' happens = (happens, refl, refl)
+  happened_from asked reply None tables tables' happens = (no_seat, (happens, refl, refl))
+
+  unmade : (seat : Option HostSeat) (tables : Tables) → MadeFrom does None NoCopy host seat tables host seat tables
+  unmade (Some seat) tables = (refl, refl, refl)
+  unmade None tables = (no_seat, (refl, refl, refl))
+
+  pub event_from : (act : KeptAct) (kept lent : Change) (reply : EventReply) (seat : Option HostSeat)
+      (tables tables' : Tables) → act ≡ kept_act.Event kept → lent ≡ kept → Happens tables lent reply tables' →
+      MadeFrom does (kept_deed_of act) (Event reply) host seat tables host seat tables'
+  event_from act kept lent reply seat tables tables' is same happens =
+      subst (λ (a : KeptAct).
+      MadeFrom does (kept_deed_of a) (Event reply) host seat tables host seat tables') (sym is)
+      (happened_from kept reply seat tables tables'
+      (subst (λ (change : Change). Happens tables change reply tables') same happens))
+
+  pub unmade_from : (act : KeptAct) (seat : Option HostSeat) (tables : Tables) → act ≡ kept_act.NoCopy →
+      MadeFrom does (kept_deed_of act) NoCopy host seat tables host seat tables
+  unmade_from act seat tables is =
+      subst (λ (a : KeptAct). MadeFrom does (kept_deed_of a) NoCopy host seat tables host seat tables) (sym is)
+      (unmade seat tables)
 
 module _ {H : Type 0} (does : HostRelation H) (faults : H → ℕ) (promises : Promises does faults) where
   -- a reply that held bytes came to a call that may tell some

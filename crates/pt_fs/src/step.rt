@@ -1,8 +1,10 @@
 ghost use Rattle.std.specs.Prelude.{◌+◌, ◌≤◌, ◌≡◌, true, false, Some, None, IfOk, OnOk, OnErr};
-ghost use Rattle.pt_frame.specs.Deed.{deed_of, kept_deed_of, MayFailToCopy};
+ghost use Rattle.pt_host.specs.Call.{call_of};
+ghost use Rattle.pt_session.specs.Tables.{Tables};
+ghost use Rattle.pt_frame.specs.Deed.{Calls, deed_of, kept_deed_of, MayFailToCopy};
+ghost use Rattle.pt_frame.specs.declared.act.ActReply.TheVariants as told;
 ghost use Rattle.pt_frame.specs.Grammar.{is_end};
 ghost use Rattle.pt_attr.specs.Machine.Job.{owes, is_finished, lost_of};
-ghost use Rattle.pt_frame.specs.Made.{Made};
 ghost use Rattle.pt_fs.specs.Advances.{IsWanted};
 ghost use Rattle.pt_fs.specs.Stepped.{Stepped};
 ghost use Rattle.pt_fs.specs.Trace.{MadeFrom};
@@ -13,7 +15,7 @@ use crate::machine::{Machine, no_seat};
 use crate::record::Record;
 use crate::trace::TraceStep;
 use pt_frame::{Act, ActReply, KeptAct, Want};
-use pt_host::{Errno, Host, HostSeat};
+use pt_host::{Errno, Host, HostOp, HostReply, HostSeat};
 use std::alloc::{AllocError, Global};
 
 /// Writes the act, with bytes of its own, where it is to lie.
@@ -48,27 +50,19 @@ fn want_in<F: SteppedFs>(alloc: Global, fs: &F, machine: &Machine, place: &mut K
     }
 }
 
-/// Makes one act, unless it could not be copied, and writes what it was answered.
-fn make_in<H: Host, F: SteppedFs>(
-    host: &mut H,
-    fs: &mut F,
-    seat: &mut HostSeat,
-    act: &KeptAct,
-    place: &mut ActReply,
-)
-    ensures made { Made H.does (kept_deed_of act.now) place.new host.old seat.old (F.tables fs.old) host.new seat.new
-        (F.tables fs.new) }
-    ensures plan { F.plan_of fs.new ≡ F.plan_of fs.old }
-    ensures root { F.root fs.new ≡ F.root fs.old }
+/// Makes one call of a job that has this seat, or none.
+fn call_from<H: Host>(host: &mut H, seat: &mut Option<HostSeat>, op: &HostOp<'_>) -> HostReply
+    ensures { (tables : Tables) → MadeFrom H.does (Some (Calls (call_of op.now))) (told.Host result) host.old seat.old
+        tables host.new seat.new tables }
 {
-    *place = match act {
-        KeptAct::Event(event) => ActReply::Event(fs.event(&event.lend())),
-        KeptAct::Host(op) => ActReply::Host(host.call(seat, &op.lend())),
-        KeptAct::NoCopy => ActReply::NoCopy,
-    };
+    match seat {
+        Some(seat) => host.call(seat, op),
+        None => host.call(&mut no_seat(), op),
+    }
 }
 
-/// Makes one act of a job that has this seat, or none, and writes what it was answered.
+/// Makes one act of a job that has this seat, or none, unless it could not be copied, and writes what it was
+/// answered. An event of the tables needs no seat, so none is looked at.
 fn make_from<H: Host, F: SteppedFs>(
     host: &mut H,
     fs: &mut F,
@@ -81,12 +75,10 @@ fn make_from<H: Host, F: SteppedFs>(
     ensures plan { F.plan_of fs.new ≡ F.plan_of fs.old }
     ensures root { F.root fs.new ≡ F.root fs.old }
 {
-    match seat {
-        Some(seat) => make_in(host, fs, seat, act, place),
-        None => {
-            let mut seat = no_seat();
-            make_in(host, fs, &mut seat, act, place);
-        }
+    match act {
+        KeptAct::Event(event) => *place = ActReply::Event(fs.event(&event.lend())),
+        KeptAct::Host(op) => *place = ActReply::Host(call_from(host, seat, &op.lend())),
+        KeptAct::NoCopy => *place = ActReply::NoCopy,
     }
 }
 
