@@ -8,7 +8,8 @@ ghost use Rattle.std.specs.Prelude.{Option};
 ghost use Rattle.pt_frame.specs.Past.{lost_after, or_first};
 ghost use Rattle.pt_frame.specs.Tree.{RequestTree};
 ghost use Rattle.pt_frame.specs.Machine.Left.{tops, is_above, marked, ended, edges_left, tail_left, then_left};
-ghost use Rattle.pt_frame.specs.Machine.Left.{next_left, mode_left, passes_at, is_ready, is_over, is_giving_scope};
+ghost use Rattle.pt_frame.specs.Machine.Left.{next_left, mode_left, passes_at, is_ready, is_edge_ready, is_over};
+ghost use Rattle.pt_frame.specs.Machine.Left.{is_giving_scope};
 ghost use Rattle.pt_frame.specs.Machine.Left.{Tells, end_of, given_left, tail_counts, mode_counts, mode_begins};
 ghost use Rattle.pt_frame.specs.Machine.Next.{then_counts, counts_after, begun_by, begun_in};
 ghost use Rattle.pt_frame.specs.Machine.Room.{most_holds};
@@ -190,6 +191,19 @@ fn is_above(shut: Shut, holds: &Holds, marks: &Marks) -> bool
     }
 }
 
+/// Whether a scope or a bracket that ends has something to give back.
+fn is_edge_ready(edges: Edges, holds: &Holds, marks: &Marks) -> bool
+    ensures { result ≡ is_edge_ready edges.bares edges.shuts holds.now marks.now }
+{
+    if edges.bares {
+        return tops(holds);
+    }
+    match edges.shuts {
+        Some(shut) => is_above(shut, holds, marks),
+        None => false,
+    }
+}
+
 /// A bracket ends, where one does that has holds above its mark, and then this follows.
 fn shut_on(edges: Edges, tail: Tail, holds: &Holds, marks: &mut Marks) -> Mode
     requires holds { length holds.now ≤ most_holds }
@@ -273,11 +287,15 @@ fn go_on(mode: &mut Mode, holds: &Holds, marks: &mut Marks)
     ensures counts { (count : ℕ) → mode_counts mode.new count ≤ mode_counts mode.old count }
     ensures begins { length marks.new + mode_begins mode.new ≤ length marks.old + mode_begins mode.old }
 {
-    if let Mode::Edge { .. } = mode {
-        *mode = match mem::replace(mode, Mode::Body) {
-            Mode::Edge { edges, tail } => go_over(edges, tail, holds, marks),
-            other => other,
-        };
+    match mode {
+        Mode::Edge { edges, .. } if is_edge_ready(*edges, holds, marks) => {}
+        Mode::Edge { .. } => {
+            *mode = match mem::replace(mode, Mode::Body) {
+                Mode::Edge { edges, tail } => go_over(edges, tail, holds, marks),
+                other => other,
+            };
+        }
+        _ => {}
     }
 }
 
