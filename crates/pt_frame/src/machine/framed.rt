@@ -31,13 +31,14 @@ use std::marker::Model;
 /// with which the job began.
 #[derive(Drop)]
 pub struct Framed<B: Body> {
-    body: B,
-    mode: Mode,
-    holds: Holds,
-    marks: Marks,
+    // What each step asks for lies side by side.
     closings: u64,
     taken: Taken,
     lost: Option<Errno>,
+    mode: Mode,
+    body: B,
+    marks: Marks,
+    holds: Holds,
 }
 
 impl<B: Body> Model for Framed<B> {
