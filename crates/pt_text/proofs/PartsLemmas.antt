@@ -19,14 +19,14 @@ slice_split_place p xs i at =
     let within : position_or_len p xs < length xs = rw place found.0 in
     slice_split_first p xs 0 within ∙ rw place refl
 
-whole_part : (p : ℕ → Bool) (xs : List ℕ) → position_or_len p xs ≡ length xs → slice_split p xs ≡ xs ∷ []
+pub whole_part : (p : ℕ → Bool) (xs : List ℕ) → position_or_len p xs ≡ length xs → slice_split p xs ≡ xs ∷ []
 whole_part p [] is = refl
 whole_part p (x ∷ xs) is =
     (elim (p x) as (λ b. cond (not b) (1 + position_or_len p xs) 0 ≡ suc (length xs) →
     cond b ([] ∷ slice_split p xs) (onto_first x (slice_split p xs)) ≡ (x ∷ xs) ∷ [])
     [ true ↦ λ e. absurd (omega arith) | false ↦ λ e. ap (onto_first x) (whole_part p xs (omega arith)) ]) is
 
-position_or_len-le : (p : ℕ → Bool) (xs : List ℕ) → position_or_len p xs ≤ length xs
+pub position_or_len-le : (p : ℕ → Bool) (xs : List ℕ) → position_or_len p xs ≤ length xs
 position_or_len-le p [] = omega arith
 position_or_len-le p (x ∷ xs) =
     elim (p x) as (λ b. cond (not b) (1 + position_or_len p xs) 0 ≤ suc (length xs)) [

@@ -1,6 +1,9 @@
-ghost use Rattle.std.specs.Prelude.{◌≡◌, ◌∷◌, [], ◌↔◌, ◌==◌, IsTrue, IfNone, IfSome, position};
+ghost use Rattle.std.specs.Prelude.{◌≡◌, ◌∷◌, [], ◌↔◌, ◌==◌, IsTrue, IfNone, IfSome, position, take};
+ghost use Rattle.std.specs.List.{position_or_len};
 ghost use Rattle.pt_text.specs.Words.{words_of, lines_of, parts_of, parts_left};
+ghost use Rattle.pt_text.specs.Number.{BeginWith};
 
+use crate::number::first_number;
 use std::marker::Model;
 
 /// The parts of a text that are still to be read, in order.
@@ -52,6 +55,21 @@ impl<'a> Parts<'a> {
         Some(part)
     }
 
+    /// Takes the next word where it is a number of few decimal digits, and nothing otherwise.
+    #[inline(always)]
+    pub fn next_short_number(&mut self) -> Option<u32>
+        ensures some { IfSome result (λ number. BeginWith self.old number self.new) }
+        ensures none { IfNone result (self.new ≡ self.old) }
+    {
+        let text = self.rest?;
+        if self.separator != b' ' {
+            return None;
+        }
+        let (number, count) = first_number(text)?;
+        self.rest = behind(text, count);
+        Some(number)
+    }
+
     pub fn is_empty(&self) -> bool
         ensures { IsTrue result ↔ (self.now ≡ []) }
     {
@@ -65,6 +83,18 @@ fn first_part(text: &[u8], separator: u8) -> (&[u8], Option<&[u8]>)
     match place_of(text, separator) {
         Some(place) => (&text[..place], Some(&text[place + 1..])),
         None => (text, None),
+    }
+}
+
+// What is left of a text behind its first word, which is so long.
+fn behind(text: &[u8], count: usize) -> Option<&[u8]>
+    requires { count ≡ position_or_len (λ b. b == 32) text.now }
+    ensures { parts_of 32 text.now ≡ take count text.now ∷ parts_left 32 result }
+{
+    if count < text.len() {
+        Some(&text[count + 1..])
+    } else {
+        None
     }
 }
 

@@ -42,6 +42,9 @@ pub fn next_number(words: &mut Parts<'_>) -> Result<u64, LineError>
     ensures bad { result ≡ Err LineError.Bad → number_in words.old ≡ None }
     ensures no_memory { result ≡ Err LineError.Memory → ⊥ }
 {
+    if let Some(number) = words.next_short_number() {
+        return Ok(u64::from(number));
+    }
     let word = next_word(words)?;
     read_number(word).ok_or(LineError::Bad)
 }
@@ -52,6 +55,9 @@ pub fn next_small(words: &mut Parts<'_>) -> Result<u32, LineError>
     ensures bad { result ≡ Err LineError.Bad → small_in words.old ≡ None }
     ensures no_memory { result ≡ Err LineError.Memory → ⊥ }
 {
+    if let Some(number) = words.next_short_number() {
+        return Ok(number);
+    }
     let word = next_word(words)?;
     match read_number(word) {
         Some(number) if number <= 0xffff_ffff => Ok(number as u32),
@@ -202,12 +208,23 @@ fn push_place(places: &mut Places, words: &mut Parts<'_>) -> Result<u32, LineErr
     }
 }
 
+/// A line of the schedule has room for so many places before it grows.
+const USUAL_PLACES: usize = 16;
+
 /// Places, to the last word.
 pub fn next_places(alloc: Global, words: &mut Parts<'_>) -> Result<Places, LineError>
     ensures ok { IfOk result (λ places. places_in words.old ≡ Some places) }
     ensures bad { result ≡ Err LineError.Bad → places_in words.old ≡ None }
 {
-    let mut places = Places::new(alloc);
+    let Ok(mut places) = Places::with_room(alloc, USUAL_PLACES) else {
+        return Err(LineError::Memory);
+    };
+    'short: while let Some(place) = words.next_short_number() {
+        match places.push(place) {
+            Ok(()) => {}
+            Err(_) => return Err(LineError::Memory),
+        }
+    }
     'places: while !words.is_empty() {
         match push_place(&mut places, words) {
             Ok(_) => {}
