@@ -15,7 +15,7 @@ ghost use Rattle.pt_words.specs.Fields.{
 
 use crate::places::Places;
 use pt_host::{Bytes, Errno};
-use pt_text::{Parts, read_byte_word, read_number};
+use pt_text::{Parts, is_word, read_byte_word, read_number};
 use std::alloc::Global;
 
 /// Why a text is no line, or was not read as one.
@@ -98,9 +98,9 @@ pub fn next_switch(words: &mut Parts<'_>) -> Result<bool, LineError>
     ensures no_memory { result ≡ Err LineError.Memory → ⊥ }
 {
     let word = next_word(words)?;
-    if word == b"0".as_slice() {
+    if is_word(word, b"0") {
         Ok(false)
-    } else if word == b"1".as_slice() {
+    } else if is_word(word, b"1") {
         Ok(true)
     } else {
         Err(LineError::Bad)
@@ -114,9 +114,9 @@ fn next_sign(words: &mut Parts<'_>) -> Result<bool, LineError>
     ensures no_memory { result ≡ Err LineError.Memory → ⊥ }
 {
     let word = next_word(words)?;
-    if word == b"-".as_slice() {
+    if is_word(word, b"-") {
         Ok(false)
-    } else if word == b"+".as_slice() {
+    } else if is_word(word, b"+") {
         Ok(true)
     } else {
         Err(LineError::Bad)
