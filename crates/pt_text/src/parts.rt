@@ -43,6 +43,17 @@ impl<'a> Parts<'a> {
         }
     }
 
+    /// The parts that are left, to be read by themselves.
+    #[inline(always)]
+    pub fn left(&self) -> Self
+        ensures { result ≡ self.now }
+    {
+        Parts {
+            separator: self.separator,
+            rest: self.rest,
+        }
+    }
+
     /// Takes the next part.
     pub fn next(&mut self) -> Option<&'a [u8]>
         ensures some { IfSome result (λ part. self.old ≡ part.now ∷ self.new) }

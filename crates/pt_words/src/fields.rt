@@ -219,12 +219,15 @@ pub fn next_places(alloc: Global, words: &mut Parts<'_>) -> Result<Places, LineE
     let Ok(mut places) = Places::with_room(alloc, USUAL_PLACES) else {
         return Err(LineError::Memory);
     };
-    'short: while let Some(place) = words.next_short_number() {
+    // most are short, and are taken from a copy that no call is handed, which the loop keeps in registers
+    let mut rest = words.left();
+    'short: while let Some(place) = rest.next_short_number() {
         match places.push(place) {
             Ok(()) => {}
             Err(_) => return Err(LineError::Memory),
         }
     }
+    *words = rest;
     'places: while !words.is_empty() {
         match push_place(&mut places, words) {
             Ok(_) => {}

@@ -53,8 +53,12 @@ fn next_other(words: &mut Parts<'_>) -> Result<Request, LineError>
     Ok(Request::Other { opcode })
 }
 
+// None of the six functions below is inlined into the next: a request is made where the reader of a line wants it, and
+// is not moved from one to another.
+
 // A request for what an object tells, or for a change of that.
 #[tactic(auto, unfolding(crate::specs::Request::attribute_request_in))]
+#[inline(never)]
 fn next_attribute_request(word: &[u8], words: &mut Parts<'_>) -> Result<Request, LineError>
     ensures ok { IfOk result (λ request. attribute_request_in word.now words.old ≡ Some request) }
     ensures bad { result ≡ Err LineError.Bad → attribute_request_in word.now words.old ≡ None }
@@ -77,6 +81,7 @@ fn next_attribute_request(word: &[u8], words: &mut Parts<'_>) -> Result<Request,
 
 // A request that gives a name or takes one away, or one of the above.
 #[tactic(auto, unfolding(crate::specs::Request::naming_request_in))]
+#[inline(never)]
 fn next_naming_request(
     alloc: Global,
     word: &[u8],
@@ -100,6 +105,7 @@ fn next_naming_request(
 
 // A request that makes an object, or one of the above.
 #[tactic(auto, unfolding(crate::specs::Request::making_request_in))]
+#[inline(never)]
 fn next_making_request(
     alloc: Global,
     word: &[u8],
@@ -123,6 +129,7 @@ fn next_making_request(
 
 // A request for what files hold, or one of the above.
 #[tactic(auto, unfolding(crate::specs::Request::contents_request_in))]
+#[inline(never)]
 fn next_contents_request(
     alloc: Global,
     word: &[u8],
@@ -154,6 +161,7 @@ fn next_contents_request(
 
 // A request that begins or ends a handle, or reads by one, or one of the above.
 #[tactic(auto, unfolding(crate::specs::Request::handle_request_in))]
+#[inline(never)]
 fn next_handle_request(
     alloc: Global,
     word: &[u8],
@@ -179,6 +187,7 @@ fn next_handle_request(
 
 // A request of a number's life, or one of the above.
 #[tactic(auto, unfolding(crate::specs::Request::number_request_in))]
+#[inline(never)]
 fn next_number_request(
     alloc: Global,
     word: &[u8],

@@ -7,20 +7,20 @@ use Rattle.pt_words.proofs.PlacesRead.{behind-nothing, behind-more, behind-none,
 use Rattle.pt_words.proofs.fields.next_places.Goals as goal
 
 pub short-init : goal.short-init
-short-init c = rw c.in-Ok.ensures (behind-nothing (places_in c.args.words.now))
+short-init c = rw (c.in-Ok.ensures, c.left-rest.ensures) (behind-nothing (places_in c.args.words.now))
 
 pub short-preserved : goal.short-preserved
 short-preserved c =
-    behind-more c.short.places c.push.new.self c.in-Some.place c.short.words c.next_short_number.new.self
+    behind-more c.short.places c.push.new.self c.in-Some.place c.short.rest c.next_short_number.new.self
     (places_in c.args.words.now)
-    (small_from_start c.short.words c.next_short_number.new.self c.in-Some.place (search rules)
+    (small_from_start c.short.rest c.next_short_number.new.self c.in-Some.place (search rules)
     c.in-Some.ensures.some)
     c.in-Ok-push.ensures.ok c.short.invariant
 
 pub short-smaller : goal.short-smaller
 short-smaller c =
-    shorter c.short.words c.in-Some.place c.next_short_number.new.self
-    (small_from_start c.short.words c.next_short_number.new.self c.in-Some.place (search rules)
+    shorter c.short.rest c.in-Some.place c.next_short_number.new.self
+    (small_from_start c.short.rest c.next_short_number.new.self c.in-Some.place (search rules)
     c.in-Some.ensures.some)
 
 pub places-init : goal.places-init

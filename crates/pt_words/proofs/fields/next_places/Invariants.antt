@@ -10,7 +10,7 @@ abbrev pub decreases-places : goal.decreases-places
 decreases-places l = length l.words
 
 abbrev pub invariant-short : goal.invariant-short
-invariant-short l = behind l.places (places_in l.words) ≡ places_in l.fn.words
+invariant-short l = behind l.places (places_in l.rest) ≡ places_in l.fn.words
 
 abbrev pub decreases-short : goal.decreases-short
-decreases-short l = length l.words
+decreases-short l = length l.rest
