@@ -4,6 +4,7 @@ ghost use Rattle.pt_text.specs.Words.{words_of, lines_of, parts_of, parts_left};
 ghost use Rattle.pt_text.specs.Number.{BeginWith};
 
 use crate::number::first_number;
+use memchr::memchr;
 use std::marker::Model;
 
 /// The parts of a text that are still to be read, in order.
@@ -109,8 +110,22 @@ fn behind(text: &[u8], count: usize) -> Option<&[u8]>
     }
 }
 
+#[inline(always)]
 fn place_of(text: &[u8], separator: u8) -> Option<usize>
     ensures { result ≡ position (λ b. b == separator) text.now }
 {
-    text.iter().position(|b| *b == separator)
+    // a word is short, and a line may be long
+    if separator == b' ' {
+        text.iter().position(|b| *b == b' ')
+    } else {
+        far_place_of(text, separator)
+    }
+}
+
+// The same, for a place that may be far: not inlined, so that what reads words stays small.
+#[inline(never)]
+fn far_place_of(text: &[u8], separator: u8) -> Option<usize>
+    ensures { result ≡ position (λ b. b == separator) text.now }
+{
+    memchr(separator, text)
 }
