@@ -53,8 +53,8 @@ fn next_other(words: &mut Parts<'_>) -> Result<Request, LineError>
     Ok(Request::Other { opcode })
 }
 
-// None of the six functions below is inlined into the next: a request is made where the reader of a line wants it, and
-// is not moved from one to another.
+// None of the six functions below is inlined into the next: a request is made where the reader of a line wants it,
+// and is not moved from one to another.
 
 // A request for what an object tells, or for a change of that.
 #[tactic(auto, unfolding(crate::specs::Request::attribute_request_in))]
