@@ -3,7 +3,7 @@ ghost use Rattle.pt_script.specs.Edit.{unlink_in, rename_in, file_edit, dir_edit
 
 use crate::new_objects::{NewDir, NewFile, next_new_dir, next_new_file};
 use pt_host::Edit;
-use pt_text::Parts;
+use pt_text::{Parts, is_word};
 use pt_words::{LineError, end, next_bytes, next_word};
 use std::alloc::Global;
 
@@ -64,15 +64,15 @@ fn next_edit_as(alloc: Global, word: &[u8], words: &mut Parts<'_>) -> Result<Edi
     ensures ok { IfOk result (λ edit. edit_as word.now words.old ≡ Some edit) }
     ensures bad { result ≡ Err LineError.Bad → edit_as word.now words.old ≡ None }
 {
-    if word == b"unlink".as_slice() {
+    if is_word(word, b"unlink") {
         next_unlink(alloc, words)
-    } else if word == b"rename".as_slice() {
+    } else if is_word(word, b"rename") {
         next_rename(alloc, words)
-    } else if word == b"file".as_slice() {
+    } else if is_word(word, b"file") {
         Ok(file_edit(next_new_file(alloc, words)?))
-    } else if word == b"dir".as_slice() {
+    } else if is_word(word, b"dir") {
         Ok(dir_edit(next_new_dir(alloc, words)?))
-    } else if word == b"write".as_slice() {
+    } else if is_word(word, b"write") {
         next_write(alloc, words)
     } else {
         Err(LineError::Bad)

@@ -2,7 +2,7 @@ ghost use Rattle.std.specs.Prelude.{◌≡◌, IfOk, Some, None};
 ghost use Rattle.pt_script.specs.IdRules.{rule_ids_in, forbidden_in, id_rule_as, id_rule_in};
 
 use pt_maps::IdRule;
-use pt_text::Parts;
+use pt_text::{Parts, is_word};
 use pt_words::{LineError, end, next_small, next_word};
 
 /// The first id of a range, what it becomes, and how many ids the range has.
@@ -46,21 +46,21 @@ fn next_id_rule_as(word: &[u8], words: &mut Parts<'_>) -> Result<IdRule, LineErr
     ensures bad { result ≡ Err LineError.Bad → id_rule_as word.now words.old ≡ None }
     ensures no_memory { result ≡ Err LineError.Memory → ⊥ }
 {
-    if word == b"guest".as_slice() {
+    if is_word(word, b"guest") {
         let ids = next_rule_ids(words)?;
         Ok(IdRule::Guest(ids.first, ids.target, ids.count))
-    } else if word == b"host".as_slice() {
+    } else if is_word(word, b"host") {
         let ids = next_rule_ids(words)?;
         Ok(IdRule::Host(ids.first, ids.target, ids.count))
-    } else if word == b"squash-guest".as_slice() {
+    } else if is_word(word, b"squash-guest") {
         let ids = next_rule_ids(words)?;
         Ok(IdRule::SquashGuest(ids.first, ids.target, ids.count))
-    } else if word == b"squash-host".as_slice() {
+    } else if is_word(word, b"squash-host") {
         let ids = next_rule_ids(words)?;
         Ok(IdRule::SquashHost(ids.first, ids.target, ids.count))
-    } else if word == b"forbid-guest".as_slice() {
+    } else if is_word(word, b"forbid-guest") {
         next_forbidden(words)
-    } else if word == b"map".as_slice() {
+    } else if is_word(word, b"map") {
         let ids = next_rule_ids(words)?;
         Ok(IdRule::Map(ids.first, ids.target, ids.count))
     } else {

@@ -7,7 +7,7 @@ use crate::settings::Setting;
 use crate::tree_line::next_tree_line;
 use pt_host::{Edit, Errno};
 use pt_iface::{Context, Request};
-use pt_text::Parts;
+use pt_text::{Parts, is_word};
 use pt_tree::TreeLine;
 use pt_words::{
     LineError, Places, end, next_errno, next_number, next_places, next_request, next_small,
@@ -73,17 +73,17 @@ pub fn read_line(alloc: Global, text: &[u8]) -> Result<Line, LineError>
 {
     let mut words = Parts::words(text);
     let word = next_word(&mut words)?;
-    if word == b"set".as_slice() {
+    if is_word(word, b"set") {
         Ok(Line::Set(next_setting(alloc, &mut words)?))
-    } else if word == b"job".as_slice() {
+    } else if is_word(word, b"job") {
         Ok(Line::Job(next_job(alloc, &mut words)?))
-    } else if word == b"edit".as_slice() {
+    } else if is_word(word, b"edit") {
         Ok(Line::Job(ScriptJob::Edit(next_edit(alloc, &mut words)?)))
-    } else if word == b"order".as_slice() {
+    } else if is_word(word, b"order") {
         Ok(Line::Order(next_places(alloc, &mut words)?))
-    } else if word == b"fault".as_slice() {
+    } else if is_word(word, b"fault") {
         Ok(Line::Fault(next_fault(&mut words)?))
-    } else if word == b"end".as_slice() {
+    } else if is_word(word, b"end") {
         end(&words)?;
         Ok(Line::End)
     } else {

@@ -17,7 +17,7 @@ use crate::switches::switch_named;
 use pt_host::Caps;
 use pt_iface::Timeout;
 use pt_req::CachePolicy;
-use pt_text::Parts;
+use pt_text::{Parts, is_word};
 use pt_words::{LineError, end, next_bytes, next_number, next_small, next_switch, next_word};
 use std::alloc::Global;
 
@@ -99,13 +99,13 @@ fn next_serving_setting_as(
     ensures ok { IfOk result (λ setting. serving_setting_as key.now words.old ≡ Some setting) }
     ensures bad { result ≡ Err LineError.Bad → serving_setting_as key.now words.old ≡ None }
 {
-    if key == b"entry_timeout".as_slice() {
+    if is_word(key, b"entry_timeout") {
         Ok(Setting::EntryTimeout(next_timeout(words)?))
-    } else if key == b"attr_timeout".as_slice() {
+    } else if is_word(key, b"attr_timeout") {
         Ok(Setting::AttrTimeout(next_timeout(words)?))
-    } else if key == b"cache_policy".as_slice() {
+    } else if is_word(key, b"cache_policy") {
         Ok(Setting::CachePolicy(next_policy(words)?))
-    } else if key == b"root_dir".as_slice() {
+    } else if is_word(key, b"root_dir") {
         next_root_dir(alloc, words)
     } else {
         next_switch_as(key, words)
@@ -117,13 +117,13 @@ fn next_setting_as(alloc: Global, key: &[u8], words: &mut Parts<'_>) -> Result<S
     ensures ok { IfOk result (λ setting. setting_as key.now words.old ≡ Some setting) }
     ensures bad { result ≡ Err LineError.Bad → setting_as key.now words.old ≡ None }
 {
-    if key == b"guest_fd_limit".as_slice() {
+    if is_word(key, b"guest_fd_limit") {
         next_limit(words)
-    } else if key == b"seat".as_slice() {
+    } else if is_word(key, b"seat") {
         Ok(Setting::Seat(next_identity(words)?))
-    } else if key == b"uidmap".as_slice() {
+    } else if is_word(key, b"uidmap") {
         Ok(Setting::UidRule(next_id_rule(words)?))
-    } else if key == b"gidmap".as_slice() {
+    } else if is_word(key, b"gidmap") {
         Ok(Setting::GidRule(next_id_rule(words)?))
     } else {
         next_serving_setting_as(alloc, key, words)

@@ -2,6 +2,8 @@ ghost use Rattle.std.specs.Prelude.{◌≡◌, ◌≤◌, ◌+◌};
 ghost use Rattle.std.specs.Option.{option_len};
 ghost use Rattle.pt_script.specs.Switches.{switch_named, no_switches, switched, with_switch, switch_lines};
 
+use pt_text::is_word;
+
 /// A switch of the configuration, by virtiofsd's name.
 #[derive(Clone, Copy, Debug, PartialEq, Eq)]
 pub enum Switch {
@@ -18,19 +20,19 @@ pub enum Switch {
 pub fn switch_named(key: &[u8]) -> Option<Switch>
     ensures { result ≡ switch_named key.now }
 {
-    if key == b"writeback".as_slice() {
+    if is_word(key, b"writeback") {
         Some(Switch::Writeback)
-    } else if key == b"announce_submounts".as_slice() {
+    } else if is_word(key, b"announce_submounts") {
         Some(Switch::AnnounceSubmounts)
-    } else if key == b"readdirplus".as_slice() {
+    } else if is_word(key, b"readdirplus") {
         Some(Switch::Readdirplus)
-    } else if key == b"allow_direct_io".as_slice() {
+    } else if is_word(key, b"allow_direct_io") {
         Some(Switch::AllowDirectIo)
-    } else if key == b"killpriv_v2".as_slice() {
+    } else if is_word(key, b"killpriv_v2") {
         Some(Switch::KillprivV2)
-    } else if key == b"clean_noatime".as_slice() {
+    } else if is_word(key, b"clean_noatime") {
         Some(Switch::CleanNoatime)
-    } else if key == b"allow_mmap".as_slice() {
+    } else if is_word(key, b"allow_mmap") {
         Some(Switch::AllowMmap)
     } else {
         None

@@ -3,7 +3,7 @@ ghost use Rattle.pt_script.specs.TreeLine.{mount_in, file_line, dir_line, link_i
 ghost use Rattle.pt_script.specs.TreeLine.{other_line_in, tree_line_in};
 
 use crate::new_objects::{NewDir, NewFile, next_new_dir, next_new_file};
-use pt_text::Parts;
+use pt_text::{Parts, is_word};
 use pt_tree::TreeLine;
 use pt_words::{LineError, end, next_bytes, next_number, next_small, next_switch};
 use std::alloc::Global;
@@ -110,13 +110,13 @@ fn next_other_line(alloc: Global, word: &[u8], words: &mut Parts<'_>) -> Result<
     ensures ok { IfOk result (λ line. other_line_in word.now words.old ≡ Some line) }
     ensures bad { result ≡ Err LineError.Bad → other_line_in word.now words.old ≡ None }
 {
-    if word == b"link".as_slice() {
+    if is_word(word, b"link") {
         next_link(alloc, words)
-    } else if word == b"spec".as_slice() {
+    } else if is_word(word, b"spec") {
         next_spec(alloc, words)
-    } else if word == b"hard".as_slice() {
+    } else if is_word(word, b"hard") {
         next_hard(alloc, words)
-    } else if word == b"xattr".as_slice() {
+    } else if is_word(word, b"xattr") {
         next_xattr(alloc, words)
     } else {
         Err(LineError::Bad)
@@ -132,11 +132,11 @@ pub fn next_tree_line(
     ensures ok { IfOk result (λ line. tree_line_in word.now words.old ≡ Some line) }
     ensures bad { result ≡ Err LineError.Bad → tree_line_in word.now words.old ≡ None }
 {
-    if word == b"mount".as_slice() {
+    if is_word(word, b"mount") {
         next_mount(alloc, words)
-    } else if word == b"dir".as_slice() {
+    } else if is_word(word, b"dir") {
         Ok(dir_line(next_new_dir(alloc, words)?))
-    } else if word == b"file".as_slice() {
+    } else if is_word(word, b"file") {
         Ok(file_line(next_new_file(alloc, words)?))
     } else {
         next_other_line(alloc, word, words)

@@ -1,5 +1,5 @@
 use Rattle.std.proofs.Common.{◌≡◌, ℕ, suc, ◌+◌, ◌<◌, ◌≤◌, Bool, true, false, cond, not, List, [], ◌∷◌, Option, Some}
-use Rattle.std.proofs.Common.{None, length, take, drop, refl, ap, arith, ◌∙◌}
+use Rattle.std.proofs.Common.{None, length, get_or, take, drop, refl, ap, arith, ◌∙◌}
 use Rattle.std.specs.Prelude.{IsTrue, is_some, ◌==◌}
 use Rattle.std.specs.Borrow.{Bor}
 use Rattle.pt_text.specs.Words.{parts_left}
@@ -8,6 +8,8 @@ use Rattle.std.proofs.lemmas.List.Quantifiers.{position-Some}
 use Rattle.std.proofs.lemmas.List.Sums.{position_or_len_is}
 use Rattle.std.proofs.lemmas.List.Splits.{slice_split_first, length-slice_split}
 use Rattle.std.proofs.lemmas.Bool.Decides.{nat_tests}
+use Rattle.std.proofs.lemmas.Bool.{false_from_ne_true}
+use Rattle.memchr.specs.Find.{IsFirstByte}
 
 -- the first part ends at the first separator
 pub slice_split_place : (p : ℕ → Bool) (xs : List ℕ) (i : ℕ) → position p xs ≡ Some i →
@@ -19,14 +21,14 @@ slice_split_place p xs i at =
     let within : position_or_len p xs < length xs = rw place found.0 in
     slice_split_first p xs 0 within ∙ rw place refl
 
-whole_part : (p : ℕ → Bool) (xs : List ℕ) → position_or_len p xs ≡ length xs → slice_split p xs ≡ xs ∷ []
+pub whole_part : (p : ℕ → Bool) (xs : List ℕ) → position_or_len p xs ≡ length xs → slice_split p xs ≡ xs ∷ []
 whole_part p [] is = refl
 whole_part p (x ∷ xs) is =
     (elim (p x) as (λ b. cond (not b) (1 + position_or_len p xs) 0 ≡ suc (length xs) →
     cond b ([] ∷ slice_split p xs) (onto_first x (slice_split p xs)) ≡ (x ∷ xs) ∷ [])
     [ true ↦ λ e. absurd (omega arith) | false ↦ λ e. ap (onto_first x) (whole_part p xs (omega arith)) ]) is
 
-position_or_len-le : (p : ℕ → Bool) (xs : List ℕ) → position_or_len p xs ≤ length xs
+pub position_or_len-le : (p : ℕ → Bool) (xs : List ℕ) → position_or_len p xs ≤ length xs
 position_or_len-le p [] = omega arith
 position_or_len-le p (x ∷ xs) =
     elim (p x) as (λ b. cond (not b) (1 + position_or_len p xs) 0 ≤ suc (length xs)) [
@@ -51,3 +53,18 @@ parts_left-empty separator None false is = cc
 parts_left-empty separator (Some text) true is = cc
 parts_left-empty separator (Some text) false is =
     (λ t. absurd cc, λ e. absurd (slice_split_some (λ b. b == separator) text.now e))
+
+-- the first place that a search finds
+pub position_from_search : (p : ℕ → Bool) (xs : List ℕ) (r : Option ℕ) → IsFirstByte p xs r → r ≡ position p xs
+position_from_search p xs None none =
+    let fails : (k : ℕ) → k < length xs → p (get_or xs k 0) ≡ false =
+    λ k h. false_from_ne_true (p (get_or xs k 0)) (none k (omega arith) h) in
+    let nowhere : position_or_len p xs ≡ length xs =
+    position_or_len_is p xs (length xs) 0 (omega arith) fails (λ h. absurd (omega (arith, h))) in
+    grind (arith, nat_tests, nowhere)
+position_from_search p xs (Some k) (before, at) =
+    let fails : (j : ℕ) → j < k → p (get_or xs j 0) ≡ false =
+    λ j h. false_from_ne_true (p (get_or xs j 0)) (before.before j (omega arith) h) in
+    let here : position_or_len p xs ≡ k =
+    position_or_len_is p xs k 0 (omega (arith, before.high)) fails (λ _. at) in
+    grind (arith, nat_tests, here, before.high)

@@ -1,5 +1,5 @@
 -- Believed. Numbers as words: decimal digits without a needless leading zero, or octal ones likewise behind `0o`.
-use Rattle.std.specs.Prelude.{ℕ, ◌+◌, ◌*◌, List, [], ◌∷◌, Option, Some, None, if◌then◌else◌, nat_lt, ◌==◌, ◌&&◌}
+use Rattle.std.specs.Prelude.{◌≡◌, ℕ, ◌+◌, ◌*◌, List, [], ◌∷◌, Option, Some, None, if◌then◌else◌, nat_lt, ◌==◌, ◌&&◌}
 use Rattle.std.specs.Char.{digit_value}
 
 -- the number that further digits of the base make of what the digits before them wrote
@@ -24,3 +24,8 @@ number_of (c ∷ d ∷ ds) = if c == 48 && d == 111 then numeral 8 ds else numer
 abbrev pub below : ℕ → Option ℕ → Option ℕ
 below limit None = None
 below limit (Some n) = if nat_lt n limit then Some n else None
+
+-- the first of the words writes this number, and these stand behind it
+abbrev pub BeginWith : List (List ℕ) → ℕ → List (List ℕ) → Type 0
+BeginWith [] number rest = ⊥
+BeginWith (word ∷ words) number rest = (number_of word ≡ Some number) × (words ≡ rest)

@@ -1,5 +1,6 @@
-ghost use Rattle.std.specs.Prelude.{◌≡◌, ◌≤◌, ◌<◌, ◌^◌, ◌*◌, ◌+◌};
+ghost use Rattle.std.specs.Prelude.{◌≡◌, ◌≤◌, ◌<◌, ◌^◌, ◌*◌, ◌+◌, ◌==◌, IfSome, Some, take};
 ghost use Rattle.std.specs.Option.{SomeIff};
+ghost use Rattle.std.specs.List.{position_or_len};
 ghost use Rattle.pt_text.specs.Number.{numeral_after, numeral, number_of, below};
 
 /// The number that a word writes, where it is one and fits.
@@ -42,4 +43,29 @@ fn with_digit(number: u64, base: u32, digit: u32) -> Option<u64>
     number
         .checked_mul(u64::from(base))?
         .checked_add(u64::from(digit))
+}
+
+/// So many digits write no number that takes more than 32 bits.
+const FEW_DIGITS: usize = 9;
+
+/// The number that the first word of a text writes in few decimal digits, and how many these are.
+#[inline(always)]
+pub fn first_number(text: &[u8]) -> Option<(u32, usize)>
+    ensures number { IfSome result (λ read. number_of (take read.1 text.now) ≡ Some read.0) }
+    ensures word { IfSome result (λ read. read.1 ≡ position_or_len (λ b. b == 32) text.now) }
+{
+    let most = text.len().min(FEW_DIGITS);
+    let mut number: u32 = 0;
+    let mut count = 0;
+    while count < most && text[count].is_ascii_digit() {
+        number = number * 10 + u32::from(text[count] - b'0');
+        count += 1;
+    }
+    if count == 0 || count > 1 && text[0] == b'0' {
+        return None;
+    }
+    if count < text.len() && text[count] != b' ' {
+        return None;
+    }
+    Some((number, count))
 }

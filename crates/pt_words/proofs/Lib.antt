@@ -1,2 +1,3 @@
 pub mod PairsRead
 pub mod PlacesRead
+pub mod ShortNumbers

@@ -15,7 +15,7 @@ ghost use Rattle.pt_words.specs.Fields.{
 
 use crate::places::Places;
 use pt_host::{Bytes, Errno};
-use pt_text::{Parts, read_byte_word, read_number};
+use pt_text::{Parts, is_word, read_byte_word, read_number};
 use std::alloc::Global;
 
 /// Why a text is no line, or was not read as one.
@@ -42,6 +42,9 @@ pub fn next_number(words: &mut Parts<'_>) -> Result<u64, LineError>
     ensures bad { result ≡ Err LineError.Bad → number_in words.old ≡ None }
     ensures no_memory { result ≡ Err LineError.Memory → ⊥ }
 {
+    if let Some(number) = words.next_short_number() {
+        return Ok(u64::from(number));
+    }
     let word = next_word(words)?;
     read_number(word).ok_or(LineError::Bad)
 }
@@ -52,6 +55,9 @@ pub fn next_small(words: &mut Parts<'_>) -> Result<u32, LineError>
     ensures bad { result ≡ Err LineError.Bad → small_in words.old ≡ None }
     ensures no_memory { result ≡ Err LineError.Memory → ⊥ }
 {
+    if let Some(number) = words.next_short_number() {
+        return Ok(number);
+    }
     let word = next_word(words)?;
     match read_number(word) {
         Some(number) if number <= 0xffff_ffff => Ok(number as u32),
@@ -92,9 +98,9 @@ pub fn next_switch(words: &mut Parts<'_>) -> Result<bool, LineError>
     ensures no_memory { result ≡ Err LineError.Memory → ⊥ }
 {
     let word = next_word(words)?;
-    if word == b"0".as_slice() {
+    if is_word(word, b"0") {
         Ok(false)
-    } else if word == b"1".as_slice() {
+    } else if is_word(word, b"1") {
         Ok(true)
     } else {
         Err(LineError::Bad)
@@ -108,9 +114,9 @@ fn next_sign(words: &mut Parts<'_>) -> Result<bool, LineError>
     ensures no_memory { result ≡ Err LineError.Memory → ⊥ }
 {
     let word = next_word(words)?;
-    if word == b"-".as_slice() {
+    if is_word(word, b"-") {
         Ok(false)
-    } else if word == b"+".as_slice() {
+    } else if is_word(word, b"+") {
         Ok(true)
     } else {
         Err(LineError::Bad)
@@ -202,12 +208,26 @@ fn push_place(places: &mut Places, words: &mut Parts<'_>) -> Result<u32, LineErr
     }
 }
 
+/// A line of the schedule has room for so many places before it grows.
+const USUAL_PLACES: usize = 16;
+
 /// Places, to the last word.
 pub fn next_places(alloc: Global, words: &mut Parts<'_>) -> Result<Places, LineError>
     ensures ok { IfOk result (λ places. places_in words.old ≡ Some places) }
     ensures bad { result ≡ Err LineError.Bad → places_in words.old ≡ None }
 {
-    let mut places = Places::new(alloc);
+    let Ok(mut places) = Places::with_room(alloc, USUAL_PLACES) else {
+        return Err(LineError::Memory);
+    };
+    // most are short, and are taken from a copy that no call is handed, which the loop keeps in registers
+    let mut rest = words.left();
+    'short: while let Some(place) = rest.next_short_number() {
+        match places.push(place) {
+            Ok(()) => {}
+            Err(_) => return Err(LineError::Memory),
+        }
+    }
+    *words = rest;
     'places: while !words.is_empty() {
         match push_place(&mut places, words) {
             Ok(_) => {}

@@ -1,4 +1,4 @@
-ghost use Rattle.std.specs.Prelude.{◌≡◌, ◌↔◌, ◌∷◌, ◌++◌, [], length, IsTrue, OnOk, OnErr};
+ghost use Rattle.std.specs.Prelude.{◌≡◌, ◌↔◌, ◌∷◌, ◌++◌, [], length, IsTrue, IfOk, OnOk, OnErr};
 
 use std::alloc::{AllocError, Global};
 use std::marker::Model;
@@ -25,6 +25,14 @@ impl Places {
         Places {
             items: Vec::new(alloc),
         }
+    }
+
+    /// No places, with room for so many.
+    pub fn with_room(alloc: Global, room: usize) -> Result<Self, AllocError>
+        ensures { IfOk result (λ places. places ≡ []) }
+    {
+        let items = Vec::with_capacity(alloc, room)?;
+        Ok(Places { items })
     }
 
     pub fn push(&mut self, place: u32) -> Result<(), AllocError>

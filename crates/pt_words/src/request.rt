@@ -22,7 +22,7 @@ use crate::making::{next_create, next_mkdir, next_mknod, next_symlink};
 use crate::naming::{next_link, next_rename, next_rmdir, next_unlink};
 use crate::numbers::{next_batch_forget, next_forget, next_init, next_lookup};
 use pt_iface::Request;
-use pt_text::Parts;
+use pt_text::{Parts, is_word};
 use std::alloc::Global;
 
 fn next_destroy(words: &mut Parts<'_>) -> Result<Request, LineError>
@@ -53,22 +53,26 @@ fn next_other(words: &mut Parts<'_>) -> Result<Request, LineError>
     Ok(Request::Other { opcode })
 }
 
+// None of the six functions below is inlined into the next: a request is made where the reader of a line wants it,
+// and is not moved from one to another.
+
 // A request for what an object tells, or for a change of that.
 #[tactic(auto, unfolding(crate::specs::Request::attribute_request_in))]
+#[inline(never)]
 fn next_attribute_request(word: &[u8], words: &mut Parts<'_>) -> Result<Request, LineError>
     ensures ok { IfOk result (λ request. attribute_request_in word.now words.old ≡ Some request) }
     ensures bad { result ≡ Err LineError.Bad → attribute_request_in word.now words.old ≡ None }
     ensures no_memory { result ≡ Err LineError.Memory → ⊥ }
 {
-    if word == b"readlink".as_slice() {
+    if is_word(word, b"readlink") {
         next_readlink(words)
-    } else if word == b"statfs".as_slice() {
+    } else if is_word(word, b"statfs") {
         next_statfs(words)
-    } else if word == b"getattr".as_slice() {
+    } else if is_word(word, b"getattr") {
         next_getattr(words)
-    } else if word == b"setattr".as_slice() {
+    } else if is_word(word, b"setattr") {
         next_setattr(words)
-    } else if word == b"access".as_slice() {
+    } else if is_word(word, b"access") {
         next_access(words)
     } else {
         Err(LineError::Bad)
@@ -77,6 +81,7 @@ fn next_attribute_request(word: &[u8], words: &mut Parts<'_>) -> Result<Request,
 
 // A request that gives a name or takes one away, or one of the above.
 #[tactic(auto, unfolding(crate::specs::Request::naming_request_in))]
+#[inline(never)]
 fn next_naming_request(
     alloc: Global,
     word: &[u8],
@@ -85,13 +90,13 @@ fn next_naming_request(
     ensures ok { IfOk result (λ request. naming_request_in word.now words.old ≡ Some request) }
     ensures bad { result ≡ Err LineError.Bad → naming_request_in word.now words.old ≡ None }
 {
-    if word == b"link".as_slice() {
+    if is_word(word, b"link") {
         next_link(alloc, words)
-    } else if word == b"unlink".as_slice() {
+    } else if is_word(word, b"unlink") {
         next_unlink(alloc, words)
-    } else if word == b"rmdir".as_slice() {
+    } else if is_word(word, b"rmdir") {
         next_rmdir(alloc, words)
-    } else if word == b"rename".as_slice() {
+    } else if is_word(word, b"rename") {
         next_rename(alloc, words)
     } else {
         next_attribute_request(word, words)
@@ -100,6 +105,7 @@ fn next_naming_request(
 
 // A request that makes an object, or one of the above.
 #[tactic(auto, unfolding(crate::specs::Request::making_request_in))]
+#[inline(never)]
 fn next_making_request(
     alloc: Global,
     word: &[u8],
@@ -108,13 +114,13 @@ fn next_making_request(
     ensures ok { IfOk result (λ request. making_request_in word.now words.old ≡ Some request) }
     ensures bad { result ≡ Err LineError.Bad → making_request_in word.now words.old ≡ None }
 {
-    if word == b"create".as_slice() {
+    if is_word(word, b"create") {
         next_create(alloc, words)
-    } else if word == b"mkdir".as_slice() {
+    } else if is_word(word, b"mkdir") {
         next_mkdir(alloc, words)
-    } else if word == b"mknod".as_slice() {
+    } else if is_word(word, b"mknod") {
         next_mknod(alloc, words)
-    } else if word == b"symlink".as_slice() {
+    } else if is_word(word, b"symlink") {
         next_symlink(alloc, words)
     } else {
         next_naming_request(alloc, word, words)
@@ -123,6 +129,7 @@ fn next_making_request(
 
 // A request for what files hold, or one of the above.
 #[tactic(auto, unfolding(crate::specs::Request::contents_request_in))]
+#[inline(never)]
 fn next_contents_request(
     alloc: Global,
     word: &[u8],
@@ -131,21 +138,21 @@ fn next_contents_request(
     ensures ok { IfOk result (λ request. contents_request_in word.now words.old ≡ Some request) }
     ensures bad { result ≡ Err LineError.Bad → contents_request_in word.now words.old ≡ None }
 {
-    if word == b"write".as_slice() {
+    if is_word(word, b"write") {
         next_write(alloc, words)
-    } else if word == b"fallocate".as_slice() {
+    } else if is_word(word, b"fallocate") {
         next_fallocate(words)
-    } else if word == b"lseek".as_slice() {
+    } else if is_word(word, b"lseek") {
         next_lseek(words)
-    } else if word == b"copyfilerange".as_slice() {
+    } else if is_word(word, b"copyfilerange") {
         next_copyfilerange(words)
-    } else if word == b"flush".as_slice() {
+    } else if is_word(word, b"flush") {
         next_flush(words)
-    } else if word == b"fsync".as_slice() {
+    } else if is_word(word, b"fsync") {
         next_fsync(words)
-    } else if word == b"fsyncdir".as_slice() {
+    } else if is_word(word, b"fsyncdir") {
         next_fsyncdir(words)
-    } else if word == b"syncfs".as_slice() {
+    } else if is_word(word, b"syncfs") {
         next_syncfs(words)
     } else {
         next_making_request(alloc, word, words)
@@ -154,6 +161,7 @@ fn next_contents_request(
 
 // A request that begins or ends a handle, or reads by one, or one of the above.
 #[tactic(auto, unfolding(crate::specs::Request::handle_request_in))]
+#[inline(never)]
 fn next_handle_request(
     alloc: Global,
     word: &[u8],
@@ -162,15 +170,15 @@ fn next_handle_request(
     ensures ok { IfOk result (λ request. handle_request_in word.now words.old ≡ Some request) }
     ensures bad { result ≡ Err LineError.Bad → handle_request_in word.now words.old ≡ None }
 {
-    if word == b"open".as_slice() {
+    if is_word(word, b"open") {
         next_open(words)
-    } else if word == b"opendir".as_slice() {
+    } else if is_word(word, b"opendir") {
         next_opendir(words)
-    } else if word == b"read".as_slice() {
+    } else if is_word(word, b"read") {
         next_read(words)
-    } else if word == b"release".as_slice() {
+    } else if is_word(word, b"release") {
         next_release(words)
-    } else if word == b"releasedir".as_slice() {
+    } else if is_word(word, b"releasedir") {
         next_releasedir(words)
     } else {
         next_contents_request(alloc, word, words)
@@ -179,6 +187,7 @@ fn next_handle_request(
 
 // A request of a number's life, or one of the above.
 #[tactic(auto, unfolding(crate::specs::Request::number_request_in))]
+#[inline(never)]
 fn next_number_request(
     alloc: Global,
     word: &[u8],
@@ -187,11 +196,11 @@ fn next_number_request(
     ensures ok { IfOk result (λ request. number_request_in word.now words.old ≡ Some request) }
     ensures bad { result ≡ Err LineError.Bad → number_request_in word.now words.old ≡ None }
 {
-    if word == b"lookup".as_slice() {
+    if is_word(word, b"lookup") {
         next_lookup(alloc, words)
-    } else if word == b"forget".as_slice() {
+    } else if is_word(word, b"forget") {
         next_forget(words)
-    } else if word == b"batch_forget".as_slice() {
+    } else if is_word(word, b"batch_forget") {
         next_batch_forget(alloc, words)
     } else {
         next_handle_request(alloc, word, words)
@@ -204,13 +213,13 @@ pub fn next_request(alloc: Global, words: &mut Parts<'_>) -> Result<Request, Lin
     ensures bad { result ≡ Err LineError.Bad → request_in words.old ≡ None }
 {
     let word = next_word(words)?;
-    if word == b"init".as_slice() {
+    if is_word(word, b"init") {
         next_init(words)
-    } else if word == b"destroy".as_slice() {
+    } else if is_word(word, b"destroy") {
         next_destroy(words)
-    } else if word == b"root".as_slice() {
+    } else if is_word(word, b"root") {
         next_root(words)
-    } else if word == b"other".as_slice() {
+    } else if is_word(word, b"other") {
         next_other(words)
     } else {
         next_number_request(alloc, word, words)
