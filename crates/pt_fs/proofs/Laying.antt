@@ -1,31 +1,25 @@
 -- How the jobs lie, and what a change of one of them leaves of the others.
-use Rattle.std.proofs.Common.{◌≡◌, ◌≢◌, ◌<◌, ◌+◌, ◌∙◌, ◌⊎◌, inl, inr, ℕ, zero, suc, List, [], ◌∷◌, ◌++◌, Option, Some}
+use Rattle.std.proofs.Common.{◌≡◌, ◌≢◌, ◌<◌, ◌+◌, ◌∙◌, inl, inr, ℕ, zero, suc, List, [], ◌∷◌, ◌++◌, Option, Some}
 use Rattle.std.proofs.Common.{None}
 use Rattle.std.proofs.Common.{true, false, refl, ap, sym, subst, map, length, get_or, option_map, slice_get}
 use Rattle.std.proofs.Common.{slice_set, arith}
 use Rattle.std.proofs.lemmas.Bool.{cases_eq}
-use Rattle.std.proofs.lemmas.List.{length-map, length-set}
+use Rattle.std.proofs.lemmas.List.{length-set}
 use Rattle.std.proofs.lemmas.Option.{same_Some, slice_get_within, slice_get-map}
 use Rattle.std.proofs.lemmas.Option.{get_or_from_slice_get}
-use Rattle.pt_host.specs.declared.ids.Errno.{Errno}
 use Rattle.pt_host.specs.declared.seat.HostSeat.{HostSeat}
-use Rattle.pt_iface.specs.declared.request.Request.TheVariants as request
-use Rattle.pt_frame.specs.Grammar.{End, IsSettled, is_end, restores}
+use Rattle.pt_frame.specs.Grammar.{End, is_end}
 use Rattle.pt_attr.specs.Machine.Job.{owes as job_owes, is_finished as is_job_over, lost_of as job_lost}
-use Rattle.pt_attr.specs.Pattern.{Asked, Requests, Edits, grammar_for}
 use Rattle.pt_req.specs.declared.plan.Plan.{Plan}
 use Rattle.pt_fs.specs.Each.{EachAnswered, EndsAs}
-use Rattle.pt_fs.specs.Laid.{Laid, AllGo, GoElsewhere, Stays, Wakes, Settles, waiting, on_its_way, found_run, run_at}
+use Rattle.pt_fs.specs.Laid.{Kept, Laid, AllGo, GoElsewhere, Stays, Wakes, Settles, waiting, on_its_way, found_run, run_at}
 use Rattle.pt_fs.specs.Laid.{runs_in, waits, still}
 use Rattle.pt_fs.specs.Running.{Running, is_finished, owes}
 use Rattle.pt_fs.specs.Went.{run_seat}
 use Rattle.pt_fs.specs.declared.job.Job.{Job}
 use Rattle.pt_fs.specs.declared.machine.Machine.{Machine}
-use Rattle.pt_fs.specs.Jobs.{asked_of}
-use Rattle.pt_fs.specs.Placed.{Place, Waits, Goes, Ended as Ends, AllEnded, answer_at, seat_at, stage_of}
+use Rattle.pt_fs.specs.Placed.{Place, Waits, Goes, Ended as Ends, AllEnded, answer_at, seat_at}
 use Rattle.pt_fs.specs.declared.machine.Over.{Over}
-use Rattle.pt_fs.specs.declared.places.Stage.{Stage}
-use Rattle.pt_fs.specs.declared.places.Stage.TheVariants as stage
 use Rattle.pt_fs.proofs.Lists.{get-set_same, get-set_other, get-past, get-before, get-within, set-set, set-same}
 use Rattle.pt_fs.proofs.Lists.{map_but}
 
@@ -442,30 +436,41 @@ pub seen_there : {places places1 : List Place} {going going1 : List Machine} {j 
 seen_there {going1 = going1} {index = index} seen wakes read =
     read ∙ get_or_from_slice_get going1 index wakes.it seen wakes.there
 
-pub went_through : {places places1 places2 : List Place} {going going1 going2 : List Machine} {j index : ℕ}
-    (seen went : Machine) (wakes : Wakes places going j places1 going1 index) → Laid places1 going1 →
-    slice_get places1 j ≡ Some (Goes index) → seen ≡ get_or going1 index seen → went.place ≡ seen.place →
-    Settles places1 (slice_set going1 index went) j index places2 going2 →
-    Through (runs_in places going) j seen went (runs_in places2 going2)
-went_through {places} {places1} {going = going} {going1 = going1} {j = j} {index = index} seen went wakes laid own read
-    same settles =
-    let it : seen ≡ wakes.it = seen_there seen wakes read in
-    let is : settles.it ≡ went = same_Some settles.it went
-    (sym settles.was ∙ get-set_same going1 index wakes.it went wakes.there) in
-    let runs = on_runs laid j index own wakes.it went wakes.there (same ∙ ap (λ (g : Machine). g.place) it) in
-    record {
-      run = wakes.run;
-      run' = settles.run;
-      was = wakes.was;
-      before = subst (λ (g : Machine). Stays wakes.run (on_its_way g)) (sym it) wakes.stays;
-      after = subst (λ (g : Machine). Stays (on_its_way g) settles.run) is settles.stays;
-      runs = settles.runs
-          ∙ ap (λ (l : List Running). slice_set l j settles.run) (runs
-          ∙ ap (λ (l : List Running). slice_set l j (on_its_way went)) wakes.runs)
-          ∙ ap (λ (l : List Running). slice_set l j settles.run)
-          (set-set (runs_in places going) j (on_its_way wakes.it) (on_its_way went))
-          ∙ set-set (runs_in places going) j (on_its_way went) settles.run;
-    }
+module _ {places places1 : List Place} {going going1 : List Machine} {j index room : ℕ} (seen went : Machine)
+    (wakes : Wakes places going j places1 going1 index) (kept : Kept places1 going1 room)
+    (own : slice_get places1 j ≡ Some (Goes index)) (read : seen ≡ get_or going1 index seen)
+    (same : went.place ≡ seen.place) where
+  its_own : went.place ≡ wakes.it.place
+  its_own = same ∙ ap (λ (g : Machine). g.place) (seen_there seen wakes read)
+
+  -- it lies where it lay, and the others go on
+  pub went_laid : Laid places1 (slice_set going1 index went)
+  went_laid = on_laid kept.laid j index own wakes.it went wakes.there its_own
+
+  pub went_goes : GoElsewhere index (slice_set going1 index went)
+  went_goes = on_goes kept.laid j index own wakes.it went wakes.there its_own kept.all_go
+
+  pub went_through : {places2 : List Place} {going2 : List Machine} →
+      Settles places1 (slice_set going1 index went) j index places2 going2 →
+      Through (runs_in places going) j seen went (runs_in places2 going2)
+  went_through settles =
+      let it : seen ≡ wakes.it = seen_there seen wakes read in
+      let is : settles.it ≡ went = same_Some settles.it went
+      (sym settles.was ∙ get-set_same going1 index wakes.it went wakes.there) in
+      let runs = on_runs kept.laid j index own wakes.it went wakes.there its_own in
+      record {
+        run = wakes.run;
+        run' = settles.run;
+        was = wakes.was;
+        before = subst (λ (g : Machine). Stays wakes.run (on_its_way g)) (sym it) wakes.stays;
+        after = subst (λ (g : Machine). Stays (on_its_way g) settles.run) is settles.stays;
+        runs = settles.runs
+            ∙ ap (λ (l : List Running). slice_set l j settles.run) (runs
+            ∙ ap (λ (l : List Running). slice_set l j (on_its_way went)) wakes.runs)
+            ∙ ap (λ (l : List Running). slice_set l j settles.run)
+            (set-set (runs_in places going) j (on_its_way wakes.it) (on_its_way went))
+            ∙ set-set (runs_in places going) j (on_its_way went) settles.run;
+      }
 
 -- a machine that was seen goes on where its job has not finished
 pub waked_goes : (run : Running) (it seen : Machine) (plan : Plan) → seen ≡ it → Stays run (on_its_way it) →
@@ -492,62 +497,6 @@ ended_place going goes (Goes index) ends = absurd (no (slice_get going index) re
     no : (found : Option Machine) → slice_get going index ≡ found → is_finished (found_run found).state ≡ true → ⊥
     no None at end = cc
     no (Some it) at end = let on = goes index it at in cc
-
--- Who is asked where a job is.
-
-pub runs_long : (places : List Place) (going : List Machine) → length (runs_in places going) ≡ length places
-runs_long places going = length-map places (run_at going)
-
--- the job of a place is what the place says
-pub run_there : (places : List Place) (going : List Machine) (j : ℕ) (p : Place) (run : Running) →
-    slice_get places j ≡ Some p → slice_get (runs_in places going) j ≡ Some run → run_at going p ≡ run
-run_there places going j p run at there =
-    same_Some (run_at going p) run (sym (runs_at places going j p at) ∙ there)
-
--- and that of a machine that was read
-pub goes_there : {places : List Place} {going : List Machine} → Laid places going → (j index : ℕ) (seen : Machine)
-    (run : Running) → slice_get places j ≡ Some (Goes index) → seen ≡ get_or going index seen →
-    slice_get (runs_in places going) j ≡ Some run → on_its_way seen ≡ run
-goes_there {places} {going} laid j index seen run at read there =
-    let it = laid.there j index at in
-    ap on_its_way (read ∙ get_or_from_slice_get going index it.0 seen it.1)
-    ∙ ap found_run (sym it.1) ∙ run_there places going j (Goes index) run at there
-
--- a job that waits has not finished
-pub waits_on : (plan : Plan) (seat : HostSeat) (asked : Asked) → is_end (grammar_for plan seat asked) ≡ false
-waits_on plan seat (Requests who (request.Init capable)) = refl
-waits_on plan seat (Requests who request.Destroy) = refl
-waits_on plan seat (Requests who request.Root) = refl
-waits_on plan seat (Requests who asked) = refl
-waits_on plan seat (Edits edit) = refl
-
--- and restores nothing
-pub waits_bare : (plan : Plan) (seat : HostSeat) (asked : Asked) → false ≡ restores (grammar_for plan seat asked)
-waits_bare plan seat (Requests who (request.Init capable)) = refl
-waits_bare plan seat (Requests who request.Destroy) = refl
-waits_bare plan seat (Requests who request.Root) = refl
-waits_bare plan seat (Requests who asked) = refl
-waits_bare plan seat (Edits edit) = refl
-
-pub waits_settled : (plan : Plan) (seat : HostSeat) (asked : Asked) → IsSettled (grammar_for plan seat asked)
-waits_settled plan seat (Requests who (request.Init capable)) = tt
-waits_settled plan seat (Requests who request.Destroy) = tt
-waits_settled plan seat (Requests who request.Root) = tt
-waits_settled plan seat (Requests who asked) = tt
-waits_settled plan seat (Edits edit) = tt
-
--- a job that waits or has ended restores nothing
-pub rests : (going : List Machine) (p : Place) (at : Stage) → at ≡ stage_of p →
-    ((at ≡ stage.Waits) ⊎ ((by : Option Errno) × (lost : Option Errno) × (at ≡ stage.Ended by lost))) → (plan : Plan)
-    (seat : HostSeat) → (false ≡ restores (owes plan seat (run_at going p).state))
-    × IsSettled (owes plan seat (run_at going p).state)
-rests going (Waits job) at is not plan seat = (
-  waits_bare plan seat (asked_of job),
-  waits_settled plan seat (asked_of job),
-)
-rests going (Ends over) at is not plan seat = (refl, tt)
-rests going (Goes index) at is (inl waits) plan seat = let no = sym is ∙ waits in absurd (cc)
-rests going (Goes index) at is (inr ended) plan seat = let no = sym is ∙ ended.2 in absurd (cc)
 
 -- Where all have ended.
 

@@ -1,6 +1,7 @@
 pub mod Lists
 pub mod Placing
 pub mod Laying
+pub mod Stages
 pub mod Traces
 pub mod Orders
 pub mod Pending

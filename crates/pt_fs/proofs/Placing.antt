@@ -252,21 +252,3 @@ seats_all (a ∷ jobs) (b ∷ stages) (c ∷ answers) (d ∷ seats) one two thre
     left stage.Waits is = let no = is.1 in absurd (cc)
     left (stage.Goes index) is = let no = is.1 in absurd (cc)
     left (stage.Ended by lost) is = refl
-
--- What a stage says of its place.
-
-pub stage_waits : (it : Place) → stage_of it ≡ stage.Waits → (job : Job) × (it ≡ Waits job)
-stage_waits (Waits job) is = (job, refl)
-stage_waits (Goes index) is = absurd (cc)
-stage_waits (Ended over) is = absurd (cc)
-
-pub stage_goes : (it : Place) (index : ℕ) → stage_of it ≡ stage.Goes index → it ≡ Goes index
-stage_goes (Waits job) index is = absurd (cc)
-stage_goes (Goes other) index is = let same : other ≡ index = cc in ap (λ (n : ℕ). Goes n) same
-stage_goes (Ended over) index is = absurd (cc)
-
-pub stage_ended : (it : Place) (by lost : Option Errno) → stage_of it ≡ stage.Ended by lost →
-    (over : Over) × (it ≡ Ended over)
-stage_ended (Waits job) by lost is = absurd (cc)
-stage_ended (Goes index) by lost is = absurd (cc)
-stage_ended (Ended over) by lost is = (over, refl)

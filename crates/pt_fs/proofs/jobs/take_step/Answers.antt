@@ -5,8 +5,7 @@ use Rattle.pt_fs.specs.Laid.{runs_in}
 use Rattle.pt_fs.specs.Running.{Running}
 use Rattle.pt_fs.specs.Trace.{told_by}
 use Rattle.pt_fs.specs.Work.{work}
-use Rattle.pt_fs.specs.declared.machine.Machine.{Machine}
-use Rattle.pt_fs.proofs.Laying.{Through, on_laid, on_goes, seen_there, waked_goes, went_through}
+use Rattle.pt_fs.proofs.Laying.{Through, seen_there, waked_goes, went_goes, went_laid, went_through}
 use Rattle.pt_fs.proofs.Recording.{told_so, full_so, paced_so, work_left, paces}
 use Rattle.pt_fs.proofs.Through.{start_through, made_through, advances_through, loses_through, told_through}
 use Rattle.pt_fs.proofs.Through.{fewer_through, within_through, spent_through}
@@ -25,15 +24,13 @@ advance-lost-requires g c =
 
 pub settle-requires : goal.settle-requires
 settle-requires g c =
-    let wakes = c.wake-index.ensures.wakes in
-    let it = seen_there c.index_mut-machine.result.now wakes c.index_mut-machine.ensures.value in
-    let laid = c.wake-index.ensures.kept.laid in
+    let seen = c.index_mut-machine.result.now in
+    let read = c.index_mut-machine.ensures.value in
     let own = c.wake-index.ensures.index in
-    let same = c.advance-lost.ensures.stepped.2.place ∙ ap (λ (g : Machine). g.place) it in
+    let same = c.advance-lost.ensures.stepped.2.place in
     record {
-      laid = on_laid laid c.args.place c.wake-index.result own wakes.it _ wakes.there same;
-      others_go = on_goes laid c.args.place c.wake-index.result own wakes.it _ wakes.there same
-          c.wake-index.ensures.kept.all_go;
+      laid = went_laid seen _ c.wake-index.ensures.wakes c.wake-index.ensures.kept own read same;
+      others_go = went_goes seen _ c.wake-index.ensures.wakes c.wake-index.ensures.kept own read same;
       room = rw length-set c.wake-index.ensures.kept.fit;
       index = own;
     }
@@ -44,7 +41,7 @@ went : (g : Over) (c : After-settle g) → Through c.args.running.now c.args.pla
 went g c = subst (λ (l : List Running). Through l c.args.place c.index_mut-machine.result.now
     c.advance-lost.new.machine (runs_in c.settle.new.places c.settle.new.going.items)) c.running.view_is
     (went_through c.index_mut-machine.result.now c.advance-lost.new.machine c.wake-index.ensures.wakes
-    c.wake-index.ensures.kept.laid c.wake-index.ensures.index c.index_mut-machine.ensures.value
+    c.wake-index.ensures.kept c.wake-index.ensures.index c.index_mut-machine.ensures.value
     c.advance-lost.ensures.stepped.2.place c.settle.ensures.settles)
 
 -- and that less work is left
