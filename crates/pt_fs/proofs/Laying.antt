@@ -12,8 +12,8 @@ use Rattle.pt_frame.specs.Grammar.{End, is_end}
 use Rattle.pt_attr.specs.Machine.Job.{owes as job_owes, is_finished as is_job_over, lost_of as job_lost}
 use Rattle.pt_req.specs.declared.plan.Plan.{Plan}
 use Rattle.pt_fs.specs.Each.{EachAnswered, EndsAs}
-use Rattle.pt_fs.specs.Laid.{Kept, Laid, AllGo, GoElsewhere, Stays, Wakes, Settles, waiting, on_its_way, found_run, run_at}
-use Rattle.pt_fs.specs.Laid.{runs_in, waits, still}
+use Rattle.pt_fs.specs.Laid.{Kept, Laid, AllGo, GoElsewhere, Stays, Wakes, Settles, waiting, on_its_way, found_run}
+use Rattle.pt_fs.specs.Laid.{run_at, runs_in, waits, still}
 use Rattle.pt_fs.specs.Running.{Running, is_finished, owes}
 use Rattle.pt_fs.specs.Went.{run_seat}
 use Rattle.pt_fs.specs.declared.job.Job.{Job}

@@ -33,7 +33,8 @@ goes_as (Waits job) index is = absurd (cc)
 goes_as (Goes other) index is = let same : other ≡ index = cc in ap (λ (n : ℕ). Goes n) same
 goes_as (Ends over) index is = absurd (cc)
 
-ended_as : (it : Place) (by lost : Option Errno) → stage.Ended by lost ≡ stage_of it → (over : Over) × (it ≡ Ends over)
+ended_as : (it : Place) (by lost : Option Errno) → stage.Ended by lost ≡ stage_of it →
+    (over : Over) × (it ≡ Ends over)
 ended_as (Waits job) by lost is = absurd (cc)
 ended_as (Goes index) by lost is = absurd (cc)
 ended_as (Ends over) by lost is = (over, refl)
@@ -100,7 +101,10 @@ module _ {places : List Place} {going : List Machine} {room : ℕ} (kept : Kept 
     (view : runs_in places going ≡ jobs) (j : ℕ) (named : j < length jobs) {at : Stage}
     (told : (it : Place) → slice_get places j ≡ Some it → at ≡ stage_of it) where
   inside : j < length places
-  inside = let long = length-map places (run_at going) in let seen = ap length view in omega (arith, long, seen, named)
+  inside =
+      let long = length-map places (run_at going) in
+      let seen = ap length view in
+      omega (arith, long, seen, named)
 
   -- it is what the place says
   is_there : (p : Place) (run : Running) → slice_get places j ≡ Some p → slice_get jobs j ≡ Some run →
@@ -108,7 +112,8 @@ module _ {places : List Place} {going : List Machine} {room : ℕ} (kept : Kept 
   is_there p run at_j there = same_Some (run_at going p) run
       (sym (runs_at places going j p at_j) ∙ ap (λ (l : List Running). slice_get l j) view ∙ there)
 
-  pub waiting_there : at ≡ stage.Waits → (run : Running) → slice_get jobs j ≡ Some run → (job : Job) × (waiting job ≡ run)
+  pub waiting_there : at ≡ stage.Waits → (run : Running) → slice_get jobs j ≡ Some run →
+      (job : Job) × (waiting job ≡ run)
   waiting_there is run there =
       let p = waits_at places j inside told is in
       (p.0, is_there (Waits p.0) run p.1 there)
@@ -134,7 +139,8 @@ module _ {places : List Place} {going : List Machine} {room : ℕ} (kept : Kept 
       (p.0, is_there (Ends p.0) run p.1 there)
 
   -- where it is not on its way, it restores nothing
-  pub rests_there : ((at ≡ stage.Waits) ⊎ ((by : Option Errno) × (lost : Option Errno) × (at ≡ stage.Ended by lost))) →
+  pub rests_there :
+      ((at ≡ stage.Waits) ⊎ ((by : Option Errno) × (lost : Option Errno) × (at ≡ stage.Ended by lost))) →
       (run : Running) → slice_get jobs j ≡ Some run → (plan : Plan) (seat : HostSeat) →
       (false ≡ restores (owes plan seat run.state)) × IsSettled (owes plan seat run.state)
   rests_there not run there plan seat =

@@ -8,8 +8,8 @@ use Rattle.pt_fs.proofs.Laying.{went_laid, went_goes, went_through}
 use Rattle.pt_fs.proofs.jobs.Jobs.cut.Goals as goal
 
 pub settle-requires-clause-laid : goal.settle-requires-clause-laid
-settle-requires-clause-laid c = went_laid c.index_mut.result.now _ c.wake-index.ensures.wakes c.wake-index.ensures.kept
-    c.wake-index.ensures.index c.index_mut.ensures.value refl
+settle-requires-clause-laid c = went_laid c.index_mut.result.now _ c.wake-index.ensures.wakes
+    c.wake-index.ensures.kept c.wake-index.ensures.index c.index_mut.ensures.value refl
 
 pub settle-requires-clause-others_go : goal.settle-requires-clause-others_go
 settle-requires-clause-others_go c = went_goes c.index_mut.result.now _ c.wake-index.ensures.wakes

@@ -30,7 +30,8 @@ returns-in-Goes-clause-settled c = λ run there plan seat.
 
 pub returns-in-Waits : goal.returns-in-Waits
 returns-in-Waits c =
-    let still = rests_there c.self.invariant c.self.view_is c.args.place c.requires.named c.stage.ensures c.in-Waits.is in
+    let still = rests_there c.self.invariant c.self.view_is c.args.place c.requires.named c.stage.ensures
+    c.in-Waits.is in
     record {
       restores = λ run there plan seat. (still run there plan seat).0;
       unfinished = λ run there no. absurd (cc);
