@@ -2,6 +2,7 @@ pub mod Lists
 pub mod Placing
 pub mod Laying
 pub mod Stages
+pub mod Away
 pub mod Traces
 pub mod Orders
 pub mod Pending
