@@ -20,8 +20,8 @@ settled : (c : After-end) (places : List Place) → runs_in places c.swap_remove
     (run_at c.swap_remove-it.new.self.items (Ended c.ended.result)) →
     Settles c.args.places.now c.args.going.now.items c.args.place c.args.index places c.swap_remove-it.new.self.items
 settled c places runs = settles_over c.requires.laid c.args.place c.args.index c.requires.index
-    c.swap_remove-it.result c.swap_remove-it.ensures.value c.requires.ended c.ended.result c.ended.ensures.start c.ended.ensures.seat
-    c.ended.ensures.left c.ended.ensures.lost places c.swap_remove-it.new.self.items runs
+    c.swap_remove-it.result c.swap_remove-it.ensures.value c.requires.ended c.ended.result c.ended.ensures.start
+    c.ended.ensures.seat c.ended.ensures.left c.ended.ensures.lost places c.swap_remove-it.new.self.items runs
 
 -- and the last one lies where it was, where it was not the last
 low : (c : After-index) → c.args.index < length c.swap_remove-it.new.self.items
