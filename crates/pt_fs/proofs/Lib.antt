@@ -12,6 +12,7 @@ pub mod Stepping
 pub mod Going
 pub mod Losing
 pub mod Recording
+pub mod Remaining
 pub mod Ended
 pub mod Advancing
 pub mod SeatsAt

@@ -64,7 +64,7 @@ returns-clause-took g c =
     told_so c.advance-lost.result c.advance-lost.ensures.stepped.1 c.advance-lost.ensures.told
     (λ lost wrote told. record {
       steps = step ∷ [];
-      written = (c.advance-lost.new.writer, wrote, refl);
+      written = (c.advance-lost.new.writer, wrote, refl {a = c.advance-lost.new.writer});
       so = record {
         run = th.run;
         run' = th.run';
