@@ -1,31 +1,25 @@
 -- How the jobs lie, and what a change of one of them leaves of the others.
-use Rattle.std.proofs.Common.{◌≡◌, ◌≢◌, ◌<◌, ◌+◌, ◌∙◌, ◌⊎◌, inl, inr, ℕ, zero, suc, List, [], ◌∷◌, ◌++◌, Option, Some}
+use Rattle.std.proofs.Common.{◌≡◌, ◌≢◌, ◌<◌, ◌+◌, ◌∙◌, inl, inr, ℕ, zero, suc, List, [], ◌∷◌, ◌++◌, Option, Some}
 use Rattle.std.proofs.Common.{None}
 use Rattle.std.proofs.Common.{true, false, refl, ap, sym, subst, map, length, get_or, option_map, slice_get}
 use Rattle.std.proofs.Common.{slice_set, arith}
 use Rattle.std.proofs.lemmas.Bool.{cases_eq}
-use Rattle.std.proofs.lemmas.List.{length-map, length-set}
-use Rattle.std.proofs.lemmas.Option.{same_Some, slice_get_within, slice_get-map}
+use Rattle.std.proofs.lemmas.List.{length-set}
+use Rattle.std.proofs.lemmas.Option.{same_Some, slice_get-map}
 use Rattle.std.proofs.lemmas.Option.{get_or_from_slice_get}
-use Rattle.pt_host.specs.declared.ids.Errno.{Errno}
 use Rattle.pt_host.specs.declared.seat.HostSeat.{HostSeat}
-use Rattle.pt_iface.specs.declared.request.Request.TheVariants as request
-use Rattle.pt_frame.specs.Grammar.{End, IsSettled, is_end, restores}
-use Rattle.pt_attr.specs.Machine.Job.{owes as job_owes, is_finished as is_job_over, lost_of as job_lost}
-use Rattle.pt_attr.specs.Pattern.{Asked, Requests, Edits, grammar_for}
+use Rattle.pt_frame.specs.Grammar.{is_end}
+use Rattle.pt_attr.specs.Machine.Job.{owes as job_owes, is_finished as is_job_over}
 use Rattle.pt_req.specs.declared.plan.Plan.{Plan}
 use Rattle.pt_fs.specs.Each.{EachAnswered, EndsAs}
-use Rattle.pt_fs.specs.Laid.{Laid, AllGo, GoElsewhere, Stays, Wakes, Settles, waiting, on_its_way, found_run, run_at}
-use Rattle.pt_fs.specs.Laid.{runs_in, waits, still}
+use Rattle.pt_fs.specs.Laid.{Kept, Laid, AllGo, GoElsewhere, Stays, Wakes, Settles, waiting, on_its_way, found_run}
+use Rattle.pt_fs.specs.Laid.{run_at, runs_in, waits, still}
 use Rattle.pt_fs.specs.Running.{Running, is_finished, owes}
 use Rattle.pt_fs.specs.Went.{run_seat}
 use Rattle.pt_fs.specs.declared.job.Job.{Job}
 use Rattle.pt_fs.specs.declared.machine.Machine.{Machine}
-use Rattle.pt_fs.specs.Jobs.{asked_of}
-use Rattle.pt_fs.specs.Placed.{Place, Waits, Goes, Ended as Ends, AllEnded, answer_at, seat_at, stage_of}
+use Rattle.pt_fs.specs.Placed.{Place, Waits, Goes, Ended as Ends, AllEnded, answer_at, seat_at}
 use Rattle.pt_fs.specs.declared.machine.Over.{Over}
-use Rattle.pt_fs.specs.declared.places.Stage.{Stage}
-use Rattle.pt_fs.specs.declared.places.Stage.TheVariants as stage
 use Rattle.pt_fs.proofs.Lists.{get-set_same, get-set_other, get-past, get-before, get-within, set-set, set-same}
 use Rattle.pt_fs.proofs.Lists.{map_but}
 
@@ -40,7 +34,7 @@ still-set (first ∷ places) (suc i) p q e = let more = still-set places i p q e
 
 -- One machine.
 
-goes_one : (a b : ℕ) → Goes a ≡ Goes b → a ≡ b
+pub goes_one : (a b : ℕ) → Goes a ≡ Goes b → a ≡ b
 goes_one a b e = cc
 
 module _ {places : List Place} {going : List Machine} (laid : Laid places going) where
@@ -101,175 +95,6 @@ module _ {places : List Place} {going : List Machine} (laid : Laid places going)
         kept j (Goes index) at =
             let was = laid.there j index at in
             ap found_run (get-before going it was.0 index was.1 ∙ sym was.1)
-
-  -- A job that has finished needs its machine no more: the last machine goes where it lay, and is found there.
-  -- The machine of this index is that of this place; `on` are the machines behind that.
-  module _ (place index : ℕ) (own : slice_get places place ≡ Some (Goes index)) where
-    -- another place has another machine
-    elsewhere : (j s : ℕ) → j ≢ place → slice_get places j ≡ Some (Goes s) → s ≢ index
-    elsewhere j s other at e =
-        other (apart place j index own (at ∙ ap (λ (n : ℕ). Some (Goes n)) e))
-
-    -- and another machine is of another place
-    not_own : (s : ℕ) (it : Machine) → s ≢ index → slice_get going s ≡ Some it → it.place ≢ place
-    not_own s it other at e =
-        other (goes_one s index (same_Some (Goes s) (Goes index)
-        (sym (laid.back s it at) ∙ ap (slice_get places) e ∙ own)))
-
-    -- Its machine was the last.
-    module _ (over : Over) (on : List Machine) (few : suc (length on) ≡ length going) (last : index ≡ length on)
-        (kept : (s : ℕ) → s < length on → slice_get on s ≡ slice_get going s) where
-      still_there : (j s : ℕ) → j ≢ place → slice_get places j ≡ Some (Goes s) →
-          (it : Machine) × (slice_get on s ≡ Some it) × (slice_get going s ≡ Some it) × (it.place ≡ j)
-      still_there j s other at =
-          let was = laid.there j s at in
-          let not = elsewhere j s other at in
-          let inside = slice_get_within going s was.0 was.1 in
-          (was.0, kept s (omega (arith, few, last, not, inside)) ∙ was.1, was.1, was.2)
-
-      pub last_laid : Laid (slice_set places place (Ends over)) on
-      last_laid = record {
-        there = λ j s at. elim (cases_eq j place) [
-          | inl same ↦
-              let no = sym (get-set_same places place (Goes index) (Ends over) own)
-              ∙ ap (slice_get (slice_set places place (Ends over))) (sym same) ∙ at in absurd (cc)
-          | inr other ↦
-              let it = still_there j s other (sym (get-set_other places place j (Ends over) other) ∙ at) in
-              (it.0, it.1, it.3)
-        ];
-        back = λ s it at.
-            let inside = slice_get_within on s it at in
-            let was = sym (kept s inside) ∙ at in
-            get-set_other places place it.place (Ends over)
-            (not_own s it (λ e. absurd (omega (arith, inside, e, last))) was) ∙ laid.back s it was;
-      }
-
-      pub last_runs : runs_in (slice_set places place (Ends over)) on
-          ≡ slice_set (runs_in places going) place (run_at on (Ends over))
-      last_runs = map_but places (slice_set places place (Ends over)) (run_at going) (run_at on) place
-          (run_at on (Ends over)) (length-set places place (Ends over))
-          (λ p at. ap (run_at on) (same_Some p (Ends over)
-          (sym at ∙ get-set_same places place (Goes index) (Ends over) own)))
-          (λ j p q other at now.
-          let is : p ≡ q = same_Some p q (sym at ∙ sym (get-set_other places place j (Ends over) other) ∙ now) in
-          ap (run_at on) (sym is) ∙ same j p other at)
-        where
-          same : (j : ℕ) (p : Place) → j ≢ place → slice_get places j ≡ Some p → run_at on p ≡ run_at going p
-          same j (Waits job) other at = refl
-          same j (Ends done) other at = refl
-          same j (Goes s) other at =
-              let it = still_there j s other at in ap found_run (it.1 ∙ sym it.2)
-
-      pub last_goes : GoElsewhere index going → AllGo on
-      last_goes goes s it at =
-          let inside = slice_get_within on s it at in
-          goes s it (λ e. absurd (omega (arith, inside, e, last))) (sym (kept s inside) ∙ at)
-
-    -- It was not, and the last one is moved to where it was.
-    module _ (over : Over) (on : List Machine) (moved : Machine) (few : suc (length on) ≡ length going)
-        (inside : index < length on) (top : slice_get going (length on) ≡ Some moved)
-        (in_place : slice_get on index ≡ Some moved)
-        (kept : (s : ℕ) → s ≢ index → s < length on → slice_get on s ≡ slice_get going s) where
-      abbrev first_set : List Place
-      first_set = slice_set places place (Ends over)
-
-      abbrev pub both_set : List Place
-      both_set = slice_set first_set moved.place (Goes index)
-
-      top_at : slice_get places moved.place ≡ Some (Goes (length on))
-      top_at = laid.back (length on) moved top
-
-      top_other : moved.place ≢ place
-      top_other = not_own (length on) moved (λ e. absurd (omega (arith, e, inside))) top
-
-      at_place : slice_get both_set place ≡ Some (Ends over)
-      at_place = get-set_other first_set moved.place place (Goes index) (λ e. top_other (sym e))
-          ∙ get-set_same places place (Goes index) (Ends over) own
-
-      pub moved_was : slice_get first_set moved.place ≡ Some (Goes (length on))
-      moved_was = get-set_other places place moved.place (Ends over) top_other ∙ top_at
-
-      at_moved : slice_get both_set moved.place ≡ Some (Goes index)
-      at_moved = get-set_same first_set moved.place (Goes (length on)) (Goes index) moved_was
-
-      at_else : (j : ℕ) → j ≢ place → j ≢ moved.place → slice_get both_set j ≡ slice_get places j
-      at_else j other another = get-set_other first_set moved.place j (Goes index) another
-          ∙ get-set_other places place j (Ends over) other
-
-      stays_there : (j s : ℕ) → j ≢ place → j ≢ moved.place → slice_get places j ≡ Some (Goes s) →
-          (it : Machine) × (slice_get on s ≡ Some it) × (slice_get going s ≡ Some it) × (it.place ≡ j)
-      stays_there j s other another at =
-          let was = laid.there j s at in
-          let not = elsewhere j s other at in
-          let low : s ≢ length on = λ e.
-          another (sym was.2 ∙ ap (λ (g : Machine). g.place) (same_Some was.0 moved
-          (sym was.1 ∙ ap (slice_get going) e ∙ top))) in
-          let within = slice_get_within going s was.0 was.1 in
-          (was.0, kept s not (omega (arith, few, low, within)) ∙ was.1, was.1, was.2)
-
-      pub moved_laid : Laid both_set on
-      moved_laid = record {
-        there = λ j s at. elim (cases_eq j place) [
-          | inl same ↦
-              let no = sym at_place ∙ ap (slice_get both_set) (sym same) ∙ at in absurd (cc)
-          | inr other ↦ elim (cases_eq j moved.place) [
-            | inl same ↦
-                let is : index ≡ s = goes_one index s (same_Some (Goes index) (Goes s)
-                (sym at_moved ∙ ap (slice_get both_set) (sym same) ∙ at)) in
-                (moved, ap (slice_get on) (sym is) ∙ in_place, sym same)
-            | inr another ↦
-                let it = stays_there j s other another (sym (at_else j other another) ∙ at) in
-                (it.0, it.1, it.3)
-          ]
-        ];
-        back = λ s it at. elim (cases_eq s index) [
-          | inl same ↦
-              let is : moved ≡ it = same_Some moved it (sym in_place ∙ ap (slice_get on) (sym same) ∙ at) in
-              ap (slice_get both_set) (ap (λ (g : Machine). g.place) (sym is)) ∙ at_moved
-              ∙ ap (λ (n : ℕ). Some (Goes n)) (sym same)
-          | inr not ↦
-              let low = slice_get_within on s it at in
-              let was = sym (kept s not low) ∙ at in
-              let named = laid.back s it was in
-              at_else it.place (not_own s it not was) (λ e.
-              let is = goes_one s (length on) (same_Some (Goes s) (Goes (length on))
-              (sym named ∙ ap (slice_get places) e ∙ top_at)) in absurd (omega (arith, is, low))) ∙ named
-        ];
-      }
-
-      pub moved_runs : runs_in both_set on ≡ slice_set (runs_in places going) place (run_at on (Ends over))
-      moved_runs = map_but places both_set (run_at going) (run_at on) place (run_at on (Ends over))
-          (length-set first_set moved.place (Goes index) ∙ length-set places place (Ends over))
-          (λ p at. ap (run_at on) (same_Some p (Ends over) (sym at ∙ at_place)))
-          (λ j p q other at now. elim (cases_eq j moved.place) [
-            | inl same ↦
-                let was : Goes (length on) ≡ p = same_Some (Goes (length on)) p
-                (sym top_at ∙ ap (slice_get places) (sym same) ∙ at) in
-                let is : Goes index ≡ q = same_Some (Goes index) q
-                (sym at_moved ∙ ap (slice_get both_set) (sym same) ∙ now) in
-                ap (run_at on) (sym is) ∙ ap found_run (in_place ∙ sym top) ∙ ap (run_at going) was
-            | inr another ↦
-                let is : p ≡ q = same_Some p q (sym at ∙ sym (at_else j other another) ∙ now) in
-                ap (run_at on) (sym is) ∙ same j p other another at
-          ])
-        where
-          same : (j : ℕ) (p : Place) → j ≢ place → j ≢ moved.place → slice_get places j ≡ Some p →
-              run_at on p ≡ run_at going p
-          same j (Waits job) other another at = refl
-          same j (Ends done) other another at = refl
-          same j (Goes s) other another at =
-              let it = stays_there j s other another at in ap found_run (it.1 ∙ sym it.2)
-
-      pub moved_goes : GoElsewhere index going → AllGo on
-      moved_goes goes s it at = elim (cases_eq s index) [
-        | inl same ↦
-            let is : moved ≡ it = same_Some moved it (sym in_place ∙ ap (slice_get on) (sym same) ∙ at) in
-            ap (λ (g : Machine). is_job_over g.state) (sym is)
-            ∙ goes (length on) moved (λ e. absurd (omega (arith, e, inside))) top
-        | inr not ↦
-            let low = slice_get_within on s it at in
-            goes s it not (sym (kept s not low) ∙ at)
-      ]
 
   -- A machine goes on.
   module _ (place index : ℕ) (own : slice_get places place ≡ Some (Goes index)) (it it' : Machine)
@@ -387,22 +212,6 @@ all_go_on going it goes this index one at = elim (cases_eq index (length going))
   | inr before ↦ goes index one (get-within going it one index at before)
 ]
 
--- one that has finished, and what is left of it
-pub settled_stays : (machine : Machine) (over : Over) (on : List Machine) → is_job_over machine.state ≡ true →
-    over.start ≡ machine.start → over.seat ≡ machine.seat →
-    ((plan : Plan) (seat : HostSeat) → job_owes plan seat machine.state ≡ End over.last) →
-    over.lost ≡ job_lost machine.state → Stays (on_its_way machine) (run_at on (Ends over))
-settled_stays machine over on ends start seat left lost = record {
-  start = start;
-  seat = seat;
-  left = λ plan from. sym (left plan from);
-  finished = sym ends;
-  lost = lost;
-  fewer = omega arith;
-  bound = omega arith;
-  inserts = omega arith;
-}
-
 -- one that goes on
 pub settles_none : {places : List Place} {going : List Machine} → Laid places going → (j index : ℕ) →
     slice_get places j ≡ Some (Goes index) → Settles places going j index places going
@@ -442,30 +251,41 @@ pub seen_there : {places places1 : List Place} {going going1 : List Machine} {j 
 seen_there {going1 = going1} {index = index} seen wakes read =
     read ∙ get_or_from_slice_get going1 index wakes.it seen wakes.there
 
-pub went_through : {places places1 places2 : List Place} {going going1 going2 : List Machine} {j index : ℕ}
-    (seen went : Machine) (wakes : Wakes places going j places1 going1 index) → Laid places1 going1 →
-    slice_get places1 j ≡ Some (Goes index) → seen ≡ get_or going1 index seen → went.place ≡ seen.place →
-    Settles places1 (slice_set going1 index went) j index places2 going2 →
-    Through (runs_in places going) j seen went (runs_in places2 going2)
-went_through {places} {places1} {going = going} {going1 = going1} {j = j} {index = index} seen went wakes laid own read
-    same settles =
-    let it : seen ≡ wakes.it = seen_there seen wakes read in
-    let is : settles.it ≡ went = same_Some settles.it went
-    (sym settles.was ∙ get-set_same going1 index wakes.it went wakes.there) in
-    let runs = on_runs laid j index own wakes.it went wakes.there (same ∙ ap (λ (g : Machine). g.place) it) in
-    record {
-      run = wakes.run;
-      run' = settles.run;
-      was = wakes.was;
-      before = subst (λ (g : Machine). Stays wakes.run (on_its_way g)) (sym it) wakes.stays;
-      after = subst (λ (g : Machine). Stays (on_its_way g) settles.run) is settles.stays;
-      runs = settles.runs
-          ∙ ap (λ (l : List Running). slice_set l j settles.run) (runs
-          ∙ ap (λ (l : List Running). slice_set l j (on_its_way went)) wakes.runs)
-          ∙ ap (λ (l : List Running). slice_set l j settles.run)
-          (set-set (runs_in places going) j (on_its_way wakes.it) (on_its_way went))
-          ∙ set-set (runs_in places going) j (on_its_way went) settles.run;
-    }
+module _ {places places1 : List Place} {going going1 : List Machine} {j index room : ℕ} (seen went : Machine)
+    (wakes : Wakes places going j places1 going1 index) (kept : Kept places1 going1 room)
+    (own : slice_get places1 j ≡ Some (Goes index)) (read : seen ≡ get_or going1 index seen)
+    (same : went.place ≡ seen.place) where
+  its_own : went.place ≡ wakes.it.place
+  its_own = same ∙ ap (λ (g : Machine). g.place) (seen_there seen wakes read)
+
+  -- it lies where it lay, and the others go on
+  pub went_laid : Laid places1 (slice_set going1 index went)
+  went_laid = on_laid kept.laid j index own wakes.it went wakes.there its_own
+
+  pub went_goes : GoElsewhere index (slice_set going1 index went)
+  went_goes = on_goes kept.laid j index own wakes.it went wakes.there its_own kept.all_go
+
+  pub went_through : {places2 : List Place} {going2 : List Machine} →
+      Settles places1 (slice_set going1 index went) j index places2 going2 →
+      Through (runs_in places going) j seen went (runs_in places2 going2)
+  went_through settles =
+      let it : seen ≡ wakes.it = seen_there seen wakes read in
+      let is : settles.it ≡ went = same_Some settles.it went
+      (sym settles.was ∙ get-set_same going1 index wakes.it went wakes.there) in
+      let runs = on_runs kept.laid j index own wakes.it went wakes.there its_own in
+      record {
+        run = wakes.run;
+        run' = settles.run;
+        was = wakes.was;
+        before = subst (λ (g : Machine). Stays wakes.run (on_its_way g)) (sym it) wakes.stays;
+        after = subst (λ (g : Machine). Stays (on_its_way g) settles.run) is settles.stays;
+        runs = settles.runs
+            ∙ ap (λ (l : List Running). slice_set l j settles.run) (runs
+            ∙ ap (λ (l : List Running). slice_set l j (on_its_way went)) wakes.runs)
+            ∙ ap (λ (l : List Running). slice_set l j settles.run)
+            (set-set (runs_in places going) j (on_its_way wakes.it) (on_its_way went))
+            ∙ set-set (runs_in places going) j (on_its_way went) settles.run;
+      }
 
 -- a machine that was seen goes on where its job has not finished
 pub waked_goes : (run : Running) (it seen : Machine) (plan : Plan) → seen ≡ it → Stays run (on_its_way it) →
@@ -492,62 +312,6 @@ ended_place going goes (Goes index) ends = absurd (no (slice_get going index) re
     no : (found : Option Machine) → slice_get going index ≡ found → is_finished (found_run found).state ≡ true → ⊥
     no None at end = cc
     no (Some it) at end = let on = goes index it at in cc
-
--- Who is asked where a job is.
-
-pub runs_long : (places : List Place) (going : List Machine) → length (runs_in places going) ≡ length places
-runs_long places going = length-map places (run_at going)
-
--- the job of a place is what the place says
-pub run_there : (places : List Place) (going : List Machine) (j : ℕ) (p : Place) (run : Running) →
-    slice_get places j ≡ Some p → slice_get (runs_in places going) j ≡ Some run → run_at going p ≡ run
-run_there places going j p run at there =
-    same_Some (run_at going p) run (sym (runs_at places going j p at) ∙ there)
-
--- and that of a machine that was read
-pub goes_there : {places : List Place} {going : List Machine} → Laid places going → (j index : ℕ) (seen : Machine)
-    (run : Running) → slice_get places j ≡ Some (Goes index) → seen ≡ get_or going index seen →
-    slice_get (runs_in places going) j ≡ Some run → on_its_way seen ≡ run
-goes_there {places} {going} laid j index seen run at read there =
-    let it = laid.there j index at in
-    ap on_its_way (read ∙ get_or_from_slice_get going index it.0 seen it.1)
-    ∙ ap found_run (sym it.1) ∙ run_there places going j (Goes index) run at there
-
--- a job that waits has not finished
-pub waits_on : (plan : Plan) (seat : HostSeat) (asked : Asked) → is_end (grammar_for plan seat asked) ≡ false
-waits_on plan seat (Requests who (request.Init capable)) = refl
-waits_on plan seat (Requests who request.Destroy) = refl
-waits_on plan seat (Requests who request.Root) = refl
-waits_on plan seat (Requests who asked) = refl
-waits_on plan seat (Edits edit) = refl
-
--- and restores nothing
-pub waits_bare : (plan : Plan) (seat : HostSeat) (asked : Asked) → false ≡ restores (grammar_for plan seat asked)
-waits_bare plan seat (Requests who (request.Init capable)) = refl
-waits_bare plan seat (Requests who request.Destroy) = refl
-waits_bare plan seat (Requests who request.Root) = refl
-waits_bare plan seat (Requests who asked) = refl
-waits_bare plan seat (Edits edit) = refl
-
-pub waits_settled : (plan : Plan) (seat : HostSeat) (asked : Asked) → IsSettled (grammar_for plan seat asked)
-waits_settled plan seat (Requests who (request.Init capable)) = tt
-waits_settled plan seat (Requests who request.Destroy) = tt
-waits_settled plan seat (Requests who request.Root) = tt
-waits_settled plan seat (Requests who asked) = tt
-waits_settled plan seat (Edits edit) = tt
-
--- a job that waits or has ended restores nothing
-pub rests : (going : List Machine) (p : Place) (at : Stage) → at ≡ stage_of p →
-    ((at ≡ stage.Waits) ⊎ ((by : Option Errno) × (lost : Option Errno) × (at ≡ stage.Ended by lost))) → (plan : Plan)
-    (seat : HostSeat) → (false ≡ restores (owes plan seat (run_at going p).state))
-    × IsSettled (owes plan seat (run_at going p).state)
-rests going (Waits job) at is not plan seat = (
-  waits_bare plan seat (asked_of job),
-  waits_settled plan seat (asked_of job),
-)
-rests going (Ends over) at is not plan seat = (refl, tt)
-rests going (Goes index) at is (inl waits) plan seat = let no = sym is ∙ waits in absurd (cc)
-rests going (Goes index) at is (inr ended) plan seat = let no = sym is ∙ ended.2 in absurd (cc)
 
 -- Where all have ended.
 

@@ -1,6 +1,8 @@
 pub mod Lists
 pub mod Placing
 pub mod Laying
+pub mod Stages
+pub mod Away
 pub mod Traces
 pub mod Orders
 pub mod Pending
@@ -10,6 +12,7 @@ pub mod Stepping
 pub mod Going
 pub mod Losing
 pub mod Recording
+pub mod Remaining
 pub mod Ended
 pub mod Advancing
 pub mod SeatsAt

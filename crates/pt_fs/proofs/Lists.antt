@@ -1,7 +1,6 @@
 -- What a list is where one item is put or is put behind it.
-use Rattle.std.proofs.Common.{◌≡◌, ◌≢◌, ◌<◌, ◌∙◌, ◌++◌, ℕ, zero, suc, List, [], ◌∷◌, Some, refl, ap, sym, map}
-use Rattle.std.proofs.Common.{length, get_or}
-use Rattle.std.proofs.Common.{slice_get, slice_set, arith}
+use Rattle.std.proofs.Common.{◌≡◌, ◌≢◌, ◌<◌, ◌+◌, ◌-◌, ◌∙◌, ◌++◌, ℕ, zero, suc, List, [], ◌∷◌, Some, refl, ap, sym}
+use Rattle.std.proofs.Common.{map, length, get_or, slice_get, slice_set, arith}
 use Rattle.std.proofs.lemmas.Option.{same_Some, slice_get-get_or}
 
 pub get-set_same : {X : Type 0} (xs : List X) (i : ℕ) (x y : X) → slice_get xs i ≡ Some x →
@@ -85,3 +84,21 @@ pub get_alike : {X : Type 0} (xs ys : List X) (i j : ℕ) → i < length xs → 
 get_alike [] ys i j low short same = absurd (omega (arith, low))
 get_alike {X = X} (x ∷ xs) ys i j low short same =
     slice_get-get_or ys j x short ∙ ap (λ (y : X). Some y) (same x) ∙ sym (slice_get-get_or (x ∷ xs) i x low)
+
+-- One was taken out, and where it was lies the last one.
+pub record TakenOut {X : Type 0} (xs : List X) (i : ℕ) (ys : List X) : Type 0 where
+  pub fewer : suc (length ys) ≡ length xs
+  pub last : i < length ys → slice_get ys i ≡ slice_get xs (length ys)
+  pub others : (s : ℕ) → s ≢ i → s < length ys → slice_get ys s ≡ slice_get xs s
+
+pub taken_out : {X : Type 0} (xs ys : List X) (i m n : ℕ) → m ≡ length ys → n ≡ length xs → m + 1 ≡ n →
+    ((d : X) → i + 1 < n → get_or ys i d ≡ get_or xs (n - 1) d)
+    × ((k : ℕ) (d : X) → k ≢ i → k + 1 < n → get_or ys k d ≡ get_or xs k d) → TakenOut xs i ys
+taken_out xs ys i m n short long less by = record {
+  fewer = omega (arith, short, long, less);
+  last = λ low. get_alike xs ys (length ys) i (omega (arith, short, long, less)) low
+      (λ d. by.0 d (omega (arith, low, short, less))
+      ∙ ap (λ (k : ℕ). get_or xs k d) (omega (arith, short, less)));
+  others = λ s not low. get_alike xs ys s s (omega (arith, low, short, long, less)) low
+      (λ d. by.1 s d not (omega (arith, low, short, less)));
+}

@@ -1,8 +1,9 @@
 -- Places, and the parts in which they are kept.
 use Rattle.std.proofs.Common.{◌≡◌, ◌<◌, ◌∙◌, ℕ, zero, suc, List, [], ◌∷◌, Option, Some, None, refl, ap, sym, length}
-use Rattle.std.proofs.Common.{inl, inr, map, replicate, slice_get, slice_set, arith}
+use Rattle.std.proofs.Common.{inl, inr, subst, get_or, map, replicate, slice_get, slice_set, arith}
 use Rattle.std.proofs.lemmas.Bool.{cases_eq}
-use Rattle.std.proofs.lemmas.Option.{same_Some}
+use Rattle.std.proofs.lemmas.List.{length-set}
+use Rattle.std.proofs.lemmas.Option.{same_Some, slice_get_read}
 use Rattle.pt_host.specs.declared.ids.Errno.{Errno}
 use Rattle.pt_host.specs.declared.seat.HostSeat.{HostSeat}
 use Rattle.pt_iface.specs.declared.answer.Answer.{Answer}
@@ -10,7 +11,8 @@ use Rattle.pt_iface.specs.declared.answer.Answer.TheVariants.{Cut}
 use Rattle.pt_frame.specs.declared.finish.Finish.{Finish}
 use Rattle.pt_frame.specs.declared.finish.Finish.TheVariants as finish
 use Rattle.pt_fs.specs.Each.{answer_of}
-use Rattle.pt_fs.specs.Placed.{Place, Waits, Goes, Ended, AllEnded, CutWhereLost, answer_at, last_of, lost_in, place_of}
+use Rattle.pt_fs.specs.Placed.{Place, Waits, Goes, Ended, AllEnded, CutWhereLost, InParts, answer_at, last_of}
+use Rattle.pt_fs.specs.Placed.{lost_in, place_of}
 use Rattle.pt_fs.specs.Placed.{places_in, seat_at, stage_of}
 use Rattle.pt_fs.specs.declared.job.Job.{Job}
 use Rattle.pt_fs.specs.declared.job.Job.TheVariants as asked
@@ -20,7 +22,7 @@ use Rattle.pt_fs.specs.declared.places.Stage.TheVariants as stage
 use Rattle.pt_fs.proofs.Lists.{get-set_same, get-set_other, got, set-same}
 
 -- all parts of one place are put
-pub set_all : (jobs : List Job) (stages : List Stage) (answers : List Answer) (seats : List (Option HostSeat)) (j : ℕ)
+set_all : (jobs : List Job) (stages : List Stage) (answers : List Answer) (seats : List (Option HostSeat)) (j : ℕ)
     (job : Job) (at : Stage) (told : Answer) (seat : Option HostSeat) →
     places_in (slice_set jobs j job) (slice_set stages j at) (slice_set answers j told) (slice_set seats j seat)
     ≡ slice_set (places_in jobs stages answers seats) j (place_of job at told seat)
@@ -36,7 +38,7 @@ set_all (a ∷ jobs) (b ∷ stages) (c ∷ answers) (d ∷ seats) (suc j) job at
     ap (λ (l : List Place). place_of a b c d ∷ l) (set_all jobs stages answers seats j job at told seat)
 
 -- a place has all its parts
-pub get_all : (jobs : List Job) (stages : List Stage) (answers : List Answer) (seats : List (Option HostSeat)) (j : ℕ)
+get_all : (jobs : List Job) (stages : List Stage) (answers : List Answer) (seats : List (Option HostSeat)) (j : ℕ)
     (job : Job) (at : Stage) (told : Answer) (seat : Option HostSeat) → slice_get jobs j ≡ Some job →
     slice_get stages j ≡ Some at → slice_get answers j ≡ Some told → slice_get seats j ≡ Some seat →
     slice_get (places_in jobs stages answers seats) j ≡ Some (place_of job at told seat)
@@ -49,7 +51,7 @@ get_all (a ∷ jobs) (b ∷ stages) (c ∷ answers) (d ∷ seats) zero job at to
 get_all (a ∷ jobs) (b ∷ stages) (c ∷ answers) (d ∷ seats) (suc j) job at told seat one two three four =
     get_all jobs stages answers seats j job at told seat one two three four
 
-pub length_all : (jobs : List Job) (stages : List Stage) (answers : List Answer) (seats : List (Option HostSeat)) →
+length_all : (jobs : List Job) (stages : List Stage) (answers : List Answer) (seats : List (Option HostSeat)) →
     length stages ≡ length jobs → length answers ≡ length jobs → length seats ≡ length jobs →
     length (places_in jobs stages answers seats) ≡ length jobs
 length_all [] stages answers seats one two three = refl
@@ -65,49 +67,6 @@ pub all_wait : (jobs : List Job) →
     ≡ map Waits jobs
 all_wait [] = refl
 all_wait (job ∷ jobs) = ap (λ (l : List Place). Waits job ∷ l) (all_wait jobs)
-
--- the parts of the place of a number
-module _ (jobs : List Job) (stages : List Stage) (answers : List Answer) (seats : List (Option HostSeat))
-    (one : length stages ≡ length jobs) (two : length answers ≡ length jobs) (three : length seats ≡ length jobs)
-    (j : ℕ) (inside : j < length (places_in jobs stages answers seats)) where
-  within : j < length jobs
-  within = let all = length_all jobs stages answers seats one two three in omega (arith, all, inside)
-
-  pub job_there : (job : Job) × (slice_get jobs j ≡ Some job)
-  job_there = got jobs j within
-
-  pub stage_there : (at : Stage) × (slice_get stages j ≡ Some at)
-  stage_there = got stages j (let low = within in omega (arith, one, low))
-
-  pub answer_there : (told : Answer) × (slice_get answers j ≡ Some told)
-  answer_there = got answers j (let low = within in omega (arith, two, low))
-
-  pub seat_there : (seat : Option HostSeat) × (slice_get seats j ≡ Some seat)
-  seat_there = got seats j (let low = within in omega (arith, three, low))
-
-  pub place_there : slice_get (places_in jobs stages answers seats) j
-      ≡ Some (place_of job_there.0 stage_there.0 answer_there.0 seat_there.0)
-  place_there = get_all jobs stages answers seats j job_there.0 stage_there.0 answer_there.0 seat_there.0 job_there.1
-      stage_there.1 answer_there.1 seat_there.1
-
-  -- the job goes on with this machine
-  pub begun : (job : Job) (index : ℕ) →
-      places_in (slice_set jobs j job) (slice_set stages j (stage.Goes index)) answers seats
-      ≡ slice_set (places_in jobs stages answers seats) j (Goes index)
-  begun job index =
-      ap (λ (l : List Answer). places_in (slice_set jobs j job) (slice_set stages j (stage.Goes index)) l seats)
-      (set-same answers j answer_there.0 answer_there.1)
-      ∙ ap (λ (l : List (Option HostSeat)). places_in (slice_set jobs j job) (slice_set stages j (stage.Goes index))
-      (slice_set answers j answer_there.0) l) (set-same seats j seat_there.0 seat_there.1)
-      ∙ set_all jobs stages answers seats j job (stage.Goes index) answer_there.0 seat_there.0
-
-  pub gone : (index : ℕ) →
-      places_in jobs (slice_set stages j (stage.Goes index)) answers seats
-      ≡ slice_set (places_in jobs stages answers seats) j (Goes index)
-  gone index =
-      ap (λ (l : List Job). places_in l (slice_set stages j (stage.Goes index)) answers seats)
-      (set-same jobs j job_there.0 job_there.1)
-      ∙ begun job_there.0 index
 
 -- how far a job is
 stage_as : (job : Job) (at : Stage) (told : Answer) (seat : Option HostSeat) (it : Place) →
@@ -131,34 +90,13 @@ waited job stage.Waits told seat asked is = cc
 waited job (stage.Goes index) told seat asked is = absurd (cc)
 waited job (stage.Ended by lost) told seat asked is = absurd (cc)
 
-module _ (jobs : List Job) (stages : List Stage) (answers : List Answer) (seats : List (Option HostSeat))
-    (one : length stages ≡ length jobs) (two : length answers ≡ length jobs) (three : length seats ≡ length jobs)
-    (j : ℕ) (inside : j < length (places_in jobs stages answers seats)) where
-  pub stage_is : (it : Place) → slice_get (places_in jobs stages answers seats) j ≡ Some it → (at : Stage) →
-      slice_get stages j ≡ Some at → at ≡ stage_of it
-  stage_is it there at is =
-      let job = job_there jobs stages answers seats one two three j inside in
-      let told = answer_there jobs stages answers seats one two three j inside in
-      let seat = seat_there jobs stages answers seats one two three j inside in
-      stage_as job.0 at told.0 seat.0 it (same_Some (place_of job.0 at told.0 seat.0) it
-      (sym (get_all jobs stages answers seats j job.0 at told.0 seat.0 job.1 is told.1 seat.1) ∙ there))
-
-  pub asked_is : (asked job : Job) → slice_get (places_in jobs stages answers seats) j ≡ Some (Waits asked) →
-      slice_get jobs j ≡ Some job → job ≡ asked
-  asked_is asked job there is =
-      let at = stage_there jobs stages answers seats one two three j inside in
-      let told = answer_there jobs stages answers seats one two three j inside in
-      let seat = seat_there jobs stages answers seats one two three j inside in
-      waited job at.0 told.0 seat.0 asked (same_Some (place_of job at.0 told.0 seat.0) (Waits asked)
-      (sym (get_all jobs stages answers seats j job at.0 told.0 seat.0 is at.1 told.1 seat.1) ∙ there))
-
 -- A job that has ended.
 
 last_kept : (last : Finish) → last_of (lost_in last) (answer_of last) ≡ last
 last_kept (finish.Answer told) = refl
 last_kept (finish.Lost errno) = refl
 
-pub over_kept : (over : Over) →
+over_kept : (over : Over) →
     place_of (asked.OpenRoot over.start) (stage.Ended (lost_in over.last) over.lost) (answer_of over.last) over.seat
     ≡ Ended over
 over_kept over = ap (λ (last : Finish). Ended (record {
@@ -168,7 +106,7 @@ over_kept over = ap (λ (last : Finish). Ended (record {
   lost = over.lost;
 })) (last_kept over.last)
 
-pub cut_gone : (stages : List Stage) (answers : List Answer) (j index : ℕ) (was : Stage) →
+cut_gone : (stages : List Stage) (answers : List Answer) (j index : ℕ) (was : Stage) →
     slice_get stages j ≡ Some was → CutWhereLost stages answers →
     CutWhereLost (slice_set stages j (stage.Goes index)) answers
 cut_gone stages answers j index was there cut k errno lost at = elim (cases_eq k j) [
@@ -180,7 +118,7 @@ cut_gone stages answers j index was there cut k errno lost at = elim (cases_eq k
   | inr other ↦ cut k errno lost (sym (get-set_other stages j k (stage.Goes index) other) ∙ at)
 ]
 
-pub cut_ended : (stages : List Stage) (answers : List Answer) (j : ℕ) (was : Stage) (told : Answer) (last : Finish)
+cut_ended : (stages : List Stage) (answers : List Answer) (j : ℕ) (was : Stage) (told : Answer) (last : Finish)
     (lost : Option Errno) → slice_get stages j ≡ Some was → slice_get answers j ≡ Some told →
     CutWhereLost stages answers →
     CutWhereLost (slice_set stages j (stage.Ended (lost_in last) lost)) (slice_set answers j (answer_of last))
@@ -201,15 +139,9 @@ cut_ended stages answers j was told last lost there told_there cut k errno l at 
     cut_as (finish.Answer told) is = absurd (cc)
     cut_as (finish.Lost by) is = refl
 
-pub cut_waiting : (answers : List Answer) (n : ℕ) → CutWhereLost (replicate n stage.Waits) answers
-cut_waiting answers zero k errno lost at = absurd (cc)
-cut_waiting answers (suc n) zero errno lost at = absurd (cc)
-cut_waiting [] (suc n) (suc k) errno lost at = cut_waiting [] n k errno lost at
-cut_waiting (a ∷ answers) (suc n) (suc k) errno lost at = cut_waiting answers n k errno lost at
-
 -- Where all have ended.
 
-pub answers_all : (jobs : List Job) (stages : List Stage) (answers : List Answer) (seats : List (Option HostSeat)) →
+answers_all : (jobs : List Job) (stages : List Stage) (answers : List Answer) (seats : List (Option HostSeat)) →
     length stages ≡ length jobs → length answers ≡ length jobs → length seats ≡ length jobs →
     AllEnded (places_in jobs stages answers seats) → CutWhereLost stages answers →
     answers ≡ map answer_at (places_in jobs stages answers seats)
@@ -234,7 +166,7 @@ answers_all (a ∷ jobs) (b ∷ stages) (c ∷ answers) (d ∷ seats) one two th
     told (stage.Ended None lost) is cut = refl
     told (stage.Ended (Some errno) lost) is cut = cut errno lost refl
 
-pub seats_all : (jobs : List Job) (stages : List Stage) (answers : List Answer) (seats : List (Option HostSeat)) →
+seats_all : (jobs : List Job) (stages : List Stage) (answers : List Answer) (seats : List (Option HostSeat)) →
     length stages ≡ length jobs → length answers ≡ length jobs → length seats ≡ length jobs →
     AllEnded (places_in jobs stages answers seats) → seats ≡ map seat_at (places_in jobs stages answers seats)
 seats_all [] stages answers [] one two three ended = refl
@@ -253,20 +185,127 @@ seats_all (a ∷ jobs) (b ∷ stages) (c ∷ answers) (d ∷ seats) one two thre
     left (stage.Goes index) is = let no = is.1 in absurd (cc)
     left (stage.Ended by lost) is = refl
 
--- What a stage says of its place.
+-- What is so of places of which each part lies among its like.
+module _ {jobs : List Job} {stages : List Stage} {answers : List Answer} {seats : List (Option HostSeat)}
+    (parts : InParts jobs stages answers seats) {places : List Place}
+    (view : places_in jobs stages answers seats ≡ places) where
+  pub as_many : length places ≡ length stages
+  as_many = ap length (sym view)
+      ∙ length_all jobs stages answers seats parts.each_stage parts.each_answer parts.each_seat ∙ sym parts.each_stage
 
-pub stage_waits : (it : Place) → stage_of it ≡ stage.Waits → (job : Job) × (it ≡ Waits job)
-stage_waits (Waits job) is = (job, refl)
-stage_waits (Goes index) is = absurd (cc)
-stage_waits (Ended over) is = absurd (cc)
+  pub answers_in : AllEnded places → answers ≡ map answer_at places
+  answers_in ended = answers_all jobs stages answers seats parts.each_stage parts.each_answer parts.each_seat
+      (subst AllEnded (sym view) ended) parts.cut
+      ∙ ap (λ (l : List Place). map answer_at l) view
 
-pub stage_goes : (it : Place) (index : ℕ) → stage_of it ≡ stage.Goes index → it ≡ Goes index
-stage_goes (Waits job) index is = absurd (cc)
-stage_goes (Goes other) index is = let same : other ≡ index = cc in ap (λ (n : ℕ). Goes n) same
-stage_goes (Ended over) index is = absurd (cc)
+  pub seats_in : AllEnded places → seats ≡ map seat_at places
+  seats_in ended = seats_all jobs stages answers seats parts.each_stage parts.each_answer parts.each_seat
+      (subst AllEnded (sym view) ended)
+      ∙ ap (λ (l : List Place). map seat_at l) view
 
-pub stage_ended : (it : Place) (by lost : Option Errno) → stage_of it ≡ stage.Ended by lost →
-    (over : Over) × (it ≡ Ended over)
-stage_ended (Waits job) by lost is = absurd (cc)
-stage_ended (Goes index) by lost is = absurd (cc)
-stage_ended (Ended over) by lost is = (over, refl)
+  -- the place of this number
+  module _ (j : ℕ) (inside : j < length places) where
+    pub in_stages : j < length stages
+    in_stages = let long = as_many in omega (arith, long, inside)
+
+    pub in_jobs : j < length jobs
+    in_jobs = let low = in_stages in let each = parts.each_stage in omega (arith, low, each)
+
+    pub in_answers : j < length answers
+    in_answers = let low = in_jobs in let each = parts.each_answer in omega (arith, low, each)
+
+    pub in_seats : j < length seats
+    in_seats = let low = in_jobs in let each = parts.each_seat in omega (arith, low, each)
+
+    answer_there : (told : Answer) × (slice_get answers j ≡ Some told)
+    answer_there = got answers j in_answers
+
+    seat_there : (seat : Option HostSeat) × (slice_get seats j ≡ Some seat)
+    seat_there = got seats j in_seats
+
+    -- it is what its parts say
+    parts_there : (job : Job) (at : Stage) → slice_get jobs j ≡ Some job → slice_get stages j ≡ Some at →
+        (it : Place) → slice_get places j ≡ Some it → place_of job at answer_there.0 seat_there.0 ≡ it
+    parts_there job at job_at stage_at it there = same_Some (place_of job at answer_there.0 seat_there.0) it
+        (sym (get_all jobs stages answers seats j job at answer_there.0 seat_there.0 job_at stage_at answer_there.1
+        seat_there.1)
+        ∙ ap (λ (l : List Place). slice_get l j) view ∙ there)
+
+    pub stage_is : (seen : Stage) → seen ≡ get_or stages j seen → (it : Place) → slice_get places j ≡ Some it →
+        seen ≡ stage_of it
+    stage_is seen read it there =
+        let job = got jobs j in_jobs in
+        stage_as job.0 seen answer_there.0 seat_there.0 it
+        (parts_there job.0 seen job.1 (slice_get_read stages _ j seen refl in_stages read) it there)
+
+    pub asked_is : (seen : Job) → seen ≡ get_or jobs j seen → (asked : Job) →
+        slice_get places j ≡ Some (Waits asked) → seen ≡ asked
+    asked_is seen read asked there =
+        let at = got stages j in_stages in
+        waited seen at.0 answer_there.0 seat_there.0 asked
+        (parts_there seen at.0 (slice_get_read jobs _ j seen refl in_jobs read) at.1 (Waits asked) there)
+
+    -- its job goes on with this machine, and another lies where it lay
+    pub begun : (job : Job) (index : ℕ) →
+        places_in (slice_set jobs j job) (slice_set stages j (stage.Goes index)) answers seats
+        ≡ slice_set places j (Goes index)
+    begun job index =
+        ap (λ (l : List Answer). places_in (slice_set jobs j job) (slice_set stages j (stage.Goes index)) l seats)
+        (set-same answers j answer_there.0 answer_there.1)
+        ∙ ap (λ (l : List (Option HostSeat)). places_in (slice_set jobs j job) (slice_set stages j (stage.Goes index))
+        (slice_set answers j answer_there.0) l) (set-same seats j seat_there.0 seat_there.1)
+        ∙ set_all jobs stages answers seats j job (stage.Goes index) answer_there.0 seat_there.0
+        ∙ ap (λ (l : List Place). slice_set l j (Goes index)) view
+
+    pub begun_parts : (job : Job) (index : ℕ) →
+        InParts (slice_set jobs j job) (slice_set stages j (stage.Goes index)) answers seats
+    begun_parts job index =
+        let at = got stages j in_stages in
+        let same = sym (length-set jobs j job) in
+        record {
+          each_stage = length-set stages j (stage.Goes index) ∙ parts.each_stage ∙ same;
+          each_answer = parts.each_answer ∙ same;
+          each_seat = parts.each_seat ∙ same;
+          cut = cut_gone stages answers j index at.0 at.1 parts.cut;
+        }
+
+    -- its job goes on with this machine
+    pub gone : (index : ℕ) →
+        places_in jobs (slice_set stages j (stage.Goes index)) answers seats ≡ slice_set places j (Goes index)
+    gone index =
+        let job = got jobs j in_jobs in
+        ap (λ (l : List Job). places_in l (slice_set stages j (stage.Goes index)) answers seats)
+        (set-same jobs j job.0 job.1)
+        ∙ begun job.0 index
+
+    pub gone_parts : (index : ℕ) → InParts jobs (slice_set stages j (stage.Goes index)) answers seats
+    gone_parts index =
+        let job = got jobs j in_jobs in
+        subst (λ (l : List Job). InParts l (slice_set stages j (stage.Goes index)) answers seats)
+        (sym (set-same jobs j job.0 job.1)) (begun_parts job.0 index)
+
+    -- its job has ended
+    pub over_there : (over : Over) →
+        places_in (slice_set jobs j (asked.OpenRoot over.start))
+        (slice_set stages j (stage.Ended (lost_in over.last) over.lost)) (slice_set answers j (answer_of over.last))
+        (slice_set seats j over.seat)
+        ≡ slice_set places j (Ended over)
+    over_there over =
+        set_all jobs stages answers seats j (asked.OpenRoot over.start)
+        (stage.Ended (lost_in over.last) over.lost) (answer_of over.last) over.seat
+        ∙ ap (λ (p : Place). slice_set (places_in jobs stages answers seats) j p) (over_kept over)
+        ∙ ap (λ (l : List Place). slice_set l j (Ended over)) view
+
+    pub over_parts : (over : Over) →
+        InParts (slice_set jobs j (asked.OpenRoot over.start))
+        (slice_set stages j (stage.Ended (lost_in over.last) over.lost)) (slice_set answers j (answer_of over.last))
+        (slice_set seats j over.seat)
+    over_parts over =
+        let at = got stages j in_stages in
+        let same = sym (length-set jobs j (asked.OpenRoot over.start)) in
+        record {
+          each_stage = length-set stages j (stage.Ended (lost_in over.last) over.lost) ∙ parts.each_stage ∙ same;
+          each_answer = length-set answers j (answer_of over.last) ∙ parts.each_answer ∙ same;
+          each_seat = length-set seats j over.seat ∙ parts.each_seat ∙ same;
+          cut = cut_ended stages answers j at.0 answer_there.0 over.last over.lost at.1 answer_there.1 parts.cut;
+        }

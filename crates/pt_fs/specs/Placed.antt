@@ -1,5 +1,5 @@
 -- Inner. Where a job is, and the parts in which that is kept.
-use Rattle.std.specs.Prelude.{◌≡◌, ℕ, List, [], ◌∷◌, Option, Some, None, slice_get}
+use Rattle.std.specs.Prelude.{◌≡◌, ℕ, List, [], ◌∷◌, Option, Some, None, length, slice_get}
 use Rattle.pt_host.specs.declared.ids.Errno.{Errno}
 use Rattle.pt_host.specs.declared.seat.HostSeat.{HostSeat}
 use Rattle.pt_iface.specs.declared.answer.Answer.{Answer}
@@ -52,6 +52,14 @@ abbrev pub CutWhereLost : List Stage → List Answer → Type 0
 CutWhereLost stages answers =
     (j : ℕ) (errno : Errno) (lost : Option Errno) → slice_get stages j ≡ Some (stage.Ended (Some errno) lost) →
     slice_get answers j ≡ Some answer.Cut
+
+-- each part of a place lies among its like, and there is one for each job
+pub record InParts (jobs : List Job) (stages : List Stage) (answers : List Answer) (seats : List (Option HostSeat))
+    : Type 0 where
+  pub each_stage : length stages ≡ length jobs
+  pub each_answer : length answers ≡ length jobs
+  pub each_seat : length seats ≡ length jobs
+  pub cut : CutWhereLost stages answers
 
 -- the answer of a job that has ended, and its seat
 abbrev pub answer_at : Place → Answer

@@ -43,8 +43,8 @@ pub struct Places {
 }
 
 impl Model for Places {
-    ghost use Rattle.std.specs.Prelude.{List, ◌≡◌, length};
-    ghost use Rattle.pt_fs.specs.Placed.{CutWhereLost, Place, places_in};
+    ghost use Rattle.std.specs.Prelude.{List};
+    ghost use Rattle.pt_fs.specs.Placed.{InParts, Place, places_in};
 
     ghost Value = { List Place };
 
@@ -52,10 +52,7 @@ impl Model for Places {
         places_in places.asked.items places.stages.items places.answers.items places.seats.items };
 
     ghost invariant = { λ places.
-        (length places.stages.items ≡ length places.asked.items)
-        × (length places.answers.items ≡ length places.asked.items)
-        × (length places.seats.items ≡ length places.asked.items)
-        × CutWhereLost places.stages.items places.answers.items };
+        InParts places.asked.items places.stages.items places.answers.items places.seats.items };
 }
 
 /// Puts one item in another's place.

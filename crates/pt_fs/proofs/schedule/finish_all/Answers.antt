@@ -1,55 +1,24 @@
-use Rattle.std.proofs.Common.{suc, length, refl, ◌∙◌, ◌≡◌, ◌+◌, ◌-◌, inl, inr, arith}
-use Rattle.std.proofs.lemmas.Bool.{cases_eq}
-use Rattle.std.proofs.lemmas.Option.{slice_get_within}
-use Rattle.pt_fs.specs.Order.{rest_of}
-use Rattle.pt_fs.proofs.Going.{goes_none, goes_on}
-use Rattle.pt_fs.proofs.Losing.{lost_on}
-use Rattle.pt_fs.proofs.Recording.{wrote_none, wrote_on, lost_behind, goes_behind, paces_on}
+use Rattle.std.proofs.Common.{refl, ◌∙◌, arith}
+use Rattle.pt_fs.proofs.Remaining.{below_none, below_more, below_losing, below_all}
 use Rattle.pt_fs.proofs.schedule.finish_all.Goals as goal
 
 pub loop-place-init : goal.loop-place-init
-loop-place-init g c = let e : length c.args.running.now - 0 ≡ length c.args.running.now = omega arith in
-    record {
-      room = omega arith;
-      plan = refl;
-      root = refl;
-      goes = rw e (wrote_none (goes_none _ _ _ _ _ _ _));
-      finished = λ j below. absurd (omega arith);
-      calm = c.requires.calm;
-    }
+loop-place-init g c = record { below = below_none; plan = refl; root = refl; calm = c.requires.calm }
 
 pub returns-in-Some-clause-lost : goal.returns-in-Some-clause-lost
 returns-in-Some-clause-lost g c =
-    let n = length c.args.running.now in
-    let k = c.loop-place.place in
-    let more : n - k ≡ suc (n - (k + 1)) = omega (arith, c.loop-place-test.true) in
-    wrote_on (rw more at c.loop-place.invariant.goes) ((rw c.in-Some.is at c.in_ok-errno.ensures.lost) (n - (k + 1)))
-    (λ xs ys goes lost. lost_on _ _ _ (rest_of n 0) (rest_of (suc (n - (k + 1))) k) _ _ _ _ _ _ _ _ _ _ _ _ _ _
-    c.loop-place.invariant.plan goes (lost_behind xs lost))
+    below_losing c.loop-place.invariant.below (omega (arith, c.loop-place-test.true)) c.loop-place.invariant.plan
+    (rw c.in-Some.is at c.in_ok-errno.ensures.lost)
 
 pub loop-place-preserved : goal.loop-place-preserved
-loop-place-preserved g c =
-    let n = length c.args.running.now in
-    let k = c.loop-place.place in
-    let more : n - k ≡ suc (n - (k + 1)) = omega (arith, c.loop-place-test.true) in
-    record {
-      room = paces_on _ _ _ _ _ _ c.loop-place.invariant.room c.in_ok-errno.ensures.room;
-      plan = c.in_ok-errno.ensures.plan ∙ c.loop-place.invariant.plan;
-      root = c.in_ok-errno.ensures.root ∙ c.loop-place.invariant.root;
-      goes = wrote_on (rw more at c.loop-place.invariant.goes)
-          ((rw c.in_default.is at c.in_ok-errno.ensures.goes) (n - (k + 1))) (λ xs ys goes one.
-          goes_on _ _ _ (rest_of n 0) (rest_of (suc (n - (k + 1))) k)
-          (rest_of (n - (k + 1)) (k + 1)) _ _ _ _ _ _ _ _ _ _ _ _ c.loop-place.invariant.plan
-          goes (goes_behind xs one));
-      finished = λ j below. elim (cases_eq j k) [
-        | inl same ↦ rw same (rw c.in_default.is at c.in_ok-errno.ensures.finished)
-        | inr other ↦ (rw c.in_default.is at c.in_ok-errno.ensures.others) j
-            (c.loop-place.invariant.finished j (omega arith))
-      ];
-      calm = rw c.in_default.is at c.in_ok-errno.ensures.calm;
-    }
+loop-place-preserved g c = record {
+  below = below_more c.loop-place.invariant.below (omega (arith, c.loop-place-test.true)) c.loop-place.invariant.plan
+      (rw c.in_default.is at c.in_ok-errno.ensures.goes) (rw c.in_default.is at c.in_ok-errno.ensures.finished)
+      (rw c.in_default.is at c.in_ok-errno.ensures.others) c.in_ok-errno.ensures.room;
+  plan = c.in_ok-errno.ensures.plan ∙ c.loop-place.invariant.plan;
+  root = c.in_ok-errno.ensures.root ∙ c.loop-place.invariant.root;
+  calm = rw c.in_default.is at c.in_ok-errno.ensures.calm;
+}
 
 pub returns-clause-finished : goal.returns-clause-finished
-returns-clause-finished g c =
-    λ j run at. c.loop-place.invariant.finished j (let inside = slice_get_within c.loop-place.running j run at in
-    omega arith) run at
+returns-clause-finished g c = below_all c.loop-place.invariant.below (omega arith)

@@ -4,33 +4,22 @@ use Rattle.pt_frame.specs.Frame.{cut as cut_grammar}
 use Rattle.pt_frame.specs.Grammar.{Grammar, IsDo, owed_by}
 use Rattle.pt_fs.specs.Loses.{CutRun}
 use Rattle.pt_fs.specs.Running.{Running}
-use Rattle.pt_fs.specs.declared.machine.Machine.{Machine}
-use Rattle.pt_fs.proofs.Laying.{on_laid, on_goes, seen_there, went_through}
+use Rattle.pt_fs.proofs.Laying.{went_laid, went_goes, went_through}
 use Rattle.pt_fs.proofs.jobs.Jobs.cut.Goals as goal
 
 pub settle-requires-clause-laid : goal.settle-requires-clause-laid
-settle-requires-clause-laid c =
-    let wakes = c.wake-index.ensures.wakes in
-    let it = seen_there c.index_mut.result.now wakes c.index_mut.ensures.value in
-    on_laid c.wake-index.ensures.kept.laid c.args.place c.wake-index.result c.wake-index.ensures.index wakes.it _
-    wakes.there
-    (ap (λ (g : Machine). g.place) it)
+settle-requires-clause-laid c = went_laid c.index_mut.result.now _ c.wake-index.ensures.wakes
+    c.wake-index.ensures.kept c.wake-index.ensures.index c.index_mut.ensures.value refl
 
 pub settle-requires-clause-others_go : goal.settle-requires-clause-others_go
-settle-requires-clause-others_go c =
-    let wakes = c.wake-index.ensures.wakes in
-    let it = seen_there c.index_mut.result.now wakes c.index_mut.ensures.value in
-    on_goes c.wake-index.ensures.kept.laid c.args.place c.wake-index.result c.wake-index.ensures.index wakes.it _
-    wakes.there
-    (ap (λ (g : Machine). g.place) it) c.wake-index.ensures.kept.all_go
+settle-requires-clause-others_go c = went_goes c.index_mut.result.now _ c.wake-index.ensures.wakes
+    c.wake-index.ensures.kept c.wake-index.ensures.index c.index_mut.ensures.value refl
 
 pub returns : goal.returns
 returns c = record {
   cut = λ run at.
-      let seen = c.index_mut.result.now in
-      let through = went_through seen _ c.wake-index.ensures.wakes c.wake-index.ensures.kept.laid
-      c.wake-index.ensures.index
-      c.index_mut.ensures.value refl c.settle.ensures.settles in
+      let through = went_through c.index_mut.result.now _ c.wake-index.ensures.wakes c.wake-index.ensures.kept
+      c.wake-index.ensures.index c.index_mut.ensures.value refl c.settle.ensures.settles in
       let is : through.run ≡ run = same_Some through.run run
       (sym through.was ∙ ap (λ (l : List Running). slice_get l c.args.place) c.self.view_is ∙ at) in
       let cut = c.cut.ensures in
