@@ -59,7 +59,7 @@ started_seats plan [] (run ∷ running) h = absurd h
 started_seats plan (job ∷ jobs) [] h = absurd h
 
 -- jobs that have made no step have so begun
-pub waiting_started : (plan : Plan) (jobs : List Job) →
+waiting_started : (plan : Plan) (jobs : List Job) →
     Each (λ (job : Job). (job_start job).eff_caps.0 < 2 ^ 32) jobs → EachStarted plan jobs (map waiting jobs)
 waiting_started plan [] each = tt
 waiting_started plan (job ∷ jobs) each = (
@@ -74,6 +74,12 @@ waiting_started plan (job ∷ jobs) each = (
   },
   waiting_started plan jobs each.1,
 )
+
+-- and so have those that run
+pub started_from : (plan : Plan) (jobs : List Job) (running : List Running) → running ≡ map waiting jobs →
+    Each (λ (job : Job). (job_start job).eff_caps.0 < 2 ^ 32) jobs → EachStarted plan jobs running
+started_from plan jobs running wait fits =
+    subst (λ (l : List Running). EachStarted plan jobs l) (sym wait) (waiting_started plan jobs fits)
 
 pub started_length : (plan : Plan) (jobs : List Job) (running : List Running) → EachStarted plan jobs running →
     length running ≡ length jobs

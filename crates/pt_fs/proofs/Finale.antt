@@ -31,7 +31,6 @@ use Rattle.pt_fs.specs.Each.{EachStarted, EachAnswered, EndsAs, answer_of}
 use Rattle.pt_fs.specs.Ends.{LosesNone, LosesSeat, RisesAt, IsFront, IsLeftAs, IsRestoringStep, RestoresOnly, CallsSeat}
 use Rattle.pt_fs.specs.GoesOn.{EachWent}
 use Rattle.pt_fs.specs.Jobs.{StartAll, job_seat, job_start, job_grammar, asked_of}
-use Rattle.pt_fs.specs.Keeps.{OfEachJob}
 use Rattle.pt_fs.specs.Loses.{LostAt, WindsUp, IsCutFrom, CutRun}
 use Rattle.pt_fs.specs.Order.{order, rest_of, owner, count_of, with_left}
 use Rattle.pt_fs.specs.Took.{IsFinishedAt}
@@ -54,7 +53,7 @@ use Rattle.pt_fs.proofs.Stepping.{advance_restores, leads_belongs, leads_cut_off
 use Rattle.pt_fs.proofs.Traces.{runs_on, steps_by-append, steps_by_same, steps_by_other, made_from, length-steps_by}
 use Rattle.pt_fs.proofs.Traces.{closings_told-append}
 use Rattle.pt_fs.proofs.Seated.{unrefused_job}
-use Rattle.pt_fs.proofs.Whole.{none_counted, beyond_none, none_lost, may_be_told}
+use Rattle.pt_fs.proofs.Whole.{Came, none_counted, beyond_none, none_lost, may_be_told}
 use Rattle.pt_fs.proofs.LostStep.{marked_lost, failed_so, fault_rose, one_if, left_if, some_left, none_if, some_if}
 use Rattle.pt_fs.proofs.LostStep.{some_fits, front_from, map_same, cut_seat}
 
@@ -483,8 +482,13 @@ module _ {H : Type 0} {does : HostRelation H} {plan : Plan} {schedule : List ℕ
   left_comes j it told (inr (inr gone)) =
       inr (gone.1, inr (steps_by j first, steps_by j (others ++ back), steps_lost j, gone.3, calm_first j gone.0))
 
-  pub comes_lost : OfEachJob jobs answers (λ j it told. Comes plan it (steps_by j trace) told)
-  comes_lost j it told at at_told = left_comes j it told (left_one j it told at at_told)
+  pub came_lost : Came does plan jobs trace answers h0 r0 h2 s2 r2
+  came_lost = record {
+    runs = runs_lost;
+    same = long_end;
+    answered = length_lost;
+    comes = λ j it told at at_told. left_comes j it told (left_one j it told at at_told);
+  }
 
   -- the lost step
   its_told : (told : Answer) × (slice_get answers job ≡ Some told)
@@ -513,7 +517,7 @@ module _ {H : Type 0} {does : HostRelation H} {plan : Plan} {schedule : List ℕ
         runs_lost job own.0 errno errno (steps_by job before) (steps_by job (others ++ back)) (step_of step)
         (slice_get-map job_seat jobs job ∙ ap (option_map job_seat) own.1) (each_at jobs e.seats job own.0 own.1)
         (started_fits plan jobs s0 e.started job own.0 own.1)
-        (may_be_told does plan jobs trace answers h0 h2 r0 r2 s2 runs_lost long_end length_lost comes_lost faults p job)
+        (may_be_told came_lost faults p job)
         its_steps its_whole (calm_before job) restoring refused)
     | inr failed ↦ failed
   ]

@@ -205,6 +205,16 @@ listed items capacity wrote each a b (step ∷ steps) writes =
       omega (arith, grown, more),
     )
 
+-- and none but these, where it had none
+pub listed_all : {R : Type 0} {wrote : R → TraceStep → R → Type 0} {a b : R} {holds : List TraceStep → Type 0}
+    (items : R → List TraceStep) (capacity : R → ℕ) →
+    ((a : R) (step : TraceStep) (b : R) → wrote a step b →
+    (items b ≡ items a ++ step ∷ []) × (capacity a ≤ capacity b)) → items a ≡ [] → (written : Wrote wrote a b holds) →
+    (items b ≡ written.steps) × (capacity a ≤ capacity b)
+listed_all {wrote = wrote} {a = a} {b = b} items capacity each none written =
+    let all = listed items capacity wrote each a b written.steps written.written in
+    (all.0 ∙ ap (λ (l : List TraceStep). l ++ written.steps) none, all.1)
+
 -- of a step that was made, whether it could be written down or not
 pub told_so : {X E : Type 0} (r : Result X E) {wrote told : X → Type 0} {written : Type 0} → OnOk r written →
     IfOk r told →

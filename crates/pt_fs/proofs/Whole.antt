@@ -78,27 +78,34 @@ none_lost plan jobs steps running seats ran calm beyond j = elim (slice_get_case
   | inr past ↦ ap (λ (l : List Step). (past_of l).lost) (beyond j past.0)
 ]
 
--- what is known of a run, by how its jobs came to their ends
-module _ {H : Type 0} (does : HostRelation H) (plan : Plan) (jobs : List Job) (trace : List TraceStep)
-    (answers : List Answer) (h h' : H) (tables tables' : Tables) (running' : List Running)
-    (runs : TraceRuns does trace h (map job_seat jobs) tables h' (map run_seat running') tables')
-    (same : length running' ≡ length jobs) (answered : length answers ≡ length jobs)
-    (comes : OfEachJob jobs answers (λ j job told. Comes plan job (steps_by j trace) told)) where
+-- how the jobs of a run came to their ends
+pub record Came {H : Type 0} (does : HostRelation H) (plan : Plan) (jobs : List Job) (trace : List TraceStep)
+    (answers : List Answer) (h : H) (tables : Tables) (h' : H) (running' : List Running) (tables' : Tables)
+    : Type 0 where
+  pub runs : TraceRuns does trace h (map job_seat jobs) tables h' (map run_seat running') tables'
+  pub same : length running' ≡ length jobs
+  pub answered : length answers ≡ length jobs
+  pub comes : OfEachJob jobs answers (λ j job told. Comes plan job (steps_by j trace) told)
+
+-- and what is known of it
+module _ {H : Type 0} {does : HostRelation H} {plan : Plan} {jobs : List Job} {trace : List TraceStep}
+    {answers : List Answer} {h h' : H} {tables tables' : Tables} {running' : List Running}
+    (came : Came does plan jobs trace answers h tables h' running' tables') where
   pub runs_jobs : (left : List HostSeat) → left ≡ seated (map run_seat running') →
       RunsJobs does jobs trace h tables h' left tables'
   runs_jobs left ends = record {
     seats = map run_seat running';
-    runs = runs;
+    runs = came.runs;
     are_left = ends;
     one_each = ap length ends
-        ∙ seats_left does trace h h' (map job_seat jobs) (map run_seat running') tables tables' runs;
+        ∙ seats_left does trace h h' (map job_seat jobs) (map run_seat running') tables tables' came.runs;
   }
 
   -- what each job was told may be told
   pub may_be_told : (faults : H → ℕ) → Promises does faults → (j : ℕ) → AllMayBeTold (steps_by j trace)
   may_be_told faults p j = subst AllMayBeTold (steps_same j trace)
       (hosts_told does faults p j (turns_of trace) h tables h' tables'
-      (host_runs does trace h (map job_seat jobs) tables h' (map run_seat running') tables' runs))
+      (host_runs does trace h (map job_seat jobs) tables h' (map run_seat running') tables' came.runs))
 
   starts_as : (j : ℕ) (job : Job) → slice_get jobs j ≡ Some job → slice_get (map job_seat jobs) j ≡ Some (job_seat job)
   starts_as j job at = slice_get-map job_seat jobs j ∙ ap (option_map job_seat) at
@@ -109,32 +116,32 @@ module _ {H : Type 0} (does : HostRelation H) (plan : Plan) (jobs : List Job) (t
   seats_back faults p starts fits left ends = (
     map run_seat running',
     ends,
-    length-map running' run_seat ∙ same,
+    length-map running' run_seat ∙ came.same,
     λ j job at none.
-        let told = one_for_each jobs answers j job answered at in
-        seat_kept does faults p plan trace h h' (map job_seat jobs) (map run_seat running') tables tables' runs j job
-        told.0 (starts_as j job at) (each_at jobs starts j job at) (fits j job at) (may_be_told faults p j)
-        (comes j job told.0 at told.1)
+        let told = one_for_each jobs answers j job came.answered at in
+        seat_kept does faults p plan trace h h' (map job_seat jobs) (map run_seat running') tables tables' came.runs j
+        job told.0 (starts_as j job at) (each_at jobs starts j job at) (fits j job at) (may_be_told faults p j)
+        (came.comes j job told.0 at told.1)
         none,
   )
 
   pub each_seated : (faults : H → ℕ) → Promises does faults → StartAll jobs → CapsFit jobs →
       SeatedEach plan jobs trace
   each_seated faults p starts fits j job seat at has =
-      let told = one_for_each jobs answers j job answered at in
-      seated_job does faults p plan trace h h' (map job_seat jobs) (map run_seat running') tables tables' runs j job
-      told.0 seat (starts_as j job at) (each_at jobs starts j job at) (fits j job at) (may_be_told faults p j)
-      (comes j job told.0 at told.1) has
+      let told = one_for_each jobs answers j job came.answered at in
+      seated_job does faults p plan trace h h' (map job_seat jobs) (map run_seat running') tables tables' came.runs j
+      job told.0 seat (starts_as j job at) (each_at jobs starts j job at) (fits j job at) (may_be_told faults p j)
+      (came.comes j job told.0 at told.1) has
 
   pub ran_of : ((limit : ℕ) × (tables ≡ empty_tables limit)) →
       Ran does plan tables.limit jobs h tables trace answers h' tables'
   ran_of new = record {
     seats = map job_seat jobs;
     seats' = map run_seat running';
-    runs = runs;
+    runs = came.runs;
     one_each = length-map jobs job_seat;
-    answered = answered;
-    comes = comes;
+    answered = came.answered;
+    comes = came.comes;
     begins = new.1 ∙ ap empty_tables (sym (ap (λ (t : Tables). t.limit) new.1));
   }
 
@@ -164,10 +171,10 @@ module _ {H : Type 0} {does : HostRelation H} {plan : Plan} {schedule : List ℕ
   whole_steps : trace ≡ whole.goes.steps
   whole_steps = whole.goes.longer ∙ ap (λ t. t ++ whole.goes.steps) whole.empty
 
-  pub runs_whole : TraceRuns does trace h (map job_seat jobs) tables h' (map run_seat running') tables'
+  runs_whole : TraceRuns does trace h (map job_seat jobs) tables h' (map run_seat running') tables'
   runs_whole = rw (whole_steps, ← started_seats plan jobs running whole.started) whole.goes.runs
 
-  pub same_whole : length running' ≡ length jobs
+  same_whole : length running' ≡ length jobs
   same_whole = whole.goes.same ∙ started_length plan jobs running whole.started
 
   ran_whole : EachRan plan jobs trace running'
@@ -190,11 +197,16 @@ module _ {H : Type 0} {does : HostRelation H} {plan : Plan} {schedule : List ℕ
       let plain = finish_plain r.2.0 told (subst (IsFinish false r.2.0) none end.1) r.2.2 in
       (subst (λ (f : Finish). Belongs (job_grammar plan job) (steps_by j trace) f) plain.0 end.0, plain.1)
 
-  pub length_whole : length answers ≡ length jobs
+  length_whole : length answers ≡ length jobs
   length_whole = answered_length running' answers whole.answered ∙ same_whole
 
-  pub comes_whole : OfEachJob jobs answers (λ j job told. Comes plan job (steps_by j trace) told)
-  comes_whole j job told at at_told = inl (end_whole j job told at at_told).0
+  pub came_whole : Came does plan jobs trace answers h tables h' running' tables'
+  came_whole = record {
+    runs = runs_whole;
+    same = same_whole;
+    answered = length_whole;
+    comes = λ j job told at at_told. inl (end_whole j job told at at_told).0;
+  }
 
   answers_whole : AnswersEach plan jobs trace answers
   answers_whole = record {

@@ -1,7 +1,6 @@
 -- The report of a run is that of the script.
 use Rattle.std.proofs.Common.{◌≡◌, ◌≤◌, ◌∙◌, ◌++◌, [], ◌∷◌, ℕ, List, Option, length, ap, sym, subst, append_assoc}
 use Rattle.std.proofs.Common.{append-nil}
-use Rattle.std.specs.Prelude.{OnOk, Result, Ok, Err}
 use Rattle.pt_rules.specs.State.{State}
 use Rattle.pt_session.specs.Tables.{Tables}
 use Rattle.pt_iface.specs.declared.answer.Answer.{Answer}
@@ -66,10 +65,6 @@ lines_told text wrote each a b (step ∷ steps) writes =
     lines_told text wrote each writes.0 b steps writes.2
     ∙ ap (λ (l : List ℕ). l ++ step_lines steps) (each a step writes.0 writes.1)
     ∙ append_assoc (text a) (step_line step.job step.act step.reply) (step_lines steps)
-
-pub ok_on : {X E : Type 0} (r : Result X E) (P Q : Type 0) → OnOk r P → (P → Q) → OnOk r Q
-ok_on (Ok x) P Q p f = f p
-ok_on (Err error) P Q p f = tt
 
 -- the parts behind the lines of the steps, each put behind the one before it
 pub rest_put : (old one two three four new a l h s o lost end : List ℕ) → one ≡ old ++ a →

@@ -3,17 +3,14 @@ use Rattle.std.proofs.lemmas.List.{length-map}
 use Rattle.std.proofs.lemmas.Option.{slice_get_within}
 use Rattle.pt_session.specs.Pending.{pending_in}
 use Rattle.pt_law.proofs.Hosts.{Tells}
-use Rattle.pt_fs.specs.Each.{EachStarted}
 use Rattle.pt_fs.specs.Went.{run_seat}
 use Rattle.pt_fs.specs.Trace.{seated}
 use Rattle.pt_fs.proofs.Concluding.{is_run}
-use Rattle.pt_fs.proofs.Ended.{waiting_started, started_length, started_calm, started_fits}
-use Rattle.pt_fs.proofs.Finale.{LostEnd, runs_lost, long_end, length_lost, comes_lost, bounded_lost, spent_lost}
-use Rattle.pt_fs.proofs.Finale.{loses_seat}
+use Rattle.pt_fs.proofs.Ended.{started_from, started_length, started_calm, started_fits}
+use Rattle.pt_fs.proofs.Finale.{LostEnd, came_lost, bounded_lost, spent_lost, loses_seat}
 use Rattle.pt_fs.proofs.Going.{there_took}
 use Rattle.pt_fs.proofs.Recording.{wrote_on, wrote_so, winds_behind}
-use Rattle.pt_fs.proofs.Whole.{Whole, runs_whole, same_whole, length_whole, comes_whole, bounded_whole, spent_whole}
-use Rattle.pt_fs.proofs.Whole.{ends_whole, runs_jobs, seats_back, each_seated, ran_of}
+use Rattle.pt_fs.proofs.Whole.{Whole, came_whole, bounded_whole, spent_whole, ends_whole}
 use Rattle.pt_fs.proofs.Works.{started_bounds}
 use Rattle.pt_fs.proofs.recorded.drive_into.Given as given
 use Rattle.pt_fs.proofs.recorded.drive_into.Goals as goal
@@ -21,8 +18,7 @@ use Rattle.pt_fs.proofs.recorded.drive_into.Goals as goal
 pub run_jobs-requires-clause-named : goal.run_jobs-requires-clause-named
 run_jobs-requires-clause-named g c =
     let plan = g.F.SteppedFs.plan_of c.args.fs in
-    let started : EachStarted plan c.args.jobs.items c.in-Ok.running =
-    rw c.in-Ok.ensures.waiting (waiting_started plan c.args.jobs.items c.in-Ok.ensures.fits) in
+    let started = started_from plan c.args.jobs.items c.in-Ok.running c.in-Ok.ensures.waiting c.in-Ok.ensures.fits in
     let same = started_length plan c.args.jobs.items c.in-Ok.running started in
     let few = c.requires.few in
     omega (arith, same, few)
@@ -30,8 +26,7 @@ run_jobs-requires-clause-named g c =
 pub run_jobs-requires-clause-calm : goal.run_jobs-requires-clause-calm
 run_jobs-requires-clause-calm g c =
     let plan = g.F.SteppedFs.plan_of c.args.fs in
-    let started : EachStarted plan c.args.jobs.items c.in-Ok.running =
-    rw c.in-Ok.ensures.waiting (waiting_started plan c.args.jobs.items c.in-Ok.ensures.fits) in
+    let started = started_from plan c.args.jobs.items c.in-Ok.running c.in-Ok.ensures.waiting c.in-Ok.ensures.fits in
     started_calm plan c.args.jobs.items c.in-Ok.running started
 
 pub wind_up-requires-clause-few : goal.wind_up-requires-clause-few
@@ -39,8 +34,7 @@ wind_up-requires-clause-few g c =
     let lost = (rw c.in-Ok-Some.field-0-is at c.in-Ok-Some.ensures.lost).so in
     let same = lost.last.same ∙ lost.goes.same in
     let plan = g.F.SteppedFs.plan_of c.args.fs in
-    let started : EachStarted plan c.args.jobs.items c.in-Ok.running =
-    rw c.in-Ok.ensures.waiting (waiting_started plan c.args.jobs.items c.in-Ok.ensures.fits) in
+    let started = started_from plan c.args.jobs.items c.in-Ok.running c.in-Ok.ensures.waiting c.in-Ok.ensures.fits in
     let long = started_length plan c.args.jobs.items c.in-Ok.running started in
     let few = c.requires.few in
     omega (arith, same, long, few)
@@ -60,8 +54,7 @@ pub returns-in-Ok-None-clause-run : goal.returns-in-Ok-None-clause-run
 returns-in-Ok-None-clause-run g c =
     let jobs = c.args.jobs.items in
     let plan = g.F.SteppedFs.plan_of c.args.fs in
-    let started : EachStarted plan c.args.jobs.items c.in-Ok.running =
-    rw c.in-Ok.ensures.waiting (waiting_started plan c.args.jobs.items c.in-Ok.ensures.fits) in
+    let started = started_from plan c.args.jobs.items c.in-Ok.running c.in-Ok.ensures.waiting c.in-Ok.ensures.fits in
     let running = c.in-Ok.running in
     let seats = ap seated c.finish_run.ensures.seats in
     let new = c.requires.new in
@@ -84,16 +77,8 @@ returns-in-Ok-None-clause-run g c =
       answered = c.finish_run.ensures.answers;
     } in
     let spent = spent_whole whole in
-    let is = is_run g.H.Host.does g.H.Host.tree g.H.Host.faults g.met.H.Host.promised (lawful_of g) plan jobs _ _ _ _
-    trace _ _
-    (ran_of g.H.Host.does plan jobs trace _ _ _ _ _ _ (runs_whole whole) (same_whole whole) (length_whole whole)
-    (comes_whole whole) new)
-    (runs_jobs g.H.Host.does plan jobs trace _ _ _ _ _ _ (runs_whole whole) (same_whole whole) (length_whole whole)
-    (comes_whole whole) _ seats)
-    (seats_back g.H.Host.does plan jobs trace _ _ _ _ _ _ (runs_whole whole) (same_whole whole) (length_whole whole)
-    (comes_whole whole) g.H.Host.faults g.met.H.Host.promised c.requires.seats fits _ seats)
-    (each_seated g.H.Host.does plan jobs trace _ _ _ _ _ _ (runs_whole whole) (same_whole whole) (length_whole whole)
-    (comes_whole whole) g.H.Host.faults g.met.H.Host.promised c.requires.seats fits)
+    let is = is_run (came_whole whole) g.H.Host.tree g.H.Host.faults g.met.H.Host.promised (lawful_of g) new
+    c.requires.seats fits _ seats
     (bounded_whole whole) (omega (arith, bounds, none, spent)) in
     (rw fs is, ends_whole whole))
 
@@ -101,8 +86,7 @@ pub returns-in-Ok-wind_up-clause-run : goal.returns-in-Ok-wind_up-clause-run
 returns-in-Ok-wind_up-clause-run g c =
     let jobs = c.args.jobs.items in
     let plan = g.F.SteppedFs.plan_of c.args.fs in
-    let started : EachStarted plan c.args.jobs.items c.in-Ok.running =
-    rw c.in-Ok.ensures.waiting (waiting_started plan c.args.jobs.items c.in-Ok.ensures.fits) in
+    let started = started_from plan c.args.jobs.items c.in-Ok.running c.in-Ok.ensures.waiting c.in-Ok.ensures.fits in
     let running = c.in-Ok.running in
     let seats = ap seated c.finish_run-left.ensures.seats in
     let new = c.requires.new in
@@ -132,23 +116,15 @@ returns-in-Ok-wind_up-clause-run g c =
       answered = c.finish_run-left.ensures.answers;
     } in
     let spent = spent_lost e in
-    let is = is_run g.H.Host.does g.H.Host.tree g.H.Host.faults g.met.H.Host.promised (lawful_of g) plan jobs _ _ _ _
-    trace _ _
-    (ran_of g.H.Host.does plan jobs trace _ _ _ _ _ _ (runs_lost e) (long_end e) (length_lost e) (comes_lost e) new)
-    (runs_jobs g.H.Host.does plan jobs trace _ _ _ _ _ _ (runs_lost e) (long_end e) (length_lost e) (comes_lost e) _
-    seats)
-    (seats_back g.H.Host.does plan jobs trace _ _ _ _ _ _ (runs_lost e) (long_end e) (length_lost e) (comes_lost e)
-    g.H.Host.faults g.met.H.Host.promised c.requires.seats fits _ seats)
-    (each_seated g.H.Host.does plan jobs trace _ _ _ _ _ _ (runs_lost e) (long_end e) (length_lost e) (comes_lost e)
-    g.H.Host.faults g.met.H.Host.promised c.requires.seats fits)
+    let is = is_run (came_lost e) g.H.Host.tree g.H.Host.faults g.met.H.Host.promised (lawful_of g) new
+    c.requires.seats fits _ seats
     (bounded_lost e) (omega (arith, bounds, none, spent)) in
     (rw fs is, loses_seat e g.H.Host.faults g.met.H.Host.promised))
 
 pub returns-in-Err-run_jobs-clause-full : goal.returns-in-Err-run_jobs-clause-full
 returns-in-Err-run_jobs-clause-full g c =
     let plan = g.F.SteppedFs.plan_of c.args.fs in
-    let started : EachStarted plan c.args.jobs.items c.in-Ok.running =
-    rw c.in-Ok.ensures.waiting (waiting_started plan c.args.jobs.items c.in-Ok.ensures.fits) in
+    let started = started_from plan c.args.jobs.items c.in-Ok.running c.in-Ok.ensures.waiting c.in-Ok.ensures.fits in
     let bounds = started_bounds _ c.args.jobs.items c.in-Ok.running started in
     let none = ap pending_in c.requires.new.1 in
     let full = c.in-Err-run_jobs.ensures.full in
@@ -157,8 +133,7 @@ returns-in-Err-run_jobs-clause-full g c =
 pub returns-in-Err-wind_up-clause-full : goal.returns-in-Err-wind_up-clause-full
 returns-in-Err-wind_up-clause-full g c =
     let plan = g.F.SteppedFs.plan_of c.args.fs in
-    let started : EachStarted plan c.args.jobs.items c.in-Ok.running =
-    rw c.in-Ok.ensures.waiting (waiting_started plan c.args.jobs.items c.in-Ok.ensures.fits) in
+    let started = started_from plan c.args.jobs.items c.in-Ok.running c.in-Ok.ensures.waiting c.in-Ok.ensures.fits in
     let bounds = started_bounds _ c.args.jobs.items c.in-Ok.running started in
     let none = ap pending_in c.requires.new.1 in
     let paced = c.in-Ok-Some.ensures.room in
@@ -168,8 +143,7 @@ returns-in-Err-wind_up-clause-full g c =
 pub returns-in-Ok-None-clause-one_each : goal.returns-in-Ok-None-clause-one_each
 returns-in-Ok-None-clause-one_each g c =
     let plan = g.F.SteppedFs.plan_of c.args.fs in
-    let started : EachStarted plan c.args.jobs.items c.in-Ok.running =
-    rw c.in-Ok.ensures.waiting (waiting_started plan c.args.jobs.items c.in-Ok.ensures.fits) in
+    let started = started_from plan c.args.jobs.items c.in-Ok.running c.in-Ok.ensures.waiting c.in-Ok.ensures.fits in
     let goes = rw c.in-Ok-None.field-0-is at c.in-Ok-None.ensures.goes in
     ap length c.finish_run.ensures.seats ∙ length-map c.run_jobs.new.running run_seat ∙ goes.so.same
     ∙ started_length plan c.args.jobs.items c.in-Ok.running started
@@ -177,8 +151,7 @@ returns-in-Ok-None-clause-one_each g c =
 pub returns-in-Ok-wind_up-clause-one_each : goal.returns-in-Ok-wind_up-clause-one_each
 returns-in-Ok-wind_up-clause-one_each g c =
     let plan = g.F.SteppedFs.plan_of c.args.fs in
-    let started : EachStarted plan c.args.jobs.items c.in-Ok.running =
-    rw c.in-Ok.ensures.waiting (waiting_started plan c.args.jobs.items c.in-Ok.ensures.fits) in
+    let started = started_from plan c.args.jobs.items c.in-Ok.running c.in-Ok.ensures.waiting c.in-Ok.ensures.fits in
     let lost = (rw c.in-Ok-Some.field-0-is at c.in-Ok-Some.ensures.lost).so in
     ap length c.finish_run-left.ensures.seats ∙ length-map c.wind_up.new.running run_seat
     ∙ c.in-Ok-wind_up.ensures.same ∙ lost.last.same ∙ lost.goes.same

@@ -1,7 +1,8 @@
 use Rattle.std.proofs.Common.{◌++◌, ◌∙◌, List, ap}
 use Rattle.pt_iface.specs.declared.answer.Answer.{Answer}
 use Rattle.pt_run.specs.Report.{answer_lines}
-use Rattle.pt_run.proofs.Reporting.{ok_on, rest_put}
+use Rattle.pt_fs.proofs.Recording.{ok_on}
+use Rattle.pt_run.proofs.Reporting.{rest_put}
 use Rattle.pt_run.proofs.make_report.push_rest.Goals as goal
 
 pub returns : goal.returns

@@ -8,13 +8,19 @@ index_mut-requires c =
     omega (arith, low, c.self.inside.stages.ok.0)
 
 pub put-requires : goal.put-requires
-put-requires c = in_jobs c.self.invariant c.self.view_is c.args.place c.requires.named
+put-requires c =
+    let low = in_jobs c.self.invariant c.self.view_is c.args.place c.requires.named in
+    omega (arith, low)
 
 pub put-requires-2 : goal.put-requires-2
-put-requires-2 c = in_answers c.self.invariant c.self.view_is c.args.place c.requires.named
+put-requires-2 c =
+    let low = in_answers c.self.invariant c.self.view_is c.args.place c.requires.named in
+    omega (arith, low)
 
 pub put-requires-3 : goal.put-requires-3
-put-requires-3 c = in_seats c.self.invariant c.self.view_is c.args.place c.requires.named
+put-requires-3 c =
+    let low = in_seats c.self.invariant c.self.view_is c.args.place c.requires.named in
+    omega (arith, low)
 
 pub invariant_of-self : goal.invariant_of-self
 invariant_of-self c = rw (c.put.ensures, c.put-2.ensures, c.put-3.ensures, c.answered.ensures, c.loss_of.ensures)
