@@ -224,6 +224,7 @@ impl Body for AnyBody {
 
     ghost inserts = { any_inserts };
 
+    #[inline(always)]
     fn want<'a>(&'a self, plan: &'a Plan, seat: &'a HostSeat) -> Wanted<'a> {
         match self {
             AnyBody::Request(body) => body.want(plan, seat),
@@ -238,6 +239,7 @@ impl Body for AnyBody {
         }
     }
 
+    #[inline(always)]
     fn take(&mut self, plan: &Plan, seat: &HostSeat, reply: ActReply) -> Next {
         match self {
             AnyBody::Request(body) => body.take(plan, seat, reply),

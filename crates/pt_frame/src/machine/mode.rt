@@ -205,6 +205,7 @@ fn is_edge_ready(edges: Edges, holds: &Holds, marks: &Marks) -> bool
 }
 
 /// A bracket ends, where one does that has holds above its mark, and then this follows.
+#[inline(always)]
 fn shut_on(edges: Edges, tail: Tail, holds: &Holds, marks: &mut Marks) -> Mode
     requires holds { length holds.now ≤ most_holds }
     requires marks { length marks.old + begun_by edges.brackets ≤ most_holds }
@@ -232,6 +233,7 @@ fn shut_on(edges: Edges, tail: Tail, holds: &Holds, marks: &mut Marks) -> Mode
 }
 
 /// The open scopes end, where there is one, then a bracket, and then this follows.
+#[inline(always)]
 fn go_over(edges: Edges, tail: Tail, holds: &Holds, marks: &mut Marks) -> Mode
     requires holds { length holds.now ≤ most_holds }
     requires marks { length marks.old + begun_by edges.brackets ≤ most_holds }
@@ -360,6 +362,7 @@ pub fn hold_given(
 }
 
 /// What follows, if a refusal is answered so.
+#[inline(always)]
 fn tail_of(then: Then, refused: Answer) -> Tail
     ensures left { (seat : HostSeat) (tree : RequestTree) (holds : List Hold) (marks : List ℕ) →
         tail_left seat result tree holds marks ≡ then_left seat then refused tree holds marks }

@@ -86,6 +86,7 @@ impl EntryLookup {
     }
 
     /// Goes on from the reply of the act that was wanted.
+    #[inline(always)]
     pub fn take(&mut self, plan: &Plan, reply: ActReply) -> Part<Looked>
         ensures left { (name : List ℕ) (next : Looked → RequestTree) →
             with_memory (asked (look_up_left self.old name plan.now next) reply)
