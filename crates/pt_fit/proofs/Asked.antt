@@ -76,7 +76,7 @@ request_right plan seat who asked steps last t b =
       | inr (inl up) ↦ subst (IsRight (asking plan who asked) steps)
           (sym (same_answer last answer.NoMemory up.answered)) (tt, tt)
       | inr (inr r) ↦ subst (IsRight (asking plan who asked) steps) (sym (same_answer last r.1 r.3))
-          (fit_along (asking plan who asked) (tree_of plan seat who asked) [] [] blank [] r.0 steps r.1
+          (fit_along (asking plan who asked) (tree_of plan seat who asked) [] [] blank [] r.0 steps r.1 refl
           (fit_request plan seat who asked) (own_told r.0 steps r.2 t) (nothing_within (asking plan who asked) steps)
           (own_within (asking plan who asked) r.0 steps r.2) r.4)
     ]

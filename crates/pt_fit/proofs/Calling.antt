@@ -1,5 +1,5 @@
 -- The calls on what is open: what may follow the awaited reply is fit, and any other reply refuses the request.
-use Rattle.std.proofs.Common.{◌≡◌, ℕ, List, ◌∷◌, None, Some, refl, sym, subst}
+use Rattle.std.proofs.Common.{◌≡◌, ℕ, List, ◌∷◌, Some, refl, sym, subst}
 use Rattle.pt_host.specs.Call.{Call}
 use Rattle.pt_host.specs.Promises.{FitsCall}
 use Rattle.pt_host.specs.Words.{Takes.{here}}
@@ -11,7 +11,7 @@ use Rattle.pt_host.specs.declared.reply.HostValue.TheVariants as value
 use Rattle.pt_host.specs.declared.stat.FsStat.{FsStat}
 use Rattle.pt_host.specs.declared.stat.Stat.{Stat}
 use Rattle.pt_frame.specs.Deed.{Calls}
-use Rattle.pt_frame.specs.Held.{held, noted}
+use Rattle.pt_frame.specs.Held.{held}
 use Rattle.pt_frame.specs.Tree.{RequestTree}
 use Rattle.pt_frame.specs.declared.act.ActReply.{ActReply}
 use Rattle.pt_frame.specs.declared.act.ActReply.TheVariants.{Host}
@@ -24,7 +24,7 @@ use Rattle.pt_law.specs.Keeps.{MayMake}
 use Rattle.pt_law.specs.Naming.{made}
 use Rattle.pt_fit.specs.Cause.{Asking}
 use Rattle.pt_fit.specs.Fit.{Fit}
-use Rattle.pt_fit.proofs.Parts.{Goes, GoesAfter, Seen, held_as, still}
+use Rattle.pt_fit.proofs.Parts.{Goes, GoesAfter, Seen, held_as, looked_by, still}
 use Rattle.pt_fit.proofs.Refused.{IsHeeded, refused_by}
 
 pub fit_read_at : {asked : Asking} {seen : List Seen} {holds : List Hold} {marks : List ℕ}
@@ -76,7 +76,7 @@ fit_stat_fs {asked = asked} {holds = holds} fd row next f = record {
 pub fit_look_at : {asked : Asking} {seen : List Seen} {holds : List Hold} {marks : List ℕ}
     {notes : Notes} (fd : Fd) (next : Stat → RequestTree) → MayMake (Calls (call.Stat fd)) holds notes →
     ((told : Stat) → GoesAfter (made (Calls (call.Stat fd)) (Host (host.Ok (value.Stat told)))) asked seen (next told)
-    (noted fd told.ids holds) marks (record notes { given = None })) →
+    holds marks (looked_by fd told.ids notes)) →
     Goes asked seen (stat fd next) holds marks notes
 fit_look_at {asked = asked} {holds = holds} fd next may f = record {
   on = λ path s. (

@@ -1,5 +1,5 @@
 -- The requests on what files hold are fit.
-use Rattle.std.proofs.Common.{◌∷◌, [], inl, inr, ℕ, Bool, false, List, None, refl, subst, sym}
+use Rattle.std.proofs.Common.{◌∷◌, [], inl, inr, ℕ, Bool, false, List, refl, subst, sym}
 use Rattle.std.specs.Int.{w64, cast_signed}
 use Rattle.pt_host.specs.Words.{Takes.{here, there}}
 use Rattle.pt_host.specs.declared.ids.Fd.{Fd}
@@ -122,5 +122,5 @@ pub fit_syncfs : (plan : Plan) (who : Context) (inode : ℕ) →
 fit_syncfs plan who inode = fit_begin _ refl (λ session.
     fit_open_inode false plan session inode o_nofollow _ tt nothing_bare (λ row dir fd.
     fit_do_call (call.SyncFs fd) _ (record { holds = λ told these. refl; notes = λ told these. refl })
-    (((hold.Fd fd None, _, here, refl), tt), tt) (refl, tt)
+    (((hold.Fd fd, _, here, refl), tt), tt) (refl, tt)
     (fit_gives answer.Done (λ path. (tt, tt, tt)))))

@@ -35,7 +35,7 @@ use Rattle.pt_req.specs.declared.parts.asked.FileAsked.{FileAsked}
 use Rattle.pt_req.specs.declared.parts.asked.NamedHandle.{NamedHandle}
 use Rattle.pt_req.specs.declared.plan.Plan.{Plan}
 use Rattle.pt_attr.specs.Pattern.{tree_of}
-use Rattle.pt_law.specs.Discipline.{Notes, blank, given_for}
+use Rattle.pt_law.specs.Discipline.{Notes, blank}
 use Rattle.pt_fit.specs.Cause.{Asking, BlocksLabel, IsBlockedLabel, OwnCause, TellsCause, asking}
 use Rattle.pt_fit.proofs.Holds.{nothing_bare}
 use Rattle.pt_fit.proofs.Joined.{after_any_step, fit_gives, fit_look_up, fit_open_num}
@@ -45,6 +45,7 @@ use Rattle.pt_fit.proofs.Parts.{fit_draw_handle, fit_file_of}
 use Rattle.pt_fit.proofs.Parts.{fit_insert_given, fit_resolve, fit_stat}
 use Rattle.pt_fit.proofs.Parts.{fit_take_under}
 use Rattle.pt_fit.proofs.Scopes.{Covers, fit_make_at, fit_open_scope, fit_raise}
+use Rattle.pt_fit.proofs.Telling.{told_here}
 
 -- scopes lie on what holds none
 pub covers_none : (row : ℕ) (dir : Fd) → Covers (hold.Pin row (Some dir) ∷ []) (hold.Pin row (Some dir) ∷ [])
@@ -162,42 +163,43 @@ module _ (plan : Plan) (who : Context) (parent : ℕ) (name : List ℕ) (mode : 
 
   -- what was made gets its context, is what its name leads to, and gets a handle by its number
   fit_new : {marks : List ℕ} {notes : Notes} (session : BegunSession) (row : ℕ) (dir fd : Fd) →
-      notes.era ≡ Some session.era →
+      notes.era ≡ Some session.era → notes.brought ≡ None →
       Goes asks (Agreed session.agreed ∷ []) (new_file plan session file dir fd answers)
-      (hold.Fd fd None ∷ hold.Pin row (Some dir) ∷ []) marks notes
-  fit_new session row dir fd e =
-      fit_stat fd None _ (λ made.
+      (hold.Fd fd ∷ hold.Pin row (Some dir) ∷ []) marks notes
+  fit_new session row dir fd e n =
+      fit_stat fd _ (λ made.
       fit_labelled session fd dir name ext.secctx _
-      ((hold.Fd fd (Some made.ids), _, here, refl), tt) ((hold.Pin row (Some dir), _, there here, refl), tt)
+      ((hold.Fd fd, _, here, refl), tt) ((hold.Pin row (Some dir), _, there here, refl), tt)
       (λ brought is bad path s. blocked_by what path session.agreed (blocks session.agreed brought is bad) s.each.1.0)
-      (fit_look_up plan session parent name _ (λ one. refl) e (λ looked later l.
+      (fit_look_up plan session parent name _ (λ one. refl) e n (λ looked later l.
       fit_if_same made.ids looked.ids _
       (λ differ path s. ((made.ids, looked.ids, s.each.1.0, s.each.0, differ), refl)) (λ same.
       fit_draw_handle _ (λ handle.
-      fit_take_under session.era looked.entry.inode fd (Some made.ids) _
-      (fit_insert_given session handle session.era looked.entry.inode fd made.ids _ (l.era ∙ e) refl
-      (l.given ∙ ap (λ (ids : ObjIds). Some (given_for looked.entry.inode ids)) (sym same))
+      fit_take_under session.era looked.entry.inode fd _
+      (fit_insert_given session handle session.era looked.entry.inode fd looked.ids _ (l.era ∙ e) refl l.given
+      (l.told fd (told_here fd made.ids _ ∙ ap (λ (ids : ObjIds). Some ids) same, n))
       (fit_gives (answer.Created looked.entry handle (create_options plan.config)) (λ path. (refl, tt, tt)))))))))
 
   -- what was there gets one by its own
   fit_old : {marks : List ℕ} {notes : Notes} (seat : HostSeat) (session : BegunSession) (row : ℕ) (dir : Fd) →
-      notes.era ≡ Some session.era → takes_old file ≡ true →
+      notes.era ≡ Some session.era → notes.brought ≡ None → takes_old file ≡ true →
       Goes asks (Agreed session.agreed ∷ []) (old_file plan seat session file answers)
       (hold.Pin row (Some dir) ∷ []) marks notes
-  fit_old seat session row dir e takes =
-      fit_look_up plan session parent name _ (λ one. refl) e (λ looked later l.
+  fit_old seat session row dir e n takes =
+      fit_look_up plan session parent name _ (λ one. refl) e n (λ looked later l.
       fit_open_num plan seat session looked.entry.inode kill flags _ (not_set (includes flags o_excl) takes)
       (λ one. refl) (l.era ∙ e) (λ handle last.
       fit_gives (answer.Created looked.entry handle (create_options plan.config)) (λ path. (refl, tt, tt))))
 
   fit_making : {marks : List ℕ} {notes : Notes} (seat : HostSeat) (session : BegunSession) (row : ℕ) (dir : Fd) →
-      notes.era ≡ Some session.era → notes.resolved ≡ Some (record { number = parent; row = row }) →
+      notes.era ≡ Some session.era → notes.brought ≡ None →
+      notes.resolved ≡ Some (record { number = parent; row = row }) →
       Goes asks (Agreed session.agreed ∷ []) (make_file plan seat session file dir answers)
       (hold.Pin row (Some dir) ∷ []) marks notes
-  fit_making seat session row dir e r =
+  fit_making seat session row dir e n r =
       fit_as_asker _
       (λ holds c. fit_make_at holds [] dir name (making_flags flags) mode row parent _ _ _ c r
-      (λ fd. fit_new session row dir fd e) (fit_old seat session row dir e))
+      (λ fd. fit_new session row dir fd e n) (fit_old seat session row dir e n))
       seat (asker_of plan session who ext.sup_gid) _ (covers_none row dir)
       (λ none. inr (forbidden_from _ _ _ _ none, refl))
 
@@ -205,4 +207,4 @@ module _ (plan : Plan) (who : Context) (parent : ℕ) (name : List ℕ) (mode : 
   fit_create seat = fit_begin _ refl (λ session.
       fit_checked (is_bad_name name) _ (λ bad. inl (bad, refl))
       (fit_resolve parent _ nothing_bare (λ row. after_any_step (fit_file_of row.row row.form _ (λ dir.
-      fit_making seat session row.row dir refl refl)))))
+      fit_making seat session row.row dir refl refl refl)))))

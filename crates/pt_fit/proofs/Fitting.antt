@@ -32,7 +32,7 @@ use Rattle.pt_frame.specs.Frame.{front, behind, under, mark_in, outer}
 use Rattle.pt_law.specs.Keeps.{uncovered, down_to, After, Keeps}
 use Rattle.pt_law.specs.Branch.{Along, AreOwn, AreOwn.{none, keep, skip}}
 use Rattle.pt_law.specs.Naming.{made}
-use Rattle.pt_law.proofs.Moving.{told_of}
+use Rattle.pt_law.proofs.Moving.{may_bring_none, told_of}
 use Rattle.pt_fit.specs.Cause.{Asking, SortCauses, StepCauses, EventCauses, SomeCauses, SomeTells, SomeTellsIds}
 use Rattle.pt_fit.specs.Cause.{TellsCause, TellsStat}
 use Rattle.pt_fit.specs.Fit.{Fit, IsCausedLeaf, MayAnswer}
@@ -43,9 +43,9 @@ after_map zero P Q notes f k = f notes k
 after_map (suc count) P Q notes f k = λ later l. f later (k later l)
 
 -- with the same notes at least
-after_at : (count : ℕ) (P : Notes → Type 0) (notes : Notes) → After count P notes → P notes
-after_at zero P notes k = k
-after_at (suc count) P notes k = k notes (refl, refl, refl)
+after_at : (count : ℕ) (P : Notes → Type 0) (notes : Notes) → notes.brought ≡ None → After count P notes → P notes
+after_at zero P notes n k = k
+after_at (suc count) P notes n k = k notes (refl, refl, refl, refl, n)
 
 pub fit_keeps : (asked : Asking) (tree : RequestTree) (holds : List Hold) (marks : List ℕ) (notes : Notes)
     (path : List Step) → Fit asked tree holds marks notes path → Keeps tree holds marks notes
@@ -175,36 +175,37 @@ at_leaf asked given last path all e w c m =
     subst (IsRight asked all) (sym e) (caused_within asked given path all w c, m)
 
 pub fit_along : (asked : Asking) (tree : RequestTree) (holds : List Hold) (marks : List ℕ) (notes : Notes)
-    (path own all : List Step) (last : Answer) → Fit asked tree holds marks notes path → AllMayBeTold own →
-    Within asked path all → Within asked own all → Along tree own last → IsRight asked all last
-fit_along asked (Gives given) holds marks notes path [] all last f t w v a =
+    (path own all : List Step) (last : Answer) → notes.brought ≡ None → Fit asked tree holds marks notes path →
+    AllMayBeTold own → Within asked path all → Within asked own all → Along tree own last → IsRight asked all last
+fit_along asked (Gives given) holds marks notes path [] all last n f t w v a =
     at_leaf asked given last path all a w f.1 f.2
-fit_along asked (Gives given) holds marks notes path (step ∷ own) all last f t w v a = absurd a
-fit_along asked (Refuses told) holds marks notes path [] all last f t w v a =
+fit_along asked (Gives given) holds marks notes path (step ∷ own) all last n f t w v a = absurd a
+fit_along asked (Refuses told) holds marks notes path [] all last n f t w v a =
     at_leaf asked (refusal told) last path all a w f (refusal_answers asked.request told)
-fit_along asked (Refuses told) holds marks notes path (step ∷ own) all last f t w v a = absurd a
-fit_along asked (Asks deed next) holds marks notes path [] all last f t w v a = absurd a
-fit_along asked (Asks deed next) holds marks notes path (step ∷ own) all last f t w v a =
+fit_along asked (Refuses told) holds marks notes path (step ∷ own) all last n f t w v a = absurd a
+fit_along asked (Asks deed next) holds marks notes path [] all last n f t w v a = absurd a
+fit_along asked (Asks deed next) holds marks notes path (step ∷ own) all last n f t w v a =
+    let brings = may_bring_none deed step.reply holds notes f.0 n in
     fit_along asked (next step.reply) (held deed step.reply holds) marks (notes_after notes deed step.reply)
-    (made deed step.reply ∷ path) own all last
-    (after_at (closings_in deed step.reply) _ (notes_after notes deed step.reply)
+    (made deed step.reply ∷ path) own all last brings
+    (after_at (closings_in deed step.reply) _ (notes_after notes deed step.reply) brings
     (f.1 step.reply (told_of deed step.deed step.reply a.0 t.0))) t.1
     (further asked deed step path own all a.0 w v) (rest_within asked step own all v) a.1
-fit_along asked (Opens call scope next) holds marks notes path [] all last f t w v a = absurd a
-fit_along asked (Opens call scope next) holds marks notes path (step ∷ own) all last f t w v a =
+fit_along asked (Opens call scope next) holds marks notes path [] all last n f t w v a = absurd a
+fit_along asked (Opens call scope next) holds marks notes path (step ∷ own) all last n f t w v a =
     fit_along asked (next step.reply) (opened scope step.reply holds) marks notes
-    (made (Calls call) step.reply ∷ path) own all last
+    (made (Calls call) step.reply ∷ path) own all last n
     (f.1 step.reply (told_of (Calls call) step.deed step.reply a.0 t.0)) t.1
     (further asked (Calls call) step path own all a.0 w v) (rest_within asked step own all v) a.1
-fit_along asked (Bares rest) holds marks notes path own all last f t w v a =
-    fit_along asked rest (uncovered holds) marks notes path own all last f t w v a
-fit_along asked (Brackets rest) holds marks notes path own all last f t w v a =
-    fit_along asked rest holds (length holds ∷ marks) notes path own all last f t w v a
-fit_along asked (Shuts passes rest) holds marks notes path own all last f t w v a =
+fit_along asked (Bares rest) holds marks notes path own all last n f t w v a =
+    fit_along asked rest (uncovered holds) marks notes path own all last n f t w v a
+fit_along asked (Brackets rest) holds marks notes path own all last n f t w v a =
+    fit_along asked rest holds (length holds ∷ marks) notes path own all last n f t w v a
+fit_along asked (Shuts passes rest) holds marks notes path own all last n f t w v a =
     fit_along asked rest (under (front passes holds) (down_to (mark_in marks) (behind passes holds)))
-    (outer marks) notes path own all last (f notes (refl, refl, refl)) t w v a
-fit_along asked (Allocates rest) holds marks notes path own all last f t w v a =
-    fit_along asked rest holds marks notes path own all last f t w v a
+    (outer marks) notes path own all last n (f notes (refl, refl, refl, refl, n)) t w v a
+fit_along asked (Allocates rest) holds marks notes path own all last n f t w v a =
+    fit_along asked rest holds marks notes path own all last n f t w v a
 
 causes_among : (what : Request) (own all : List Step) (errno : Errno) → AreOwn own all → SomeCauses what own errno →
     SomeCauses what all errno

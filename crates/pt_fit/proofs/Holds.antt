@@ -1,9 +1,8 @@
 -- What is held on top, and what is left of it where a bracket ends.
-use Rattle.std.proofs.Common.{◌≡◌, ◌<◌, ◌+◌, ℕ, List, [], ◌∷◌, ◌++◌, length, Bool, true, false, Option, Some}
+use Rattle.std.proofs.Common.{◌≡◌, ◌<◌, ◌+◌, ℕ, List, [], ◌∷◌, ◌++◌, length, Bool, true, false}
 use Rattle.std.proofs.Common.{refl, sym, ap, ◌∙◌, arith, nat_lt, ◌==◌, if◌then◌else◌, length-append}
 use Rattle.pt_host.specs.declared.ids.Fd.{Fd}
-use Rattle.pt_host.specs.declared.ids.ObjIds.{ObjIds}
-use Rattle.pt_frame.specs.Held.{laid, noted, handed, is_scope}
+use Rattle.pt_frame.specs.Held.{laid, handed, is_scope}
 use Rattle.pt_frame.specs.declared.hold.Hold.{Hold}
 use Rattle.pt_frame.specs.declared.hold.Hold.TheVariants as hold
 use Rattle.pt_req.specs.Capability.{fsetid}
@@ -16,19 +15,13 @@ IsBare holds = (one : Hold) → laid one holds ≡ one ∷ holds
 pub nothing_bare : IsBare []
 nothing_bare one = refl
 
-same : (n : ℕ) → (n == n) ≡ true
+pub same : (n : ℕ) → (n == n) ≡ true
 same n = grind arith
 
-pub noted_top : (fd : Fd) (ids : ObjIds) (was : Option ObjIds) (holds : List Hold) →
-    noted fd ids (hold.Fd fd was ∷ holds) ≡ hold.Fd fd (Some ids) ∷ holds
-noted_top fd ids was holds = ap (λ (b : Bool).
-    if b then hold.Fd fd (Some ids) ∷ holds else hold.Fd fd was ∷ noted fd ids holds) (same fd.0)
-
 -- the descriptor on top goes, with the slot on which it lies
-pub handed_top : (fd : Fd) (was : Option ObjIds) (holds : List Hold) →
-    handed fd (hold.Fd fd was ∷ hold.Slot ∷ holds) ≡ holds
-handed_top fd was holds = ap (λ (b : Bool).
-    if b then holds else hold.Fd fd was ∷ handed fd (hold.Slot ∷ holds)) (same fd.0)
+pub handed_top : (fd : Fd) (holds : List Hold) → handed fd (hold.Fd fd ∷ hold.Slot ∷ holds) ≡ holds
+handed_top fd holds = ap (λ (b : Bool).
+    if b then holds else hold.Fd fd ∷ handed fd (hold.Slot ∷ holds)) (same fd.0)
 
 past_end : (n : ℕ) → nat_lt n n ≡ false
 past_end n = grind arith

@@ -27,7 +27,8 @@ use Rattle.pt_req.specs.declared.begun.BegunSession.{BegunSession}
 use Rattle.pt_req.specs.declared.parts.looked.Looked.{Looked}
 use Rattle.pt_req.specs.declared.plan.Plan.{Plan}
 use Rattle.pt_attr.specs.Requests.{file_by, files_by}
-use Rattle.pt_law.specs.Discipline.{Notes, blank, given_for, with_root}
+use Rattle.pt_law.specs.Discipline.{Notes, Told, blank, given_for, newly, told_of, with_root}
+use Rattle.pt_law.specs.Keeps.{Lasts}
 use Rattle.pt_fit.specs.Cause.{Asking, IsOpening, OwnCause}
 use Rattle.pt_fit.specs.Fit.{Fit}
 use Rattle.pt_fit.proofs.Holds.{IsBare, nothing_bare, over}
@@ -35,8 +36,9 @@ use Rattle.pt_fit.proofs.Parts.{Goes, GoesAfter, fit_begin, fit_brackets, fit_cl
 use Rattle.pt_fit.proofs.Parts.{fit_file_of, fit_insert, fit_insert_handle, fit_insert_root, fit_open_at}
 use Rattle.pt_fit.proofs.Parts.{fit_open_root, fit_reopen, fit_resolve, fit_resolve_over, fit_shuts}
 use Rattle.pt_fit.proofs.Parts.{fit_shuts_passing, fit_stat, fit_take_fd, noting, resolution}
-use Rattle.pt_fit.proofs.Parts.{still, Seen, Ids}
+use Rattle.pt_fit.proofs.Parts.{still, Ids, IsTold, Seen}
 use Rattle.pt_fit.proofs.Scopes.{fit_bares, fit_without_fsetid}
+use Rattle.pt_fit.proofs.Telling.{told_here, told_past}
 
 -- a leaf
 pub fit_gives : {asked : Asking} {seen : List Seen} {holds : List Hold} {marks : List ℕ} {notes : Notes}
@@ -53,6 +55,8 @@ after_any_step {step = step} f = record { on = λ path s. f.on (step ∷ path) (
 pub record WasGiven (notes : Notes) (number : ℕ) (ids : ObjIds) (later : Notes) : Type 0 where
   pub era : later.era ≡ notes.era
   pub given : later.given ≡ Some (given_for number ids)
+  -- what was told to have these ids is so still
+  pub told : (fd : Fd) → IsTold notes fd ids → IsTold later fd ids
 
 -- what follows a number that was had, whatever lies between its count and what was held before
 abbrev Numbered : Asking → List Seen → ℕ → ObjIds → (ℕ → RequestTree) → List Hold → List ℕ → Notes → Type 0
@@ -62,20 +66,24 @@ Numbered asked seen era ids next holds marks notes =
 
 fit_numbered : {asked : Asking} {seen : List Seen} {holds : List Hold} {marks : List ℕ} {notes : Notes}
     (session : BegunSession) (fd : Fd) (told : Stat) (next : ℕ → RequestTree) (row : ℕ) (dir : Fd) →
-    notes.era ≡ Some session.era → notes.latest ≡ Some fd →
+    notes.era ≡ Some session.era → notes.latest ≡ Some fd → IsTold notes fd told.ids →
     Numbered asked seen session.era told.ids next holds marks notes →
     Goes asked seen (numbered session (File fd) told next)
-    (hold.Fd fd (Some told.ids) ∷ hold.Pin row (Some dir) ∷ holds) marks notes
-fit_numbered session fd told next row dir e l f =
-    let top = hold.Fd fd (Some told.ids) in
+    (hold.Fd fd ∷ hold.Pin row (Some dir) ∷ holds) marks notes
+fit_numbered session fd told next row dir e l t f =
+    let top = hold.Fd fd in
     let pin = hold.Pin row (Some dir) in
-    fit_claim session fd told.ids next _ e l
-    (λ number. f number (top ∷ pin ∷ []) _ (record { era = refl; given = refl }))
-    (fit_take_fd fd _ _
+    fit_claim session fd told.ids next _ e l t
+    (λ number. f number (top ∷ pin ∷ []) _ (record { era = refl; given = refl; told = λ other is. is }))
+    (fit_take_fd fd _
     (fit_draw_node _ (λ fresh.
-    fit_insert session fresh fd told next (λ one. refl) e l refl
-    (λ number. f number (pin ∷ []) _ (record { era = refl; given = refl }))
-    (λ number. f number (top ∷ hold.Slot ∷ pin ∷ []) _ (record { era = refl; given = refl })))))
+    fit_insert session fresh fd told next (λ one. refl) e l refl t
+    (λ number. f number (pin ∷ []) _ (record { era = refl; given = refl; told = λ other is. is }))
+    (λ number. f number (top ∷ hold.Slot ∷ pin ∷ []) _ (record {
+      era = refl;
+      given = refl;
+      told = λ other is. is;
+    })))))
 
 -- the file of a number, whose row is pinned then
 pub fit_file_by : {asked : Asking} {seen : List Seen} {holds : List Hold} {marks : List ℕ} {notes : Notes}
@@ -106,6 +114,11 @@ fit_files_by first second next f =
     under_top (hold.Pin other.row (row_fd other.form)) one.row one.form _ (λ from.
     fit_file_of other.row other.form _ (λ to. f one.row other.row from to))))))
 
+-- what was told lasts
+told_lasts : (notes later : Notes) (fd : Fd) (ids : ObjIds) → Lasts notes later → IsTold notes fd ids →
+    IsTold later fd ids
+told_lasts notes later fd ids l is = (ap (λ (told : List Told). told_of told fd) l.3 ∙ is.0, l.4)
+
 -- A lookup gives an entry, whose count is the last hold.
 abbrev pub Looks : Asking → List Seen → BegunSession → (Looked → RequestTree) → List Hold → List ℕ → Notes → Type 0
 Looks asked seen session next holds marks notes =
@@ -114,16 +127,20 @@ Looks asked seen session next holds marks notes =
 
 pub fit_look_up : {asked : Asking} {seen : List Seen} {holds : List Hold} {marks : List ℕ} {notes : Notes}
     (plan : Plan) (session : BegunSession) (parent : ℕ) (name : List ℕ) (next : Looked → RequestTree) → IsBare holds →
-    notes.era ≡ Some session.era → Looks asked seen session next holds marks notes →
+    notes.era ≡ Some session.era → notes.brought ≡ None → Looks asked seen session next holds marks notes →
     Goes asked seen (look_up plan session parent name next) holds marks notes
-fit_look_up {asked = asked} {holds = holds} plan session parent name next b e f =
+fit_look_up {asked = asked} {holds = holds} {notes = notes} plan session parent name next b e n f =
     fit_brackets _ (fit_resolve parent _ b (λ row. after_any_step (fit_file_of row.row row.form _ (λ dir.
     fit_open_at dir name by_path row.row parent _ refl (λ fd.
-    fit_stat fd None _ (λ told.
-    fit_numbered session fd told _ row.row dir e refl (λ number front later l.
+    fit_stat fd _ (λ told.
+    fit_numbered session fd told _ row.row dir e refl (told_here fd told.ids (newly fd notes).told, n) (λ number front later l.
     fit_shuts_passing _ (hold.Count session.era number) front holds (λ last m.
-    f (looked_of plan session row.ids told (File fd) number) last
-    (record { era = m.0 ∙ l.era; given = m.2 ∙ l.given })))))))))
+    f (looked_of plan session row.ids told (File fd) number) last (record {
+      era = m.0 ∙ l.era;
+      given = m.2 ∙ l.given;
+      told = λ other is.
+          told_lasts later last other told.ids m (l.told other (told_past other fd told.ids notes.told is.0, is.1));
+    })))))))))
 
 -- the first root that is opened
 first_root : (fd : Fd) (notes : Notes) → notes.rooted ≡ false → (with_root fd notes).root ≡ Some fd
@@ -131,28 +148,30 @@ first_root fd notes r =
     ap (λ (b : Bool). (if b then notes else record notes { root = Some fd; rooted = true }).root) r
 
 root_lasts : (rooted : Bool) (fd : Fd) (notes : Notes) →
-    (if rooted then notes else record notes { root = Some fd; rooted = true }).era ≡ notes.era
-root_lasts true fd notes = refl
-root_lasts false fd notes = refl
+    ((if rooted then notes else record notes { root = Some fd; rooted = true }).era ≡ notes.era)
+    × ((if rooted then notes else record notes { root = Some fd; rooted = true }).brought ≡ notes.brought)
+root_lasts true fd notes = (refl, refl)
+root_lasts false fd notes = (refl, refl)
 
 pub fit_root_open : {asked : Asking} {seen : List Seen} {holds : List Hold} {marks : List ℕ} {notes : Notes}
     (plan : Plan) (session : BegunSession) (agreed : Option Negotiated) (next : RequestTree) → IsBare holds →
-    notes.era ≡ Some session.era → notes.rooted ≡ false →
+    notes.era ≡ Some session.era → notes.rooted ≡ false → notes.brought ≡ None →
     ((told : Stat) (later : Notes) → Goes asked (Ids told.ids ∷ seen) next holds marks later) →
     Goes asked seen (root_open plan session agreed next) holds marks notes
-fit_root_open {notes = notes} plan session agreed next b e r f =
+fit_root_open {notes = notes} plan session agreed next b e r n f =
     fit_open_root _ _ _ b (λ fd.
-    fit_stat fd None _ (λ told.
-    fit_take_fd fd _ _
-    (fit_insert_root session fd told agreed next (root_lasts notes.rooted fd notes ∙ e) (first_root fd notes r)
-    (f told _))))
+    fit_stat fd _ (λ told.
+    let lasts = root_lasts notes.rooted fd (newly fd notes) in
+    fit_take_fd fd _
+    (fit_insert_root session fd told agreed next (lasts.0 ∙ e) (first_root fd (newly fd notes) r)
+    (told_here fd told.ids _, lasts.1 ∙ n) (f told _))))
 
 -- what is no regular file and no directory is not opened
 fit_open_form : {asked : Asking} {seen : List Seen} {marks : List ℕ} {notes : Notes} (holds : List Hold)
     (dropped : Bool) (row number flags : ℕ) (form : RowForm) (next : Fd → RequestTree) →
     notes.resolved ≡ Some (record { number = number; row = row }) →
-    ((dir new : Fd) → Goes asked seen (next new) (over dropped (hold.Fd new None ∷ hold.Pin row (Some dir) ∷ holds))
-    marks (record notes { reopened = Some new })) →
+    ((dir new : Fd) → Goes asked seen (next new) (over dropped (hold.Fd new ∷ hold.Pin row (Some dir) ∷ holds))
+    marks (record (newly new notes) { reopened = Some new })) →
     Goes asked seen (open_form form flags next) (over dropped (hold.Pin row (row_fd form) ∷ holds)) marks notes
 fit_open_form holds dropped row number flags (File dir) next r f =
     fit_reopen holds dropped dir (without_nofollow flags) row number next r (f dir)
@@ -160,8 +179,8 @@ fit_open_form holds dropped row number flags (File dir) next r f =
 pub fit_open_row : {asked : Asking} {seen : List Seen} {marks : List ℕ} (holds : List Hold) (dropped : Bool)
     (notes : Notes) (number flags : ℕ) (row : Resolved) (next : Fd → RequestTree) → IsOpening asked.request →
     ((dir new : Fd) → Goes asked seen (next new)
-    (over dropped (hold.Fd new None ∷ hold.Pin row.row (Some dir) ∷ holds)) marks
-    (record (noting number row.row notes) { reopened = Some new })) →
+    (over dropped (hold.Fd new ∷ hold.Pin row.row (Some dir) ∷ holds)) marks
+    (record (newly new (noting number row.row notes)) { reopened = Some new })) →
     GoesAfter (resolution number row) asked seen (open_row row flags next)
     (over dropped (hold.Pin row.row (row_fd row.form) ∷ holds)) marks (noting number row.row notes)
 fit_open_row {asked = asked} {seen = seen} {marks = marks} holds dropped notes number flags row next o f =
@@ -179,8 +198,8 @@ pub fit_open_inode : {asked : Asking} {seen : List Seen} {holds : List Hold} {ma
     (dropped : Bool) (plan : Plan) (session : BegunSession) (number flags : ℕ) (next : Fd → RequestTree) →
     IsOpening asked.request → IsBare holds →
     ((row : ℕ) (dir new : Fd) → Goes asked seen (next new)
-    (over dropped (hold.Fd new None ∷ hold.Pin row (Some dir) ∷ holds)) marks
-    (record (noting number row notes) { reopened = Some new })) →
+    (over dropped (hold.Fd new ∷ hold.Pin row (Some dir) ∷ holds)) marks
+    (record (newly new (noting number row notes)) { reopened = Some new })) →
     Goes asked seen (open_inode plan session number flags next) (over dropped holds) marks notes
 fit_open_inode {holds = holds} {notes = notes} dropped plan session number flags next o b f =
     fit_resolve_over dropped number _ b (λ row.
@@ -198,8 +217,8 @@ fit_open_num {holds = holds} plan seat session number kill flags next o b e f =
     fit_open_inode dropped plan session number (cleaned plan.config flags) _ o b (λ row dir fd.
     fit_bares dropped _ (λ one. refl) (
     fit_draw_handle _ (λ handle.
-    fit_take_fd fd None _
-    (fit_insert_handle session handle number row fd None _ e refl refl refl
+    fit_take_fd fd _
+    (fit_insert_handle session handle number row fd _ e refl refl refl
     (fit_shuts _ (hold.Pin row (Some dir) ∷ []) holds (λ later l. f handle later))))))))
 
 -- the function is not there

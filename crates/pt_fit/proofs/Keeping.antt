@@ -6,7 +6,6 @@ use Rattle.std.specs.Prelude.{◌||◌}
 use Rattle.pt_host.specs.Call.{Call}
 use Rattle.pt_host.specs.Errno.{ebadf, einval, eopnotsupp, eperm, errno_of, estale}
 use Rattle.pt_host.specs.Flags.{o_directory}
-use Rattle.pt_host.specs.Words.{is}
 use Rattle.pt_host.specs.declared.edit.Edit.{Edit}
 use Rattle.pt_host.specs.declared.flags.OpenFlags.{OpenFlags}
 use Rattle.pt_host.specs.declared.ids.Errno.{Errno}

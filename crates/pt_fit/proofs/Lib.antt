@@ -1,4 +1,5 @@
 pub mod Holds
+pub mod Telling
 pub mod Refused
 pub mod Parts
 pub mod Scopes

@@ -143,17 +143,18 @@ module _ (asked : Asking) (marks : List ℕ) (row : ℕ) (dir : Fd) (name : List
 
 module _ (asked : Asking) (seen : List Seen) (marks : List ℕ) (notes : Notes) (session : BegunSession)
     (row number : ℕ) (dir : Fd) (name : List ℕ) (what : Made) (next : RequestTree)
-    (f : (later : Notes) → later.era ≡ notes.era → Goes asked seen next (pinned row dir) marks later) where
+    (f : (later : Notes) → later.era ≡ notes.era → later.brought ≡ None →
+    Goes asked seen next (pinned row dir) marks later) where
   -- by its descriptor
   fit_set : (fd : Fd) (attribute bytes : List ℕ) (these : Notes) → these.era ≡ notes.era →
       Goes asked seen (set_xattr fd true attribute bytes 0 (shut_by what dir name) (Shuts false next))
-      (hold.Fd fd None ∷ pinned row dir) (inner row dir marks) these
+      (hold.Fd fd ∷ pinned row dir) (inner row dir marks) these
   fit_set fd attribute bytes these same = record {
     on = λ path s. (
-      (((hold.Fd fd None, _, here, refl), tt), tt),
+      (((hold.Fd fd, _, here, refl), tt), tt),
       elim [
         | Host (host.Ok told) ↦ λ m. shut_so asked next own (pinned row dir) marks these
-            (labelling (Host (host.Ok told)) ∷ path) (λ later l. (f later (l.0 ∙ same)).on _ (still s))
+            (labelling (Host (host.Ok told)) ∷ path) (λ later l. (f later (l.0 ∙ same) l.4).on _ (still s))
         | Host (host.Refused errno) ↦ λ m. refused_so asked marks row dir name what own errno these
             (labelling (Host (host.Refused errno)) ∷ path) (inl (refl, refl))
         | Host (host.Fault errno) ↦ λ m. refused_so asked marks row dir name what own errno these
@@ -167,7 +168,7 @@ module _ (asked : Asking) (seen : List Seen) (marks : List ℕ) (notes : Notes) 
   }
     where
       own : List Hold
-      own = hold.Fd fd None ∷ []
+      own = hold.Fd fd ∷ []
 
       labelling : ActReply → Step
       labelling told = step_made (Calls (call.SetXattr fd true attribute bytes 0)) told
@@ -199,12 +200,13 @@ module _ (asked : Asking) (seen : List Seen) (marks : List ℕ) (notes : Notes) 
       opening told = step_made (Calls (call.OpenAt dir name by_path 0)) told
 
   fit_labelled_at : (label : Option SecContext) → notes.resolved ≡ Some (record { number = number; row = row }) →
+      notes.brought ≡ None →
       ((brought : SecContext) → label ≡ Some brought → is_blocked session.agreed brought.name ≡ true →
       (path : List Step) → Told seen path → SomeCauses asked.request path eopnotsupp) →
       Goes asked seen (labelled_at session dir name (unmaking_call what dir name) label next) (pinned row dir) marks
       notes
-  fit_labelled_at None r c = f notes refl
-  fit_labelled_at (Some brought) r c = go (is_blocked session.agreed brought.name) refl
+  fit_labelled_at None r n c = f notes refl n
+  fit_labelled_at (Some brought) r n c = go (is_blocked session.agreed brought.name) refl
     where
       go : (bad : Bool) → is_blocked session.agreed brought.name ≡ bad →
           Goes asked seen (if bad then undone (unmaking_call what dir name) (answer.Refused eopnotsupp)
@@ -234,9 +236,9 @@ fit_named plan seat who what object misnamed mistargeted forbids blocks answers 
     fit_as_asker _
     (λ holds c. fit_make holds [] row.row dir object.name _ c
     (fit_labelled_at _ _ _ _ session row.row object.parent dir object.name object.made _
-    (λ later same. fit_look_up plan session object.parent object.name _ (λ one. refl) same (λ looked last l.
+    (λ later same none. fit_look_up plan session object.parent object.name _ (λ one. refl) same none (λ looked last l.
     fit_gives (answer.Entry looked.entry) (λ path. (refl, tt, answers looked.entry))))
-    object.secctx refl
+    object.secctx refl refl
     (λ brought is bad path s. blocked_by what path session.agreed
     (blocks session.agreed (subst (λ (label : Option SecContext). IsBlockedLabel session.agreed label) (sym is) bad))
     s.each.0))

@@ -31,13 +31,13 @@ use Rattle.pt_req.specs.Parts.{file_of}
 use Rattle.pt_req.specs.Steps.{forget_all, release_handle}
 use Rattle.pt_req.specs.declared.begun.BegunSession.{BegunSession}
 use Rattle.pt_law.specs.Discipline.{Notes, with_root, unnoted, found_by, given_for, with_given, KnowsAll, PinsLatest}
-use Rattle.pt_law.specs.Discipline.{at_job}
+use Rattle.pt_law.specs.Discipline.{at_job, newly, told_as, told_of}
 use Rattle.pt_law.specs.Keeps.{Lasts, LiesOnSlot.{here as lies, there as under}, down_to}
 use Rattle.pt_law.specs.Naming.{made}
 use Rattle.pt_law.proofs.Sounds.{after_any}
 use Rattle.pt_fit.specs.Cause.{Asking, BlocksLabel, OwnCause, SomeCauses, SomeTellsIds, StepCauses}
 use Rattle.pt_fit.specs.Fit.{Fit}
-use Rattle.pt_fit.proofs.Holds.{IsBare, noted_top, handed_top, down_over, over, laid_over, unscoped_over}
+use Rattle.pt_fit.proofs.Holds.{IsBare, handed_top, down_over, over, laid_over, unscoped_over}
 use Rattle.pt_fit.proofs.Refused.{refused_by}
 
 -- what was told: ids of an object, or what was agreed on with the guest
@@ -140,20 +140,28 @@ fit_begin {asked = asked} {holds = holds} next none f = record {
 
 pub fit_clear : {asked : Asking} {seen : List Seen} {holds : List Hold} {marks : List ℕ}
     {notes : Notes} (next : ℕ → RequestTree) →
-    notes.era ≡ None →
+    notes.era ≡ None → notes.brought ≡ None →
     ((era : ℕ) (later : Notes) → Lasts (record notes { era = Some era }) later →
     Goes asked seen (next era) holds marks later) →
     Goes asked seen (clear next) holds marks notes
-fit_clear {asked = asked} {holds = holds} {notes = notes} next none f = record {
+fit_clear {asked = asked} {holds = holds} {notes = notes} next none n f = record {
   on = λ path s. (
     (tt, none),
     elim [
       | Event (event.Cleared era closings) ↦
-          λ m. after_any closings _ (record notes { era = Some era }) (λ later l. (f era later l).on _ (still s))
+          λ m. after_any closings _ (record notes { era = Some era }) n (λ later l. (f era later l).on _ (still s))
       | told ↦ λ m. refused_by asked (Changes change.Clear) told holds path tt m (λ no. no)
     ],
   );
 }
+
+-- what is noted where a descriptor was looked at
+abbrev pub looked_by : Fd → ObjIds → Notes → Notes
+looked_by fd ids notes = record notes { given = None; told = told_as fd (Some ids) ∷ notes.told }
+
+-- these ids were told of it last, and nothing that a closing brought is to be closed
+abbrev pub IsTold : Notes → Fd → ObjIds → Type 0
+IsTold notes fd ids = (told_of notes.told fd ≡ Some ids) × (notes.brought ≡ None)
 
 -- the step that resolved it so
 abbrev pub resolution : ℕ → Resolved → Step
@@ -199,14 +207,14 @@ fit_resolve number next b f = fit_resolve_over false number next b f
 pub fit_open_root : {asked : Asking} {seen : List Seen} {holds : List Hold} {marks : List ℕ}
     {notes : Notes} (dir : List ℕ)
     (flags : OpenFlags) (next : Fd → RequestTree) → IsBare holds →
-    ((fd : Fd) → Goes asked seen (next fd) (hold.Fd fd None ∷ holds) marks (with_root fd notes)) →
+    ((fd : Fd) → Goes asked seen (next fd) (hold.Fd fd ∷ holds) marks (with_root fd (newly fd notes))) →
     Goes asked seen (open_root dir flags next) holds marks notes
 fit_open_root {asked = asked} {holds = holds} dir flags next b f = record {
   on = λ path s. (
     (tt, tt),
     elim [
       | Host (host.Ok (value.Fd fd)) ↦
-          λ m. held_as asked (next fd) _ _ _ _ _ (b (hold.Fd fd None)) ((f fd).on _ (still s))
+          λ m. held_as asked (next fd) _ _ _ _ _ (b (hold.Fd fd)) ((f fd).on _ (still s))
       | told ↦ λ m. refused_by asked (Calls (call.OpenRoot dir flags)) told holds path (refl, tt) m (λ no. no)
     ],
   );
@@ -224,8 +232,8 @@ pub fit_open_at : {asked : Asking} {seen : List Seen} {holds : List Hold} {marks
     {notes : Notes} (dir : Fd) (name : List ℕ)
     (flags : OpenFlags) (row number : ℕ) (next : Fd → RequestTree) →
     notes.resolved ≡ Some (record { number = number; row = row }) →
-    ((fd : Fd) → Goes asked seen (next fd) (hold.Fd fd None ∷ hold.Pin row (Some dir) ∷ holds) marks
-    (record notes { latest = found_by flags fd })) →
+    ((fd : Fd) → Goes asked seen (next fd) (hold.Fd fd ∷ hold.Pin row (Some dir) ∷ holds) marks
+    (record (newly fd notes) { latest = found_by flags fd })) →
     Goes asked seen (open_at dir name flags next) (hold.Pin row (Some dir) ∷ holds) marks notes
 fit_open_at {asked = asked} {holds = holds} dir name flags row number next r f = record {
   on = λ path s. (
@@ -240,8 +248,8 @@ fit_open_at {asked = asked} {holds = holds} dir name flags row number next r f =
 pub fit_reopen : {asked : Asking} {seen : List Seen} {marks : List ℕ} {notes : Notes} (holds : List Hold)
     (dropped : Bool) (fd : Fd) (flags : OpenFlags)
     (row number : ℕ) (next : Fd → RequestTree) → notes.resolved ≡ Some (record { number = number; row = row }) →
-    ((new : Fd) → Goes asked seen (next new) (over dropped (hold.Fd new None ∷ hold.Pin row (Some fd) ∷ holds)) marks
-    (record notes { reopened = Some new })) →
+    ((new : Fd) → Goes asked seen (next new) (over dropped (hold.Fd new ∷ hold.Pin row (Some fd) ∷ holds)) marks
+    (record (newly new notes) { reopened = Some new })) →
     Goes asked seen (reopen fd flags next) (over dropped (hold.Pin row (Some fd) ∷ holds)) marks notes
 fit_reopen {asked = asked} {notes = notes} holds dropped fd flags row number next r f = record {
   on = λ path s. (
@@ -251,7 +259,7 @@ fit_reopen {asked = asked} {notes = notes} holds dropped fd flags row number nex
     elim [
       | Host (host.Ok (value.Fd new)) ↦
           λ m. held_as asked (next new) _ _ _ _ _
-          (laid_over dropped (hold.Fd new None) (hold.Pin row (Some fd) ∷ holds))
+          (laid_over dropped (hold.Fd new) (hold.Pin row (Some fd) ∷ holds))
           ((f new).on _ (still s))
       | told ↦ λ m. refused_by asked (Calls (call.Reopen fd flags)) told
           (over dropped (hold.Pin row (Some fd) ∷ holds)) path (refl, tt) m (λ no. no)
@@ -260,18 +268,16 @@ fit_reopen {asked = asked} {notes = notes} holds dropped fd flags row number nex
 }
 
 pub fit_stat : {asked : Asking} {seen : List Seen} {holds : List Hold} {marks : List ℕ}
-    {notes : Notes} (fd : Fd) (was : Option ObjIds)
-    (next : Stat → RequestTree) →
-    ((told : Stat) → Goes asked (Ids told.ids ∷ seen) (next told) (hold.Fd fd (Some told.ids) ∷ holds) marks
-    (record notes { given = None })) →
-    Goes asked seen (stat fd next) (hold.Fd fd was ∷ holds) marks notes
-fit_stat {asked = asked} {holds = holds} fd was next f = record {
+    {notes : Notes} (fd : Fd) (next : Stat → RequestTree) →
+    ((told : Stat) → Goes asked (Ids told.ids ∷ seen) (next told) (hold.Fd fd ∷ holds) marks
+    (looked_by fd told.ids notes)) →
+    Goes asked seen (stat fd next) (hold.Fd fd ∷ holds) marks notes
+fit_stat {asked = asked} {holds = holds} fd next f = record {
   on = λ path s. (
-    (((hold.Fd fd was, _, here, refl), tt), tt),
+    (((hold.Fd fd, _, here, refl), tt), tt),
     elim [
       | Host (host.Ok (value.Stat told)) ↦
-          λ m. held_as asked (next told) _ _ _ _ _ (noted_top fd told.ids was holds)
-          ((f told).on _ (looked_at fd told s))
+          λ m. (f told).on _ (looked_at fd told s)
       | told ↦ λ m. refused_by asked (Calls (call.Stat fd)) told holds path (refl, tt) m (λ no. no)
     ],
   );
@@ -280,14 +286,14 @@ fit_stat {asked = asked} {holds = holds} fd was next f = record {
 pub fit_claim : {asked : Asking} {seen : List Seen} {holds : List Hold} {marks : List ℕ}
     {notes : Notes} (session : BegunSession)
     (fd : Fd) (ids : ObjIds) (next : ℕ → RequestTree) (absent : RequestTree) →
-    notes.era ≡ Some session.era → notes.latest ≡ Some fd →
-    ((number : ℕ) → Goes asked seen (next number) (hold.Count session.era number ∷ hold.Fd fd (Some ids) ∷ holds)
+    notes.era ≡ Some session.era → notes.latest ≡ Some fd → IsTold notes fd ids →
+    ((number : ℕ) → Goes asked seen (next number) (hold.Count session.era number ∷ hold.Fd fd ∷ holds)
     marks (with_given number ids notes)) →
-    Goes asked seen absent (hold.Fd fd (Some ids) ∷ holds) marks notes →
-    Goes asked seen (claim session None ids next absent) (hold.Fd fd (Some ids) ∷ holds) marks notes
-fit_claim {asked = asked} {holds = holds} session fd ids next absent e l f g = record {
+    Goes asked seen absent (hold.Fd fd ∷ holds) marks notes →
+    Goes asked seen (claim session None ids next absent) (hold.Fd fd ∷ holds) marks notes
+fit_claim {asked = asked} {holds = holds} session fd ids next absent e l t f g = record {
   on = λ path s. (
-    (tt, (fd, e, l, (_, here))),
+    (tt, (fd, e, l, (_, here, t.0, t.1))),
     elim [
       | Event (event.Claimed number) ↦ λ m. (f number).on _ (still s)
       | Event event.Absent ↦ λ m. g.on _ (still s)
@@ -297,11 +303,10 @@ fit_claim {asked = asked} {holds = holds} session fd ids next absent e l f g = r
 }
 
 pub fit_take_fd : {asked : Asking} {seen : List Seen} {holds : List Hold} {marks : List ℕ}
-    {notes : Notes} (fd : Fd)
-    (was : Option ObjIds) (next : RequestTree) →
-    Goes asked seen next (hold.Fd fd was ∷ hold.Slot ∷ holds) marks notes →
-    Goes asked seen (take_fd next) (hold.Fd fd was ∷ holds) marks notes
-fit_take_fd {asked = asked} {holds = holds} fd was next f = record {
+    {notes : Notes} (fd : Fd) (next : RequestTree) →
+    Goes asked seen next (hold.Fd fd ∷ hold.Slot ∷ holds) marks notes →
+    Goes asked seen (take_fd next) (hold.Fd fd ∷ holds) marks notes
+fit_take_fd {asked = asked} {holds = holds} fd next f = record {
   on = λ path s. (
     (tt, tt),
     elim [
@@ -343,26 +348,26 @@ fit_draw_handle {asked = asked} {holds = holds} next f = record {
 pub fit_insert : {asked : Asking} {seen : List Seen} {holds : List Hold} {marks : List ℕ}
     {notes : Notes} (session : BegunSession)
     (fresh : ℕ) (fd : Fd) (told : Stat) (next : ℕ → RequestTree) → IsBare holds → notes.era ≡ Some session.era →
-    notes.latest ≡ Some fd → notes.drawn ≡ Some fresh →
+    notes.latest ≡ Some fd → notes.drawn ≡ Some fresh → IsTold notes fd told.ids →
     ((number : ℕ) → Goes asked seen (next number) (hold.Count session.era number ∷ holds) marks
     (record (with_given number told.ids (unnoted fd notes)) { drawn = None })) →
     ((number : ℕ) → Goes asked seen (next number)
-    (hold.Count session.era number ∷ hold.Fd fd (Some told.ids) ∷ hold.Slot ∷ holds) marks
+    (hold.Count session.era number ∷ hold.Fd fd ∷ hold.Slot ∷ holds) marks
     (with_given number told.ids notes)) →
     Goes asked seen (insert session fresh (File fd) told next)
-    (hold.Fd fd (Some told.ids) ∷ hold.Slot ∷ holds) marks notes
-fit_insert {asked = asked} {holds = holds} session fresh fd told next b e l d f g = record {
+    (hold.Fd fd ∷ hold.Slot ∷ holds) marks notes
+fit_insert {asked = asked} {holds = holds} session fresh fd told next b e l d t f g = record {
   on = λ path s. (
-    (lies, (e, l, d, (_, here))),
+    (lies, (e, l, d, (_, here, t.0, t.1))),
     elim [
       | Event (event.Inserted number) ↦
           λ m. held_as asked (next number) _ _ _ _ _
-          (ap (laid (hold.Count session.era number)) (handed_top fd (Some told.ids) holds)
+          (ap (laid (hold.Count session.era number)) (handed_top fd holds)
           ∙ b (hold.Count session.era number)) ((f number).on _ (still s))
       | Event (event.Found number) ↦ λ m. (g number).on _ (still s)
       | reply ↦ λ m. refused_by asked
           (Changes (change.Insert session.era fresh (File fd) told.ids told.mode)) reply
-          (hold.Fd fd (Some told.ids) ∷ hold.Slot ∷ holds) path lies m (λ no. no)
+          (hold.Fd fd ∷ hold.Slot ∷ holds) path lies m (λ no. no)
     ],
   );
 }
@@ -370,36 +375,36 @@ fit_insert {asked = asked} {holds = holds} session fresh fd told next b e l d f 
 pub fit_insert_root : {asked : Asking} {seen : List Seen} {holds : List Hold} {marks : List ℕ}
     {notes : Notes} (session : BegunSession)
     (fd : Fd) (told : Stat) (agreed : Option Negotiated) (next : RequestTree) → notes.era ≡ Some session.era →
-    notes.root ≡ Some fd → Goes asked seen next holds marks (unnoted fd notes) →
+    notes.root ≡ Some fd → IsTold notes fd told.ids → Goes asked seen next holds marks (unnoted fd notes) →
     Goes asked seen (insert_root session (File fd) told agreed next)
-    (hold.Fd fd (Some told.ids) ∷ hold.Slot ∷ holds) marks notes
-fit_insert_root {asked = asked} {holds = holds} session fd told agreed next e r f = record {
+    (hold.Fd fd ∷ hold.Slot ∷ holds) marks notes
+fit_insert_root {asked = asked} {holds = holds} session fd told agreed next e r t f = record {
   on = λ path s. (
-    (lies, (e, r, (_, here))),
+    (lies, (e, r, (_, here, t.0, t.1))),
     elim [
       | Event (event.Inserted number) ↦
-          λ m. held_as asked next _ _ _ _ _ (handed_top fd (Some told.ids) holds) (f.on _ (still s))
+          λ m. held_as asked next _ _ _ _ _ (handed_top fd holds) (f.on _ (still s))
       | reply ↦ λ m. refused_by asked
           (Changes (change.InsertRoot session.era (File fd) told.ids told.mode agreed)) reply
-          (hold.Fd fd (Some told.ids) ∷ hold.Slot ∷ holds) path lies m (λ no. no)
+          (hold.Fd fd ∷ hold.Slot ∷ holds) path lies m (λ no. no)
     ],
   );
 }
 
 pub fit_insert_handle : {asked : Asking} {seen : List Seen} {holds : List Hold} {marks : List ℕ}
     {notes : Notes}
-    (session : BegunSession) (handle number row : ℕ) (fd : Fd) (was : Option ObjIds) (next : RequestTree) →
+    (session : BegunSession) (handle number row : ℕ) (fd : Fd) (next : RequestTree) →
     notes.era ≡ Some session.era → notes.handle ≡ Some handle →
     notes.resolved ≡ Some (record { number = number; row = row }) →
     notes.reopened ≡ Some fd → Goes asked seen next holds marks (record (unnoted fd notes) { handle = None }) →
-    Goes asked seen (insert_handle session handle number fd next) (hold.Fd fd was ∷ hold.Slot ∷ holds) marks notes
-fit_insert_handle {asked = asked} {holds = holds} session handle number row fd was next e h r o f = record {
+    Goes asked seen (insert_handle session handle number fd next) (hold.Fd fd ∷ hold.Slot ∷ holds) marks notes
+fit_insert_handle {asked = asked} {holds = holds} session handle number row fd next e h r o f = record {
   on = λ path s. (
-    ((was, lies), (e, h, inl (row, r, o))),
+    (lies, (e, h, inl (row, r, o))),
     elim [
-      | Event (event.Inserted given) ↦ λ m. held_as asked next _ _ _ _ _ (handed_top fd was holds) (f.on _ (still s))
+      | Event (event.Inserted given) ↦ λ m. held_as asked next _ _ _ _ _ (handed_top fd holds) (f.on _ (still s))
       | reply ↦ λ m. refused_by asked (Changes (change.InsertHandle session.era handle number fd)) reply
-          (hold.Fd fd was ∷ hold.Slot ∷ holds) path (was, lies) m (λ no. no)
+          (hold.Fd fd ∷ hold.Slot ∷ holds) path lies m (λ no. no)
     ],
   );
 }
@@ -422,13 +427,14 @@ fit_pin_handle {asked = asked} {holds = holds} handle number next b f = record {
 
 pub fit_forget_all : {asked : Asking} {seen : List Seen} {holds : List Hold} {marks : List ℕ}
     {notes : Notes} (list : List (ℕ × ℕ))
-    (next : RequestTree) → ((later : Notes) → Lasts notes later → Goes asked seen next holds marks later) →
+    (next : RequestTree) → notes.brought ≡ None →
+    ((later : Notes) → Lasts notes later → Goes asked seen next holds marks later) →
     Goes asked seen (forget_all list next) holds marks notes
-fit_forget_all {asked = asked} {holds = holds} {notes = notes} list next f = record {
+fit_forget_all {asked = asked} {holds = holds} {notes = notes} list next n f = record {
   on = λ path s. (
     (tt, tt),
     elim [
-      | Event (event.Done closings) ↦ λ m. after_any closings _ notes (λ later l. (f later l).on _ (still s))
+      | Event (event.Done closings) ↦ λ m. after_any closings _ notes n (λ later l. (f later l).on _ (still s))
       | told ↦ λ m. refused_by asked (Changes (change.Forget list)) told holds path tt m (λ no. no)
     ],
   );
@@ -436,13 +442,14 @@ fit_forget_all {asked = asked} {holds = holds} {notes = notes} list next f = rec
 
 pub fit_release_handle : {asked : Asking} {seen : List Seen} {holds : List Hold} {marks : List ℕ}
     {notes : Notes} (handle number : ℕ)
-    (next : RequestTree) → ((later : Notes) → Lasts notes later → Goes asked seen next holds marks later) →
+    (next : RequestTree) → notes.brought ≡ None →
+    ((later : Notes) → Lasts notes later → Goes asked seen next holds marks later) →
     Goes asked seen (release_handle handle number next) holds marks notes
-fit_release_handle {asked = asked} {holds = holds} {notes = notes} handle number next f = record {
+fit_release_handle {asked = asked} {holds = holds} {notes = notes} handle number next n f = record {
   on = λ path s. (
     (tt, tt),
     elim [
-      | Event (event.Done closings) ↦ λ m. after_any closings _ notes (λ later l. (f later l).on _ (still s))
+      | Event (event.Done closings) ↦ λ m. after_any closings _ notes n (λ later l. (f later l).on _ (still s))
       | told ↦ λ m. refused_by asked (Changes (change.Release handle number)) told holds path tt m (λ no. no)
     ],
   );
@@ -459,10 +466,10 @@ fit_checked false next c f = f
 
 -- the newest descriptor gets a slot, where a count lies on it
 pub fit_take_under : {asked : Asking} {seen : List Seen} {holds : List Hold} {marks : List ℕ}
-    {notes : Notes} (era number : ℕ) (fd : Fd) (was : Option ObjIds) (next : RequestTree) →
-    Goes asked seen next (hold.Count era number ∷ hold.Fd fd was ∷ hold.Slot ∷ holds) marks notes →
-    Goes asked seen (take_fd next) (hold.Count era number ∷ hold.Fd fd was ∷ holds) marks notes
-fit_take_under {asked = asked} {holds = holds} era number fd was next f = record {
+    {notes : Notes} (era number : ℕ) (fd : Fd) (next : RequestTree) →
+    Goes asked seen next (hold.Count era number ∷ hold.Fd fd ∷ hold.Slot ∷ holds) marks notes →
+    Goes asked seen (take_fd next) (hold.Count era number ∷ hold.Fd fd ∷ holds) marks notes
+fit_take_under {asked = asked} {holds = holds} era number fd next f = record {
   on = λ path s. (
     (tt, tt),
     elim [
@@ -476,18 +483,19 @@ fit_take_under {asked = asked} {holds = holds} era number fd was next f = record
 pub fit_insert_given : {asked : Asking} {seen : List Seen} {holds : List Hold} {marks : List ℕ}
     {notes : Notes} (session : BegunSession) (handle era number : ℕ) (fd : Fd) (ids : ObjIds) (next : RequestTree) →
     notes.era ≡ Some session.era → notes.handle ≡ Some handle → notes.given ≡ Some (given_for number ids) →
+    IsTold notes fd ids →
     Goes asked seen next (hold.Count era number ∷ holds) marks (record (unnoted fd notes) { handle = None }) →
     Goes asked seen (insert_handle session handle number fd next)
-    (hold.Count era number ∷ hold.Fd fd (Some ids) ∷ hold.Slot ∷ holds) marks notes
-fit_insert_given {asked = asked} {holds = holds} session handle era number fd ids next e h g f = record {
+    (hold.Count era number ∷ hold.Fd fd ∷ hold.Slot ∷ holds) marks notes
+fit_insert_given {asked = asked} {holds = holds} session handle era number fd ids next e h g t f = record {
   on = λ path s. (
-    ((Some ids, under refl lies), (e, h, inr (ids, g, (_, there here)))),
+    (under refl lies, (e, h, inr (ids, g, (_, there here, t.0, t.1)))),
     elim [
       | Event (event.Inserted given) ↦
           λ m. held_as asked next _ _ _ _ _
-          (ap (λ (z : List Hold). hold.Count era number ∷ z) (handed_top fd (Some ids) holds)) (f.on _ (still s))
+          (ap (λ (z : List Hold). hold.Count era number ∷ z) (handed_top fd holds)) (f.on _ (still s))
       | reply ↦ λ m. refused_by asked (Changes (change.InsertHandle session.era handle number fd)) reply
-          (hold.Count era number ∷ hold.Fd fd (Some ids) ∷ hold.Slot ∷ holds) path (Some ids, under refl lies) m
+          (hold.Count era number ∷ hold.Fd fd ∷ hold.Slot ∷ holds) path (under refl lies) m
           (λ no. no)
     ],
   );

@@ -48,29 +48,29 @@ use Rattle.pt_fit.proofs.Parts.{fit_release_handle, Seen}
 
 fit_root : (asked : Asking) (plan : Plan) → Goes asked [] (root plan) [] [] blank
 fit_root asked plan = fit_begin _ refl (λ session.
-    fit_root_open plan session None _ nothing_bare refl refl (λ told later.
+    fit_root_open plan session None _ nothing_bare refl refl refl (λ told later.
     fit_gives answer.Done (λ path. (tt, tt, tt))))
 
 fit_lookup : (plan : Plan) (who : Context) (parent : ℕ) (name : List ℕ) →
     Goes (asking plan who (request.Lookup parent name)) [] (lookup plan parent name) [] [] blank
 fit_lookup plan who parent name = fit_begin _ refl (λ session.
     fit_checked (is_bad_name name) _ (λ bad. (bad, refl))
-    (fit_look_up plan session parent name _ nothing_bare refl (λ looked later l.
+    (fit_look_up plan session parent name _ nothing_bare refl refl (λ looked later l.
     fit_gives (answer.Entry looked.entry) (λ path. (refl, tt, tt)))))
 
 fit_forget : (asked : Asking) (list : List (ℕ × ℕ)) → Goes asked [] (batch_forget list) [] [] blank
 fit_forget asked list = fit_begin _ refl (λ session.
-    fit_forget_all list _ (λ later l. fit_gives answer.NoReply (λ path. (tt, tt, tt))))
+    fit_forget_all list _ refl (λ later l. fit_gives answer.NoReply (λ path. (tt, tt, tt))))
 
 -- a session begins anew; closings come between the clearing and the root
 fit_init : (asked : Asking) (plan : Plan) (capable : FsOptions) → Goes asked [] (init plan capable) [] [] blank
-fit_init asked plan capable = fit_clear _ refl (λ era later l.
+fit_init asked plan capable = fit_clear _ refl refl (λ era later l.
     fit_root_open plan (session_of era nothing_agreed) (Some (agreed_with plan.config capable)) _ nothing_bare
-    l.0 l.1
+    l.0 l.1 l.4
     (λ told last. fit_gives (answer.Inited (init_options plan.config capable)) (λ path. (tt, tt, tt))))
 
 fit_destroy : (asked : Asking) → Goes asked [] destroy [] [] blank
-fit_destroy asked = fit_clear _ refl (λ era later l. fit_gives answer.NoReply (λ path. (tt, tt, tt)))
+fit_destroy asked = fit_clear _ refl refl (λ era later l. fit_gives answer.NoReply (λ path. (tt, tt, tt)))
 
 fit_open : (asked : Asking) (plan : Plan) (seat : HostSeat) (inode : ℕ) (kill : Bool) (flags : ℕ) →
     IsOpening asked.request → Goes asked [] (open_file plan seat inode kill flags) [] [] blank
@@ -80,7 +80,7 @@ fit_open asked plan seat inode kill flags o = fit_begin _ refl (λ session.
 
 fit_release : (asked : Asking) (inode handle : ℕ) → Goes asked [] (release inode handle) [] [] blank
 fit_release asked inode handle = fit_begin _ refl (λ session.
-    fit_release_handle handle inode _ (λ later l. fit_gives answer.Done (λ path. (tt, tt, tt))))
+    fit_release_handle handle inode _ refl (λ later l. fit_gives answer.Done (λ path. (tt, tt, tt))))
 
 fit_read : (plan : Plan) (who : Context) (inode handle size offset : ℕ) →
     Goes (asking plan who (request.Read inode handle size offset)) [] (read inode handle size offset) [] [] blank
@@ -176,7 +176,7 @@ fit_link plan who inode newparent newname = fit_begin _ refl (λ session.
       ),
       tt,
     ) (refl, tt)
-    (fit_look_up plan session newparent newname _ (λ top. refl) refl (λ looked later l.
+    (fit_look_up plan session newparent newname _ (λ top. refl) refl refl (λ looked later l.
     fit_gives (answer.Entry looked.entry) (λ path. (refl, tt, tt)))))))
 
 fits : (plan : Plan) (seat : HostSeat) (who : Context) (what : Request) →

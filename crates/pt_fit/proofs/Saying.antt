@@ -34,7 +34,7 @@ use Rattle.pt_fit.specs.Decided.{decides}
 giving_says : (decided : Option Negotiated) (seat : HostSeat) (one : Hold) → Says decided (giving seat one)
 giving_says decided seat (hold.Pin row fd) = tt
 giving_says decided seat (hold.HandlePin row fd) = tt
-giving_says decided seat (hold.Fd fd was) = tt
+giving_says decided seat (hold.Fd fd) = tt
 giving_says decided seat hold.Slot = tt
 giving_says decided seat (hold.Count era number) = tt
 giving_says decided seat hold.Groups = tt

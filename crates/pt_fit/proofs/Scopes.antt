@@ -1,7 +1,7 @@
 -- A scope that a call of the seat opens, what is asked within it, and its end: each is fit.
-use Rattle.std.proofs.Common.{◌≡◌, ℕ, List, [], ◌∷◌, Bool, true, false, ◌&&◌, if◌then◌else◌, Some, None}
+use Rattle.std.proofs.Common.{◌≡◌, ℕ, List, [], ◌∷◌, Bool, true, false, ◌&&◌, if◌then◌else◌, Some}
 use Rattle.std.proofs.Common.{refl, subst, sym}
-use Rattle.pt_host.specs.Words.{Takes.{here, there}}
+use Rattle.pt_host.specs.Words.{Takes.{here}}
 use Rattle.pt_host.specs.Call.{Call}
 use Rattle.pt_host.specs.declared.ids.Fd.{Fd}
 use Rattle.pt_host.specs.Sorts.{sort_of}
@@ -20,7 +20,7 @@ use Rattle.pt_frame.specs.declared.hold.Hold.{Hold}
 use Rattle.pt_frame.specs.declared.hold.Hold.TheVariants as hold
 use Rattle.pt_req.specs.Capability.{fsetid, without_fsetid}
 use Rattle.pt_req.specs.Steps.{open_scope, try_call, is_there, make_at}
-use Rattle.pt_law.specs.Discipline.{Notes, found_by, KnowsAll, PinsLatest, at_job}
+use Rattle.pt_law.specs.Discipline.{Notes, found_by, newly, KnowsAll, PinsLatest, at_job}
 use Rattle.pt_law.specs.Keeps.{MayOpen, uncovered, unscoped}
 use Rattle.pt_law.specs.Naming.{made}
 use Rattle.pt_fit.specs.Cause.{Asking, is_passed_over}
@@ -70,15 +70,15 @@ fit_raise caps next f = record { on = λ path s. ((tt, tt), λ told m. f.on _ (s
 pub record Covers (holds bare : List Hold) : Type 0 where
   pub uncovers : uncovered holds ≡ bare
   pub unscopes : unscoped holds ≡ bare
-  pub lays : (fd : Fd) → uncovered (laid (hold.Fd fd None) holds) ≡ hold.Fd fd None ∷ bare
+  pub lays : (fd : Fd) → uncovered (laid (hold.Fd fd) holds) ≡ hold.Fd fd ∷ bare
 
 -- As whoever asks a name is made in what was resolved last, and the scopes end; or it was there.
 pub fit_make_at : {asked : Asking} {seen : List Seen} {marks : List ℕ} {notes : Notes}
     (holds bare : List Hold) (dir : Fd) (name : List ℕ) (flags : OpenFlags) (mode row number : ℕ)
     (next : Fd → RequestTree) (may_be : Bool) (old : RequestTree) →
     Covers holds (hold.Pin row (Some dir) ∷ bare) → notes.resolved ≡ Some (record { number = number; row = row }) →
-    ((fd : Fd) → Goes asked seen (next fd) (hold.Fd fd None ∷ hold.Pin row (Some dir) ∷ bare) marks
-    (record notes { latest = found_by flags fd })) →
+    ((fd : Fd) → Goes asked seen (next fd) (hold.Fd fd ∷ hold.Pin row (Some dir) ∷ bare) marks
+    (record (newly fd notes) { latest = found_by flags fd })) →
     (may_be ≡ true → Goes asked seen old (hold.Pin row (Some dir) ∷ bare) marks notes) →
     Goes asked seen (make_at dir name flags mode next may_be old) holds marks notes
 fit_make_at {asked = asked} {seen = seen} {marks = marks} {notes = notes} holds bare dir name flags mode row number

@@ -149,14 +149,14 @@ module _ (plan : Plan) (seat : HostSeat) (who : Context) (inode : ℕ) (handle :
   -- by the file, which is held itself or by its row
   fit_opened : {seen : List Seen} {marks : List ℕ} {notes : Notes} (row : ℕ) (dir new : Fd) →
       (given : Option ℕ) → opens_anew given valid ≡ true →
-      Goes asks seen (target_of inode given new (sets_all new)) (hold.Fd new None ∷ hold.Pin row (Some dir) ∷ [])
+      Goes asks seen (target_of inode given new (sets_all new)) (hold.Fd new ∷ hold.Pin row (Some dir) ∷ [])
       marks notes
   fit_opened row dir new (Some number) e = absurd (cc)
   fit_opened row dir new None e =
       fit_sets new new true (record {
         bare = λ one. refl;
-        files = (hold.Fd new None, _, here, refl);
-        targets = (hold.Fd new None, _, here, refl);
+        files = (hold.Fd new, _, here, refl);
+        targets = (hold.Fd new, _, here, refl);
       })
 
   fit_filed : {seen : List Seen} {marks : List ℕ} {notes : Notes} (row : ℕ) (file : Fd) (given : Option ℕ) →

@@ -23,7 +23,7 @@ gives_copied : (seat : HostSeat) (one : Hold) → KeepsGroups seat → is_scope 
     MayFailToCopy (giving seat one) → ⊥
 gives_copied seat (hold.Pin row fd) k e f = absurd (cc)
 gives_copied seat (hold.HandlePin row fd) k e f = absurd (cc)
-gives_copied seat (hold.Fd fd was) k e f = absurd (cc)
+gives_copied seat (hold.Fd fd) k e f = absurd (cc)
 gives_copied seat hold.Slot k e f = absurd (cc)
 gives_copied seat (hold.Count era number) k e f = absurd (cc)
 gives_copied seat hold.Groups k e f = k f

@@ -180,7 +180,7 @@ tended_plain seat was_cut deed all left next lost e wears w s = (
 plain_giving : (seat : HostSeat) (one : Hold) → is_scope one ≡ false → is_of_seat (giving seat one) ≡ false
 plain_giving seat (hold.Pin row fd) e = refl
 plain_giving seat (hold.HandlePin row fd) e = refl
-plain_giving seat (hold.Fd fd was) e = refl
+plain_giving seat (hold.Fd fd) e = refl
 plain_giving seat hold.Slot e = refl
 plain_giving seat (hold.Count era number) e = refl
 plain_giving seat hold.Groups e = absurd (cc)

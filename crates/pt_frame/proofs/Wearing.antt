@@ -5,7 +5,6 @@ use Rattle.std.proofs.Common.{Option, Some, None, refl, ap, sym, ◌∙◌, subs
 use Rattle.pt_host.specs.Call.{Call}
 use Rattle.pt_host.specs.Sorts.{Sort, OpensWith, EndsFd, OfSeat, Plain, sort_of}
 use Rattle.pt_host.specs.declared.ids.Fd.{Fd}
-use Rattle.pt_host.specs.declared.ids.ObjIds.{ObjIds}
 use Rattle.pt_host.specs.declared.op.KeptHostOp.TheVariants as call
 use Rattle.pt_host.specs.declared.reply.HostReply.TheVariants as host
 use Rattle.pt_host.specs.declared.reply.HostValue.TheVariants as value
@@ -15,8 +14,8 @@ use Rattle.pt_session.specs.declared.event.KeptEvent.TheVariants as change
 use Rattle.pt_session.specs.declared.reply.EventReply.{EventReply}
 use Rattle.pt_session.specs.declared.reply.EventReply.TheVariants as event
 use Rattle.pt_frame.specs.Deed.{Deed, Calls, Changes}
-use Rattle.pt_frame.specs.Held.{is_scope, laid, fd_in, is_some_fd, is_same_fd, is_slot, noted, closed, slotted}
-use Rattle.pt_frame.specs.Held.{unslotted, handed, handed_of, row_fd, statted, held_called, held_changed, held}
+use Rattle.pt_frame.specs.Held.{is_scope, laid, fd_in, is_some_fd, is_same_fd, is_slot, closed, slotted}
+use Rattle.pt_frame.specs.Held.{unslotted, handed, handed_of, row_fd, held_called, held_changed, held}
 use Rattle.pt_frame.specs.Held.{opened}
 use Rattle.pt_frame.specs.Frame.{giving, bare}
 use Rattle.pt_frame.specs.Frame.{front, behind, under}
@@ -124,7 +123,7 @@ wears_laid seat one (top ∷ holds) worn e w =
 fd_bare : (one : Hold) → is_some_fd (fd_in one) ≡ true → is_scope one ≡ false
 fd_bare (hold.Pin row fd) e = refl
 fd_bare (hold.HandlePin row fd) e = refl
-fd_bare (hold.Fd fd was) e = refl
+fd_bare (hold.Fd fd) e = refl
 fd_bare hold.Slot e = refl
 fd_bare (hold.Count era number) e = refl
 fd_bare hold.Groups e = absurd (cc)
@@ -149,13 +148,6 @@ found_or seat one holds found below worn true bare there so w =
     let c = wears_bare seat one holds worn (bare refl) w in
     wears_at seat found worn c.0 (there c.1 (bare refl))
 found_or seat one holds found below worn false bare there so w = wears_top seat one holds below worn so w
-
-pub wears_noted : (seat : HostSeat) (fd : Fd) (ids : ObjIds) (holds : List Hold) (worn : List Call) →
-    Wears seat holds worn → Wears seat (noted fd ids holds) worn
-wears_noted seat fd ids [] worn w = w
-wears_noted seat fd ids (one ∷ holds) worn w =
-    found_or seat one holds (hold.Fd fd (Some ids) ∷ holds) (noted fd ids holds) worn (is_same_fd fd (fd_in one))
-    (same_bare fd one) (λ c e. (refl, c)) (λ rest r. wears_noted seat fd ids holds rest r) w
 
 pub wears_closed : (seat : HostSeat) (fd : Fd) (holds : List Hold) (worn : List Call) → Wears seat holds worn →
     Wears seat (closed fd holds) worn
@@ -194,16 +186,14 @@ wears_handed_of : (seat : HostSeat) (fd : Option Fd) (holds : List Hold) (worn :
 wears_handed_of seat None holds worn w = w
 wears_handed_of seat (Some fd) holds worn w = wears_handed seat fd holds worn w
 
-wears_called : (seat : HostSeat) (sort : Sort) (stat_of : Option Fd) (told : ActReply) (holds : List Hold)
-    (worn : List Call) → Wears seat holds worn → Wears seat (held_called sort stat_of told holds) worn
-wears_called seat (OpensWith flags) stat_of (told.Host (host.Ok (value.Fd fd))) holds worn w =
-    wears_laid seat (hold.Fd fd None) holds worn refl w
-wears_called seat (OpensWith flags) stat_of told holds worn w = w
-wears_called seat (EndsFd fd) stat_of told holds worn w = wears_closed seat fd holds worn w
-wears_called seat OfSeat stat_of told holds worn w = w
-wears_called seat Plain (Some fd) (told.Host (host.Ok (value.Stat stat))) holds worn w =
-    wears_noted seat fd stat.ids holds worn w
-wears_called seat Plain stat_of told holds worn w = w
+wears_called : (seat : HostSeat) (sort : Sort) (told : ActReply) (holds : List Hold) (worn : List Call) →
+    Wears seat holds worn → Wears seat (held_called sort told holds) worn
+wears_called seat (OpensWith flags) (told.Host (host.Ok (value.Fd fd))) holds worn w =
+    wears_laid seat (hold.Fd fd) holds worn refl w
+wears_called seat (OpensWith flags) told holds worn w = w
+wears_called seat (EndsFd fd) told holds worn w = wears_closed seat fd holds worn w
+wears_called seat OfSeat told holds worn w = w
+wears_called seat Plain told holds worn w = w
 
 wears_changed : (seat : HostSeat) (asked : Change) (told : EventReply) (holds : List Hold) (worn : List Call) →
     Wears seat holds worn → Wears seat (held_changed asked told holds) worn
@@ -228,7 +218,7 @@ wears_changed seat asked told holds worn w = w
 pub wears_held : (seat : HostSeat) (deed : Deed) (told : ActReply) (holds : List Hold) (worn : List Call) →
     Wears seat holds worn → Wears seat (held deed told holds) worn
 wears_held seat (Calls asked) told holds worn w =
-    wears_called seat (sort_of asked) (statted asked) told holds worn w
+    wears_called seat (sort_of asked) told holds worn w
 wears_held seat (Changes asked) (told.Event reply) holds worn w = wears_changed seat asked reply holds worn w
 wears_held seat (Changes asked) (told.Host reply) holds worn w = w
 wears_held seat (Changes asked) told.NoCopy holds worn w = w
@@ -320,21 +310,20 @@ raised_so : (seat : HostSeat) (asked : Call) (told : ActReply) (holds : List Hol
 raised_so seat asked (told.Host (host.Ok got)) holds worn r some w = wears_raised seat asked holds worn r some w
 raised_so seat asked told holds worn r some w = w
 
-called_so : (seat : HostSeat) (sort : Sort) (asked : Call) (stat_of : Option Fd) (told : ActReply) (holds : List Hold)
-    (worn : List Call) → IsAskedOf sort asked worn → Wears seat holds worn →
-    Wears seat (held_called sort stat_of told holds) (worn_called false sort asked told worn)
-called_so seat (OpensWith flags) asked stat_of told holds worn a w =
-    wears_called seat (OpensWith flags) stat_of told holds worn w
-called_so seat (EndsFd fd) asked stat_of told holds worn a w = wears_closed seat fd holds worn w
-called_so seat OfSeat asked stat_of told holds worn a w = raised_so seat asked told holds worn a.0 a.2 w
-called_so seat Plain asked stat_of told holds worn a w = wears_called seat Plain stat_of told holds worn w
+called_so : (seat : HostSeat) (sort : Sort) (asked : Call) (told : ActReply) (holds : List Hold) (worn : List Call) →
+    IsAskedOf sort asked worn → Wears seat holds worn →
+    Wears seat (held_called sort told holds) (worn_called false sort asked told worn)
+called_so seat (OpensWith flags) asked told holds worn a w = wears_called seat (OpensWith flags) told holds worn w
+called_so seat (EndsFd fd) asked told holds worn a w = wears_closed seat fd holds worn w
+called_so seat OfSeat asked told holds worn a w = raised_so seat asked told holds worn a.0 a.2 w
+called_so seat Plain asked told holds worn a w = wears_called seat Plain told holds worn w
 
 pub wears_asked : (seat : HostSeat) (deed : Deed) (told : ActReply) (holds : List Hold) (worn : List Call) →
     IsAsked deed worn → Wears seat holds worn → Wears seat (held deed told holds) (worn_after worn deed told)
 wears_asked seat (Calls asked) told holds worn a w =
     subst (λ (b : Bool). Wears seat (held (Calls asked) told holds) (worn_called b (sort_of asked) asked told worn))
     (sym (asks_open (Calls asked) worn a))
-    (called_so seat (sort_of asked) asked (statted asked) told holds worn a w)
+    (called_so seat (sort_of asked) asked told holds worn a w)
 wears_asked seat (Changes asked) told holds worn a w = wears_held seat (Changes asked) told holds worn w
 
 pub wears_parted : (seat : HostSeat) (passes : Bool) (holds : List Hold) → Clear seat holds →

@@ -23,7 +23,7 @@ use Rattle.pt_frame.specs.declared.hold.Taken.TheVariants as taken
 abbrev pub giving : HostSeat → Hold → Deed
 giving seat (hold.Pin row fd) = Changes (change.Unpin row)
 giving seat (hold.HandlePin row fd) = Changes (change.UnpinHandle row)
-giving seat (hold.Fd fd told) = Calls (call.Close fd)
+giving seat (hold.Fd fd) = Calls (call.Close fd)
 giving seat hold.Slot = Changes change.GiveFd
 giving seat (hold.Count era number) = Changes (change.GiveBack era number)
 giving seat hold.Groups = Calls (call.SetGroups seat.groups)

@@ -1,11 +1,8 @@
 -- Believed. What a job holds, as its deeds and their replies say: pins, descriptors, slots, counts, and the scopes in
 -- which its seat is changed. Holds are searched by what they are.
 use Rattle.std.specs.Prelude.{◌==◌, Bool, true, false, if◌then◌else◌, List, [], ◌∷◌, Option, Some, None}
-use Rattle.pt_host.specs.Call.{Call}
 use Rattle.pt_host.specs.Sorts.{Sort, OpensWith, EndsFd, OfSeat, Plain, sort_of}
 use Rattle.pt_host.specs.declared.ids.Fd.{Fd}
-use Rattle.pt_host.specs.declared.ids.ObjIds.{ObjIds}
-use Rattle.pt_host.specs.declared.op.KeptHostOp.TheVariants as call
 use Rattle.pt_host.specs.declared.reply.HostReply.TheVariants as host
 use Rattle.pt_host.specs.declared.reply.HostValue.TheVariants as value
 use Rattle.pt_session.specs.Change.{Change}
@@ -28,7 +25,7 @@ row_fd (File fd) = Some fd
 abbrev pub is_scope : Hold → Bool
 is_scope (hold.Pin row fd) = false
 is_scope (hold.HandlePin row fd) = false
-is_scope (hold.Fd fd told) = false
+is_scope (hold.Fd fd) = false
 is_scope hold.Slot = false
 is_scope (hold.Count era number) = false
 is_scope hold.Groups = true
@@ -46,7 +43,7 @@ laid one (top ∷ holds) = if is_scope top then top ∷ laid one holds else one 
 abbrev pub fd_in : Hold → Option Fd
 fd_in (hold.Pin row fd) = None
 fd_in (hold.HandlePin row fd) = None
-fd_in (hold.Fd fd told) = Some fd
+fd_in (hold.Fd fd) = Some fd
 fd_in hold.Slot = None
 fd_in (hold.Count era number) = None
 fd_in hold.Groups = None
@@ -66,12 +63,6 @@ is_same_fd fd (Some same) = same.0 == fd.0
 abbrev pub is_slot : Hold → Bool
 is_slot hold.Slot = true
 is_slot one = false
-
--- what `Stat` told of this descriptor is kept with it
-abbrev pub noted : Fd → ObjIds → List Hold → List Hold
-noted fd ids [] = []
-noted fd ids (one ∷ holds) =
-    if is_same_fd fd (fd_in one) then hold.Fd fd (Some ids) ∷ holds else one ∷ noted fd ids holds
 
 -- this descriptor is held no more
 abbrev pub closed : Fd → List Hold → List Hold
@@ -96,21 +87,14 @@ abbrev pub handed_of : Option Fd → List Hold → List Hold
 handed_of None holds = holds
 handed_of (Some fd) holds = handed fd holds
 
--- the descriptor of which a call tells the ids
-abbrev pub statted : Call → Option Fd
-statted (call.Stat fd) = Some fd
-statted asked = None
-
--- The holds after a call of a body, the last one first: an opening brings a descriptor, the end of one takes it away
--- whatever is told, and what `Stat` tells is kept with its descriptor. A call on the seat opens a scope only where
--- the body says so.
-abbrev pub held_called : Sort → Option Fd → ActReply → List Hold → List Hold
-held_called (OpensWith flags) stat_of (Host (host.Ok (value.Fd fd))) holds = laid (hold.Fd fd None) holds
-held_called (OpensWith flags) stat_of told holds = holds
-held_called (EndsFd fd) stat_of told holds = closed fd holds
-held_called OfSeat stat_of told holds = holds
-held_called Plain (Some fd) (Host (host.Ok (value.Stat stat))) holds = noted fd stat.ids holds
-held_called Plain stat_of told holds = holds
+-- The holds after a call of a body, the last one first: an opening brings a descriptor, and the end of one takes it
+-- away whatever is told. A call on the seat opens a scope only where the body says so.
+abbrev pub held_called : Sort → ActReply → List Hold → List Hold
+held_called (OpensWith flags) (Host (host.Ok (value.Fd fd))) holds = laid (hold.Fd fd) holds
+held_called (OpensWith flags) told holds = holds
+held_called (EndsFd fd) told holds = closed fd holds
+held_called OfSeat told holds = holds
+held_called Plain told holds = holds
 
 -- and after an event
 abbrev pub held_changed : Change → EventReply → List Hold → List Hold
@@ -145,7 +129,7 @@ held_changed change.Clear told holds = holds
 held_changed change.TakeClosing told holds = holds
 
 abbrev pub held : Deed → ActReply → List Hold → List Hold
-held (Calls asked) told holds = held_called (sort_of asked) (statted asked) told holds
+held (Calls asked) told holds = held_called (sort_of asked) told holds
 held (Changes asked) (Event told) holds = held_changed asked told holds
 held (Changes asked) (Host told) holds = holds
 held (Changes asked) NoCopy holds = holds

@@ -147,8 +147,8 @@ slots_told (Calls asked) reply = 0
 abbrev pub brought : Taken → List Hold
 brought taken.Nothing = []
 brought taken.Slot = hold.Slot ∷ []
-brought (taken.Fd fd true) = hold.Fd fd None ∷ hold.Slot ∷ []
-brought (taken.Fd fd false) = hold.Fd fd None ∷ []
+brought (taken.Fd fd true) = hold.Fd fd ∷ hold.Slot ∷ []
+brought (taken.Fd fd false) = hold.Fd fd ∷ []
 
 abbrev pub is_cut : Answer → Bool
 is_cut answer.Cut = true

@@ -5,7 +5,7 @@ ghost use Rattle.pt_frame.specs.Frame.{behind};
 ghost use Rattle.pt_frame.specs.Machine.Room.{most_holds};
 
 use arrayvec::ArrayVec;
-use pt_host::{Caps, Fd, ObjIds};
+use pt_host::{Caps, Fd};
 use std::marker::Model;
 
 /// What a job has to give back. The last five are scopes: what was changed of the seat, which goes back to what it
@@ -16,8 +16,8 @@ pub enum Hold {
     Pin { row: u64, fd: Option<Fd> },
     /// A pin on a handle's row, and the handle's descriptor.
     HandlePin { row: u64, fd: Fd },
-    /// A descriptor, and the ids that `Stat` told of it.
-    Fd { fd: Fd, told: Option<ObjIds> },
+    /// A descriptor.
+    Fd(Fd),
     /// A slot, which goes with the descriptor that lies on it.
     Slot,
     /// A number that was given once and is not yet answered.
@@ -48,7 +48,7 @@ pub enum Taken {
 /// What a job has to give back, the last one first.
 #[derive(Debug, Drop)]
 pub struct Holds {
-    kept: ArrayVec<Hold, 24>,
+    kept: ArrayVec<Hold, 17>,
 }
 
 impl Model for Holds {

@@ -8,7 +8,7 @@ use std::marker::Model;
 /// How many holds there were where each open bracket began, the innermost first.
 #[derive(Debug, Drop)]
 pub struct Marks {
-    kept: ArrayVec<u8, 24>,
+    kept: ArrayVec<u8, 17>,
 }
 
 impl Model for Marks {

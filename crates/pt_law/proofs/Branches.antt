@@ -41,7 +41,7 @@ back_step deed None told i g = tt
 giving_gives : (seat : HostSeat) (one : Hold) → ReturnsHold (Some (giving seat one))
 giving_gives seat (hold.Pin row fd) = tt
 giving_gives seat (hold.HandlePin row fd) = tt
-giving_gives seat (hold.Fd fd was) = tt
+giving_gives seat (hold.Fd fd) = tt
 giving_gives seat hold.Slot = tt
 giving_gives seat (hold.Count era number) = tt
 giving_gives seat hold.Groups = tt

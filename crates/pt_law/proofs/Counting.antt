@@ -95,7 +95,7 @@ honest_by bound t js j change.TakeClosing (event.Refused NotLive) t' after lt b 
     let p = b.closings in
     let q = le_sum_to (λ i. (js i).owed) bound j lt in
     let e = ap length h.2 in
-    absurd (omega (arith, p, q, e, m.1))
+    absurd (omega (arith, p, q, e, m.1.0))
 honest_by bound t js j change.TakeClosing (event.Refused _) t' after lt b h m = absurd h.0
 honest_by bound t js j _ _ t' after lt b h m = tt
 
@@ -114,7 +114,7 @@ took_none NoCopy = refl
 -- closings that come to be owed, and those that are taken
 pub owed_flow : (job : Job) (deed : Deed) (told : ActReply) (after : Job) → MovesBy job deed told after →
     after.owed + closing_ended deed told ≡ job.owed + closings_in deed told
-owed_flow job (Changes change.TakeClosing) told after m = let a = took_none told in omega (arith, m.1, m.2, a)
+owed_flow job (Changes change.TakeClosing) told after m = let a = took_none told in omega (arith, m.1.0, m.2, a)
 owed_flow job deed told after m = let e = m.2 in omega (arith, e)
 
 pub keeps_books : (bound : ℕ) (t : Tables) (js : ℕ →

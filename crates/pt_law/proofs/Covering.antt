@@ -4,7 +4,6 @@ use Rattle.std.proofs.Common.{if◌then◌else◌}
 use Rattle.pt_host.specs.Words.{Each}
 use Rattle.pt_host.specs.Sorts.{Sort, OpensWith, EndsFd, OfSeat, Plain, sort_of}
 use Rattle.pt_host.specs.declared.ids.Fd.{Fd}
-use Rattle.pt_host.specs.declared.ids.ObjIds.{ObjIds}
 use Rattle.pt_host.specs.declared.reply.HostReply.TheVariants as host
 use Rattle.pt_host.specs.declared.reply.HostValue.TheVariants as value
 use Rattle.pt_session.specs.Change.{Change}
@@ -12,8 +11,8 @@ use Rattle.pt_session.specs.declared.event.KeptEvent.TheVariants as change
 use Rattle.pt_session.specs.declared.reply.EventReply.{EventReply}
 use Rattle.pt_session.specs.declared.reply.EventReply.TheVariants as event
 use Rattle.pt_frame.specs.Deed.{Deed, Calls, Changes}
-use Rattle.pt_frame.specs.Held.{is_scope, laid, fd_in, is_some_fd, is_same_fd, is_slot, noted, closed, slotted}
-use Rattle.pt_frame.specs.Held.{unslotted, handed, handed_of, row_fd, statted, held_called, held_changed, held}
+use Rattle.pt_frame.specs.Held.{is_scope, laid, fd_in, is_some_fd, is_same_fd, is_slot, closed, slotted}
+use Rattle.pt_frame.specs.Held.{unslotted, handed, handed_of, row_fd, held_called, held_changed, held}
 use Rattle.pt_frame.specs.Held.{opened}
 use Rattle.pt_frame.specs.declared.act.ActReply.{ActReply}
 use Rattle.pt_frame.specs.declared.act.ActReply.TheVariants.{Event, Host, NoCopy}
@@ -34,7 +33,7 @@ Covers (scope ∷ scopes) (one ∷ holds) = (one ≡ scope) × (is_scope one ≡
 scope_fd : (one : Hold) → is_scope one ≡ true → fd_in one ≡ None
 scope_fd (hold.Pin row fd) e = absurd (cc)
 scope_fd (hold.HandlePin row fd) e = absurd (cc)
-scope_fd (hold.Fd fd told) e = absurd (cc)
+scope_fd (hold.Fd fd) e = absurd (cc)
 scope_fd hold.Slot e = absurd (cc)
 scope_fd (hold.Count era number) e = absurd (cc)
 scope_fd hold.Groups e = refl
@@ -59,25 +58,6 @@ covers_laid one (scope ∷ scopes) [] e c = absurd c
 covers_laid one (scope ∷ scopes) (top ∷ holds) e c =
     subst (λ (b : Bool). Covers (scope ∷ scopes) (if b then top ∷ laid one holds else one ∷ top ∷ holds)) (sym c.1)
     (c.0, c.1, covers_laid one scopes holds e c.2)
-
--- what `Stat` told
-clear_noted : (fd : Fd) (ids : ObjIds) (holds : List Hold) → Clear holds → Clear (noted fd ids holds)
-clear_noted fd ids [] c = tt
-clear_noted fd ids (one ∷ holds) c = go (is_same_fd fd (fd_in one)) (clear_noted fd ids holds c.1)
-  where
-    go : (b : Bool) → Clear (noted fd ids holds) →
-        Clear (if b then hold.Fd fd (Some ids) ∷ holds else one ∷ noted fd ids holds)
-    go true k = (refl, c.1)
-    go false k = (c.0, k)
-
-covers_noted : (fd : Fd) (ids : ObjIds) (scopes holds : List Hold) → Covers scopes holds →
-    Covers scopes (noted fd ids holds)
-covers_noted fd ids [] holds c = clear_noted fd ids holds c
-covers_noted fd ids (scope ∷ scopes) [] c = absurd c
-covers_noted fd ids (scope ∷ scopes) (one ∷ holds) c =
-    subst (λ (b : Bool). Covers (scope ∷ scopes)
-    (if b then hold.Fd fd (Some ids) ∷ holds else one ∷ noted fd ids holds)) (sym (other_fd fd one c.1))
-    (c.0, c.1, covers_noted fd ids scopes holds c.2)
 
 -- the end of a descriptor
 clear_closed : (fd : Fd) (holds : List Hold) → Clear holds → Clear (closed fd holds)
@@ -140,17 +120,14 @@ covers_handed_of : (fd : Option Fd) (scopes holds : List Hold) → Covers scopes
 covers_handed_of None scopes holds c = c
 covers_handed_of (Some fd) scopes holds c = covers_handed fd scopes holds c
 
-covers_called : (sort : Sort) (stat_of : Option Fd) (told : ActReply) (scopes holds : List Hold) →
-    Covers scopes holds → Covers scopes (held_called sort stat_of told holds)
-covers_called (OpensWith flags) stat_of (Host (host.Ok (value.Fd fd))) scopes holds c =
-    covers_laid (hold.Fd fd None) scopes holds refl c
-covers_called (OpensWith flags) stat_of told scopes holds c = c
-covers_called (EndsFd fd) stat_of told scopes holds c = covers_closed fd scopes holds c
-covers_called OfSeat stat_of told scopes holds c = c
-covers_called Plain (Some fd) (Host (host.Ok (value.Stat stat))) scopes holds c =
-    covers_noted fd stat.ids scopes holds c
-covers_called Plain (Some fd) told scopes holds c = c
-covers_called Plain None told scopes holds c = c
+covers_called : (sort : Sort) (told : ActReply) (scopes holds : List Hold) → Covers scopes holds →
+    Covers scopes (held_called sort told holds)
+covers_called (OpensWith flags) (Host (host.Ok (value.Fd fd))) scopes holds c =
+    covers_laid (hold.Fd fd) scopes holds refl c
+covers_called (OpensWith flags) told scopes holds c = c
+covers_called (EndsFd fd) told scopes holds c = covers_closed fd scopes holds c
+covers_called OfSeat told scopes holds c = c
+covers_called Plain told scopes holds c = c
 
 covers_changed : (asked : Change) (told : EventReply) (scopes holds : List Hold) → Covers scopes holds →
     Covers scopes (held_changed asked told holds)
@@ -174,7 +151,7 @@ covers_changed asked told scopes holds c = c
 
 pub covers_held : (deed : Deed) (told : ActReply) (scopes holds : List Hold) → Covers scopes holds →
     Covers scopes (held deed told holds)
-covers_held (Calls asked) told scopes holds c = covers_called (sort_of asked) (statted asked) told scopes holds c
+covers_held (Calls asked) told scopes holds c = covers_called (sort_of asked) told scopes holds c
 covers_held (Changes asked) (Event told) scopes holds c = covers_changed asked told scopes holds c
 covers_held (Changes asked) (Host told) scopes holds c = c
 covers_held (Changes asked) NoCopy scopes holds c = c

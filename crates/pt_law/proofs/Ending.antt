@@ -1,5 +1,5 @@
 -- What belongs to a sound grammar keeps the discipline to its end, whole or cut.
-use Rattle.std.proofs.Common.{inl, inr, List, [], ◌∷◌, ◌++◌, sym, subst}
+use Rattle.std.proofs.Common.{inl, inr, List, [], ◌∷◌, ◌++◌, refl, sym, subst}
 use Rattle.pt_host.specs.declared.seat.HostSeat.{HostSeat}
 use Rattle.pt_frame.specs.Deed.{Step}
 use Rattle.pt_frame.specs.Grammar.{Grammar, End, Do, May, Belongs}
@@ -44,10 +44,10 @@ ends_cut seat (May one other) job so_far steps last s u t (inr b) =
 pub keeps_ends : (seat : HostSeat) (tree : RequestTree) (steps : List Step) (last : Finish) → Keeps tree [] [] blank →
     AllMayBeTold steps → Belongs (grammar_of_tree seat tree) steps last → ComesToEnd idle steps last
 keeps_ends seat tree steps last f t b =
-    ends (grammar_of_tree seat tree) idle steps last (sound_framed seat tree [] [] blank f) t b
+    ends (grammar_of_tree seat tree) idle steps last (sound_framed seat tree [] [] blank refl f) t b
 
 pub keeps_ends_cut : (seat : HostSeat) (tree : RequestTree) (so_far steps : List Step) (last : Finish) →
     Keeps tree [] [] blank → AllMayBeTold so_far → AllMayBeTold steps →
     CutAfter seat (grammar_of_tree seat tree) so_far steps last → ComesToEnd idle (so_far ++ steps) last
 keeps_ends_cut seat tree so_far steps last f u t b =
-    ends_cut seat (grammar_of_tree seat tree) idle so_far steps last (sound_framed seat tree [] [] blank f) u t b
+    ends_cut seat (grammar_of_tree seat tree) idle so_far steps last (sound_framed seat tree [] [] blank refl f) u t b

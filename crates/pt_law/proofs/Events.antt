@@ -26,7 +26,8 @@ use Rattle.pt_frame.specs.declared.hold.Hold.{Hold}
 use Rattle.pt_frame.specs.declared.hold.Hold.TheVariants as hold
 use Rattle.pt_frame.specs.declared.hold.Taken.{Taken}
 use Rattle.pt_frame.specs.declared.hold.Taken.TheVariants as taken
-use Rattle.pt_law.specs.Discipline.{Job, Notes, Resolution, Given, given_for, notes_after, Shifts, MovesBy}
+use Rattle.pt_law.specs.Discipline.{Job, Notes, Resolution, Given, Told, given_for, told_of, taken_fd, notes_after}
+use Rattle.pt_law.specs.Discipline.{Shifts, Fits, MovesBy}
 use Rattle.pt_law.specs.World.{Past, come_to, settled, settled_by}
 use Rattle.pt_law.specs.Ledger.{fd_handed}
 use Rattle.pt_law.proofs.Lists.{is_apart, set_at_same, set_at_other, each_replaced, each_takes, each_map}
@@ -34,17 +35,17 @@ use Rattle.pt_law.proofs.Lists.{each_put}
 use Rattle.pt_law.proofs.Effects.{stays_by}
 use Rattle.pt_law.proofs.Holding.{handed}
 use Rattle.pt_law.proofs.Knowing.{Shows, RowOpen, HandleOpen, ToldRight, PinRight, NotedRight, IdsRight}
-use Rattle.pt_law.proofs.Knowing.{GivenRight, Knowing}
-use Rattle.pt_law.proofs.Knowing.{unless_apart}
+use Rattle.pt_law.proofs.Knowing.{GivenRight, Knowing, Tells}
+use Rattle.pt_law.proofs.Knowing.{unless_apart, told_less, ids_less}
 use Rattle.pt_law.proofs.RowEvents.{told_noted}
 
 -- what is held of slots, counts, new descriptors and new pins, and of what was held before, is held after
-each_brought : (P : Hold → Type 0) (b : Taken) (holds : List Hold) → P hold.Slot → ((fd : Fd) → P (hold.Fd fd None)) →
-    Each P holds → Each P (brought b ++ holds)
+each_brought : (P : Hold → Type 0) (b : Taken) (holds : List Hold) → P hold.Slot →
+    ((fd : Fd) → taken_fd b ≡ Some fd → P (hold.Fd fd)) → Each P holds → Each P (brought b ++ holds)
 each_brought P taken.Nothing holds s f h = h
 each_brought P taken.Slot holds s f h = (s, h)
-each_brought P (taken.Fd fd true) holds s f h = (f fd, (s, h))
-each_brought P (taken.Fd fd false) holds s f h = (f fd, h)
+each_brought P (taken.Fd fd true) holds s f h = (f fd refl, (s, h))
+each_brought P (taken.Fd fd false) holds s f h = (f fd refl, h)
 
 -- the event gives a number of this era
 abbrev pub IsOfEra : Change → ℕ → Type 0
@@ -54,7 +55,7 @@ IsOfEra e own = ⊥
 
 pub holds_event : (P : Hold → Type 0) (holds : List Hold) (e : Change) (r : EventReply) (after : List Hold) →
     Shifts holds (Changes e) (Event r) after → P hold.Slot → ((era n : ℕ) → IsOfEra e era → P (hold.Count era n)) →
-    ((fd : Fd) → P (hold.Fd fd None)) →
+    ((fd : Fd) → e ≡ change.TakeClosing → taken_fd (taken_in (Event r)) ≡ Some fd → P (hold.Fd fd)) →
     ((number row mode : ℕ) (form : RowForm) (ids : ObjIds) → e ≡ change.Resolve number →
     r ≡ event.Resolved row form ids mode → P (hold.Pin row (row_fd form))) →
     ((handle number row : ℕ) (fd : Fd) → e ≡ change.PinHandle handle number → r ≡ event.Pinned row fd →
@@ -76,9 +77,10 @@ holds_event P holds (change.PinHandle handle number) (event.Pinned row fd) after
     each_put P m (q handle number row fd refl refl) h
 holds_event P holds (change.UnpinHandle row) r after m s c f p q h = each_takes P m.1 h
 holds_event P holds (change.InsertHandle era handle number fd) (event.Inserted given) after m s c f p q h =
-    each_takes P m.3 (each_takes P m.2 h)
+    each_takes P m.2 (each_takes P m.1 h)
 holds_event P holds (change.GiveBack era number) r after m s c f p q h = each_takes P m h
-holds_event P holds change.TakeClosing r after m s c f p q h = rw m (each_brought P (taken_in (Event r)) holds s f h)
+holds_event P holds change.TakeClosing r after m s c f p q h =
+    rw m (each_brought P (taken_in (Event r)) holds s (λ fd e. f fd refl e) h)
 holds_event P holds e r after m s c f p q h = rw m h
 
 -- what is settled of rows that were there stays
@@ -374,45 +376,107 @@ reopened_event tree past t j job after e r m k was u =
     (λ f q. event_reopened job.notes e r f (sym (ap (λ (n : Notes). n.reopened) m.3) ∙ q))
     (k was (sym (ap (λ (n : Notes). n.resolved) m.3) ∙ u))
 
+-- an event tells nothing of a descriptor, and a closing brings one only where none is to be closed
+event_told : (notes : Notes) (e : Change) (r : EventReply) →
+    (notes_after notes (Changes e) (Event r)).told ≡ notes.told
+event_told notes (change.Insert era number form ids mode) (event.Inserted given) = refl
+event_told notes (change.InsertRoot era form ids mode negotiated) (event.Inserted given) = refl
+event_told notes (change.InsertHandle era handle number fd) (event.Inserted given) = refl
+event_told notes (change.Resolve number) (event.Resolved row form ids mode) = refl
+event_told notes change.DrawHandle (event.Drawn handle) = refl
+event_told notes change.Clear (event.Cleared era closings) = refl
+event_told notes change.Begin (event.Began era negotiated) = refl
+event_told notes change.DrawNode (event.Drawn number) = refl
+event_told notes (change.Insert era number form ids mode) (event.Found given) = refl
+event_told notes (change.Claim era handle ids) (event.Claimed given) = refl
+event_told notes _ _ = refl
+
+event_brought : (job : Job) (e : Change) (r : EventReply) (fd : Fd) → Fits job (Changes e) →
+    job.notes.brought ≡ Some fd → (notes_after job.notes (Changes e) (Event r)).brought ≡ Some fd
+event_brought job change.TakeClosing r fd f q = let none = f.1 in absurd (cc)
+event_brought job (change.Insert era number form ids mode) (event.Inserted given) fd f q = q
+event_brought job (change.InsertRoot era form ids mode negotiated) (event.Inserted given) fd f q = q
+event_brought job (change.InsertHandle era handle number same) (event.Inserted given) fd f q = q
+event_brought job (change.Resolve number) (event.Resolved row form ids mode) fd f q = q
+event_brought job change.DrawHandle (event.Drawn handle) fd f q = q
+event_brought job change.Clear (event.Cleared era closings) fd f q = q
+event_brought job change.Begin (event.Began era negotiated) fd f q = q
+event_brought job change.DrawNode (event.Drawn number) fd f q = q
+event_brought job (change.Insert era number form ids mode) (event.Found given) fd f q = q
+event_brought job (change.Claim era handle ids) (event.Claimed given) fd f q = q
+event_brought job _ _ fd f q = q
+
+event_tells : (job after : Job) (e : Change) (r : EventReply) → MovesBy job (Changes e) (Event r) after → (fd : Fd)
+    (ids : ObjIds) → Tells after.notes fd ids → Tells job.notes fd ids
+event_tells job after e r m fd ids q = (
+  ap (λ (told : List Told). told_of told fd) (sym (event_told job.notes e r) ∙ sym (ap (λ (z : Notes). z.told) m.3))
+      ∙ q.0,
+  λ b. q.1 (ap (λ (z : Notes). z.brought) m.3 ∙ event_brought job e r fd m.1 b),
+)
+
+-- of what a closing brings nothing is told
+brought_untold : (job after : Job) (e : Change) (r : EventReply) → MovesBy job (Changes e) (Event r) after →
+    (fd : Fd) → e ≡ change.TakeClosing → taken_fd (taken_in (Event r)) ≡ Some fd → after.notes.brought ≡ Some fd
+brought_untold job after e r m fd x y =
+    ap (λ (z : Notes). z.brought) m.3
+    ∙ ap (λ (c : Change). (notes_after job.notes (Changes c) (Event r)).brought) x ∙ y
+
+-- what was told before is still right
+told_event : (tree : Tree) (job after : Job) (e : Change) (r : EventReply) → MovesBy job (Changes e) (Event r) after →
+    Each (ToldRight tree (Tells job.notes)) job.holds → Each (ToldRight tree (Tells after.notes)) after.holds
+told_event tree job after e r m t =
+    holds_event (ToldRight tree (Tells after.notes)) job.holds e r after.holds m.0 tt (λ era n own. tt)
+    (λ fd x y. λ ids q. absurd (q.1 (brought_untold job after e r m fd x y)))
+    (λ number row mode form its x y. tt) (λ handle number row fd x y. tt)
+    (each_map (ToldRight tree (Tells job.notes)) (ToldRight tree (Tells after.notes)) job.holds
+    (λ one. told_less tree (Tells job.notes) (Tells after.notes) one (λ fd ids same q.
+    event_tells job after e r m fd ids q)) t)
+
 -- what has ids that were told before is still held, or is no more
 ids_event : (tree : Tree) (ids : ObjIds) (was : Option ℕ) (job after : Job) (e : Change) (r : EventReply) →
-    Shifts job.holds (Changes e) (Event r) after.holds → Each (IdsRight tree ids was) job.holds →
-    Each (IdsRight tree ids was) after.holds
-ids_event tree ids was job after e r m =
-    holds_event (IdsRight tree ids was) job.holds e r after.holds m tt (λ era n own. tt) (λ fd. tt)
+    MovesBy job (Changes e) (Event r) after → Each (IdsRight tree (Tells job.notes) ids was) job.holds →
+    Each (IdsRight tree (Tells after.notes) ids was) after.holds
+ids_event tree ids was job after e r m h =
+    holds_event (IdsRight tree (Tells after.notes) ids was) job.holds e r after.holds m.0 tt (λ era n own. tt)
+    (λ fd x y. λ q. absurd (q.1 (brought_untold job after e r m fd x y)))
     (λ number row mode form its x y. tt) (λ handle number row fd x y. tt)
+    (each_map (IdsRight tree (Tells job.notes) ids was) (IdsRight tree (Tells after.notes) ids was) job.holds
+    (λ one. ids_less tree (Tells job.notes) (Tells after.notes) ids was one (λ fd same q.
+    event_tells job after e r m fd ids q)) h)
 
 -- what was told the ids of an open object is open on that object
-same_ids : (tree : Tree) (fd : Fd) (object : ℕ) (ids : ObjIds) (was : Option ℕ) → IsWellFormed tree →
-    Shows tree fd object ids → was ≡ Some object → (one : Hold) → ToldRight tree one → IdsRight tree ids was one
-same_ids tree fd object ids was well s w (hold.Fd other (Some told)) h = λ q. (
-  h.0,
-  h.1.open_on,
-  w ∙ ap Some (well.apart fd other object h.0 s.what h.1.what s.open_on h.1.open_on s.is_object h.1.is_object
-      (s.same_ids ∙ sym q ∙ sym h.1.same_ids)),
+same_ids : (tree : Tree) (tells : Fd → ObjIds → Type 0) (fd : Fd) (object : ℕ) (ids : ObjIds) (was : Option ℕ) →
+    IsWellFormed tree → Shows tree fd object ids → was ≡ Some object → (one : Hold) → ToldRight tree tells one →
+    IdsRight tree tells ids was one
+same_ids tree tells fd object ids was well s w (hold.Fd other) h = λ q. let a = h ids q in (
+  a.0,
+  a.1.open_on,
+  w ∙ ap Some (well.apart fd other object a.0 s.what a.1.what s.open_on a.1.open_on s.is_object a.1.is_object
+      (s.same_ids ∙ sym a.1.same_ids)),
 )
-same_ids tree fd object ids was well s w one h = tt
+same_ids tree tells fd object ids was well s w one h = tt
 
 -- a number is given
 given_now : (tree : Tree) (job after : Job) (e : Change) (r : EventReply) (number : ℕ) (ids : ObjIds)
     (numbers : ℕ → Option ℕ) (fd : Fd) (object : ℕ) → IsWellFormed tree →
-    Shifts job.holds (Changes e) (Event r) after.holds → after.notes.given ≡ Some (given_for number ids) →
-    numbers number ≡ Some object → Shows tree fd object ids → Each (ToldRight tree) job.holds →
-    GivenRight tree after.notes.given numbers after.holds
+    MovesBy job (Changes e) (Event r) after → after.notes.given ≡ Some (given_for number ids) →
+    numbers number ≡ Some object → Shows tree fd object ids → Each (ToldRight tree (Tells job.notes)) job.holds →
+    GivenRight tree (Tells after.notes) after.notes.given numbers after.holds
 given_now tree job after e r number ids numbers fd object well m n w s told given q =
     let same : given_for number ids ≡ given = some_given (sym n ∙ q) in
-    subst (λ (g : Given). Each (IdsRight tree g.ids (numbers g.number)) after.holds) same
+    subst (λ (g : Given). Each (IdsRight tree (Tells after.notes) g.ids (numbers g.number)) after.holds) same
     (ids_event tree ids (numbers number) job after e r m
-    (each_map (ToldRight tree) (IdsRight tree ids (numbers number)) job.holds
-    (same_ids tree fd object ids (numbers number) well s w) told))
+    (each_map (ToldRight tree (Tells job.notes)) (IdsRight tree (Tells job.notes) ids (numbers number)) job.holds
+    (same_ids tree (Tells job.notes) fd object ids (numbers number) well s w) told))
   where
     some_given : {a b : Given} → Some a ≡ Some b → a ≡ b
     some_given e = cc
 
 -- none is given
 given_still : (tree : Tree) (job after : Job) (e : Change) (r : EventReply) (numbers : ℕ → Option ℕ) →
-    Shifts job.holds (Changes e) (Event r) after.holds → after.notes.given ≡ job.notes.given →
-    GivenRight tree job.notes.given numbers job.holds → GivenRight tree after.notes.given numbers after.holds
+    MovesBy job (Changes e) (Event r) after → after.notes.given ≡ job.notes.given →
+    GivenRight tree (Tells job.notes) job.notes.given numbers job.holds →
+    GivenRight tree (Tells after.notes) after.notes.given numbers after.holds
 given_still tree job after e r numbers m n k given q =
     ids_event tree given.ids (numbers given.number) job after e r m (k given (sym n ∙ q))
 
@@ -437,47 +501,47 @@ come_now past j number o =
 given_event : (tree : Tree) (past : Past) (t : Tables) (j : ℕ) (job after : Job) (e : Change) (r : EventReply)
     (t' : Tables) → IsWellFormed tree → Case t e r t' → MovesBy job (Changes e) (Event r) after →
     Each (RowOpen tree past) t.rows → Knowing tree t.next_row past j job →
-    GivenRight tree after.notes.given ((settled_by past j (Changes e) (Event r) t.next_row tree).resolved j)
-    after.holds
+    GivenRight tree (Tells after.notes) after.notes.given
+    ((settled_by past j (Changes e) (Event r) t.next_row tree).resolved j) after.holds
 given_event tree past t j job after (change.Claim era handle ids) (event.Claimed given) t' well h m rows k =
     let o = found_object tree past t ids given t' h.1 rows in
-    given_now tree job after (change.Claim era handle ids) (event.Claimed given) given ids _ o.0 o.1 well m.0
+    given_now tree job after (change.Claim era handle ids) (event.Claimed given) given ids _ o.0 o.1 well m
     (ap (λ (z : Notes). z.given) m.3) (come_now past j given (past.numbers given) ∙ o.3) o.2 k.told
 given_event tree past t j job after (change.Insert era number form ids mode) (event.Found given) t' well h m rows k =
     let o = found_object tree past t ids given t' h.1 rows in
-    given_now tree job after (change.Insert era number form ids mode) (event.Found given) given ids _ o.0 o.1 well m.0
+    given_now tree job after (change.Insert era number form ids mode) (event.Found given) given ids _ o.0 o.1 well m
     (ap (λ (z : Notes). z.given) m.3) (come_now past j given (past.numbers given) ∙ o.3) o.2 k.told
 given_event tree past t j job after (change.Insert era number form ids mode) (event.Inserted given) t' well h m rows
     k =
     let fit = m.1 in
-    let o = told_noted tree (fd_of form) ids (past.latest j) job.holds k.told fit.3 (k.latest (fd_of form) fit.1) in
+    let o = told_noted tree (fd_of form) ids (past.latest j) job k.told fit.3 (k.latest (fd_of form) fit.1) in
     given_now tree job after (change.Insert era number form ids mode) (event.Inserted given) given ids _ (fd_of form)
-    o.0 well m.0 (ap (λ (z : Notes). z.given) m.3) (come_now past j given (past.latest j) ∙ o.2) o.1 k.told
+    o.0 well m (ap (λ (z : Notes). z.given) m.3) (come_now past j given (past.latest j) ∙ o.2) o.1 k.told
 given_event tree past t j job after (change.Resolve number) (event.Resolved row form ids mode) t' well h m rows k =
     λ given q. let n = ap (λ (z : Notes). z.given) m.3 in absurd (cc)
 given_event tree past t j job after (change.InsertRoot era form ids mode negotiated)
     (event.Inserted given) t' well h m rows k =
     given_still tree job after (change.InsertRoot era form ids mode negotiated) (event.Inserted given)
-    (past.resolved j) m.0
+    (past.resolved j) m
     (ap (λ (z : Notes). z.given) m.3) k.given
 given_event tree past t j job after (change.InsertHandle era handle number fd)
     (event.Inserted given) t' well h m rows k =
-    given_still tree job after (change.InsertHandle era handle number fd) (event.Inserted given) (past.resolved j) m.0
+    given_still tree job after (change.InsertHandle era handle number fd) (event.Inserted given) (past.resolved j) m
     (ap (λ (z : Notes). z.given) m.3) k.given
 given_event tree past t j job after change.Begin (event.Began era negotiated) t' well h m rows k =
-    given_still tree job after change.Begin (event.Began era negotiated) (past.resolved j) m.0
+    given_still tree job after change.Begin (event.Began era negotiated) (past.resolved j) m
     (ap (λ (z : Notes). z.given) m.3) k.given
 given_event tree past t j job after change.Clear (event.Cleared era closings) t' well h m rows k =
-    given_still tree job after change.Clear (event.Cleared era closings) (past.resolved j) m.0
+    given_still tree job after change.Clear (event.Cleared era closings) (past.resolved j) m
     (ap (λ (z : Notes). z.given) m.3) k.given
 given_event tree past t j job after change.DrawNode (event.Drawn number) t' well h m rows k =
-    given_still tree job after change.DrawNode (event.Drawn number) (past.resolved j) m.0
+    given_still tree job after change.DrawNode (event.Drawn number) (past.resolved j) m
     (ap (λ (z : Notes). z.given) m.3) k.given
 given_event tree past t j job after change.DrawHandle (event.Drawn handle) t' well h m rows k =
-    given_still tree job after change.DrawHandle (event.Drawn handle) (past.resolved j) m.0
+    given_still tree job after change.DrawHandle (event.Drawn handle) (past.resolved j) m
     (ap (λ (z : Notes). z.given) m.3) k.given
 given_event tree past t j job after e r t' well h m rows k =
-    given_still tree job after e r (past.resolved j) m.0 (ap (λ (z : Notes). z.given) m.3) k.given
+    given_still tree job after e r (past.resolved j) m (ap (λ (z : Notes). z.given) m.3) k.given
 
 pinned_now : (tree : Tree) (past : Past) (t : Tables) (handle number row : ℕ) (fd : Fd) (t' : Tables) → Agree t →
     Case t (change.PinHandle handle number) (event.Pinned row fd) t' →
@@ -496,10 +560,9 @@ knows_event tree past t j job after e r t' well a h m rows handles k =
     let later = settled_by past j (Changes e) (Event r) t.next_row tree in
     let g = grows tree past t j e r t' a h in
     record {
-      told = holds_event (ToldRight tree) job.holds e r after.holds m.0 tt (λ era n own. tt) (λ fd.
-          tt) (λ number row mode form ids x y. tt) (λ handle number row fd x y. tt) k.told;
+      told = told_event tree job after e r m k.told;
       pins = holds_event (PinRight t'.next_row later.fds) job.holds e r after.holds m.0 tt (λ era n own. tt)
-          (λ fd. tt)
+          (λ fd x y. tt)
           (λ number row mode form ids x y.
           pin_grows past later t.next_row t'.next_row (hold.Pin row (row_fd form)) g
           (resolved_pin tree past t number row mode form ids t' a (rw (x, y) at h) rows))

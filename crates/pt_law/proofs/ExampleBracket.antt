@@ -1,6 +1,6 @@
 -- A bracket that gives back one hold too few is refused: what is left of it comes to no end that the discipline
 -- allows. With the mark that the frame lays it does.
-use Rattle.std.proofs.Common.{ℕ, [], ◌∷◌, None, refl, ap}
+use Rattle.std.proofs.Common.{◌≡◌, ℕ, [], ◌∷◌, None, refl, ap}
 use Rattle.pt_host.specs.declared.seat.HostSeat.{HostSeat}
 use Rattle.pt_iface.specs.declared.answer.Answer.TheVariants as answer
 use Rattle.pt_frame.specs.Grammar.{Grammar, End, Belongs}
@@ -28,6 +28,7 @@ is_refused seat notes s = let e = s.0.1 in absurd (cc)
 pub comes_to_no_end : (notes : Notes) → ComesToEnd (at_job (hold.Slot ∷ []) notes) [] done → ⊥
 comes_to_no_end notes e = let same = ap (λ (j : Job). j.holds) e.2 in absurd (cc)
 
-pub is_allowed : (seat : HostSeat) (notes : Notes) → Sound (bracket seat 0) (at_job (hold.Slot ∷ []) notes)
-is_allowed seat notes =
-    sound_shut seat None 0 (hold.Slot ∷ []) (λ left. End done) notes (λ later l. ((0, refl), refl))
+pub is_allowed : (seat : HostSeat) (notes : Notes) → notes.brought ≡ None →
+    Sound (bracket seat 0) (at_job (hold.Slot ∷ []) notes)
+is_allowed seat notes none =
+    sound_shut seat None 0 (hold.Slot ∷ []) (λ left. End done) notes none (λ later l. ((0, refl), refl))

@@ -33,7 +33,7 @@ slot_out deed told = 0
 -- what holds weigh
 
 abbrev pub fd_held : ℕ → Hold → ℕ
-fd_held fd (hold.Fd same told) = is same.0 fd
+fd_held fd (hold.Fd same) = is same.0 fd
 fd_held fd _ = 0
 
 abbrev pub pin_held : ℕ → Hold → ℕ

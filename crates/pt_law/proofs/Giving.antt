@@ -48,10 +48,10 @@ StandsFor w next j number ids =
 -- a row with the ids that the job was told stands for what it opened
 again : (w : World) (j : ℕ) (job : Job) (fd : Fd) (ids : ObjIds) (number : ℕ) (t' : Tables) → IsWellFormed w.tree →
     Knowing w.tree w.tables.next_row w.past j job → Each (RowOpen w.tree w.past) w.tables.rows →
-    job.notes.latest ≡ Some fd → HoldsTold job.holds fd ids → GivenAgain w.tables ids number t' →
+    job.notes.latest ≡ Some fd → HoldsTold job fd ids → GivenAgain w.tables ids number t' →
     StandsFor w w j number ids
 again w j job fd ids number t' well k rows l t g =
-    let a = told_noted w.tree fd ids (w.past.latest j) job.holds k.told t (k.latest fd l) in
+    let a = told_noted w.tree fd ids (w.past.latest j) job k.told t (k.latest fd l) in
     let r = each_replaced (RowOpen w.tree w.past) g.4.1 rows in
     let same : r.object ≡ a.0 =
     well.apart (fd_of g.0.form) fd r.object a.0 r.shows.what a.1.what r.shows.open_on a.1.open_on r.shows.is_object
@@ -82,7 +82,7 @@ gives_latest bound base had w js s next after number ids lt v g m b = go s.step.
         let h = cases w.tables next.tables (change.Claim era handle asked) (event.Claimed given) g.made.0 in
         moved_on w next s.job number ids g.made.1 (ap (λ (z : Past). z.numbers) g.past)
         (again w s.job (js s.job) fit.0 ids number next.tables v.well k v.right.shown fit.2
-        (subst (HoldsTold (js s.job).holds fit.0) b.1 fit.3)
+        (subst (HoldsTold (js s.job) fit.0) b.1 fit.3)
         (subst (λ i. GivenAgain w.tables i number next.tables) b.1
         (subst (λ n. GivenAgain w.tables asked n next.tables) b.0 h.1)))
     go (Some (Changes (change.Insert era drawn form asked mode))) (Event (event.Found given)) m b g =
@@ -90,12 +90,12 @@ gives_latest bound base had w js s next after number ids lt v g m b = go s.step.
         let h = cases w.tables next.tables (change.Insert era drawn form asked mode) (event.Found given) g.made.0 in
         moved_on w next s.job number ids g.made.1 (ap (λ (z : Past). z.numbers) g.past)
         (again w s.job (js s.job) (fd_of form) ids number next.tables v.well k v.right.shown fit.1
-        (subst (HoldsTold (js s.job).holds (fd_of form)) b.1 fit.3)
+        (subst (HoldsTold (js s.job) (fd_of form)) b.1 fit.3)
         (subst (λ i. GivenAgain w.tables i number next.tables) b.1
         (subst (λ n. GivenAgain w.tables asked n next.tables) b.0 h.1)))
     go (Some (Changes (change.Insert era drawn form asked mode))) (Event (event.Inserted given)) m b g =
         let fit = m.1 in
-        let a = told_noted w.tree (fd_of form) asked (w.past.latest s.job) (js s.job).holds k.told fit.3
+        let a = told_noted w.tree (fd_of form) asked (w.past.latest s.job) (js s.job) k.told fit.3
         (k.latest (fd_of form) fit.1) in (
           a.0,
           subst (λ n. next.past.numbers n ≡ Some a.0) b.0 (ap (λ (z : Past). z.numbers given) g.past

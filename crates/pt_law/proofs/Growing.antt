@@ -27,7 +27,8 @@ use Rattle.pt_frame.specs.declared.hold.Hold.TheVariants as hold
 use Rattle.pt_law.specs.Discipline.{Job, Given}
 use Rattle.pt_law.specs.World.{Past}
 use Rattle.pt_law.proofs.Lists.{each_map}
-use Rattle.pt_law.proofs.Knowing.{Shows, RowOpen, HandleOpen, ToldRight, NotedRight, IdsRight, GivenRight, Knowing}
+use Rattle.pt_law.proofs.Knowing.{Shows, RowOpen, HandleOpen, Tells, ToldRight, NotedRight, IdsRight, GivenRight}
+use Rattle.pt_law.proofs.Knowing.{Knowing}
 
 pub record Grows (tree after : Tree) : Type 0 where
   pub same_open : after.opened ≡ tree.opened
@@ -194,35 +195,39 @@ handles_on {tree = tree} {after = after} g past rows = each_map (HandleOpen tree
       kept_by = h.kept_by;
     })
 
-told_on : {tree after : Tree} → Grows tree after → (one : Hold) → ToldRight tree one → ToldRight after one
-told_on g (hold.Fd fd (Some ids)) h = (h.0, shown_on g fd h.0 ids h.1)
-told_on g one h = tt
+told_on : {tree after : Tree} → Grows tree after → (tells : Fd → ObjIds → Type 0) (one : Hold) →
+    ToldRight tree tells one → ToldRight after tells one
+told_on g tells (hold.Fd fd) h = λ ids q. let a = h ids q in (a.0, shown_on g fd a.0 ids a.1)
+told_on g tells one h = tt
 
 noted_on : {tree after : Tree} → Grows tree after → (noted : Option Fd) (was : Option ℕ) (holds : List Hold) →
     NotedRight tree noted was holds → NotedRight after noted was holds
 noted_on g noted was holds h fd e = let a = h fd e in
     record { held = a.held; object = a.object; open_on = open_on g fd a.object a.open_on; judged = a.judged }
 
-ids_on : {tree after : Tree} → Grows tree after → (ids : ObjIds) (was : Option ℕ) (one : Hold) →
-    IdsRight tree ids was one → IdsRight after ids was one
-ids_on g ids was (hold.Fd fd (Some told)) h = λ q. let a = h q in (a.0, open_on g fd a.0 a.1, a.2)
-ids_on g ids was one h = tt
+ids_on : {tree after : Tree} → Grows tree after → (tells : Fd → ObjIds → Type 0) (ids : ObjIds) (was : Option ℕ)
+    (one : Hold) → IdsRight tree tells ids was one → IdsRight after tells ids was one
+ids_on g tells ids was (hold.Fd fd) h = λ q. let a = h q in (a.0, open_on g fd a.0 a.1, a.2)
+ids_on g tells ids was one h = tt
 
-given_on : {tree after : Tree} → Grows tree after → (noted : Option Given) (numbers : ℕ → Option ℕ)
-    (holds : List Hold) → GivenRight tree noted numbers holds → GivenRight after noted numbers holds
-given_on {tree = tree} {after = after} g noted numbers holds h given e =
-    each_map (IdsRight tree given.ids (numbers given.number)) (IdsRight after given.ids (numbers given.number)) holds
-    (ids_on g given.ids (numbers given.number)) (h given e)
+given_on : {tree after : Tree} → Grows tree after → (tells : Fd → ObjIds → Type 0) (noted : Option Given)
+    (numbers : ℕ → Option ℕ) (holds : List Hold) → GivenRight tree tells noted numbers holds →
+    GivenRight after tells noted numbers holds
+given_on {tree = tree} {after = after} g tells noted numbers holds h given e =
+    each_map (IdsRight tree tells given.ids (numbers given.number))
+    (IdsRight after tells given.ids (numbers given.number)) holds
+    (ids_on g tells given.ids (numbers given.number)) (h given e)
 
 pub knows_on : {tree after : Tree} → Grows tree after → (next : ℕ) (past : Past) (j : ℕ) (job : Job) →
     Knowing tree next past j job → Knowing after next past j job
 knows_on {tree = tree} {after = after} g next past j job k = record {
-  told = each_map (ToldRight tree) (ToldRight after) job.holds (told_on g) k.told;
+  told = each_map (ToldRight tree (Tells job.notes)) (ToldRight after (Tells job.notes)) job.holds
+      (told_on g (Tells job.notes)) k.told;
   pins = k.pins;
   latest = noted_on g job.notes.latest (past.latest j) job.holds k.latest;
   root = noted_on g job.notes.root (past.roots j) job.holds k.root;
   unrooted = k.unrooted;
   resolved = k.resolved;
   reopened = λ was u. noted_on g job.notes.reopened (past.resolved j was.number) job.holds (k.reopened was u);
-  given = given_on g job.notes.given (past.resolved j) job.holds k.given;
+  given = given_on g (Tells job.notes) job.notes.given (past.resolved j) job.holds k.given;
 }

@@ -14,7 +14,7 @@ use Rattle.pt_session.proofs.Cases.{cases}
 use Rattle.pt_frame.specs.Deed.{Deed, Calls, Changes}
 use Rattle.pt_frame.specs.declared.act.ActReply.{ActReply}
 use Rattle.pt_frame.specs.declared.act.ActReply.TheVariants.{Event, Host}
-use Rattle.pt_law.specs.Discipline.{Job, Notes, idle, with_root, MovesBy, MovesIf}
+use Rattle.pt_law.specs.Discipline.{Job, Notes, idle, newly, with_root, MovesBy, MovesIf}
 use Rattle.pt_law.specs.World.{Turn, TablesGo, TablesRun, steps_of}
 use Rattle.pt_law.specs.Ledger.{handle_inserted, handle_inserted_as, handle_inserted_if}
 use Rattle.pt_law.specs.Discipline.{AreDisciplined}
@@ -82,8 +82,12 @@ handle_flow job t (Changes (change.InsertHandle era handle number fd)) (Event (e
     omega (arith, a, b, c)
 handle_flow job t (Calls (call.OpenRoot path flags)) (Host (host.Ok (value.Fd fd))) t' after g m n =
     let a = ap (λ (z : Notes). is_drawn n z.handle) m.3 in
-    let b = ap (is_drawn n) (root_handle fd job.notes) in
+    let b = ap (is_drawn n) (root_handle fd (newly fd job.notes)) in
     omega (arith, a, b)
+handle_flow job t (Calls (call.OpenPath dir path flags)) (Host (host.Ok (value.Fd fd))) t' after g m n =
+    let a = ap (λ (z : Notes). is_drawn n z.handle) m.3 in omega (arith, a)
+handle_flow job t (Calls (call.OpenByHandle mount handle flags)) (Host (host.Ok (value.Fd fd))) t' after g m n =
+    let a = ap (λ (z : Notes). is_drawn n z.handle) m.3 in omega (arith, a)
 handle_flow job t (Calls (call.OpenAt dir name flags mode)) (Host (host.Ok (value.Fd fd))) t' after g m n =
     let a = ap (λ (z : Notes). is_drawn n z.handle) m.3 in omega (arith, a)
 handle_flow job t (Calls (call.Reopen fd flags)) (Host (host.Ok (value.Fd new))) t' after g m n =

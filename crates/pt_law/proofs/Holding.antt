@@ -1,7 +1,7 @@
 -- What each deed moves in a job's holds and in the host.
-use Rattle.std.proofs.Common.{◌≡◌, ◌≢◌, ⊎_elim, inl, inr, ℕ, ◌+◌, ◌*◌, ◌<◌, List, ◌++◌, Bool, true, false, refl, sym}
+use Rattle.std.proofs.Common.{◌≡◌, ◌≢◌, ⊎_elim, ℕ, ◌+◌, ◌*◌, ◌<◌, List, ◌++◌, Bool, true, false, refl, sym}
 use Rattle.std.proofs.Common.{ap, subst}
-use Rattle.std.proofs.Common.{arith, ◌∙◌, Option, Some, None}
+use Rattle.std.proofs.Common.{arith, Option, Some, None}
 use Rattle.std.proofs.lemmas.Bool.{cases_eq}
 use Rattle.pt_host.specs.Words.{is, total, Takes, set_at}
 use Rattle.pt_host.specs.Call.{Call}
@@ -10,7 +10,6 @@ use Rattle.pt_host.specs.Flags.{includes, o_path}
 use Rattle.pt_host.specs.Tree.{Tree, Opened}
 use Rattle.pt_host.specs.LawfulTree.{TreeChanges, Opens, closed_at}
 use Rattle.pt_host.specs.declared.ids.Fd.{Fd}
-use Rattle.pt_host.specs.declared.ids.ObjIds.{ObjIds}
 use Rattle.pt_host.specs.declared.flags.OpenFlags.{OpenFlags}
 use Rattle.pt_host.specs.declared.reply.HostReply.{HostReply}
 use Rattle.pt_host.specs.declared.reply.HostReply.TheVariants as host
@@ -23,10 +22,9 @@ use Rattle.pt_frame.specs.Deed.{Deed, Calls, Changes}
 use Rattle.pt_frame.specs.Replies.{taken_in, brought}
 use Rattle.pt_frame.specs.declared.act.ActReply.{ActReply}
 use Rattle.pt_frame.specs.declared.act.ActReply.TheVariants.{Event, Host}
-use Rattle.pt_frame.specs.Held.{statted}
 use Rattle.pt_frame.specs.declared.hold.Hold.{Hold}
 use Rattle.pt_frame.specs.declared.hold.Hold.TheVariants as hold
-use Rattle.pt_law.specs.Discipline.{IsNoted, ShiftsCalled, Shifts}
+use Rattle.pt_law.specs.Discipline.{ShiftsCalled, Shifts}
 use Rattle.pt_law.specs.Ledger.{form_slot, open_count, some_count}
 use Rattle.pt_law.proofs.Flows.{fd_held}
 use Rattle.pt_law.specs.Ledger.{fd_handed, fd_received, fd_opened, fd_made, fd_closed, fd_ended, pin_made}
@@ -34,7 +32,7 @@ use Rattle.pt_law.specs.Ledger.{pin_ended, handle_pin_made, handle_pin_ended}
 use Rattle.pt_law.proofs.Growing.{IsQuiet, call_grows, opening_does, closing_does}
 use Rattle.pt_law.proofs.Flows.{slot_in, slot_out}
 use Rattle.pt_law.proofs.Flows.{pin_held, handle_pin_held, slot_held}
-use Rattle.pt_law.proofs.Lists.{total_takes, total_replaces, is_same, is_apart, set_at_same, set_at_other}
+use Rattle.pt_law.proofs.Lists.{total_takes, is_same, is_apart, set_at_same, set_at_other}
 
 -- what a job holds more after, and less
 pub record Handed (holds : List Hold) (deed : Deed) (told : ActReply) (after : List Hold) : Type 0 where
@@ -106,60 +104,43 @@ brings fd false holds after e =
       handle_pins = λ k. omega arith;
     })
 
--- a hold that is noted weighs what it did
-noted_weighs : (w : Hold → ℕ) (fd : Fd) (ids : ObjIds) →
-    ((was : Option ObjIds) → w (hold.Fd fd was) ≡ w (hold.Fd fd (Some ids))) → (holds after : List Hold) →
-    IsNoted fd ids holds after → total w after ≡ total w holds
-noted_weighs w fd ids f holds after (inl r) =
-    let a = total_replaces w r.1 in let b = f r.0 in omega (arith, a, b)
-noted_weighs w fd ids f holds after (inr e) = ap (total w) e
-
-fds_called : (f : ℕ) (sort : Sort) (names : List Fd) (stat_of : Option Fd) (told : ActReply)
-    (holds after : List Hold) →
-    ShiftsCalled sort names stat_of holds told after →
+fds_called : (f : ℕ) (sort : Sort) (names : List Fd) (told : ActReply) (holds after : List Hold) →
+    ShiftsCalled sort names holds told after →
     total (fd_held f) after + fd_closed f sort ≡ total (fd_held f) holds + fd_opened f sort told
-fds_called f (OpensWith flags) names stat_of (Host (host.Ok (value.Fd fd))) holds after m =
+fds_called f (OpensWith flags) names (Host (host.Ok (value.Fd fd))) holds after m =
     let a = total_takes (fd_held f) m.1 in omega (arith, a)
-fds_called f (OpensWith flags) names stat_of told holds after m = let a = ap (total (fd_held f)) m.1 in
-    omega (arith, a)
-fds_called f (EndsFd fd) names stat_of told holds after m = let a = total_takes (fd_held f) m.1 in omega (arith, a)
-fds_called f OfSeat names stat_of told holds after m = let a = ap (total (fd_held f)) m.1 in omega (arith, a)
-fds_called f Plain names (Some fd) (Host (host.Ok (value.Stat stat))) holds after m =
-    let a = noted_weighs (fd_held f) fd stat.ids (λ was. refl) holds after m.1 in omega (arith, a)
-fds_called f Plain names (Some fd) told holds after m = let a = ap (total (fd_held f)) m.1 in omega (arith, a)
-fds_called f Plain names None told holds after m = let a = ap (total (fd_held f)) m.1 in omega (arith, a)
+fds_called f (OpensWith flags) names told holds after m = let a = ap (total (fd_held f)) m.1 in omega (arith, a)
+fds_called f (EndsFd fd) names told holds after m = let a = total_takes (fd_held f) m in omega (arith, a)
+fds_called f OfSeat names told holds after m = let a = ap (total (fd_held f)) m.1 in omega (arith, a)
+fds_called f Plain names told holds after m = let a = ap (total (fd_held f)) m.1 in omega (arith, a)
 
 -- a call moves nothing else
-pub others_called : (w : Hold → ℕ) → ((fd : Fd) (was : Option ObjIds) → w (hold.Fd fd was) ≡ 0) → (sort : Sort)
-    (names : List Fd) (stat_of : Option Fd) (told : ActReply) (holds after : List Hold) →
-    ShiftsCalled sort names stat_of holds told after → total w after ≡ total w holds
-others_called w z (OpensWith flags) names stat_of (Host (host.Ok (value.Fd fd))) holds after m =
-    let a = total_takes w m.1 in let b = z fd None in omega (arith, a, b)
-others_called w z (OpensWith flags) names stat_of told holds after m = ap (total w) m.1
-others_called w z (EndsFd fd) names stat_of told holds after m =
-    let a = total_takes w m.1 in let b = z fd m.0 in omega (arith, a, b)
-others_called w z OfSeat names stat_of told holds after m = ap (total w) m.1
-others_called w z Plain names (Some fd) (Host (host.Ok (value.Stat stat))) holds after m =
-    noted_weighs w fd stat.ids (λ was. z fd was ∙ sym (z fd (Some stat.ids))) holds after m.1
-others_called w z Plain names (Some fd) told holds after m = ap (total w) m.1
-others_called w z Plain names None told holds after m = ap (total w) m.1
+pub others_called : (w : Hold → ℕ) → ((fd : Fd) → w (hold.Fd fd) ≡ 0) → (sort : Sort) (names : List Fd)
+    (told : ActReply) (holds after : List Hold) → ShiftsCalled sort names holds told after →
+    total w after ≡ total w holds
+others_called w z (OpensWith flags) names (Host (host.Ok (value.Fd fd))) holds after m =
+    let a = total_takes w m.1 in let b = z fd in omega (arith, a, b)
+others_called w z (OpensWith flags) names told holds after m = ap (total w) m.1
+others_called w z (EndsFd fd) names told holds after m =
+    let a = total_takes w m in let b = z fd in omega (arith, a, b)
+others_called w z OfSeat names told holds after m = ap (total w) m.1
+others_called w z Plain names told holds after m = ap (total w) m.1
 
 -- the row takes the slot that was held
 form_held : (form : RowForm) → form_slot form ≡ 1
 form_held (File fd) = refl
 
 -- a call, by its sort
-handed_called : (asked : Call) (sort : Sort) → sort_of asked ≡ sort → (names : List Fd) (stat_of : Option Fd)
-    (told : ActReply) (holds after : List Hold) → ShiftsCalled sort names stat_of holds told after →
-    Handed holds (Calls asked) told after
-handed_called asked sort e names stat_of told holds after m = record {
-  fds = λ fd. let a = fds_called fd sort names stat_of told holds after m in
+handed_called : (asked : Call) (sort : Sort) → sort_of asked ≡ sort → (names : List Fd) (told : ActReply)
+    (holds after : List Hold) → ShiftsCalled sort names holds told after → Handed holds (Calls asked) told after
+handed_called asked sort e names told holds after m = record {
+  fds = λ fd. let a = fds_called fd sort names told holds after m in
       let b = ap (λ (s : Sort). fd_opened fd s told) e in let c = ap (λ (s : Sort). fd_closed fd s) e in
       omega (arith, a, b, c);
-  slots = let a = others_called slot_held (λ fd was. refl) sort names stat_of told holds after m in omega (arith, a);
-  pins = λ k. let a = others_called (pin_held k) (λ fd was. refl) sort names stat_of told holds after m in
+  slots = let a = others_called slot_held (λ fd. refl) sort names told holds after m in omega (arith, a);
+  pins = λ k. let a = others_called (pin_held k) (λ fd. refl) sort names told holds after m in
       omega (arith, a);
-  handle_pins = λ k. let a = others_called (handle_pin_held k) (λ fd was. refl) sort names stat_of told holds after m
+  handle_pins = λ k. let a = others_called (handle_pin_held k) (λ fd. refl) sort names told holds after m
       in
       omega (arith, a);
 }
@@ -167,7 +148,7 @@ handed_called asked sort e names stat_of told holds after m = record {
 pub handed : (holds : List Hold) (deed : Deed) (told : ActReply) (after : List Hold) → Shifts holds deed told after →
     Handed holds deed told after
 handed holds (Calls asked) told after m =
-    handed_called asked (sort_of asked) refl (fds_of asked) (statted asked) told holds after m
+    handed_called asked (sort_of asked) refl (fds_of asked) told holds after m
 handed holds (Changes change.Begin) told after m = keeps _ _ holds after m (λ _. refl) refl (λ _. refl) (λ _. refl)
 handed holds (Changes (change.Resolve number)) (Event (event.Resolved row form ids mode)) after m =
     gains (Changes (change.Resolve number)) (Event (event.Resolved row form ids mode)) m (λ _.
@@ -221,10 +202,10 @@ handed holds (Changes (change.GiveBack era number)) told after m =
 handed holds (Changes change.DrawHandle) told after m =
     keeps _ _ holds after m (λ _. refl) refl (λ _. refl) (λ _. refl)
 handed holds (Changes (change.InsertHandle era handle number fd)) (Event (event.Inserted given)) after m = record {
-  fds = λ f. let a = total_takes (fd_held f) m.2 in let b = total_takes (fd_held f) m.3 in omega (arith, a, b);
-  slots = let a = total_takes slot_held m.2 in let b = total_takes slot_held m.3 in omega (arith, a, b);
-  pins = λ k. let a = total_takes (pin_held k) m.2 in let b = total_takes (pin_held k) m.3 in omega (arith, a, b);
-  handle_pins = λ k. let a = total_takes (handle_pin_held k) m.2 in let b = total_takes (handle_pin_held k) m.3 in
+  fds = λ f. let a = total_takes (fd_held f) m.1 in let b = total_takes (fd_held f) m.2 in omega (arith, a, b);
+  slots = let a = total_takes slot_held m.1 in let b = total_takes slot_held m.2 in omega (arith, a, b);
+  pins = λ k. let a = total_takes (pin_held k) m.1 in let b = total_takes (pin_held k) m.2 in omega (arith, a, b);
+  handle_pins = λ k. let a = total_takes (handle_pin_held k) m.1 in let b = total_takes (handle_pin_held k) m.2 in
       omega (arith, a, b);
 }
 handed holds (Changes (change.InsertHandle era handle number fd)) told after m =

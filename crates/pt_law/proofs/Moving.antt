@@ -1,12 +1,11 @@
 -- Steps of the frame and of a request's own part move the job as the holds say.
-use Rattle.std.proofs.Common.{◌≡◌, inl, inr, ℕ, List, [], ◌∷◌, Bool, true, false, Option, Some, None, refl}
-use Rattle.std.proofs.Common.{sym}
+use Rattle.std.proofs.Common.{◌≡◌, inl, ℕ, List, [], ◌∷◌, Bool, true, false, Option, Some, None, refl}
+use Rattle.std.proofs.Common.{sym, ◌∙◌}
 use Rattle.std.proofs.Common.{ap, subst, arith, if◌then◌else◌, ◌==◌}
-use Rattle.pt_host.specs.Words.{Takes, Takes.{here, there}, Replaces, Replaces.{at, past}}
+use Rattle.pt_host.specs.Words.{Takes, Takes.{here, there}}
 use Rattle.pt_host.specs.Call.{Call}
 use Rattle.pt_host.specs.Sorts.{Sort, OpensWith, EndsFd, OfSeat, Plain, sort_of, fds_of}
 use Rattle.pt_host.specs.declared.ids.Fd.{Fd}
-use Rattle.pt_host.specs.declared.ids.ObjIds.{ObjIds}
 use Rattle.pt_host.specs.declared.seat.HostSeat.{HostSeat}
 use Rattle.pt_host.specs.declared.op.KeptHostOp.TheVariants as call
 use Rattle.pt_host.specs.declared.reply.HostReply.TheVariants as host
@@ -15,21 +14,21 @@ use Rattle.pt_session.specs.declared.form.RowForm.TheVariants.{File}
 use Rattle.pt_session.specs.declared.event.KeptEvent.TheVariants as change
 use Rattle.pt_session.specs.declared.reply.EventReply.TheVariants as event
 use Rattle.pt_frame.specs.Deed.{Deed, Calls, Changes, IsStepOf, MayFailToCopy}
-use Rattle.pt_frame.specs.Held.{is_scope, fd_in, is_some_fd, is_same_fd, noted, closed, slotted, unslotted}
-use Rattle.pt_frame.specs.Held.{handed, held, held_called, row_fd, statted}
+use Rattle.pt_frame.specs.Held.{is_scope, fd_in, is_some_fd, is_same_fd, closed, slotted, unslotted}
+use Rattle.pt_frame.specs.Held.{handed, held, held_called, row_fd}
 use Rattle.pt_frame.specs.Frame.{giving}
 use Rattle.pt_frame.specs.Replies.{closings_in}
 use Rattle.pt_frame.specs.declared.act.ActReply.{ActReply}
 use Rattle.pt_frame.specs.declared.act.ActReply.TheVariants.{Event, Host, NoCopy}
 use Rattle.pt_frame.specs.declared.hold.Hold.{Hold}
 use Rattle.pt_frame.specs.declared.hold.Hold.TheVariants as hold
-use Rattle.pt_law.specs.Discipline.{IsNoted, ShiftsCalled, Notes, Job, at_job, notes_after, MovesBy}
+use Rattle.pt_law.specs.Discipline.{ShiftsCalled, Notes, Job, at_job, notes_after, newly, unless, with_root, MovesBy}
 use Rattle.pt_law.specs.Discipline.{MovesIf}
 use Rattle.pt_law.specs.Told.{MayBeTold, StepMayBeTold}
 use Rattle.pt_law.specs.Keeps.{LiesOnSlot, LiesOnSlot.{here as lies_here, there as lies_there}}
 use Rattle.pt_law.specs.Keeps.{MayCall, MayMake, Lasts, unscoped, MayOpen}
 use Rattle.pt_law.proofs.Sound.{owing_job}
-use Rattle.pt_law.proofs.Unscoped.{takes_plain, takes_scope, takes_laid, replaces_plain}
+use Rattle.pt_law.proofs.Unscoped.{takes_plain, takes_scope, takes_laid}
 
 same_deed : (deed same : Deed) (told : ActReply) → IsStepOf deed (Some same) told → same ≡ deed
 same_deed deed same NoCopy i = i.0
@@ -43,19 +42,20 @@ made_moves deed (Some same) told job mid n i m =
 made_moves deed None NoCopy job mid n i m = absurd (n i)
 made_moves deed None told job mid n i m = absurd i
 
--- what gives a hold back leaves it noted which era it is, whether a root was opened and what number was given
-pub giving_lasts : (seat : HostSeat) (one : Hold) (told : ActReply) (notes : Notes) →
+-- what gives a hold back leaves it noted which era it is, whether a root was opened, what number was given and what
+-- was told
+pub giving_lasts : (seat : HostSeat) (one : Hold) (told : ActReply) (notes : Notes) → notes.brought ≡ None →
     Lasts notes (notes_after notes (giving seat one) told)
-giving_lasts seat (hold.Pin row fd) told notes = (refl, refl, refl)
-giving_lasts seat (hold.HandlePin row fd) told notes = (refl, refl, refl)
-giving_lasts seat (hold.Fd fd was) told notes = (refl, refl, refl)
-giving_lasts seat hold.Slot told notes = (refl, refl, refl)
-giving_lasts seat (hold.Count era number) told notes = (refl, refl, refl)
-giving_lasts seat hold.Groups told notes = (refl, refl, refl)
-giving_lasts seat hold.EffectiveGid told notes = (refl, refl, refl)
-giving_lasts seat hold.EffectiveUid told notes = (refl, refl, refl)
-giving_lasts seat (hold.Dropped caps) told notes = (refl, refl, refl)
-giving_lasts seat hold.Umask told notes = (refl, refl, refl)
+giving_lasts seat (hold.Pin row fd) told notes b = (refl, refl, refl, refl, b)
+giving_lasts seat (hold.HandlePin row fd) told notes b = (refl, refl, refl, refl, b)
+giving_lasts seat (hold.Fd fd) told notes b = (refl, refl, refl, refl, ap (unless fd) b)
+giving_lasts seat hold.Slot told notes b = (refl, refl, refl, refl, b)
+giving_lasts seat (hold.Count era number) told notes b = (refl, refl, refl, refl, b)
+giving_lasts seat hold.Groups told notes b = (refl, refl, refl, refl, b)
+giving_lasts seat hold.EffectiveGid told notes b = (refl, refl, refl, refl, b)
+giving_lasts seat hold.EffectiveUid told notes b = (refl, refl, refl, refl, b)
+giving_lasts seat (hold.Dropped caps) told notes b = (refl, refl, refl, refl, b)
+giving_lasts seat hold.Umask told notes b = (refl, refl, refl, refl, b)
 
 -- any hold may be given back
 gives_back : (seat : HostSeat) (one : Hold) (told : ActReply) (holds left : List Hold) (notes : Notes) →
@@ -64,7 +64,7 @@ gives_back : (seat : HostSeat) (one : Hold) (told : ActReply) (holds left : List
     (owing_job (unscoped left) (closings_in (giving seat one) told) (notes_after notes (giving seat one) told))
 gives_back seat (hold.Pin row fd) told holds left notes t = ((fd, takes_plain t refl), tt, omega arith, refl)
 gives_back seat (hold.HandlePin row fd) told holds left notes t = ((fd, takes_plain t refl), tt, omega arith, refl)
-gives_back seat (hold.Fd fd was) told holds left notes t = ((was, takes_plain t refl), tt, refl, refl)
+gives_back seat (hold.Fd fd) told holds left notes t = (takes_plain t refl, tt, refl, refl)
 gives_back seat hold.Slot told holds left notes t = (takes_plain t refl, tt, omega arith, refl)
 gives_back seat (hold.Count era number) told holds left notes t = (takes_plain t refl, tt, omega arith, refl)
 gives_back seat hold.Groups told holds left notes t = ((tt, takes_scope t refl), tt, refl, refl)
@@ -81,7 +81,7 @@ unmade_back : (seat : HostSeat) (one : Hold) (holds left : List Hold) (notes : N
 unmade_back seat hold.Groups holds left notes t m = ap (λ (h : List Hold). at_job h notes) (takes_scope t refl)
 unmade_back seat (hold.Pin row fd) holds left notes t m = absurd m
 unmade_back seat (hold.HandlePin row fd) holds left notes t m = absurd m
-unmade_back seat (hold.Fd fd was) holds left notes t m = absurd m
+unmade_back seat (hold.Fd fd) holds left notes t m = absurd m
 unmade_back seat hold.Slot holds left notes t m = absurd m
 unmade_back seat (hold.Count era number) holds left notes t m = absurd m
 unmade_back seat one holds left notes t m = absurd m
@@ -99,57 +99,34 @@ gives_step seat one None told holds left notes t i = absurd i
 
 -- changes of what is held
 
-same_number : (n : ℕ) → (n == n) ≡ true
+pub same_number : (n : ℕ) → (n == n) ≡ true
 same_number n = grind arith
 
 number_same : (m n : ℕ) → (m == n) ≡ true → m ≡ n
 number_same m n e = grind arith
 
-same_fd : (same fd : Fd) → is_same_fd fd (Some same) ≡ true → same ≡ fd
+pub same_fd : (same fd : Fd) → is_same_fd fd (Some same) ≡ true → same ≡ fd
 same_fd same fd e = let k = number_same same.0 fd.0 e in λ i. record { 0 = k i }
 
 -- the first hold that is this descriptor
-descriptor : (one : Hold) (fd : Fd) → is_same_fd fd (fd_in one) ≡ true →
-    (was : Option ObjIds) × (one ≡ hold.Fd fd was)
-descriptor (hold.Fd same was) fd e = (was, ap (λ (f : Fd). hold.Fd f was) (same_fd same fd e))
+descriptor : (one : Hold) (fd : Fd) → is_same_fd fd (fd_in one) ≡ true → one ≡ hold.Fd fd
+descriptor (hold.Fd same) fd e = ap (λ (f : Fd). hold.Fd f) (same_fd same fd e)
 descriptor (hold.Pin row kept) fd e = absurd (cc)
 descriptor (hold.HandlePin row kept) fd e = absurd (cc)
 descriptor one fd e = absurd (cc)
 
-takes_closed : (fd : Fd) (was : Option ObjIds) (holds rest : List Hold) → Takes (hold.Fd fd was) holds rest →
-    (told : Option ObjIds) × Takes (hold.Fd fd told) holds (closed fd holds)
-takes_closed fd was _ _ (here {xs = holds}) = (
-  was,
-  subst (λ (b : Bool). Takes (hold.Fd fd was) (hold.Fd fd was ∷ holds)
-      (if b then holds else hold.Fd fd was ∷ closed fd holds)) (sym (same_number fd.0)) here,
-)
-takes_closed fd was _ _ (there {y = one} {xs = holds} {ys = left} t) =
-    go (is_same_fd fd (fd_in one)) refl (takes_closed fd was holds left t)
+takes_closed : (fd : Fd) (holds rest : List Hold) → Takes (hold.Fd fd) holds rest →
+    Takes (hold.Fd fd) holds (closed fd holds)
+takes_closed fd _ _ (here {xs = holds}) =
+    subst (λ (b : Bool). Takes (hold.Fd fd) (hold.Fd fd ∷ holds)
+    (if b then holds else hold.Fd fd ∷ closed fd holds)) (sym (same_number fd.0)) here
+takes_closed fd _ _ (there {y = one} {xs = holds} {ys = left} t) =
+    go (is_same_fd fd (fd_in one)) refl (takes_closed fd holds left t)
   where
-    go : (b : Bool) → is_same_fd fd (fd_in one) ≡ b →
-        (told : Option ObjIds) × Takes (hold.Fd fd told) holds (closed fd holds) →
-        (told : Option ObjIds) × Takes (hold.Fd fd told) (one ∷ holds) (if b then holds else one ∷ closed fd holds)
-    go true e k = let d = descriptor one fd e in
-        (d.0, subst (λ (z : Hold). Takes (hold.Fd fd d.0) (z ∷ holds) holds) (sym d.1) here)
-    go false e k = (k.0, there k.1)
-
-is_noted : (fd : Fd) (ids : ObjIds) (holds : List Hold) → IsNoted fd ids holds (noted fd ids holds)
-is_noted fd ids [] = inr refl
-is_noted fd ids (one ∷ holds) = go (is_same_fd fd (fd_in one)) refl (is_noted fd ids holds)
-  where
-    further : IsNoted fd ids holds (noted fd ids holds) → IsNoted fd ids (one ∷ holds) (one ∷ noted fd ids holds)
-    further (inl r) = inl (r.0, past r.1)
-    further (inr e) = inr (ap (λ (z : List Hold). one ∷ z) e)
-
-    go : (b : Bool) → is_same_fd fd (fd_in one) ≡ b → IsNoted fd ids holds (noted fd ids holds) →
-        IsNoted fd ids (one ∷ holds) (if b then hold.Fd fd (Some ids) ∷ holds else one ∷ noted fd ids holds)
-    go true e k = let d = descriptor one fd e in
-        inl (
-          d.0,
-          subst (λ (z : Hold). Replaces (hold.Fd fd d.0) (hold.Fd fd (Some ids)) (z ∷ holds)
-              (hold.Fd fd (Some ids) ∷ holds)) (sym d.1) at,
-        )
-    go false e k = further k
+    go : (b : Bool) → is_same_fd fd (fd_in one) ≡ b → Takes (hold.Fd fd) holds (closed fd holds) →
+        Takes (hold.Fd fd) (one ∷ holds) (if b then holds else one ∷ closed fd holds)
+    go true e k = subst (λ (z : Hold). Takes (hold.Fd fd) (z ∷ holds) holds) (sym (descriptor one fd e)) here
+    go false e k = there k
 
 takes_slotted : (holds : List Hold) → Takes hold.Slot (slotted holds) holds
 takes_slotted [] = here
@@ -161,53 +138,38 @@ takes_slotted (one ∷ holds) = go (is_some_fd (fd_in one)) (takes_slotted holds
     go false t = there t
 
 -- the tables take the descriptor and the slot on which it lies
-hands : (fd : Fd) (told : Option ObjIds) (holds : List Hold) → LiesOnSlot fd told holds →
-    (mid : List Hold) × Takes (hold.Fd fd told) holds mid × Takes hold.Slot mid (handed fd holds)
-hands fd told _ (lies_here {holds = holds}) = (
+hands : (fd : Fd) (holds : List Hold) → LiesOnSlot fd holds →
+    (mid : List Hold) × Takes (hold.Fd fd) holds mid × Takes hold.Slot mid (handed fd holds)
+hands fd _ (lies_here {holds = holds}) = (
   hold.Slot ∷ holds,
   here,
   subst (λ (b : Bool). Takes hold.Slot (hold.Slot ∷ holds)
-      (if b then holds else hold.Fd fd told ∷ handed fd (hold.Slot ∷ holds))) (sym (same_number fd.0)) here,
+      (if b then holds else hold.Fd fd ∷ handed fd (hold.Slot ∷ holds))) (sym (same_number fd.0)) here,
 )
-hands fd told _ (lies_there {one = one} {holds = holds} n l) =
-    let k = hands fd told holds l in (
+hands fd _ (lies_there {one = one} {holds = holds} n l) =
+    let k = hands fd holds l in (
       one ∷ k.0,
       there k.1,
       subst (λ (b : Bool). Takes hold.Slot (one ∷ k.0) (if b then unslotted holds else one ∷ handed fd holds)) (sym n)
           (there k.2),
     )
 
--- what is noted, without the scopes
-noted_plain : (fd : Fd) (ids : ObjIds) (holds after : List Hold) → IsNoted fd ids holds after →
-    IsNoted fd ids (unscoped holds) (unscoped after)
-noted_plain fd ids holds after (inl r) = inl (r.0, replaces_plain r.1 refl refl)
-noted_plain fd ids holds after (inr e) = inr (ap unscoped e)
-
-ended_plain : (fd : Fd) (holds after : List Hold) → (told : Option ObjIds) × Takes (hold.Fd fd told) holds after →
-    (told : Option ObjIds) × Takes (hold.Fd fd told) (unscoped holds) (unscoped after)
-ended_plain fd holds after t = (t.0, takes_plain t.1 refl)
-
 -- a call of a request's own part
-call_shifts : (sort : Sort) (names : List Fd) (stat_of : Option Fd) (told : ActReply) (holds : List Hold) →
-    MayCall sort names holds →
-    ShiftsCalled sort names stat_of (unscoped holds) told (unscoped (held_called sort stat_of told holds))
-call_shifts (OpensWith flags) names stat_of (Host (host.Ok (value.Fd fd))) holds m =
-    (m, takes_plain (takes_laid (hold.Fd fd None) holds) refl)
-call_shifts (OpensWith flags) names stat_of told holds m = (m, refl)
-call_shifts (EndsFd fd) names stat_of told holds m =
-    ended_plain fd holds (closed fd holds) (takes_closed fd m.0 holds m.1 m.2)
-call_shifts OfSeat names stat_of told holds m = (m, refl)
-call_shifts Plain names (Some fd) (Host (host.Ok (value.Stat stat))) holds m =
-    (m, noted_plain fd stat.ids holds (noted fd stat.ids holds) (is_noted fd stat.ids holds))
-call_shifts Plain names (Some fd) told holds m = (m, refl)
-call_shifts Plain names None told holds m = (m, refl)
+call_shifts : (sort : Sort) (names : List Fd) (told : ActReply) (holds : List Hold) → MayCall sort names holds →
+    ShiftsCalled sort names (unscoped holds) told (unscoped (held_called sort told holds))
+call_shifts (OpensWith flags) names (Host (host.Ok (value.Fd fd))) holds m =
+    (m, takes_plain (takes_laid (hold.Fd fd) holds) refl)
+call_shifts (OpensWith flags) names told holds m = (m, refl)
+call_shifts (EndsFd fd) names told holds m = takes_plain (takes_closed fd holds m.0 m.1) refl
+call_shifts OfSeat names told holds m = (m, refl)
+call_shifts Plain names told holds m = (m, refl)
 
 -- a deed of a request's own part
 may_move : (deed : Deed) (told : ActReply) (holds : List Hold) (notes : Notes) → MayMake deed holds notes →
     MovesBy (at_job (unscoped holds) notes) deed told
     (owing_job (unscoped (held deed told holds)) (closings_in deed told) (notes_after notes deed told))
 may_move (Calls asked) told holds notes m =
-    (call_shifts (sort_of asked) (fds_of asked) (statted asked) told holds m.0, m.1, refl, refl)
+    (call_shifts (sort_of asked) (fds_of asked) told holds m.0, m.1, refl, refl)
 may_move (Changes (change.Resolve number)) (Event (event.Resolved row form ids mode)) holds notes m =
     (takes_plain (takes_laid (hold.Pin row (row_fd form)) holds) refl, m.1, omega arith, refl)
 may_move (Changes (change.Claim era handle ids)) (Event (event.Claimed number)) holds notes m =
@@ -215,7 +177,7 @@ may_move (Changes (change.Claim era handle ids)) (Event (event.Claimed number)) 
 may_move (Changes change.TakeFd) (Event event.Taken) holds notes m =
     (takes_plain (takes_slotted holds) refl, m.1, omega arith, refl)
 may_move (Changes (change.Insert era number (File fd) ids mode)) (Event (event.Inserted given)) holds notes m =
-    let k = hands fd (Some ids) holds m.0 in (
+    let k = hands fd holds m.0 in (
       (
         unscoped k.0,
         unscoped (handed fd holds),
@@ -230,11 +192,11 @@ may_move (Changes (change.Insert era number (File fd) ids mode)) (Event (event.I
 may_move (Changes (change.Insert era number form ids mode)) (Event (event.Found given)) holds notes m =
     (takes_plain (takes_laid (hold.Count era given) holds) refl, m.1, omega arith, refl)
 may_move (Changes (change.InsertRoot era (File fd) ids mode agreed)) (Event (event.Inserted given)) holds notes m =
-    let k = hands fd (Some ids) holds m.0 in
+    let k = hands fd holds m.0 in
     ((unscoped k.0, takes_plain k.1 refl, takes_plain k.2 refl), m.1, omega arith, refl)
 may_move (Changes (change.InsertHandle era handle number fd)) (Event (event.Inserted given)) holds notes m =
-    let k = hands fd m.0.0 holds m.0.1 in
-    ((m.0.0, unscoped k.0, takes_plain k.1 refl, takes_plain k.2 refl), m.1, omega arith, refl)
+    let k = hands fd holds m.0 in
+    ((unscoped k.0, takes_plain k.1 refl, takes_plain k.2 refl), m.1, omega arith, refl)
 may_move (Changes (change.PinHandle handle number)) (Event (event.Pinned row fd)) holds notes m =
     (takes_plain (takes_laid (hold.HandlePin row fd) holds) refl, m.1, omega arith, refl)
 may_move (Changes (change.Unpin row)) told holds notes m = absurd m.0
@@ -244,6 +206,38 @@ may_move (Changes (change.GiveBack era number)) told holds notes m = absurd m.0
 may_move (Changes change.TakeClosing) told holds notes m = absurd m.0
 may_move (Changes asked) (Event told) holds notes m = (refl, m.1, omega arith, refl)
 may_move (Changes asked) told holds notes m = (refl, m.1, omega arith, refl)
+
+-- and it brings no closing
+root_brings_none : (fd : Fd) (notes : Notes) → (with_root fd notes).brought ≡ notes.brought
+root_brings_none fd notes = go notes.rooted
+  where
+    go : (b : Bool) → (with_root fd (record notes { rooted = b })).brought ≡ notes.brought
+    go true = refl
+    go false = refl
+
+pub may_bring_none : (deed : Deed) (told : ActReply) (holds : List Hold) (notes : Notes) → MayMake deed holds notes →
+    notes.brought ≡ None → (notes_after notes deed told).brought ≡ None
+may_bring_none (Calls (call.OpenRoot path flags)) (Host (host.Ok (value.Fd fd))) holds notes m b =
+    root_brings_none fd (newly fd notes) ∙ b
+may_bring_none (Calls (call.OpenPath dir path flags)) (Host (host.Ok (value.Fd fd))) holds notes m b = b
+may_bring_none (Calls (call.OpenAt dir name flags mode)) (Host (host.Ok (value.Fd fd))) holds notes m b = b
+may_bring_none (Calls (call.Reopen fd flags)) (Host (host.Ok (value.Fd new))) holds notes m b = b
+may_bring_none (Calls (call.OpenByHandle mount handle flags)) (Host (host.Ok (value.Fd fd))) holds notes m b = b
+may_bring_none (Calls (call.Close fd)) told holds notes m b = ap (unless fd) b
+may_bring_none (Calls (call.Stat fd)) (Host (host.Ok (value.Stat stat))) holds notes m b = b
+may_bring_none (Changes change.Begin) (Event (event.Began era agreed)) holds notes m b = b
+may_bring_none (Changes change.Clear) (Event (event.Cleared era closings)) holds notes m b = b
+may_bring_none (Changes (change.Resolve number)) (Event (event.Resolved row form ids mode)) holds notes m b = b
+may_bring_none (Changes change.DrawNode) (Event (event.Drawn number)) holds notes m b = b
+may_bring_none (Changes change.DrawHandle) (Event (event.Drawn handle)) holds notes m b = b
+may_bring_none (Changes (change.InsertHandle era handle number fd)) (Event (event.Inserted given)) holds notes m b = b
+may_bring_none (Changes (change.Insert era number form ids mode)) (Event (event.Inserted given)) holds notes m b = b
+may_bring_none (Changes (change.Insert era number form ids mode)) (Event (event.Found given)) holds notes m b = b
+may_bring_none (Changes (change.Claim era handle ids)) (Event (event.Claimed given)) holds notes m b = b
+may_bring_none (Changes (change.InsertRoot era form ids mode agreed)) (Event (event.Inserted given)) holds notes m b =
+    b
+may_bring_none (Changes change.TakeClosing) told holds notes m b = absurd m.0
+may_bring_none deed told holds notes m b = b
 
 -- what could not be copied was not made, and moves nothing
 unmade_call : (asked : Call) (holds : List Hold) → MayFailToCopy (Calls asked) →

@@ -20,7 +20,8 @@ use Rattle.pt_frame.specs.Deed.{Deed, Calls, Changes, Step}
 use Rattle.pt_frame.specs.declared.act.ActReply.{ActReply}
 use Rattle.pt_frame.specs.declared.act.ActReply.TheVariants.{Event, Host}
 use Rattle.pt_frame.specs.declared.hold.Hold.TheVariants as hold
-use Rattle.pt_law.specs.Discipline.{Job, Notes, Resolution, idle, MovesIf, Disciplined, notes_after, with_root}
+use Rattle.pt_law.specs.Discipline.{Job, Notes, Resolution, idle, MovesIf, Disciplined, notes_after, newly}
+use Rattle.pt_law.specs.Discipline.{with_root}
 use Rattle.pt_law.specs.Discipline.{found_by}
 use Rattle.pt_law.specs.World.{World, Past, Turn, turn_by, Goes, IsLawful, Runs, steps_of, settled_if, object_of}
 use Rattle.pt_law.specs.World.{fd_of}
@@ -189,7 +190,9 @@ notes_resolved : (notes : Notes) (deed : Deed) (told : ActReply) → ResolvesNon
     (was : Resolution) → (notes_after notes deed told).resolved ≡ Some was → notes.resolved ≡ Some was
 notes_resolved notes (Changes (change.Resolve number)) (Event (event.Resolved row form ids mode)) q was e = absurd q
 notes_resolved notes (Calls (call.OpenRoot path flags)) (Host (host.Ok (value.Fd fd))) q was e =
-    sym (root_resolved fd notes) ∙ e
+    sym (root_resolved fd (newly fd notes)) ∙ e
+notes_resolved notes (Calls (call.OpenPath dir path flags)) (Host (host.Ok (value.Fd fd))) q was e = e
+notes_resolved notes (Calls (call.OpenByHandle mount handle flags)) (Host (host.Ok (value.Fd fd))) q was e = e
 notes_resolved notes (Calls (call.OpenAt dir name flags mode)) (Host (host.Ok (value.Fd fd))) q was e = e
 notes_resolved notes (Calls (call.Reopen fd flags)) (Host (host.Ok (value.Fd new))) q was e = e
 notes_resolved notes (Calls (call.Close fd)) told q was e = e
@@ -229,7 +232,9 @@ notes_latest : (notes : Notes) (deed : Deed) (told : ActReply) → OpensNone (So
     (fd : Fd) → (notes_after notes deed told).latest ≡ Some fd → notes.latest ≡ Some fd
 notes_latest notes (Calls (call.OpenAt dir name flags mode)) (Host (host.Ok (value.Fd new))) q fd e = absurd q
 notes_latest notes (Calls (call.OpenRoot path flags)) (Host (host.Ok (value.Fd new))) q fd e =
-    sym (root_latest new notes) ∙ e
+    sym (root_latest new (newly new notes)) ∙ e
+notes_latest notes (Calls (call.OpenPath dir path flags)) (Host (host.Ok (value.Fd new))) q fd e = e
+notes_latest notes (Calls (call.OpenByHandle mount handle flags)) (Host (host.Ok (value.Fd new))) q fd e = e
 notes_latest notes (Calls (call.Reopen same flags)) (Host (host.Ok (value.Fd new))) q fd e = e
 notes_latest notes (Calls (call.Close same)) told q fd e = (unless_apart same notes.latest fd e).0
 notes_latest notes (Calls (call.Stat same)) (Host (host.Ok (value.Stat stat))) q fd e = e

@@ -14,7 +14,7 @@ use Rattle.pt_session.proofs.Cases.{cases}
 use Rattle.pt_frame.specs.Deed.{Deed, Calls, Changes}
 use Rattle.pt_frame.specs.declared.act.ActReply.{ActReply}
 use Rattle.pt_frame.specs.declared.act.ActReply.TheVariants.{Event, Host}
-use Rattle.pt_law.specs.Discipline.{Job, Notes, with_root, MovesBy}
+use Rattle.pt_law.specs.Discipline.{Job, Notes, newly, with_root, MovesBy}
 use Rattle.pt_law.specs.World.{TablesGo}
 use Rattle.pt_law.specs.Ledger.{inserted_as}
 use Rattle.pt_law.proofs.Flows.{called}
@@ -66,8 +66,12 @@ drawn_flow job t (Changes (change.InsertRoot era form ids mode agreed))
     omega (arith, a, c)
 drawn_flow job t (Calls (call.OpenRoot path flags)) (Host (host.Ok (value.Fd fd))) t' after g m n ne =
     let a = ap (λ (z : Notes). is_drawn n z.drawn) m.3 in
-    let b = ap (is_drawn n) (root_drawn fd job.notes) in
+    let b = ap (is_drawn n) (root_drawn fd (newly fd job.notes)) in
     omega (arith, a, b)
+drawn_flow job t (Calls (call.OpenPath dir path flags)) (Host (host.Ok (value.Fd fd))) t' after g m n ne =
+    let a = ap (λ (z : Notes). is_drawn n z.drawn) m.3 in omega (arith, a)
+drawn_flow job t (Calls (call.OpenByHandle mount handle flags)) (Host (host.Ok (value.Fd fd))) t' after g m n ne =
+    let a = ap (λ (z : Notes). is_drawn n z.drawn) m.3 in omega (arith, a)
 drawn_flow job t (Calls (call.OpenAt dir name flags mode)) (Host (host.Ok (value.Fd fd))) t' after g m n ne =
     let a = ap (λ (z : Notes). is_drawn n z.drawn) m.3 in omega (arith, a)
 drawn_flow job t (Changes change.Clear) (Event (event.Cleared era closings)) t' after g m n ne =

@@ -20,7 +20,8 @@ use Rattle.pt_session.specs.declared.reply.EventReply.TheVariants as event
 use Rattle.pt_frame.specs.Deed.{Deed, Calls, Changes, Step}
 use Rattle.pt_frame.specs.declared.act.ActReply.{ActReply}
 use Rattle.pt_frame.specs.declared.act.ActReply.TheVariants.{Event, Host}
-use Rattle.pt_law.specs.Discipline.{Job, Notes, idle, notes_after, with_root, MovesBy, MovesIf, Disciplined}
+use Rattle.pt_law.specs.Discipline.{Job, Notes, idle, notes_after, newly, with_root, MovesBy, MovesIf}
+use Rattle.pt_law.specs.Discipline.{Disciplined}
 use Rattle.pt_law.specs.World.{Turn, turn_by, TablesGo, TablesRun, steps_of}
 use Rattle.pt_law.specs.Laws.{IsOvertaken, TellsOvertaken, TellsGiven, IsBeginning, BeginsFirst}
 use Rattle.pt_law.specs.Discipline.{AreDisciplined}
@@ -130,7 +131,9 @@ root_era : (fd : Fd) (notes : Notes) → (with_root fd notes).era ≡ notes.era
 root_era fd notes = grind arith
 
 called_era : (notes : Notes) (asked : Call) (told : ActReply) → (notes_after notes (Calls asked) told).era ≡ notes.era
-called_era notes (call.OpenRoot path flags) (Host (host.Ok (value.Fd fd))) = root_era fd notes
+called_era notes (call.OpenRoot path flags) (Host (host.Ok (value.Fd fd))) = root_era fd (newly fd notes)
+called_era notes (call.OpenPath dir path flags) (Host (host.Ok (value.Fd fd))) = refl
+called_era notes (call.OpenByHandle mount handle flags) (Host (host.Ok (value.Fd fd))) = refl
 called_era notes (call.OpenAt dir name flags mode) (Host (host.Ok (value.Fd fd))) = refl
 called_era notes (call.Reopen fd flags) (Host (host.Ok (value.Fd new))) = refl
 called_era notes (call.Close fd) told = refl

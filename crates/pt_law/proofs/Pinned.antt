@@ -6,12 +6,10 @@ use Rattle.pt_host.specs.Sorts.{Sort, OpensWith, EndsFd, OfSeat, Plain, sort_of,
 use Rattle.pt_host.specs.Tree.{Opened, IsOpenOn}
 use Rattle.pt_host.specs.declared.ids.Fd.{Fd}
 use Rattle.pt_host.specs.declared.flags.OpenFlags.{OpenFlags}
-use Rattle.pt_host.specs.declared.ids.ObjIds.{ObjIds}
 use Rattle.pt_host.specs.declared.op.KeptHostOp.TheVariants as call
 use Rattle.pt_host.specs.declared.reply.HostReply.TheVariants as host
 use Rattle.pt_host.specs.declared.reply.HostValue.TheVariants as value
 use Rattle.pt_frame.specs.Deed.{Deed, Calls, Changes}
-use Rattle.pt_frame.specs.Held.{statted}
 use Rattle.pt_frame.specs.declared.act.ActReply.{ActReply}
 use Rattle.pt_frame.specs.declared.act.ActReply.TheVariants.{Host}
 use Rattle.pt_frame.specs.declared.hold.Hold.{Hold}
@@ -58,7 +56,7 @@ known_open bound base had w js j fd lt v k = go k.0 k.1 k.2 k.3
     go (hold.HandlePin row same) rest t e =
         let o = pinned_handle bound w.tree w.tables w.past js j row same lt v.tabled.books v.right t in
         (o.0, subst (λ f. IsOpenOn w.tree f o.0) e o.1)
-    go (hold.Fd same told) rest t e =
+    go (hold.Fd same) rest t e =
         let a = total_takes (fd_held fd.0) t in
         let b = ap (λ (f : Fd). is f.0 fd.0) e in
         let c = is_same fd.0 in
@@ -69,46 +67,38 @@ is_close : (asked : Call) (fd : Fd) → sort_of asked ≡ EndsFd fd → asked �
 is_close (call.Close same) fd e = let k : same ≡ fd = cc in ap (λ (f : Fd). call.Close f) k
 is_close asked fd e = absurd (cc)
 
-opening_knows : (flags : OpenFlags) (names : List Fd) (stat_of : Option Fd) (holds : List Hold) (told : ActReply)
-    (next : List Hold) → ShiftsCalled (OpensWith flags) names stat_of holds told next → KnowsAll holds names
-opening_knows flags names stat_of holds (Host (host.Ok (value.Fd fd))) next s = s.0
-opening_knows flags names stat_of holds told next s = s.0
-
-plain_knows : (names : List Fd) (stat_of : Option Fd) (holds : List Hold) (told : ActReply) (next : List Hold) →
-    ShiftsCalled Plain names stat_of holds told next → KnowsAll holds names
-plain_knows names (Some fd) holds (Host (host.Ok (value.Stat stat))) next s = s.0
-plain_knows names (Some fd) holds told next s = s.0
-plain_knows names None holds told next s = s.0
+opening_knows : (flags : OpenFlags) (names : List Fd) (holds : List Hold) (told : ActReply) (next : List Hold) →
+    ShiftsCalled (OpensWith flags) names holds told next → KnowsAll holds names
+opening_knows flags names holds (Host (host.Ok (value.Fd fd))) next s = s.0
+opening_knows flags names holds told next s = s.0
 
 -- what the next step names is open
 pub names_open : (bound : ℕ) (base had : ℕ → ℕ) (w : World) (js : ℕ →
     Job) (j : ℕ) (deed : Option Deed) (told : ActReply) (after : Job) → j < bound → Inv bound base had w js →
     MovesIf (js j) deed told after → NamesOpen w.tree deed
 names_open bound base had w js j (Some (Calls asked)) told after lt v m =
-    call_names (sort_of asked) refl (fds_of asked) refl (statted asked) after.holds m.0
+    call_names (sort_of asked) refl (fds_of asked) refl after.holds m.0
   where
     all_known : (fds : List Fd) → KnowsAll (js j).holds fds → Each (IsOpen w.tree) fds
     all_known [] k = tt
     all_known (fd ∷ fds) k = (known_open bound base had w js j fd lt v k.0, all_known fds k.1)
 
-    closes_it : (fd : Fd) → asked ≡ call.Close fd → (was : Option ObjIds) (rest : List Hold) →
-        Takes (hold.Fd fd was) (js j).holds rest → Each (IsOpen w.tree) (fds_of asked)
-    closes_it fd e was rest t =
+    closes_it : (fd : Fd) → asked ≡ call.Close fd → (rest : List Hold) →
+        Takes (hold.Fd fd) (js j).holds rest → Each (IsOpen w.tree) (fds_of asked)
+    closes_it fd e rest t =
         let a = total_takes (fd_held fd.0) t in
         let b = is_same fd.0 in
         subst (λ c. Each (IsOpen w.tree) (fds_of c)) (sym e)
         (held_open bound base had w js j fd lt v (omega (arith, a, b)), tt)
 
     call_names : (sort : Sort) → sort_of asked ≡ sort → (names : List Fd) → fds_of asked ≡ names →
-        (stat_of : Option Fd) (next : List Hold) → ShiftsCalled sort names stat_of (js j).holds told next →
+        (next : List Hold) → ShiftsCalled sort names (js j).holds told next →
         Each (IsOpen w.tree) (fds_of asked)
-    call_names (EndsFd fd) e names f stat_of next s = closes_it fd (is_close asked fd e) s.0 next s.1
-    call_names (OpensWith flags) e names f stat_of next s =
+    call_names (EndsFd fd) e names f next s = closes_it fd (is_close asked fd e) next s
+    call_names (OpensWith flags) e names f next s =
         subst (Each (IsOpen w.tree)) (sym f)
-        (all_known names (opening_knows flags names stat_of (js j).holds told next s))
-    call_names OfSeat e names f stat_of next s = subst (Each (IsOpen w.tree)) (sym f) (all_known names s.0)
-    call_names Plain e names f stat_of next s =
-        subst (Each (IsOpen w.tree)) (sym f)
-        (all_known names (plain_knows names stat_of (js j).holds told next s))
+        (all_known names (opening_knows flags names (js j).holds told next s))
+    call_names OfSeat e names f next s = subst (Each (IsOpen w.tree)) (sym f) (all_known names s.0)
+    call_names Plain e names f next s = subst (Each (IsOpen w.tree)) (sym f) (all_known names s.0)
 names_open bound base had w js j (Some (Changes asked)) told after lt v m = tt
 names_open bound base had w js j None told after lt v m = tt

@@ -22,23 +22,26 @@ use Rattle.pt_session.specs.declared.reply.EventReply.TheVariants as event
 use Rattle.pt_frame.specs.Deed.{Changes}
 use Rattle.pt_law.specs.World.{fd_of}
 use Rattle.pt_frame.specs.declared.act.ActReply.TheVariants.{Event}
-use Rattle.pt_frame.specs.declared.hold.Hold.{Hold}
 use Rattle.pt_law.specs.Discipline.{Job, given_for, MovesBy}
 use Rattle.pt_law.specs.Discipline.{HoldsTold, IsReopened, IsGivenFor}
 use Rattle.pt_law.specs.World.{Past, settled, settled_by}
 use Rattle.pt_law.proofs.Lists.{set_at_same, set_at_other, each_taken}
 use Rattle.pt_law.proofs.Lists.{each_both}
 use Rattle.pt_law.proofs.Effects.{kept_by, rows_kept, handles_kept}
-use Rattle.pt_law.proofs.Knowing.{Shows, RowOpen, HandleOpen, ToldRight, NotedOpen, IdsRight}
+use Rattle.pt_law.proofs.Knowing.{Shows, RowOpen, HandleOpen, Tells, ToldRight, NotedOpen, IdsRight}
 use Rattle.pt_law.proofs.Knowing.{Knowing}
 use Rattle.pt_law.proofs.Knowing.{one_object, row_later}
 
+-- what is held and told was brought by no closing
+is_told : (job : Job) (fd : Fd) (ids : ObjIds) → HoldsTold job fd ids → Tells job.notes fd ids
+is_told job fd ids t = (t.2, λ e. let none = t.3 in absurd (cc))
+
 -- what `Stat` told of a noted descriptor is told of the object that its opening answered
-pub told_noted : (tree : Tree) (fd : Fd) (ids : ObjIds) (was : Option ℕ) (holds : List Hold) →
-    Each (ToldRight tree) holds → HoldsTold holds fd ids → NotedOpen tree fd was holds →
+pub told_noted : (tree : Tree) (fd : Fd) (ids : ObjIds) (was : Option ℕ) (job : Job) →
+    Each (ToldRight tree (Tells job.notes)) job.holds → HoldsTold job fd ids → NotedOpen tree fd was job.holds →
     (object : ℕ) × Shows tree fd object ids × (was ≡ Some object)
-told_noted tree fd ids was holds told t n =
-    let a = each_taken (ToldRight tree) t.1 told in
+told_noted tree fd ids was job told t n =
+    let a = each_taken (ToldRight tree (Tells job.notes)) t.1 told ids (is_told job fd ids t) in
     (a.0, a.1, n.judged ∙ ap Some (one_object tree fd n.object a.0 n.open_on a.1.open_on))
 
 -- a row comes
@@ -141,7 +144,8 @@ pub inserted_open : (tree : Tree) (next : ℕ) (past : Past) (j : ℕ) (job : Jo
 inserted_open tree next past j job number fd k (inl r) =
     let n = k.reopened (record { number = number; row = r.0 }) r.1 fd r.2 in (n.object, n.open_on, n.judged)
 inserted_open tree next past j job number fd k (inr g) =
-    each_taken (IdsRight tree g.0 (past.resolved j number)) g.2.1 (k.given (given_for number g.0) g.1) refl
+    each_taken (IdsRight tree (Tells job.notes) g.0 (past.resolved j number)) g.2.1
+    (k.given (given_for number g.0) g.1) (is_told job fd g.0 g.2)
 
 pub handles_event : (tree : Tree) (past : Past) (t : Tables) (j : ℕ) (job after : Job) (e : Change) (r : EventReply)
     (t' : Tables) → Agree t → Case t e r t' → MovesBy job (Changes e) (Event r) after →
@@ -190,14 +194,14 @@ pub rows_event : (tree : Tree) (past : Past) (t : Tables) (j : ℕ) (job after :
 rows_event tree past t j job after (change.Insert era number form ids mode) (event.Inserted given) t' a h m k rows =
     let fit = m.1 in
     rw h.4 (row_comes tree past t number given form ids mode 1 (past.latest j) a h.3 h.1
-    (told_noted tree (fd_of form) ids (past.latest j) job.holds k.told fit.3 (k.latest (fd_of form) fit.1)) rows)
+    (told_noted tree (fd_of form) ids (past.latest j) job k.told fit.3 (k.latest (fd_of form) fit.1)) rows)
 rows_event tree past t j job after (change.InsertRoot era form ids mode negotiated)
     (event.Inserted given) t' a h m k rows =
     let fit = m.1 in
     rw h.4 (agreed_rows (RowOpen tree (settled past given t.next_row (fd_of form) (past.roots j))) negotiated
     (with_row t (new_row t 1 form ids mode 2))
     (row_comes tree past t 1 given form ids mode 2 (past.roots j) a h.3 h.1
-    (told_noted tree (fd_of form) ids (past.roots j) job.holds k.told fit.2 (k.root (fd_of form) fit.1)) rows))
+    (told_noted tree (fd_of form) ids (past.roots j) job k.told fit.2 (k.root (fd_of form) fit.1)) rows))
 rows_event tree past t j job after (change.InsertHandle era handle number fd) (event.Inserted given) t' a h m k rows =
     rw h.4 (each_both (IsSoundRow t.next_row) (RowOpen tree past)
     (RowOpen tree (with_place past t.next_row fd (past.resolved j number))) t.rows (λ row s o.

@@ -2,7 +2,6 @@
 use Rattle.std.proofs.Common.{◌≡◌, ℕ, ◌+◌, List, [], ◌∷◌, ◌++◌, true, false, Option, Some, None, refl, ap, arith}
 use Rattle.pt_host.specs.Words.{is, total}
 use Rattle.pt_host.specs.Sorts.{sort_of, fds_of}
-use Rattle.pt_frame.specs.Held.{statted}
 use Rattle.pt_law.proofs.Holding.{others_called}
 use Rattle.pt_session.specs.declared.event.KeptEvent.TheVariants as change
 use Rattle.pt_session.specs.declared.reply.EventReply.TheVariants as event
@@ -36,9 +35,8 @@ brings_none n (taken.Fd fd false) holds = omega arith
 one_given : (n : ℕ) (deed : Deed) (told : ActReply) (holds after : List Hold) → Shifts holds deed told after →
     total (count_of n) after + job_returned n (Some deed) ≡ total (count_of n) holds + job_given n (Some deed) told
 one_given n (Calls asked) told holds after s =
-    let k = others_called (count_of n) (λ fd was. refl) (sort_of asked) (fds_of asked) (statted asked) told holds
-    after s
-    in omega (arith, k)
+    let k = others_called (count_of n) (λ fd. refl) (sort_of asked) (fds_of asked) told holds after s in
+    omega (arith, k)
 one_given n (Changes (change.Resolve number)) (Event (event.Resolved row form ids mode)) holds after s =
     let k = total_takes (count_of n) s in omega (arith, k)
 one_given n (Changes (change.Unpin row)) told holds after s = let k = total_takes (count_of n) s.1 in omega (arith, k)
@@ -65,8 +63,8 @@ one_given n (Changes (change.PinHandle handle number)) (Event (event.Pinned row 
 one_given n (Changes (change.UnpinHandle row)) told holds after s = let k = total_takes (count_of n) s.1 in
     omega (arith, k)
 one_given n (Changes (change.InsertHandle era handle number fd)) (Event (event.Inserted given)) holds after s =
-    let a = total_takes (count_of n) s.2 in
-    let b = total_takes (count_of n) s.3 in
+    let a = total_takes (count_of n) s.1 in
+    let b = total_takes (count_of n) s.2 in
     omega (arith, a, b)
 one_given n (Changes change.TakeClosing) told holds after s = let k = ap (total (count_of n)) s in
     let b = brings_none n (taken_in told) holds in omega (arith, k, b)

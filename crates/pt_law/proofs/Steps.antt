@@ -29,7 +29,6 @@ use Rattle.pt_host.specs.Relation.{HostRelation}
 use Rattle.pt_frame.specs.Made.{Made}
 use Rattle.pt_frame.specs.declared.act.ActReply.{ActReply}
 use Rattle.pt_frame.specs.declared.act.ActReply.TheVariants.{Event, Host, NoCopy}
-use Rattle.pt_frame.specs.Held.{statted}
 use Rattle.pt_frame.specs.declared.hold.Hold.{Hold}
 use Rattle.pt_law.specs.Discipline.{Job, Notes, Resolution, ShiftsCalled, JobMoves, MovesIf, MovesBy, notes_after}
 use Rattle.pt_law.specs.World.{World, Past, Turn, TablesGo, Goes, IsLawful, settled_if, settled_by}
@@ -140,14 +139,13 @@ turned does None NoCopy from seat t to seat' t' h = h.2
 turned does _ _ from seat t to seat' t' h = absurd h
 
 -- what a call moves is the same where it told bytes and where these could not be copied
-bytes_shift : (sort : Sort) (names : List Fd) (stat_of : Option Fd) (bytes : List ℕ) (holds after : List Hold) →
-    ShiftsCalled sort names stat_of holds NoCopy after →
-    ShiftsCalled sort names stat_of holds (Host (host.Ok (value.Bytes bytes))) after
-bytes_shift (OpensWith flags) names stat_of bytes holds after s = s
-bytes_shift (EndsFd fd) names stat_of bytes holds after s = s
-bytes_shift OfSeat names stat_of bytes holds after s = s
-bytes_shift Plain names (Some fd) bytes holds after s = s
-bytes_shift Plain names None bytes holds after s = s
+bytes_shift : (sort : Sort) (names : List Fd) (bytes : List ℕ) (holds after : List Hold) →
+    ShiftsCalled sort names holds NoCopy after →
+    ShiftsCalled sort names holds (Host (host.Ok (value.Bytes bytes))) after
+bytes_shift (OpensWith flags) names bytes holds after s = s
+bytes_shift (EndsFd fd) names bytes holds after s = s
+bytes_shift OfSeat names bytes holds after s = s
+bytes_shift Plain names bytes holds after s = s
 
 bytes_notes : (a : Call) (bytes : List ℕ) (notes : Notes) →
     notes_after notes (Calls a) NoCopy ≡ notes_after notes (Calls a) (Host (host.Ok (value.Bytes bytes)))
@@ -164,7 +162,7 @@ bytes_settled past j a bytes row tree = refl
 bytes_move : (job : Job) (a : Call) (bytes : List ℕ) (after : Job) → MovesBy job (Calls a) NoCopy after →
     MovesBy job (Calls a) (Host (host.Ok (value.Bytes bytes))) after
 bytes_move job a bytes after m = (
-  bytes_shift (sort_of a) (fds_of a) (statted a) bytes job.holds after.holds m.0,
+  bytes_shift (sort_of a) (fds_of a) bytes job.holds after.holds m.0,
   m.1,
   m.2,
   m.3 ∙ bytes_notes a bytes job.notes,
@@ -180,13 +178,12 @@ at_most_one fd tree = go (tree.opened fd)
 -- what is closed was held
 closed_held : (job : Job) (a : Call) (told : ActReply) (after : Job) → MovesBy job (Calls a) told after → (f : ℕ) →
     0 < fd_ended f (Calls a) told → 0 < total (fd_held f) job.holds
-closed_held job a told after m f l = go (sort_of a) (fds_of a) (statted a) m.0 l
+closed_held job a told after m f l = go (sort_of a) (fds_of a) m.0 l
   where
-    go : (sort : Sort) (names : List Fd) (stat_of : Option Fd) →
-        ShiftsCalled sort names stat_of job.holds told after.holds → 0 < fd_closed f sort →
+    go : (sort : Sort) (names : List Fd) → ShiftsCalled sort names job.holds told after.holds → 0 < fd_closed f sort →
         0 < total (fd_held f) job.holds
-    go (EndsFd fd) names stat_of s l = let a = total_takes (fd_held f) s.1 in omega (arith, a, l)
-    go sort names stat_of s l = absurd (omega (arith, l))
+    go (EndsFd fd) names s l = let a = total_takes (fd_held f) s in omega (arith, a, l)
+    go sort names s l = absurd (omega (arith, l))
 
 keeps_event : (bound : ℕ) (base had : ℕ → ℕ) (w : World) (js : ℕ →
     Job) (j : ℕ) (e : Change) (r : EventReply) (t' : Tables) (after : Job) → j < bound → Inv bound base had w js →

@@ -2,7 +2,7 @@
 use Rattle.std.proofs.Common.{◌≡◌, ℕ, suc, List, [], ◌∷◌, length, Bool, true, false, nat_lt, refl, sym, ap, subst}
 use Rattle.std.proofs.Common.{◌∙◌}
 use Rattle.std.proofs.Common.{if◌then◌else◌, arith}
-use Rattle.pt_host.specs.Words.{Takes, Takes.{here, there}, Replaces, Replaces.{at, past}}
+use Rattle.pt_host.specs.Words.{Takes, Takes.{here, there}}
 use Rattle.pt_host.specs.declared.reply.HostReply.TheVariants as host
 use Rattle.pt_frame.specs.Held.{is_scope, laid, opened}
 use Rattle.pt_frame.specs.declared.act.ActReply.{ActReply}
@@ -43,23 +43,6 @@ takes_laid one (top ∷ holds) = go (is_scope top) (takes_laid one holds)
         Takes one (if b then top ∷ laid one holds else one ∷ top ∷ holds) (top ∷ holds)
     go true t = there t
     go false t = here
-
--- and where one is in the place of another
-pub replaces_plain : {one other : Hold} {holds after : List Hold} → Replaces one other holds after →
-    is_scope one ≡ false → is_scope other ≡ false → Replaces one other (unscoped holds) (unscoped after)
-replaces_plain {one = one} {other = other} (at {xs = holds}) e f =
-    subst (λ (b : Bool). Replaces one other (if b then unscoped holds else one ∷ unscoped holds)
-    (unscoped (other ∷ holds))) (sym e)
-    (subst (λ (b : Bool). Replaces one other (one ∷ unscoped holds)
-    (if b then unscoped holds else other ∷ unscoped holds)) (sym f) at)
-replaces_plain {one = one} {other = other} (past {z = top} {xs = holds} {ys = after} r) e f =
-    go (is_scope top) (replaces_plain r e f)
-  where
-    go : (b : Bool) → Replaces one other (unscoped holds) (unscoped after) →
-        Replaces one other (if b then unscoped holds else top ∷ unscoped holds)
-        (if b then unscoped after else top ∷ unscoped after)
-    go true k = k
-    go false k = past k
 
 -- a scope that opens is none of it
 pub opened_on : (scope : Hold) (told : ActReply) (holds : List Hold) → is_scope scope ≡ true →

@@ -187,7 +187,7 @@ plain_giving : (role : Role) (seat : HostSeat) (one : Hold) → is_scope one ≡
     (is_of_seat (giving seat one) ≡ false) × IsMadeAs role seat seat (Some (giving seat one))
 plain_giving role seat (hold.Pin row fd) e = (refl, refl)
 plain_giving role seat (hold.HandlePin row fd) e = (refl, refl)
-plain_giving role seat (hold.Fd fd was) e = (refl, refl)
+plain_giving role seat (hold.Fd fd) e = (refl, refl)
 plain_giving role seat hold.Slot e = (refl, refl)
 plain_giving role seat (hold.Count era number) e = (refl, refl)
 plain_giving role seat hold.Groups e = absurd (cc)
@@ -247,7 +247,7 @@ back_ok seat now (hold.Dropped caps) told k e t f = seat_ok now (call.RaiseCap c
 back_ok seat now hold.Umask told k e t f = seat_ok now (call.SetUmask seat.umask) told refl (λ no. no) t f
 back_ok seat now (hold.Pin row fd) told k e t f = absurd (cc)
 back_ok seat now (hold.HandlePin row fd) told k e t f = absurd (cc)
-back_ok seat now (hold.Fd fd was) told k e t f = absurd (cc)
+back_ok seat now (hold.Fd fd) told k e t f = absurd (cc)
 back_ok seat now hold.Slot told k e t f = absurd (cc)
 back_ok seat now (hold.Count era number) told k e t f = absurd (cc)
 
@@ -261,7 +261,7 @@ scope_giving role seat now (hold.Dropped caps) e = ((λ told. refl), tt)
 scope_giving role seat now hold.Umask e = ((λ told. refl), tt)
 scope_giving role seat now (hold.Pin row fd) e = absurd (cc)
 scope_giving role seat now (hold.HandlePin row fd) e = absurd (cc)
-scope_giving role seat now (hold.Fd fd was) e = absurd (cc)
+scope_giving role seat now (hold.Fd fd) e = absurd (cc)
 scope_giving role seat now hold.Slot e = absurd (cc)
 scope_giving role seat now (hold.Count era number) e = absurd (cc)
 

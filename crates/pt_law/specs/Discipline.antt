@@ -2,7 +2,7 @@
 -- by sums over steps, in which no hold is named.
 use Rattle.std.specs.Prelude.{◌≡◌, ◌⊎◌, ℕ, ◌+◌, ◌-◌, ◌<◌, ◌==◌, Bool, true, false, if◌then◌else◌, List, [], ◌∷◌, ◌++◌}
 use Rattle.std.specs.Prelude.{Option, None, Some}
-use Rattle.pt_host.specs.Words.{Takes, Replaces, Each}
+use Rattle.pt_host.specs.Words.{Takes, Each}
 use Rattle.pt_host.specs.Flags.{includes, o_creat}
 use Rattle.pt_host.specs.Sorts.{Sort, OpensWith, EndsFd, OfSeat, Plain, sort_of, fds_of}
 use Rattle.pt_host.specs.declared.ids.Fd.{Fd}
@@ -16,7 +16,7 @@ use Rattle.pt_session.specs.declared.event.KeptEvent.TheVariants as change
 use Rattle.pt_session.specs.declared.reply.EventReply.TheVariants as event
 use Rattle.pt_iface.specs.declared.answer.Answer.TheVariants as answer
 use Rattle.pt_frame.specs.Deed.{Deed, Calls, Changes, Step}
-use Rattle.pt_frame.specs.Held.{row_fd, statted}
+use Rattle.pt_frame.specs.Held.{row_fd}
 use Rattle.pt_frame.specs.Replies.{closings_in, taken_in, brought}
 use Rattle.pt_frame.specs.declared.act.ActReply.{ActReply}
 use Rattle.pt_frame.specs.declared.act.ActReply.TheVariants.{Event, Host}
@@ -24,6 +24,8 @@ use Rattle.pt_frame.specs.declared.finish.Finish.{Finish}
 use Rattle.pt_frame.specs.declared.finish.Finish.TheVariants as finish
 use Rattle.pt_frame.specs.declared.hold.Hold.{Hold}
 use Rattle.pt_frame.specs.declared.hold.Hold.TheVariants as hold
+use Rattle.pt_frame.specs.declared.hold.Taken.{Taken}
+use Rattle.pt_frame.specs.declared.hold.Taken.TheVariants as taken
 use Rattle.pt_law.specs.World.{Turn, steps_of, fd_of}
 
 -- What is held.
@@ -35,7 +37,7 @@ IsFd (Some same) fd = same ≡ fd
 abbrev pub Names : Hold → Fd → Type 0
 Names (hold.Pin row kept) fd = IsFd kept fd
 Names (hold.HandlePin row same) fd = same ≡ fd
-Names (hold.Fd same told) fd = same ≡ fd
+Names (hold.Fd same) fd = same ≡ fd
 Names _ fd = ⊥
 
 -- the job may name this descriptor: it holds it, or a pin on the row that keeps it
@@ -49,23 +51,15 @@ KnowsAll holds fds = Each (Knows holds) fds
 abbrev pub Gains : Hold → List Hold → List Hold → Type 0
 Gains one holds after = Takes one after holds
 
--- what `Stat` told is kept with the descriptor, where the job holds it itself
-abbrev pub IsNoted : Fd → ObjIds → List Hold → List Hold → Type 0
-IsNoted fd ids holds after =
-    ((was : Option ObjIds) × Replaces (hold.Fd fd was) (hold.Fd fd (Some ids)) holds after) ⊎ (after ≡ holds)
-
--- What is held before and after a call, by its sort, the descriptors that it names, and the one of which it tells the
--- ids. The order of what is held is of no account. What is changed of the seat is no part of it: a job's seat is a
--- law of its own steps alone.
-abbrev pub ShiftsCalled : Sort → List Fd → Option Fd → List Hold → ActReply → List Hold → Type 0
-ShiftsCalled (OpensWith flags) names stat_of holds (Host (host.Ok (value.Fd fd))) after =
-    KnowsAll holds names × Gains (hold.Fd fd None) holds after
-ShiftsCalled (OpensWith flags) names stat_of holds told after = KnowsAll holds names × (after ≡ holds)
-ShiftsCalled (EndsFd fd) names stat_of holds told after = (was : Option ObjIds) × Takes (hold.Fd fd was) holds after
-ShiftsCalled OfSeat names stat_of holds told after = KnowsAll holds names × (after ≡ holds)
-ShiftsCalled Plain names (Some fd) holds (Host (host.Ok (value.Stat stat))) after =
-    KnowsAll holds names × IsNoted fd stat.ids holds after
-ShiftsCalled Plain names stat_of holds told after = KnowsAll holds names × (after ≡ holds)
+-- What is held before and after a call, by its sort and the descriptors that it names. The order of what is held is
+-- of no account. What is changed of the seat is no part of it: a job's seat is a law of its own steps alone.
+abbrev pub ShiftsCalled : Sort → List Fd → List Hold → ActReply → List Hold → Type 0
+ShiftsCalled (OpensWith flags) names holds (Host (host.Ok (value.Fd fd))) after =
+    KnowsAll holds names × Gains (hold.Fd fd) holds after
+ShiftsCalled (OpensWith flags) names holds told after = KnowsAll holds names × (after ≡ holds)
+ShiftsCalled (EndsFd fd) names holds told after = Takes (hold.Fd fd) holds after
+ShiftsCalled OfSeat names holds told after = KnowsAll holds names × (after ≡ holds)
+ShiftsCalled Plain names holds told after = KnowsAll holds names × (after ≡ holds)
 
 -- and an event; what gives a hold back ends it, whatever it is told
 abbrev pub ShiftsChanged : Change → List Hold → ActReply → List Hold → Type 0
@@ -82,19 +76,19 @@ ShiftsChanged change.TakeFd holds told after = after ≡ holds
 ShiftsChanged change.GiveFd holds told after = Takes hold.Slot holds after
 ShiftsChanged change.DrawNode holds told after = after ≡ holds
 ShiftsChanged (change.Insert era number form ids mode) holds (Event (event.Inserted given)) after =
-    (mid : List Hold) × (rest : List Hold) × Takes (hold.Fd (fd_of form) (Some ids)) holds mid
-    × Takes hold.Slot mid rest × Gains (hold.Count era given) rest after
+    (mid : List Hold) × (rest : List Hold) × Takes (hold.Fd (fd_of form)) holds mid × Takes hold.Slot mid rest
+    × Gains (hold.Count era given) rest after
 ShiftsChanged (change.Insert era number form ids mode) holds (Event (event.Found given)) after =
     Gains (hold.Count era given) holds after
 ShiftsChanged (change.Insert era number form ids mode) holds told after = after ≡ holds
 ShiftsChanged (change.InsertRoot era form ids mode agreed) holds (Event (event.Inserted given)) after =
-    (mid : List Hold) × Takes (hold.Fd (fd_of form) (Some ids)) holds mid × Takes hold.Slot mid after
+    (mid : List Hold) × Takes (hold.Fd (fd_of form)) holds mid × Takes hold.Slot mid after
 ShiftsChanged (change.InsertRoot era form ids mode agreed) holds told after = after ≡ holds
 ShiftsChanged (change.Forget list) holds told after = after ≡ holds
 ShiftsChanged (change.GiveBack era number) holds told after = Takes (hold.Count era number) holds after
 ShiftsChanged change.DrawHandle holds told after = after ≡ holds
 ShiftsChanged (change.InsertHandle era handle number fd) holds (Event (event.Inserted given)) after =
-    (was : Option ObjIds) × (mid : List Hold) × Takes (hold.Fd fd was) holds mid × Takes hold.Slot mid after
+    (mid : List Hold) × Takes (hold.Fd fd) holds mid × Takes hold.Slot mid after
 ShiftsChanged (change.InsertHandle era handle number fd) holds told after = after ≡ holds
 ShiftsChanged (change.PinHandle handle number) holds (Event (event.Pinned row fd)) after =
     Gains (hold.HandlePin row fd) holds after
@@ -105,8 +99,7 @@ ShiftsChanged change.Clear holds told after = after ≡ holds
 ShiftsChanged change.TakeClosing holds told after = after ≡ brought (taken_in told) ++ holds
 
 abbrev pub Shifts : List Hold → Deed → ActReply → List Hold → Type 0
-Shifts holds (Calls asked) told after =
-    ShiftsCalled (sort_of asked) (fds_of asked) (statted asked) holds told after
+Shifts holds (Calls asked) told after = ShiftsCalled (sort_of asked) (fds_of asked) holds told after
 Shifts holds (Changes asked) told after = ShiftsChanged asked holds told after
 
 -- What is known.
@@ -123,6 +116,19 @@ pub record Given : Type 0 where
 
 abbrev pub given_for : ℕ → ObjIds → Given
 given_for number ids = record { number = number; ids = ids }
+
+-- what `Stat` told of a descriptor, or that it was opened and nothing is told yet
+pub record Told : Type 0 where
+  pub fd : Fd
+  pub ids : Option ObjIds
+
+abbrev pub told_as : Fd → Option ObjIds → Told
+told_as fd ids = record { fd = fd; ids = ids }
+
+-- what was told last of a descriptor
+abbrev pub told_of : List Told → Fd → Option ObjIds
+told_of [] fd = None
+told_of (one ∷ told) fd = if one.fd.0 == fd.0 then one.ids else told_of told fd
 
 -- What a job knows by its steps. A descriptor is noted while it is neither closed nor handed to the tables, and a
 -- number or a handle while it is not inserted.
@@ -142,6 +148,10 @@ pub record Notes : Type 0 where
   pub reopened : Option Fd
   -- the number that it was given last, while it is told no ids since and resolves none
   pub given : Option Given
+  -- what `Stat` told of each descriptor since it was opened, what was told last first
+  pub told : List Told
+  -- what a closing brought, until it is closed: what was told of such a descriptor may be another's
+  pub brought : Option Fd
 
 abbrev pub blank : Notes
 blank = record {
@@ -154,6 +164,8 @@ blank = record {
   resolved = None;
   reopened = None;
   given = None;
+  told = [];
+  brought = None;
 }
 
 -- unless it is this one
@@ -168,6 +180,20 @@ unnoted fd notes = record notes {
   root = unless fd notes.root;
   reopened = unless fd notes.reopened;
 }
+
+-- it is closed, also where a closing brought it
+abbrev pub ended : Fd → Notes → Notes
+ended fd notes = record (unnoted fd notes) { brought = unless fd notes.brought }
+
+-- nothing is told yet of a descriptor that was opened
+abbrev pub newly : Fd → Notes → Notes
+newly fd notes = record notes { told = told_as fd None ∷ notes.told }
+
+-- the descriptor that a closing brings
+abbrev pub taken_fd : Taken → Option Fd
+taken_fd taken.Nothing = None
+taken_fd taken.Slot = None
+taken_fd (taken.Fd fd slot) = Some fd
 
 -- the first opening of a root stays the first
 abbrev pub with_root : Fd → Notes → Notes
@@ -185,15 +211,18 @@ with_given number ids notes =
 abbrev pub notes_after : Notes → Deed → ActReply → Notes
 notes_after notes (Changes change.Begin) (Event (event.Began era agreed)) = record notes { era = Some era }
 notes_after notes (Changes change.Clear) (Event (event.Cleared era closings)) = record notes { era = Some era }
-notes_after notes (Calls (call.OpenRoot path flags)) (Host (host.Ok (value.Fd fd))) = with_root fd notes
+notes_after notes (Calls (call.OpenRoot path flags)) (Host (host.Ok (value.Fd fd))) = with_root fd (newly fd notes)
+notes_after notes (Calls (call.OpenPath dir path flags)) (Host (host.Ok (value.Fd fd))) = newly fd notes
 notes_after notes (Calls (call.OpenAt dir name flags mode)) (Host (host.Ok (value.Fd fd))) =
-    record notes { latest = found_by flags fd }
+    record (newly fd notes) { latest = found_by flags fd }
 notes_after notes (Changes (change.Resolve number)) (Event (event.Resolved row form ids mode)) =
     record notes { resolved = Some (record { number = number; row = row }); reopened = None; given = None }
 notes_after notes (Calls (call.Reopen fd flags)) (Host (host.Ok (value.Fd new))) =
-    record notes { reopened = Some new }
-notes_after notes (Calls (call.Close fd)) told = unnoted fd notes
-notes_after notes (Calls (call.Stat fd)) (Host (host.Ok (value.Stat stat))) = record notes { given = None }
+    record (newly new notes) { reopened = Some new }
+notes_after notes (Calls (call.OpenByHandle mount handle flags)) (Host (host.Ok (value.Fd fd))) = newly fd notes
+notes_after notes (Calls (call.Close fd)) told = ended fd notes
+notes_after notes (Calls (call.Stat fd)) (Host (host.Ok (value.Stat stat))) =
+    record notes { given = None; told = told_as fd (Some stat.ids) ∷ notes.told }
 notes_after notes (Changes change.DrawNode) (Event (event.Drawn number)) = record notes { drawn = Some number }
 notes_after notes (Changes change.DrawHandle) (Event (event.Drawn handle)) = record notes { handle = Some handle }
 notes_after notes (Changes (change.InsertHandle era handle number fd)) (Event (event.Inserted given)) =
@@ -205,6 +234,7 @@ notes_after notes (Changes (change.Insert era number form ids mode)) (Event (eve
 notes_after notes (Changes (change.Claim era handle ids)) (Event (event.Claimed given)) = with_given given ids notes
 notes_after notes (Changes (change.InsertRoot era form ids mode agreed)) (Event (event.Inserted given)) =
     unnoted (fd_of form) notes
+notes_after notes (Changes change.TakeClosing) told = record notes { brought = taken_fd (taken_in told) }
 notes_after notes _ _ = notes
 
 -- A job, and when it may make a deed.
@@ -226,9 +256,11 @@ abbrev pub owed_after : ℕ → Deed → ActReply → ℕ
 owed_after owed (Changes change.TakeClosing) told = owed - 1
 owed_after owed deed told = owed + closings_in deed told
 
--- the descriptor is held, and `Stat` told these ids of it
-abbrev pub HoldsTold : List Hold → Fd → ObjIds → Type 0
-HoldsTold holds fd ids = (rest : List Hold) × Takes (hold.Fd fd (Some ids)) holds rest
+-- the descriptor is held, `Stat` told these ids of it, and nothing that a closing brought is to be closed
+abbrev pub HoldsTold : Job → Fd → ObjIds → Type 0
+HoldsTold job fd ids =
+    (rest : List Hold) × Takes (hold.Fd fd) job.holds rest × (told_of job.notes.told fd ≡ Some ids)
+    × (job.notes.brought ≡ None)
 
 -- the descriptor is that of the row that was resolved last, which is pinned
 abbrev pub PinsLatest : Job → Fd → Type 0
@@ -244,13 +276,14 @@ IsReopened job number fd =
 -- `Stat` told of the descriptor, before this number was given, the ids that it was given for
 abbrev pub IsGivenFor : Job → ℕ → Fd → Type 0
 IsGivenFor job number fd =
-    (ids : ObjIds) × (job.notes.given ≡ Some (given_for number ids)) × HoldsTold job.holds fd ids
+    (ids : ObjIds) × (job.notes.given ≡ Some (given_for number ids)) × HoldsTold job fd ids
 
 -- Whether the job may make this deed, what it holds aside. A job begins once, in the era that there is or in a new
 -- one; a number is asked or inserted only for what was found by the opening of a name last, in the era of the job; an
 -- inserted one was drawn; number 1 is only for the first root that was opened; a name is opened in what was resolved
 -- last; what was resolved last is opened anew, while its row is pinned; a handle that was drawn is inserted for it,
--- or for the number that was given last, with a descriptor of its ids; and a closing is taken only where one is owed.
+-- or for the number that was given last, with a descriptor of its ids; and a closing is taken only where one is owed,
+-- and what the one before brought is closed.
 abbrev pub Fits : Job → Deed → Type 0
 Fits job (Changes change.Begin) = job.notes.era ≡ None
 Fits job (Changes change.Clear) = job.notes.era ≡ None
@@ -260,13 +293,13 @@ Fits job (Changes (change.InsertHandle era handle number fd)) =
     (job.notes.era ≡ Some era) × (job.notes.handle ≡ Some handle)
     × (IsReopened job number fd ⊎ IsGivenFor job number fd)
 Fits job (Changes (change.Claim era handle ids)) =
-    (fd : Fd) × (job.notes.era ≡ Some era) × (job.notes.latest ≡ Some fd) × HoldsTold job.holds fd ids
+    (fd : Fd) × (job.notes.era ≡ Some era) × (job.notes.latest ≡ Some fd) × HoldsTold job fd ids
 Fits job (Changes (change.Insert era number form ids mode)) =
     (job.notes.era ≡ Some era) × (job.notes.latest ≡ Some (fd_of form)) × (job.notes.drawn ≡ Some number)
-    × HoldsTold job.holds (fd_of form) ids
+    × HoldsTold job (fd_of form) ids
 Fits job (Changes (change.InsertRoot era form ids mode agreed)) =
-    (job.notes.era ≡ Some era) × (job.notes.root ≡ Some (fd_of form)) × HoldsTold job.holds (fd_of form) ids
-Fits job (Changes change.TakeClosing) = 0 < job.owed
+    (job.notes.era ≡ Some era) × (job.notes.root ≡ Some (fd_of form)) × HoldsTold job (fd_of form) ids
+Fits job (Changes change.TakeClosing) = (0 < job.owed) × (job.notes.brought ≡ None)
 Fits job deed = Unit {0}
 
 -- Its steps, to their end.

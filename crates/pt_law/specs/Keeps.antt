@@ -1,10 +1,9 @@
 -- Inner. A tree that keeps the discipline: each deed may be made where it stands.
-use Rattle.std.specs.Prelude.{◌≡◌, ℕ, zero, suc, nat_lt, true, false, if◌then◌else◌, List, [], ◌∷◌, Option, Some}
+use Rattle.std.specs.Prelude.{◌≡◌, ℕ, zero, suc, nat_lt, true, false, if◌then◌else◌, List, [], ◌∷◌, None}
 use Rattle.std.specs.Prelude.{length}
 use Rattle.pt_host.specs.Words.{Takes}
 use Rattle.pt_host.specs.Sorts.{Sort, OpensWith, EndsFd, OfSeat, Plain, sort_of, fds_of}
 use Rattle.pt_host.specs.declared.ids.Fd.{Fd}
-use Rattle.pt_host.specs.declared.ids.ObjIds.{ObjIds}
 use Rattle.pt_session.specs.Change.{Change}
 use Rattle.pt_session.specs.declared.event.KeptEvent.TheVariants as change
 use Rattle.pt_iface.specs.declared.answer.Answer.{Answer}
@@ -36,13 +35,13 @@ down_to mark [] = []
 down_to mark (one ∷ holds) = if nat_lt mark (length (one ∷ holds)) then down_to mark holds else one ∷ holds
 
 abbrev pub HoldsFd : List Hold → Fd → Type 0
-HoldsFd holds fd = (was : Option ObjIds) × (rest : List Hold) × Takes (hold.Fd fd was) holds rest
+HoldsFd holds fd = (rest : List Hold) × Takes (hold.Fd fd) holds rest
 
--- the descriptor is held, this was told of it, and it lies on a slot
-pub data LiesOnSlot (fd : Fd) (told : Option ObjIds) : List Hold → Type 0 where
-  here : {holds : List Hold} → LiesOnSlot fd told (hold.Fd fd told ∷ hold.Slot ∷ holds)
-  there : {one : Hold} {holds : List Hold} → is_same_fd fd (fd_in one) ≡ false → LiesOnSlot fd told holds →
-      LiesOnSlot fd told (one ∷ holds)
+-- the descriptor is held, and it lies on a slot
+pub data LiesOnSlot (fd : Fd) : List Hold → Type 0 where
+  here : {holds : List Hold} → LiesOnSlot fd (hold.Fd fd ∷ hold.Slot ∷ holds)
+  there : {one : Hold} {holds : List Hold} → is_same_fd fd (fd_in one) ≡ false → LiesOnSlot fd holds →
+      LiesOnSlot fd (one ∷ holds)
 
 -- A request's own part may make this call, whatever it is then told: it names what it holds, and ends what it holds
 -- itself.
@@ -59,12 +58,11 @@ MayChange (change.Resolve number) holds = Unit {0}
 MayChange (change.Claim era handle ids) holds = Unit {0}
 MayChange change.TakeFd holds = Unit {0}
 MayChange change.DrawNode holds = Unit {0}
-MayChange (change.Insert era number form ids mode) holds = LiesOnSlot (fd_of form) (Some ids) holds
-MayChange (change.InsertRoot era form ids mode agreed) holds = LiesOnSlot (fd_of form) (Some ids) holds
+MayChange (change.Insert era number form ids mode) holds = LiesOnSlot (fd_of form) holds
+MayChange (change.InsertRoot era form ids mode agreed) holds = LiesOnSlot (fd_of form) holds
 MayChange (change.Forget list) holds = Unit {0}
 MayChange change.DrawHandle holds = Unit {0}
-MayChange (change.InsertHandle era handle number fd) holds =
-    (was : Option ObjIds) × LiesOnSlot fd was holds
+MayChange (change.InsertHandle era handle number fd) holds = LiesOnSlot fd holds
 MayChange (change.PinHandle handle number) holds = Unit {0}
 MayChange (change.Release handle number) holds = Unit {0}
 MayChange change.Clear holds = Unit {0}
@@ -75,10 +73,12 @@ MayMake (Calls asked) holds notes =
     MayCall (sort_of asked) (fds_of asked) holds × Fits (at_job (unscoped holds) notes) (Calls asked)
 MayMake (Changes asked) holds notes = MayChange asked holds × Fits (at_job (unscoped holds) notes) (Changes asked)
 
--- giving back and closings leave it noted which era it is, whether a root was opened and what number was given, and
--- what else is noted may change
+-- Giving back and closings leave it noted which era it is, whether a root was opened, what number was given and what
+-- was told; what else is noted may change. What closings brought is closed behind them.
 abbrev pub Lasts : Notes → Notes → Type 0
-Lasts notes later = (later.era ≡ notes.era) × (later.rooted ≡ notes.rooted) × (later.given ≡ notes.given)
+Lasts notes later =
+    (later.era ≡ notes.era) × (later.rooted ≡ notes.rooted) × (later.given ≡ notes.given)
+    × (later.told ≡ notes.told) × (later.brought ≡ None)
 
 -- with these notes, or after closings with whatever may follow
 abbrev pub After : ℕ → (Notes → Type 0) → Notes → Type 0

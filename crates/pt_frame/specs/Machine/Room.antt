@@ -7,9 +7,9 @@ use Rattle.pt_frame.specs.Deed.{Deed, Calls, Changes}
 use Rattle.pt_frame.specs.Tree.{RequestTree, Gives, Refuses, Asks, Opens, Bares, Brackets, Shuts, Allocates}
 use Rattle.pt_frame.specs.declared.hold.Hold.{Hold}
 
--- The largest request brings 17 holds on one way, where a making finds its name taken, looks it up and opens it.
+-- The largest request brings 16, brackets counted: a creation that finds its name taken looks it up and opens it.
 abbrev pub most_holds : ℕ
-most_holds = 24
+most_holds = 17
 
 abbrev pub sort_brings : Sort → ℕ
 sort_brings (OpensWith flags) = 1

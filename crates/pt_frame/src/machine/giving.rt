@@ -20,7 +20,7 @@ pub fn giving<'a>(hold: Hold, seat: &'a HostSeat) -> Act<'a>
     match hold {
         Hold::Pin { row, .. } => Act::Event(Event::Unpin { row }),
         Hold::HandlePin { row, .. } => Act::Event(Event::UnpinHandle { row }),
-        Hold::Fd { fd, .. } => Act::Host(HostOp::Close { fd }),
+        Hold::Fd(fd) => Act::Host(HostOp::Close { fd }),
         Hold::Slot => Act::Event(Event::GiveFd),
         Hold::Count { era, number } => Act::Event(Event::GiveBack { era, number }),
         Hold::Groups => Act::Host(HostOp::SetGroups {
@@ -38,11 +38,8 @@ pub fn is_scope(hold: Hold) -> bool
     ensures { result ≡ is_scope hold }
 {
     match hold {
-        Hold::Pin { .. }
-        | Hold::HandlePin { .. }
-        | Hold::Fd { .. }
-        | Hold::Slot
-        | Hold::Count { .. } => false,
+        Hold::Pin { .. } | Hold::HandlePin { .. } | Hold::Fd(_) | Hold::Slot | Hold::Count { .. } =>
+            false,
         Hold::Groups | Hold::EffectiveGid | Hold::EffectiveUid | Hold::Dropped(_) | Hold::Umask =>
             true,
     }

@@ -1,11 +1,10 @@
-ghost use Rattle.std.specs.Prelude.{◌≡◌, ◌+◌, ◌≤◌, ◌<◌, ℕ, length, Option};
+ghost use Rattle.std.specs.Prelude.{◌≡◌, ◌+◌, ◌≤◌, ◌<◌, ℕ, length};
 ghost use Rattle.pt_host.specs.Call.{call_of};
 ghost use Rattle.pt_host.specs.Sorts.{OpensWith};
-ghost use Rattle.pt_host.specs.declared.ids.Fd.{Fd};
 ghost use Rattle.pt_host.specs.declared.flags.OpenFlags.{OpenFlags};
 ghost use Rattle.pt_session.specs.Change.{change_of};
 ghost use Rattle.pt_frame.specs.Deed.{deed_of, Calls, Changes};
-ghost use Rattle.pt_frame.specs.Held.{held, held_called, laid, row_fd, fd_in, is_some_fd, is_same_fd, noted, closed};
+ghost use Rattle.pt_frame.specs.Held.{held, held_called, laid, row_fd, fd_in, is_some_fd, is_same_fd, closed};
 ghost use Rattle.pt_frame.specs.Held.{slotted};
 ghost use Rattle.pt_frame.specs.Held.{unslotted, handed, handed_of};
 ghost use Rattle.pt_frame.specs.Machine.Left.{held_by};
@@ -15,7 +14,7 @@ ghost use Rattle.pt_frame.specs.declared.act.ActReply.TheVariants as told;
 use crate::act::{Act, ActReply};
 use crate::hold::{Hold, Holds};
 use crate::machine::giving::is_scope;
-use pt_host::{Fd, HostOp, HostReply, HostValue, ObjIds};
+use pt_host::{Fd, HostOp, HostReply, HostValue};
 use pt_session::{Event, EventReply, RowForm};
 
 /// The descriptor by which a row's object is kept, where it is kept by one.
@@ -31,7 +30,7 @@ fn is_fd(hold: Hold, fd: Fd) -> bool
     ensures { result ≡ is_same_fd fd (fd_in hold) }
 {
     match hold {
-        Hold::Fd { fd: same, .. } => same.0 == fd.0,
+        Hold::Fd(same) => same.0 == fd.0,
         _ => false,
     }
 }
@@ -39,7 +38,7 @@ fn is_fd(hold: Hold, fd: Fd) -> bool
 fn is_any_fd(hold: Hold) -> bool
     ensures { result ≡ is_some_fd (fd_in hold) }
 {
-    matches!(hold, Hold::Fd { .. })
+    matches!(hold, Hold::Fd(_))
 }
 
 /// A new hold lies under the open scopes.
@@ -58,25 +57,6 @@ fn lay(hold: Hold, holds: &mut Holds)
             holds.push(hold);
         }
         None => holds.push(hold),
-    }
-}
-
-/// What `Stat` told is kept with the descriptor.
-fn note(fd: Fd, ids: ObjIds, holds: &mut Holds)
-    requires { length holds.old ≤ most_holds }
-    ensures noted { holds.new ≡ noted fd ids holds.old }
-    ensures length { length holds.new ≡ length holds.old }
-{
-    match holds.pop() {
-        Some(top) if is_fd(top, fd) => {
-            let told = Some(ids);
-            holds.push(Hold::Fd { fd, told });
-        }
-        Some(top) => {
-            note(fd, ids, holds);
-            holds.push(top);
-        }
-        None => {}
     }
 }
 
@@ -156,13 +136,11 @@ fn hand_form(form: &RowForm, holds: &mut Holds)
 /// What is held after an opening.
 fn hold_opened(reply: &ActReply, holds: &mut Holds)
     requires { length holds.old < most_holds }
-    ensures held { (flags : OpenFlags) (stat_of : Option Fd) →
-        holds.new ≡ held_called (OpensWith flags) stat_of reply.now holds.old }
+    ensures held { (flags : OpenFlags) → holds.new ≡ held_called (OpensWith flags) reply.now holds.old }
     ensures length { length holds.new ≤ length holds.old + 1 }
 {
     if let ActReply::Host(HostReply::Ok(HostValue::Fd(fd))) = reply {
-        let told = None;
-        lay(Hold::Fd { fd: *fd, told }, holds);
+        lay(Hold::Fd(*fd), holds);
     }
 }
 
@@ -179,11 +157,6 @@ fn hold_called(op: &HostOp<'_>, reply: &ActReply, holds: &mut Holds)
         HostOp::Reopen { .. } => hold_opened(reply, holds),
         HostOp::OpenByHandle { .. } => hold_opened(reply, holds),
         HostOp::Close { fd } => close(*fd, holds),
-        HostOp::Stat { fd } => {
-            if let ActReply::Host(HostReply::Ok(HostValue::Stat(stat))) = reply {
-                note(*fd, stat.ids, holds);
-            }
-        }
         _ => {}
     }
 }
