@@ -192,41 +192,42 @@ made_from_shown does kept reply shown host None tables host' (Some seat') tables
 
 -- a machine that asked for a step, was shown its reply and went on from there
 pub stepped : {H : Type 0} (does : HostRelation H) (faults : H → ℕ) → Promises does faults → (plan later : Plan)
-    (job : ℕ) (host host' : H) (was now : Machine) (tables tables' : Tables) (act : KeptAct) (reply shown : ActReply)
-    (restoring : Bool) → later ≡ plan → now.place ≡ was.place → now.start ≡ was.start →
-    IsWanted (owes plan was.start was.state) (kept_deed_of act) →
-    MadeFrom does (kept_deed_of act) reply host was.seat tables host' now.seat tables' → IsShown reply shown →
-    IsChosen (after shown (owes later was.start was.state)) (owes later was.start now.state) →
-    restoring ≡ restores_now was.state → restoring ≡ restores (owes plan was.start was.state) →
+    (start : HostSeat) (job : ℕ) (host host' : H) (seat seat' : Option HostSeat) (was now : Machine)
+    (tables tables' : Tables) (act : KeptAct) (reply shown : ActReply) (restoring : Bool) → later ≡ plan →
+    now.place ≡ was.place →
+    IsWanted (owes plan start was.state) (kept_deed_of act) →
+    MadeFrom does (kept_deed_of act) reply host seat tables host' seat' tables' → IsShown reply shown →
+    IsChosen (after shown (owes later start was.state)) (owes later start now.state) →
+    restoring ≡ restores_now was.state → restoring ≡ restores (owes plan start was.state) →
     lost_of now.state ≡ lost_after (lost_of was.state) (restores_now was.state) shown →
     steps_left now.state < steps_left was.state →
     steps_bound now.state + 1
-    ≤ steps_bound was.state + 3 * told_closings (owes later was.start was.state) shown →
-    inserts_left now.state + told_inserted (owes later was.start was.state) shown ≤ inserts_left was.state →
-    Stepped does plan job host was tables (record { job = job; act = act; reply = shown }) host' now tables'
-stepped does faults promises plan later job host host' was now tables tables' act reply shown restoring same place
-    start wanted made is goes mark marked lost fewer within inserts =
-    let old = owes plan was.start was.state in
-    let new = owes plan was.start now.state in
+    ≤ steps_bound was.state + 3 * told_closings (owes later start was.state) shown →
+    inserts_left now.state + told_inserted (owes later start was.state) shown ≤ inserts_left was.state →
+    Stepped does plan start job host seat was tables (record { job = job; act = act; reply = shown }) host' seat' now
+    tables'
+stepped does faults promises plan later start job host host' seat seat' was now tables tables' act reply shown restoring
+    same place wanted made is goes mark marked lost fewer within inserts =
+    let old = owes plan start was.state in
+    let new = owes plan start now.state in
     let advances : Advances old (kept_deed_of act) shown new =
-    advanced does faults promises old new (kept_deed_of act) reply shown shown host was.seat tables host' now.seat
+    advanced does faults promises old new (kept_deed_of act) reply shown shown host seat tables host' seat'
     tables' wanted made is refl
-    (subst (λ (p : Plan). IsChosen (after shown (owes p was.start was.state)) (owes p was.start now.state)) same
+    (subst (λ (p : Plan). IsChosen (after shown (owes p start was.state)) (owes p start now.state)) same
     goes) in
     record {
       owner = refl;
       place = place;
-      start = start;
-      made = made_from_shown does (kept_deed_of act) reply shown host was.seat tables host' now.seat tables' made is;
+      made = made_from_shown does (kept_deed_of act) reply shown host seat tables host' seat' tables' made is;
       advances = advances;
       loses = lost ∙ ap (λ (b : Bool). lost_after (lost_of was.state) b shown) (sym mark ∙ marked);
       fewer = fewer;
       within = told_within old new (kept_deed_of act) shown shown (steps_bound was.state) (steps_bound now.state)
           advances refl
           (subst (λ (p : Plan). steps_bound now.state + 1
-          ≤ steps_bound was.state + 3 * told_closings (owes p was.start was.state) shown) same within);
+          ≤ steps_bound was.state + 3 * told_closings (owes p start was.state) shown) same within);
       inserts = inserted_within old new (kept_deed_of act) shown shown (inserts_left was.state)
           (inserts_left now.state) advances refl
-          (subst (λ (p : Plan). inserts_left now.state + told_inserted (owes p was.start was.state) shown
+          (subst (λ (p : Plan). inserts_left now.state + told_inserted (owes p start was.state) shown
           ≤ inserts_left was.state) same inserts);
     }

@@ -8,9 +8,10 @@ use Rattle.pt_host.specs.declared.seat.HostSeat.{HostSeat}
 use Rattle.pt_frame.specs.Grammar.{End}
 use Rattle.pt_attr.specs.Machine.Job.{owes as job_owes, is_finished as is_job_over, lost_of as job_lost}
 use Rattle.pt_req.specs.declared.plan.Plan.{Plan}
-use Rattle.pt_fs.specs.Laid.{Kept, Laid, AllGo, GoElsewhere, Stays, Settles, on_its_way, found_run, run_at, runs_in}
+use Rattle.pt_fs.specs.Laid.{Kept, Laid, AllGo, GoElsewhere, Stays, Settles, found_state, state_at, states_in}
 use Rattle.pt_fs.specs.Laid.{still}
 use Rattle.pt_fs.specs.Placed.{Place, Waits, Goes, Ended as Ends}
+use Rattle.pt_fs.specs.Running.{Goes as On}
 use Rattle.pt_fs.specs.declared.machine.Machine.{Machine}
 use Rattle.pt_fs.specs.declared.machine.Over.{Over}
 use Rattle.pt_fs.proofs.Lists.{TakenOut, get-set_same, get-set_other, map_but}
@@ -65,20 +66,20 @@ module _ {places : List Place} {going : List Machine} (laid : Laid places going)
             (not_own s it (λ e. absurd (omega (arith, inside, e, last))) was) ∙ laid.back s it was;
       }
 
-      pub last_runs : runs_in first_set on ≡ slice_set (runs_in places going) place (run_at on (Ends over))
-      last_runs = map_but places first_set (run_at going) (run_at on) place
-          (run_at on (Ends over)) (length-set places place (Ends over))
-          (λ p at. ap (run_at on) (same_Some p (Ends over)
+      pub last_runs : states_in first_set on ≡ slice_set (states_in places going) place (state_at on (Ends over))
+      last_runs = map_but places first_set (state_at going) (state_at on) place
+          (state_at on (Ends over)) (length-set places place (Ends over))
+          (λ p at. ap (state_at on) (same_Some p (Ends over)
           (sym at ∙ get-set_same places place (Goes index) (Ends over) own)))
           (λ j p q other at now.
           let is : p ≡ q = same_Some p q (sym at ∙ sym (get-set_other places place j (Ends over) other) ∙ now) in
-          ap (run_at on) (sym is) ∙ same j p other at)
+          ap (state_at on) (sym is) ∙ same j p other at)
         where
-          same : (j : ℕ) (p : Place) → j ≢ place → slice_get places j ≡ Some p → run_at on p ≡ run_at going p
+          same : (j : ℕ) (p : Place) → j ≢ place → slice_get places j ≡ Some p → state_at on p ≡ state_at going p
           same j (Waits job) other at = refl
           same j (Ends done) other at = refl
           same j (Goes s) other at =
-              let it = still_there j s other at in ap found_run (it.1 ∙ sym it.2)
+              let it = still_there j s other at in ap found_state (it.1 ∙ sym it.2)
 
       pub last_kept : {room : ℕ} → GoElsewhere index going → still places + length going ≤ room →
           Kept first_set on room
@@ -163,28 +164,28 @@ module _ {places : List Place} {going : List Machine} (laid : Laid places going)
         ];
       }
 
-      pub moved_runs : runs_in both_set on ≡ slice_set (runs_in places going) place (run_at on (Ends over))
-      moved_runs = map_but places both_set (run_at going) (run_at on) place (run_at on (Ends over))
+      pub moved_runs : states_in both_set on ≡ slice_set (states_in places going) place (state_at on (Ends over))
+      moved_runs = map_but places both_set (state_at going) (state_at on) place (state_at on (Ends over))
           (length-set first_set moved.place (Goes index) ∙ length-set places place (Ends over))
-          (λ p at. ap (run_at on) (same_Some p (Ends over) (sym at ∙ at_place)))
+          (λ p at. ap (state_at on) (same_Some p (Ends over) (sym at ∙ at_place)))
           (λ j p q other at now. elim (cases_eq j moved.place) [
             | inl same ↦
                 let was : Goes (length on) ≡ p = same_Some (Goes (length on)) p
                 (sym top_at ∙ ap (slice_get places) (sym same) ∙ at) in
                 let is : Goes index ≡ q = same_Some (Goes index) q
                 (sym at_moved ∙ ap (slice_get both_set) (sym same) ∙ now) in
-                ap (run_at on) (sym is) ∙ ap found_run (in_place ∙ sym top) ∙ ap (run_at going) was
+                ap (state_at on) (sym is) ∙ ap found_state (in_place ∙ sym top) ∙ ap (state_at going) was
             | inr another ↦
                 let is : p ≡ q = same_Some p q (sym at ∙ sym (at_else j other another) ∙ now) in
-                ap (run_at on) (sym is) ∙ same j p other another at
+                ap (state_at on) (sym is) ∙ same j p other another at
           ])
         where
           same : (j : ℕ) (p : Place) → j ≢ place → j ≢ moved.place → slice_get places j ≡ Some p →
-              run_at on p ≡ run_at going p
+              state_at on p ≡ state_at going p
           same j (Waits job) other another at = refl
           same j (Ends done) other another at = refl
           same j (Goes s) other another at =
-              let it = stays_there j s other another at in ap found_run (it.1 ∙ sym it.2)
+              let it = stays_there j s other another at in ap found_state (it.1 ∙ sym it.2)
 
       moved_goes : GoElsewhere index going → AllGo on
       moved_goes goes s it at = elim (cases_eq s index) [
@@ -217,15 +218,13 @@ module _ {places : List Place} {going : List Machine} (laid : Laid places going)
     pub taken_over : is_job_over taken.state ≡ true
     taken_over = ap (λ (g : Machine). is_job_over g.state) is_its ∙ ended its.0 its.1
 
-    pub settles_over : (over : Over) → over.start ≡ taken.start → over.seat ≡ taken.seat →
+    pub settles_over : (over : Over) →
         ((plan : Plan) (from : HostSeat) → job_owes plan from taken.state ≡ End over.last) →
         over.lost ≡ job_lost taken.state → (places' : List Place) (on : List Machine) →
-        runs_in places' on ≡ slice_set (runs_in places going) place (run_at on (Ends over)) →
+        states_in places' on ≡ slice_set (states_in places going) place (state_at on (Ends over)) →
         Settles places going place index places' on
-    settles_over over start seat left lost places' on runs =
-        let stays : Stays (on_its_way taken) (run_at on (Ends over)) = record {
-          start = start;
-          seat = seat;
+    settles_over over left lost places' on runs =
+        let stays : Stays (On taken.state) (state_at on (Ends over)) = record {
           left = λ plan from. sym (left plan from);
           finished = sym taken_over;
           lost = lost;
@@ -235,8 +234,8 @@ module _ {places : List Place} {going : List Machine} (laid : Laid places going)
         } in
         record {
           it = its.0;
-          run = run_at on (Ends over);
+          state = state_at on (Ends over);
           was = its.1;
-          stays = subst (λ (g : Machine). Stays (on_its_way g) (run_at on (Ends over))) is_its stays;
+          stays = subst (λ (g : Machine). Stays (On g.state) (state_at on (Ends over))) is_its stays;
           runs = runs;
         }

@@ -11,14 +11,13 @@ use Rattle.pt_host.specs.declared.seat.HostSeat.{HostSeat}
 use Rattle.pt_frame.specs.Grammar.{is_end}
 use Rattle.pt_attr.specs.Machine.Job.{owes as job_owes, is_finished as is_job_over}
 use Rattle.pt_req.specs.declared.plan.Plan.{Plan}
-use Rattle.pt_fs.specs.Each.{EachAnswered, EndsAs}
-use Rattle.pt_fs.specs.Laid.{Kept, Laid, AllGo, GoElsewhere, Stays, Wakes, Settles, waiting, on_its_way, found_run}
-use Rattle.pt_fs.specs.Laid.{run_at, runs_in, waits, still}
-use Rattle.pt_fs.specs.Running.{Running, is_finished, owes}
-use Rattle.pt_fs.specs.Went.{run_seat}
+use Rattle.pt_fs.specs.Jobs.{asked_of}
+use Rattle.pt_fs.specs.Laid.{Kept, Laid, AllGo, GoElsewhere, Stays, Wakes, Settles, found_state, state_at}
+use Rattle.pt_fs.specs.Laid.{states_in, waits, still}
+use Rattle.pt_fs.specs.Running.{State, Waits as Awaits, Goes as On, is_finished, owes}
 use Rattle.pt_fs.specs.declared.job.Job.{Job}
 use Rattle.pt_fs.specs.declared.machine.Machine.{Machine}
-use Rattle.pt_fs.specs.Placed.{Place, Waits, Goes, Ended as Ends, AllEnded, answer_at, seat_at}
+use Rattle.pt_fs.specs.Placed.{Place, Waits, Goes, Ended as Ends}
 use Rattle.pt_fs.specs.declared.machine.Over.{Over}
 use Rattle.pt_fs.proofs.Lists.{get-set_same, get-set_other, get-past, get-before, get-within, set-set, set-same}
 use Rattle.pt_fs.proofs.Lists.{map_but}
@@ -75,26 +74,26 @@ module _ {places : List Place} {going : List Machine} (laid : Laid places going)
       ];
     }
 
-    pub wakes_runs : runs_in (slice_set places place (Goes (length going))) (going ++ it ∷ [])
-        ≡ slice_set (runs_in places going) place (on_its_way it)
-    wakes_runs = map_but places (slice_set places place (Goes (length going))) (run_at going)
-        (run_at (going ++ it ∷ [])) place (on_its_way it)
+    pub wakes_runs : states_in (slice_set places place (Goes (length going))) (going ++ it ∷ [])
+        ≡ slice_set (states_in places going) place (On it.state)
+    wakes_runs = map_but places (slice_set places place (Goes (length going))) (state_at going)
+        (state_at (going ++ it ∷ [])) place (On it.state)
         (length-set places place (Goes (length going)))
         (λ p at.
         let is : Goes (length going) ≡ p = same_Some (Goes (length going)) p
         (sym (get-set_same places place (Waits job) (Goes (length going)) waits_there) ∙ at) in
-        ap (run_at (going ++ it ∷ [])) (sym is) ∙ ap found_run (get-past going it))
+        ap (state_at (going ++ it ∷ [])) (sym is) ∙ ap found_state (get-past going it))
         (λ j p q other at now.
         let is : p ≡ q = same_Some p q
         (sym at ∙ sym (get-set_other places place j (Goes (length going)) other) ∙ now) in
-        ap (run_at (going ++ it ∷ [])) (sym is) ∙ kept j p at)
+        ap (state_at (going ++ it ∷ [])) (sym is) ∙ kept j p at)
       where
-        kept : (j : ℕ) (p : Place) → slice_get places j ≡ Some p → run_at (going ++ it ∷ []) p ≡ run_at going p
+        kept : (j : ℕ) (p : Place) → slice_get places j ≡ Some p → state_at (going ++ it ∷ []) p ≡ state_at going p
         kept j (Waits other) at = refl
         kept j (Ends over) at = refl
         kept j (Goes index) at =
             let was = laid.there j index at in
-            ap found_run (get-before going it was.0 index was.1 ∙ sym was.1)
+            ap found_state (get-before going it was.0 index was.1 ∙ sym was.1)
 
   -- A machine goes on.
   module _ (place index : ℕ) (own : slice_get places place ≡ Some (Goes index)) (it it' : Machine)
@@ -123,20 +122,20 @@ module _ {places : List Place} {going : List Machine} (laid : Laid places going)
       ];
     }
 
-    pub on_runs : runs_in places (slice_set going index it')
-        ≡ slice_set (runs_in places going) place (on_its_way it')
-    on_runs = map_but places places (run_at going) (run_at (slice_set going index it')) place
-        (on_its_way it') refl
-        (λ p at. ap (run_at (slice_set going index it')) (same_Some p (Goes index) (sym at ∙ own))
-        ∙ ap found_run (get-set_same going index it it' at_index))
+    pub on_runs : states_in places (slice_set going index it')
+        ≡ slice_set (states_in places going) place (On it'.state)
+    on_runs = map_but places places (state_at going) (state_at (slice_set going index it')) place
+        (On it'.state) refl
+        (λ p at. ap (state_at (slice_set going index it')) (same_Some p (Goes index) (sym at ∙ own))
+        ∙ ap found_state (get-set_same going index it it' at_index))
         (λ j p q other at now.
-        ap (run_at (slice_set going index it')) (same_Some q p (sym now ∙ at)) ∙ same j p other at)
+        ap (state_at (slice_set going index it')) (same_Some q p (sym now ∙ at)) ∙ same j p other at)
       where
         same : (j : ℕ) (p : Place) → j ≢ place → slice_get places j ≡ Some p →
-            run_at (slice_set going index it') p ≡ run_at going p
+            state_at (slice_set going index it') p ≡ state_at going p
         same j (Waits job) other at = refl
         same j (Ends done) other at = refl
-        same j (Goes s) other at = ap found_run (get-set_other going index s it'
+        same j (Goes s) other at = ap found_state (get-set_other going index s it'
             (λ e. other (apart place j index own (at ∙ ap (λ (n : ℕ). Some (Goes n)) e))))
 
     pub on_goes : AllGo going → GoElsewhere index (slice_set going index it')
@@ -144,14 +143,12 @@ module _ {places : List Place} {going : List Machine} (laid : Laid places going)
 
 -- Where a job is.
 
-pub runs_at : (places : List Place) (going : List Machine) (j : ℕ) (p : Place) → slice_get places j ≡ Some p →
-    slice_get (runs_in places going) j ≡ Some (run_at going p)
-runs_at places going j p at = slice_get-map (run_at going) places j ∙ ap (option_map (run_at going)) at
+pub states_at : (places : List Place) (going : List Machine) (j : ℕ) (p : Place) → slice_get places j ≡ Some p →
+    slice_get (states_in places going) j ≡ Some (state_at going p)
+states_at places going j p at = slice_get-map (state_at going) places j ∙ ap (option_map (state_at going)) at
 
-pub stays_same : (run : Running) → Stays run run
-stays_same run = record {
-  start = refl;
-  seat = refl;
+pub stays_same : (state : State) → Stays state state
+stays_same state = record {
   left = λ plan seat. refl;
   finished = refl;
   lost = refl;
@@ -165,26 +162,26 @@ pub wakes_none : {places : List Place} {going : List Machine} → Laid places go
     slice_get places j ≡ Some (Goes index) → Wakes places going j places going index
 wakes_none {places} {going} laid j index own =
     let it = laid.there j index own in
-    let at : slice_get (runs_in places going) j ≡ Some (on_its_way it.0) =
-    runs_at places going j (Goes index) own ∙ ap (λ (o : Option Machine). Some (found_run o)) it.1 in
+    let at : slice_get (states_in places going) j ≡ Some (On it.0.state) =
+    states_at places going j (Goes index) own ∙ ap (λ (o : Option Machine). Some (found_state o)) it.1 in
     record {
-      run = on_its_way it.0;
+      state = On it.0.state;
       it = it.0;
       was = at;
       there = it.1;
       own = it.2;
-      stays = stays_same (on_its_way it.0);
-      runs = set-same (runs_in places going) j (on_its_way it.0) at;
+      stays = stays_same (On it.0.state);
+      runs = set-same (states_in places going) j (On it.0.state) at;
     }
 
 -- one that waited
 pub wakes_one : {places : List Place} {going : List Machine} → Laid places going → (j : ℕ) (job : Job) (it : Machine) →
-    slice_get places j ≡ Some (Waits job) → it.place ≡ j → Stays (waiting job) (on_its_way it) →
+    slice_get places j ≡ Some (Waits job) → it.place ≡ j → Stays (Awaits (asked_of job)) (On it.state) →
     Wakes places going j (slice_set places j (Goes (length going))) (going ++ it ∷ []) (length going)
 wakes_one {places} {going} laid j job it waits_there own stays = record {
-  run = waiting job;
+  state = Awaits (asked_of job);
   it = it;
-  was = runs_at places going j (Waits job) waits_there;
+  was = states_at places going j (Waits job) waits_there;
   there = get-past going it;
   own = own;
   stays = stays;
@@ -197,9 +194,9 @@ some_wait places j job at = let sums = still-set places j (Waits job) (Goes 0) a
 -- one that has ended
 pub has_ended : (places : List Place) (going : List Machine) (j : ℕ) (over : Over) →
     slice_get places j ≡ Some (Ends over) →
-    ((run : Running) → slice_get (runs_in places going) j ≡ Some run → is_finished run.state ≡ false) → ⊥
+    ((state : State) → slice_get (states_in places going) j ≡ Some state → is_finished state ≡ false) → ⊥
 has_ended places going j over at not =
-    let no = not (run_at going (Ends over)) (runs_at places going j (Ends over) at) in absurd (cc)
+    let no = not (state_at going (Ends over)) (states_at places going j (Ends over) at) in absurd (cc)
 
 -- and what all of them are with one more on its way
 pub all_go_on : (going : List Machine) (it : Machine) → AllGo going → is_job_over it.state ≡ false →
@@ -219,11 +216,11 @@ settles_none {places} {going} laid j index own =
     let it = laid.there j index own in
     record {
       it = it.0;
-      run = on_its_way it.0;
+      state = On it.0.state;
       was = it.1;
-      stays = stays_same (on_its_way it.0);
-      runs = set-same (runs_in places going) j (on_its_way it.0)
-          (runs_at places going j (Goes index) own ∙ ap (λ (o : Option Machine). Some (found_run o)) it.1);
+      stays = stays_same (On it.0.state);
+      runs = set-same (states_in places going) j (On it.0.state)
+          (states_at places going j (Goes index) own ∙ ap (λ (o : Option Machine). Some (found_state o)) it.1);
     }
 
 pub all_go_still : (going : List Machine) (index : ℕ) (it : Machine) → slice_get going index ≡ Some it →
@@ -237,13 +234,13 @@ all_go_still going index it at this goes s one there = elim (cases_eq s index) [
 
 -- The job of one place was given its machine, where it had none; the machine went on; and it was put away, where it
 -- had finished.
-pub record Through (running : List Running) (j : ℕ) (seen went : Machine) (running' : List Running) : Type 0 where
-  pub run : Running
-  pub run' : Running
-  pub was : slice_get running j ≡ Some run
-  pub before : Stays run (on_its_way seen)
-  pub after : Stays (on_its_way went) run'
-  pub runs : running' ≡ slice_set running j run'
+pub record Through (states : List State) (j : ℕ) (seen went : Machine) (states' : List State) : Type 0 where
+  pub state : State
+  pub state' : State
+  pub was : slice_get states j ≡ Some state
+  pub before : Stays state (On seen.state)
+  pub after : Stays (On went.state) state'
+  pub runs : states' ≡ slice_set states j state'
 
 -- the machine that was read is that of the place
 pub seen_there : {places places1 : List Place} {going going1 : List Machine} {j index : ℕ} (seen : Machine)
@@ -267,79 +264,48 @@ module _ {places places1 : List Place} {going going1 : List Machine} {j index ro
 
   pub went_through : {places2 : List Place} {going2 : List Machine} →
       Settles places1 (slice_set going1 index went) j index places2 going2 →
-      Through (runs_in places going) j seen went (runs_in places2 going2)
+      Through (states_in places going) j seen went (states_in places2 going2)
   went_through settles =
       let it : seen ≡ wakes.it = seen_there seen wakes read in
       let is : settles.it ≡ went = same_Some settles.it went
       (sym settles.was ∙ get-set_same going1 index wakes.it went wakes.there) in
       let runs = on_runs kept.laid j index own wakes.it went wakes.there its_own in
       record {
-        run = wakes.run;
-        run' = settles.run;
+        state = wakes.state;
+        state' = settles.state;
         was = wakes.was;
-        before = subst (λ (g : Machine). Stays wakes.run (on_its_way g)) (sym it) wakes.stays;
-        after = subst (λ (g : Machine). Stays (on_its_way g) settles.run) is settles.stays;
+        before = subst (λ (g : Machine). Stays wakes.state (On g.state)) (sym it) wakes.stays;
+        after = subst (λ (g : Machine). Stays (On g.state) settles.state) is settles.stays;
         runs = settles.runs
-            ∙ ap (λ (l : List Running). slice_set l j settles.run) (runs
-            ∙ ap (λ (l : List Running). slice_set l j (on_its_way went)) wakes.runs)
-            ∙ ap (λ (l : List Running). slice_set l j settles.run)
-            (set-set (runs_in places going) j (on_its_way wakes.it) (on_its_way went))
-            ∙ set-set (runs_in places going) j (on_its_way went) settles.run;
+            ∙ ap (λ (l : List State). slice_set l j settles.state) (runs
+            ∙ ap (λ (l : List State). slice_set l j (On went.state)) wakes.runs)
+            ∙ ap (λ (l : List State). slice_set l j settles.state)
+            (set-set (states_in places going) j (On wakes.it.state) (On went.state))
+            ∙ set-set (states_in places going) j (On went.state) settles.state;
       }
 
 -- a machine that was seen goes on where its job has not finished
-pub waked_goes : (run : Running) (it seen : Machine) (plan : Plan) → seen ≡ it → Stays run (on_its_way it) →
-    (is_finished run.state ≡ false) × (is_end (owes plan run.start run.state) ≡ false) →
-    (is_job_over seen.state ≡ false)
-    × (is_end (job_owes plan seen.start seen.state) ≡ false)
-waked_goes run it seen plan is stays goes =
+pub waked_goes : (state : State) (it seen : Machine) (plan : Plan) (start : HostSeat) → seen ≡ it →
+    Stays state (On it.state) → (is_finished state ≡ false) × (is_end (owes plan start state) ≡ false) →
+    (is_job_over seen.state ≡ false) × (is_end (job_owes plan start seen.state) ≡ false)
+waked_goes state it seen plan start is stays goes =
     let same : (g : Machine) → g ≡ it → (is_job_over g.state ≡ false)
-    × (is_end (job_owes plan g.start g.state) ≡ false) = λ g e. (
+    × (is_end (job_owes plan start g.state) ≡ false) = λ g e. (
       ap (λ (x : Machine). is_job_over x.state) e ∙ stays.finished ∙ goes.0,
-      ap (λ (x : Machine). is_end (job_owes plan x.start x.state)) e
-          ∙ ap is_end (stays.left plan it.start
-          ∙ ap (λ (s : HostSeat). owes plan s run.state) stays.start) ∙ goes.1,
+      ap (λ (x : Machine). is_end (job_owes plan start x.state)) e ∙ ap is_end (stays.left plan start) ∙ goes.1,
     ) in
     same seen is
 
 -- where no machine has finished, who has finished needs none
-pub ended_place : (going : List Machine) → AllGo going → (p : Place) → is_finished (run_at going p).state ≡ true →
+pub ended_place : (going : List Machine) → AllGo going → (p : Place) → is_finished (state_at going p) ≡ true →
     (over : Over) × (p ≡ Ends over)
 ended_place going goes (Waits job) ends = absurd (cc)
 ended_place going goes (Ends over) ends = (over, refl)
 ended_place going goes (Goes index) ends = absurd (no (slice_get going index) refl ends)
   where
-    no : (found : Option Machine) → slice_get going index ≡ found → is_finished (found_run found).state ≡ true → ⊥
+    no : (found : Option Machine) → slice_get going index ≡ found → is_finished (found_state found) ≡ true → ⊥
     no None at end = cc
     no (Some it) at end = let on = goes index it at in cc
-
--- Where all have ended.
-
-pub each_told : (places : List Place) (going : List Machine) → AllEnded places →
-    EachAnswered (runs_in places going) (map answer_at places)
-each_told [] going ended = tt
-each_told (p ∷ places) going ended = (
-  told p (ended 0 p refl),
-  each_told places going (λ j it at. ended (suc j) it at),
-)
-  where
-    told : (p : Place) → (over : Over) × (p ≡ Ends over) → EndsAs (run_at going p) (answer_at p)
-    told (Waits job) is = let no = is.1 in absurd (cc)
-    told (Goes index) is = let no = is.1 in absurd (cc)
-    told (Ends over) is = (over.last, (λ plan. refl), refl)
-
-pub each_left : (places : List Place) (going : List Machine) → AllEnded places →
-    map seat_at places ≡ map run_seat (runs_in places going)
-each_left [] going ended = refl
-each_left (p ∷ places) going ended =
-    ap (λ (seat : Option HostSeat). seat ∷ map seat_at places) (left p (ended 0 p refl))
-    ∙ ap (λ (l : List (Option HostSeat)). run_seat (run_at going p) ∷ l)
-    (each_left places going (λ j it at. ended (suc j) it at))
-  where
-    left : (p : Place) → (over : Over) × (p ≡ Ends over) → seat_at p ≡ run_seat (run_at going p)
-    left (Waits job) is = let no = is.1 in absurd (cc)
-    left (Goes index) is = let no = is.1 in absurd (cc)
-    left (Ends over) is = refl
 
 -- jobs that have made no step
 pub laid_waiting : (jobs : List Job) → Laid (map Waits jobs) []
@@ -353,7 +319,3 @@ laid_waiting jobs = record { there = λ j index at. absurd (no jobs j index at);
 pub all_still : (jobs : List Job) → still (map Waits jobs) ≡ length jobs
 all_still [] = refl
 all_still (job ∷ jobs) = let rest = all_still jobs in omega (arith, rest)
-
-pub runs_waiting : (jobs : List Job) (going : List Machine) → runs_in (map Waits jobs) going ≡ map waiting jobs
-runs_waiting [] going = refl
-runs_waiting (job ∷ jobs) going = ap (λ (l : List Running). waiting job ∷ l) (runs_waiting jobs going)

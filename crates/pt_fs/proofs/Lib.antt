@@ -1,6 +1,7 @@
 pub mod Lists
 pub mod Placing
 pub mod Laying
+pub mod Runs
 pub mod Stages
 pub mod Away
 pub mod Traces

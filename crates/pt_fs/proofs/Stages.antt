@@ -1,7 +1,6 @@
 -- What the stage of a job tells of it.
 use Rattle.std.proofs.Common.{◌≡◌, ◌<◌, ◌∙◌, ◌⊎◌, inl, inr, ℕ, List, Option, Some, false, refl, ap, sym, subst}
-use Rattle.std.proofs.Common.{length, get_or, slice_get, arith}
-use Rattle.std.proofs.lemmas.List.{length-map}
+use Rattle.std.proofs.Common.{length, get_or, slice_get}
 use Rattle.std.proofs.lemmas.Option.{same_Some, slice_get_within, get_or_from_slice_get}
 use Rattle.pt_host.specs.declared.ids.Errno.{Errno}
 use Rattle.pt_host.specs.declared.seat.HostSeat.{HostSeat}
@@ -10,16 +9,17 @@ use Rattle.pt_frame.specs.Grammar.{IsSettled, is_end, restores}
 use Rattle.pt_attr.specs.Pattern.{Asked, Requests, Edits, grammar_for}
 use Rattle.pt_req.specs.declared.plan.Plan.{Plan}
 use Rattle.pt_fs.specs.Jobs.{asked_of}
-use Rattle.pt_fs.specs.Laid.{Kept, waiting, on_its_way, found_run, run_at, runs_in}
-use Rattle.pt_fs.specs.Placed.{Place, Waits, Goes, Ended as Ends, stage_of}
-use Rattle.pt_fs.specs.Running.{Running, owes}
+use Rattle.pt_fs.specs.Laid.{Lies, found_state, runs_in, state_at}
+use Rattle.pt_fs.specs.Placed.{Place, Placed, Waits, Goes, Ended as Ends, stage_of}
+use Rattle.pt_fs.specs.Running.{Running, State, Waits as Awaits, Goes as On, owes}
 use Rattle.pt_fs.specs.declared.job.Job.{Job}
 use Rattle.pt_fs.specs.declared.machine.Machine.{Machine}
 use Rattle.pt_fs.specs.declared.machine.Over.{Over}
 use Rattle.pt_fs.specs.declared.places.Stage.{Stage}
 use Rattle.pt_fs.specs.declared.places.Stage.TheVariants as stage
 use Rattle.pt_fs.proofs.Lists.{got}
-use Rattle.pt_fs.proofs.Laying.{runs_at}
+use Rattle.pt_fs.proofs.Laying.{states_at}
+use Rattle.pt_fs.proofs.Runs.{parts, within_places}
 
 -- The place of a job whose stage this is.
 
@@ -85,8 +85,8 @@ waits_settled plan seat (Edits edit) = tt
 -- a job that waits or has ended restores nothing
 pub rests : (going : List Machine) (p : Place) (at : Stage) → at ≡ stage_of p →
     ((at ≡ stage.Waits) ⊎ ((by : Option Errno) × (lost : Option Errno) × (at ≡ stage.Ended by lost))) → (plan : Plan)
-    (seat : HostSeat) → (false ≡ restores (owes plan seat (run_at going p).state))
-    × IsSettled (owes plan seat (run_at going p).state)
+    (seat : HostSeat) → (false ≡ restores (owes plan seat (state_at going p)))
+    × IsSettled (owes plan seat (state_at going p))
 rests going (Waits job) at is not plan seat = (
   waits_bare plan seat (asked_of job),
   waits_settled plan seat (asked_of job),
@@ -97,53 +97,51 @@ rests going (Goes index) at is (inr ended) plan seat = let no = sym is ∙ ended
 
 -- And the job of that place.
 
-module _ {places : List Place} {going : List Machine} {room : ℕ} (kept : Kept places going room) {jobs : List Running}
-    (view : runs_in places going ≡ jobs) (j : ℕ) (named : j < length jobs) {at : Stage}
-    (told : (it : Place) → slice_get places j ≡ Some it → at ≡ stage_of it) where
-  inside : j < length places
-  inside =
-      let long = length-map places (run_at going) in
-      let seen = ap length view in
-      omega (arith, long, seen, named)
+module _ {places : Placed} {seats : List (Option HostSeat)} {going : List Machine} {room : ℕ}
+    (lies : Lies places seats going room) {running : List Running} (view : runs_in places seats going ≡ running) (j : ℕ)
+    (named : j < length running) {at : Stage}
+    (told : (it : Place) → slice_get places.at j ≡ Some it → at ≡ stage_of it) where
+  inside : j < length places.at
+  inside = within_places lies view j named
 
   -- it is what the place says
-  is_there : (p : Place) (run : Running) → slice_get places j ≡ Some p → slice_get jobs j ≡ Some run →
-      run_at going p ≡ run
-  is_there p run at_j there = same_Some (run_at going p) run
-      (sym (runs_at places going j p at_j) ∙ ap (λ (l : List Running). slice_get l j) view ∙ there)
+  is_there : (p : Place) (run : Running) → slice_get places.at j ≡ Some p → slice_get running j ≡ Some run →
+      state_at going p ≡ run.state
+  is_there p run at_j there = same_Some (state_at going p) run.state
+      (sym (states_at places.at going j p at_j) ∙ (parts lies view j run there).state)
 
-  pub waiting_there : at ≡ stage.Waits → (run : Running) → slice_get jobs j ≡ Some run →
-      (job : Job) × (waiting job ≡ run)
+  pub waiting_there : at ≡ stage.Waits → (run : Running) → slice_get running j ≡ Some run →
+      (job : Job) × (Awaits (asked_of job) ≡ run.state)
   waiting_there is run there =
-      let p = waits_at places j inside told is in
+      let p = waits_at places.at j inside told is in
       (p.0, is_there (Waits p.0) run p.1 there)
 
   pub goes_within : (index : ℕ) → at ≡ stage.Goes index → index < length going
   goes_within index is =
-      let it = kept.laid.there j index (goes_at places j inside told index is) in
+      let it = lies.kept.laid.there j index (goes_at places.at j inside told index is) in
       slice_get_within going index it.0 it.1
 
   -- and that of the machine that was read
   pub machine_there : (index : ℕ) → at ≡ stage.Goes index → (seen : Machine) → seen ≡ get_or going index seen →
-      (run : Running) → slice_get jobs j ≡ Some run → on_its_way seen ≡ run
+      (run : Running) → slice_get running j ≡ Some run → On seen.state ≡ run.state
   machine_there index is seen read run there =
-      let p = goes_at places j inside told index is in
-      let it = kept.laid.there j index p in
-      ap on_its_way (read ∙ get_or_from_slice_get going index it.0 seen it.1)
-      ∙ ap found_run (sym it.1) ∙ is_there (Goes index) run p there
+      let p = goes_at places.at j inside told index is in
+      let it = lies.kept.laid.there j index p in
+      ap (λ (g : Machine). On g.state) (read ∙ get_or_from_slice_get going index it.0 seen it.1)
+      ∙ ap found_state (sym it.1) ∙ is_there (Goes index) run p there
 
   pub ended_there : (by lost : Option Errno) → at ≡ stage.Ended by lost → (run : Running) →
-      slice_get jobs j ≡ Some run → (over : Over) × (run_at going (Ends over) ≡ run)
+      slice_get running j ≡ Some run → (over : Over) × (state_at going (Ends over) ≡ run.state)
   ended_there by lost is run there =
-      let p = ended_at places j inside told by lost is in
+      let p = ended_at places.at j inside told by lost is in
       (p.0, is_there (Ends p.0) run p.1 there)
 
   -- where it is not on its way, it restores nothing
   pub rests_there :
       ((at ≡ stage.Waits) ⊎ ((by : Option Errno) × (lost : Option Errno) × (at ≡ stage.Ended by lost))) →
-      (run : Running) → slice_get jobs j ≡ Some run → (plan : Plan) (seat : HostSeat) →
+      (run : Running) → slice_get running j ≡ Some run → (plan : Plan) (seat : HostSeat) →
       (false ≡ restores (owes plan seat run.state)) × IsSettled (owes plan seat run.state)
   rests_there not run there plan seat =
-      let p = got places j inside in
-      subst (λ (r : Running). (false ≡ restores (owes plan seat r.state)) × IsSettled (owes plan seat r.state))
+      let p = got places.at j inside in
+      subst (λ (s : State). (false ≡ restores (owes plan seat s)) × IsSettled (owes plan seat s))
       (is_there p.0 run p.1 there) (rests going p.0 at (told p.0 p.1) not plan seat)

@@ -6,38 +6,42 @@ use Rattle.pt_iface.specs.declared.request.Request.TheVariants as request
 use Rattle.pt_attr.specs.Machine.Job.{is_finished as is_job_over}
 use Rattle.pt_attr.specs.Pattern.{Requests}
 use Rattle.pt_req.specs.declared.plan.Plan.{Plan}
-use Rattle.pt_fs.specs.Jobs.{job_seat, job_start, asked_of, daemon, no_seat}
-use Rattle.pt_fs.specs.Running.{Waits, Goes, Ended, Running, owes, steps_left, steps_bound, inserts_left}
+use Rattle.pt_fs.specs.Jobs.{job_seat, job_start, asked_of, daemon}
+use Rattle.pt_fs.specs.Running.{Waits, Goes, Ended, State, Running, owes, steps_left, steps_bound, inserts_left}
 use Rattle.pt_fs.specs.Running.{is_finished, lost_of}
 use Rattle.pt_fs.specs.declared.job.Job.{Job}
 use Rattle.pt_fs.specs.declared.machine.Machine.{Machine}
-use Rattle.pt_fs.specs.Placed.{Place, Waits as Awaits, Goes as Runs, Ended as Ends}
+use Rattle.pt_fs.specs.Placed.{Place, Placed, Waits as Awaits, Goes as Runs, Ended as Ends}
 
 -- a job before its first step
 abbrev pub waiting : Job → Running
 waiting job = record { start = job_start job; seat = job_seat job; state = Waits (asked_of job) }
 
--- a job whose machine this is
-abbrev pub on_its_way : Machine → Running
-on_its_way machine = record { start = machine.start; seat = machine.seat; state = Goes machine.state }
-
 -- no place leads here
-abbrev pub nowhere : Running
-nowhere = record { start = no_seat; seat = None; state = Waits (Requests daemon request.Root) }
+abbrev pub nowhere : State
+nowhere = Waits (Requests daemon request.Root)
 
-abbrev pub found_run : Option Machine → Running
-found_run None = nowhere
-found_run (Some it) = on_its_way it
+abbrev pub found_state : Option Machine → State
+found_state None = nowhere
+found_state (Some it) = Goes it.state
 
-abbrev pub run_at : List Machine → Place → Running
-run_at going (Awaits job) = waiting job
-run_at going (Runs index) = found_run (slice_get going index)
-run_at going (Ends over) =
-    record { start = over.start; seat = over.seat; state = Ended over.last over.lost }
+abbrev pub state_at : List Machine → Place → State
+state_at going (Awaits job) = Waits (asked_of job)
+state_at going (Runs index) = found_state (slice_get going index)
+state_at going (Ends over) = Ended over.last over.lost
 
--- the jobs in order
-abbrev pub runs_in : List Place → List Machine → List Running
-runs_in places going = map (run_at going) places
+-- where the jobs are, in order
+abbrev pub states_in : List Place → List Machine → List State
+states_in places going = map (state_at going) places
+
+-- the jobs from the seats with which they began, their seats as their steps left them, and where they are
+abbrev pub runs_of : List HostSeat → List (Option HostSeat) → List State → List Running
+runs_of (start ∷ starts) (seat ∷ seats) (state ∷ states) =
+    record { start = start; seat = seat; state = state } ∷ runs_of starts seats states
+runs_of starts seats states = []
+
+abbrev pub runs_in : Placed → List (Option HostSeat) → List Machine → List Running
+runs_in places seats going = runs_of places.starts seats (states_in places.at going)
 
 -- how many have made no step
 abbrev pub waits : Place → ℕ
@@ -72,33 +76,37 @@ pub record Kept (places : List Place) (going : List Machine) (room : ℕ) : Type
   pub all_go : AllGo going
   pub fit : still places + length going ≤ room
 
+-- and each has its seats
+pub record Lies (places : Placed) (seats : List (Option HostSeat)) (going : List Machine) (room : ℕ) : Type 0 where
+  pub kept : Kept places.at going room
+  pub each_start : length places.starts ≡ length places.at
+  pub each_seat : length seats ≡ length places.at
+
 -- the job is where it was, whatever way that is kept
-pub record Stays (run run' : Running) : Type 0 where
-  pub start : run'.start ≡ run.start
-  pub seat : run'.seat ≡ run.seat
-  pub left : (plan : Plan) (seat : HostSeat) → owes plan seat run'.state ≡ owes plan seat run.state
-  pub finished : is_finished run'.state ≡ is_finished run.state
-  pub lost : lost_of run'.state ≡ lost_of run.state
-  pub fewer : steps_left run'.state ≤ steps_left run.state
-  pub bound : steps_bound run'.state ≤ steps_bound run.state
-  pub inserts : inserts_left run'.state ≤ inserts_left run.state
+pub record Stays (state state' : State) : Type 0 where
+  pub left : (plan : Plan) (seat : HostSeat) → owes plan seat state' ≡ owes plan seat state
+  pub finished : is_finished state' ≡ is_finished state
+  pub lost : lost_of state' ≡ lost_of state
+  pub fewer : steps_left state' ≤ steps_left state
+  pub bound : steps_bound state' ≤ steps_bound state
+  pub inserts : inserts_left state' ≤ inserts_left state
 
 -- the job of this place has this machine now, and the others are where they were
 pub record Wakes (places : List Place) (going : List Machine) (j : ℕ) (places' : List Place) (going' : List Machine)
     (index : ℕ) : Type 0 where
-  pub run : Running
+  pub state : State
   pub it : Machine
-  pub was : slice_get (runs_in places going) j ≡ Some run
+  pub was : slice_get (states_in places going) j ≡ Some state
   pub there : slice_get going' index ≡ Some it
   pub own : it.place ≡ j
-  pub stays : Stays run (on_its_way it)
-  pub runs : runs_in places' going' ≡ slice_set (runs_in places going) j (on_its_way it)
+  pub stays : Stays state (Goes it.state)
+  pub runs : states_in places' going' ≡ slice_set (states_in places going) j (Goes it.state)
 
 -- the job of this place needs no machine where it has finished, and the others are where they were
 pub record Settles (places : List Place) (going : List Machine) (j index : ℕ) (places' : List Place)
     (going' : List Machine) : Type 0 where
   pub it : Machine
-  pub run : Running
+  pub state : State
   pub was : slice_get going index ≡ Some it
-  pub stays : Stays (on_its_way it) run
-  pub runs : runs_in places' going' ≡ slice_set (runs_in places going) j run
+  pub stays : Stays (Goes it.state) state
+  pub runs : states_in places' going' ≡ slice_set (states_in places going) j state

@@ -7,8 +7,8 @@ use Rattle.pt_iface.specs.declared.answer.Answer.TheVariants as answer
 use Rattle.pt_frame.specs.declared.finish.Finish.{Finish}
 use Rattle.pt_frame.specs.declared.finish.Finish.TheVariants as finish
 use Rattle.pt_fs.specs.Each.{answer_of}
-use Rattle.pt_fs.specs.Jobs.{job_start}
 use Rattle.pt_fs.specs.declared.job.Job.{Job}
+use Rattle.pt_fs.specs.declared.job.Job.TheVariants as asked
 use Rattle.pt_fs.specs.declared.machine.Over.{Over}
 use Rattle.pt_fs.specs.declared.places.Stage.{Stage}
 use Rattle.pt_fs.specs.declared.places.Stage.TheVariants as stage
@@ -18,6 +18,11 @@ pub data Place : Type 0 where
   Waits : Job → Place
   Goes : ℕ → Place
   Ended : Over → Place
+
+-- the seats with which the jobs began, and where each is
+pub record Placed : Type 0 where
+  pub starts : List HostSeat
+  pub at : List Place
 
 -- the error by which a job ended that lost its seat
 abbrev pub lost_in : Finish → Option Errno
@@ -35,17 +40,15 @@ stage_of (Goes index) = stage.Goes index
 stage_of (Ended over) = stage.Ended (lost_in over.last) over.lost
 
 -- a place from its parts
-abbrev pub place_of : Job → Stage → Answer → Option HostSeat → Place
-place_of job stage.Waits told seat = Waits job
-place_of job (stage.Goes index) told seat = Goes index
-place_of job (stage.Ended last lost) told seat =
-    Ended (record { start = job_start job; seat = seat; last = last_of last told; lost = lost })
+abbrev pub place_of : Job → Stage → Answer → Place
+place_of job stage.Waits told = Waits job
+place_of job (stage.Goes index) told = Goes index
+place_of job (stage.Ended last lost) told = Ended (record { last = last_of last told; lost = lost })
 
 -- the places in order, as many as there are all parts of
-abbrev pub places_in : List Job → List Stage → List Answer → List (Option HostSeat) → List Place
-places_in (job ∷ jobs) (stage ∷ stages) (told ∷ answers) (seat ∷ seats) =
-    place_of job stage told seat ∷ places_in jobs stages answers seats
-places_in jobs stages answers seats = []
+abbrev pub places_in : List Job → List Stage → List Answer → List Place
+places_in (job ∷ jobs) (stage ∷ stages) (told ∷ answers) = place_of job stage told ∷ places_in jobs stages answers
+places_in jobs stages answers = []
 
 -- who ended by the loss of its seat is answered that it was cut
 abbrev pub CutWhereLost : List Stage → List Answer → Type 0
@@ -53,24 +56,24 @@ CutWhereLost stages answers =
     (j : ℕ) (errno : Errno) (lost : Option Errno) → slice_get stages j ≡ Some (stage.Ended (Some errno) lost) →
     slice_get answers j ≡ Some answer.Cut
 
+-- of a job on its way no more is kept than its seat
+abbrev pub BareWhereGoing : List Job → List Stage → Type 0
+BareWhereGoing jobs stages =
+    (j index : ℕ) → slice_get stages j ≡ Some (stage.Goes index) →
+    (seat : HostSeat) × (slice_get jobs j ≡ Some (asked.OpenRoot seat))
+
 -- each part of a place lies among its like, and there is one for each job
-pub record InParts (jobs : List Job) (stages : List Stage) (answers : List Answer) (seats : List (Option HostSeat))
-    : Type 0 where
+pub record InParts (jobs : List Job) (stages : List Stage) (answers : List Answer) : Type 0 where
   pub each_stage : length stages ≡ length jobs
   pub each_answer : length answers ≡ length jobs
-  pub each_seat : length seats ≡ length jobs
   pub cut : CutWhereLost stages answers
+  pub bare : BareWhereGoing jobs stages
 
--- the answer of a job that has ended, and its seat
+-- the answer of a job that has ended
 abbrev pub answer_at : Place → Answer
 answer_at (Waits job) = answer.Cut
 answer_at (Goes index) = answer.Cut
 answer_at (Ended over) = answer_of over.last
-
-abbrev pub seat_at : Place → Option HostSeat
-seat_at (Waits job) = None
-seat_at (Goes index) = None
-seat_at (Ended over) = over.seat
 
 abbrev pub AllEnded : List Place → Type 0
 AllEnded places = (j : ℕ) (it : Place) → slice_get places j ≡ Some it → (over : Over) × (it ≡ Ended over)

@@ -1,6 +1,7 @@
 -- Inner. One step of a machine.
-use Rattle.std.specs.Prelude.{◌≡◌, ◌≤◌, ◌<◌, ◌+◌, ◌*◌, ℕ}
+use Rattle.std.specs.Prelude.{◌≡◌, ◌≤◌, ◌<◌, ◌+◌, ◌*◌, ℕ, Option}
 use Rattle.pt_host.specs.Relation.{HostRelation}
+use Rattle.pt_host.specs.declared.seat.HostSeat.{HostSeat}
 use Rattle.pt_session.specs.Tables.{Tables}
 use Rattle.pt_frame.specs.Deed.{kept_deed_of}
 use Rattle.pt_frame.specs.Grammar.{restores}
@@ -12,28 +13,28 @@ use Rattle.pt_fs.specs.Trace.{MadeFrom, told_by}
 use Rattle.pt_fs.specs.declared.machine.Machine.{Machine}
 use Rattle.pt_fs.specs.declared.trace.TraceStep.{TraceStep}
 
--- the machine of this job made this step, and went on by it
+-- the machine of this job, which began with this seat, made this step, and went on by it
 pub record Stepped
     {H : Type 0}
     (does : HostRelation H)
     (plan : Plan)
+    (start : HostSeat)
     (job : ℕ)
     (host : H)
+    (seat : Option HostSeat)
     (was : Machine)
     (tables : Tables)
     (step : TraceStep)
     (host' : H)
+    (seat' : Option HostSeat)
     (is : Machine)
     (tables' : Tables)
     : Type 0 where
   pub owner : step.job ≡ job
   pub place : is.place ≡ was.place
-  pub start : is.start ≡ was.start
-  pub made : MadeFrom does (kept_deed_of step.act) step.reply host was.seat tables host' is.seat tables'
-  pub advances : Advances (owes plan was.start was.state) (kept_deed_of step.act) step.reply
-      (owes plan was.start is.state)
-  pub loses : lost_of is.state
-      ≡ lost_after (lost_of was.state) (restores (owes plan was.start was.state)) step.reply
+  pub made : MadeFrom does (kept_deed_of step.act) step.reply host seat tables host' seat' tables'
+  pub advances : Advances (owes plan start was.state) (kept_deed_of step.act) step.reply (owes plan start is.state)
+  pub loses : lost_of is.state ≡ lost_after (lost_of was.state) (restores (owes plan start was.state)) step.reply
   pub fewer : steps_left is.state < steps_left was.state
   pub within : steps_bound is.state + 1 ≤ steps_bound was.state + 3 * told_by (kept_deed_of step.act) step.reply
   pub inserts : inserts_left is.state + inserted_in (kept_deed_of step.act) step.reply ≤ inserts_left was.state

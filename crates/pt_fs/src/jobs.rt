@@ -1,5 +1,6 @@
 //! The jobs of a run, each in its place. One that has made no step is what it asks, and one that has ended is its
-//! answer; the machines of those on their way lie side by side, so that they take room only while they are needed.
+//! answer; the machines of those on their way lie side by side, so that they take room only while they are needed. The
+//! seats lie apart, as few steps look at one.
 
 ghost use Rattle.std.specs.Prelude.{◌≡◌, ◌+◌, ◌<◌, ◌≤◌, ◌^◌, ℕ, [], true, false, Some, length, map};
 ghost use Rattle.std.specs.Prelude.{IfOk, OnErr};
@@ -11,11 +12,11 @@ ghost use Rattle.pt_attr.specs.Machine.Job.{is_finished as is_job_over};
 ghost use Rattle.pt_req.specs.declared.plan.Plan.{Plan};
 ghost use Rattle.pt_fs.specs.Each.{EachAnswered};
 ghost use Rattle.pt_fs.specs.Jobs.{job_start};
-ghost use Rattle.pt_fs.specs.Laid.{GoElsewhere, Kept, Laid, Settles, Wakes, runs_in, still, waiting};
+ghost use Rattle.pt_fs.specs.Laid.{GoElsewhere, Kept, Laid, Settles, Wakes, states_in, still, waiting};
 ghost use Rattle.pt_fs.specs.Loses.{CutRun};
 ghost use Rattle.pt_fs.specs.Placed.{Goes, Waits};
 ghost use Rattle.pt_fs.specs.Recorded.{Wrote};
-ghost use Rattle.pt_fs.specs.Running.{Running, is_finished, inserts_left, owes};
+ghost use Rattle.pt_fs.specs.Running.{Running, State, is_finished, inserts_left, owes};
 ghost use Rattle.pt_fs.specs.Took.{Took, IsFinishedAt, IsUnfinished};
 ghost use Rattle.pt_fs.specs.Went.{run_seat};
 ghost use Rattle.pt_fs.specs.Work.{KeepsPace, work};
@@ -25,7 +26,7 @@ ghost use Rattle.pt_fs.specs.declared.machine.Machine.{Machine};
 use crate::fs::SteppedFs;
 use crate::job::Job;
 use crate::machine::{Machine, begun, ended};
-use crate::places::{Places, Stage};
+use crate::places::{Places, Stage, seats_of};
 use crate::record::Record;
 use crate::room::{push_within, with_room};
 use crate::step::advance;
@@ -38,29 +39,32 @@ use std::marker::Model;
 #[derive(Drop)]
 pub struct Jobs {
     places: Places,
+    /// The seat of each job as its steps left it. An edit has none.
+    seats: Vec<Option<HostSeat>>,
     going: Vec<Machine>,
 }
 
 impl Model for Jobs {
     ghost use Rattle.std.specs.Prelude.{List, vec_capacity};
-    ghost use Rattle.pt_fs.specs.Laid.{Kept, runs_in};
+    ghost use Rattle.pt_fs.specs.Laid.{Lies, runs_in};
     ghost use Rattle.pt_fs.specs.Running.{Running};
 
     ghost Value = { List Running };
 
-    ghost view = { λ jobs. runs_in jobs.places jobs.going.items };
+    ghost view = { λ jobs. runs_in jobs.places jobs.seats.items jobs.going.items };
 
-    ghost invariant = { λ jobs. Kept jobs.places jobs.going.items (vec_capacity jobs.going) };
+    ghost invariant = { λ jobs. Lies jobs.places jobs.seats.items jobs.going.items (vec_capacity jobs.going) };
 }
 
 /// Begins a job that waits: tells the index of its machine, for which there is room.
 fn begin(places: &mut Places, going: &mut Vec<Machine>, place: usize) -> usize
-    requires waits { (job : Job) × (slice_get places.old place ≡ Some (Waits job)) }
-    requires kept { Kept places.old going.old.items (vec_capacity going.old) }
-    ensures kept { Kept places.new going.new.items (vec_capacity going.new) }
-    ensures same { length places.new ≡ length places.old }
-    ensures index { slice_get places.new place ≡ Some (Goes result) }
-    ensures wakes { Wakes places.old going.old.items place places.new going.new.items result }
+    requires waits { (job : Job) × (slice_get places.old.at place ≡ Some (Waits job)) }
+    requires kept { Kept places.old.at going.old.items (vec_capacity going.old) }
+    ensures kept { Kept places.new.at going.new.items (vec_capacity going.new) }
+    ensures same { length places.new.at ≡ length places.old.at }
+    ensures starts { places.new.starts ≡ places.old.starts }
+    ensures index { slice_get places.new.at place ≡ Some (Goes result) }
+    ensures wakes { Wakes places.old.at going.old.items place places.new.at going.new.items result }
 {
     let index = going.len();
     push_within(going, begun(place, places.begin(place, index)));
@@ -69,14 +73,15 @@ fn begin(places: &mut Places, going: &mut Vec<Machine>, place: usize) -> usize
 
 /// Tells the index of the machine of a job that has not finished, which it is given where it waits.
 fn wake(places: &mut Places, going: &mut Vec<Machine>, place: usize) -> usize
-    requires named { place < length places.old }
-    requires kept { Kept places.old going.old.items (vec_capacity going.old) }
-    requires unfinished { (run : Running) → slice_get (runs_in places.old going.old.items) place ≡ Some run →
-        is_finished run.state ≡ false }
-    ensures kept { Kept places.new going.new.items (vec_capacity going.new) }
-    ensures same { length places.new ≡ length places.old }
-    ensures index { slice_get places.new place ≡ Some (Goes result) }
-    ensures wakes { Wakes places.old going.old.items place places.new going.new.items result }
+    requires named { place < length places.old.at }
+    requires kept { Kept places.old.at going.old.items (vec_capacity going.old) }
+    requires unfinished { (state : State) → slice_get (states_in places.old.at going.old.items) place ≡ Some state →
+        is_finished state ≡ false }
+    ensures kept { Kept places.new.at going.new.items (vec_capacity going.new) }
+    ensures same { length places.new.at ≡ length places.old.at }
+    ensures starts { places.new.starts ≡ places.old.starts }
+    ensures index { slice_get places.new.at place ≡ Some (Goes result) }
+    ensures wakes { Wakes places.old.at going.old.items place places.new.at going.new.items result }
 {
     match places.stage(place) {
         Stage::Waits => begin(places, going, place),
@@ -87,15 +92,16 @@ fn wake(places: &mut Places, going: &mut Vec<Machine>, place: usize) -> usize
 
 /// Puts a job that has finished where it needs no machine, and the last machine where its own was.
 fn put_away(places: &mut Places, going: &mut Vec<Machine>, place: usize, index: usize)
-    requires laid { Laid places.old going.old.items }
+    requires laid { Laid places.old.at going.old.items }
     requires ended { (it : Machine) → slice_get going.old.items index ≡ Some it →
         is_job_over it.state ≡ true }
     requires others_go { GoElsewhere index going.old.items }
-    requires room { still places.old + length going.old.items ≤ vec_capacity going.old }
-    requires index { slice_get places.old place ≡ Some (Goes index) }
-    ensures kept { Kept places.new going.new.items (vec_capacity going.new) }
-    ensures same { length places.new ≡ length places.old }
-    ensures settles { Settles places.old going.old.items place index places.new going.new.items }
+    requires room { still places.old.at + length going.old.items ≤ vec_capacity going.old }
+    requires index { slice_get places.old.at place ≡ Some (Goes index) }
+    ensures kept { Kept places.new.at going.new.items (vec_capacity going.new) }
+    ensures same { length places.new.at ≡ length places.old.at }
+    ensures starts { places.new.starts ≡ places.old.starts }
+    ensures settles { Settles places.old.at going.old.items place index places.new.at going.new.items }
 {
     let it = going.swap_remove(index);
     places.end(place, ended(it));
@@ -106,13 +112,14 @@ fn put_away(places: &mut Places, going: &mut Vec<Machine>, place: usize, index: 
 
 /// Puts a job away, if it has finished. That is apart, as each step comes here and few put a job away.
 fn settle(places: &mut Places, going: &mut Vec<Machine>, place: usize, index: usize)
-    requires laid { Laid places.old going.old.items }
+    requires laid { Laid places.old.at going.old.items }
     requires others_go { GoElsewhere index going.old.items }
-    requires room { still places.old + length going.old.items ≤ vec_capacity going.old }
-    requires index { slice_get places.old place ≡ Some (Goes index) }
-    ensures kept { Kept places.new going.new.items (vec_capacity going.new) }
-    ensures same { length places.new ≡ length places.old }
-    ensures settles { Settles places.old going.old.items place index places.new going.new.items }
+    requires room { still places.old.at + length going.old.items ≤ vec_capacity going.old }
+    requires index { slice_get places.old.at place ≡ Some (Goes index) }
+    ensures kept { Kept places.new.at going.new.items (vec_capacity going.new) }
+    ensures same { length places.new.at ≡ length places.old.at }
+    ensures starts { places.new.starts ≡ places.old.starts }
+    ensures settles { Settles places.old.at going.old.items place index places.new.at going.new.items }
 {
     if going[index].state.is_finished() {
         put_away(places, going, place, index);
@@ -127,8 +134,13 @@ impl Jobs {
             Each (λ (job : Job). (job_start job).eff_caps.0 < 2 ^ 32) jobs.items) }
     {
         let going = with_room(alloc, jobs.len())?;
+        let seats = seats_of(alloc, jobs.as_slice())?;
         let places = Places::new(alloc, jobs)?;
-        Ok(Jobs { places, going })
+        Ok(Jobs {
+            places,
+            seats,
+            going,
+        })
     }
 
     pub fn len(&self) -> usize
@@ -189,9 +201,10 @@ impl Jobs {
     {
         let Jobs {
             places,
+            seats,
             going: _going,
         } = self;
-        places.finish()
+        (places.finish(), seats)
     }
 }
 
@@ -216,8 +229,10 @@ pub fn take_step<H: Host, F: SteppedFs, R: Record>(
     ensures full { OnErr result (R.room writer.old < work running.old (F.tables fs.old)) }
 {
     let index = wake(&mut running.places, &mut running.going, place as usize);
+    let start = running.places.start(place as usize);
+    let seat = &mut running.seats[place as usize];
     let machine = &mut running.going[index];
-    let lost = advance(alloc, host, fs, machine, writer, place);
+    let lost = advance(alloc, host, fs, machine, start, seat, writer, place);
     settle(
         &mut running.places,
         &mut running.going,

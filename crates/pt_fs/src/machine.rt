@@ -1,11 +1,12 @@
-ghost use Rattle.std.specs.Prelude.{◌≡◌, true, None};
+ghost use Rattle.std.specs.Prelude.{◌≡◌, true};
 ghost use Rattle.pt_host.specs.declared.seat.HostSeat.{HostSeat};
 ghost use Rattle.pt_frame.specs.Grammar.{End};
 ghost use Rattle.pt_attr.specs.Machine.Job.{owes, is_finished, lost_of};
 ghost use Rattle.pt_req.specs.declared.plan.Plan.{Plan};
-ghost use Rattle.pt_fs.specs.Jobs.{no_seat};
-ghost use Rattle.pt_fs.specs.Laid.{waiting, on_its_way, Stays};
-ghost use Rattle.pt_fs.specs.declared.job.Job.TheVariants as job;
+ghost use Rattle.pt_attr.specs.Pattern.{Requests};
+ghost use Rattle.pt_fs.specs.Jobs.{asked_of, no_seat};
+ghost use Rattle.pt_fs.specs.Laid.{Stays};
+ghost use Rattle.pt_fs.specs.Running.{Goes, Waits};
 
 use crate::job::Job;
 use pt_attr::AnyJob;
@@ -18,18 +19,12 @@ use pt_iface::{Context, Request};
 pub struct Machine {
     /// The job's number.
     pub place: usize,
-    /// The seat with which the job began.
-    pub start: HostSeat,
-    /// The seat as the job's steps left it. An edit has none.
-    pub seat: Option<HostSeat>,
     pub state: AnyJob,
 }
 
 /// A job that has ended.
 #[derive(Drop)]
 pub struct Over {
-    pub start: HostSeat,
-    pub seat: Option<HostSeat>,
     pub last: Finish,
     /// What was lost of its seat, also where the job was cut.
     pub lost: Option<Errno>,
@@ -54,59 +49,40 @@ pub fn no_seat() -> HostSeat
 }
 
 /// The machine of a request that has made no step.
-fn begun_request(place: usize, who: Context, seat: HostSeat, request: Request) -> Machine
+fn begun_request(place: usize, who: Context, request: Request) -> Machine
     ensures place { result.place ≡ place }
-    ensures stays { Stays (waiting (job.Request who seat request)) (on_its_way result) }
+    ensures stays { Stays (Waits (Requests who request)) (Goes result.state) }
 {
-    Machine {
-        place,
-        start: seat.copy(),
-        seat: Some(seat),
-        state: AnyJob::begin(who, request),
-    }
+    let state = AnyJob::begin(who, request);
+    Machine { place, state }
 }
 
 /// The machine of a job that has made no step. The root is opened by the daemon itself.
 pub fn begun(place: usize, job: Job) -> Machine
     ensures place { result.place ≡ place }
-    ensures stays { Stays (waiting job) (on_its_way result) }
+    ensures stays { Stays (Waits (asked_of job)) (Goes result.state) }
 {
     match job {
-        Job::Request(who, seat, request) => begun_request(place, who, seat, request),
-        Job::OpenRoot(seat) => begun_request(
-            place,
-            Context { uid: 0, gid: 0 },
-            seat,
-            Request::Root,
-        ),
-        Job::Edit(edit) => Machine {
-            place,
-            start: no_seat(),
-            seat: None,
-            state: AnyJob::edit(edit),
-        },
+        Job::Request(who, _, request) => begun_request(place, who, request),
+        Job::OpenRoot(_) => begun_request(place, Context { uid: 0, gid: 0 }, Request::Root),
+        Job::Edit(edit) => {
+            let state = AnyJob::edit(edit);
+            Machine { place, state }
+        }
     }
 }
 
 /// What is left of a job that has finished.
 pub fn ended(machine: Machine) -> Over
     requires { is_finished machine.state ≡ true }
-    ensures start { result.start ≡ machine.start }
-    ensures seat { result.seat ≡ machine.seat }
     ensures left { (plan : Plan) (seat : HostSeat) → owes plan seat machine.state ≡ End result.last }
     ensures lost { result.lost ≡ lost_of machine.state }
 {
     let Machine {
         place: _place,
-        start,
-        seat,
         state,
     } = machine;
     let lost = state.lost();
-    Over {
-        start,
-        seat,
-        last: state.finish(),
-        lost,
-    }
+    let last = state.finish();
+    Over { last, lost }
 }

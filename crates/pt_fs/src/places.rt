@@ -1,11 +1,11 @@
 //! Where the jobs of a run are. Each part of a place lies among its like, so that none takes room for another's.
 
-ghost use Rattle.std.specs.Prelude.{◌≡◌, ◌<◌, ◌^◌, length, map, slice_get, slice_set, IfOk, Some};
+ghost use Rattle.std.specs.Prelude.{◌≡◌, ◌<◌, ◌^◌, ℕ, length, map, slice_get, slice_set, IfOk, Some, Option};
 ghost use Rattle.pt_host.specs.Words.{Each};
 ghost use Rattle.pt_host.specs.declared.seat.HostSeat.{HostSeat};
 ghost use Rattle.pt_iface.specs.declared.answer.Answer.{Answer};
-ghost use Rattle.pt_fs.specs.Jobs.{job_start};
-ghost use Rattle.pt_fs.specs.Placed.{Ended, Goes, Place, Waits, AllEnded, answer_at, lost_in, seat_at, stage_of};
+ghost use Rattle.pt_fs.specs.Jobs.{job_seat, job_start};
+ghost use Rattle.pt_fs.specs.Placed.{Ended, Goes, Place, Waits, AllEnded, answer_at, lost_in, stage_of};
 ghost use Rattle.pt_fs.specs.declared.job.Job.{Job};
 
 use crate::ends::answered;
@@ -30,29 +30,29 @@ pub enum Stage {
     Ended(Option<Errno>, Option<Errno>),
 }
 
-/// Where each job is, in order.
+/// Where each job is, in order, and the seat with which it began.
 #[derive(Drop)]
 pub struct Places {
-    /// What the job asks, where it waits; where it has ended, a job that begins as it did.
+    /// What the job asks, where it waits; then a job that begins as it did.
     asked: Vec<Job>,
     stages: Vec<Stage>,
     /// The answer of a job that has ended.
     answers: Vec<Answer>,
-    /// The seat of a job that has ended.
-    seats: Vec<Option<HostSeat>>,
 }
 
 impl Model for Places {
-    ghost use Rattle.std.specs.Prelude.{List};
-    ghost use Rattle.pt_fs.specs.Placed.{InParts, Place, places_in};
+    ghost use Rattle.std.specs.Prelude.{map};
+    ghost use Rattle.pt_fs.specs.Jobs.{job_start};
+    ghost use Rattle.pt_fs.specs.Placed.{InParts, Placed, places_in};
 
-    ghost Value = { List Place };
+    ghost Value = { Placed };
 
-    ghost view = { λ places.
-        places_in places.asked.items places.stages.items places.answers.items places.seats.items };
+    ghost view = { λ places. record {
+      starts = map job_start places.asked.items;
+      at = places_in places.asked.items places.stages.items places.answers.items;
+    } };
 
-    ghost invariant = { λ places.
-        InParts places.asked.items places.stages.items places.answers.items places.seats.items };
+    ghost invariant = { λ places. InParts places.asked.items places.stages.items places.answers.items };
 }
 
 /// Puts one item in another's place.
@@ -82,6 +82,37 @@ fn caps_of(job: &Job) -> u32
     }
 }
 
+/// The seat with which a job begins.
+fn start_of(job: &Job) -> HostSeat
+    ensures { result ≡ job_start job.now }
+{
+    match job {
+        Job::Request(_, seat, _) | Job::OpenRoot(seat) => seat.copy(),
+        Job::Edit(_) => no_seat(),
+    }
+}
+
+/// The same where it has one, which an edit has not.
+fn seat_of(job: &Job) -> Option<HostSeat>
+    ensures { result ≡ job_seat job.now }
+{
+    match job {
+        Job::Request(_, seat, _) | Job::OpenRoot(seat) => Some(seat.copy()),
+        Job::Edit(_) => None,
+    }
+}
+
+/// The seats of jobs that have made no step.
+pub fn seats_of(alloc: Global, jobs: &[Job]) -> Result<Vec<Option<HostSeat>>, AllocError>
+    ensures { IfOk result (λ seats. seats.items ≡ map job_seat jobs.now) }
+{
+    let mut seats = with_room(alloc, jobs.len())?;
+    for job in jobs {
+        push_within(&mut seats, seat_of(job));
+    }
+    Ok(seats)
+}
+
 /// The error by which a job ended, if it lost its seat.
 fn loss_of(last: &Finish) -> Option<Errno>
     ensures { result ≡ lost_in last.now }
@@ -95,83 +126,92 @@ fn loss_of(last: &Finish) -> Option<Errno>
 impl Places {
     /// The places of jobs that have made no step.
     pub fn new(alloc: Global, jobs: Vec<Job>) -> Result<Places, AllocError>
-        ensures waiting { IfOk result (λ places. places ≡ map Waits jobs.items) }
+        ensures starts { IfOk result (λ places. places.starts ≡ map job_start jobs.items) }
+        ensures waiting { IfOk result (λ places. places.at ≡ map Waits jobs.items) }
         ensures fits { IfOk result (λ places.
             Each (λ (job : Job). (job_start job).eff_caps.0 < 2 ^ 32) jobs.items) }
     {
         let mut stages = with_room(alloc, jobs.len())?;
         let mut answers = with_room(alloc, jobs.len())?;
-        let mut seats = with_room(alloc, jobs.len())?;
         for job in &jobs {
             // That they are 32 bits is known of what is read alone.
             let _fits = caps_of(job);
             push_within(&mut stages, Stage::Waits);
             push_within(&mut answers, Answer::Cut);
-            push_within(&mut seats, None);
         }
         Ok(Places {
             asked: jobs,
             stages,
             answers,
-            seats,
         })
     }
 
     pub fn len(&self) -> usize
-        ensures { result ≡ length self.now }
+        ensures { result ≡ length self.now.at }
     {
         self.stages.len()
     }
 
     /// How far the job of this number is.
     pub fn stage(&self, place: usize) -> Stage
-        requires named { place < length self.now }
-        ensures { (it : Place) → slice_get self.now place ≡ Some it → result ≡ stage_of it }
+        requires named { place < length self.now.at }
+        ensures { (it : Place) → slice_get self.now.at place ≡ Some it → result ≡ stage_of it }
     {
         self.stages[place]
     }
 
-    /// Hands out the job of this number, which waits, and has it on its way with this machine.
-    pub fn begin(&mut self, place: usize, index: usize) -> Job
-        requires waits { (job : Job) × (slice_get self.old place ≡ Some (Waits job)) }
-        ensures job { slice_get self.old place ≡ Some (Waits result) }
-        ensures goes { self.new ≡ slice_set self.old place (Goes index) }
+    /// The seat with which the job of this number began, which is on its way.
+    pub fn start(&self, place: usize) -> &HostSeat
+        requires goes { (index : ℕ) × (slice_get self.now.at place ≡ Some (Goes index)) }
+        ensures { slice_get self.now.starts place ≡ Some result.now }
     {
-        self.stages[place] = Stage::Goes(index);
-        mem::replace(&mut self.asked[place], Job::OpenRoot(no_seat()))
+        let Job::OpenRoot(seat) = &self.asked[place] else {
+            unreachable!()
+        };
+        seat
     }
 
-    /// Has the job of this number on its way with this machine.
+    /// Hands out the job of this number, which waits, and has it on its way with this machine.
+    pub fn begin(&mut self, place: usize, index: usize) -> Job
+        requires waits { (job : Job) × (slice_get self.old.at place ≡ Some (Waits job)) }
+        ensures job { slice_get self.old.at place ≡ Some (Waits result) }
+        ensures starts { self.new.starts ≡ self.old.starts }
+        ensures goes { self.new.at ≡ slice_set self.old.at place (Goes index) }
+    {
+        self.stages[place] = Stage::Goes(index);
+        let start = start_of(&self.asked[place]);
+        mem::replace(&mut self.asked[place], Job::OpenRoot(start))
+    }
+
+    /// Has the job of this number, which is on its way, go on with this machine.
     pub fn go(&mut self, place: usize, index: usize)
-        requires named { place < length self.old }
-        ensures { self.new ≡ slice_set self.old place (Goes index) }
+        requires goes { (was : ℕ) × (slice_get self.old.at place ≡ Some (Goes was)) }
+        ensures starts { self.new.starts ≡ self.old.starts }
+        ensures goes { self.new.at ≡ slice_set self.old.at place (Goes index) }
     {
         self.stages[place] = Stage::Goes(index);
     }
 
     /// Has the job of this number ended.
     pub fn end(&mut self, place: usize, over: Over)
-        requires named { place < length self.old }
-        ensures { self.new ≡ slice_set self.old place (Ended over) }
+        requires named { place < length self.old.at }
+        ensures starts { self.new.starts ≡ self.old.starts }
+        ensures ended { self.new.at ≡ slice_set self.old.at place (Ended over) }
     {
         self.stages[place] = Stage::Ended(loss_of(&over.last), over.lost);
-        put(&mut self.asked, place, Job::OpenRoot(over.start));
         put(&mut self.answers, place, answered(over.last));
-        put(&mut self.seats, place, over.seat);
     }
 
-    /// Each job's answer, and its seat if it has one.
-    pub fn finish(self) -> (Vec<Answer>, Vec<Option<HostSeat>>)
-        requires ended { AllEnded self }
-        ensures answers { result.0.items ≡ map answer_at self }
-        ensures seats { result.1.items ≡ map seat_at self }
+    /// Each job's answer.
+    pub fn finish(self) -> Vec<Answer>
+        requires ended { AllEnded self.at }
+        ensures { result.items ≡ map answer_at self.at }
     {
         let Places {
             asked: _asked,
             stages: _stages,
             answers,
-            seats,
         } = self;
-        (answers, seats)
+        answers
     }
 }

@@ -37,11 +37,17 @@ fn keep_in(alloc: Global, act: &Act<'_>, place: &mut KeptAct) -> Result<(), Allo
 }
 
 /// Writes what the job is to do next, or word that its bytes could not be copied.
-fn want_in<F: SteppedFs>(alloc: Global, fs: &F, machine: &Machine, place: &mut KeptAct)
-    requires { is_end (owes (F.plan_of fs.now) machine.now.start machine.now.state) ≡ false }
-    ensures { IsWanted (owes (F.plan_of fs.now) machine.now.start machine.now.state) (kept_deed_of place.new) }
+fn want_in<F: SteppedFs>(
+    alloc: Global,
+    fs: &F,
+    machine: &Machine,
+    start: &HostSeat,
+    place: &mut KeptAct,
+)
+    requires { is_end (owes (F.plan_of fs.now) start.now machine.now.state) ≡ false }
+    ensures { IsWanted (owes (F.plan_of fs.now) start.now machine.now.state) (kept_deed_of place.new) }
 {
-    match machine.state.want(fs.plan(), &machine.start) {
+    match machine.state.want(fs.plan(), start) {
         Want::Finished => *place = KeptAct::NoCopy,
         Want::Step(act) => match keep_in(alloc, &act, place) {
             Ok(()) => {}
@@ -90,22 +96,25 @@ fn lost_by(restored: bool, machine: &Machine) -> Option<Errno>
     if restored { machine.state.lost() } else { None }
 }
 
-/// Takes the next step of a job, writes it down, and tells what it lost of the job's seat.
+/// Takes the next step of a job that began with this seat and has that one now, writes it down, and tells what it lost
+/// of the seat.
 pub fn advance<H: Host, F: SteppedFs, R: Record>(
     alloc: Global,
     host: &mut H,
     fs: &mut F,
     machine: &mut Machine,
+    start: &HostSeat,
+    seat: &mut Option<HostSeat>,
     writer: &mut R,
     job: u32,
 ) -> Result<Option<Errno>, AllocError>
     requires unfinished { is_finished machine.old.state ≡ false }
-    requires going { is_end (owes (F.plan_of fs.old) machine.old.start machine.old.state) ≡ false }
+    requires going { is_end (owes (F.plan_of fs.old) start.now machine.old.state) ≡ false }
     ensures plan { F.plan_of fs.new ≡ F.plan_of fs.old }
     ensures root { F.root fs.new ≡ F.root fs.old }
     ensures stepped { (step : TraceStep) × OnOk result (R.wrote writer.old step writer.new)
-        × Stepped H.does (F.plan_of fs.old) job host.old machine.old (F.tables fs.old) step host.new machine.new
-        (F.tables fs.new) }
+        × Stepped H.does (F.plan_of fs.old) start.now job host.old seat.old machine.old (F.tables fs.old) step host.new
+        seat.new machine.new (F.tables fs.new) }
     ensures told { IfOk result (λ lost. lost_of machine.old.state ≡ None → lost_of machine.new.state ≡ lost) }
     ensures room { OnOk result (R.room writer.old ≤ R.room writer.new + 1) }
     ensures full { OnErr result (R.room writer.old ≡ 0) }
@@ -115,11 +124,11 @@ pub fn advance<H: Host, F: SteppedFs, R: Record>(
         act: KeptAct::NoCopy,
         reply: ActReply::NoCopy,
     };
-    want_in(alloc, fs, machine, &mut step.act);
-    make_from(host, fs, &mut machine.seat, &step.act, &mut step.reply);
+    want_in(alloc, fs, machine, start, &mut step.act);
+    make_from(host, fs, seat, &step.act, &mut step.reply);
     let written = writer.write(alloc, &mut step);
     let restored = machine.state.restoring();
-    machine.state.take(fs.plan(), step.reply, &machine.start);
+    machine.state.take(fs.plan(), step.reply, start);
     let lost = lost_by(restored, machine);
     match written {
         Ok(()) => Ok(lost),

@@ -7,12 +7,12 @@ use Rattle.pt_fs.proofs.jobs.begin.Goals as goal
 
 pub push_within-requires : goal.push_within-requires
 push_within-requires c =
-    let some = some_wait c.args.places.now c.args.place c.requires.waits.0 c.requires.waits.1 in
+    let some = some_wait c.args.places.now.at c.args.place c.requires.waits.0 c.requires.waits.1 in
     omega (arith, some, c.requires.kept.fit)
 
 pub returns : goal.returns
 returns c =
-    let places = c.args.places.now in
+    let places = c.args.places.now.at in
     let going = c.args.going.now.items in
     let it = c.begun.result in
     let own = c.begun.ensures.place in
@@ -31,6 +31,7 @@ returns c =
         fit = omega (arith, sums, long, room, grown);
       };
       same = length-set places c.args.place (Goes (length going));
+      starts = c.begin.ensures.starts;
       index = get-set_same places c.args.place (Waits job) (Goes (length going)) there;
       wakes = wakes_one c.requires.kept.laid c.args.place job it there own stays;
     }

@@ -25,5 +25,6 @@ returns-else-is_finished c =
         fit = c.requires.room;
       };
       same = refl;
+      starts = refl;
       settles = settles_none c.requires.laid c.args.place c.args.index c.requires.index;
     }

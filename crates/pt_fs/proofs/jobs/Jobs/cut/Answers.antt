@@ -1,11 +1,37 @@
-use Rattle.std.proofs.Common.{◌≡◌, ◌∙◌, List, refl, ap, sym, subst, slice_get, slice_set, arith}
-use Rattle.std.proofs.lemmas.Option.{same_Some}
+use Rattle.std.proofs.Common.{◌≡◌, ◌∙◌, List, refl, ap, sym, subst, arith}
+use Rattle.std.proofs.lemmas.Option.{same_Some, slice_get_within}
 use Rattle.pt_frame.specs.Frame.{cut as cut_grammar}
 use Rattle.pt_frame.specs.Grammar.{Grammar, IsDo, owed_by}
-use Rattle.pt_fs.specs.Loses.{CutRun}
-use Rattle.pt_fs.specs.Running.{Running}
-use Rattle.pt_fs.proofs.Laying.{went_laid, went_goes, went_through}
+use Rattle.pt_attr.specs.Machine.Job.{is_finished as is_job_over}
+use Rattle.pt_host.specs.declared.seat.HostSeat.{HostSeat}
+use Rattle.pt_fs.specs.Laid.{runs_of, states_in}
+use Rattle.pt_fs.specs.Running.{State, lost_of, owes}
+use Rattle.pt_fs.specs.declared.machine.Machine.{Machine}
+use Rattle.pt_fs.proofs.Laying.{seen_there, went_laid, went_goes, went_through}
+use Rattle.pt_fs.proofs.Runs.{parts, run_of, seats_there, set_seen, within_places}
 use Rattle.pt_fs.proofs.jobs.Jobs.cut.Goals as goal
+
+pub wake-index-requires-clause-named : goal.wake-index-requires-clause-named
+wake-index-requires-clause-named c = within_places c.self.invariant c.self.view_is c.args.place c.requires.named
+
+pub wake-index-requires-clause-unfinished : goal.wake-index-requires-clause-unfinished
+wake-index-requires-clause-unfinished c = λ state at.
+    let seats = seats_there c.self.invariant c.self.view_is c.args.place state at in
+    c.requires.unfinished (run_of seats.0 seats.1 state) seats.2
+
+pub index_mut-requires : goal.index_mut-requires
+index_mut-requires c =
+    let wakes = c.wake-index.ensures.wakes in
+    let inside = slice_get_within c.wake-index.new.going.items c.wake-index.result wakes.it wakes.there in
+    omega (arith, inside, c.wake-index.new.going.ok.0)
+
+pub cut-requires : goal.cut-requires
+cut-requires c =
+    let wakes = c.wake-index.ensures.wakes in
+    let it = seen_there c.index_mut.result.now wakes c.index_mut.ensures.value in
+    let seats = seats_there c.self.invariant c.self.view_is c.args.place wakes.state wakes.was in
+    ap (λ (g : Machine). is_job_over g.state) it ∙ wakes.stays.finished
+    ∙ c.requires.unfinished (run_of seats.0 seats.1 wakes.state) seats.2
 
 pub settle-requires-clause-laid : goal.settle-requires-clause-laid
 settle-requires-clause-laid c = went_laid c.index_mut.result.now _ c.wake-index.ensures.wakes
@@ -18,26 +44,30 @@ settle-requires-clause-others_go c = went_goes c.index_mut.result.now _ c.wake-i
 pub returns : goal.returns
 returns c = record {
   cut = λ run at.
-      let through = went_through c.index_mut.result.now _ c.wake-index.ensures.wakes c.wake-index.ensures.kept
+      let th = went_through c.index_mut.result.now _ c.wake-index.ensures.wakes c.wake-index.ensures.kept
       c.wake-index.ensures.index c.index_mut.ensures.value refl c.settle.ensures.settles in
-      let is : through.run ≡ run = same_Some through.run run
-      (sym through.was ∙ ap (λ (l : List Running). slice_get l c.args.place) c.self.view_is ∙ at) in
+      let own = parts c.self.invariant c.self.view_is c.args.place run at in
+      let is : th.state ≡ run.state = same_Some th.state run.state (sym th.was ∙ own.state) in
       let cut = c.cut.ensures in
-      let bound = through.after.bound in
-      let before = through.before.bound in
-      let inserts = through.after.inserts in (
-        through.run',
-        through.runs ∙ ap (λ (l : List Running). slice_set l c.args.place through.run')
-            c.self.view_is,
-        subst (λ (r : Running). CutRun r through.run') is record {
-          start = through.after.start ∙ through.before.start;
-          seat = through.after.seat ∙ through.before.seat;
-          stood = λ plan seat. subst IsDo (through.before.left plan seat) (cut.stood plan seat);
-          left = λ plan seat. through.after.left plan seat ∙ cut.left plan seat
-              ∙ ap (λ (g : Grammar). cut_grammar seat (owed_by g)) (through.before.left plan seat);
-          lost = through.after.lost ∙ cut.lost ∙ through.before.lost;
-          bound = omega (arith, bound, cut.bound, before);
+      let bound = th.after.bound in
+      let before = th.before.bound in
+      let inserts = th.after.inserts in (
+        run_of run.start run.seat th.state',
+        ap (λ (l : List HostSeat). runs_of l c.self.inside.seats.items
+            (states_in c.settle.new.places.at c.settle.new.going.items))
+            (c.settle.ensures.starts ∙ c.wake-index.ensures.starts)
+            ∙ set_seen c.self.invariant c.self.view_is c.args.place run th.state' _ at th.runs,
+        record {
+          start = refl;
+          seat = refl;
+          stood = λ plan seat. subst (λ (s : State). IsDo (owes plan seat s)) is
+              (subst IsDo (th.before.left plan seat) (cut.stood plan seat));
+          left = λ plan seat. th.after.left plan seat ∙ cut.left plan seat
+              ∙ ap (λ (g : Grammar). cut_grammar seat (owed_by g)) (th.before.left plan seat)
+              ∙ ap (λ (s : State). cut_grammar seat (owed_by (owes plan seat s))) is;
+          lost = th.after.lost ∙ cut.lost ∙ th.before.lost ∙ ap lost_of is;
+          bound = rw (← is) (omega (arith, bound, cut.bound, before));
         },
-        omega (arith, inserts, cut.inserts),
+        rw (← is) (omega (arith, inserts, cut.inserts)),
       );
 }

@@ -1,8 +1,7 @@
-use Rattle.pt_fs.proofs.Placing.{answers_in, seats_in}
+use Rattle.std.proofs.Common.{ap}
+use Rattle.pt_fs.specs.Placed.{Placed}
+use Rattle.pt_fs.proofs.Placing.{answers_in}
 use Rattle.pt_fs.proofs.places.Places.finish.Goals as goal
 
-pub returns-clause-answers : goal.returns-clause-answers
-returns-clause-answers c = answers_in c.self.invariant c.self.view_is c.requires.ended
-
-pub returns-clause-seats : goal.returns-clause-seats
-returns-clause-seats c = seats_in c.self.invariant c.self.view_is c.requires.ended
+pub returns : goal.returns
+returns c = answers_in c.self.invariant (ap (λ (p : Placed). p.at) c.self.view_is) c.requires.ended

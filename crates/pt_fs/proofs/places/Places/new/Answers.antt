@@ -8,4 +8,4 @@ returns-clause-waiting c =
     let same = ap length c.deref-job-items.ensures.value in
     let all : c.loop-job.job-index ≡ length c.args.jobs.items =
     omega (arith, same, c.loop-job-test.false, c.loop-job.auto.job-index-end) in
-    rw (i.stages, i.answers, i.seats, all) (all_wait c.args.jobs.items)
+    rw (i.stages, i.answers, all) (all_wait c.args.jobs.items)

@@ -1,4 +1,4 @@
-use Rattle.std.proofs.Common.{◌≡◌, ◌<◌, ◌≤◌, ◌^◌, None, drop, length, replicate, vec_capacity}
+use Rattle.std.proofs.Common.{◌≡◌, ◌<◌, ◌≤◌, ◌^◌, drop, length, replicate, vec_capacity}
 use Rattle.pt_host.specs.Words.{Each}
 use Rattle.pt_iface.specs.declared.answer.Answer.TheVariants.{Cut}
 use Rattle.pt_fs.specs.Jobs.{job_start}
@@ -10,10 +10,8 @@ abbrev pub invariant-loop-job : goal.invariant-loop-job
 invariant-loop-job l = record {
   stages : l.stages.items ≡ replicate l.job-index Waits;
   answers : l.answers.items ≡ replicate l.job-index Cut;
-  seats : l.seats.items ≡ replicate l.job-index None;
   fits : Each (λ (job : Job). (job_start job).eff_caps.0 < 2 ^ 32) (drop l.job-index l.fn.jobs.items) →
       Each (λ (job : Job). (job_start job).eff_caps.0 < 2 ^ 32) l.fn.jobs.items;
   room_stages : length l.fn.jobs.items ≤ vec_capacity l.stages;
   room_answers : length l.fn.jobs.items ≤ vec_capacity l.answers;
-  room_seats : length l.fn.jobs.items ≤ vec_capacity l.seats;
 }
