@@ -133,7 +133,8 @@ fit_look_up {asked = asked} {holds = holds} {notes = notes} plan session parent 
     fit_brackets _ (fit_resolve parent _ b (λ row. after_any_step (fit_file_of row.row row.form _ (λ dir.
     fit_open_at dir name by_path row.row parent _ refl (λ fd.
     fit_stat fd _ (λ told.
-    fit_numbered session fd told _ row.row dir e refl (told_here fd told.ids (newly fd notes).told, n) (λ number front later l.
+    fit_numbered session fd told _ row.row dir e refl (told_here fd told.ids (newly fd notes).told, n)
+    (λ number front later l.
     fit_shuts_passing _ (hold.Count session.era number) front holds (λ last m.
     f (looked_of plan session row.ids told (File fd) number) last (record {
       era = m.0 ∙ l.era;

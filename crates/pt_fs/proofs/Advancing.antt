@@ -206,8 +206,8 @@ pub stepped : {H : Type 0} (does : HostRelation H) (faults : H → ℕ) → Prom
     inserts_left now.state + told_inserted (owes later start was.state) shown ≤ inserts_left was.state →
     Stepped does plan start job host seat was tables (record { job = job; act = act; reply = shown }) host' seat' now
     tables'
-stepped does faults promises plan later start job host host' seat seat' was now tables tables' act reply shown restoring
-    same place wanted made is goes mark marked lost fewer within inserts =
+stepped does faults promises plan later start job host host' seat seat' was now tables tables' act reply shown
+    restoring same place wanted made is goes mark marked lost fewer within inserts =
     let old = owes plan start was.state in
     let new = owes plan start now.state in
     let advances : Advances old (kept_deed_of act) shown new =

@@ -38,7 +38,8 @@ goes_one a b e = cc
 
 module _ {places : List Place} {going : List Machine} (laid : Laid places going) where
   -- two places have not one machine
-  pub apart : (i j index : ℕ) → slice_get places i ≡ Some (Goes index) → slice_get places j ≡ Some (Goes index) → j ≡ i
+  pub apart : (i j index : ℕ) → slice_get places i ≡ Some (Goes index) → slice_get places j ≡ Some (Goes index) →
+      j ≡ i
   apart i j index one other =
       let first = laid.there i index one in
       let second = laid.there j index other in
@@ -52,7 +53,8 @@ module _ {places : List Place} {going : List Machine} (laid : Laid places going)
     wakes_laid = record {
       there = λ j index at. elim (cases_eq j place) [
         | inl same ↦
-            let is : length going ≡ index = goes_one (length going) index (same_Some (Goes (length going)) (Goes index)
+            let is : length going ≡ index = goes_one (length going) index
+            (same_Some (Goes (length going)) (Goes index)
             (sym (get-set_same places place (Waits job) (Goes (length going)) waits_there)
             ∙ ap (slice_get (slice_set places place (Goes (length going)))) (sym same) ∙ at)) in
             (it, ap (slice_get (going ++ it ∷ [])) (sym is) ∙ get-past going it, own ∙ sym same)
@@ -64,7 +66,8 @@ module _ {places : List Place} {going : List Machine} (laid : Laid places going)
         | inl last ↦
             let is : it ≡ one = same_Some it one
             (sym (get-past going it) ∙ ap (slice_get (going ++ it ∷ [])) (sym last) ∙ at) in
-            ap (slice_get (slice_set places place (Goes (length going)))) (ap (λ (g : Machine). g.place) (sym is) ∙ own)
+            ap (slice_get (slice_set places place (Goes (length going))))
+            (ap (λ (g : Machine). g.place) (sym is) ∙ own)
             ∙ get-set_same places place (Waits job) (Goes (length going)) waits_there
             ∙ ap (λ (n : ℕ). Some (Goes n)) (sym last)
         | inr before ↦
@@ -175,7 +178,8 @@ wakes_none {places} {going} laid j index own =
     }
 
 -- one that waited
-pub wakes_one : {places : List Place} {going : List Machine} → Laid places going → (j : ℕ) (job : Job) (it : Machine) →
+pub wakes_one : {places : List Place} {going : List Machine} → Laid places going → (j : ℕ) (job : Job)
+    (it : Machine) →
     slice_get places j ≡ Some (Waits job) → it.place ≡ j → Stays (Awaits (asked_of job)) (On it.state) →
     Wakes places going j (slice_set places j (Goes (length going))) (going ++ it ∷ []) (length going)
 wakes_one {places} {going} laid j job it waits_there own stays = record {

@@ -19,14 +19,19 @@ abbrev pub run_of : HostSeat → Option HostSeat → State → Running
 run_of start seat state = record { start = start; seat = seat; state = state }
 
 -- the parts of one job
-pub record Parts (starts : List HostSeat) (seats : List (Option HostSeat)) (states : List State) (j : ℕ) (run : Running)
+pub record Parts
+    (starts : List HostSeat)
+    (seats : List (Option HostSeat))
+    (states : List State)
+    (j : ℕ)
+    (run : Running)
     : Type 0 where
   pub start : slice_get starts j ≡ Some run.start
   pub seat : slice_get seats j ≡ Some run.seat
   pub state : slice_get states j ≡ Some run.state
 
-pub parts_of : (starts : List HostSeat) (seats : List (Option HostSeat)) (states : List State) (j : ℕ) (run : Running) →
-    slice_get (runs_of starts seats states) j ≡ Some run → Parts starts seats states j run
+pub parts_of : (starts : List HostSeat) (seats : List (Option HostSeat)) (states : List State) (j : ℕ)
+    (run : Running) → slice_get (runs_of starts seats states) j ≡ Some run → Parts starts seats states j run
 parts_of [] seats states j run at = absurd (cc)
 parts_of (a ∷ starts) [] states j run at = absurd (cc)
 parts_of (a ∷ starts) (b ∷ seats) [] j run at = absurd (cc)
@@ -41,8 +46,8 @@ parts_of (a ∷ starts) (b ∷ seats) (c ∷ states) (suc j) run at =
     let rest = parts_of starts seats states j run at in
     record { start = rest.start; seat = rest.seat; state = rest.state }
 
-pub run_there : (starts : List HostSeat) (seats : List (Option HostSeat)) (states : List State) (j : ℕ) (run : Running) →
-    Parts starts seats states j run → slice_get (runs_of starts seats states) j ≡ Some run
+pub run_there : (starts : List HostSeat) (seats : List (Option HostSeat)) (states : List State) (j : ℕ)
+    (run : Running) → Parts starts seats states j run → slice_get (runs_of starts seats states) j ≡ Some run
 run_there [] seats states j run at = let no = at.start in absurd (cc)
 run_there (a ∷ starts) [] states j run at = let no = at.seat in absurd (cc)
 run_there (a ∷ starts) (b ∷ seats) [] j run at = let no = at.state in absurd (cc)
@@ -63,8 +68,8 @@ runs_length (a ∷ starts) (b ∷ seats) (c ∷ states) one two =
     ap suc (runs_length starts seats states (omega (arith, one)) (omega (arith, two)))
 
 -- a job has another seat, and is elsewhere
-pub runs_set : (starts : List HostSeat) (seats : List (Option HostSeat)) (states : List State) (j : ℕ) (start : HostSeat)
-    (seat : Option HostSeat) (state : State) → slice_get starts j ≡ Some start →
+pub runs_set : (starts : List HostSeat) (seats : List (Option HostSeat)) (states : List State) (j : ℕ)
+    (start : HostSeat) (seat : Option HostSeat) (state : State) → slice_get starts j ≡ Some start →
     runs_of starts (slice_set seats j seat) (slice_set states j state)
     ≡ slice_set (runs_of starts seats states) j (run_of start seat state)
 runs_set [] seats states j start seat state at = absurd (cc)
@@ -85,8 +90,8 @@ runs_waiting (job ∷ jobs) going = ap (λ (l : List Running). waiting job ∷ l
 
 -- Where all have ended.
 
-pub each_told : (starts : List HostSeat) (seats : List (Option HostSeat)) (places : List Place) (going : List Machine) →
-    length starts ≡ length places → length seats ≡ length places → AllEnded places →
+pub each_told : (starts : List HostSeat) (seats : List (Option HostSeat)) (places : List Place)
+    (going : List Machine) → length starts ≡ length places → length seats ≡ length places → AllEnded places →
     EachAnswered (runs_of starts seats (states_in places going)) (map answer_at places)
 each_told [] seats [] going one two ended = tt
 each_told [] seats (p ∷ places) going one two ended = absurd (omega (arith, one))

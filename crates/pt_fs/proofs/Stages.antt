@@ -98,8 +98,8 @@ rests going (Goes index) at is (inr ended) plan seat = let no = sym is ∙ ended
 -- And the job of that place.
 
 module _ {places : Placed} {seats : List (Option HostSeat)} {going : List Machine} {room : ℕ}
-    (lies : Lies places seats going room) {running : List Running} (view : runs_in places seats going ≡ running) (j : ℕ)
-    (named : j < length running) {at : Stage}
+    (lies : Lies places seats going room) {running : List Running} (view : runs_in places seats going ≡ running)
+    (j : ℕ) (named : j < length running) {at : Stage}
     (told : (it : Place) → slice_get places.at j ≡ Some it → at ≡ stage_of it) where
   inside : j < length places.at
   inside = within_places lies view j named

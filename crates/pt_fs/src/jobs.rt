@@ -1,6 +1,6 @@
 //! The jobs of a run, each in its place. One that has made no step is what it asks, and one that has ended is its
-//! answer; the machines of those on their way lie side by side, so that they take room only while they are needed. The
-//! seats lie apart, as few steps look at one.
+//! answer; the machines of those on their way lie side by side, so that they take room only while they are needed.
+//! The seats lie apart, as few steps look at one.
 
 ghost use Rattle.std.specs.Prelude.{◌≡◌, ◌+◌, ◌<◌, ◌≤◌, ◌^◌, ℕ, [], true, false, Some, length, map};
 ghost use Rattle.std.specs.Prelude.{IfOk, OnErr};

@@ -96,8 +96,8 @@ fn lost_by(restored: bool, machine: &Machine) -> Option<Errno>
     if restored { machine.state.lost() } else { None }
 }
 
-/// Takes the next step of a job that began with this seat and has that one now, writes it down, and tells what it lost
-/// of the seat.
+/// Takes the next step of a job that began with this seat and has that one now, writes it down, and tells what it
+/// lost of the seat.
 pub fn advance<H: Host, F: SteppedFs, R: Record>(
     alloc: Global,
     host: &mut H,
@@ -113,8 +113,8 @@ pub fn advance<H: Host, F: SteppedFs, R: Record>(
     ensures plan { F.plan_of fs.new ≡ F.plan_of fs.old }
     ensures root { F.root fs.new ≡ F.root fs.old }
     ensures stepped { (step : TraceStep) × OnOk result (R.wrote writer.old step writer.new)
-        × Stepped H.does (F.plan_of fs.old) start.now job host.old seat.old machine.old (F.tables fs.old) step host.new
-        seat.new machine.new (F.tables fs.new) }
+        × Stepped H.does (F.plan_of fs.old) start.now job host.old seat.old machine.old (F.tables fs.old) step
+        host.new seat.new machine.new (F.tables fs.new) }
     ensures told { IfOk result (λ lost. lost_of machine.old.state ≡ None → lost_of machine.new.state ≡ lost) }
     ensures room { OnOk result (R.room writer.old ≤ R.room writer.new + 1) }
     ensures full { OnErr result (R.room writer.old ≡ 0) }

@@ -374,8 +374,8 @@ cleared_later t t' step era closings e g =
     (subst (λ (s : Step). TablesGo t s.deed s.reply t') e g) in
     ap (λ (z : Tables). z.era) h.1.7
 
-pub begins_where : (first : Step) (rest more : List Step) (last : Step) → BeginsFirst (first ∷ (rest ++ last ∷ more)) →
-    IsBeginning first.deed first.reply
+pub begins_where : (first : Step) (rest more : List Step) (last : Step) →
+    BeginsFirst (first ∷ (rest ++ last ∷ more)) → IsBeginning first.deed first.reply
 begins_where first [] more last b = b
 begins_where first (step ∷ rest) more last b = b
 

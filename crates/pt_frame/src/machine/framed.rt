@@ -69,6 +69,7 @@ impl<B: Body> Model for Framed<B> {
 }
 
 /// After a step of the body: how many closings the reply told.
+#[inline(always)]
 fn body_stepped<B: Body>(
     mode: &mut Mode,
     body: &mut B,

@@ -18,7 +18,8 @@ out c = taken_out c.args.going.now.items c.swap_remove-it.new.self.items c.args.
 settled : (c : After-end) (places : List Place) → states_in places c.swap_remove-it.new.self.items
     ≡ slice_set (states_in c.args.places.now.at c.args.going.now.items) c.args.place
     (state_at c.swap_remove-it.new.self.items (Ended c.ended.result)) →
-    Settles c.args.places.now.at c.args.going.now.items c.args.place c.args.index places c.swap_remove-it.new.self.items
+    Settles c.args.places.now.at c.args.going.now.items c.args.place c.args.index places
+    c.swap_remove-it.new.self.items
 settled c places runs = settles_over c.requires.laid c.args.place c.args.index c.requires.index
     c.swap_remove-it.result c.swap_remove-it.ensures.value c.requires.ended c.ended.result c.ended.ensures.left
     c.ended.ensures.lost places c.swap_remove-it.new.self.items runs

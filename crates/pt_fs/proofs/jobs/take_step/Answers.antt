@@ -83,8 +83,8 @@ went g c = went_through c.index_mut-machine.result.now c.advance-lost.new.machin
 -- the job as it was
 was : (g : Over) (c : After-settle g) → slice_get c.args.running.now c.args.place
     ≡ Some (run_of c.start-start.result.now c.index_mut-seat.result.now (went g c).state)
-was g c = read_there c.running.invariant c.running.view_is c.args.place c.requires.named c.wake-index.new.places.starts
-    c.wake-index.ensures.starts c.start-start.result.now c.start-start.ensures c.index_mut-seat.result.now
+was g c = read_there c.running.invariant c.running.view_is c.args.place c.requires.named
+    c.wake-index.new.places.starts c.wake-index.ensures.starts c.start-start.result.now c.start-start.ensures c.index_mut-seat.result.now
     c.index_mut-seat.ensures.value (went g c).state (went g c).was
 
 -- and all of them now

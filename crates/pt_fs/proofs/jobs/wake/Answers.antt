@@ -9,7 +9,8 @@ begin-requires-clause-waits c =
 
 pub returns-in-Goes : goal.returns-in-Goes
 returns-in-Goes c =
-    let own = goes_at c.args.places.now.at c.args.place c.requires.named c.stage.ensures c.in-Goes.index c.in-Goes.is in
+    let own = goes_at c.args.places.now.at c.args.place c.requires.named c.stage.ensures c.in-Goes.index
+    c.in-Goes.is in
     record {
       kept = c.requires.kept;
       same = refl;

@@ -46,4 +46,5 @@ returns-clause-starts c =
 pub returns-clause-goes : goal.returns-clause-goes
 returns-clause-goes c =
     let named = slice_get_within c.args.self.now.at c.args.place _ c.requires.waits.1 in
-    begun c.self.invariant (ap (λ (p : Placed). p.at) c.self.view_is) c.args.place named c.replace.new.dest c.args.index
+    begun c.self.invariant (ap (λ (p : Placed). p.at) c.self.view_is) c.args.place named c.replace.new.dest
+    c.args.index

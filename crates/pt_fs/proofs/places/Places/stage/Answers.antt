@@ -10,4 +10,5 @@ index-requires c =
 
 pub returns : goal.returns
 returns c =
-    stage_is c.self.invariant (ap (λ (p : Placed). p.at) c.self.view_is) c.args.place c.requires.named c.index.result.now c.index.ensures
+    stage_is c.self.invariant (ap (λ (p : Placed). p.at) c.self.view_is) c.args.place c.requires.named
+    c.index.result.now c.index.ensures
