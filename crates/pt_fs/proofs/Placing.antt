@@ -12,8 +12,8 @@ use Rattle.pt_frame.specs.declared.finish.Finish.{Finish}
 use Rattle.pt_frame.specs.declared.finish.Finish.TheVariants as finish
 use Rattle.pt_fs.specs.Each.{answer_of}
 use Rattle.pt_fs.specs.Jobs.{job_start}
-use Rattle.pt_fs.specs.Placed.{Place, Waits, Goes, Ended, AllEnded, BareWhereGoing, CutWhereLost, InParts}
-use Rattle.pt_fs.specs.Placed.{answer_at, last_of, lost_in, place_of, places_in, stage_of}
+use Rattle.pt_fs.specs.Placed.{Place, Placed, Waits, Goes, Ended, AllEnded, BareWhereGoing, CutWhereLost, InParts}
+use Rattle.pt_fs.specs.Placed.{answer_at, last_of, lost_in, place_of, placed_in, places_in, stage_of}
 use Rattle.pt_fs.specs.declared.job.Job.{Job}
 use Rattle.pt_fs.specs.declared.job.Job.TheVariants as asked
 use Rattle.pt_fs.specs.declared.machine.Over.{Over}
@@ -213,18 +213,21 @@ answers_all (a ∷ jobs) (b ∷ stages) (c ∷ answers) one two ended cut =
 
 -- What is so of places of which each part lies among its like.
 module _ {jobs : List Job} {stages : List Stage} {answers : List Answer} (parts : InParts jobs stages answers)
-    {places : List Place} (view : places_in jobs stages answers ≡ places) where
-  pub as_many : length places ≡ length stages
-  as_many = ap length (sym view)
+    {placed : Placed} (view : placed_in jobs stages answers ≡ placed) where
+  at_view : places_in jobs stages answers ≡ placed.at
+  at_view = ap (λ (p : Placed). p.at) view
+
+  pub as_many : length placed.at ≡ length stages
+  as_many = ap length (sym at_view)
       ∙ length_all jobs stages answers parts.each_stage parts.each_answer ∙ sym parts.each_stage
 
-  pub answers_in : AllEnded places → answers ≡ map answer_at places
+  pub answers_in : AllEnded placed.at → answers ≡ map answer_at placed.at
   answers_in ended = answers_all jobs stages answers parts.each_stage parts.each_answer
-      (subst AllEnded (sym view) ended) parts.cut
-      ∙ ap (λ (l : List Place). map answer_at l) view
+      (subst AllEnded (sym at_view) ended) parts.cut
+      ∙ ap (λ (l : List Place). map answer_at l) at_view
 
   -- the place of this number
-  module _ (j : ℕ) (inside : j < length places) where
+  module _ (j : ℕ) (inside : j < length placed.at) where
     pub in_stages : j < length stages
     in_stages = let long = as_many in omega (arith, long, inside)
 
@@ -239,12 +242,12 @@ module _ {jobs : List Job} {stages : List Stage} {answers : List Answer} (parts 
 
     -- it is what its parts say
     parts_there : (job : Job) (at : Stage) → slice_get jobs j ≡ Some job → slice_get stages j ≡ Some at →
-        (it : Place) → slice_get places j ≡ Some it → place_of job at answer_there.0 ≡ it
+        (it : Place) → slice_get placed.at j ≡ Some it → place_of job at answer_there.0 ≡ it
     parts_there job at job_at stage_at it there = same_Some (place_of job at answer_there.0) it
         (sym (get_all jobs stages answers j job at answer_there.0 job_at stage_at answer_there.1)
-        ∙ ap (λ (l : List Place). slice_get l j) view ∙ there)
+        ∙ ap (λ (l : List Place). slice_get l j) at_view ∙ there)
 
-    pub stage_is : (seen : Stage) → seen ≡ get_or stages j seen → (it : Place) → slice_get places j ≡ Some it →
+    pub stage_is : (seen : Stage) → seen ≡ get_or stages j seen → (it : Place) → slice_get placed.at j ≡ Some it →
         seen ≡ stage_of it
     stage_is seen read it there =
         let job = got jobs j in_jobs in
@@ -252,13 +255,14 @@ module _ {jobs : List Job} {stages : List Stage} {answers : List Answer} (parts 
         (parts_there job.0 seen job.1 (slice_get_read stages _ j seen refl in_stages read) it there)
 
     pub asked_is : (seen : Job) → seen ≡ get_or jobs j seen → (asked : Job) →
-        slice_get places j ≡ Some (Waits asked) → seen ≡ asked
+        slice_get placed.at j ≡ Some (Waits asked) → seen ≡ asked
     asked_is seen read asked there =
         let at = got stages j in_stages in
         waited seen at.0 answer_there.0 asked
         (parts_there seen at.0 (slice_get_read jobs _ j seen refl in_jobs read) at.1 (Waits asked) there)
 
-    goes_there : (index : ℕ) → slice_get places j ≡ Some (Goes index) → slice_get stages j ≡ Some (stage.Goes index)
+    goes_there : (index : ℕ) → slice_get placed.at j ≡ Some (Goes index) →
+        slice_get stages j ≡ Some (stage.Goes index)
     goes_there index there =
         let job = got jobs j in_jobs in
         let at = got stages j in_stages in
@@ -266,7 +270,7 @@ module _ {jobs : List Job} {stages : List Stage} {answers : List Answer} (parts 
         (parts_there job.0 at.0 job.1 at.1 (Goes index) there))
 
     -- of one on its way its seat is kept
-    pub bare_there : (index : ℕ) → slice_get places j ≡ Some (Goes index) → (seen : Job) →
+    pub bare_there : (index : ℕ) → slice_get placed.at j ≡ Some (Goes index) → (seen : Job) →
         seen ≡ get_or jobs j seen → (seat : HostSeat) × (seen ≡ asked.OpenRoot seat)
     bare_there index there seen read =
         let it = parts.bare j index (goes_there index there) in (
@@ -290,12 +294,12 @@ module _ {jobs : List Job} {stages : List Stage} {answers : List Answer} (parts 
     -- its job goes on with this machine, and its seat alone is kept
     pub begun : (job : Job) (index : ℕ) →
         places_in (slice_set jobs j job) (slice_set stages j (stage.Goes index)) answers
-        ≡ slice_set places j (Goes index)
+        ≡ slice_set placed.at j (Goes index)
     begun job index =
         ap (λ (l : List Answer). places_in (slice_set jobs j job) (slice_set stages j (stage.Goes index)) l)
         (set-same answers j answer_there.0 answer_there.1)
         ∙ set_all jobs stages answers j job (stage.Goes index) answer_there.0
-        ∙ ap (λ (l : List Place). slice_set l j (Goes index)) view
+        ∙ ap (λ (l : List Place). slice_set l j (Goes index)) at_view
 
     pub begun_parts : (seat : HostSeat) (index : ℕ) →
         InParts (slice_set jobs j (asked.OpenRoot seat)) (slice_set stages j (stage.Goes index)) answers
@@ -312,14 +316,14 @@ module _ {jobs : List Job} {stages : List Stage} {answers : List Answer} (parts 
 
     -- its job goes on with this machine
     pub gone : (index : ℕ) →
-        places_in jobs (slice_set stages j (stage.Goes index)) answers ≡ slice_set places j (Goes index)
+        places_in jobs (slice_set stages j (stage.Goes index)) answers ≡ slice_set placed.at j (Goes index)
     gone index =
         let job = got jobs j in_jobs in
         ap (λ (l : List Job). places_in l (slice_set stages j (stage.Goes index)) answers)
         (set-same jobs j job.0 job.1)
         ∙ begun job.0 index
 
-    pub gone_parts : (was index : ℕ) → slice_get places j ≡ Some (Goes was) →
+    pub gone_parts : (was index : ℕ) → slice_get placed.at j ≡ Some (Goes was) →
         InParts jobs (slice_set stages j (stage.Goes index)) answers
     gone_parts was index there = record {
       each_stage = length-set stages j (stage.Goes index) ∙ parts.each_stage;
@@ -332,14 +336,14 @@ module _ {jobs : List Job} {stages : List Stage} {answers : List Answer} (parts 
     pub over_there : (over : Over) →
         places_in jobs (slice_set stages j (stage.Ended (lost_in over.last) over.lost))
         (slice_set answers j (answer_of over.last))
-        ≡ slice_set places j (Ended over)
+        ≡ slice_set placed.at j (Ended over)
     over_there over =
         let job = got jobs j in_jobs in
         ap (λ (l : List Job). places_in l (slice_set stages j (stage.Ended (lost_in over.last) over.lost))
         (slice_set answers j (answer_of over.last))) (set-same jobs j job.0 job.1)
         ∙ set_all jobs stages answers j job.0 (stage.Ended (lost_in over.last) over.lost) (answer_of over.last)
         ∙ ap (λ (p : Place). slice_set (places_in jobs stages answers) j p) (over_kept job.0 over)
-        ∙ ap (λ (l : List Place). slice_set l j (Ended over)) view
+        ∙ ap (λ (l : List Place). slice_set l j (Ended over)) at_view
 
     pub over_parts : (over : Over) →
         InParts jobs (slice_set stages j (stage.Ended (lost_in over.last) over.lost))

@@ -1,5 +1,5 @@
 -- Inner. Where a job is, and the parts in which that is kept.
-use Rattle.std.specs.Prelude.{◌≡◌, ℕ, List, [], ◌∷◌, Option, Some, None, length, slice_get}
+use Rattle.std.specs.Prelude.{◌≡◌, ℕ, List, [], ◌∷◌, Option, Some, None, length, map, slice_get}
 use Rattle.pt_host.specs.declared.ids.Errno.{Errno}
 use Rattle.pt_host.specs.declared.seat.HostSeat.{HostSeat}
 use Rattle.pt_iface.specs.declared.answer.Answer.{Answer}
@@ -7,6 +7,7 @@ use Rattle.pt_iface.specs.declared.answer.Answer.TheVariants as answer
 use Rattle.pt_frame.specs.declared.finish.Finish.{Finish}
 use Rattle.pt_frame.specs.declared.finish.Finish.TheVariants as finish
 use Rattle.pt_fs.specs.Each.{answer_of}
+use Rattle.pt_fs.specs.Jobs.{job_start}
 use Rattle.pt_fs.specs.declared.job.Job.{Job}
 use Rattle.pt_fs.specs.declared.job.Job.TheVariants as asked
 use Rattle.pt_fs.specs.declared.machine.Over.{Over}
@@ -49,6 +50,9 @@ place_of job (stage.Ended last lost) told = Ended (record { last = last_of last 
 abbrev pub places_in : List Job → List Stage → List Answer → List Place
 places_in (job ∷ jobs) (stage ∷ stages) (told ∷ answers) = place_of job stage told ∷ places_in jobs stages answers
 places_in jobs stages answers = []
+
+abbrev pub placed_in : List Job → List Stage → List Answer → Placed
+placed_in jobs stages answers = record { starts = map job_start jobs; at = places_in jobs stages answers }
 
 -- who ended by the loss of its seat is answered that it was cut
 abbrev pub CutWhereLost : List Stage → List Answer → Type 0

@@ -41,16 +41,11 @@ pub struct Places {
 }
 
 impl Model for Places {
-    ghost use Rattle.std.specs.Prelude.{map};
-    ghost use Rattle.pt_fs.specs.Jobs.{job_start};
-    ghost use Rattle.pt_fs.specs.Placed.{InParts, Placed, places_in};
+    ghost use Rattle.pt_fs.specs.Placed.{InParts, Placed, placed_in};
 
     ghost Value = { Placed };
 
-    ghost view = { λ places. record {
-      starts = map job_start places.asked.items;
-      at = places_in places.asked.items places.stages.items places.answers.items;
-    } };
+    ghost view = { λ places. placed_in places.asked.items places.stages.items places.answers.items };
 
     ghost invariant = { λ places. InParts places.asked.items places.stages.items places.answers.items };
 }
