@@ -94,7 +94,8 @@ fit_make_at {asked = asked} {seen = seen} {marks = marks} {notes = notes} holds 
           | Host (host.Fault errno) ↦
               λ m. or_old (Host (host.Fault errno)) (is_there (Host (host.Fault errno))) may_be refl path s
               (refused_by asked asks (Host (host.Fault errno)) holds path (refl, tt) m (λ no. no))
-          | told ↦ λ m. refused_by asked (Calls (call.OpenAt dir name flags mode)) told holds path (refl, tt) m (λ no. no)
+          | told ↦
+              λ m. refused_by asked (Calls (call.OpenAt dir name flags mode)) told holds path (refl, tt) m (λ no. no)
         ],
       );
     }

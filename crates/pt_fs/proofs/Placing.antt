@@ -1,9 +1,9 @@
 -- Places, and the parts in which they are kept.
 use Rattle.std.proofs.Common.{◌≡◌, ◌<◌, ◌∙◌, ℕ, zero, suc, List, [], ◌∷◌, Option, Some, None, refl, ap, sym, length}
-use Rattle.std.proofs.Common.{inl, inr, subst, get_or, map, option_map, replicate, slice_get, slice_set, arith}
+use Rattle.std.proofs.Common.{inl, inr, subst, get_or, map, replicate, slice_get, slice_set, arith}
 use Rattle.std.proofs.lemmas.Bool.{cases_eq}
 use Rattle.std.proofs.lemmas.List.{length-set}
-use Rattle.std.proofs.lemmas.Option.{same_Some, slice_get-map, slice_get_read}
+use Rattle.std.proofs.lemmas.Option.{same_Some, slice_get_read}
 use Rattle.pt_host.specs.declared.ids.Errno.{Errno}
 use Rattle.pt_host.specs.declared.seat.HostSeat.{HostSeat}
 use Rattle.pt_iface.specs.declared.answer.Answer.{Answer}
@@ -11,11 +11,9 @@ use Rattle.pt_iface.specs.declared.answer.Answer.TheVariants.{Cut}
 use Rattle.pt_frame.specs.declared.finish.Finish.{Finish}
 use Rattle.pt_frame.specs.declared.finish.Finish.TheVariants as finish
 use Rattle.pt_fs.specs.Each.{answer_of}
-use Rattle.pt_fs.specs.Jobs.{job_start}
-use Rattle.pt_fs.specs.Placed.{Place, Placed, Waits, Goes, Ended, AllEnded, BareWhereGoing, CutWhereLost, InParts}
+use Rattle.pt_fs.specs.Placed.{Place, Placed, Waits, Goes, Ended, AllEnded, CutWhereLost, InParts}
 use Rattle.pt_fs.specs.Placed.{answer_at, last_of, lost_in, place_of, placed_in, places_in, stage_of}
 use Rattle.pt_fs.specs.declared.job.Job.{Job}
-use Rattle.pt_fs.specs.declared.job.Job.TheVariants as asked
 use Rattle.pt_fs.specs.declared.machine.Over.{Over}
 use Rattle.pt_fs.specs.declared.places.Stage.{Stage}
 use Rattle.pt_fs.specs.declared.places.Stage.TheVariants as stage
@@ -60,14 +58,6 @@ pub all_wait : (jobs : List Job) →
 all_wait [] = refl
 all_wait (job ∷ jobs) = ap (λ (l : List Place). Waits job ∷ l) (all_wait jobs)
 
-pub none_goes : (jobs : List Job) (count : ℕ) → BareWhereGoing jobs (replicate count stage.Waits)
-none_goes jobs count j index at = absurd (no count j at)
-  where
-    no : (count j : ℕ) → slice_get (replicate count stage.Waits) j ≡ Some (stage.Goes index) → ⊥
-    no zero j at = cc
-    no (suc count) zero at = cc
-    no (suc count) (suc j) at = no count j at
-
 pub none_lost : (answers : List Answer) (count : ℕ) → CutWhereLost (replicate count stage.Waits) answers
 none_lost answers count j errno lost at = absurd (no count j at)
   where
@@ -94,12 +84,6 @@ waited : (job : Job) (at : Stage) (told : Answer) (asked : Job) → place_of job
 waited job stage.Waits told asked is = cc
 waited job (stage.Goes index) told asked is = absurd (cc)
 waited job (stage.Ended by lost) told asked is = absurd (cc)
-
-went_on : (job : Job) (at : Stage) (told : Answer) (index : ℕ) → place_of job at told ≡ Goes index →
-    at ≡ stage.Goes index
-went_on job stage.Waits told index is = absurd (cc)
-went_on job (stage.Goes other) told index is = let same : other ≡ index = cc in ap (λ (n : ℕ). stage.Goes n) same
-went_on job (stage.Ended by lost) told index is = absurd (cc)
 
 -- A job that has ended.
 
@@ -145,47 +129,6 @@ cut_ended stages answers j was told last lost there told_there cut k errno l at 
     cut_as (finish.Answer told) is = absurd (cc)
     cut_as (finish.Lost by) is = refl
 
--- Of a job on its way its seat is kept.
-
-bare_begun : (jobs : List Job) (stages : List Stage) (j index : ℕ) (was : Job) (seat : HostSeat) →
-    slice_get jobs j ≡ Some was → BareWhereGoing jobs stages →
-    BareWhereGoing (slice_set jobs j (asked.OpenRoot seat)) (slice_set stages j (stage.Goes index))
-bare_begun jobs stages j index was seat there bare k other at = elim (cases_eq k j) [
-  | inl same ↦ (
-    seat,
-    ap (slice_get (slice_set jobs j (asked.OpenRoot seat))) same
-        ∙ get-set_same jobs j was (asked.OpenRoot seat) there,
-  )
-  | inr not ↦
-      let it = bare k other (sym (get-set_other stages j k (stage.Goes index) not) ∙ at) in
-      (it.0, get-set_other jobs j k (asked.OpenRoot seat) not ∙ it.1)
-]
-
-bare_gone : (jobs : List Job) (stages : List Stage) (j was index : ℕ) → slice_get stages j ≡ Some (stage.Goes was) →
-    BareWhereGoing jobs stages → BareWhereGoing jobs (slice_set stages j (stage.Goes index))
-bare_gone jobs stages j was index there bare k other at = elim (cases_eq k j) [
-  | inl same ↦ bare k was (ap (slice_get stages) same ∙ there)
-  | inr not ↦ bare k other (sym (get-set_other stages j k (stage.Goes index) not) ∙ at)
-]
-
-bare_ended : (jobs : List Job) (stages : List Stage) (j : ℕ) (was : Stage) (by lost : Option Errno) →
-    slice_get stages j ≡ Some was → BareWhereGoing jobs stages →
-    BareWhereGoing jobs (slice_set stages j (stage.Ended by lost))
-bare_ended jobs stages j was by lost there bare k index at = elim (cases_eq k j) [
-  | inl same ↦
-      let no : Some (stage.Ended by lost) ≡ Some (stage.Goes index) =
-      sym (get-set_same stages j was (stage.Ended by lost) there)
-      ∙ ap (slice_get (slice_set stages j (stage.Ended by lost))) (sym same) ∙ at in
-      absurd (cc)
-  | inr not ↦ bare k index (sym (get-set_other stages j k (stage.Ended by lost) not) ∙ at)
-]
-
-starts_set : (jobs : List Job) (j : ℕ) (seat : HostSeat) →
-    map job_start (slice_set jobs j (asked.OpenRoot seat)) ≡ slice_set (map job_start jobs) j seat
-starts_set [] j seat = refl
-starts_set (a ∷ jobs) zero seat = refl
-starts_set (a ∷ jobs) (suc j) seat = ap (λ (l : List HostSeat). job_start a ∷ l) (starts_set jobs j seat)
-
 -- Where all have ended.
 
 answers_all : (jobs : List Job) (stages : List Stage) (answers : List Answer) → length stages ≡ length jobs →
@@ -212,8 +155,9 @@ answers_all (a ∷ jobs) (b ∷ stages) (c ∷ answers) one two ended cut =
     told (stage.Ended (Some errno) lost) is cut = cut errno lost refl
 
 -- What is so of places of which each part lies among its like.
-module _ {jobs : List Job} {stages : List Stage} {answers : List Answer} (parts : InParts jobs stages answers)
-    {placed : Placed} (view : placed_in jobs stages answers ≡ placed) where
+module _ {starts : List HostSeat} {jobs : List Job} {stages : List Stage} {answers : List Answer}
+    (parts : InParts starts jobs stages answers) {placed : Placed}
+    (view : placed_in starts jobs stages answers ≡ placed) where
   at_view : places_in jobs stages answers ≡ placed.at
   at_view = ap (λ (p : Placed). p.at) view
 
@@ -233,6 +177,9 @@ module _ {jobs : List Job} {stages : List Stage} {answers : List Answer} (parts 
 
     pub in_jobs : j < length jobs
     in_jobs = let low = in_stages in let each = parts.each_stage in omega (arith, low, each)
+
+    pub in_starts : j < length starts
+    in_starts = let low = in_jobs in let each = parts.each_start in omega (arith, low, each)
 
     pub in_answers : j < length answers
     in_answers = let low = in_jobs in let each = parts.each_answer in omega (arith, low, each)
@@ -261,37 +208,12 @@ module _ {jobs : List Job} {stages : List Stage} {answers : List Answer} (parts 
         waited seen at.0 answer_there.0 asked
         (parts_there seen at.0 (slice_get_read jobs _ j seen refl in_jobs read) at.1 (Waits asked) there)
 
-    goes_there : (index : ℕ) → slice_get placed.at j ≡ Some (Goes index) →
-        slice_get stages j ≡ Some (stage.Goes index)
-    goes_there index there =
-        let job = got jobs j in_jobs in
-        let at = got stages j in_stages in
-        at.1 ∙ ap (λ (s : Stage). Some s) (went_on job.0 at.0 answer_there.0 index
-        (parts_there job.0 at.0 job.1 at.1 (Goes index) there))
-
-    -- of one on its way its seat is kept
-    pub bare_there : (index : ℕ) → slice_get placed.at j ≡ Some (Goes index) → (seen : Job) →
-        seen ≡ get_or jobs j seen → (seat : HostSeat) × (seen ≡ asked.OpenRoot seat)
-    bare_there index there seen read =
-        let it = parts.bare j index (goes_there index there) in (
-          it.0,
-          same_Some seen (asked.OpenRoot it.0)
-              (sym (slice_get_read jobs _ j seen refl in_jobs read) ∙ it.1),
-        )
-
-    pub start_there : (seen : Job) → seen ≡ get_or jobs j seen →
-        slice_get (map job_start jobs) j ≡ Some (job_start seen)
+    pub start_there : (seen : HostSeat) → seen ≡ get_or starts j seen → slice_get placed.starts j ≡ Some seen
     start_there seen read =
-        slice_get-map job_start jobs j ∙ ap (option_map job_start) (slice_get_read jobs _ j seen refl in_jobs read)
+        ap (λ (p : Placed). slice_get p.starts j) (sym view)
+        ∙ slice_get_read starts _ j seen refl in_starts read
 
-    pub starts_kept : (seen : Job) → seen ≡ get_or jobs j seen → (seat : HostSeat) → seat ≡ job_start seen →
-        map job_start (slice_set jobs j (asked.OpenRoot seat)) ≡ map job_start jobs
-    starts_kept seen read seat is =
-        starts_set jobs j seat
-        ∙ ap (λ (s : HostSeat). slice_set (map job_start jobs) j s) is
-        ∙ sym (set-same (map job_start jobs) j (job_start seen) (start_there seen read))
-
-    -- its job goes on with this machine, and its seat alone is kept
+    -- its job goes on with this machine
     pub begun : (job : Job) (index : ℕ) →
         places_in (slice_set jobs j job) (slice_set stages j (stage.Goes index)) answers
         ≡ slice_set placed.at j (Goes index)
@@ -301,17 +223,16 @@ module _ {jobs : List Job} {stages : List Stage} {answers : List Answer} (parts 
         ∙ set_all jobs stages answers j job (stage.Goes index) answer_there.0
         ∙ ap (λ (l : List Place). slice_set l j (Goes index)) at_view
 
-    pub begun_parts : (seat : HostSeat) (index : ℕ) →
-        InParts (slice_set jobs j (asked.OpenRoot seat)) (slice_set stages j (stage.Goes index)) answers
-    begun_parts seat index =
+    pub begun_parts : (job : Job) (index : ℕ) →
+        InParts starts (slice_set jobs j job) (slice_set stages j (stage.Goes index)) answers
+    begun_parts job index =
         let at = got stages j in_stages in
-        let job = got jobs j in_jobs in
-        let same = sym (length-set jobs j (asked.OpenRoot seat)) in
+        let same = sym (length-set jobs j job) in
         record {
+          each_start = parts.each_start ∙ same;
           each_stage = length-set stages j (stage.Goes index) ∙ parts.each_stage ∙ same;
           each_answer = parts.each_answer ∙ same;
           cut = cut_gone stages answers j index at.0 at.1 parts.cut;
-          bare = bare_begun jobs stages j index job.0 seat job.1 parts.bare;
         }
 
     -- its job goes on with this machine
@@ -323,14 +244,15 @@ module _ {jobs : List Job} {stages : List Stage} {answers : List Answer} (parts 
         (set-same jobs j job.0 job.1)
         ∙ begun job.0 index
 
-    pub gone_parts : (was index : ℕ) → slice_get placed.at j ≡ Some (Goes was) →
-        InParts jobs (slice_set stages j (stage.Goes index)) answers
-    gone_parts was index there = record {
-      each_stage = length-set stages j (stage.Goes index) ∙ parts.each_stage;
-      each_answer = parts.each_answer;
-      cut = cut_gone stages answers j index (stage.Goes was) (goes_there was there) parts.cut;
-      bare = bare_gone jobs stages j was index (goes_there was there) parts.bare;
-    }
+    pub gone_parts : (index : ℕ) → InParts starts jobs (slice_set stages j (stage.Goes index)) answers
+    gone_parts index =
+        let at = got stages j in_stages in
+        record {
+          each_start = parts.each_start;
+          each_stage = length-set stages j (stage.Goes index) ∙ parts.each_stage;
+          each_answer = parts.each_answer;
+          cut = cut_gone stages answers j index at.0 at.1 parts.cut;
+        }
 
     -- its job has ended
     pub over_there : (over : Over) →
@@ -346,13 +268,13 @@ module _ {jobs : List Job} {stages : List Stage} {answers : List Answer} (parts 
         ∙ ap (λ (l : List Place). slice_set l j (Ended over)) at_view
 
     pub over_parts : (over : Over) →
-        InParts jobs (slice_set stages j (stage.Ended (lost_in over.last) over.lost))
+        InParts starts jobs (slice_set stages j (stage.Ended (lost_in over.last) over.lost))
         (slice_set answers j (answer_of over.last))
     over_parts over =
         let at = got stages j in_stages in
         record {
+          each_start = parts.each_start;
           each_stage = length-set stages j (stage.Ended (lost_in over.last) over.lost) ∙ parts.each_stage;
           each_answer = length-set answers j (answer_of over.last) ∙ parts.each_answer;
           cut = cut_ended stages answers j at.0 answer_there.0 over.last over.lost at.1 answer_there.1 parts.cut;
-          bare = bare_ended jobs stages j at.0 (lost_in over.last) over.lost at.1 parts.bare;
         }

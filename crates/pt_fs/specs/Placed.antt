@@ -1,5 +1,5 @@
 -- Inner. Where a job is, and the parts in which that is kept.
-use Rattle.std.specs.Prelude.{◌≡◌, ℕ, List, [], ◌∷◌, Option, Some, None, length, map, slice_get}
+use Rattle.std.specs.Prelude.{◌≡◌, ℕ, List, [], ◌∷◌, Option, Some, None, length, slice_get}
 use Rattle.pt_host.specs.declared.ids.Errno.{Errno}
 use Rattle.pt_host.specs.declared.seat.HostSeat.{HostSeat}
 use Rattle.pt_iface.specs.declared.answer.Answer.{Answer}
@@ -7,9 +7,7 @@ use Rattle.pt_iface.specs.declared.answer.Answer.TheVariants as answer
 use Rattle.pt_frame.specs.declared.finish.Finish.{Finish}
 use Rattle.pt_frame.specs.declared.finish.Finish.TheVariants as finish
 use Rattle.pt_fs.specs.Each.{answer_of}
-use Rattle.pt_fs.specs.Jobs.{job_start}
 use Rattle.pt_fs.specs.declared.job.Job.{Job}
-use Rattle.pt_fs.specs.declared.job.Job.TheVariants as asked
 use Rattle.pt_fs.specs.declared.machine.Over.{Over}
 use Rattle.pt_fs.specs.declared.places.Stage.{Stage}
 use Rattle.pt_fs.specs.declared.places.Stage.TheVariants as stage
@@ -51,8 +49,8 @@ abbrev pub places_in : List Job → List Stage → List Answer → List Place
 places_in (job ∷ jobs) (stage ∷ stages) (told ∷ answers) = place_of job stage told ∷ places_in jobs stages answers
 places_in jobs stages answers = []
 
-abbrev pub placed_in : List Job → List Stage → List Answer → Placed
-placed_in jobs stages answers = record { starts = map job_start jobs; at = places_in jobs stages answers }
+abbrev pub placed_in : List HostSeat → List Job → List Stage → List Answer → Placed
+placed_in starts jobs stages answers = record { starts = starts; at = places_in jobs stages answers }
 
 -- who ended by the loss of its seat is answered that it was cut
 abbrev pub CutWhereLost : List Stage → List Answer → Type 0
@@ -60,18 +58,13 @@ CutWhereLost stages answers =
     (j : ℕ) (errno : Errno) (lost : Option Errno) → slice_get stages j ≡ Some (stage.Ended (Some errno) lost) →
     slice_get answers j ≡ Some answer.Cut
 
--- of a job on its way no more is kept than its seat
-abbrev pub BareWhereGoing : List Job → List Stage → Type 0
-BareWhereGoing jobs stages =
-    (j index : ℕ) → slice_get stages j ≡ Some (stage.Goes index) →
-    (seat : HostSeat) × (slice_get jobs j ≡ Some (asked.OpenRoot seat))
-
 -- each part of a place lies among its like, and there is one for each job
-pub record InParts (jobs : List Job) (stages : List Stage) (answers : List Answer) : Type 0 where
+pub record InParts (starts : List HostSeat) (jobs : List Job) (stages : List Stage) (answers : List Answer)
+    : Type 0 where
+  pub each_start : length starts ≡ length jobs
   pub each_stage : length stages ≡ length jobs
   pub each_answer : length answers ≡ length jobs
   pub cut : CutWhereLost stages answers
-  pub bare : BareWhereGoing jobs stages
 
 -- the answer of a job that has ended
 abbrev pub answer_at : Place → Answer

@@ -33,7 +33,8 @@ pub enum Stage {
 /// Where each job is, in order, and the seat with which it began.
 #[derive(Drop)]
 pub struct Places {
-    /// What the job asks, where it waits; then a job that begins as it did.
+    starts: Vec<HostSeat>,
+    /// What the job asks, where it waits.
     asked: Vec<Job>,
     stages: Vec<Stage>,
     /// The answer of a job that has ended.
@@ -45,9 +46,11 @@ impl Model for Places {
 
     ghost Value = { Placed };
 
-    ghost view = { λ places. placed_in places.asked.items places.stages.items places.answers.items };
+    ghost view = { λ places.
+        placed_in places.starts.items places.asked.items places.stages.items places.answers.items };
 
-    ghost invariant = { λ places. InParts places.asked.items places.stages.items places.answers.items };
+    ghost invariant = { λ places.
+        InParts places.starts.items places.asked.items places.stages.items places.answers.items };
 }
 
 /// Puts one item in another's place.
@@ -126,16 +129,19 @@ impl Places {
         ensures fits { IfOk result (λ places.
             Each (λ (job : Job). (job_start job).eff_caps.0 < 2 ^ 32) jobs.items) }
     {
+        let mut starts = with_room(alloc, jobs.len())?;
         let mut stages = with_room(alloc, jobs.len())?;
         let mut answers = with_room(alloc, jobs.len())?;
         for job in &jobs {
             // That they are 32 bits is known of what is read alone.
             let _fits = caps_of(job);
+            push_within(&mut starts, start_of(job));
             push_within(&mut stages, Stage::Waits);
             push_within(&mut answers, Answer::Cut);
         }
         Ok(Places {
             asked: jobs,
+            starts,
             stages,
             answers,
         })
@@ -155,15 +161,12 @@ impl Places {
         self.stages[place]
     }
 
-    /// The seat with which the job of this number began, which is on its way.
+    /// The seat with which the job of this number begins.
     pub fn start(&self, place: usize) -> &HostSeat
-        requires goes { (index : ℕ) × (slice_get self.now.at place ≡ Some (Goes index)) }
+        requires named { place < length self.now.at }
         ensures { slice_get self.now.starts place ≡ Some result.now }
     {
-        let Job::OpenRoot(seat) = &self.asked[place] else {
-            unreachable!()
-        };
-        seat
+        &self.starts[place]
     }
 
     /// Hands out the job of this number, which waits, and has it on its way with this machine.
@@ -174,8 +177,7 @@ impl Places {
         ensures goes { self.new.at ≡ slice_set self.old.at place (Goes index) }
     {
         self.stages[place] = Stage::Goes(index);
-        let start = start_of(&self.asked[place]);
-        mem::replace(&mut self.asked[place], Job::OpenRoot(start))
+        mem::replace(&mut self.asked[place], Job::OpenRoot(no_seat()))
     }
 
     /// Has the job of this number, which is on its way, go on with this machine.
@@ -204,6 +206,7 @@ impl Places {
     {
         let Places {
             asked: _asked,
+            starts: _starts,
             stages: _stages,
             answers,
         } = self;

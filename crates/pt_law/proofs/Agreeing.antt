@@ -158,7 +158,8 @@ module _
         given_era now next own.0 move.0 turn.step.deed turn.step.reply g move.1 given
 
     all_steps : steps_of turn.job (turns ++ turn ∷ more) ≡ steps_of turn.job turns ++ turn.step ∷ steps_of turn.job more
-    all_steps = steps_append turn.job turns (turn ∷ more) ∙ ap (λ z. steps_of turn.job turns ++ z) (steps_same turn more)
+    all_steps = steps_append turn.job turns (turn ∷ more)
+        ∙ ap (λ z. steps_of turn.job turns ++ z) (steps_same turn more)
 
     started_by : (steps : List Step) → steps_of turn.job turns ≡ steps →
         (session_after decided first_session turns).starter ≡ Some turn.job

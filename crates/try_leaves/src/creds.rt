@@ -127,8 +127,8 @@ fn group_of(word: &str) -> Option<u32> {
 }
 
 /// The seat's uid, gid and capabilities; the uid, gid and group of who asks, the group `-` where none is given,
-/// `unknown` where the extension is not supported, and `unknown:7` where the group 7 is given all the same; and what the
-/// calls fail with.
+/// `unknown` where the extension is not supported, and `unknown:7` where the group 7 is given all the same; and what
+/// the calls fail with.
 pub fn creds(alloc: Global, words: &[&str]) -> Result<String, AllocError> {
     let mut seat = a_seat(
         number_in(words, 0),

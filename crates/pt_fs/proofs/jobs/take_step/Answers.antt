@@ -26,7 +26,9 @@ wake-index-requires-clause-unfinished g c = λ state at.
     (c.requires.unfinished (run_of seats.0 seats.1 state) seats.2).0
 
 pub start-start-requires : goal.start-start-requires
-start-start-requires g c = record { goes = (c.wake-index.result, c.wake-index.ensures.index) }
+start-start-requires g c = record {
+  named = slice_get_within c.wake-index.new.places.at c.args.place _ c.wake-index.ensures.index;
+}
 
 pub index_mut-seat-requires : goal.index_mut-seat-requires
 index_mut-seat-requires g c =
@@ -84,8 +86,8 @@ went g c = went_through c.index_mut-machine.result.now c.advance-lost.new.machin
 was : (g : Over) (c : After-settle g) → slice_get c.args.running.now c.args.place
     ≡ Some (run_of c.start-start.result.now c.index_mut-seat.result.now (went g c).state)
 was g c = read_there c.running.invariant c.running.view_is c.args.place c.requires.named
-    c.wake-index.new.places.starts c.wake-index.ensures.starts c.start-start.result.now c.start-start.ensures c.index_mut-seat.result.now
-    c.index_mut-seat.ensures.value (went g c).state (went g c).was
+    c.wake-index.new.places.starts c.wake-index.ensures.starts c.start-start.result.now c.start-start.ensures
+    c.index_mut-seat.result.now c.index_mut-seat.ensures.value (went g c).state (went g c).was
 
 -- and all of them now
 now : (g : Over) (c : After-settle g) →

@@ -1,8 +1,8 @@
 use Rattle.std.proofs.Common.{◌∙◌, Some, ap, sym, arith}
 use Rattle.std.proofs.lemmas.Option.{slice_get_within}
-use Rattle.pt_fs.specs.Placed.{Placed, Waits}
+use Rattle.pt_fs.specs.Placed.{Waits}
 use Rattle.pt_fs.specs.declared.job.Job.{Job}
-use Rattle.pt_fs.proofs.Placing.{asked_is, begun, begun_parts, in_jobs, in_stages, starts_kept}
+use Rattle.pt_fs.proofs.Placing.{asked_is, begun, begun_parts, in_jobs, in_stages}
 use Rattle.pt_fs.proofs.places.Places.begin.Goals as goal
 
 pub index_mut-requires : goal.index_mut-requires
@@ -10,12 +10,6 @@ index_mut-requires c =
     let named = slice_get_within c.args.self.now.at c.args.place _ c.requires.waits.1 in
     let low = in_stages c.self.invariant c.self.view_is c.args.place named in
     omega (arith, low, c.self.inside.stages.ok.0)
-
-pub index-requires : goal.index-requires
-index-requires c =
-    let named = slice_get_within c.args.self.now.at c.args.place _ c.requires.waits.1 in
-    let low = in_jobs c.self.invariant c.self.view_is c.args.place named in
-    omega (arith, low, c.self.inside.asked.ok.0)
 
 pub index_mut-requires-2 : goal.index_mut-requires-2
 index_mut-requires-2 c =
@@ -26,8 +20,7 @@ index_mut-requires-2 c =
 pub invariant_of-self : goal.invariant_of-self
 invariant_of-self c =
     let named = slice_get_within c.args.self.now.at c.args.place _ c.requires.waits.1 in
-    rw c.replace.ensures.after (begun_parts c.self.invariant c.self.view_is c.args.place
-    named c.start_of-start.result c.args.index)
+    begun_parts c.self.invariant c.self.view_is c.args.place named c.replace.new.dest c.args.index
 
 pub returns-clause-job : goal.returns-clause-job
 returns-clause-job c =
@@ -36,15 +29,7 @@ returns-clause-job c =
     c.index_mut-2.result.now c.index_mut-2.ensures.value c.requires.waits.0 c.requires.waits.1 in
     c.requires.waits.1 ∙ ap (λ (job : Job). Some (Waits job)) (sym (c.replace.ensures.value ∙ is))
 
-pub returns-clause-starts : goal.returns-clause-starts
-returns-clause-starts c =
-    let named = slice_get_within c.args.self.now.at c.args.place _ c.requires.waits.1 in
-    rw c.replace.ensures.after (starts_kept c.self.invariant c.self.view_is c.args.place
-    named c.index.result.now c.index.ensures c.start_of-start.result c.start_of-start.ensures)
-    ∙ ap (λ (p : Placed). p.starts) c.self.view_is
-
 pub returns-clause-goes : goal.returns-clause-goes
 returns-clause-goes c =
     let named = slice_get_within c.args.self.now.at c.args.place _ c.requires.waits.1 in
-    begun c.self.invariant c.self.view_is c.args.place named c.replace.new.dest
-    c.args.index
+    begun c.self.invariant c.self.view_is c.args.place named c.replace.new.dest c.args.index

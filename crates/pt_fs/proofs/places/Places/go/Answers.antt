@@ -12,8 +12,7 @@ index_mut-requires c =
 pub invariant_of-self : goal.invariant_of-self
 invariant_of-self c =
     let named = slice_get_within c.args.self.now.at c.args.place _ c.requires.goes.1 in
-    gone_parts c.self.invariant c.self.view_is c.args.place named c.requires.goes.0
-    c.args.index c.requires.goes.1
+    gone_parts c.self.invariant c.self.view_is c.args.place named c.args.index
 
 pub returns-clause-goes : goal.returns-clause-goes
 returns-clause-goes c =
