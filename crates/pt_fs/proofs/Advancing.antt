@@ -5,22 +5,27 @@ use Rattle.pt_session.specs.Change.{Change}
 use Rattle.pt_session.specs.Happens.{Happens}
 use Rattle.pt_session.specs.Tables.{Tables}
 use Rattle.pt_session.specs.declared.reply.EventReply.{EventReply}
-use Rattle.pt_frame.specs.Deed.{Deed, Calls, Changes, IsStepOf, MayTellBytes, HoldsReplyBytes, kept_deed_of}
-use Rattle.pt_frame.specs.Grammar.{Grammar, End, Do, May, IsChosen, after, Owed, told_closings, told_inserted, restores}
+use Rattle.pt_frame.specs.Deed.{Deed, Calls, Changes, IsStepOf, MayFailToCopy, MayTellBytes, HoldsReplyBytes}
+use Rattle.pt_frame.specs.Deed.{deed_of, kept_deed_of}
+use Rattle.pt_frame.specs.Grammar.{Grammar, End, Do, May, IsChosen, Wants, after, Owed, told_closings}
+use Rattle.pt_frame.specs.Grammar.{told_inserted, restores}
 use Rattle.pt_frame.specs.Past.{lost_after}
 use Rattle.pt_frame.specs.Replies.{closings_in, inserted_by}
 use Rattle.pt_host.specs.Relation.{HostRelation}
 use Rattle.pt_frame.specs.Made.{Made}
+use Rattle.pt_frame.specs.declared.act.Act.{Act}
 use Rattle.pt_frame.specs.declared.act.ActReply.{ActReply}
 use Rattle.pt_frame.specs.declared.act.ActReply.TheVariants.{Event, Host, NoCopy}
 use Rattle.pt_frame.specs.declared.act.KeptAct.{KeptAct}
 use Rattle.pt_frame.specs.declared.act.KeptAct.TheVariants as kept_act
+use Rattle.pt_frame.specs.declared.act.Want.TheVariants as want
 use Rattle.pt_attr.specs.Machine.Job.{owes, lost_of, restores_now, steps_left, steps_bound, inserts_left}
 use Rattle.pt_law.proofs.Told.{Promises, bytes_told}
 use Rattle.pt_req.specs.declared.plan.Plan.{Plan}
 use Rattle.pt_fs.specs.Advances.{IsWanted, Advances, inserted_in}
 use Rattle.pt_fs.specs.Jobs.{no_seat}
-use Rattle.pt_fs.specs.Stepped.{Stepped}
+use Rattle.pt_fs.specs.Recorded.{kept_of}
+use Rattle.pt_fs.specs.Stepped.{Makes, Stepped}
 use Rattle.pt_fs.specs.Trace.{IsShown, MadeFrom, told_by}
 use Rattle.pt_fs.specs.declared.machine.Machine.{Machine}
 
@@ -36,20 +41,52 @@ module _ {H : Type 0} (does : HostRelation H) (host : H) where
   unmade (Some seat) tables = (refl, refl, refl)
   unmade None tables = (no_seat, (refl, refl, refl))
 
-  pub event_from : (act : KeptAct) (kept lent : Change) (reply : EventReply) (seat : Option HostSeat)
-      (tables tables' : Tables) → act ≡ kept_act.Event kept → lent ≡ kept → Happens tables lent reply tables' →
-      MadeFrom does (kept_deed_of act) (Event reply) host seat tables host seat tables'
-  event_from act kept lent reply seat tables tables' is same happens =
-      subst (λ (a : KeptAct).
-      MadeFrom does (kept_deed_of a) (Event reply) host seat tables host seat tables') (sym is)
-      (happened_from kept reply seat tables tables'
-      (subst (λ (change : Change). Happens tables change reply tables') same happens))
+  pub happened : (act : Act) (event : Change) (reply : EventReply) (seat : Option HostSeat) (tables tables' : Tables) →
+      deed_of act ≡ Changes event → Happens tables event reply tables' →
+      MadeFrom does (Some (deed_of act)) (Event reply) host seat tables host seat tables'
+  happened act event reply seat tables tables' is happens =
+      subst (λ (deed : Deed). MadeFrom does (Some deed) (Event reply) host seat tables host seat tables') (sym is)
+      (happened_from event reply seat tables tables' happens)
 
-  pub unmade_from : (act : KeptAct) (seat : Option HostSeat) (tables : Tables) → act ≡ kept_act.NoCopy →
-      MadeFrom does (kept_deed_of act) NoCopy host seat tables host seat tables
-  unmade_from act seat tables is =
-      subst (λ (a : KeptAct). MadeFrom does (kept_deed_of a) NoCopy host seat tables host seat tables) (sym is)
-      (unmade seat tables)
+-- an act with bytes of its own is of the same deed
+kept_deed : (deed : Deed) → kept_deed_of (kept_of deed) ≡ Some deed
+kept_deed (Calls call) = refl
+kept_deed (Changes change) = refl
+
+wanted_act : (owed : Grammar) (act : Act) → Wants owed (want.Step act) → IsWanted owed (Some (deed_of act))
+wanted_act (Do deed owed next) act wants = wants
+wanted_act (End last) act wants = absurd wants
+wanted_act (May one other) act wants = absurd wants
+
+wanted_none : (owed : Grammar) (act : Act) → Wants owed (want.Step act) → MayFailToCopy (deed_of act) →
+    IsWanted owed None
+wanted_none (Do deed owed next) act wants fails = subst MayFailToCopy wants fails
+wanted_none (End last) act wants fails = absurd wants
+wanted_none (May one other) act wants fails = absurd wants
+
+-- what a job wanted was made, or could not be copied
+module _ {H : Type 0} (does : HostRelation H) (owed : Grammar) (act : Act) (wants : Wants owed (want.Step act))
+    (host : H) (seat : Option HostSeat) (tables : Tables) (told : ActReply) where
+  pub makes : (reply : ActReply) (host' : H) (seat' : Option HostSeat) (tables' : Tables) →
+      MadeFrom does (Some (deed_of act)) reply host seat tables host' seat' tables' → IsShown reply told →
+      Makes does owed host seat tables (kept_of (deed_of act)) told host' seat' tables'
+  makes reply host' seat' tables' made shown = record {
+    reply = reply;
+    wanted = subst (λ (deed : Option Deed). IsWanted owed deed) (sym (kept_deed (deed_of act)))
+        (wanted_act owed act wants);
+    made = subst (λ (deed : Option Deed). MadeFrom does deed reply host seat tables host' seat' tables')
+        (sym (kept_deed (deed_of act))) made;
+    shown = shown;
+  }
+
+  pub makes_none : MayFailToCopy (deed_of act) → IsShown NoCopy told →
+      Makes does owed host seat tables kept_act.NoCopy told host seat tables
+  makes_none fails shown = record {
+    reply = NoCopy;
+    wanted = wanted_none owed act wants fails;
+    made = unmade does host seat tables;
+    shown = shown;
+  }
 
 module _ {H : Type 0} (does : HostRelation H) (faults : H → ℕ) (promises : Promises does faults) where
   -- a reply that held bytes came to a call that may tell some
@@ -191,43 +228,37 @@ made_from_shown does kept reply shown host (Some seat) tables host' None tables'
 made_from_shown does kept reply shown host None tables host' (Some seat') tables' made is = absurd made
 
 -- a machine that asked for a step, was shown its reply and went on from there
-pub stepped : {H : Type 0} (does : HostRelation H) (faults : H → ℕ) → Promises does faults → (plan later : Plan)
+pub stepped : {H : Type 0} (does : HostRelation H) (faults : H → ℕ) → Promises does faults → (plan : Plan)
     (start : HostSeat) (job : ℕ) (host host' : H) (seat seat' : Option HostSeat) (was now : Machine)
-    (tables tables' : Tables) (act : KeptAct) (reply shown : ActReply) (restoring : Bool) → later ≡ plan →
+    (tables tables' : Tables) (act : KeptAct) (shown : ActReply) (restoring : Bool) →
     now.place ≡ was.place →
-    IsWanted (owes plan start was.state) (kept_deed_of act) →
-    MadeFrom does (kept_deed_of act) reply host seat tables host' seat' tables' → IsShown reply shown →
-    IsChosen (after shown (owes later start was.state)) (owes later start now.state) →
+    Makes does (owes plan start was.state) host seat tables act shown host' seat' tables' →
+    IsChosen (after shown (owes plan start was.state)) (owes plan start now.state) →
     restoring ≡ restores_now was.state → restoring ≡ restores (owes plan start was.state) →
     lost_of now.state ≡ lost_after (lost_of was.state) (restores_now was.state) shown →
     steps_left now.state < steps_left was.state →
     steps_bound now.state + 1
-    ≤ steps_bound was.state + 3 * told_closings (owes later start was.state) shown →
-    inserts_left now.state + told_inserted (owes later start was.state) shown ≤ inserts_left was.state →
+    ≤ steps_bound was.state + 3 * told_closings (owes plan start was.state) shown →
+    inserts_left now.state + told_inserted (owes plan start was.state) shown ≤ inserts_left was.state →
     Stepped does plan start job host seat was tables (record { job = job; act = act; reply = shown }) host' seat' now
     tables'
-stepped does faults promises plan later start job host host' seat seat' was now tables tables' act reply shown
-    restoring same place wanted made is goes mark marked lost fewer within inserts =
+stepped does faults promises plan start job host host' seat seat' was now tables tables' act shown restoring place
+    makes goes mark marked lost fewer within inserts =
     let old = owes plan start was.state in
     let new = owes plan start now.state in
-    let advances : Advances old (kept_deed_of act) shown new =
-    advanced does faults promises old new (kept_deed_of act) reply shown shown host seat tables host' seat'
-    tables' wanted made is refl
-    (subst (λ (p : Plan). IsChosen (after shown (owes p start was.state)) (owes p start now.state)) same
-    goes) in
+    let kept = kept_deed_of act in
+    let advances : Advances old kept shown new =
+    advanced does faults promises old new kept makes.reply shown shown host seat tables host' seat' tables'
+    makes.wanted makes.made makes.shown refl goes in
     record {
       owner = refl;
       place = place;
-      made = made_from_shown does (kept_deed_of act) reply shown host seat tables host' seat' tables' made is;
+      made = made_from_shown does kept makes.reply shown host seat tables host' seat' tables' makes.made makes.shown;
       advances = advances;
       loses = lost ∙ ap (λ (b : Bool). lost_after (lost_of was.state) b shown) (sym mark ∙ marked);
       fewer = fewer;
-      within = told_within old new (kept_deed_of act) shown shown (steps_bound was.state) (steps_bound now.state)
-          advances refl
-          (subst (λ (p : Plan). steps_bound now.state + 1
-          ≤ steps_bound was.state + 3 * told_closings (owes p start was.state) shown) same within);
-      inserts = inserted_within old new (kept_deed_of act) shown shown (inserts_left was.state)
-          (inserts_left now.state) advances refl
-          (subst (λ (p : Plan). inserts_left now.state + told_inserted (owes p start was.state) shown
-          ≤ inserts_left was.state) same inserts);
+      within = told_within old new kept shown shown (steps_bound was.state) (steps_bound now.state) advances refl
+          within;
+      inserts = inserted_within old new kept shown shown (inserts_left was.state) (inserts_left now.state) advances
+          refl inserts;
     }

@@ -81,18 +81,17 @@ goes_none does plan order host running tables trace = record {
   spent = same_work (work running tables);
 }
 
-unfoldable pub goes_on : {H : Type 0} (does : HostRelation H) (plan plan1 : Plan) (o0 o1 o2 : (ℕ → ℕ) →
-    List ℕ) (h0 h1 h2 : H) (s0 s1 s2 : List Running) (r0 r1 r2 : Tables) (t0 t1 t2 : List TraceStep) → plan1 ≡ plan →
-    GoesOn does plan o0 h0 s0 r0 t0 o1 h1 s1 r1 t1 → GoesOn does plan1 o1 h1 s1 r1 t1 o2 h2 s2 r2 t2 →
+unfoldable pub goes_on : {H : Type 0} (does : HostRelation H) (plan : Plan) (o0 o1 o2 : (ℕ → ℕ) → List ℕ)
+    (h0 h1 h2 : H) (s0 s1 s2 : List Running) (r0 r1 r2 : Tables) (t0 t1 t2 : List TraceStep) →
+    GoesOn does plan o0 h0 s0 r0 t0 o1 h1 s1 r1 t1 → GoesOn does plan o1 h1 s1 r1 t1 o2 h2 s2 r2 t2 →
     GoesOn does plan o0 h0 s0 r0 t0 o2 h2 s2 r2 t2
-goes_on does plan plan1 o0 o1 o2 h0 h1 h2 s0 s1 s2 r0 r1 r2 t0 t1 t2 same first second = record {
+goes_on does plan o0 o1 o2 h0 h1 h2 s0 s1 s2 r0 r1 r2 t0 t1 t2 first second = record {
   steps = first.steps ++ second.steps;
   longer = second.longer ∙ ap (λ t. t ++ second.steps) first.longer ∙ append_assoc t0 first.steps second.steps;
   runs = runs_on does first.steps second.steps h0 h1 h2 (map run_seat s0) (map run_seat s1)
       (map run_seat s2) r0 r1 r2 first.runs second.runs;
   same = second.same ∙ first.same;
-  each = each_on plan s0 s1 s2 first.steps second.steps first.each
-      (subst (λ (p : Plan). EachWent p s1 second.steps s2) same second.each);
+  each = each_on plan s0 s1 s2 first.steps second.steps first.each second.each;
   owns = owns_on o0 o1 o2 s0 s1 s2 first.steps second.steps first.owns second.owns;
   spent =
       let both = length-append first.steps second.steps in

@@ -29,27 +29,24 @@ use Rattle.pt_fs.proofs.Lists.{get-set_same, get-set_other}
 use Rattle.pt_fs.proofs.Stepping.{advance_restores, leads_tended}
 
 -- a seat is lost after some steps
-pub lost_on : {H : Type 0} (does : HostRelation H) (plan plan1 : Plan) (o0 o1 : (ℕ → ℕ) → List ℕ) (h0 h1 h2 : H)
+pub lost_on : {H : Type 0} (does : HostRelation H) (plan : Plan) (o0 o1 : (ℕ → ℕ) → List ℕ) (h0 h1 h2 : H)
     (s0 s1 s2 : List Running) (r0 r1 r2 : Tables) (t0 t1 t2 : List TraceStep) (job : ℕ) (errno : Errno) →
-    plan1 ≡ plan → GoesOn does plan o0 h0 s0 r0 t0 o1 h1 s1 r1 t1 →
-    LostAt does plan1 o1 h1 s1 r1 t1 h2 s2 r2 t2 job errno → LostAt does plan o0 h0 s0 r0 t0 h2 s2 r2 t2 job errno
-lost_on does plan plan1 o0 o1 h0 h1 h2 s0 s1 s2 r0 r1 r2 t0 t1 t2 job errno same first then =
-    let lost : LostAt does plan o1 h1 s1 r1 t1 h2 s2 r2 t2 job errno =
-    subst (λ (p : Plan). LostAt does p o1 h1 s1 r1 t1 h2 s2 r2 t2 job errno) same then in
-    record {
-      mid = lost.mid;
-      stood = lost.stood;
-      left = lost.left;
-      so_far = lost.so_far;
-      now = lost.now;
-      after = lost.after;
-      goes = goes_on does plan plan o0 o1 lost.now h0 h1 lost.mid s0 s1 lost.stood r0 r1 lost.left t0 t1 lost.so_far
-          refl first lost.goes;
-      calm = lost.calm;
-      took = lost.took;
-      last = lost.last;
-      one = lost.one;
-    }
+    GoesOn does plan o0 h0 s0 r0 t0 o1 h1 s1 r1 t1 →
+    LostAt does plan o1 h1 s1 r1 t1 h2 s2 r2 t2 job errno → LostAt does plan o0 h0 s0 r0 t0 h2 s2 r2 t2 job errno
+lost_on does plan o0 o1 h0 h1 h2 s0 s1 s2 r0 r1 r2 t0 t1 t2 job errno first lost = record {
+  mid = lost.mid;
+  stood = lost.stood;
+  left = lost.left;
+  so_far = lost.so_far;
+  now = lost.now;
+  after = lost.after;
+  goes = goes_on does plan o0 o1 lost.now h0 h1 lost.mid s0 s1 lost.stood r0 r1 lost.left t0 t1 lost.so_far first
+      lost.goes;
+  calm = lost.calm;
+  took = lost.took;
+  last = lost.last;
+  one = lost.one;
+}
 
 module _ {H : Type 0} {does : HostRelation H} {plan : Plan} {place : ℕ} {host host' : H}
     {running running' : List Running} {tables tables' : Tables} {trace trace' : List TraceStep} {errno : Errno}
@@ -143,15 +140,15 @@ restored_none does plan job host running tables trace = record {
 }
 
 -- one restoring step more
-restored_step : {H : Type 0} (does : HostRelation H) (plan : Plan) (job : ℕ) (h0 h1 h2 : H)
+pub restored_step : {H : Type 0} (does : HostRelation H) (plan : Plan) (job : ℕ) (h0 h1 h2 : H)
     (s0 s1 s2 : List Running) (r0 r1 r2 : Tables) (t0 t1 t2 : List TraceStep) (lost : Option Errno) →
     Restored does plan job h0 s0 r0 t0 h1 s1 r1 t1 → Took does plan job h1 s1 r1 t1 h2 s2 r2 t2 lost →
     ((run : Running) → slice_get s1 job ≡ Some run → restores (owes plan run.start run.state) ≡ true) →
     Restored does plan job h0 s0 r0 t0 h2 s2 r2 t2
 unfolding goes_on goes_first goes_took
 restored_step does plan job h0 h1 h2 s0 s1 s2 r0 r1 r2 t0 t1 t2 lost restored took is = record {
-  goes = goes_on does plan plan (rest_of 1 job) (rest_of 1 job) (rest_of 1 job) h0 h1 h2 s0 s1 s2 r0 r1 r2 t0 t1 t2
-      refl restored.goes (goes_first took 0);
+  goes = goes_on does plan (rest_of 1 job) (rest_of 1 job) (rest_of 1 job) h0 h1 h2 s0 s1 s2 r0 r1 r2 t0 t1 t2
+      restored.goes (goes_first took 0);
   only = λ run past at k t.
       let steps = restored.goes.steps in
       let there = restored.goes.each job run at in
@@ -172,15 +169,6 @@ restored_step does plan job h0 h1 h2 s0 s1 s2 r0 r1 r2 t0 t1 t2 lost restored to
       (advance_restores run.start false (owes plan run.start took.run.state) (owes plan run.start took.run'.state)
       (kept_deed_of took.step.act) took.step.reply (past_from past (steps_by job steps)) k now goes marked);
 }
-
-pub restored_more : {H : Type 0} (does : HostRelation H) (plan plan1 : Plan) (job : ℕ) (h0 h1 h2 : H)
-    (s0 s1 s2 : List Running) (r0 r1 r2 : Tables) (t0 t1 t2 : List TraceStep) (lost : Option Errno) → plan1 ≡ plan →
-    Restored does plan job h0 s0 r0 t0 h1 s1 r1 t1 → Took does plan1 job h1 s1 r1 t1 h2 s2 r2 t2 lost →
-    ((p : Plan) (run : Running) → slice_get s1 job ≡ Some run → restores (owes p run.start run.state) ≡ true) →
-    Restored does plan job h0 s0 r0 t0 h2 s2 r2 t2
-restored_more does plan plan1 job h0 h1 h2 s0 s1 s2 r0 r1 r2 t0 t1 t2 lost same restored took is =
-    restored_step does plan job h0 h1 h2 s0 s1 s2 r0 r1 r2 t0 t1 t2 lost restored
-    (subst (λ (p : Plan). Took does p job h1 s1 r1 t1 h2 s2 r2 t2 lost) same took) (is plan)
 
 -- what is told of the job of a place
 pub restores_at : (running : List Running) (place : ℕ) (run : Running) (plan : Plan) (restoring : Bool) →

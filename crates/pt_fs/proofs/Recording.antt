@@ -1,8 +1,10 @@
 -- Steps that are written down behind others.
 use Rattle.std.proofs.Common.{◌≡◌, inl, inr, ℕ, ◌+◌, ◌≤◌, List, [], ◌∷◌, ◌++◌, ◌∙◌, Option, refl, ap, sym}
-use Rattle.std.proofs.Common.{append_assoc, append-nil, arith, ◌<◌}
+use Rattle.std.proofs.Common.{append_assoc, append-nil, arith, ◌<◌, ◌-◌, length, length-append, get_or, slice_set}
 use Rattle.std.proofs.Common.{Some, None}
+use Rattle.std.proofs.Math.Seq.{get_or-append_seam, set-append_seam}
 use Rattle.std.specs.Prelude.{IfOk, OnErr, OnOk, Result, Ok, Err}
+use Rattle.pt_frame.specs.declared.act.ActReply.{ActReply}
 use Rattle.pt_host.specs.Relation.{HostRelation}
 use Rattle.pt_host.specs.declared.ids.Errno.{Errno}
 use Rattle.pt_session.specs.Tables.{Tables}
@@ -185,9 +187,21 @@ loss_on (Ok None) P Q p f = tt
 loss_on (Ok (Some x)) P Q p f = f x p
 loss_on (Err error) P Q p f = tt
 
-pub ok_on : {X E : Type 0} (r : Result X E) (P Q : Type 0) → OnOk r P → (P → Q) → OnOk r Q
-ok_on (Ok x) P Q p f = f p
-ok_on (Err error) P Q p f = tt
+pub ok_on : {X E : Type 0} (r : Result X E) {P Q : Type 0} → OnOk r P → (P → Q) → OnOk r Q
+ok_on (Ok x) p f = f p
+ok_on (Err error) p f = tt
+
+-- The last act of a list, with what it was answered.
+pub replied : (steps longer : List TraceStep) (one at none : TraceStep) (told : ActReply) (n : ℕ) →
+    longer ≡ steps ++ one ∷ [] → n ≡ length longer → at ≡ get_or longer (n - 1) none →
+    slice_set longer (n - 1) (record { job = at.job; act = at.act; reply = told })
+    ≡ steps ++ record { job = one.job; act = one.act; reply = told } ∷ []
+replied steps longer one at none told n is all there =
+    let long = ap length is ∙ length-append steps (one ∷ []) in
+    let last : n - 1 ≡ length steps = omega (arith, all, long) in
+    let own : at ≡ one = there ∙ rw last (rw is (get_or-append_seam steps one [] none)) in
+    rw own (rw last (rw is (set-append_seam steps one []
+    (record { job = one.job; act = one.act; reply = told }))))
 
 -- In a record that is a list all steps stand, behind what it had, and it has as much room as before.
 pub listed : {R : Type 0} (items : R → List TraceStep) (capacity : R → ℕ) (wrote : R → TraceStep → R → Type 0) →

@@ -1,5 +1,5 @@
 -- Jobs take their remaining steps, and each step is written down.
-use Rattle.std.proofs.Common.{◌≡◌, ◌<◌, ◌≤◌, ◌+◌, ◌-◌, inl, inr, ℕ, suc, List, [], Some, Option, refl, length, arith}
+use Rattle.std.proofs.Common.{◌≡◌, ◌<◌, ◌≤◌, ◌+◌, ◌-◌, inl, inr, ℕ, suc, List, [], Some, Option, length, arith}
 use Rattle.std.proofs.lemmas.Bool.{cases_eq}
 use Rattle.std.proofs.lemmas.Option.{slice_get_within}
 use Rattle.pt_host.specs.Relation.{HostRelation}
@@ -63,19 +63,19 @@ module _ {H R : Type 0} {does : HostRelation H} {wrote : R → TraceStep → R �
       Wrote wrote w0 w1 (λ steps. GoesOn does plan (rest_of (suc jobs) place) h0 s0 r0 [] (rest_of jobs (place + 1))
       h1 s1 r1 steps)
   took_all finished jobs = wrote_so (some.goes jobs) (λ xs goes.
-      goes_on _ _ _ (rest_of (suc jobs) place) (rest_of (suc jobs) place) (rest_of jobs (place + 1)) _ _ _ _ _ _ _ _ _
-      _ _ _ refl goes (goes_next _ _ place jobs _ _ _ _ finished))
+      goes_on _ _ (rest_of (suc jobs) place) (rest_of (suc jobs) place) (rest_of jobs (place + 1)) _ _ _ _ _ _ _ _ _
+      _ _ _ goes (goes_next _ _ place jobs _ _ _ _ finished))
 
-  module _ {plan1 : Plan} {h2 : H} {s2 : List Running} {r2 : Tables} {w2 : R} (same : plan1 ≡ plan) where
+  module _ {h2 : H} {s2 : List Running} {r2 : Tables} {w2 : R} where
     -- one more
     pub took_more : {lost : Option Errno} →
-        Wrote wrote w1 w2 (λ steps. Took does plan1 place h1 s1 r1 [] h2 s2 r2 steps lost) →
+        Wrote wrote w1 w2 (λ steps. Took does plan place h1 s1 r1 [] h2 s2 r2 steps lost) →
         KeepsPace (room w1) (work s1 r1) (room w2) (work s2 r2) →
         TookSome does wrote room plan place h0 s0 r0 w0 h2 s2 r2 w2
     took_more took pace = record {
       goes = λ jobs. wrote_on (some.goes jobs) took (λ xs ys goes one.
-          goes_on _ _ _ (rest_of (suc jobs) place) (rest_of (suc jobs) place) (rest_of (suc jobs) place) _ _ _ _ _ _ _
-          _ _ _ _ _ same goes (goes_first (took_behind xs one) jobs));
+          goes_on _ _ (rest_of (suc jobs) place) (rest_of (suc jobs) place) (rest_of (suc jobs) place) _ _ _ _ _ _ _
+          _ _ _ _ _ goes (goes_first (took_behind xs one) jobs));
       others = λ j h. finished_took took.so j (some.others j h);
       inside = length_took took.so some.inside;
       pace = paces_on _ _ _ _ _ _ some.pace pace;
@@ -83,11 +83,11 @@ module _ {H R : Type 0} {does : HostRelation H} {wrote : R → TraceStep → R �
 
     -- one more that loses the seat
     pub took_losing : {errno : Errno} → NoneLost s1 →
-        Wrote wrote w1 w2 (λ steps. Took does plan1 place h1 s1 r1 [] h2 s2 r2 steps (Some errno)) → (jobs : ℕ) →
+        Wrote wrote w1 w2 (λ steps. Took does plan place h1 s1 r1 [] h2 s2 r2 steps (Some errno)) → (jobs : ℕ) →
         Wrote wrote w0 w2 (λ steps. LostAt does plan (rest_of (suc jobs) place) h0 s0 r0 [] h2 s2 r2 steps place
         errno)
     took_losing calm took jobs = wrote_on (some.goes jobs) took (λ xs ys goes one.
-        lost_on _ _ _ (rest_of (suc jobs) place) (rest_of (suc jobs) place) _ _ _ _ _ _ _ _ _ _ _ _ _ _ same goes
+        lost_on _ _ (rest_of (suc jobs) place) (rest_of (suc jobs) place) _ _ _ _ _ _ _ _ _ _ _ _ _ _ goes
         (lost_first calm (took_behind xs one) jobs))
 
 one_left : (n place : ℕ) → place < n → n - place ≡ suc (n - (place + 1))
@@ -137,11 +137,10 @@ module _ {H R : Type 0} {does : HostRelation H} {wrote : R → TraceStep → R �
       let same = took.goes.so.same in
       took.finished j (omega (arith, past, inside, same)) run at
 
-  module _ {plan1 : Plan} {h2 : H} {s2 : List Running} {r2 : Tables} {w2 : R} (low : place < length s0)
-      (same : plan1 ≡ plan) where
+  module _ {h2 : H} {s2 : List Running} {r2 : Tables} {w2 : R} (low : place < length s0) where
     -- and so did the job of this place
     pub below_more :
-        ((jobs : ℕ) → Wrote wrote w1 w2 (λ steps. GoesOn does plan1 (rest_of (suc jobs) place) h1 s1 r1 []
+        ((jobs : ℕ) → Wrote wrote w1 w2 (λ steps. GoesOn does plan (rest_of (suc jobs) place) h1 s1 r1 []
         (rest_of jobs (place + 1)) h2 s2 r2 steps)) →
         IsFinishedAt s2 place → ((j : ℕ) → IsFinishedAt s1 j → IsFinishedAt s2 j) →
         KeepsPace (room w1) (work s1 r1) (room w2) (work s2 r2) →
@@ -150,8 +149,8 @@ module _ {H R : Type 0} {does : HostRelation H} {wrote : R → TraceStep → R �
         let left = length s0 - (place + 1) in
         record {
           goes = wrote_on (rw (one_left (length s0) place low) at took.goes) (one left) (λ xs ys goes then.
-              goes_on _ _ _ (rest_of (length s0) 0) (rest_of (suc left) place) (rest_of left (place + 1)) _ _ _ _ _ _
-              _ _ _ _ _ _ same goes (goes_behind xs then));
+              goes_on _ _ (rest_of (length s0) 0) (rest_of (suc left) place) (rest_of left (place + 1)) _ _ _ _ _ _
+              _ _ _ _ _ _ goes (goes_behind xs then));
           finished = λ j below. elim (cases_eq j place) [
             | inl is ↦ rw is finished
             | inr other ↦ others j (took.finished j (omega (arith, below, other)))
@@ -161,11 +160,11 @@ module _ {H R : Type 0} {does : HostRelation H} {wrote : R → TraceStep → R �
 
     -- and the job of this place lost its seat
     pub below_losing : {errno : Errno} →
-        ((jobs : ℕ) → Wrote wrote w1 w2 (λ steps. LostAt does plan1 (rest_of (suc jobs) place) h1 s1 r1 [] h2 s2 r2
+        ((jobs : ℕ) → Wrote wrote w1 w2 (λ steps. LostAt does plan (rest_of (suc jobs) place) h1 s1 r1 [] h2 s2 r2
         steps place errno)) →
         Wrote wrote w0 w2 (λ steps. LostAt does plan (rest_of (length s0) 0) h0 s0 r0 [] h2 s2 r2 steps place errno)
     below_losing one =
         let left = length s0 - (place + 1) in
         wrote_on (rw (one_left (length s0) place low) at took.goes) (one left) (λ xs ys goes lost.
-        lost_on _ _ _ (rest_of (length s0) 0) (rest_of (suc left) place) _ _ _ _ _ _ _ _ _ _ _ _ _ _ same goes
+        lost_on _ _ (rest_of (length s0) 0) (rest_of (suc left) place) _ _ _ _ _ _ _ _ _ _ _ _ _ _ goes
         (lost_behind xs lost))

@@ -4,14 +4,35 @@ use Rattle.pt_host.specs.Relation.{HostRelation}
 use Rattle.pt_host.specs.declared.seat.HostSeat.{HostSeat}
 use Rattle.pt_session.specs.Tables.{Tables}
 use Rattle.pt_frame.specs.Deed.{kept_deed_of}
-use Rattle.pt_frame.specs.Grammar.{restores}
+use Rattle.pt_frame.specs.Grammar.{Grammar, restores}
 use Rattle.pt_frame.specs.Past.{lost_after}
+use Rattle.pt_frame.specs.declared.act.ActReply.{ActReply}
+use Rattle.pt_frame.specs.declared.act.KeptAct.{KeptAct}
 use Rattle.pt_attr.specs.Machine.Job.{owes, steps_left, steps_bound, inserts_left, lost_of}
 use Rattle.pt_req.specs.declared.plan.Plan.{Plan}
-use Rattle.pt_fs.specs.Advances.{Advances, inserted_in}
-use Rattle.pt_fs.specs.Trace.{MadeFrom, told_by}
+use Rattle.pt_fs.specs.Advances.{Advances, IsWanted, inserted_in}
+use Rattle.pt_fs.specs.Trace.{IsShown, MadeFrom, told_by}
 use Rattle.pt_fs.specs.declared.machine.Machine.{Machine}
 use Rattle.pt_fs.specs.declared.trace.TraceStep.{TraceStep}
+
+-- what was to be done was made, or its bytes could not be copied, and what it was answered is told or could not be copied
+pub record Makes
+    {H : Type 0}
+    (does : HostRelation H)
+    (owed : Grammar)
+    (host : H)
+    (seat : Option HostSeat)
+    (tables : Tables)
+    (act : KeptAct)
+    (told : ActReply)
+    (host' : H)
+    (seat' : Option HostSeat)
+    (tables' : Tables)
+    : Type 0 where
+  pub reply : ActReply
+  pub wanted : IsWanted owed (kept_deed_of act)
+  pub made : MadeFrom does (kept_deed_of act) reply host seat tables host' seat' tables'
+  pub shown : IsShown reply told
 
 -- the machine of this job, which began with this seat, made this step, and went on by it
 pub record Stepped

@@ -22,10 +22,6 @@ use Rattle.pt_fs.specs.declared.trace.TraceStep.{TraceStep}
 abbrev pub step_of : TraceStep → Step
 step_of step = record { deed = kept_deed_of step.act; reply = step.reply }
 
--- the step as it is told with this reply
-abbrev pub with_reply : TraceStep → ActReply → TraceStep
-with_reply step reply = record { job = step.job; act = step.act; reply = reply }
-
 -- the reply is told, or word that its bytes could not be copied
 abbrev pub IsShown : ActReply → ActReply → Type 0
 IsShown reply shown = (shown ≡ reply) ⊎ ((shown ≡ act_reply.NoCopy) × HoldsReplyBytes reply)

@@ -23,7 +23,6 @@ ghost use Rattle.pt_fs.specs.Work.{KeepsPace, work};
 ghost use Rattle.pt_fs.specs.declared.job.Job.{Job};
 ghost use Rattle.pt_fs.specs.declared.machine.Machine.{Machine};
 
-use crate::fs::SteppedFs;
 use crate::job::Job;
 use crate::machine::{Machine, begun, ended};
 use crate::places::{Places, Stage, seats_of};
@@ -32,6 +31,8 @@ use crate::room::{push_within, with_room};
 use crate::step::advance;
 use pt_host::{Errno, Host, HostSeat};
 use pt_iface::Answer;
+use pt_req::Plan;
+use pt_session::Session;
 use std::alloc::{AllocError, Global};
 use std::marker::Model;
 
@@ -209,30 +210,31 @@ impl Jobs {
 }
 
 /// Takes the next step of the job of this number, writes it down, and tells what it lost of the job's seat.
-pub fn take_step<H: Host, F: SteppedFs, R: Record>(
+pub fn take_step<H: Host, R: Record>(
     alloc: Global,
     host: &mut H,
-    fs: &mut F,
+    plan: &Plan,
+    session: &mut Session,
     running: &mut Jobs,
     writer: &mut R,
     place: u32,
 ) -> Result<Option<Errno>, AllocError>
     requires named { place < length running.old }
-    requires unfinished { IsUnfinished (F.plan_of fs.old) running.old place }
+    requires unfinished { IsUnfinished plan.now running.old place }
     ensures took { IfOk result (λ lost. Wrote R.wrote writer.old writer.new (λ steps.
-        Took H.does (F.plan_of fs.old) place host.old running.old (F.tables fs.old) [] host.new running.new
-        (F.tables fs.new) steps lost)) }
-    ensures plan { F.plan_of fs.new ≡ F.plan_of fs.old }
-    ensures root { F.root fs.new ≡ F.root fs.old }
-    ensures room { IfOk result (λ lost. KeepsPace (R.room writer.old) (work running.old (F.tables fs.old))
-        (R.room writer.new) (work running.new (F.tables fs.new))) }
-    ensures full { OnErr result (R.room writer.old < work running.old (F.tables fs.old)) }
+        Took H.does plan.now place host.old running.old session.old [] host.new running.new
+        session.new steps lost)) }
+    ensures room { IfOk result (λ lost. KeepsPace (R.room writer.old) (work running.old session.old)
+        (R.room writer.new) (work running.new session.new)) }
+    ensures full { OnErr result (R.room writer.old < work running.old session.old) }
 {
     let index = wake(&mut running.places, &mut running.going, place as usize);
     let start = running.places.start(place as usize);
     let seat = &mut running.seats[place as usize];
     let machine = &mut running.going[index];
-    let lost = advance(alloc, host, fs, machine, start, seat, writer, place);
+    let lost = advance(
+        alloc, host, plan, session, machine, start, seat, writer, place,
+    );
     settle(
         &mut running.places,
         &mut running.going,

@@ -10,34 +10,34 @@ ghost use Rattle.pt_fs.specs.Recorded.{Wrote};
 ghost use Rattle.pt_fs.specs.Took.{IsFinishedAt};
 ghost use Rattle.pt_fs.specs.Work.{KeepsPace, bounds_in, work};
 
-use crate::fs::SteppedFs;
 use crate::jobs::{Jobs, take_step};
 use crate::record::Record;
 use pt_host::Host;
+use pt_req::Plan;
+use pt_session::Session;
 use std::alloc::{AllocError, Global};
 
 /// The other restoring steps of the job that lost its seat, each once.
-fn restore_rest<H: Host, F: SteppedFs, R: Record>(
+fn restore_rest<H: Host, R: Record>(
     alloc: Global,
     host: &mut H,
-    fs: &mut F,
+    plan: &Plan,
+    session: &mut Session,
     running: &mut Jobs,
     writer: &mut R,
     job: u32,
 ) -> Result<(), AllocError>
     requires named { job < length running.old }
     ensures restored { OnOk result (Wrote R.wrote writer.old writer.new (λ steps.
-        Restored H.does (F.plan_of fs.old) job host.old running.old (F.tables fs.old) [] host.new running.new
-        (F.tables fs.new) steps)) }
-    ensures over { OnOk result (IsOver (F.plan_of fs.old) job running.new) }
-    ensures plan { F.plan_of fs.new ≡ F.plan_of fs.old }
-    ensures root { F.root fs.new ≡ F.root fs.old }
-    ensures room { OnOk result (KeepsPace (R.room writer.old) (work running.old (F.tables fs.old))
-        (R.room writer.new) (work running.new (F.tables fs.new))) }
-    ensures full { OnErr result (R.room writer.old < work running.old (F.tables fs.old)) }
+        Restored H.does plan.now job host.old running.old session.old [] host.new running.new
+        session.new steps)) }
+    ensures over { OnOk result (IsOver plan.now job running.new) }
+    ensures room { OnOk result (KeepsPace (R.room writer.old) (work running.old session.old)
+        (R.room writer.new) (work running.new session.new)) }
+    ensures full { OnErr result (R.room writer.old < work running.old session.old) }
 {
     while running.restoring(job as usize) {
-        let _lost = take_step(alloc, host, fs, running, writer, job)?;
+        let _lost = take_step(alloc, host, plan, session, running, writer, job)?;
     }
     Ok(())
 }
@@ -70,62 +70,61 @@ fn cut_all(running: &mut Jobs, job: u32)
 }
 
 /// One job gives back all that it holds, whatever that is answered.
-fn end_one<H: Host, F: SteppedFs, R: Record>(
+fn end_one<H: Host, R: Record>(
     alloc: Global,
     host: &mut H,
-    fs: &mut F,
+    plan: &Plan,
+    session: &mut Session,
     running: &mut Jobs,
     writer: &mut R,
     place: u32,
 ) -> Result<(), AllocError>
     requires named { place < length running.old }
     ensures goes { OnOk result ((jobs : ℕ) → Wrote R.wrote writer.old writer.new (λ steps.
-        GoesOn H.does (F.plan_of fs.old) (rest_of (suc jobs) place) host.old running.old (F.tables fs.old) []
-        (rest_of jobs (place + 1)) host.new running.new (F.tables fs.new) steps)) }
-    ensures plan { F.plan_of fs.new ≡ F.plan_of fs.old }
-    ensures root { F.root fs.new ≡ F.root fs.old }
+        GoesOn H.does plan.now (rest_of (suc jobs) place) host.old running.old session.old []
+        (rest_of jobs (place + 1)) host.new running.new session.new steps)) }
     ensures finished { OnOk result (IsFinishedAt running.new place) }
     ensures others { OnOk result ((j : ℕ) → IsFinishedAt running.old j → IsFinishedAt running.new j) }
-    ensures room { OnOk result (KeepsPace (R.room writer.old) (work running.old (F.tables fs.old))
-        (R.room writer.new) (work running.new (F.tables fs.new))) }
-    ensures full { OnErr result (R.room writer.old < work running.old (F.tables fs.old)) }
+    ensures room { OnOk result (KeepsPace (R.room writer.old) (work running.old session.old)
+        (R.room writer.new) (work running.new session.new)) }
+    ensures full { OnErr result (R.room writer.old < work running.old session.old) }
 {
     while !running.is_finished(place as usize) {
-        let _lost = take_step(alloc, host, fs, running, writer, place)?;
+        let _lost = take_step(alloc, host, plan, session, running, writer, place)?;
     }
     Ok(())
 }
 
 /// The jobs in order give back all that they hold.
-fn end_all<H: Host, F: SteppedFs, R: Record>(
+fn end_all<H: Host, R: Record>(
     alloc: Global,
     host: &mut H,
-    fs: &mut F,
+    plan: &Plan,
+    session: &mut Session,
     running: &mut Jobs,
     writer: &mut R,
 ) -> Result<(), AllocError>
     requires named { length running.old < 2 ^ 32 }
     ensures goes { OnOk result (Wrote R.wrote writer.old writer.new (λ steps.
-        GoesOn H.does (F.plan_of fs.old) (rest_of (length running.old) 0) host.old running.old (F.tables fs.old) []
-        (rest_of 0 (length running.old)) host.new running.new (F.tables fs.new) steps)) }
-    ensures plan { F.plan_of fs.new ≡ F.plan_of fs.old }
-    ensures root { F.root fs.new ≡ F.root fs.old }
+        GoesOn H.does plan.now (rest_of (length running.old) 0) host.old running.old session.old []
+        (rest_of 0 (length running.old)) host.new running.new session.new steps)) }
     ensures finished { OnOk result ((j : ℕ) → IsFinishedAt running.new j) }
-    ensures room { OnOk result (KeepsPace (R.room writer.old) (work running.old (F.tables fs.old))
-        (R.room writer.new) (work running.new (F.tables fs.new))) }
-    ensures full { OnErr result (R.room writer.old < work running.old (F.tables fs.old)) }
+    ensures room { OnOk result (KeepsPace (R.room writer.old) (work running.old session.old)
+        (R.room writer.new) (work running.new session.new)) }
+    ensures full { OnErr result (R.room writer.old < work running.old session.old) }
 {
     for place in 0..running.len() {
-        end_one(alloc, host, fs, running, writer, place as u32)?;
+        end_one(alloc, host, plan, session, running, writer, place as u32)?;
     }
     Ok(())
 }
 
 /// The job's other restoring steps, then the cut, and then all is given back.
-pub fn wind_up<H: Host, F: SteppedFs, R: Record>(
+pub fn wind_up<H: Host, R: Record>(
     alloc: Global,
     host: &mut H,
-    fs: &mut F,
+    plan: &Plan,
+    session: &mut Session,
     running: &mut Jobs,
     writer: &mut R,
     job: u32,
@@ -133,17 +132,15 @@ pub fn wind_up<H: Host, F: SteppedFs, R: Record>(
     requires few { length running.old < 2 ^ 32 }
     requires named { job < length running.old }
     ensures winds_up { OnOk result (Wrote R.wrote writer.old writer.new (λ steps.
-        WindsUp H.does (F.plan_of fs.old) job host.old running.old (F.tables fs.old) [] host.new running.new
-        (F.tables fs.new) steps)) }
-    ensures plan { F.plan_of fs.new ≡ F.plan_of fs.old }
-    ensures root { F.root fs.new ≡ F.root fs.old }
+        WindsUp H.does plan.now job host.old running.old session.old [] host.new running.new
+        session.new steps)) }
     ensures finished { OnOk result ((j : ℕ) → IsFinishedAt running.new j) }
     ensures same { OnOk result (length running.new ≡ length running.old) }
-    ensures room { OnOk result (KeepsPace (R.room writer.old) (work running.old (F.tables fs.old))
-        (R.room writer.new) (work running.new (F.tables fs.new))) }
-    ensures full { OnErr result (R.room writer.old < work running.old (F.tables fs.old)) }
+    ensures room { OnOk result (KeepsPace (R.room writer.old) (work running.old session.old)
+        (R.room writer.new) (work running.new session.new)) }
+    ensures full { OnErr result (R.room writer.old < work running.old session.old) }
 {
-    restore_rest(alloc, host, fs, running, writer, job)?;
+    restore_rest(alloc, host, plan, session, running, writer, job)?;
     cut_all(running, job);
-    end_all(alloc, host, fs, running, writer)
+    end_all(alloc, host, plan, session, running, writer)
 }

@@ -33,6 +33,7 @@ pub enum Stage {
 /// Where each job is, in order, and the seat with which it began.
 #[derive(Drop)]
 pub struct Places {
+    /// The seat with which the job begins. An edit has no one's.
     starts: Vec<HostSeat>,
     /// What the job asks, where it waits.
     asked: Vec<Job>,
@@ -67,17 +68,6 @@ fn caps_in(seat: &HostSeat) -> u32
     ensures fits { seat.now.eff_caps.0 < 2 ^ 32 }
 {
     seat.eff_caps.0
-}
-
-/// Those with which a job begins.
-fn caps_of(job: &Job) -> u32
-    ensures caps { result ≡ (job_start job.now).eff_caps.0 }
-    ensures fits { (job_start job.now).eff_caps.0 < 2 ^ 32 }
-{
-    match job {
-        Job::Request(_, seat, _) | Job::OpenRoot(seat) => caps_in(seat),
-        Job::Edit(_) => 0,
-    }
 }
 
 /// The seat with which a job begins.
@@ -133,9 +123,10 @@ impl Places {
         let mut stages = with_room(alloc, jobs.len())?;
         let mut answers = with_room(alloc, jobs.len())?;
         for job in &jobs {
+            let start = start_of(job);
             // That they are 32 bits is known of what is read alone.
-            let _fits = caps_of(job);
-            push_within(&mut starts, start_of(job));
+            let _fits = caps_in(&start);
+            push_within(&mut starts, start);
             push_within(&mut stages, Stage::Waits);
             push_within(&mut answers, Answer::Cut);
         }
@@ -180,9 +171,9 @@ impl Places {
         mem::replace(&mut self.asked[place], Job::OpenRoot(no_seat()))
     }
 
-    /// Has the job of this number, which is on its way, go on with this machine.
+    /// Has the job of this number go on with this machine.
     pub fn go(&mut self, place: usize, index: usize)
-        requires goes { (was : ℕ) × (slice_get self.old.at place ≡ Some (Goes was)) }
+        requires named { place < length self.old.at }
         ensures starts { self.new.starts ≡ self.old.starts }
         ensures goes { self.new.at ≡ slice_set self.old.at place (Goes index) }
     {

@@ -1,39 +1,60 @@
-ghost use Rattle.std.specs.Prelude.{◌≡◌, ◌≤◌, ◌+◌, ◌-◌, ◌++◌, ◌∷◌, [], ℕ, IfOk, OnOk, OnErr, length, vec_capacity};
-ghost use Rattle.pt_frame.specs.Deed.{HoldsReplyBytes};
-ghost use Rattle.pt_fs.specs.Trace.{IsShown, with_reply};
+ghost use Rattle.std.specs.Prelude.{◌≡◌, ◌≤◌, ◌+◌, ◌-◌, ◌++◌, ◌∷◌, [], ℕ, false, length, vec_capacity};
+ghost use Rattle.std.specs.Prelude.{IfOk, OnOk, OnErr};
+ghost use Rattle.pt_frame.specs.Deed.{MayFailToCopy, deed_of};
+ghost use Rattle.pt_frame.specs.declared.act.ActReply.TheVariants as told;
+ghost use Rattle.pt_frame.specs.declared.act.KeptAct.{KeptAct};
+ghost use Rattle.pt_fs.specs.Recorded.{noted};
+ghost use Rattle.pt_fs.specs.Trace.{IsShown};
 ghost use Rattle.pt_fs.specs.declared.trace.TraceStep.{TraceStep};
 
 use crate::trace::TraceStep;
-use pt_frame::{ActReply, KeptAct};
+use pt_frame::{Act, ActReply, KeptAct};
 use std::alloc::{AllocError, Global};
-use std::mem;
 
-/// Where the steps of a run are written down, each behind those before it.
+/// Where the steps of a run are written down, each behind those before it: first what is to be done, and then what
+/// that was answered.
 pub trait Record {
     /// From this record, this step written down leaves that record.
     ghost wrote: { Self → TraceStep → Self → Type 0 };
 
+    /// From this record, this act of this job leaves that one, in which its reply is still to be written.
+    ghost wrote_act: { Self → ℕ → KeptAct → Self → Type 0 };
+
     /// For how many steps more it has room, at least.
     ghost room: { Self → ℕ };
 
-    /// Writes down a step that was made. The reply that it leaves is for the job; where the record has to have its
-    /// bytes for itself, and they cannot be copied, both are told so.
-    fn write(&mut self, alloc: Global, step: &mut TraceStep) -> Result<(), AllocError>
-        ensures wrote { OnOk result (wrote self.old (with_reply step.old step.new.reply) self.new) }
-        ensures shown { IsShown step.old.reply step.new.reply }
+    /// Writes down what a job is to do. Where the record has to have the act's bytes for itself, and they cannot be
+    /// copied, it tells `false`: then the act is not to be made.
+    fn write_act(&mut self, alloc: Global, job: u32, act: &Act<'_>) -> Result<bool, AllocError>
+        ensures wrote { IfOk result (λ copied.
+            wrote_act self.old job (noted copied (deed_of act.now)) self.new) }
+        ensures uncopied { IfOk result (λ copied. copied ≡ false → MayFailToCopy (deed_of act.now)) }
         ensures room { OnOk result (room self.old ≤ room self.new + 1) }
         ensures full { OnErr result (room self.old ≡ 0) };
+
+    /// Writes down what the last act was answered. The reply that it leaves is for the job; where the record has to
+    /// have its bytes for itself, and they cannot be copied, both are told so.
+    fn write_reply(&mut self, alloc: Global, reply: &mut ActReply) -> Result<(), AllocError>
+        requires begun { (before : Self) × (job : ℕ) × (act : KeptAct) × wrote_act before job act self.old }
+        ensures wrote { OnOk result ((before : Self) (job : ℕ) (act : KeptAct) → wrote_act before job act self.old →
+            wrote before (record { job = job; act = act; reply = reply.new }) self.new) }
+        ensures shown { IsShown reply.old reply.new }
+        ensures room { OnOk result (room self.old ≤ room self.new) }
+        ensures full { OnErr result ((before : Self) (job : ℕ) (act : KeptAct) → wrote_act before job act self.old →
+            room before ≡ 0) };
 }
 
-/// The same reply once more, with bytes of its own. Only a host's bytes take memory.
-fn copy_of(alloc: Global, reply: &ActReply) -> Result<ActReply, AllocError>
-    ensures ok { IfOk result (λ copy. copy ≡ reply.now) }
-    ensures err { OnErr result (HoldsReplyBytes reply.now) }
+/// The reply once more, with bytes of its own. Where they cannot be copied, both tell that.
+fn told_twice(alloc: Global, reply: &mut ActReply) -> ActReply
+    ensures same { result ≡ reply.new }
+    ensures shown { IsShown reply.old reply.new }
 {
-    match reply {
-        ActReply::Event(reply) => Ok(ActReply::Event(reply.copy())),
-        ActReply::Host(reply) => Ok(ActReply::Host(reply.copy(alloc)?)),
-        ActReply::NoCopy => Ok(ActReply::NoCopy),
+    match reply.copy(alloc) {
+        Ok(copy) => copy,
+        Err(_) => {
+            *reply = ActReply::NoCopy;
+            ActReply::NoCopy
+        }
     }
 }
 
@@ -42,23 +63,30 @@ impl Record for Vec<TraceStep> {
     ghost wrote = { λ steps step longer.
         (longer.items ≡ steps.items ++ step ∷ []) × (vec_capacity steps ≤ vec_capacity longer) };
 
+    ghost wrote_act = { λ steps job act longer.
+        (longer.items ≡ steps.items ++ record { job = job; act = act; reply = told.NoCopy } ∷ [])
+        × (vec_capacity steps ≤ vec_capacity longer) };
+
     ghost room = { λ steps. vec_capacity steps - length steps.items };
 
-    fn write(&mut self, alloc: Global, step: &mut TraceStep) -> Result<(), AllocError> {
+    fn write_act(&mut self, alloc: Global, job: u32, act: &Act<'_>) -> Result<bool, AllocError> {
         self.reserve(1)?;
-        let reply = match copy_of(alloc, &step.reply) {
-            Ok(reply) => reply,
-            Err(_) => {
-                step.reply = ActReply::NoCopy;
-                ActReply::NoCopy
-            }
+        let (act, copied) = match act.keep(alloc) {
+            Ok(act) => (act, true),
+            Err(_) => (KeptAct::NoCopy, false),
         };
-        let act = mem::replace(&mut step.act, KeptAct::NoCopy);
         self.push_reserved(TraceStep {
-            job: step.job,
+            job,
             act,
-            reply,
+            reply: ActReply::NoCopy,
         });
+        Ok(copied)
+    }
+
+    fn write_reply(&mut self, alloc: Global, reply: &mut ActReply) -> Result<(), AllocError> {
+        let copy = told_twice(alloc, reply);
+        let last = self.len() - 1;
+        self[last].reply = copy;
         Ok(())
     }
 }

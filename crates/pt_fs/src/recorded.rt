@@ -19,6 +19,7 @@ use crate::record::Record;
 use crate::schedule::run_jobs;
 use pt_host::{Errno, Host, HostSeat};
 use pt_iface::Answer;
+use pt_session::Session;
 use std::alloc::Global;
 
 /// What a run leaves, its steps aside: the file system, the answer of each job, and its seat, which an edit has not.
@@ -85,17 +86,45 @@ pub fn drive_into<H: Host, F: SteppedFs, R: Record>(
         Ok(running) => running,
         Err(_) => return Err(DriveIntoError::Memory(fs)),
     };
-    match run_jobs(alloc, host, &mut fs, &mut running, writer, schedule) {
-        Ok(None) => Ok(finish_run(fs, running)),
-        Ok(Some(loss)) => match wind_up(alloc, host, &mut fs, &mut running, writer, loss.job) {
+    // The run has the tables for itself, and the configuration lies still beside them.
+    let mut session = fs.replace_session(Session::new(alloc, 0));
+    match run_jobs(
+        alloc,
+        host,
+        fs.plan(),
+        &mut session,
+        &mut running,
+        writer,
+        schedule,
+    ) {
+        Ok(None) => Ok(finish_run(with_tables(fs, session), running)),
+        Ok(Some(loss)) => match wind_up(
+            alloc,
+            host,
+            fs.plan(),
+            &mut session,
+            &mut running,
+            writer,
+            loss.job,
+        ) {
             Ok(()) => {
-                let left = finish_run(fs, running);
+                let left = finish_run(with_tables(fs, session), running);
                 Err(DriveIntoError::CredentialsLost(loss.job, loss.errno, left))
             }
-            Err(_) => Err(DriveIntoError::Record(fs)),
+            Err(_) => Err(DriveIntoError::Record(with_tables(fs, session))),
         },
-        Err(_) => Err(DriveIntoError::Record(fs)),
+        Err(_) => Err(DriveIntoError::Record(with_tables(fs, session))),
     }
+}
+
+/// The file system with these tables.
+fn with_tables<F: SteppedFs>(mut fs: F, session: Session) -> F
+    ensures tables { F.tables result ≡ session }
+    ensures plan { F.plan_of result ≡ F.plan_of fs }
+    ensures root { F.root result ≡ F.root fs }
+{
+    let _stood = fs.replace_session(session);
+    fs
 }
 
 /// What is left where each job has finished.

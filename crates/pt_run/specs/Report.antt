@@ -10,6 +10,13 @@ use Rattle.pt_show.specs.ActTexts.{act_text, act_reply_text}
 use Rattle.pt_show.specs.AnswerTexts.{answer_text}
 use Rattle.pt_show.specs.HostTexts.{errno_text}
 
+-- `step JOB` and the text of an act, and ` = REPLY`
+abbrev pub step_begin : ℕ → List ℕ → List ℕ
+step_begin job act = codes "step" ++ number_text job ++ act
+
+abbrev pub step_end : ActReply → List ℕ
+step_end reply = ended (codes " =" ++ act_reply_text reply)
+
 -- `step JOB ACT = REPLY`
 abbrev pub step_line : ℕ → KeptAct → ActReply → List ℕ
 step_line job act reply =

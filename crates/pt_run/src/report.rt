@@ -1,8 +1,10 @@
 ghost use Rattle.std.specs.Prelude.{◌≡◌, ◌++◌, OnOk};
-ghost use Rattle.pt_run.specs.Report.{step_line, answer_line, answer_lines, lost_lines};
+ghost use Rattle.pt_frame.specs.Deed.{deed_of};
+ghost use Rattle.pt_show.specs.ActTexts.{deed_text};
+ghost use Rattle.pt_run.specs.Report.{step_begin, step_end, answer_line, answer_lines, lost_lines};
 
-use pt_frame::{ActReply, KeptAct};
-use pt_fs::{Record, TraceStep};
+use pt_frame::{Act, ActReply};
+use pt_fs::Record;
 use pt_host::Errno;
 use pt_iface::Answer;
 use pt_show::Text;
@@ -16,18 +18,26 @@ pub struct LostJob {
     pub errno: Errno,
 }
 
-fn push_step(out: &mut Vec<u8>, job: u32, act: &KeptAct, reply: &ActReply) -> Result<(), AllocError>
-    ensures { OnOk result (out.new.items ≡ out.old.items ++ step_line job act.now reply.now) }
+/// Appends the first part of a step's line, what the job is to do.
+fn push_act(out: &mut Vec<u8>, job: u32, act: &Act<'_>) -> Result<(), AllocError>
+    ensures { OnOk result (out.new.items ≡ out.old.items ++ step_begin job (deed_text (deed_of act.now))) }
 {
     push_text(out, b"step")?;
     job.write(out)?;
-    act.write(out)?;
+    act.write(out)
+}
+
+/// Appends the rest of it, what that was answered.
+fn push_reply(out: &mut Vec<u8>, reply: &ActReply) -> Result<(), AllocError>
+    ensures { OnOk result (out.new.items ≡ out.old.items ++ step_end reply.now) }
+{
     push_text(out, b" =")?;
     reply.write(out)?;
     push_text(out, b"\n")
 }
 
-/// The lines of a run's steps, each written where its step was made. After an `Err` part of a line may stand there.
+/// The lines of a run's steps, each written where its step is made, without a copy of it. After an `Err` part of a
+/// line may stand there.
 #[derive(Drop)]
 pub(crate) struct StepLines {
     pub text: Vec<u8>,
@@ -35,15 +45,24 @@ pub(crate) struct StepLines {
 
 impl Record for StepLines {
     ghost use Rattle.std.specs.Prelude.{◌≡◌, ◌++◌};
-    ghost use Rattle.pt_run.specs.Report.{step_line};
+    ghost use Rattle.pt_run.specs.Report.{step_begin, step_line};
+    ghost use Rattle.pt_show.specs.ActTexts.{act_text};
 
     ghost wrote = { λ lines step longer.
         longer.text.items ≡ lines.text.items ++ step_line step.job step.act step.reply };
 
+    ghost wrote_act = { λ lines job act longer.
+        longer.text.items ≡ lines.text.items ++ step_begin job (act_text act) };
+
     ghost room = { λ lines. 0 };
 
-    fn write(&mut self, _alloc: Global, step: &mut TraceStep) -> Result<(), AllocError> {
-        push_step(&mut self.text, step.job, &step.act, &step.reply)
+    fn write_act(&mut self, _alloc: Global, job: u32, act: &Act<'_>) -> Result<bool, AllocError> {
+        push_act(&mut self.text, job, act)?;
+        Ok(true)
+    }
+
+    fn write_reply(&mut self, _alloc: Global, reply: &mut ActReply) -> Result<(), AllocError> {
+        push_reply(&mut self.text, reply)
     }
 }
 

@@ -1,18 +1,18 @@
-ghost use Rattle.pt_show.specs.ActTexts.{act_text, act_reply_text};
+ghost use Rattle.pt_frame.specs.Deed.{deed_of};
+ghost use Rattle.pt_show.specs.ActTexts.{deed_text, act_reply_text};
 
 use crate::plain::push_name;
 use crate::text::Text;
-use pt_frame::{ActReply, KeptAct};
+use pt_frame::{Act, ActReply};
 use std::alloc::AllocError;
 
-impl Text for KeptAct {
-    ghost text = { act_text };
+impl Text for Act<'_> {
+    ghost text = { λ act. deed_text (deed_of act) };
 
     fn write(&self, out: &mut Vec<u8>) -> Result<(), AllocError> {
         match self {
-            KeptAct::Event(event) => event.write(out),
-            KeptAct::Host(call) => call.write(out),
-            KeptAct::NoCopy => push_name(out, b" NoCopy"),
+            Act::Event(event) => event.write(out),
+            Act::Host(call) => call.write(out),
         }
     }
 }

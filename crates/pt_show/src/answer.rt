@@ -81,12 +81,7 @@ impl Text for DirEntries {
     ghost text = { listing_text };
 
     fn write(&self, out: &mut Vec<u8>) -> Result<(), AllocError> {
-        let entries = self.as_slice();
-        (entries.len() as u64).write(out)?;
-        for entry in entries {
-            entry.write(out)?;
-        }
-        Ok(())
+        self.as_slice().write(out)
     }
 }
 

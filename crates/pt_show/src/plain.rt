@@ -1,5 +1,5 @@
-ghost use Rattle.std.specs.Prelude.{◌≡◌, ◌<◌, ◌+◌, ◌++◌, ◌/◌, ◌%◌, OnOk};
-ghost use Rattle.pt_show.specs.Texts.{number_text, signed_text, bytes_text, switch_text, option_text};
+ghost use Rattle.std.specs.Prelude.{◌≡◌, ◌<◌, ◌+◌, ◌++◌, ◌/◌, ◌%◌, length, OnOk};
+ghost use Rattle.pt_show.specs.Texts.{number_text, signed_text, bytes_text, switch_text, option_text, items_text};
 
 use crate::text::Text;
 use pt_host::Bytes;
@@ -209,6 +209,14 @@ pub(crate) fn push_bytes(out: &mut Vec<u8>, bytes: &[u8]) -> Result<(), AllocErr
     push_byte_word(out, bytes)
 }
 
+impl Text for &[u8] {
+    ghost text = { λ bytes. bytes_text bytes.now };
+
+    fn write(&self, out: &mut Vec<u8>) -> Result<(), AllocError> {
+        push_bytes(out, self)
+    }
+}
+
 impl Text for Bytes {
     ghost text = { bytes_text };
 
@@ -228,5 +236,27 @@ impl<T: Text> Text for Option<T> {
                 value.write(out)
             }
         }
+    }
+}
+
+/// A reference has the text of its value.
+impl<T: Text> Text for &T {
+    ghost text = { λ value. T.text value.now };
+
+    fn write(&self, out: &mut Vec<u8>) -> Result<(), AllocError> {
+        (**self).write(out)
+    }
+}
+
+/// A list is its length and its items.
+impl<T: Text> Text for &[T] {
+    ghost text = { λ items. number_text (length items.now) ++ items_text T.text items.now };
+
+    fn write(&self, out: &mut Vec<u8>) -> Result<(), AllocError> {
+        (self.len() as u64).write(out)?;
+        for item in *self {
+            item.write(out)?;
+        }
+        Ok(())
     }
 }

@@ -1,11 +1,12 @@
 ghost use Rattle.std.specs.Prelude.{◌≡◌, ◌++◌, OnOk};
+ghost use Rattle.pt_session.specs.Change.{change_of};
 ghost use Rattle.pt_show.specs.SessionTexts.{form_text, row_text, negotiated_text, pair_text, forgets_text};
 ghost use Rattle.pt_show.specs.SessionTexts.{event_text, refusal_text, event_reply_text};
 
 use crate::plain::{push_four, push_name, push_named};
 use crate::text::Text;
 use pt_host::ObjIds;
-use pt_session::{EventRefusal, EventReply, ForgetPairs, KeptEvent, Negotiated, RowForm};
+use pt_session::{Event, EventRefusal, EventReply, ForgetPairs, KeptEvent, Negotiated, RowForm};
 use std::alloc::AllocError;
 
 impl Text for RowForm {
@@ -51,32 +52,27 @@ impl Text for ForgetPairs {
     ghost text = { forgets_text };
 
     fn write(&self, out: &mut Vec<u8>) -> Result<(), AllocError> {
-        let pairs = self.as_slice();
-        (pairs.len() as u64).write(out)?;
-        for pair in pairs {
-            pair.write(out)?;
-        }
-        Ok(())
+        self.as_slice().write(out)
     }
 }
 
-impl Text for KeptEvent {
-    ghost text = { event_text };
+impl Text for Event<'_> {
+    ghost text = { λ event. event_text (change_of event) };
 
     fn write(&self, out: &mut Vec<u8>) -> Result<(), AllocError> {
         match self {
-            KeptEvent::Begin => push_name(out, b" Begin"),
-            KeptEvent::Resolve { number } => push_named(out, b" Resolve", number),
-            KeptEvent::Unpin { row } => push_named(out, b" Unpin", row),
-            KeptEvent::Claim { era, handle, ids } => {
+            Event::Begin => push_name(out, b" Begin"),
+            Event::Resolve { number } => push_named(out, b" Resolve", number),
+            Event::Unpin { row } => push_named(out, b" Unpin", row),
+            Event::Claim { era, handle, ids } => {
                 push_named(out, b" Claim", era)?;
                 handle.write(out)?;
                 ids.write(out)
             }
-            KeptEvent::TakeFd => push_name(out, b" TakeFd"),
-            KeptEvent::GiveFd => push_name(out, b" GiveFd"),
-            KeptEvent::DrawNode => push_name(out, b" DrawNode"),
-            KeptEvent::Insert {
+            Event::TakeFd => push_name(out, b" TakeFd"),
+            Event::GiveFd => push_name(out, b" GiveFd"),
+            Event::DrawNode => push_name(out, b" DrawNode"),
+            Event::Insert {
                 era,
                 number,
                 form,
@@ -87,7 +83,7 @@ impl Text for KeptEvent {
                 number.write(out)?;
                 write_row(out, form, *ids, *mode)
             }
-            KeptEvent::InsertRoot {
+            Event::InsertRoot {
                 era,
                 form,
                 ids,
@@ -98,30 +94,38 @@ impl Text for KeptEvent {
                 write_row(out, form, *ids, *mode)?;
                 negotiated.write(out)
             }
-            KeptEvent::Forget { list } => push_named(out, b" Forget", list),
-            KeptEvent::GiveBack { era, number } => {
+            Event::Forget { list } => push_named(out, b" Forget", list),
+            Event::GiveBack { era, number } => {
                 push_named(out, b" GiveBack", era)?;
                 number.write(out)
             }
-            KeptEvent::DrawHandle => push_name(out, b" DrawHandle"),
-            KeptEvent::InsertHandle {
+            Event::DrawHandle => push_name(out, b" DrawHandle"),
+            Event::InsertHandle {
                 era,
                 handle,
                 number,
                 fd,
             } => push_four(out, b" InsertHandle", era, handle, number, fd),
-            KeptEvent::PinHandle { handle, number } => {
+            Event::PinHandle { handle, number } => {
                 push_named(out, b" PinHandle", handle)?;
                 number.write(out)
             }
-            KeptEvent::UnpinHandle { row } => push_named(out, b" UnpinHandle", row),
-            KeptEvent::Release { handle, number } => {
+            Event::UnpinHandle { row } => push_named(out, b" UnpinHandle", row),
+            Event::Release { handle, number } => {
                 push_named(out, b" Release", handle)?;
                 number.write(out)
             }
-            KeptEvent::Clear => push_name(out, b" Clear"),
-            KeptEvent::TakeClosing => push_name(out, b" TakeClosing"),
+            Event::Clear => push_name(out, b" Clear"),
+            Event::TakeClosing => push_name(out, b" TakeClosing"),
         }
+    }
+}
+
+impl Text for KeptEvent {
+    ghost text = { event_text };
+
+    fn write(&self, out: &mut Vec<u8>) -> Result<(), AllocError> {
+        self.lend().write(out)
     }
 }
 

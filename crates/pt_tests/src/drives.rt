@@ -7,7 +7,7 @@ use pt_fs::{DriveError, Job, PassthroughFs, SteppedFs, TraceStep, drive};
 use pt_host::{Bytes, Edit, Errno, Fd};
 use pt_iface::{Answer, Context, Refusal, Request};
 use pt_req::Config;
-use pt_session::Session;
+use pt_session::{Event, EventReply, Session};
 use std::alloc::{AllocError, Global};
 use std::test::Fail;
 
@@ -30,11 +30,27 @@ fn takes_a_session(alloc: Global, fs: &mut PassthroughFs) -> bool {
     old.slots_left() == u64::MAX && fs.session().slots_left() == 5
 }
 
+/// Whether an event is one of the tables that it lends.
+fn takes_one_of_five_slots(fs: &mut PassthroughFs) -> bool {
+    matches!(fs.event(&Event::TakeFd), EventReply::Taken) && fs.session().slots_left() == 4
+}
+
+/// Whether a request begins.
+fn begins_a_request(alloc: Global, fs: &PassthroughFs) -> bool {
+    let who = Context { uid: 0, gid: 0 };
+    match fs.start(alloc, who, Request::Root) {
+        Ok(job) => !job.is_finished(),
+        Err(_) => false,
+    }
+}
+
 #[test]
 fn a_new_file_system_keeps_its_root_and_its_limit(rt: HostRuntime) -> Result<(), Fail> {
     let mut fs = made(rt.alloc(), false)?;
     assert!(rt; keeps_its_root_and_its_limit(&fs));
     assert!(rt; takes_a_session(rt.alloc(), &mut fs));
+    assert!(rt; takes_one_of_five_slots(&mut fs));
+    assert!(rt; begins_a_request(rt.alloc(), &fs));
     Ok(())
 }
 

@@ -162,10 +162,7 @@ impl Played {
     /// Whether the job wants the act of this text.
     fn wants(&self, alloc: Global, wanted: &[u8]) -> bool {
         match self.job.want(&self.plan, &self.seat) {
-            Want::Step(act) => match act.keep(alloc) {
-                Ok(kept) => has_text(alloc, &kept, wanted),
-                Err(_) => false,
-            },
+            Want::Step(act) => has_text(alloc, &act, wanted),
             Want::Finished => false,
         }
     }

@@ -50,7 +50,7 @@ go-requires c =
     let at = goal.at.go-requires c in
     let was = moved_was c.requires.laid c.args.place c.args.index c.requires.index c.ended.result (out at.After-end)
     c.index.result.now (low at.After-index) (in_place at.After-index) in
-    record { goes = (length c.swap_remove-it.new.self.items, rw c.end.ensures.ended was) }
+    record { named = rw c.end.ensures.ended (slice_get_within _ c.index.result.now.place _ was) }
 
 pub returns-then-index-len : goal.returns-then-index-len
 returns-then-index-len c =

@@ -107,14 +107,14 @@ now g c =
 less : (g : Over) (c : After-settle g) →
     work (runs_in c.settle.new.places
     (slice_set c.running.inside.seats.items c.args.place c.advance-lost.new.seat) c.settle.new.going.items)
-    (g.F.SteppedFs.tables c.advance-lost.new.fs) + 1
-    ≤ work c.args.running.now (g.F.SteppedFs.tables c.args.fs.now)
+    c.advance-lost.new.session + 1
+    ≤ work c.args.running.now c.args.session.now
 less g c =
     let step = c.advance-lost.ensures.stepped.0 in
     let it = c.advance-lost.ensures.stepped.2 in
     rw (now g c) (spent_through (went g c) c.start-start.result.now g.H.Host.does (kept_deed_of step.act) step.reply
     c.args.host.now c.advance-lost.new.host c.args.running.now c.index_mut-seat.result.now c.advance-lost.new.seat
-    (g.F.SteppedFs.tables c.args.fs.now) (g.F.SteppedFs.tables c.advance-lost.new.fs) (was g c) it.made it.within
+    c.args.session.now c.advance-lost.new.session (was g c) it.made it.within
     it.inserts)
 
 pub returns-clause-took : goal.returns-clause-took
@@ -124,7 +124,7 @@ returns-clause-took g c =
     let start = c.start-start.result.now in
     let step = c.advance-lost.ensures.stepped.0 in
     let it = c.advance-lost.ensures.stepped.2 in
-    let plan = g.F.SteppedFs.plan_of c.args.fs.now in
+    let plan = c.args.plan.now in
     told_so c.advance-lost.result c.advance-lost.ensures.stepped.1 c.advance-lost.ensures.told
     (λ lost wrote told. record {
       steps = step ∷ [];

@@ -1,10 +1,9 @@
-use Rattle.std.proofs.Common.{refl, ◌∙◌}
 use Rattle.pt_fs.proofs.Going.{fewer_took, finished_at, unfinished_at}
 use Rattle.pt_fs.proofs.Remaining.{took_none, took_more, took_all}
 use Rattle.pt_fs.proofs.lost.end_one.Goals as goal
 
 pub loop-alloc-init : goal.loop-alloc-init
-loop-alloc-init g c = record { some = took_none c.requires.named; plan = refl; root = refl }
+loop-alloc-init g c = record { some = took_none c.requires.named }
 
 pub take_step-requires-clause-unfinished : goal.take_step-requires-clause-unfinished
 take_step-requires-clause-unfinished g c =
@@ -16,10 +15,7 @@ loop-alloc-smaller g c = fewer_took c.in_ok-_lost.ensures.took.so
 
 pub loop-alloc-preserved : goal.loop-alloc-preserved
 loop-alloc-preserved g c = record {
-  some = took_more c.loop-alloc.invariant.some c.loop-alloc.invariant.plan c.in_ok-_lost.ensures.took
-      c.in_ok-_lost.ensures.room;
-  plan = c.in_ok-_lost.ensures.plan ∙ c.loop-alloc.invariant.plan;
-  root = c.in_ok-_lost.ensures.root ∙ c.loop-alloc.invariant.root;
+  some = took_more c.loop-alloc.invariant.some c.in_ok-_lost.ensures.took c.in_ok-_lost.ensures.room;
 }
 
 pub returns-clause-finished : goal.returns-clause-finished

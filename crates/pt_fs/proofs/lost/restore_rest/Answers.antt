@@ -1,14 +1,12 @@
-use Rattle.std.proofs.Common.{◌∙◌, refl, arith}
+use Rattle.std.proofs.Common.{◌∙◌, arith}
 use Rattle.pt_fs.proofs.Going.{fewer_took, length_took}
-use Rattle.pt_fs.proofs.Losing.{restored_none, restored_more, restores_at, over_at, going_at}
+use Rattle.pt_fs.proofs.Losing.{restored_none, restored_step, restores_at, over_at, going_at}
 use Rattle.pt_fs.proofs.Recording.{wrote_none, wrote_on, took_behind, paces_on}
 use Rattle.pt_fs.proofs.lost.restore_rest.Goals as goal
 
 pub loop-alloc-init : goal.loop-alloc-init
 loop-alloc-init g c = record {
   room = omega arith;
-  plan = refl;
-  root = refl;
   restored = wrote_none (restored_none _ _ _ _ _ _ _);
   inside = c.requires.named;
 }
@@ -24,12 +22,9 @@ loop-alloc-smaller g c = fewer_took c.in_ok-_lost.ensures.took.so
 pub loop-alloc-preserved : goal.loop-alloc-preserved
 loop-alloc-preserved g c = record {
   room = paces_on _ _ _ _ _ _ c.loop-alloc.invariant.room c.in_ok-_lost.ensures.room;
-  plan = c.in_ok-_lost.ensures.plan ∙ c.loop-alloc.invariant.plan;
-  root = c.in_ok-_lost.ensures.root ∙ c.loop-alloc.invariant.root;
   restored = wrote_on c.loop-alloc.invariant.restored c.in_ok-_lost.ensures.took (λ xs ys restored took.
-      restored_more _ _ _ _ _ _ _ _ _ _ _ _ _ _ _ _ _ c.loop-alloc.invariant.plan
-      restored (took_behind xs took) (λ plan run at.
-      restores_at c.loop-alloc.running c.args.job run plan _ at
+      restored_step _ _ _ _ _ _ _ _ _ _ _ _ _ _ _ _ restored (took_behind xs took) (λ run at.
+      restores_at c.loop-alloc.running c.args.job run c.args.plan.now _ at
       c.restoring.ensures.restores ∙ c.loop-alloc-test.true));
   inside = length_took c.in_ok-_lost.ensures.took.so c.loop-alloc.invariant.inside;
 }

@@ -1,4 +1,4 @@
-use Rattle.std.proofs.Common.{◌≡◌, ◌<◌, length, []}
+use Rattle.std.proofs.Common.{◌<◌, length, []}
 use Rattle.pt_fs.specs.Loses.{Restored}
 use Rattle.pt_fs.specs.Recorded.{Wrote}
 use Rattle.pt_fs.specs.Took.{steps_left_at}
@@ -7,13 +7,11 @@ use Rattle.pt_fs.proofs.lost.restore_rest.Given as goal
 
 abbrev pub invariant-loop-alloc : goal.invariant-loop-alloc
 invariant-loop-alloc g l = record {
-  room : KeepsPace (g.R.Record.room l.fn.writer) (work l.fn.running (g.F.SteppedFs.tables l.fn.fs))
-      (g.R.Record.room l.writer) (work l.running (g.F.SteppedFs.tables l.fs));
-  plan : g.F.SteppedFs.plan_of l.fs ≡ g.F.SteppedFs.plan_of l.fn.fs;
-  root : g.F.SteppedFs.root l.fs ≡ g.F.SteppedFs.root l.fn.fs;
+  room : KeepsPace (g.R.Record.room l.fn.writer) (work l.fn.running l.fn.session)
+      (g.R.Record.room l.writer) (work l.running l.session);
   restored : Wrote g.R.Record.wrote l.fn.writer l.writer (λ steps.
-      Restored g.H.Host.does (g.F.SteppedFs.plan_of l.fn.fs) l.fn.job l.fn.host l.fn.running
-      (g.F.SteppedFs.tables l.fn.fs) [] l.host l.running (g.F.SteppedFs.tables l.fs) steps);
+      Restored g.H.Host.does l.fn.plan l.fn.job l.fn.host l.fn.running
+      l.fn.session [] l.host l.running l.session steps);
   inside : l.job < length l.running;
 }
 

@@ -4,12 +4,12 @@ use Rattle.pt_fs.proofs.lost.wind_up.Goals as goal
 
 pub returns-clause-winds_up : goal.returns-clause-winds_up
 returns-clause-winds_up g c =
-    ok_on c.end_all.result _ _ (rw c.in_ok-restore_rest.ensures.plan at c.end_all.ensures.goes) (λ back.
+    ok_on c.end_all.result c.end_all.ensures.goes (λ back.
     wrote_on c.in_ok-restore_rest.ensures.restored back (λ xs ys restored then. record {
       mid = c.restore_rest.new.host;
       stood = c.restore_rest.new.running;
       cut = c.cut_all.new.running;
-      left = g.F.SteppedFs.tables c.restore_rest.new.fs;
+      left = c.restore_rest.new.session;
       so_far = xs;
       restored = restored;
       over = c.in_ok-restore_rest.ensures.over;
@@ -21,5 +21,5 @@ returns-clause-winds_up g c =
 
 pub returns-clause-same : goal.returns-clause-same
 returns-clause-same g c =
-    ok_on c.end_all.result _ _ c.end_all.ensures.goes (λ back.
+    ok_on c.end_all.result c.end_all.ensures.goes (λ back.
     back.so.same ∙ c.cut_all.ensures.same ∙ c.in_ok-restore_rest.ensures.restored.so.goes.same)

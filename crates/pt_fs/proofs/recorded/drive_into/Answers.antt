@@ -1,4 +1,4 @@
-use Rattle.std.proofs.Common.{length, ◌∙◌, ap, ◌++◌, [], refl, arith}
+use Rattle.std.proofs.Common.{◌≡◌, length, ◌∙◌, ap, ◌++◌, [], refl, arith}
 use Rattle.std.proofs.lemmas.List.{length-map}
 use Rattle.std.proofs.lemmas.Option.{slice_get_within}
 use Rattle.pt_session.specs.Pending.{pending_in}
@@ -13,6 +13,7 @@ use Rattle.pt_fs.proofs.Recording.{wrote_on, wrote_so, winds_behind}
 use Rattle.pt_fs.proofs.Whole.{Whole, came_whole, bounded_whole, spent_whole, ends_whole}
 use Rattle.pt_fs.proofs.Works.{started_bounds}
 use Rattle.pt_fs.proofs.recorded.drive_into.Given as given
+use Rattle.pt_fs.proofs.recorded.drive_into.Goals.{After-plan}
 use Rattle.pt_fs.proofs.recorded.drive_into.Goals as goal
 
 pub run_jobs-requires-clause-named : goal.run_jobs-requires-clause-named
@@ -50,6 +51,10 @@ lawful_of g = λ from seat asked reply to seat_after made before at.
     let l = g.met.H.Host.lawful from seat asked reply to seat_after made before at in
     (l.0, l.1, l.2)
 
+-- the run had the configuration and the tables of the file system
+planned : (g : given.Over) (c : After-plan g) → c.plan.result.now ≡ g.F.SteppedFs.plan_of c.args.fs
+planned g c = c.plan.ensures ∙ c.replace_session-session.ensures.plan
+
 pub returns-in-Ok-None-clause-run : goal.returns-in-Ok-None-clause-run
 returns-in-Ok-None-clause-run g c =
     let jobs = c.args.jobs.items in
@@ -62,10 +67,12 @@ returns-in-Ok-None-clause-run g c =
     let fits = started_fits _ jobs running started in
     let none = ap pending_in new.1 in
     let fs = c.finish_run.ensures.fs in
-    wrote_so (rw c.in-Ok-None.field-0-is at c.in-Ok-None.ensures.goes) (λ trace goes.
+    let same = planned g (goal.at.returns-in-Ok-None-clause-run g c).After-plan in
+    let out = c.replace_session-session.ensures.out in
+    wrote_so (rw out at (rw same at (rw c.in-Ok-None.field-0-is at c.in-Ok-None.ensures.goes))) (λ trace goes.
     let whole : Whole g.H.Host.does plan c.args.schedule.now c.args.host.now jobs running
     (g.F.SteppedFs.tables c.args.fs) c.run_jobs.new.host c.run_jobs.new.running
-    (g.F.SteppedFs.tables c.run_jobs.new.fs) trace c.finish_run.result.answers.items =
+    c.run_jobs.new.session trace c.finish_run.result.answers.items =
     record {
       none = [];
       empty = refl;
@@ -80,7 +87,7 @@ returns-in-Ok-None-clause-run g c =
     let is = is_run (came_whole whole) g.H.Host.tree g.H.Host.faults g.met.H.Host.promised (lawful_of g) new
     c.requires.seats fits _ seats
     (bounded_whole whole) (omega (arith, bounds, none, spent)) in
-    (rw fs is, ends_whole whole))
+    (rw fs (rw c.with_tables.ensures.tables is), ends_whole whole))
 
 pub returns-in-Ok-wind_up-clause-run : goal.returns-in-Ok-wind_up-clause-run
 returns-in-Ok-wind_up-clause-run g c =
@@ -94,18 +101,21 @@ returns-in-Ok-wind_up-clause-run g c =
     let fits = started_fits _ jobs running started in
     let none = ap pending_in new.1 in
     let fs = c.finish_run-left.ensures.fs in
-    wrote_on (rw c.in-Ok-Some.field-0-is at c.in-Ok-Some.ensures.lost)
-    (rw c.run_jobs.ensures.plan at c.in-Ok-wind_up.ensures.winds_up)
+    let same = planned g (goal.at.returns-in-Ok-wind_up-clause-run g c).After-plan in
+    let again = c.plan-in-Ok-Some.ensures ∙ c.replace_session-session.ensures.plan in
+    let out = c.replace_session-session.ensures.out in
+    wrote_on (rw out at (rw same at (rw c.in-Ok-Some.field-0-is at c.in-Ok-Some.ensures.lost)))
+    (rw again at c.in-Ok-wind_up.ensures.winds_up)
     (λ so_far back lost winds.
     let trace = so_far ++ back in
     let e : LostEnd g.H.Host.does plan c.args.schedule.now jobs c.args.host.now c.wind_up.new.host running
-    c.wind_up.new.running (g.F.SteppedFs.tables c.args.fs) (g.F.SteppedFs.tables c.wind_up.new.fs) trace
+    c.wind_up.new.running (g.F.SteppedFs.tables c.args.fs) c.wind_up.new.session trace
     c.finish_run-left.result.answers.items c.in-Ok-Some.loss.job c.in-Ok-Some.loss.errno =
     record {
       none = [];
       mid = c.run_jobs.new.host;
       stood = c.run_jobs.new.running;
-      left = g.F.SteppedFs.tables c.run_jobs.new.fs;
+      left = c.run_jobs.new.session;
       so_far = so_far;
       empty = refl;
       seats = c.requires.seats;
@@ -119,14 +129,14 @@ returns-in-Ok-wind_up-clause-run g c =
     let is = is_run (came_lost e) g.H.Host.tree g.H.Host.faults g.met.H.Host.promised (lawful_of g) new
     c.requires.seats fits _ seats
     (bounded_lost e) (omega (arith, bounds, none, spent)) in
-    (rw fs is, loses_seat e g.H.Host.faults g.met.H.Host.promised))
+    (rw fs (rw c.with_tables-in-Ok-wind_up.ensures.tables is), loses_seat e g.H.Host.faults g.met.H.Host.promised))
 
 pub returns-in-Err-run_jobs-clause-full : goal.returns-in-Err-run_jobs-clause-full
 returns-in-Err-run_jobs-clause-full g c =
     let plan = g.F.SteppedFs.plan_of c.args.fs in
     let started = started_from plan c.args.jobs.items c.in-Ok.running c.in-Ok.ensures.waiting c.in-Ok.ensures.fits in
     let bounds = started_bounds _ c.args.jobs.items c.in-Ok.running started in
-    let none = ap pending_in c.requires.new.1 in
+    let none = ap pending_in (c.replace_session-session.ensures.out ∙ c.requires.new.1) in
     let full = c.in-Err-run_jobs.ensures.full in
     omega (arith, bounds, none, full)
 
@@ -135,7 +145,7 @@ returns-in-Err-wind_up-clause-full g c =
     let plan = g.F.SteppedFs.plan_of c.args.fs in
     let started = started_from plan c.args.jobs.items c.in-Ok.running c.in-Ok.ensures.waiting c.in-Ok.ensures.fits in
     let bounds = started_bounds _ c.args.jobs.items c.in-Ok.running started in
-    let none = ap pending_in c.requires.new.1 in
+    let none = ap pending_in (c.replace_session-session.ensures.out ∙ c.requires.new.1) in
     let paced = c.in-Ok-Some.ensures.room in
     let full = c.in-Err-wind_up.ensures.full in
     omega (arith, bounds, none, paced, full)

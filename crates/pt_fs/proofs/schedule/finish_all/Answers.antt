@@ -1,22 +1,20 @@
-use Rattle.std.proofs.Common.{refl, ◌∙◌, arith}
+use Rattle.std.proofs.Common.{arith}
 use Rattle.pt_fs.proofs.Remaining.{below_none, below_more, below_losing, below_all}
 use Rattle.pt_fs.proofs.schedule.finish_all.Goals as goal
 
 pub loop-place-init : goal.loop-place-init
-loop-place-init g c = record { below = below_none; plan = refl; root = refl; calm = c.requires.calm }
+loop-place-init g c = record { below = below_none; calm = c.requires.calm }
 
 pub returns-in-Some-clause-lost : goal.returns-in-Some-clause-lost
 returns-in-Some-clause-lost g c =
-    below_losing c.loop-place.invariant.below (omega (arith, c.loop-place-test.true)) c.loop-place.invariant.plan
+    below_losing c.loop-place.invariant.below (omega (arith, c.loop-place-test.true))
     (rw c.in-Some.is at c.in_ok-errno.ensures.lost)
 
 pub loop-place-preserved : goal.loop-place-preserved
 loop-place-preserved g c = record {
-  below = below_more c.loop-place.invariant.below (omega (arith, c.loop-place-test.true)) c.loop-place.invariant.plan
+  below = below_more c.loop-place.invariant.below (omega (arith, c.loop-place-test.true))
       (rw c.in_default.is at c.in_ok-errno.ensures.goes) (rw c.in_default.is at c.in_ok-errno.ensures.finished)
       (rw c.in_default.is at c.in_ok-errno.ensures.others) c.in_ok-errno.ensures.room;
-  plan = c.in_ok-errno.ensures.plan ∙ c.loop-place.invariant.plan;
-  root = c.in_ok-errno.ensures.root ∙ c.loop-place.invariant.root;
   calm = rw c.in_default.is at c.in_ok-errno.ensures.calm;
 }
 

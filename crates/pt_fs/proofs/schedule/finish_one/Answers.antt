@@ -1,11 +1,9 @@
-use Rattle.std.proofs.Common.{refl, ◌∙◌}
 use Rattle.pt_fs.proofs.Going.{fewer_took, calm_took, finished_at, unfinished_at}
 use Rattle.pt_fs.proofs.Remaining.{took_none, took_more, took_losing, took_all}
 use Rattle.pt_fs.proofs.schedule.finish_one.Goals as goal
 
 pub loop-alloc-init : goal.loop-alloc-init
-loop-alloc-init g c =
-    record { some = took_none c.requires.named; plan = refl; root = refl; calm = c.requires.calm }
+loop-alloc-init g c = record { some = took_none c.requires.named; calm = c.requires.calm }
 
 pub take_step-requires-clause-unfinished : goal.take_step-requires-clause-unfinished
 take_step-requires-clause-unfinished g c =
@@ -13,7 +11,7 @@ take_step-requires-clause-unfinished g c =
     c.loop-alloc-test.true
 
 pub returns-in-Some-clause-lost : goal.returns-in-Some-clause-lost
-returns-in-Some-clause-lost g c = took_losing c.loop-alloc.invariant.some c.loop-alloc.invariant.plan
+returns-in-Some-clause-lost g c = took_losing c.loop-alloc.invariant.some
     c.loop-alloc.invariant.calm (rw c.in-Some.is at c.in_ok-errno.ensures.took)
 
 pub loop-alloc-smaller : goal.loop-alloc-smaller
@@ -23,9 +21,7 @@ pub loop-alloc-preserved : goal.loop-alloc-preserved
 loop-alloc-preserved g c =
     let took = c.in_ok-errno.ensures.took in
     record {
-      some = took_more c.loop-alloc.invariant.some c.loop-alloc.invariant.plan took c.in_ok-errno.ensures.room;
-      plan = c.in_ok-errno.ensures.plan ∙ c.loop-alloc.invariant.plan;
-      root = c.in_ok-errno.ensures.root ∙ c.loop-alloc.invariant.root;
+      some = took_more c.loop-alloc.invariant.some took c.in_ok-errno.ensures.room;
       calm = calm_took took.so c.in_default.is c.loop-alloc.invariant.calm;
     }
 

@@ -12,8 +12,8 @@ returns-clause-goes g c =
     let same : length c.run_schedule.new.running ≡ n = so_far.so.same in
     kept_on c.finish_all.result _ _ (rw same at c.finish_all.ensures.goes) (λ more.
     wrote_on so_far more (λ xs ys goes then.
-    goes_on _ _ _ (order c.args.schedule.now n) (rest_of n 0) (rest_of 0 n) _ _ _ _ _ _ _ _ _ _ _ _
-    c.in_ok-loss.ensures.plan goes (goes_behind xs then)))
+    goes_on _ _ (order c.args.schedule.now n) (rest_of n 0) (rest_of 0 n) _ _ _ _ _ _ _ _ _ _ _ _
+    goes (goes_behind xs then)))
 
 pub returns-clause-lost : goal.returns-clause-lost
 returns-clause-lost g c =
@@ -22,5 +22,5 @@ returns-clause-lost g c =
     let same : length c.run_schedule.new.running ≡ n = so_far.so.same in
     loss_on c.finish_all.result _ _ (rw same at c.finish_all.ensures.lost) (λ loss more.
     wrote_on so_far more (λ xs ys goes then.
-    lost_on _ _ _ (order c.args.schedule.now n) (rest_of n 0) _ _ _ _ _ _ _ _ _ _ _ _ loss.job loss.errno
-    c.in_ok-loss.ensures.plan goes (lost_behind xs then)))
+    lost_on _ _ (order c.args.schedule.now n) (rest_of n 0) _ _ _ _ _ _ _ _ _ _ _ _ loss.job loss.errno
+    goes (lost_behind xs then)))

@@ -1,4 +1,4 @@
-use Rattle.std.proofs.Common.{length, refl, ◌∙◌, drop, get_or, ◌+◌, ◌∷◌, arith}
+use Rattle.std.proofs.Common.{length, drop, get_or, ◌+◌, ◌∷◌, arith}
 use Rattle.std.proofs.lemmas.List.{drop_all, drop_more}
 use Rattle.pt_fs.specs.Order.{order}
 use Rattle.pt_fs.proofs.Going.{goes_none, goes_on, goes_place, calm_place}
@@ -10,8 +10,6 @@ pub loop-place-init : goal.loop-place-init
 loop-place-init g c = record {
   goes = wrote_none (goes_none _ _ _ _ _ _ _);
   calm = c.requires.calm;
-  plan = refl;
-  root = refl;
   room = omega arith;
 }
 
@@ -22,8 +20,8 @@ returns-in-Some-clause-lost g c =
     let n = length c.args.running.now in
     let so_far = rw (drop_more places i 0 c.loop-place-test.true) at c.loop-place.invariant.goes in
     wrote_on so_far (rw c.in-Some.is at c.in_ok-errno.ensures.lost) (λ xs ys goes took.
-    lost_on _ _ _ (order places n) (order (get_or places i 0 ∷ drop (i + 1) places) n) _ _ _ _ _ _ _ _ _ _ _ _ _ _
-    c.loop-place.invariant.plan goes
+    lost_on _ _ (order places n) (order (get_or places i 0 ∷ drop (i + 1) places) n) _ _ _ _ _ _ _ _ _ _ _ _ _ _
+    goes
     (lost_place c.loop-place.invariant.calm (took_behind xs took) (drop (i + 1) places) n))
 
 pub loop-place-preserved : goal.loop-place-preserved
@@ -35,12 +33,10 @@ loop-place-preserved g c =
     let went = rw c.in_default.is at c.in_ok-errno.ensures.goes in
     record {
       goes = wrote_on so_far went (λ xs ys goes one.
-          goes_on _ _ _ (order places n) (order (get_or places i 0 ∷ drop (i + 1) places) n)
-          (order (drop (i + 1) places) n) _ _ _ _ _ _ _ _ _ _ _ _ c.loop-place.invariant.plan goes
+          goes_on _ _ (order places n) (order (get_or places i 0 ∷ drop (i + 1) places) n)
+          (order (drop (i + 1) places) n) _ _ _ _ _ _ _ _ _ _ _ _ goes
           (goes_place (drop (i + 1) places) n (stays_behind xs one)));
       calm = calm_place went.so c.loop-place.invariant.calm;
-      plan = c.in_ok-errno.ensures.plan ∙ c.loop-place.invariant.plan;
-      root = c.in_ok-errno.ensures.root ∙ c.loop-place.invariant.root;
       room = paces_on _ _ _ _ _ _ c.loop-place.invariant.room c.in_ok-errno.ensures.room;
     }
 

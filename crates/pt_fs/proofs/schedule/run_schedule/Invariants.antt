@@ -1,4 +1,4 @@
-use Rattle.std.proofs.Common.{◌≡◌, length, drop, []}
+use Rattle.std.proofs.Common.{length, drop, []}
 use Rattle.pt_fs.specs.GoesOn.{GoesOn}
 use Rattle.pt_fs.specs.Order.{order}
 use Rattle.pt_fs.specs.Recorded.{Wrote}
@@ -9,13 +9,11 @@ use Rattle.pt_fs.proofs.schedule.run_schedule.Given as goal
 abbrev pub invariant-loop-place : goal.invariant-loop-place
 invariant-loop-place g l = record {
   goes : Wrote g.R.Record.wrote l.fn.writer l.writer (λ steps.
-      GoesOn g.H.Host.does (g.F.SteppedFs.plan_of l.fn.fs)
-      (order l.schedule (length l.fn.running)) l.fn.host l.fn.running (g.F.SteppedFs.tables l.fn.fs) []
+      GoesOn g.H.Host.does l.fn.plan
+      (order l.schedule (length l.fn.running)) l.fn.host l.fn.running l.fn.session []
       (order (drop l.place-index l.schedule) (length l.fn.running)) l.host l.running
-      (g.F.SteppedFs.tables l.fs) steps);
+      l.session steps);
   calm : NoneLost l.running;
-  plan : g.F.SteppedFs.plan_of l.fs ≡ g.F.SteppedFs.plan_of l.fn.fs;
-  root : g.F.SteppedFs.root l.fs ≡ g.F.SteppedFs.root l.fn.fs;
-  room : KeepsPace (g.R.Record.room l.fn.writer) (work l.fn.running (g.F.SteppedFs.tables l.fn.fs))
-      (g.R.Record.room l.writer) (work l.running (g.F.SteppedFs.tables l.fs));
+  room : KeepsPace (g.R.Record.room l.fn.writer) (work l.fn.running l.fn.session)
+      (g.R.Record.room l.writer) (work l.running l.session);
 }

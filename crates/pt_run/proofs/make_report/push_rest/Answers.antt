@@ -10,7 +10,7 @@ returns c =
     let answers = c.in_ok-push_answers.ensures
     ∙ ap (λ (l : List Answer). c.args.out.now.items ++ answer_lines 0 l) c.as_slice.ensures.value in
     let tables = c.in_ok-push_tables.ensures in
-    ok_on c.push_text.result _ _ c.push_text.ensures.ok (λ end. (
+    ok_on c.push_text.result c.push_text.ensures.ok (λ end. (
       tables.0,
       tables.1,
       tables.2,
