@@ -34,16 +34,16 @@ use Rattle.pt_fs.specs.declared.job.Job.{Job}
 use Rattle.pt_fs.specs.declared.trace.TraceStep.{TraceStep}
 use Rattle.pt_fs.proofs.Determined.{turns_determined}
 use Rattle.pt_fs.proofs.Laws.{host_runs}
+use Rattle.pt_script.specs.Jobs.{start_seat}
 use Rattle.pt_script.specs.Begins.{planned_all, BeginsAs}
 use Rattle.pt_run.specs.Configured.{IsConfigured, configured}
 use Rattle.pt_run.specs.Determined.{IsFull, IsOnly, DeterminesReport}
 use Rattle.pt_run.specs.declared.report.LostJob.{LostJob}
-use Rattle.pt_run.specs.Run.{start_seat, jobs_of, IsOpened, HasEnded, IsRunFrom, IsReportOf, AreLive}
+use Rattle.pt_run.specs.Run.{IsOpened, HasEnded, IsRunFrom, IsReportOf, AreLive}
 use Rattle.pt_run.specs.Run.{report_of}
 use Rattle.pt_script.specs.Script.{Begun}
 use Rattle.pt_run.specs.TableLines.{AllAbove}
 use Rattle.pt_script.specs.declared.line.PlannedFault.{PlannedFault}
-use Rattle.pt_script.specs.declared.line.ScriptJob.{ScriptJob}
 use Rattle.pt_script.specs.declared.settings.Settings.{Settings}
 
 -- what comes next is one pair at most
@@ -204,41 +204,40 @@ RanAs fs jobs schedule opened trace answers lost host seats tables =
     RanInOrder Does (λ (state : State). state.faults) fs.plan schedule jobs opened fs.tables trace answers
     (loss_of lost) host seats tables
 
-ran_in_order : (settings : Settings) (start : State) (lines : List ScriptJob) (schedule : List ℕ)
+ran_in_order : (settings : Settings) (start : State) (jobs : List Job) (schedule : List ℕ)
     (trace : List TraceStep) (answers : List Answer) (tables : Tables) (host : State) (lost : Option LostJob) →
-    (run : IsRunFrom settings start lines schedule trace answers tables host lost) → FoundMemory trace answers →
-    RanAs run.fs (jobs_of settings lines) schedule run.opened_host trace answers lost host run.seats tables
-ran_in_order settings start lines schedule trace answers tables host lost run found = record {
+    (run : IsRunFrom settings start jobs schedule trace answers tables host lost) → FoundMemory trace answers →
+    RanAs run.fs jobs schedule run.opened_host trace answers lost host run.seats tables
+ran_in_order settings start jobs schedule trace answers tables host lost run found = record {
   steps = run.run.steps;
-  ends = ends_or_loses run.fs.plan (jobs_of settings lines) schedule run.opened_host run.fs.tables trace answers
+  ends = ends_or_loses run.fs.plan jobs schedule run.opened_host run.fs.tables trace answers
       lost run.ends;
   memory = found;
 }
 
-end_agrees : (settings : Settings) (start : State) (lines : List ScriptJob) (schedule : List ℕ)
+end_agrees : (settings : Settings) (start : State) (jobs : List Job) (schedule : List ℕ)
     (trace : List TraceStep) (answers : List Answer) (tables : Tables) (host : State) (lost : Option LostJob) →
-    IsRunFrom settings start lines schedule trace answers tables host lost → Agree tables
-end_agrees settings start lines schedule trace answers tables host lost run =
+    IsRunFrom settings start jobs schedule trace answers tables host lost → Agree tables
+end_agrees settings start jobs schedule trace answers tables host lost run =
     agree_law run.fs.plan.config.guest_fd_limit (turns_of trace) tables
     (subst (λ (t : Tables).
     TablesRun t (turns_of trace) tables) run.opened.tables
     (hosts_tables Does (turns_of trace) run.opened_host run.fs.tables host tables
     (host_runs Does trace run.opened_host _ run.fs.tables host run.run.steps.seats tables run.run.steps.runs)))
 
-runs_one : (settings : Settings) (start : State) (lines : List ScriptJob) (schedule : List ℕ)
+runs_one : (settings : Settings) (start : State) (jobs : List Job) (schedule : List ℕ)
     (trace trace' : List TraceStep) (answers answers' : List Answer) (tables tables' : Tables) (host host' : State)
     (lost lost' : Option LostJob) →
-    (run : IsRunFrom settings start lines schedule trace answers tables host lost)
-    (run' : IsRunFrom settings start lines schedule trace' answers' tables' host' lost') →
+    (run : IsRunFrom settings start jobs schedule trace answers tables host lost)
+    (run' : IsRunFrom settings start jobs schedule trace' answers' tables' host' lost') →
     FoundMemory trace answers → FoundMemory trace' answers' →
     AreOneRun trace trace' answers answers' (loss_of lost) (loss_of lost') host host' run.seats run'.seats tables
     tables'
-runs_one settings start lines schedule trace trace' answers answers' tables tables' host host' lost lost' run run'
+runs_one settings start jobs schedule trace trace' answers answers' tables tables' host host' lost lost' run run'
     found found' =
-    let jobs = jobs_of settings lines in
     let same = opened_one settings start run.fs run'.fs run.opened_host run'.opened_host run.opened run'.opened in
-    let here = ran_in_order settings start lines schedule trace answers tables host lost run found in
-    let there = ran_in_order settings start lines schedule trace' answers' tables' host' lost' run' found' in
+    let here = ran_in_order settings start jobs schedule trace answers tables host lost run found in
+    let there = ran_in_order settings start jobs schedule trace' answers' tables' host' lost' run' found' in
     let opened : RanAs run'.fs jobs schedule run.opened_host trace' answers' lost' host' run'.seats tables' =
     subst (λ (state : State). RanAs run'.fs jobs schedule state trace' answers' lost' host' run'.seats tables')
     (sym same.hosts) there in

@@ -4,7 +4,6 @@ pub mod PairLines
 pub mod CommandWords
 pub mod Rooted
 pub mod Opening
-pub mod Seated
 pub mod Reporting
 pub mod Determined
 pub mod LinesTell

@@ -26,10 +26,11 @@ use Rattle.pt_iface.specs.declared.answer.Refusal.TheVariants as refusal
 use Rattle.pt_req.specs.declared.plan.Config.{Config}
 use Rattle.pt_fs.specs.FileSystem.{FileSystem, AreMapped, IsMadeBy, IsPlanned, IsUnmapped, opens_root, only_path}
 use Rattle.pt_run.specs.Configured.{IsConfigured}
-use Rattle.pt_run.specs.Run.{IsAsked, IsOpened, IsMapRefused, IsRefused, IsNotOpened, IsNoReport, start_seat}
+use Rattle.pt_run.specs.Run.{IsAsked, IsOpened, IsMapRefused, IsRefused, IsNotOpened, IsNoReport}
+use Rattle.pt_script.specs.Jobs.{start_seat}
 use Rattle.pt_script.specs.Parse.{IsScriptOf}
 use Rattle.pt_run.proofs.Rooted.{begun_root}
-use Rattle.pt_script.specs.declared.line.ScriptJob.{ScriptJob}
+use Rattle.pt_fs.specs.declared.job.Job.{Job}
 use Rattle.pt_script.specs.declared.settings.Settings.{Settings}
 use Rattle.pt_run.specs.declared.status.Status.{Status}
 use Rattle.pt_run.specs.declared.status.Status.TheVariants as status
@@ -196,7 +197,7 @@ planned_refusal settings start errno root is refused = go (failure_of start open
         (ap (λ (o : Outcome). o.0) told) refused.call.2)
 
 -- a script whose file system was not made shows no report
-pub shows_none : (bytes : List ℕ) (settings : Settings) (host : State) (jobs : List ScriptJob) (schedule : List ℕ)
+pub shows_none : (bytes : List ℕ) (settings : Settings) (host : State) (jobs : List Job) (schedule : List ℕ)
     (why : Status) →
     IsScriptOf bytes settings host jobs schedule → IsNotOpened settings host why → IsNoReport bytes why
 shows_none bytes settings host jobs schedule (status.BadConfig errno) script (inl unmapped) =

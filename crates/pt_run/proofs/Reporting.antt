@@ -7,7 +7,7 @@ use Rattle.pt_iface.specs.declared.answer.Answer.{Answer}
 use Rattle.pt_fs.specs.Recorded.{Writes}
 use Rattle.pt_fs.specs.declared.trace.TraceStep.{TraceStep}
 use Rattle.pt_script.specs.Parse.{IsScriptOf}
-use Rattle.pt_script.specs.declared.line.ScriptJob.{ScriptJob}
+use Rattle.pt_fs.specs.declared.job.Job.{Job}
 use Rattle.pt_script.specs.declared.settings.Settings.{Settings}
 use Rattle.pt_run.specs.Output.{IsWritten}
 use Rattle.pt_run.specs.Report.{step_line, step_lines}
@@ -16,14 +16,14 @@ use Rattle.pt_run.specs.Run.{AreLive, IsReadWith, IsReportWith, IsRunFrom, repor
 use Rattle.pt_run.specs.declared.report.LostJob.{LostJob}
 use Rattle.pt_run.specs.declared.status.Status.{Status}
 
-pub report_made : (bytes text : List ℕ) (settings : Settings) (start : State) (lines : List ScriptJob)
+pub report_made : (bytes text : List ℕ) (settings : Settings) (start : State) (jobs : List Job)
     (schedule : List ℕ) (trace : List TraceStep) (answers : List Answer) (tables : Tables) (host : State)
-    (lost : Option LostJob) (ends : Status) → IsScriptOf bytes settings start lines schedule →
-    IsRunFrom settings start lines schedule trace answers tables host lost →
+    (lost : Option LostJob) (ends : Status) → IsScriptOf bytes settings start jobs schedule →
+    IsRunFrom settings start jobs schedule trace answers tables host lost →
     ((lives : List (ℕ × ℕ)) × (handles : List (ℕ × ℕ)) × AreLive tables lives handles
     × (text ≡ report_of trace answers lives handles tables host lost)) → ends ≡ status_for lost →
     IsReportWith bytes ends text
-report_made bytes text settings start lines schedule trace answers tables host lost ends script run reported same =
+report_made bytes text settings start jobs schedule trace answers tables host lost ends script run reported same =
     let begun = script.0 in (
       record {
         begun = begun;
@@ -37,9 +37,9 @@ report_made bytes text settings start lines schedule trace answers tables host l
         lost = lost;
         run = subst (λ (s : Settings). IsRunFrom s start begun.jobs begun.order trace answers tables host lost)
             script.2
-            (subst (λ (l : List ScriptJob). IsRunFrom settings start l begun.order trace answers tables host lost)
+            (subst (λ (l : List Job). IsRunFrom settings start l begun.order trace answers tables host lost)
             script.4
-            (subst (λ (o : List ℕ). IsRunFrom settings start lines o trace answers tables host lost) script.5 run));
+            (subst (λ (o : List ℕ). IsRunFrom settings start jobs o trace answers tables host lost) script.5 run));
         lives = reported.0;
         handles = reported.1;
         live = reported.2;

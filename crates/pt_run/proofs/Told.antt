@@ -12,7 +12,7 @@ use Rattle.pt_fs.specs.declared.trace.TraceStep.{TraceStep}
 use Rattle.pt_fs.proofs.OneLoss.{not_whole, one_loss}
 use Rattle.pt_run.specs.Determined.{IsFull}
 use Rattle.pt_run.specs.Report.{lost_lines}
-use Rattle.pt_run.specs.Run.{jobs_of, HasEnded, IsReportOf}
+use Rattle.pt_run.specs.Run.{HasEnded, IsReportOf}
 use Rattle.pt_run.specs.declared.report.LostJob.{LostJob}
 use Rattle.pt_run.specs.Alike.{ReportsDetermineRuns, IsFullReport, IsToldBy, TellsRun}
 use Rattle.pt_run.proofs.LinesTell.{lines_tell, listings_same}
@@ -45,10 +45,10 @@ alike bytes bytes' report ran again =
     again.handles ran.tables.slots again.tables.slots (listing_of ran.host) (listing_of again.host)
     (lost_lines ran.lost) (lost_lines again.lost) (sym ran.text ∙ again.text) in
     let ends = subst (λ (trace : List TraceStep). HasEnded ran.run.fs.plan
-    (jobs_of ran.begun.settings ran.begun.jobs) ran.begun.order ran.run.opened_host ran.run.fs.tables trace ran.answers
+    ran.begun.jobs ran.begun.order ran.run.opened_host ran.run.fs.tables trace ran.answers
     ran.lost) same.traces ran.run.ends in
-    let lost = lost_one ran.run.fs.plan again.run.fs.plan (jobs_of ran.begun.settings ran.begun.jobs)
-    (jobs_of again.begun.settings again.begun.jobs) ran.begun.order again.begun.order ran.run.opened_host
+    let lost = lost_one ran.run.fs.plan again.run.fs.plan ran.begun.jobs
+    again.begun.jobs ran.begun.order again.begun.order ran.run.opened_host
     again.run.opened_host ran.run.fs.tables again.run.fs.tables again.trace ran.answers again.answers ran.lost
     again.lost ends again.run.ends in
     record {

@@ -1,6 +1,6 @@
 -- Believed. A run of a script, and its report.
 use Rattle.std.specs.Prelude.{◌≡◌, ◌≢◌, ◌≤◌, ◌⊎◌, ℕ, List, [], ◌∷◌, ◌++◌, Option, Some, None, Result, Ok, Err, length}
-use Rattle.std.specs.Prelude.{map, codes}
+use Rattle.std.specs.Prelude.{codes}
 use Rattle.pt_host.specs.Errno.{einval}
 use Rattle.pt_host.specs.declared.ids.Errno.{Errno}
 use Rattle.pt_host.specs.declared.reply.HostReply.{HostReply}
@@ -16,16 +16,13 @@ use Rattle.pt_session.specs.Tables.{Tables, empty_tables}
 use Rattle.pt_iface.specs.declared.answer.Answer.{Answer}
 use Rattle.pt_iface.specs.declared.answer.Refusal.{Refusal}
 use Rattle.pt_iface.specs.declared.answer.Refusal.TheVariants as refusal
-use Rattle.pt_iface.specs.declared.request.Context.{Context}
-use Rattle.pt_iface.specs.declared.request.Request.{Request}
-use Rattle.pt_iface.specs.declared.request.Request.TheVariants.{Root}
 use Rattle.pt_req.specs.declared.plan.Plan.{Plan}
 use Rattle.pt_fs.specs.FileSystem.{FileSystem, AreMapped, opens_root, IsMadeBy}
 use Rattle.pt_fs.specs.Ends.{EndsWhole, LosesSeat}
 use Rattle.pt_fs.specs.Run.{IsRun}
 use Rattle.pt_fs.specs.declared.job.Job.{Job}
-use Rattle.pt_fs.specs.declared.job.Job.TheVariants as job
 use Rattle.pt_fs.specs.declared.trace.TraceStep.{TraceStep}
+use Rattle.pt_script.specs.Jobs.{start_seat}
 use Rattle.pt_script.specs.Script.{Begun, script_of}
 use Rattle.pt_run.specs.Streams.{IsAll}
 use Rattle.pt_run.specs.Report.{step_lines, answer_lines, lost_lines}
@@ -33,45 +30,9 @@ use Rattle.pt_run.specs.declared.report.LostJob.{LostJob}
 use Rattle.pt_run.specs.TableLines.{live_lines, handle_lines, slots_line, LivesAbove, HandlesAbove}
 use Rattle.pt_script.specs.Begins.{BeginsAs}
 use Rattle.pt_run.specs.Configured.{IsConfigured}
-use Rattle.pt_script.specs.Settings.{identity_in}
-use Rattle.pt_script.specs.declared.settings.Identity.{Identity}
 use Rattle.pt_script.specs.declared.settings.Settings.{Settings}
-use Rattle.pt_script.specs.declared.line.ScriptJob.{ScriptJob}
-use Rattle.pt_script.specs.declared.line.ScriptJob.TheVariants as script_job
 use Rattle.pt_run.specs.declared.status.Status.{Status}
 use Rattle.pt_run.specs.declared.status.Status.TheVariants as status
-
--- a seat that begins as this
-abbrev pub seat_of : Identity → HostSeat
-seat_of who = record {
-  real_uid = who.uid;
-  eff_uid = who.uid;
-  saved_uid = who.uid;
-  real_gid = who.gid;
-  eff_gid = who.gid;
-  saved_gid = who.gid;
-  groups = [];
-  eff_caps = who.caps;
-  perm_caps = who.caps;
-  umask = 0;
-}
-
--- the seat with which the daemon and each job begin
-abbrev pub start_seat : Settings → HostSeat
-start_seat settings = seat_of (identity_in settings)
-
-abbrev pub job_for : HostSeat → Context → Request → Job
-job_for seat who Root = job.OpenRoot seat
-job_for seat who request = job.Request who seat request
-
--- the job of a job's line
-abbrev pub job_of : HostSeat → ScriptJob → Job
-job_of seat (script_job.Request who request) = job_for seat who request
-job_of seat (script_job.Edit edit) = job.Edit edit
-
--- the jobs of a script's lines
-abbrev pub jobs_of : Settings → List ScriptJob → List Job
-jobs_of settings lines = map (job_of (start_seat settings)) lines
 
 -- one call was made, the opening of the host's root, and its answer makes the file system or is its refusal
 abbrev pub IsAsked : Settings → State → Result FileSystem Refusal → State → Type 0
@@ -104,12 +65,12 @@ HasEnded plan jobs schedule host tables trace answers None = EndsWhole plan jobs
 HasEnded plan jobs schedule host tables trace answers (Some lost) =
     LosesSeat Does (λ (state : State). state.faults) plan jobs schedule host tables trace answers lost.job lost.errno
 
--- The jobs of a script run over this host: from the new file system, and from its tree, which is well formed, the run
--- leads to these tables and that host, all that is said of a run holds of it, and it ended so.
+-- Jobs run over this host: from the new file system, and from its tree, which is well formed, the run leads to these
+-- tables and that host, all that is said of a run holds of it, and it ended so.
 pub record IsRunFrom
     (settings : Settings)
     (start : State)
-    (lines : List ScriptJob)
+    (jobs : List Job)
     (schedule : List ℕ)
     (trace : List TraceStep)
     (answers : List Answer)
@@ -122,9 +83,9 @@ pub record IsRunFrom
   pub opened : IsOpened settings start fs opened_host
   pub well_formed : IsWellFormed (tree_of opened_host)
   pub seats : List HostSeat
-  pub run : IsRun Does fs.plan (jobs_of settings lines) opened_host (Some (tree_of opened_host)) fs.tables
-      trace answers host (Some (tree_of host)) seats tables
-  pub ends : HasEnded fs.plan (jobs_of settings lines) schedule opened_host fs.tables trace answers lost
+  pub run : IsRun Does fs.plan jobs opened_host (Some (tree_of opened_host)) fs.tables trace answers host
+      (Some (tree_of host)) seats tables
+  pub ends : HasEnded fs.plan jobs schedule opened_host fs.tables trace answers lost
 
 -- these are the live numbers and handles of tables, each ascending
 abbrev pub AreLive : Tables → List (ℕ × ℕ) → List (ℕ × ℕ) → Type 0

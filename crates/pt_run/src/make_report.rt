@@ -1,12 +1,11 @@
-ghost use Rattle.std.specs.Prelude.{◌≡◌, ◌≤◌, ◌+◌, ◌<◌, ◌^◌, ◌++◌, List, ℕ, IfOk, IfErr, OnOk, length, map};
+ghost use Rattle.std.specs.Prelude.{◌≡◌, ◌≤◌, ◌+◌, ◌<◌, ◌^◌, ◌++◌, List, ℕ, IfOk, IfErr, OnOk, length};
 ghost use Rattle.pt_tree.specs.Listing.{listing_of};
+ghost use Rattle.pt_fs.specs.Jobs.{StartAll};
 ghost use Rattle.pt_fs.specs.declared.trace.TraceStep.{TraceStep};
 ghost use Rattle.pt_run.specs.Report.{step_lines};
 ghost use Rattle.pt_run.specs.TableLines.{live_lines, handle_lines, slots_line};
 ghost use Rattle.pt_run.specs.Configured.{configured};
 ghost use Rattle.pt_run.specs.Run.{
-  job_of,
-  seat_of,
   report_behind,
   status_for,
   AreLive,
@@ -21,36 +20,12 @@ use crate::report::{LostJob, StepLines, push_answers, push_lost};
 use crate::status::Status;
 use crate::table_lines::{push_handles, push_lives, push_slots};
 use pt_fs::{DriveIntoError, Job, Left, PassthroughFs, SteppedFs, drive_into};
-use pt_host::HostSeat;
-use pt_iface::{Refusal, Request};
+use pt_iface::Refusal;
 use pt_req::Config;
-use pt_script::{Identity, ParseError, Script, ScriptJob, Settings, parse};
+use pt_script::{ParseError, Script, Settings, parse, seat_of};
 use pt_text::push_text;
 use pt_tree::TreeHost;
 use std::alloc::{AllocError, Global};
-
-// The seat that begins as this.
-fn seat_of(who: Identity) -> HostSeat
-    ensures { result ≡ seat_of who }
-{
-    HostSeat::new(who.uid, who.gid, who.caps)
-}
-
-fn job_of(who: Identity, job: ScriptJob) -> Job
-    ensures { result ≡ job_of (seat_of who) job }
-{
-    match job {
-        ScriptJob::Request(_, Request::Root) => Job::OpenRoot(seat_of(who)),
-        ScriptJob::Request(context, request) => Job::Request(context, seat_of(who), request),
-        ScriptJob::Edit(edit) => Job::Edit(edit),
-    }
-}
-
-fn jobs_of(alloc: Global, who: Identity, jobs: Vec<ScriptJob>) -> Result<Vec<Job>, AllocError>
-    ensures { IfOk result (λ made. made.items ≡ map (job_of (seat_of who)) jobs.items) }
-{
-    jobs.into_iter().map(|job| job_of(who, job)).collect(alloc)
-}
 
 // The configuration with what is set in place of the defaults.
 fn configured(settings: Settings, default: Config) -> Config
@@ -150,18 +125,16 @@ fn run_jobs(
     alloc: Global,
     settings: Settings,
     host: &mut TreeHost,
-    jobs: Vec<ScriptJob>,
+    jobs: Vec<Job>,
     schedule: &[u32],
 ) -> Result<Ran, Status>
-    requires { length jobs.items < 2 ^ 32 }
+    requires few { length jobs.items < 2 ^ 32 }
+    requires seats { StartAll jobs.items }
     ensures ok { IfOk result (λ ran. (trace : List TraceStep) × (ran.lines.text.items ≡ step_lines trace)
         × IsRunFrom settings host.old jobs.items schedule.now
         trace ran.left.answers.items ran.left.fs.tables host.new ran.lost) }
     ensures err { IfErr result (λ status. IsNotOpened settings host.old status) }
 {
-    let Ok(jobs) = jobs_of(alloc, settings.identity(), jobs) else {
-        return Err(Status::NoMemory);
-    };
     let fs = open_fs(alloc, settings, host)?;
     let mut text = Vec::new(alloc);
     // The lines of a job's steps have about so many bytes. Where there is no room for all, it is had as they come.

@@ -13,7 +13,7 @@ use Rattle.pt_script.specs.declared.line.Line.{Line}
 use Rattle.pt_script.specs.declared.line.Line.TheVariants.{Set, Tree, Fault, Job, Order, End}
 use Rattle.pt_script.specs.declared.line.PlannedFault.{PlannedFault}
 use Rattle.pt_script.specs.declared.settings.Settings.{Settings}
-use Rattle.pt_script.specs.declared.line.ScriptJob.{ScriptJob}
+use Rattle.pt_fs.specs.declared.job.Job.{Job as RunJob}
 
 abbrev fold_on : Option Begun → (Begun → Option Begun) → Option Begun
 fold_on None next = None
@@ -155,7 +155,7 @@ open_end false false e f = refl
 open_end true b e f = cc
 open_end false true e f = cc
 
-abbrev begun_of : Settings → List TreeLine → List PlannedFault → List ScriptJob → List ℕ → Bool → Begun
+abbrev begun_of : Settings → List TreeLine → List PlannedFault → List RunJob → List ℕ → Bool → Begun
 begun_of settings tree faults jobs order ended =
     record { settings = settings; tree = tree; faults = faults; jobs = jobs; order = order; ended = ended }
 

@@ -1,3 +1,4 @@
 pub mod LinesLemmas
 pub mod Scripts
+pub mod Seated
 pub mod FirstBads

@@ -8,6 +8,8 @@ use Rattle.pt_tree.specs.declared.spec.TreeLine.{TreeLine}
 use Rattle.pt_script.specs.Script.{Begun, is_empty, may_stand, added, keeps_tree, with_line, going_on, script_from}
 use Rattle.pt_script.specs.Script.{script_of, nothing}
 use Rattle.pt_script.specs.Scan.{Scanned, with_allowed, scanning_on, scan_from, scan_of, judged, judged_by}
+use Rattle.pt_fs.specs.declared.job.Job.{Job as RunJob}
+use Rattle.pt_script.specs.Jobs.{job_of, start_seat}
 use Rattle.pt_script.specs.Line.{line_of}
 use Rattle.pt_script.specs.declared.line.ScriptJob.{ScriptJob}
 use Rattle.pt_script.specs.declared.line.Line.{Line}
@@ -236,13 +238,14 @@ sound_fault number begun fault sound may =
 sound_job : (number : ℕ) (begun : Begun) (job : ScriptJob) → IsSound number begun → may_stand begun (Job job) ≡ true →
     IsSound (number + 1) (added begun (Job job))
 sound_job number begun job sound may =
+    let made = job_of (start_seat begun.settings) job in
     let both = and_true (not begun.ended) _ may in
     let more = and_true (not (is_empty begun.tree)) _ both.1 in
     record {
       tree = inr (has_tree number begun sound more.0);
       next = λ going none.
-          absurd (not_empty begun.jobs job
-          (and_true (is_empty (begun.jobs ++ job ∷ [])) _ (and_true (is_empty begun.faults) _ none).1).0);
+          absurd (not_empty begun.jobs made
+          (and_true (is_empty (begun.jobs ++ made ∷ [])) _ (and_true (is_empty begun.faults) _ none).1).0);
     }
 
 is_empty-behind : (order places : List ℕ) → is_empty (order ++ places) ≡ true → is_empty places ≡ true
@@ -422,7 +425,7 @@ IsBadLine-line bytes begun bad lines line host read is same starts =
     ∙ read) (ap start_of (sym same) ∙ starts)
 
 pub IsScriptOf-read : (bytes : List ℕ) (begun : Begun) (bad : Option ℕ) (settings : Settings) (lines : List TreeLine)
-    (faults : List PlannedFault) (jobs : List ScriptJob) (schedule : List ℕ) (start host : State) →
+    (faults : List PlannedFault) (jobs : List RunJob) (schedule : List ℕ) (start host : State) →
     record { begun = begun; bad = bad } ≡ scan_of bytes → bad ≡ None → settings ≡ begun.settings →
     lines ≡ begun.tree → faults ≡ begun.faults → StartsAs lines start → host ≡ planned_all faults start →
     jobs ≡ begun.jobs → schedule ≡ begun.order → IsScriptOf bytes settings host jobs schedule

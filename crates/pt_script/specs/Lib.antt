@@ -7,6 +7,7 @@ pub mod Settings
 pub mod IdRules
 pub mod SettingLine
 pub mod Line
+pub mod Jobs
 pub mod Script
 pub mod Begins
 pub mod Scan

@@ -4,8 +4,9 @@ use Rattle.std.specs.Prelude.{Some, None, Result, Ok, Err, is_ok, if◌then◌el
 use Rattle.pt_tree.specs.declared.spec.TreeLine.{TreeLine}
 use Rattle.pt_tree.specs.Start.{start_of}
 use Rattle.pt_text.specs.Words.{lines_of}
+use Rattle.pt_fs.specs.declared.job.Job.{Job as RunJob}
+use Rattle.pt_script.specs.Jobs.{job_of, start_seat}
 use Rattle.pt_script.specs.Line.{line_of}
-use Rattle.pt_script.specs.declared.line.ScriptJob.{ScriptJob}
 use Rattle.pt_script.specs.declared.line.Line.{Line}
 use Rattle.pt_script.specs.declared.line.Line.TheVariants.{Set, Tree, Fault, Job, Order, End}
 use Rattle.pt_script.specs.declared.line.PlannedFault.{PlannedFault}
@@ -18,7 +19,7 @@ pub record Begun : Type 0 where
   pub tree : List TreeLine
   -- the calls that are to fail
   pub faults : List PlannedFault
-  pub jobs : List ScriptJob
+  pub jobs : List RunJob
   -- the places of the schedule
   pub order : List ℕ
   pub ended : Bool
@@ -63,11 +64,12 @@ may_stand begun (Order places) =
     && not (nat_lt max_places (length begun.order + length places))))
 may_stand begun End = not begun.ended && not (is_empty begun.tree)
 
+-- with one line more; a job begins with the seat that is set, which no line behind it can change
 abbrev pub added : Begun → Line → Begun
 added begun (Set setting) = record begun { settings = with_setting begun.settings setting }
 added begun (Tree line) = record begun { tree = begun.tree ++ line ∷ [] }
 added begun (Fault fault) = record begun { faults = begun.faults ++ fault ∷ [] }
-added begun (Job job) = record begun { jobs = begun.jobs ++ job ∷ [] }
+added begun (Job line) = record begun { jobs = begun.jobs ++ job_of (start_seat begun.settings) line ∷ [] }
 added begun (Order places) = record begun { order = begun.order ++ places }
 added begun End = record begun { ended = true }
 

@@ -4,6 +4,7 @@
 
 mod edit;
 mod id_rule;
+mod jobs;
 mod laws;
 mod line;
 mod new_objects;
@@ -16,6 +17,7 @@ mod tree_line;
 
 pub use edit::next_edit;
 pub use id_rule::next_id_rule;
+pub use jobs::{job_of, seat_of};
 pub use laws::first_bad_line;
 pub use line::{Line, PlannedFault, ScriptJob, next_fault, next_job, read_line};
 pub use script::{ParseError, Script, parse};

@@ -15,7 +15,7 @@ use pt_words::{
 };
 use std::alloc::Global;
 
-/// A job of a script.
+/// What a line asks that is a job.
 #[derive(Debug, Drop)]
 pub enum ScriptJob {
     /// A request, and who asks.

@@ -1,9 +1,12 @@
 ghost use Rattle.std.specs.Prelude.{◌≡◌, ◌≤◌, ◌+◌, not, nat_lt, IfOk, OnOk, OnErr, Some, None, true, false, length};
+ghost use Rattle.pt_fs.specs.Jobs.{StartAll};
 ghost use Rattle.pt_script.specs.Script.{may_stand, added, nothing, max_places, is_before_jobs, last_fault, is_later};
 ghost use Rattle.pt_script.specs.Scan.{allowed, kept_lines, scan_of};
 
-use crate::line::{Line, PlannedFault, ScriptJob, read_line};
+use crate::jobs::job_of;
+use crate::line::{Line, PlannedFault, read_line};
 use crate::settings::Settings;
+use pt_fs::Job;
 use pt_text::Parts;
 use pt_tree::{TreeLine, TreeSpec};
 use pt_words::{LineError, Places};
@@ -22,12 +25,13 @@ pub struct Lines {
     settings: Settings,
     tree: Vec<TreeLine>,
     faults: Vec<PlannedFault>,
-    jobs: Vec<ScriptJob>,
+    jobs: Vec<Job>,
     order: Places,
     ended: bool,
 }
 
 impl Model for Lines {
+    ghost use Rattle.pt_fs.specs.Jobs.{StartAll};
     ghost use Rattle.pt_script.specs.Script.{Begun};
 
     ghost Value = { Begun };
@@ -40,6 +44,8 @@ impl Model for Lines {
       order = lines.order;
       ended = lines.ended;
     } };
+
+    ghost invariant = { λ lines. StartAll lines.jobs.items };
 }
 
 impl Lines {
@@ -126,7 +132,7 @@ impl Lines {
             Line::Set(setting) => self.settings.add(setting)?,
             Line::Tree(line) => self.tree.push(line)?,
             Line::Fault(fault) => self.faults.push(fault)?,
-            Line::Job(job) => self.jobs.push(job)?,
+            Line::Job(line) => self.jobs.push(job_of(self.settings.identity(), line))?,
             Line::Order(places) => self.order.append(&places)?,
             Line::End => self.ended = true,
         }
@@ -134,19 +140,12 @@ impl Lines {
     }
 
     /// What is set, the lines of the tree, the faults, the jobs and the schedule, which takes no memory.
-    pub fn into_parts(
-        self,
-    ) -> (
-        Settings,
-        TreeSpec,
-        Vec<PlannedFault>,
-        Vec<ScriptJob>,
-        Places,
-    )
+    pub fn into_parts(self) -> (Settings, TreeSpec, Vec<PlannedFault>, Vec<Job>, Places)
         ensures settings { result.0 ≡ self.settings }
         ensures tree { result.1 ≡ self.tree }
         ensures faults { result.2.items ≡ self.faults }
         ensures jobs { result.3.items ≡ self.jobs }
+        ensures seats { StartAll result.3.items }
         ensures schedule { result.4 ≡ self.order }
     {
         let tree = TreeSpec::from_vec(self.tree);

@@ -1,12 +1,14 @@
 ghost use Rattle.std.specs.Prelude.{◌≡◌, ◌≤◌, ◌<◌, ◌+◌, ◌^◌, IfOk, IfErr, OnOk, length};
+ghost use Rattle.pt_fs.specs.Jobs.{StartAll};
 ghost use Rattle.pt_tree.specs.Start.{StartsAs};
 ghost use Rattle.pt_script.specs.Begins.{planned_all};
 ghost use Rattle.pt_script.specs.Parse.{IsScriptOf, IsBadLine};
 ghost use Rattle.pt_script.specs.Scan.{IsBadTree, place_of, error_behind};
 
-use crate::line::{PlannedFault, ScriptJob};
+use crate::line::PlannedFault;
 use crate::scan::scan_lines;
 use crate::settings::Settings;
+use pt_fs::Job;
 use pt_tree::{SpecError, TreeHost, TreeSpec};
 use pt_words::Places;
 use std::alloc::{AllocError, Global};
@@ -17,7 +19,7 @@ use std::alloc::{AllocError, Global};
 pub struct Script {
     pub settings: Settings,
     pub host: TreeHost,
-    pub jobs: Vec<ScriptJob>,
+    pub jobs: Vec<Job>,
     pub schedule: Places,
 }
 
@@ -35,6 +37,7 @@ pub fn parse(alloc: Global, bytes: &[u8]) -> Result<Script, ParseError>
     ensures ok { IfOk result (λ script.
         IsScriptOf bytes.now script.settings script.host script.jobs.items script.schedule) }
     ensures bad { IfErr result (λ error. IsBadLine bytes.now error) }
+    ensures seats { IfOk result (λ script. StartAll script.jobs.items) }
     ensures few { IfOk result (λ script. length script.jobs.items ≤ length bytes.now + 1) }
 {
     let Ok(scan) = scan_lines(alloc, bytes) else {

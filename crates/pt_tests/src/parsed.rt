@@ -1,6 +1,7 @@
+use pt_fs::Job;
 use pt_host::Caps;
 use pt_iface::Request;
-use pt_script::{Identity, ParseError, ScriptJob, parse};
+use pt_script::{Identity, ParseError, parse};
 use std::test::Fail;
 
 /// What no report shows: who asks, what is offered, whether set-id bits are to go, the seat's numbers.
@@ -16,14 +17,14 @@ fn what_no_report_shows_is_parsed(rt: HostRuntime) -> Result<(), Fail> {
     };
     let jobs = script.jobs.as_slice();
     assert_eq!(rt; jobs.len(), 3);
-    assert!(rt; matches!(&jobs[0], ScriptJob::Request(who, _) if who.uid == 5 && who.gid == 6));
+    assert!(rt; matches!(&jobs[0], Job::Request(who, _, _) if who.uid == 5 && who.gid == 6));
     assert!(rt;
-        matches!(&jobs[1], ScriptJob::Request(_, Request::Init { capable }) if capable.0 == 513)
+        matches!(&jobs[1], Job::Request(_, _, Request::Init { capable }) if capable.0 == 513)
     );
     assert!(rt;
         matches!(
             &jobs[2],
-            ScriptJob::Request(_, Request::Open { kill: true, .. })
+            Job::Request(_, _, Request::Open { kill: true, .. })
         )
     );
     let who = Identity {

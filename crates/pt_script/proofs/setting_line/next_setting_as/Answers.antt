@@ -1,4 +1,4 @@
-use Rattle.std.proofs.Common.{sym, ◌∙◌}
+use Rattle.std.proofs.Common.{sym}
 use Rattle.pt_script.proofs.setting_line.next_setting_as.Goals as goal
 
 pub returns-else-is_word-4-clause-bad : goal.returns-else-is_word-4-clause-bad

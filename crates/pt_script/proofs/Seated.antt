@@ -1,10 +1,11 @@
 -- Each job of a script begins with a seat as it should.
-use Rattle.std.proofs.Common.{List, [], ◌∷◌, refl}
+use Rattle.std.proofs.Common.{List, [], ◌∷◌, ◌++◌, refl}
 use Rattle.pt_host.specs.Seat.{IsStartingSeat}
 use Rattle.pt_host.specs.declared.seat.HostSeat.{HostSeat}
 use Rattle.pt_iface.specs.declared.request.Request.TheVariants.{Root}
 use Rattle.pt_fs.specs.Jobs.{StartAll, job_start}
-use Rattle.pt_run.specs.Run.{seat_of, start_seat, job_of, jobs_of}
+use Rattle.pt_fs.specs.declared.job.Job.{Job}
+use Rattle.pt_script.specs.Jobs.{seat_of, start_seat, job_of}
 use Rattle.pt_script.specs.Settings.{identity_in}
 use Rattle.pt_script.specs.declared.line.ScriptJob.{ScriptJob}
 use Rattle.pt_script.specs.declared.line.ScriptJob.TheVariants as script_job
@@ -36,7 +37,9 @@ line_starts seat s (script_job.Edit edit) = record {
   umask = refl;
 }
 
-pub all_start : (settings : Settings) (lines : List ScriptJob) → StartAll (jobs_of settings lines)
-all_start settings [] = tt
-all_start settings (line ∷ lines) =
-    (line_starts (start_seat settings) (seat_starts (identity_in settings)) line, all_start settings lines)
+-- with one more, too
+pub one_more_starts : (jobs : List Job) (settings : Settings) (line : ScriptJob) → StartAll jobs →
+    StartAll (jobs ++ job_of (start_seat settings) line ∷ [])
+one_more_starts [] settings line starts =
+    (line_starts (start_seat settings) (seat_starts (identity_in settings)) line, tt)
+one_more_starts (job ∷ jobs) settings line starts = (starts.0, one_more_starts jobs settings line starts.1)
