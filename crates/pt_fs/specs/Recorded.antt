@@ -1,9 +1,11 @@
 -- Believed. Steps that are written down in a record, and what a run leaves that writes its own down so.
-use Rattle.std.specs.Prelude.{◌≡◌, ℕ, Bool, true, false, List, [], ◌∷◌, Option, Some, None, Result, Ok, Err}
+use Rattle.std.specs.Prelude.{◌≡◌, ℕ, List, [], ◌∷◌, Option, Some, None, Result, Ok, Err}
 use Rattle.pt_host.specs.declared.ids.Errno.{Errno}
 use Rattle.pt_frame.specs.Deed.{Deed, Calls, Changes}
 use Rattle.pt_frame.specs.declared.act.KeptAct.{KeptAct}
 use Rattle.pt_frame.specs.declared.act.KeptAct.TheVariants as kept
+use Rattle.pt_fs.specs.declared.record.WrittenAct.{WrittenAct}
+use Rattle.pt_fs.specs.declared.record.WrittenAct.TheVariants.{Whole, NoCopy}
 use Rattle.pt_fs.specs.declared.recorded.DriveIntoError.{DriveIntoError}
 use Rattle.pt_fs.specs.declared.recorded.DriveIntoError.TheVariants.{Memory, Record, CredentialsLost}
 use Rattle.pt_fs.specs.declared.recorded.Left.{Left}
@@ -15,9 +17,9 @@ kept_of (Calls call) = kept.Host call
 kept_of (Changes change) = kept.Event change
 
 -- what is written down of it where it could be copied, or where it could not
-abbrev pub noted : Bool → Deed → KeptAct
-noted true deed = kept_of deed
-noted false deed = kept.NoCopy
+abbrev pub noted : WrittenAct → Deed → KeptAct
+noted Whole deed = kept_of deed
+noted NoCopy deed = kept.NoCopy
 
 -- one record is the other with these steps written down behind what it had, one after another
 abbrev pub Writes : {R : Type 0} → (R → TraceStep → R → Type 0) → R → List TraceStep → R → Type 0

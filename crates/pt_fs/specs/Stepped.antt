@@ -15,7 +15,8 @@ use Rattle.pt_fs.specs.Trace.{IsShown, MadeFrom, told_by}
 use Rattle.pt_fs.specs.declared.machine.Machine.{Machine}
 use Rattle.pt_fs.specs.declared.trace.TraceStep.{TraceStep}
 
--- what was to be done was made, or its bytes could not be copied, and what it was answered is told or could not be copied
+-- what was to be done was made, or its bytes could not be copied, and what it was answered is told, or word that this
+-- could not be copied
 pub record Makes
     {H : Type 0}
     (does : HostRelation H)

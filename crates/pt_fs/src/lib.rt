@@ -23,7 +23,7 @@ mod turns;
 pub use fs::SteppedFs;
 pub use job::Job;
 pub use passthrough::PassthroughFs;
-pub use record::Record;
+pub use record::{Record, WrittenAct};
 pub use recorded::{DriveIntoError, Left, drive_into};
 pub use run::{DriveError, Driven, drive};
 pub use trace::TraceStep;

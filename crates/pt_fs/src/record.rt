@@ -1,15 +1,25 @@
-ghost use Rattle.std.specs.Prelude.{◌≡◌, ◌≤◌, ◌+◌, ◌-◌, ◌++◌, ◌∷◌, [], ℕ, false, length, vec_capacity};
+ghost use Rattle.std.specs.Prelude.{◌≡◌, ◌≤◌, ◌+◌, ◌-◌, ◌++◌, ◌∷◌, [], ℕ, length, vec_capacity};
 ghost use Rattle.std.specs.Prelude.{IfOk, OnOk, OnErr};
 ghost use Rattle.pt_frame.specs.Deed.{MayFailToCopy, deed_of};
 ghost use Rattle.pt_frame.specs.declared.act.ActReply.TheVariants as told;
 ghost use Rattle.pt_frame.specs.declared.act.KeptAct.{KeptAct};
 ghost use Rattle.pt_fs.specs.Recorded.{noted};
 ghost use Rattle.pt_fs.specs.Trace.{IsShown};
+ghost use Rattle.pt_fs.specs.declared.record.WrittenAct.TheVariants as written;
 ghost use Rattle.pt_fs.specs.declared.trace.TraceStep.{TraceStep};
 
 use crate::trace::TraceStep;
 use pt_frame::{Act, ActReply, KeptAct};
 use std::alloc::{AllocError, Global};
+
+/// How an act stands in a record.
+#[derive(Clone, Copy)]
+pub enum WrittenAct {
+    /// As it is.
+    Whole,
+    /// Without its bytes, which could not be copied: then it is not to be made.
+    NoCopy,
+}
 
 /// Where the steps of a run are written down, each behind those before it: first what is to be done, and then what
 /// that was answered.
@@ -23,12 +33,16 @@ pub trait Record {
     /// For how many steps more it has room, at least.
     ghost room: { Self → ℕ };
 
-    /// Writes down what a job is to do. Where the record has to have the act's bytes for itself, and they cannot be
-    /// copied, it tells `false`: then the act is not to be made.
-    fn write_act(&mut self, alloc: Global, job: u32, act: &Act<'_>) -> Result<bool, AllocError>
-        ensures wrote { IfOk result (λ copied.
-            wrote_act self.old job (noted copied (deed_of act.now)) self.new) }
-        ensures uncopied { IfOk result (λ copied. copied ≡ false → MayFailToCopy (deed_of act.now)) }
+    /// Writes down what a job is to do, without its bytes where the record has to have them for itself and they cannot
+    /// be copied.
+    fn write_act(
+        &mut self,
+        alloc: Global,
+        job: u32,
+        act: &Act<'_>,
+    ) -> Result<WrittenAct, AllocError>
+        ensures wrote { IfOk result (λ how. wrote_act self.old job (noted how (deed_of act.now)) self.new) }
+        ensures uncopied { IfOk result (λ how. how ≡ written.NoCopy → MayFailToCopy (deed_of act.now)) }
         ensures room { OnOk result (room self.old ≤ room self.new + 1) }
         ensures full { OnErr result (room self.old ≡ 0) };
 
@@ -69,18 +83,23 @@ impl Record for Vec<TraceStep> {
 
     ghost room = { λ steps. vec_capacity steps - length steps.items };
 
-    fn write_act(&mut self, alloc: Global, job: u32, act: &Act<'_>) -> Result<bool, AllocError> {
+    fn write_act(
+        &mut self,
+        alloc: Global,
+        job: u32,
+        act: &Act<'_>,
+    ) -> Result<WrittenAct, AllocError> {
         self.reserve(1)?;
-        let (act, copied) = match act.keep(alloc) {
-            Ok(act) => (act, true),
-            Err(_) => (KeptAct::NoCopy, false),
+        let (act, how) = match act.keep(alloc) {
+            Ok(act) => (act, WrittenAct::Whole),
+            Err(_) => (KeptAct::NoCopy, WrittenAct::NoCopy),
         };
         self.push_reserved(TraceStep {
             job,
             act,
             reply: ActReply::NoCopy,
         });
-        Ok(copied)
+        Ok(how)
     }
 
     fn write_reply(&mut self, alloc: Global, reply: &mut ActReply) -> Result<(), AllocError> {

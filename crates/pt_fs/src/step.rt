@@ -11,7 +11,7 @@ ghost use Rattle.pt_fs.specs.Trace.{MadeFrom};
 ghost use Rattle.pt_fs.specs.declared.trace.TraceStep.{TraceStep};
 
 use crate::machine::{Machine, no_seat};
-use crate::record::Record;
+use crate::record::{Record, WrittenAct};
 use pt_frame::{Act, ActReply, Want};
 use pt_host::{Errno, Host, HostOp, HostReply, HostSeat};
 use pt_req::Plan;
@@ -72,11 +72,11 @@ fn make_wanted<H: Host, R: Record>(
     match machine.state.want(plan, start) {
         Want::Finished => Ok(()),
         Want::Step(act) => match writer.write_act(alloc, job, &act) {
-            Ok(true) => {
+            Ok(WrittenAct::Whole) => {
                 *reply = make_from(host, session, seat, &act);
                 writer.write_reply(alloc, reply)
             }
-            Ok(false) => {
+            Ok(WrittenAct::NoCopy) => {
                 *reply = ActReply::NoCopy;
                 writer.write_reply(alloc, reply)
             }

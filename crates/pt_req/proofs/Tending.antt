@@ -241,7 +241,8 @@ out_before false true e = refl
 out_before false false e = absurd (cc)
 
 -- under a scope
-spares_in : (told : ActReply) (tree : RequestTree) → InScope (λ dropped asked. Unit {0}) true (λ rest. IsSparing false rest) told tree →
+spares_in : (told : ActReply) (tree : RequestTree) →
+    InScope (λ dropped asked. Unit {0}) true (λ rest. IsSparing false rest) told tree →
     IsSparing (lacks_memory told || false) tree
 spares_in told (Gives last) so = λ out. absurd (so.0.1 out)
 spares_in told (Refuses same) so = λ lacks.
@@ -257,7 +258,8 @@ spares_in told (Shuts passes rest) so = absurd so
 spares_in told (Allocates rest) so = absurd so
 
 -- no memory ran out so far
-pub in_full : (seat : HostSeat) → Walk seat (λ creds. Unit {0}) (λ dropped asked. Unit {0}) (λ tree. IsSparing false tree)
+pub in_full : (seat : HostSeat) →
+    Walk seat (λ creds. Unit {0}) (λ dropped asked. Unit {0}) (λ tree. IsSparing false tree)
     (λ told tree. IsSparing (lacks_memory told || false) tree)
 in_full seat = record {
   gives = λ last is. λ out. absurd (is.1 out);

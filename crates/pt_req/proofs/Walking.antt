@@ -474,7 +474,8 @@ module _
         (w.asks (Calls (call.SetXattr fd false label.name label.value 0)) (on_ok_or (undone undoing) next) refl refl
         refl
         (if_ok_or R (undone undoing) next w.refuses (λ told. w.had _ _ so)
-        (λ errno. w.had _ _ (undoes undoing errno own none may)) (λ errno. w.had _ _ (undoes undoing errno own none may))
+        (λ errno. w.had _ _ (undoes undoing errno own none may))
+        (λ errno. w.had _ _ (undoes undoing errno own none may))
         (w.ran_out (Host host.NoMemory) (Calls undoing) refl own none may)
         (w.ran_out NoCopy (Calls undoing) refl own none may)))
 

@@ -4,7 +4,7 @@ ghost use Rattle.pt_show.specs.ActTexts.{deed_text};
 ghost use Rattle.pt_run.specs.Report.{step_begin, step_end, answer_line, answer_lines, lost_lines};
 
 use pt_frame::{Act, ActReply};
-use pt_fs::Record;
+use pt_fs::{Record, WrittenAct};
 use pt_host::Errno;
 use pt_iface::Answer;
 use pt_show::Text;
@@ -56,9 +56,14 @@ impl Record for StepLines {
 
     ghost room = { λ lines. 0 };
 
-    fn write_act(&mut self, _alloc: Global, job: u32, act: &Act<'_>) -> Result<bool, AllocError> {
+    fn write_act(
+        &mut self,
+        _alloc: Global,
+        job: u32,
+        act: &Act<'_>,
+    ) -> Result<WrittenAct, AllocError> {
         push_act(&mut self.text, job, act)?;
-        Ok(true)
+        Ok(WrittenAct::Whole)
     }
 
     fn write_reply(&mut self, _alloc: Global, reply: &mut ActReply) -> Result<(), AllocError> {

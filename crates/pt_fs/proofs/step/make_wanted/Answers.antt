@@ -7,29 +7,29 @@ use Rattle.pt_fs.proofs.Advancing.{makes, makes_none}
 use Rattle.pt_fs.proofs.Recording.{ok_on}
 use Rattle.pt_fs.proofs.step.make_wanted.Goals as goal
 
-pub returns-in-Ok-true-clause-made : goal.returns-in-Ok-true-clause-made
-returns-in-Ok-true-clause-made g c =
+pub returns-in-Ok-Whole-clause-made : goal.returns-in-Ok-Whole-clause-made
+returns-in-Ok-Whole-clause-made g c =
     let owed = owes c.args.plan.now c.args.start.now c.args.machine.now.state in
     let deed = deed_of c.in-Step.act in (
       kept_of deed,
       ok_on c.write_reply.result c.write_reply.ensures.wrote
           (λ wrote. wrote c.args.writer.now c.args.job (kept_of deed)
-          (rw c.in-Ok-true.field-0-test at c.in-Ok-true.ensures.wrote)),
+          (rw c.in-Ok-Whole.field-0-is at c.in-Ok-Whole.ensures.wrote)),
       makes g.H.Host.does owed c.in-Step.act c.in-Step.ensures c.args.host.now c.args.seat.now c.args.session.now
           c.write_reply.new.reply c.make_from.result c.make_from.new.host c.make_from.new.seat c.make_from.new.session
           c.make_from.ensures c.write_reply.ensures.shown,
     )
 
-pub returns-in-Ok-false-clause-made : goal.returns-in-Ok-false-clause-made
-returns-in-Ok-false-clause-made g c =
+pub returns-in-Ok-NoCopy-clause-made : goal.returns-in-Ok-NoCopy-clause-made
+returns-in-Ok-NoCopy-clause-made g c =
     let owed = owes c.args.plan.now c.args.start.now c.args.machine.now.state in (
       kept_act.NoCopy,
-      ok_on c.write_reply-in-Ok-false.result c.write_reply-in-Ok-false.ensures.wrote
+      ok_on c.write_reply-in-Ok-NoCopy.result c.write_reply-in-Ok-NoCopy.ensures.wrote
           (λ wrote. wrote c.args.writer.now c.args.job kept_act.NoCopy
-          (rw c.in-Ok-false.field-0-test at c.in-Ok-false.ensures.wrote)),
+          (rw c.in-Ok-NoCopy.field-0-is at c.in-Ok-NoCopy.ensures.wrote)),
       makes_none g.H.Host.does owed c.in-Step.act c.in-Step.ensures c.args.host.now c.args.seat.now
-          c.args.session.now c.write_reply-in-Ok-false.new.reply
-          (c.in-Ok-false.ensures.uncopied c.in-Ok-false.field-0-test) c.write_reply-in-Ok-false.ensures.shown,
+          c.args.session.now c.write_reply-in-Ok-NoCopy.new.reply
+          (c.in-Ok-NoCopy.ensures.uncopied c.in-Ok-NoCopy.field-0-is) c.write_reply-in-Ok-NoCopy.ensures.shown,
     )
 
 pub returns-in-Err-clause-made : goal.returns-in-Err-clause-made
