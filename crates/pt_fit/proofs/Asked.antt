@@ -34,7 +34,7 @@ use Rattle.pt_law.specs.Told.{AllMayBeTold}
 use Rattle.pt_law.proofs.Branches.{branch}
 use Rattle.pt_law.proofs.Ending.{keeps_ends, keeps_ends_cut}
 use Rattle.pt_law.proofs.Full.{Lasting, cut_in_full, framed_lasts}
-use Rattle.pt_fit.specs.Answered.{ComesTo}
+use Rattle.pt_fit.specs.Answered.{ComesToAnswer}
 use Rattle.pt_fit.specs.Cause.{Asking, IsCaused, IsCausedBy, asking}
 use Rattle.pt_fit.specs.Fit.{IsCausedLeaf, MayAnswer}
 use Rattle.pt_fit.proofs.Edits.{edit_caused, edit_cut, edit_ended}
@@ -136,7 +136,7 @@ told_front [] back t = (tt, t)
 told_front (step ∷ front) back t = let k = told_front front back t.1 in ((t.0, k.0), k.1)
 
 pub comes_ends : (plan : Plan) (seat : HostSeat) (asked : Asked) (steps : List Step) (end : Finish) →
-    AllMayBeTold steps → ComesTo plan seat asked steps end → ComesToEnd idle steps end
+    AllMayBeTold steps → ComesToAnswer plan seat asked steps end → ComesToEnd idle steps end
 comes_ends plan seat asked steps end t (inl b) = job_ends plan seat asked steps end t b
 comes_ends plan seat asked steps end t (inr c) =
     let k = told_front c.0 c.1 (subst AllMayBeTold c.2 t) in

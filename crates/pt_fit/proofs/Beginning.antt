@@ -25,7 +25,7 @@ use Rattle.pt_attr.specs.Pattern.{tree_of}
 use Rattle.pt_req.specs.declared.plan.Plan.{Plan}
 use Rattle.pt_attr.specs.Pattern.{Asked, Requests, Edits, grammar_for}
 use Rattle.pt_law.specs.Laws.{IsBeginning, BeginsFirst}
-use Rattle.pt_fit.specs.Answered.{ComesTo}
+use Rattle.pt_fit.specs.Answered.{ComesToAnswer}
 
 none_begins : (deed : Deed) → IsBeginning (Some deed) NoCopy → ⊥
 none_begins (Changes change.Begin) b = b
@@ -154,7 +154,7 @@ cut_begins plan seat (Edits edit) (step ∷ so_far) rest end c = absurd c.1
 
 -- whole or cut
 pub job_first : (plan : Plan) (seat : HostSeat) (asked : Asked) (steps : List Step) (end : Finish) →
-    ComesTo plan seat asked steps end → BeginsFirst steps
+    ComesToAnswer plan seat asked steps end → BeginsFirst steps
 job_first plan seat asked steps end (inl b) = job_begins plan seat asked steps end b
 job_first plan seat asked steps end (inr c) =
     subst BeginsFirst (sym c.2) (cut_begins plan seat asked c.0 c.1 end c.3)

@@ -24,14 +24,14 @@ use Rattle.pt_law.specs.Keeps.{MayMake}
 use Rattle.pt_law.specs.Naming.{made}
 use Rattle.pt_fit.specs.Cause.{Asking}
 use Rattle.pt_fit.specs.Fit.{Fit}
-use Rattle.pt_fit.proofs.Parts.{Goes, GoesAfter, Seen, held_as, looked_by, still}
+use Rattle.pt_fit.proofs.Parts.{FitOn, GoesAfter, Seen, held_as, looked_by, still}
 use Rattle.pt_fit.proofs.Refused.{IsHeeded, refused_by}
 
 pub fit_read_at : {asked : Asking} {seen : List Seen} {holds : List Hold} {marks : List ℕ}
     {notes : Notes} (fd : Fd)
     (offset size row : ℕ) (next : List ℕ → RequestTree) →
-    ((bytes : List ℕ) → Goes asked seen (next bytes) (hold.HandlePin row fd ∷ holds) marks notes) →
-    Goes asked seen (read_at fd offset size next) (hold.HandlePin row fd ∷ holds) marks notes
+    ((bytes : List ℕ) → FitOn asked seen (next bytes) (hold.HandlePin row fd ∷ holds) marks notes) →
+    FitOn asked seen (read_at fd offset size next) (hold.HandlePin row fd ∷ holds) marks notes
 fit_read_at {asked = asked} {holds = holds} fd offset size row next f = record {
   on = λ path s. (
     (((hold.HandlePin row fd, _, here, refl), tt), tt),
@@ -44,8 +44,8 @@ fit_read_at {asked = asked} {holds = holds} fd offset size row next f = record {
 
 pub fit_read_link : {asked : Asking} {seen : List Seen} {holds : List Hold} {marks : List ℕ}
     {notes : Notes} (fd : Fd) (row : ℕ) (next : List ℕ → RequestTree) →
-    ((target : List ℕ) → Goes asked seen (next target) (hold.Pin row (Some fd) ∷ holds) marks notes) →
-    Goes asked seen (read_link fd next) (hold.Pin row (Some fd) ∷ holds) marks notes
+    ((target : List ℕ) → FitOn asked seen (next target) (hold.Pin row (Some fd) ∷ holds) marks notes) →
+    FitOn asked seen (read_link fd next) (hold.Pin row (Some fd) ∷ holds) marks notes
 fit_read_link {asked = asked} {holds = holds} fd row next f = record {
   on = λ path s. (
     (((hold.Pin row (Some fd), _, here, refl), tt), tt),
@@ -59,8 +59,8 @@ fit_read_link {asked = asked} {holds = holds} fd row next f = record {
 
 pub fit_stat_fs : {asked : Asking} {seen : List Seen} {holds : List Hold} {marks : List ℕ}
     {notes : Notes} (fd : Fd) (row : ℕ) (next : FsStat → RequestTree) →
-    ((told : FsStat) → Goes asked seen (next told) (hold.Pin row (Some fd) ∷ holds) marks notes) →
-    Goes asked seen (stat_fs fd next) (hold.Pin row (Some fd) ∷ holds) marks notes
+    ((told : FsStat) → FitOn asked seen (next told) (hold.Pin row (Some fd) ∷ holds) marks notes) →
+    FitOn asked seen (stat_fs fd next) (hold.Pin row (Some fd) ∷ holds) marks notes
 fit_stat_fs {asked = asked} {holds = holds} fd row next f = record {
   on = λ path s. (
     (((hold.Pin row (Some fd), _, here, refl), tt), tt),
@@ -77,7 +77,7 @@ pub fit_look_at : {asked : Asking} {seen : List Seen} {holds : List Hold} {marks
     {notes : Notes} (fd : Fd) (next : Stat → RequestTree) → MayMake (Calls (call.Stat fd)) holds notes →
     ((told : Stat) → GoesAfter (made (Calls (call.Stat fd)) (Host (host.Ok (value.Stat told)))) asked seen (next told)
     holds marks (looked_by fd told.ids notes)) →
-    Goes asked seen (stat fd next) holds marks notes
+    FitOn asked seen (stat fd next) holds marks notes
 fit_look_at {asked = asked} {holds = holds} fd next may f = record {
   on = λ path s. (
     may,
@@ -95,8 +95,8 @@ pub record IsStillCall (did : Call) : Type 0 where
 
 pub fit_do_call : {asked : Asking} {seen : List Seen} {holds : List Hold} {marks : List ℕ}
     {notes : Notes} (did : Call) (next : RequestTree) → IsStillCall did → MayMake (Calls did) holds notes →
-    IsHeeded asked.request (Calls did) holds → Goes asked seen next holds marks notes →
-    Goes asked seen (do_call did next) holds marks notes
+    IsHeeded asked.request (Calls did) holds → FitOn asked seen next holds marks notes →
+    FitOn asked seen (do_call did next) holds marks notes
 fit_do_call {asked = asked} {holds = holds} {marks = marks} {notes = notes} did next same may heeds f = record {
   on = λ path s. (
     may,
@@ -124,8 +124,8 @@ TellsCount did = (told : HostValue) → FitsCall did told → IsCount told
 pub fit_count_of : {asked : Asking} {seen : List Seen} {holds : List Hold} {marks : List ℕ}
     {notes : Notes} (did : Call) (next : ℕ → RequestTree) → TellsCount did → IsStillCall did →
     MayMake (Calls did) holds notes → IsHeeded asked.request (Calls did) holds →
-    ((count : ℕ) → Goes asked seen (next count) holds marks notes) →
-    Goes asked seen (count_of did next) holds marks notes
+    ((count : ℕ) → FitOn asked seen (next count) holds marks notes) →
+    FitOn asked seen (count_of did next) holds marks notes
 fit_count_of {asked = asked} {holds = holds} {marks = marks} {notes = notes} did next only same may heeds f = record {
   on = λ path s. (
     may,

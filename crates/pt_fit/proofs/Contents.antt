@@ -22,7 +22,7 @@ use Rattle.pt_fit.specs.Cause.{Asking, asking}
 use Rattle.pt_fit.proofs.Calling.{TellsCount, fit_count_of, fit_do_call}
 use Rattle.pt_fit.proofs.Holds.{nothing_bare, over, unscoped_over}
 use Rattle.pt_fit.proofs.Joined.{fit_gives, fit_open_inode}
-use Rattle.pt_fit.proofs.Parts.{Goes, fit_begin, fit_checked, fit_pin_handle}
+use Rattle.pt_fit.proofs.Parts.{FitOn, fit_begin, fit_checked, fit_pin_handle}
 use Rattle.pt_fit.proofs.Scopes.{fit_bares, fit_without_fsetid}
 
 -- the handle's descriptor is pinned, also under the scope of the capability
@@ -33,7 +33,7 @@ pinned dropped row fd =
 
 pub fit_write : (plan : Plan) (seat : HostSeat) (who : Context) (inode handle offset : ℕ) (bytes : List ℕ)
     (delayed kill : Bool) (flags : ℕ) →
-    Goes (asking plan who (request.Write inode handle offset bytes delayed kill flags)) []
+    FitOn (asking plan who (request.Write inode handle offset bytes delayed kill flags)) []
     (write plan seat inode handle offset bytes delayed kill flags) [] [] blank
 fit_write plan seat who inode handle offset bytes delayed kill flags =
     let dropped = drops_fsetid plan seat kill in
@@ -52,7 +52,7 @@ fit_write plan seat who inode handle offset bytes delayed kill flags =
     only fd told f = absurd f
 
 pub fit_fallocate : (plan : Plan) (who : Context) (inode handle mode offset length : ℕ) →
-    Goes (asking plan who (request.Fallocate inode handle mode offset length)) []
+    FitOn (asking plan who (request.Fallocate inode handle mode offset length)) []
     (fallocate inode handle mode offset length) [] [] blank
 fit_fallocate plan who inode handle mode offset length = fit_begin _ refl (λ session.
     fit_checked (is_bad_offset offset) _ (λ bad. (inl bad, refl))
@@ -64,7 +64,7 @@ fit_fallocate plan who inode handle mode offset length = fit_begin _ refl (λ se
     (fit_gives answer.Done (λ path. (tt, tt, tt)))))))
 
 pub fit_lseek : (asked : Asking) (inode handle offset whence : ℕ) →
-    Goes asked [] (lseek inode handle offset whence) [] [] blank
+    FitOn asked [] (lseek inode handle offset whence) [] [] blank
 fit_lseek asked inode handle offset whence = fit_begin _ refl (λ session.
     fit_pin_handle handle inode _ nothing_bare (λ row fd.
     fit_count_of (call.Seek fd (cast_signed w64 offset) whence) _ (only fd)
@@ -79,7 +79,7 @@ fit_lseek asked inode handle offset whence = fit_begin _ refl (λ session.
 -- both handles' descriptors are pinned
 pub fit_copyfilerange : (plan : Plan) (who : Context)
     (inode handle offset inode2 handle2 offset2 length flags : ℕ) →
-    Goes (asking plan who (request.CopyFileRange inode handle offset inode2 handle2 offset2 length flags)) []
+    FitOn (asking plan who (request.CopyFileRange inode handle offset inode2 handle2 offset2 length flags)) []
     (copyfilerange inode handle offset inode2 handle2 offset2 length flags) [] [] blank
 fit_copyfilerange plan who inode handle offset inode2 handle2 offset2 length flags = fit_begin _ refl (λ session.
     fit_checked (is_bad_offset offset) _ (λ bad. (inl bad, refl))
@@ -101,7 +101,7 @@ fit_copyfilerange plan who inode handle offset inode2 handle2 offset2 length fla
     only from to (value.Count count) f = tt
     only from to told f = absurd f
 
-pub fit_flush : (asked : Asking) (inode handle : ℕ) → Goes asked [] (flush inode handle) [] [] blank
+pub fit_flush : (asked : Asking) (inode handle : ℕ) → FitOn asked [] (flush inode handle) [] [] blank
 fit_flush asked inode handle = fit_begin _ refl (λ session.
     fit_pin_handle handle inode _ nothing_bare (λ row fd.
     fit_do_call (call.Flush fd) _ (record { holds = λ told these. refl; notes = λ told these. refl })
@@ -109,7 +109,7 @@ fit_flush asked inode handle = fit_begin _ refl (λ session.
     (fit_gives answer.Done (λ path. (tt, tt, tt)))))
 
 pub fit_fsync : (asked : Asking) (inode handle : ℕ) (datasync : Bool) →
-    Goes asked [] (fsync inode handle datasync) [] [] blank
+    FitOn asked [] (fsync inode handle datasync) [] [] blank
 fit_fsync asked inode handle datasync = fit_begin _ refl (λ session.
     fit_pin_handle handle inode _ nothing_bare (λ row fd.
     fit_do_call (call.Sync fd datasync) _ (record { holds = λ told these. refl; notes = λ told these. refl })
@@ -118,7 +118,7 @@ fit_fsync asked inode handle datasync = fit_begin _ refl (λ session.
 
 -- by a descriptor of the request's own
 pub fit_syncfs : (plan : Plan) (who : Context) (inode : ℕ) →
-    Goes (asking plan who (request.SyncFs inode)) [] (syncfs plan inode) [] [] blank
+    FitOn (asking plan who (request.SyncFs inode)) [] (syncfs plan inode) [] [] blank
 fit_syncfs plan who inode = fit_begin _ refl (λ session.
     fit_open_inode false plan session inode o_nofollow _ tt nothing_bare (λ row dir fd.
     fit_do_call (call.SyncFs fd) _ (record { holds = λ told these. refl; notes = λ told these. refl })

@@ -40,7 +40,7 @@ use Rattle.pt_fit.specs.Cause.{Asking, BlocksLabel, IsBlockedLabel, OwnCause, Te
 use Rattle.pt_fit.proofs.Holds.{nothing_bare}
 use Rattle.pt_fit.proofs.Joined.{after_any_step, fit_gives, fit_look_up, fit_open_num}
 use Rattle.pt_fit.proofs.Labelling.{fit_labelled}
-use Rattle.pt_fit.proofs.Parts.{Agreed, Goes, Seen, Told, blocked_by, fit_begin, fit_checked}
+use Rattle.pt_fit.proofs.Parts.{Agreed, FitOn, Seen, Told, blocked_by, fit_begin, fit_checked}
 use Rattle.pt_fit.proofs.Parts.{fit_draw_handle, fit_file_of}
 use Rattle.pt_fit.proofs.Parts.{fit_insert_given, fit_resolve, fit_stat}
 use Rattle.pt_fit.proofs.Parts.{fit_take_under}
@@ -63,28 +63,28 @@ covers_euid c = record { uncovers = c.uncovers; unscopes = c.unscopes; lays = λ
 
 -- An identity is taken on by these steps, and what follows is fit under their scopes.
 module _ {asked : Asking} {seen : List Seen} {bare : List Hold} {marks : List ℕ} {notes : Notes}
-    (rest : RequestTree) (f : (holds : List Hold) → Covers holds bare → Goes asked seen rest holds marks notes) where
+    (rest : RequestTree) (f : (holds : List Hold) → Covers holds bare → FitOn asked seen rest holds marks notes) where
   fit_raises : (raise : Bool) (holds : List Hold) → Covers holds bare →
-      Goes asked seen (taken_on (raise_calls raise) rest) holds marks notes
+      FitOn asked seen (taken_on (raise_calls raise) rest) holds marks notes
   fit_raises true holds c = fit_raise override_cap rest (f holds c)
   fit_raises false holds c = f holds c
 
   fit_euid : (euid : Option ℕ) (raise : Bool) (holds : List Hold) → Covers holds bare →
-      Goes asked seen (taken_on (euid_calls euid ++ raise_calls raise) rest) holds marks notes
+      FitOn asked seen (taken_on (euid_calls euid ++ raise_calls raise) rest) holds marks notes
   fit_euid None raise holds c = fit_raises raise holds c
   fit_euid (Some uid) raise holds c =
       fit_open_scope (call.SetEuid uid) hold.EffectiveUid (taken_on (raise_calls raise) rest) refl tt refl
       (fit_raises raise (hold.EffectiveUid ∷ holds) (covers_euid c))
 
   fit_egid : (egid euid : Option ℕ) (raise : Bool) (holds : List Hold) → Covers holds bare →
-      Goes asked seen (taken_on (egid_calls egid ++ euid_calls euid ++ raise_calls raise) rest) holds marks notes
+      FitOn asked seen (taken_on (egid_calls egid ++ euid_calls euid ++ raise_calls raise) rest) holds marks notes
   fit_egid None euid raise holds c = fit_euid euid raise holds c
   fit_egid (Some gid) euid raise holds c =
       fit_open_scope (call.SetEgid gid) hold.EffectiveGid (taken_on (euid_calls euid ++ raise_calls raise) rest) refl
       tt refl (fit_euid euid raise (hold.EffectiveGid ∷ holds) (covers_egid c))
 
   fit_steps : (groups egid euid : Option ℕ) (raise : Bool) (holds : List Hold) → Covers holds bare →
-      Goes asked seen
+      FitOn asked seen
       (taken_on (group_calls groups ++ egid_calls egid ++ euid_calls euid ++ raise_calls raise) rest)
       holds marks notes
   fit_steps None egid euid raise holds c = fit_egid egid euid raise holds c
@@ -96,7 +96,7 @@ module _ {asked : Asking} {seen : List Seen} {bare : List Hold} {marks : List �
   -- by whoever asks, where no id is forbidden
   pub fit_as_asker : (seat : HostSeat) (asker : Option Credentials) (holds : List Hold) → Covers holds bare →
       (asker ≡ None → OwnCause asked.plan asked.who asked.request eperm) →
-      Goes asked seen (as_asker seat asker rest) holds marks notes
+      FitOn asked seen (as_asker seat asker rest) holds marks notes
   fit_as_asker seat None holds c forbids = fit_gives (answer.Refused eperm) (λ path. (tt, inl (forbids refl), tt))
   fit_as_asker seat (Some creds) holds c forbids =
       fit_steps creds.sup_gid (id_to_set creds.gid seat.eff_gid) (id_to_set creds.uid seat.eff_uid)
@@ -132,13 +132,13 @@ fit_if_same : {asked : Asking} {seen : List Seen} {holds : List Hold} {marks : L
     (made found : ObjIds) (next : RequestTree) →
     (are_same made found ≡ false → (path : List Step) → Told seen path →
     TellsCause asked.plan asked.who asked.request path estale) →
-    (made ≡ found → Goes asked seen next holds marks notes) →
-    Goes asked seen (if_same made found next) holds marks notes
+    (made ≡ found → FitOn asked seen next holds marks notes) →
+    FitOn asked seen (if_same made found next) holds marks notes
 fit_if_same {asked = asked} {seen = seen} {holds = holds} {marks = marks} {notes = notes} made found next stale f =
     go (are_same made found) refl
   where
     go : (same : Bool) → are_same made found ≡ same →
-        Goes asked seen (if same then next else Gives (answer.Refused estale)) holds marks notes
+        FitOn asked seen (if same then next else Gives (answer.Refused estale)) holds marks notes
     go true e = f (same_ids made found e)
     go false e = record { on = λ path s. (tt, inr (inr (stale e path s)), tt) }
 
@@ -164,7 +164,7 @@ module _ (plan : Plan) (who : Context) (parent : ℕ) (name : List ℕ) (mode : 
   -- what was made gets its context, is what its name leads to, and gets a handle by its number
   fit_new : {marks : List ℕ} {notes : Notes} (session : BegunSession) (row : ℕ) (dir fd : Fd) →
       notes.era ≡ Some session.era → notes.brought ≡ None →
-      Goes asks (Agreed session.agreed ∷ []) (new_file plan session file dir fd answers)
+      FitOn asks (Agreed session.agreed ∷ []) (new_file plan session file dir fd answers)
       (hold.Fd fd ∷ hold.Pin row (Some dir) ∷ []) marks notes
   fit_new session row dir fd e n =
       fit_stat fd _ (λ made.
@@ -183,7 +183,7 @@ module _ (plan : Plan) (who : Context) (parent : ℕ) (name : List ℕ) (mode : 
   -- what was there gets one by its own
   fit_old : {marks : List ℕ} {notes : Notes} (seat : HostSeat) (session : BegunSession) (row : ℕ) (dir : Fd) →
       notes.era ≡ Some session.era → notes.brought ≡ None → takes_old file ≡ true →
-      Goes asks (Agreed session.agreed ∷ []) (old_file plan seat session file answers)
+      FitOn asks (Agreed session.agreed ∷ []) (old_file plan seat session file answers)
       (hold.Pin row (Some dir) ∷ []) marks notes
   fit_old seat session row dir e n takes =
       fit_look_up plan session parent name _ (λ one. refl) e n (λ looked later l.
@@ -194,7 +194,7 @@ module _ (plan : Plan) (who : Context) (parent : ℕ) (name : List ℕ) (mode : 
   fit_making : {marks : List ℕ} {notes : Notes} (seat : HostSeat) (session : BegunSession) (row : ℕ) (dir : Fd) →
       notes.era ≡ Some session.era → notes.brought ≡ None →
       notes.resolved ≡ Some (record { number = parent; row = row }) →
-      Goes asks (Agreed session.agreed ∷ []) (make_file plan seat session file dir answers)
+      FitOn asks (Agreed session.agreed ∷ []) (make_file plan seat session file dir answers)
       (hold.Pin row (Some dir) ∷ []) marks notes
   fit_making seat session row dir e n r =
       fit_as_asker _
@@ -203,7 +203,7 @@ module _ (plan : Plan) (who : Context) (parent : ℕ) (name : List ℕ) (mode : 
       seat (asker_of plan session who ext.sup_gid) _ (covers_none row dir)
       (λ none. inr (forbidden_from _ _ _ _ none, refl))
 
-  pub fit_create : (seat : HostSeat) → Goes asks [] (tree_of plan seat who what) [] [] blank
+  pub fit_create : (seat : HostSeat) → FitOn asks [] (tree_of plan seat who what) [] [] blank
   fit_create seat = fit_begin _ refl (λ session.
       fit_checked (is_bad_name name) _ (λ bad. inl (bad, refl))
       (fit_resolve parent _ nothing_bare (λ row. after_any_step (fit_file_of row.row row.form _ (λ dir.

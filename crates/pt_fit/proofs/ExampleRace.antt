@@ -477,16 +477,16 @@ runs plan root file seat apart kind =
 
 -- what the jobs asked, and how they ended
 
-abbrev asked : Context → ℕ → Asked
-asked who zero = Requests who request.Root
-asked who (suc job) = Requests who (request.Lookup 1 name)
+abbrev asked_by : Context → ℕ → Asked
+asked_by who zero = Requests who request.Root
+asked_by who (suc job) = Requests who (request.Lookup 1 name)
 
 abbrev ends : Plan → Stat → Stat → ℕ → Finish
 ends plan root file zero = finish.Answer answer.Done
 ends plan root file (suc job) = finish.Answer (answer.Entry (entry_of plan nothing_agreed root.ids file 2))
 
 pub belongs : (plan : Plan) (seat : HostSeat) (who : Context) (root file : Stat) (job : ℕ) → job < 3 →
-    Belongs (grammar_for plan seat (asked who job)) (steps_of job (turns plan root file)) (ends plan root file job)
+    Belongs (grammar_for plan seat (asked_by who job)) (steps_of job (turns plan root file)) (ends plan root file job)
 belongs plan seat who root file zero l = (refl, (refl, (refl, (refl, (refl, refl)))))
 belongs plan seat who root file (suc zero) l =
     (refl, (refl, (refl, (refl, (refl, (refl, (refl, (refl, (refl, refl)))))))))
@@ -495,7 +495,7 @@ belongs plan seat who root file (suc (suc zero)) l =
 belongs plan seat who root file (suc (suc (suc job))) l = absurd (omega arith)
 
 pub answered : (plan : Plan) (seat : HostSeat) (who : Context) (root file : Stat) →
-    AreAnswered plan 3 (λ job. seat) (asked who) (ends plan root file) (turns plan root file)
+    AreAnswered plan 3 (λ job. seat) (asked_by who) (ends plan root file) (turns plan root file)
 answered plan seat who root file =
     record { owners = owners; jobs = λ job l. inl (belongs plan seat who root file job l) }
   where
@@ -539,7 +539,7 @@ pub ended : (plan : Plan) (root file : Stat) (seat : HostSeat) (who : Context) �
     kind_of root.mode ≡ directory_kind → AreEnded 3 (turns plan root file)
 ended plan root file seat who apart kind =
     let r = runs plan root file seat apart kind in
-    run_ended plan 3 (λ job. seat) (asked who) (ends plan root file) (turns plan root file)
+    run_ended plan 3 (λ job. seat) (asked_by who) (ends plan root file) (turns plan root file)
     (start root file) r.last r.run
     (answered plan seat who root file)
 

@@ -343,8 +343,8 @@ fails_among [] two step errno f = inl f
 fails_among (first ∷ one) two step errno f = inr (fails_among one two step errno f)
 
 -- or it ends before, where the capability was to be dropped, and is answered as that call was
-abbrev Ends : List Step → Finish → Bool → Type 0
-Ends steps end dropped =
+abbrev EndsRefused : List Step → Finish → Bool → Type 0
+EndsRefused steps end dropped =
     Answers end
     ⊎ ((errno : Errno) × (dropped ≡ true) × SomeFailsToDrop steps errno
     × (end ≡ finish.Answer (answer.Refused errno)))
@@ -389,7 +389,7 @@ gone_answered_law limit job plan seat who what turns later was now number end r 
     ends_so what (first (steps_of job later) refl (drops_before plan seat what) s.0 s.1
     (subst (λ tree. Belongs (grammar_of_tree seat tree) (steps_of job later) end) s.2 b))
   where
-    ends_so : (asked : Request) → Ends (steps_of job later) end (drops_before plan seat asked) →
+    ends_so : (asked : Request) → EndsRefused (steps_of job later) end (drops_before plan seat asked) →
         (end ≡ finish.Answer (answer.Refused ebadf)) ⊎ IsGivenUp end
         ⊎ EndsBefore plan seat asked (steps_of job later) end
     ends_so asked (inl (inl e)) = inl e
@@ -422,7 +422,7 @@ gone_answered_law limit job plan seat who what turns later was now number end r 
     scoped : (dropped : Bool) (one : List Step) (steps : List Step) (marks : List ℕ)
         (next : Resolved → RequestTree) → steps_of job later ≡ one ++ steps →
         Belongs (framed seat (without_fsetid dropped (resolve number next)) [] marks) steps end →
-        Ends (steps_of job later) end dropped
+        EndsRefused (steps_of job later) end dropped
     scoped false one steps marks next e b = inl (second one steps [] marks next e b)
     scoped true one [] marks next e b = absurd b
     scoped true one (step ∷ steps) marks next e b =
@@ -457,7 +457,7 @@ gone_answered_law limit job plan seat who what turns later was now number end r 
         told_so : (one steps : List Step) (step : Step) (errno : Errno) → steps_of job later ≡ one ++ step ∷ steps →
             FailsToDrop step.deed step.reply errno →
             IsGivenUp end ⊎ Belongs (leave seat [] (finish.Answer (answer.Refused errno))) steps end →
-            Ends (steps_of job later) end true
+            EndsRefused (steps_of job later) end true
         told_so one steps step errno e f (inl up) = inl (inr up)
         told_so one steps step errno e f (inr on) =
             elim (end_leave seat [] (finish.Answer (answer.Refused errno)) steps end on).0 [
@@ -478,7 +478,7 @@ gone_answered_law limit job plan seat who what turns later was now number end r 
     inside : (dropped wraps : Bool) (one : List Step) (steps : List Step) (next : Resolved → RequestTree) →
         steps_of job later ≡ one ++ steps →
         Belongs (framed seat (bracketed wraps (without_fsetid dropped (resolve number next))) [] []) steps end →
-        Ends (steps_of job later) end dropped
+        EndsRefused (steps_of job later) end dropped
     inside dropped true one steps next e b = scoped dropped one steps (0 ∷ []) next e b
     inside dropped false one steps next e b = scoped dropped one steps [] next e b
 
@@ -486,7 +486,7 @@ gone_answered_law limit job plan seat who what turns later was now number end r 
         (next : BegunSession → Resolved → RequestTree) →
         Belongs (grammar_of_tree seat (begin (λ session.
         bracketed wraps (without_fsetid dropped (resolve number (next session)))))) steps end →
-        Ends (steps_of job later) end dropped
+        EndsRefused (steps_of job later) end dropped
     first [] e dropped wraps next b = absurd b
     first (step ∷ steps) e dropped wraps next b =
         let g = at [] step steps e in

@@ -251,8 +251,8 @@ opens_so role seat now scopes asked scope next own un k = (un, own, go)
     go NoCopy m a = un
 
 -- what the identity is taken on for
-abbrev Ends : Role → HostSeat → RequestTree → Identity → Type 0
-Ends role seat tree who =
+abbrev SeatsGuised : Role → HostSeat → RequestTree → Identity → Type 0
+SeatsGuised role seat tree who =
     (scopes : List Hold) (now : HostSeat) → Unwinds seat scopes now → identity_of now ≡ who →
     Seats role seat tree scopes now
 
@@ -267,7 +267,7 @@ module _
     (whole : IsWhole seat)
     (tree : RequestTree)
     (who : Identity)
-    (k : Ends role seat tree who)
+    (k : SeatsGuised role seat tree who)
   where
     opens_uid : (uid : ℕ) (keeps : Bool) (scopes : List Hold) (now : HostSeat) → Unwinds seat scopes now →
         LikeUid seat now → TakesUid seat now uid → who.uid ≡ id_under now.real_uid uid now.eff_uid →

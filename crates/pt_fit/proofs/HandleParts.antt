@@ -50,12 +50,12 @@ use Rattle.pt_law.specs.Told.{AllMayBeTold, MayBeTold, StepMayBeTold}
 use Rattle.pt_fit.specs.Handled.{handle_count, handles_in}
 
 -- On each of its branches, by replies that may come, what was inserted is what is answered.
-pub record Keeps (tree : RequestTree) : Type 0 where
+pub record Yields (tree : RequestTree) : Type 0 where
   pub on : (path : List Step) (last : Answer) → AllMayBeTold path → Along tree path last → (handle : ℕ) →
       handles_in handle path ≡ handle_count handle last
 
 -- an answer without a handle
-pub gives : (last : Answer) → ((handle : ℕ) → handle_count handle last ≡ 0) → Keeps (Gives last)
+pub gives : (last : Answer) → ((handle : ℕ) → handle_count handle last ≡ 0) → Yields (Gives last)
 gives last without = record { on = go }
   where
     go : (path : List Step) (told : Answer) → AllMayBeTold path → Along (Gives last) path told → (handle : ℕ) →
@@ -75,7 +75,7 @@ refusal_none (Host host.NoMemory) handle = refl
 refusal_none (Host (host.Ok value)) handle = refl
 refusal_none told handle = refl
 
-pub refuses : (told : ActReply) → Keeps (Refuses told)
+pub refuses : (told : ActReply) → Yields (Refuses told)
 refuses told = record { on = go }
   where
     go : (path : List Step) (last : Answer) → AllMayBeTold path → Along (Refuses told) path last → (handle : ℕ) →
@@ -96,8 +96,8 @@ step_none deed (Some same) told handle spares i =
     ap (λ (d : Deed). handle_inserted_if handle (Some d) told) i ∙ spares handle told
 
 pub asks : (deed : Deed) (next : ActReply → RequestTree) → InsertsNone deed →
-    ((told : ActReply) → Keeps (next told)) →
-    Keeps (Asks deed next)
+    ((told : ActReply) → Yields (next told)) →
+    Yields (Asks deed next)
 asks deed next spares so = record { on = go }
   where
     go : (path : List Step) (last : Answer) → AllMayBeTold path → Along (Asks deed next) path last → (handle : ℕ) →
@@ -108,8 +108,8 @@ asks deed next spares so = record { on = go }
         let rest = (so step.reply).on path last m.1 a.1 handle in
         omega (arith, one, rest)
 
-pub opens : (asked : Call) (scope : Hold) (next : ActReply → RequestTree) → ((told : ActReply) → Keeps (next told)) →
-    Keeps (Opens asked scope next)
+pub opens : (asked : Call) (scope : Hold) (next : ActReply → RequestTree) → ((told : ActReply) → Yields (next told)) →
+    Yields (Opens asked scope next)
 opens asked scope next so = record { on = go }
   where
     go : (path : List Step) (last : Answer) → AllMayBeTold path → Along (Opens asked scope next) path last →
@@ -120,13 +120,13 @@ opens asked scope next so = record { on = go }
         let rest = (so step.reply).on path last m.1 a.1 handle in
         omega (arith, one, rest)
 
-pub bares : (rest : RequestTree) → Keeps rest → Keeps (Bares rest)
+pub bares : (rest : RequestTree) → Yields rest → Yields (Bares rest)
 bares rest so = record { on = so.on }
 
-pub brackets : (rest : RequestTree) → Keeps rest → Keeps (Brackets rest)
+pub brackets : (rest : RequestTree) → Yields rest → Yields (Brackets rest)
 brackets rest so = record { on = so.on }
 
-pub shuts : (passes : Bool) (rest : RequestTree) → Keeps rest → Keeps (Shuts passes rest)
+pub shuts : (passes : Bool) (rest : RequestTree) → Yields rest → Yields (Shuts passes rest)
 shuts passes rest so = record { on = so.on }
 
 -- what follows its insertion is answered with the handle, at once
@@ -147,7 +147,7 @@ pub hands_shut : (handle : ℕ) (passes : Bool) (rest : RequestTree) → Hands h
 hands_shut handle passes rest so = record { on = so.on }
 
 pub inserts_handle : (session : BegunSession) (handle number : ℕ) (fd : Fd) (next : RequestTree) → Hands handle next →
-    Keeps (insert_handle session handle number fd next)
+    Yields (insert_handle session handle number fd next)
 inserts_handle session handle number fd next so = record { on = go }
   where
     asked : Deed
@@ -190,69 +190,69 @@ inserts_handle session handle number fd next so = record { on = go }
 -- Each part of a request.
 
 abbrev pub P : ActReply → RequestTree → Type 0
-P told tree = Keeps tree
+P told tree = Yields tree
 
-pub begins : (next : BegunSession → RequestTree) → ((session : BegunSession) → Keeps (next session)) →
-    Keeps (begin next)
+pub begins : (next : BegunSession → RequestTree) → ((session : BegunSession) → Yields (next session)) →
+    Yields (begin next)
 begins next so = asks (Changes change.Begin) (on_began next) (λ h told. refl)
     (if_began P next refuses (λ era agreed. so (session_of era agreed)))
 
-pub clears : (next : ℕ → RequestTree) → ((era : ℕ) → Keeps (next era)) → Keeps (clear next)
+pub clears : (next : ℕ → RequestTree) → ((era : ℕ) → Yields (next era)) → Yields (clear next)
 clears next so = asks (Changes change.Clear) (on_cleared next) (λ h told. refl)
     (if_cleared P next refuses (λ era closings. so era))
 
-pub resolves : (number : ℕ) (next : Resolved → RequestTree) → ((row : Resolved) → Keeps (next row)) →
-    Keeps (resolve number next)
+pub resolves : (number : ℕ) (next : Resolved → RequestTree) → ((row : Resolved) → Yields (next row)) →
+    Yields (resolve number next)
 resolves number next so = asks (Changes (change.Resolve number)) (on_resolved next) (λ h told. refl)
     (if_resolved P next refuses (λ row form ids mode.
     so (record { row = row; form = form; ids = ids; mode = mode })))
 
-pub calls_fd : (asked : Call) (next : Fd → RequestTree) → ((fd : Fd) → Keeps (next fd)) →
-    Keeps (Asks (Calls asked) (on_fd next))
+pub calls_fd : (asked : Call) (next : Fd → RequestTree) → ((fd : Fd) → Yields (next fd)) →
+    Yields (Asks (Calls asked) (on_fd next))
 calls_fd asked next so = asks (Calls asked) (on_fd next) (λ h told. refl) (if_fd P next refuses so)
 
-pub stats : (fd : Fd) (next : Stat → RequestTree) → ((told : Stat) → Keeps (next told)) → Keeps (stat fd next)
+pub stats : (fd : Fd) (next : Stat → RequestTree) → ((told : Stat) → Yields (next told)) → Yields (stat fd next)
 stats fd next so = asks (Calls (call.Stat fd)) (on_stat next) (λ h told. refl) (if_stat P next refuses so)
 
-pub takes : (next : RequestTree) → Keeps next → Keeps (take_fd next)
+pub takes : (next : RequestTree) → Yields next → Yields (take_fd next)
 takes next so = asks (Changes change.TakeFd) (on_taken next) (λ h told. refl) (if_taken P next refuses so)
 
-pub draws_handle : (next : ℕ → RequestTree) → ((handle : ℕ) → Keeps (next handle)) → Keeps (draw_handle next)
+pub draws_handle : (next : ℕ → RequestTree) → ((handle : ℕ) → Yields (next handle)) → Yields (draw_handle next)
 draws_handle next so = asks (Changes change.DrawHandle) (on_drawn next) (λ h told. refl) (if_drawn P next refuses so)
 
-pub dones : (deed : Deed) (next : RequestTree) → InsertsNone deed → Keeps next → Keeps (Asks deed (on_done next))
+pub dones : (deed : Deed) (next : RequestTree) → InsertsNone deed → Yields next → Yields (Asks deed (on_done next))
 dones deed next spares so = asks deed (on_done next) spares (if_done P next refuses (λ closings. so))
 
-pub checks : (bad : Bool) (one next : RequestTree) → Keeps one → Keeps next → Keeps (if bad then one else next)
+pub checks : (bad : Bool) (one next : RequestTree) → Yields one → Yields next → Yields (if bad then one else next)
 checks true one next so other = so
 checks false one next so other = other
 
-pub refuses_so : (errno : Errno) → Keeps (Gives (answer.Refused errno))
+pub refuses_so : (errno : Errno) → Yields (Gives (answer.Refused errno))
 refuses_so errno = gives (answer.Refused errno) (λ h. refl)
 
-pub files : (form : RowForm) (next : Fd → RequestTree) → ((fd : Fd) → Keeps (next fd)) → Keeps (file_of form next)
+pub files : (form : RowForm) (next : Fd → RequestTree) → ((fd : Fd) → Yields (next fd)) → Yields (file_of form next)
 files (File fd) next so = so fd
 
-pub both_files : (first second : ℕ) (next : Fd → Fd → RequestTree) → ((from to : Fd) → Keeps (next from to)) →
-    Keeps (files_by first second next)
+pub both_files : (first second : ℕ) (next : Fd → Fd → RequestTree) → ((from to : Fd) → Yields (next from to)) →
+    Yields (files_by first second next)
 both_files first second next so =
     resolves first _ (λ one.
     resolves second _ (λ other.
     files one.form _ (λ from.
     files other.form _ (λ to. so from to))))
 
-pub does : (asked : Call) (next : RequestTree) → Keeps next → Keeps (do_call asked next)
+pub does : (asked : Call) (next : RequestTree) → Yields next → Yields (do_call asked next)
 does asked next so = asks (Calls asked) (on_set next) (λ h told. refl) (if_set P next refuses (λ told. so))
 
-pub decides : (granted : Bool) → Keeps (Gives (if granted then answer.Done else answer.Refused eacces))
+pub decides : (granted : Bool) → Yields (Gives (if granted then answer.Done else answer.Refused eacces))
 decides true = gives answer.Done (λ h. refl)
 decides false = refuses_so eacces
 
-pub one_file : (number : ℕ) (next : Fd → RequestTree) → ((fd : Fd) → Keeps (next fd)) → Keeps (file_by number next)
+pub one_file : (number : ℕ) (next : Fd → RequestTree) → ((fd : Fd) → Yields (next fd)) → Yields (file_by number next)
 one_file number next so = resolves number _ (λ row. files row.form next so)
 
 pub numbers : (session : BegunSession) (form : RowForm) (told : Stat) (next : ℕ → RequestTree) →
-    ((number : ℕ) → Keeps (next number)) → Keeps (numbered session form told next)
+    ((number : ℕ) → Yields (next number)) → Yields (numbered session form told next)
 numbers session form told next so =
     let adds : ℕ → RequestTree = λ fresh. insert session fresh form told next in
     asks (Changes (change.Claim session.era None told.ids)) (on_claim next (take_fd (draw_node adds)))
@@ -265,7 +265,7 @@ numbers session form told next so =
     (if_inserted P next refuses so so))))))
 
 pub looks_up : (plan : Plan) (session : BegunSession) (parent : ℕ) (name : List ℕ) (next : Looked → RequestTree) →
-    ((looked : Looked) → Keeps (next looked)) → Keeps (look_up plan session parent name next)
+    ((looked : Looked) → Yields (next looked)) → Yields (look_up plan session parent name next)
 looks_up plan session parent name next so =
     brackets _ (
     resolves parent _ (λ directory.
@@ -278,30 +278,30 @@ looks_up plan session parent name next so =
 -- a handle is drawn, takes its slot and is inserted, for what was opened
 pub gets_handle : (session : BegunSession) (number : ℕ) (fd : Fd) (next : ℕ → RequestTree) →
     ((handle : ℕ) → Hands handle (next handle)) →
-    Keeps (draw_handle (λ handle. take_fd (insert_handle session handle number fd (next handle))))
+    Yields (draw_handle (λ handle. take_fd (insert_handle session handle number fd (next handle))))
 gets_handle session number fd next so =
     draws_handle _ (λ handle.
     takes _ (inserts_handle session handle number fd (next handle) (so handle)))
 
-pub reopens : (form : RowForm) (flags : ℕ) (next : Fd → RequestTree) → ((fd : Fd) → Keeps (next fd)) →
-    Keeps (open_form form flags next)
+pub reopens : (form : RowForm) (flags : ℕ) (next : Fd → RequestTree) → ((fd : Fd) → Yields (next fd)) →
+    Yields (open_form form flags next)
 reopens (File fd) flags next so = calls_fd (call.Reopen fd (without_nofollow flags)) next so
 
-pub sets_on : (asked : Call) (scope : Hold) (next : RequestTree) → Keeps next →
-    Keeps (Opens asked scope (on_set next))
+pub sets_on : (asked : Call) (scope : Hold) (next : RequestTree) → Yields next →
+    Yields (Opens asked scope (on_set next))
 sets_on asked scope next so = opens asked scope (on_set next) (if_set P next refuses (λ told. so))
 
-pub good : (can : Bool) (one other : RequestTree) → Keeps one → Keeps other → Keeps (if can then one else other)
+pub good : (can : Bool) (one other : RequestTree) → Yields one → Yields other → Yields (if can then one else other)
 good true one other so also = so
 good false one other so also = also
 
 -- what keeps it in a scope keeps it in none
-pub without : (dropped : Bool) (next : RequestTree) → Keeps next → Keeps (without_fsetid dropped next)
+pub without : (dropped : Bool) (next : RequestTree) → Yields next → Yields (without_fsetid dropped next)
 without true next so = sets_on (call.DropCap fsetid) (hold.Dropped fsetid) next so
 without false next so = so
 
 pub opens_inode : (plan : Plan) (session : BegunSession) (number flags : ℕ) (next : Fd → RequestTree) →
-    ((fd : Fd) → Keeps (next fd)) → Keeps (open_inode plan session number flags next)
+    ((fd : Fd) → Yields (next fd)) → Yields (open_inode plan session number flags next)
 opens_inode plan session number flags next so =
     let bits = inode_flags plan.config session.agreed flags in
     resolves number _ (λ row.
@@ -310,7 +310,7 @@ opens_inode plan session number flags next so =
 
 pub opens_num : (plan : Plan) (seat : HostSeat) (session : BegunSession) (number : ℕ) (kill : Bool) (flags : ℕ)
     (next : ℕ → RequestTree) → ((handle : ℕ) → Hands handle (next handle)) →
-    Keeps (open_num plan seat session number kill flags next)
+    Yields (open_num plan seat session number kill flags next)
 opens_num plan seat session number kill flags next so =
     brackets _ (
     without (drops_fsetid plan seat kill) _ (
@@ -320,8 +320,8 @@ opens_num plan seat session number kill flags next so =
     hands_shut handle false (next handle) (so handle))))))
 
 pub opens_shared : (plan : Plan) (session : BegunSession) (agreed : Option Negotiated) (next : RequestTree) →
-    Keeps next →
-    Keeps (root_open plan session agreed next)
+    Yields next →
+    Yields (root_open plan session agreed next)
 opens_shared plan session agreed next so =
     calls_fd (call.OpenRoot plan.config.root_dir by_path) _ (λ fd.
     stats fd _ (λ told.

@@ -29,25 +29,25 @@ use Rattle.pt_req.specs.declared.plan.Plan.{Plan}
 use Rattle.pt_attr.specs.Requests.{file_by, files_by}
 use Rattle.pt_law.specs.Discipline.{Notes, Told, blank, given_for, newly, told_of, with_root}
 use Rattle.pt_law.specs.Keeps.{Lasts}
-use Rattle.pt_fit.specs.Cause.{Asking, IsOpening, OwnCause}
+use Rattle.pt_fit.specs.Cause.{Asking, OpensFile, OwnCause}
 use Rattle.pt_fit.specs.Fit.{Fit}
 use Rattle.pt_fit.proofs.Holds.{IsBare, nothing_bare, over}
-use Rattle.pt_fit.proofs.Parts.{Goes, GoesAfter, fit_begin, fit_brackets, fit_claim, fit_draw_handle, fit_draw_node}
+use Rattle.pt_fit.proofs.Parts.{FitOn, GoesAfter, fit_begin, fit_brackets, fit_claim, fit_draw_handle, fit_draw_node}
 use Rattle.pt_fit.proofs.Parts.{fit_file_of, fit_insert, fit_insert_handle, fit_insert_root, fit_open_at}
 use Rattle.pt_fit.proofs.Parts.{fit_open_root, fit_reopen, fit_resolve, fit_resolve_over, fit_shuts}
 use Rattle.pt_fit.proofs.Parts.{fit_shuts_passing, fit_stat, fit_take_fd, noting, resolution}
-use Rattle.pt_fit.proofs.Parts.{still, Ids, IsTold, Seen}
+use Rattle.pt_fit.proofs.Parts.{still, Ids, IsToldLast, Seen}
 use Rattle.pt_fit.proofs.Scopes.{fit_bares, fit_without_fsetid}
 use Rattle.pt_fit.proofs.Telling.{told_here, told_past}
 
 -- a leaf
 pub fit_gives : {asked : Asking} {seen : List Seen} {holds : List Hold} {marks : List ℕ} {notes : Notes}
     (last : Answer) → ((path : List Step) → Fit asked (Gives last) holds marks notes path) →
-    Goes asked seen (Gives last) holds marks notes
+    FitOn asked seen (Gives last) holds marks notes
 fit_gives last f = record { on = λ path s. f path }
 
 pub after_any_step : {step : Step} {asked : Asking} {seen : List Seen} {tree : RequestTree} {holds : List Hold}
-    {marks : List ℕ} {notes : Notes} → Goes asked seen tree holds marks notes →
+    {marks : List ℕ} {notes : Notes} → FitOn asked seen tree holds marks notes →
     GoesAfter step asked seen tree holds marks notes
 after_any_step {step = step} f = record { on = λ path s. f.on (step ∷ path) (still s) }
 
@@ -56,19 +56,19 @@ pub record WasGiven (notes : Notes) (number : ℕ) (ids : ObjIds) (later : Notes
   pub era : later.era ≡ notes.era
   pub given : later.given ≡ Some (given_for number ids)
   -- what was told to have these ids is so still
-  pub told : (fd : Fd) → IsTold notes fd ids → IsTold later fd ids
+  pub told : (fd : Fd) → IsToldLast notes fd ids → IsToldLast later fd ids
 
 -- what follows a number that was had, whatever lies between its count and what was held before
 abbrev Numbered : Asking → List Seen → ℕ → ObjIds → (ℕ → RequestTree) → List Hold → List ℕ → Notes → Type 0
 Numbered asked seen era ids next holds marks notes =
     (number : ℕ) (front : List Hold) (later : Notes) → WasGiven notes number ids later →
-    Goes asked seen (next number) (hold.Count era number ∷ (front ++ holds)) marks later
+    FitOn asked seen (next number) (hold.Count era number ∷ (front ++ holds)) marks later
 
 fit_numbered : {asked : Asking} {seen : List Seen} {holds : List Hold} {marks : List ℕ} {notes : Notes}
     (session : BegunSession) (fd : Fd) (told : Stat) (next : ℕ → RequestTree) (row : ℕ) (dir : Fd) →
-    notes.era ≡ Some session.era → notes.latest ≡ Some fd → IsTold notes fd told.ids →
+    notes.era ≡ Some session.era → notes.latest ≡ Some fd → IsToldLast notes fd told.ids →
     Numbered asked seen session.era told.ids next holds marks notes →
-    Goes asked seen (numbered session (File fd) told next)
+    FitOn asked seen (numbered session (File fd) told next)
     (hold.Fd fd ∷ hold.Pin row (Some dir) ∷ holds) marks notes
 fit_numbered session fd told next row dir e l t f =
     let top = hold.Fd fd in
@@ -88,26 +88,26 @@ fit_numbered session fd told next row dir e l t f =
 -- the file of a number, whose row is pinned then
 pub fit_file_by : {asked : Asking} {seen : List Seen} {holds : List Hold} {marks : List ℕ} {notes : Notes}
     (number : ℕ) (next : Fd → RequestTree) → IsBare holds →
-    ((row : ℕ) (fd : Fd) → Goes asked seen (next fd) (hold.Pin row (Some fd) ∷ holds) marks
+    ((row : ℕ) (fd : Fd) → FitOn asked seen (next fd) (hold.Pin row (Some fd) ∷ holds) marks
     (noting number row notes)) →
-    Goes asked seen (file_by number next) holds marks notes
+    FitOn asked seen (file_by number next) holds marks notes
 fit_file_by number next b f =
     fit_resolve number _ b (λ row. after_any_step (fit_file_of row.row row.form next (f row.row)))
 
 -- a file whose row lies under one more hold
 under_top : {asked : Asking} {seen : List Seen} {holds : List Hold} {marks : List ℕ} {notes : Notes}
     (top : Hold) (row : ℕ) (form : RowForm) (next : Fd → RequestTree) →
-    ((fd : Fd) → Goes asked seen (next fd) (top ∷ hold.Pin row (Some fd) ∷ holds) marks notes) →
-    Goes asked seen (file_of form next) (top ∷ hold.Pin row (row_fd form) ∷ holds) marks notes
+    ((fd : Fd) → FitOn asked seen (next fd) (top ∷ hold.Pin row (Some fd) ∷ holds) marks notes) →
+    FitOn asked seen (file_of form next) (top ∷ hold.Pin row (row_fd form) ∷ holds) marks notes
 under_top top row (File fd) next f = f fd
 
 -- the files of two numbers, whose rows are pinned then
 pub fit_files_by : {asked : Asking} {seen : List Seen} {marks : List ℕ} {notes : Notes} (first second : ℕ)
     (next : Fd → Fd → RequestTree) →
     ((one other : ℕ) (from to : Fd) →
-    Goes asked seen (next from to) (hold.Pin other (Some to) ∷ hold.Pin one (Some from) ∷ []) marks
+    FitOn asked seen (next from to) (hold.Pin other (Some to) ∷ hold.Pin one (Some from) ∷ []) marks
     (noting second other (noting first one notes))) →
-    Goes asked seen (files_by first second next) [] marks notes
+    FitOn asked seen (files_by first second next) [] marks notes
 fit_files_by first second next f =
     fit_resolve first _ nothing_bare (λ one. after_any_step (
     fit_resolve second _ (λ top. refl) (λ other. after_any_step (
@@ -115,20 +115,20 @@ fit_files_by first second next f =
     fit_file_of other.row other.form _ (λ to. f one.row other.row from to))))))
 
 -- what was told lasts
-told_lasts : (notes later : Notes) (fd : Fd) (ids : ObjIds) → Lasts notes later → IsTold notes fd ids →
-    IsTold later fd ids
+told_lasts : (notes later : Notes) (fd : Fd) (ids : ObjIds) → Lasts notes later → IsToldLast notes fd ids →
+    IsToldLast later fd ids
 told_lasts notes later fd ids l is = (ap (λ (told : List Told). told_of told fd) l.3 ∙ is.0, l.4)
 
 -- A lookup gives an entry, whose count is the last hold.
 abbrev pub Looks : Asking → List Seen → BegunSession → (Looked → RequestTree) → List Hold → List ℕ → Notes → Type 0
 Looks asked seen session next holds marks notes =
     (looked : Looked) (later : Notes) → WasGiven notes looked.entry.inode looked.ids later →
-    Goes asked (Ids looked.ids ∷ seen) (next looked) (hold.Count session.era looked.entry.inode ∷ holds) marks later
+    FitOn asked (Ids looked.ids ∷ seen) (next looked) (hold.Count session.era looked.entry.inode ∷ holds) marks later
 
 pub fit_look_up : {asked : Asking} {seen : List Seen} {holds : List Hold} {marks : List ℕ} {notes : Notes}
     (plan : Plan) (session : BegunSession) (parent : ℕ) (name : List ℕ) (next : Looked → RequestTree) → IsBare holds →
     notes.era ≡ Some session.era → notes.brought ≡ None → Looks asked seen session next holds marks notes →
-    Goes asked seen (look_up plan session parent name next) holds marks notes
+    FitOn asked seen (look_up plan session parent name next) holds marks notes
 fit_look_up {asked = asked} {holds = holds} {notes = notes} plan session parent name next b e n f =
     fit_brackets _ (fit_resolve parent _ b (λ row. after_any_step (fit_file_of row.row row.form _ (λ dir.
     fit_open_at dir name by_path row.row parent _ refl (λ fd.
@@ -157,8 +157,8 @@ root_lasts false fd notes = (refl, refl)
 pub fit_root_open : {asked : Asking} {seen : List Seen} {holds : List Hold} {marks : List ℕ} {notes : Notes}
     (plan : Plan) (session : BegunSession) (agreed : Option Negotiated) (next : RequestTree) → IsBare holds →
     notes.era ≡ Some session.era → notes.rooted ≡ false → notes.brought ≡ None →
-    ((told : Stat) (later : Notes) → Goes asked (Ids told.ids ∷ seen) next holds marks later) →
-    Goes asked seen (root_open plan session agreed next) holds marks notes
+    ((told : Stat) (later : Notes) → FitOn asked (Ids told.ids ∷ seen) next holds marks later) →
+    FitOn asked seen (root_open plan session agreed next) holds marks notes
 fit_root_open {notes = notes} plan session agreed next b e r n f =
     fit_open_root _ _ _ b (λ fd.
     fit_stat fd _ (λ told.
@@ -171,15 +171,15 @@ fit_root_open {notes = notes} plan session agreed next b e r n f =
 fit_open_form : {asked : Asking} {seen : List Seen} {marks : List ℕ} {notes : Notes} (holds : List Hold)
     (dropped : Bool) (row number flags : ℕ) (form : RowForm) (next : Fd → RequestTree) →
     notes.resolved ≡ Some (record { number = number; row = row }) →
-    ((dir new : Fd) → Goes asked seen (next new) (over dropped (hold.Fd new ∷ hold.Pin row (Some dir) ∷ holds))
+    ((dir new : Fd) → FitOn asked seen (next new) (over dropped (hold.Fd new ∷ hold.Pin row (Some dir) ∷ holds))
     marks (record (newly new notes) { reopened = Some new })) →
-    Goes asked seen (open_form form flags next) (over dropped (hold.Pin row (row_fd form) ∷ holds)) marks notes
+    FitOn asked seen (open_form form flags next) (over dropped (hold.Pin row (row_fd form) ∷ holds)) marks notes
 fit_open_form holds dropped row number flags (File dir) next r f =
     fit_reopen holds dropped dir (without_nofollow flags) row number next r (f dir)
 
 pub fit_open_row : {asked : Asking} {seen : List Seen} {marks : List ℕ} (holds : List Hold) (dropped : Bool)
-    (notes : Notes) (number flags : ℕ) (row : Resolved) (next : Fd → RequestTree) → IsOpening asked.request →
-    ((dir new : Fd) → Goes asked seen (next new)
+    (notes : Notes) (number flags : ℕ) (row : Resolved) (next : Fd → RequestTree) → OpensFile asked.request →
+    ((dir new : Fd) → FitOn asked seen (next new)
     (over dropped (hold.Fd new ∷ hold.Pin row.row (Some dir) ∷ holds)) marks
     (record (newly new (noting number row.row notes)) { reopened = Some new })) →
     GoesAfter (resolution number row) asked seen (open_row row flags next)
@@ -197,11 +197,11 @@ fit_open_row {asked = asked} {seen = seen} {marks = marks} holds dropped notes n
 -- A number is opened anew, in a scope or in none.
 pub fit_open_inode : {asked : Asking} {seen : List Seen} {holds : List Hold} {marks : List ℕ} {notes : Notes}
     (dropped : Bool) (plan : Plan) (session : BegunSession) (number flags : ℕ) (next : Fd → RequestTree) →
-    IsOpening asked.request → IsBare holds →
-    ((row : ℕ) (dir new : Fd) → Goes asked seen (next new)
+    OpensFile asked.request → IsBare holds →
+    ((row : ℕ) (dir new : Fd) → FitOn asked seen (next new)
     (over dropped (hold.Fd new ∷ hold.Pin row (Some dir) ∷ holds)) marks
     (record (newly new (noting number row notes)) { reopened = Some new })) →
-    Goes asked seen (open_inode plan session number flags next) (over dropped holds) marks notes
+    FitOn asked seen (open_inode plan session number flags next) (over dropped holds) marks notes
 fit_open_inode {holds = holds} {notes = notes} dropped plan session number flags next o b f =
     fit_resolve_over dropped number _ b (λ row.
     fit_open_row holds dropped notes number (inode_flags plan.config session.agreed flags) row next o (f row.row))
@@ -209,9 +209,9 @@ fit_open_inode {holds = holds} {notes = notes} dropped plan session number flags
 -- A number is opened by a handle, in a bracket that leaves what was held before.
 pub fit_open_num : {asked : Asking} {seen : List Seen} {holds : List Hold} {marks : List ℕ} {notes : Notes}
     (plan : Plan) (seat : HostSeat) (session : BegunSession) (number : ℕ) (kill : Bool) (flags : ℕ)
-    (next : ℕ → RequestTree) → IsOpening asked.request → IsBare holds → notes.era ≡ Some session.era →
-    ((handle : ℕ) (later : Notes) → Goes asked seen (next handle) holds marks later) →
-    Goes asked seen (open_num plan seat session number kill flags next) holds marks notes
+    (next : ℕ → RequestTree) → OpensFile asked.request → IsBare holds → notes.era ≡ Some session.era →
+    ((handle : ℕ) (later : Notes) → FitOn asked seen (next handle) holds marks later) →
+    FitOn asked seen (open_num plan seat session number kill flags next) holds marks notes
 fit_open_num {holds = holds} plan seat session number kill flags next o b e f =
     let dropped = drops_fsetid plan seat kill in
     fit_brackets _ (fit_without_fsetid dropped _ (
@@ -224,6 +224,6 @@ fit_open_num {holds = holds} plan seat session number kill flags next o b e f =
 
 -- the function is not there
 pub fit_unserved : (asked : Asking) → OwnCause asked.plan asked.who asked.request (errno_of 38) →
-    Goes asked [] unserved [] [] blank
+    FitOn asked [] unserved [] [] blank
 fit_unserved asked own = fit_begin _ refl (λ session.
     fit_gives (answer.Refused (errno_of 38)) (λ path. (tt, inl own, tt)))

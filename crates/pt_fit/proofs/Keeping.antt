@@ -71,54 +71,54 @@ use Rattle.pt_law.specs.Ledger.{handle_inserted_if}
 use Rattle.pt_law.specs.Told.{AllMayBeTold}
 use Rattle.pt_law.proofs.Branches.{branch}
 use Rattle.pt_fit.specs.Handled.{KeepsHandle, handle_count, handles_in}
-use Rattle.pt_fit.proofs.HandleParts.{Hands, Keeps, P, asks, bares, begins, both_files, brackets, checks, clears}
+use Rattle.pt_fit.proofs.HandleParts.{Hands, Yields, P, asks, bares, begins, both_files, brackets, checks, clears}
 use Rattle.pt_fit.proofs.HandleParts.{decides, does, dones, files, gets_handle, gives, hands, looks_up, one_file}
 use Rattle.pt_fit.proofs.HandleParts.{opens_inode, opens_num, opens_shared, refuses, refuses_so, reopens, resolves}
 use Rattle.pt_fit.proofs.HandleParts.{sets_on, shuts, stats, step_none, without}
 
 files_set : (handle : Option ℕ) (valid : SetattrValid) (row : Resolved) (next : Fd → RequestTree) →
-    ((fd : Fd) → Keeps (next fd)) → Keeps (file_set handle valid row next)
+    ((fd : Fd) → Yields (next fd)) → Yields (file_set handle valid row next)
 files_set handle valid row next so =
     checks (opens_anew handle valid) _ _ (
     checks (can_open row.mode) _ _ (reopens row.form setting_flags next so) (refuses_so ebadf))
     (files row.form next so)
 
 targets : (inode : ℕ) (handle : Option ℕ) (file : Fd) (next : Fd → Bool → RequestTree) →
-    ((target : Fd) (through : Bool) → Keeps (next target through)) → Keeps (target_of inode handle file next)
+    ((target : Fd) (through : Bool) → Yields (next target through)) → Yields (target_of inode handle file next)
 targets inode (Some handle) file next so =
     asks (Changes (change.PinHandle handle inode)) _ (λ h told. refl)
     (if_pinned P _ refuses (λ row fd. so fd false))
 targets inode None file next so = so file true
 
-does_if : (is : Bool) (asked : Call) (next : RequestTree) → Keeps next → Keeps (do_if is asked next)
+does_if : (is : Bool) (asked : Call) (next : RequestTree) → Yields next → Yields (do_if is asked next)
 does_if true asked next so = does asked next so
 does_if false asked next so = so
 
-owns : (file : Fd) (uid gid : Option ℕ) (next : RequestTree) → Keeps next → Keeps (own_as file uid gid next)
+owns : (file : Fd) (uid gid : Option ℕ) (next : RequestTree) → Yields next → Yields (own_as file uid gid next)
 owns file (Some uid) (Some gid) next so = does (call.ChOwn file uid gid) next so
 owns file (Some uid) None next so = refuses_so eperm
 owns file None gid next so = refuses_so eperm
 
-sets_owner : (plan : Plan) (valid : SetattrValid) (attr : SetattrIn) (file : Fd) (next : RequestTree) → Keeps next →
-    Keeps (set_owner plan valid attr file next)
+sets_owner : (plan : Plan) (valid : SetattrValid) (attr : SetattrIn) (file : Fd) (next : RequestTree) → Yields next →
+    Yields (set_owner plan valid attr file next)
 sets_owner plan valid attr file next so =
     checks (sets_uid valid || sets_gid valid) _ _ (owns file _ _ next so) so
 
 sizes : (plan : Plan) (seat : HostSeat) (valid : SetattrValid) (attr : SetattrIn) (target : Fd) (next : RequestTree) →
-    Keeps next → Keeps (set_size plan seat valid attr target next)
+    Yields next → Yields (set_size plan seat valid attr target next)
 sizes plan seat valid attr target next so =
     checks (sets_size valid) _ _ (
     without (drops_fsetid plan seat (kills_suidgid valid)) _ (
     does (call.Truncate target attr.size) _ (bares next so))) so
 
 opens_it : (plan : Plan) (seat : HostSeat) (inode : ℕ) (kill : Bool) (flags : ℕ) →
-    Keeps (open_file plan seat inode kill flags)
+    Yields (open_file plan seat inode kill flags)
 opens_it plan seat inode kill flags =
     begins _ (λ session.
     opens_num plan seat session inode kill flags _ (λ handle.
     hands handle (answer.Opened handle (open_options plan.config flags)) (λ h. refl)))
 
-takes_on : (calls : List Call) (next : RequestTree) → Keeps next → Keeps (taken_on calls next)
+takes_on : (calls : List Call) (next : RequestTree) → Yields next → Yields (taken_on calls next)
 takes_on [] next so = so
 takes_on (call.SetGroups list ∷ calls) next so = sets_on (call.SetGroups list) hold.Groups _ (takes_on calls next so)
 takes_on (call.SetEgid gid ∷ calls) next so = sets_on (call.SetEgid gid) hold.EffectiveGid _ (takes_on calls next so)
@@ -127,8 +127,8 @@ takes_on (asked ∷ calls) next so =
     asks (Calls asked) (λ told. taken_on calls next) (λ h told. refl) (λ told. takes_on calls next so)
 
 makes : (seat : HostSeat) (asker : Option Credentials) (dir : Fd) (name : List ℕ) (flags : OpenFlags) (mode : ℕ)
-    (next : Fd → RequestTree) (may_be : Bool) (there : RequestTree) → ((fd : Fd) → Keeps (next fd)) → Keeps there →
-    Keeps (as_asker seat asker (make_at dir name flags mode next may_be there))
+    (next : Fd → RequestTree) (may_be : Bool) (there : RequestTree) → ((fd : Fd) → Yields (next fd)) → Yields there →
+    Yields (as_asker seat asker (make_at dir name flags mode next may_be there))
 makes seat None dir name flags mode next may_be there so other = refuses_so eperm
 makes seat (Some creds) dir name flags mode next may_be there so other =
     takes_on (calls_of (cred_steps creds seat)) _ (
@@ -143,12 +143,12 @@ made_so plan entry handle = hands handle (answer.Created entry handle (create_op
 
 -- what is answered behind the call that undoes a making
 undoes : (undoing : Call) (last : Answer) → ((handle : ℕ) → handle_count handle last ≡ 0) →
-    Keeps (undone undoing last)
+    Yields (undone undoing last)
 undoes undoing last without =
     asks (Calls undoing) (λ told. Gives last) (λ h told. refl) (λ told. gives last without)
 
 labels : (session : BegunSession) (fd : Fd) (undoing : Call) (label : Option SecContext) (next : RequestTree) →
-    Keeps next → Keeps (labelled session fd undoing label next)
+    Yields next → Yields (labelled session fd undoing label next)
 labels session fd undoing None next so = so
 labels session fd undoing (Some label) next so =
     checks (is_blocked session.agreed label.name) _ _ (undoes undoing (answer.Refused eopnotsupp) (λ h. refl)) (
@@ -159,7 +159,7 @@ labels session fd undoing (Some label) next so =
     (undoes undoing answer.NoMemory (λ h. refl)) (undoes undoing answer.NoMemory (λ h. refl))))
 
 makes_new : (plan : Plan) (session : BegunSession) (asked : FileAsked) (dir fd : Fd) →
-    Keeps (new_file plan session asked dir fd (answers plan))
+    Yields (new_file plan session asked dir fd (answers plan))
 makes_new plan session asked dir fd =
     stats fd _ (λ made.
     labels session fd (call.Unlink dir asked.name) asked.secctx _ (
@@ -168,18 +168,18 @@ makes_new plan session asked dir fd =
     gets_handle session looked.entry.inode fd (λ handle. answers plan (named_handle looked.entry handle))
     (made_so plan looked.entry)))))
   where
-    same : (is_same : Bool) (next : RequestTree) → Keeps next →
-        Keeps (if is_same then next else Gives (answer.Refused estale))
+    same : (is_same : Bool) (next : RequestTree) → Yields next →
+        Yields (if is_same then next else Gives (answer.Refused estale))
     same true next so = so
     same false next so = refuses_so estale
 
 takes_old_one : (plan : Plan) (seat : HostSeat) (session : BegunSession) (asked : FileAsked) →
-    Keeps (old_file plan seat session asked (answers plan))
+    Yields (old_file plan seat session asked (answers plan))
 takes_old_one plan seat session asked =
     looks_up plan session asked.parent asked.name _ (λ looked.
     opens_num plan seat session looked.entry.inode asked.kill asked.flags _ (made_so plan looked.entry))
 
-creates_it : (plan : Plan) (seat : HostSeat) (asked : FileAsked) → Keeps (create plan seat asked)
+creates_it : (plan : Plan) (seat : HostSeat) (asked : FileAsked) → Yields (create plan seat asked)
 creates_it plan seat asked =
     begins _ (λ session.
     checks (is_bad_name asked.name) _ _ (refuses_so einval) (
@@ -190,7 +190,7 @@ creates_it plan seat asked =
 
 -- an object under a name, which gets its context by a descriptor of its own
 labels_at : (session : BegunSession) (dir : Fd) (name : List ℕ) (undoing : Call) (label : Option SecContext)
-    (next : RequestTree) → Keeps next → Keeps (labelled_at session dir name undoing label next)
+    (next : RequestTree) → Yields next → Yields (labelled_at session dir name undoing label next)
 labels_at session dir name undoing None next so = so
 labels_at session dir name undoing (Some label) next so =
     checks (is_blocked session.agreed label.name) _ _ (undoes undoing (answer.Refused eopnotsupp) (λ h. refl)) (
@@ -207,21 +207,21 @@ labels_at session dir name undoing (Some label) next so =
     sets : Fd → RequestTree
     sets fd = set_xattr fd true label.name label.value 0 shut (Shuts false next)
 
-    refused : (errno : Errno) → Keeps (shut (answer.Refused errno))
+    refused : (errno : Errno) → Yields (shut (answer.Refused errno))
     refused errno = shuts false _ (undoes undoing (answer.Refused errno) (λ h. refl))
 
-    out : Keeps (shut answer.NoMemory)
+    out : Yields (shut answer.NoMemory)
     out = shuts false _ (undoes undoing answer.NoMemory (λ h. refl))
 
-makes_object : (seat : HostSeat) (asker : Option Credentials) (making : Call) (next : RequestTree) → Keeps next →
-    Keeps (as_asker seat asker (make making next))
+makes_object : (seat : HostSeat) (asker : Option Credentials) (making : Call) (next : RequestTree) → Yields next →
+    Yields (as_asker seat asker (make making next))
 makes_object seat None making next so = refuses_so eperm
 makes_object seat (Some creds) making next so =
     takes_on (calls_of (cred_steps creds seat)) _ (
     asks (Calls making) (λ told. Bares (on_set next told)) (λ h told. refl)
     (λ told. bares _ (if_set P next refuses (λ got. so) told)))
 
-makes_named : (plan : Plan) (seat : HostSeat) (object : ObjectAsked) → Keeps (make_named plan seat object)
+makes_named : (plan : Plan) (seat : HostSeat) (object : ObjectAsked) → Yields (make_named plan seat object)
 makes_named plan seat object =
     begins _ (λ session.
     checks (is_bad_name object.name) _ _ (refuses_so einval) (
@@ -233,31 +233,31 @@ makes_named plan seat object =
     looks_up plan session object.parent object.name _ (λ looked.
     gives (answer.Entry looked.entry) (λ h. refl)))))))))
 
-pins : (handle number : ℕ) (next : Fd → RequestTree) → ((fd : Fd) → Keeps (next fd)) →
-    Keeps (pin_handle handle number next)
+pins : (handle number : ℕ) (next : Fd → RequestTree) → ((fd : Fd) → Yields (next fd)) →
+    Yields (pin_handle handle number next)
 pins handle number next so =
     asks (Changes (change.PinHandle handle number)) (on_pinned next) (λ h told. refl)
     (if_pinned P next refuses (λ row fd. so fd))
 
-counts : (asked : Call) (next : ℕ → RequestTree) → ((count : ℕ) → Keeps (next count)) → Keeps (count_of asked next)
+counts : (asked : Call) (next : ℕ → RequestTree) → ((count : ℕ) → Yields (next count)) → Yields (count_of asked next)
 counts asked next so = asks (Calls asked) (on_count next) (λ h told. refl) (if_count P next refuses so)
 
-syncs : (inode handle : ℕ) (datasync : Bool) → Keeps (fsync inode handle datasync)
+syncs : (inode handle : ℕ) (datasync : Bool) → Yields (fsync inode handle datasync)
 syncs inode handle datasync =
     begins _ (λ session. pins handle inode _ (λ fd. does (call.Sync fd datasync) _ (gives answer.Done (λ h. refl))))
 
-forgets : (list : List (ℕ × ℕ)) → Keeps (batch_forget list)
+forgets : (list : List (ℕ × ℕ)) → Yields (batch_forget list)
 forgets list = begins _ (λ session.
     dones (Changes (change.Forget list)) _ (λ h told. refl) (gives answer.NoReply (λ h. refl)))
 
-releases : (inode handle : ℕ) → Keeps (release inode handle)
+releases : (inode handle : ℕ) → Yields (release inode handle)
 releases inode handle = begins _ (λ session.
     dones (Changes (change.Release handle inode)) _ (λ h told. refl) (gives answer.Done (λ h. refl)))
 
-unserves : Keeps unserved
+unserves : Yields unserved
 unserves = begins _ (λ session. refuses_so (errno_of 38))
 
-each_keeps : (plan : Plan) (seat : HostSeat) (who : Context) (asked : Request) → Keeps (tree_of plan seat who asked)
+each_keeps : (plan : Plan) (seat : HostSeat) (who : Context) (asked : Request) → Yields (tree_of plan seat who asked)
 each_keeps plan seat who (request.Init capable) =
     clears _ (λ era.
     opens_shared plan (session_of era nothing_agreed) (Some (agreed_with plan.config capable)) _ (

@@ -22,7 +22,7 @@ use Rattle.pt_law.specs.Keeps.{unscoped}
 use Rattle.pt_law.specs.Naming.{made}
 use Rattle.pt_fit.specs.Cause.{Asking, SomeCauses}
 use Rattle.pt_fit.specs.Fit.{Fit}
-use Rattle.pt_fit.proofs.Parts.{Goes, Seen, Told, still}
+use Rattle.pt_fit.proofs.Parts.{FitOn, Seen, Told, still}
 
 -- A refusal, or that memory ran out, is answered behind the call that takes the name away, whatever that is told.
 module _ (asked : Asking) (holds : List Hold) (marks : List ℕ) (notes : Notes) (dir : Fd) (name : List ℕ)
@@ -39,8 +39,8 @@ pub fit_labelled : {asked : Asking} {seen : List Seen} {holds : List Hold} {mark
     KnowsAll (unscoped holds) (fd ∷ []) → KnowsAll (unscoped holds) (dir ∷ []) →
     ((brought : SecContext) → label ≡ Some brought → is_blocked session.agreed brought.name ≡ true →
     (path : List Step) → Told seen path → SomeCauses asked.request path eopnotsupp) →
-    Goes asked seen next holds marks notes →
-    Goes asked seen (labelled session fd (call.Unlink dir name) label next) holds marks notes
+    FitOn asked seen next holds marks notes →
+    FitOn asked seen (labelled session fd (call.Unlink dir name) label next) holds marks notes
 fit_labelled session fd dir name None next k l c f = f
 fit_labelled {asked = asked} {seen = seen} {holds = holds} {marks = marks} {notes = notes} session fd dir name
     (Some brought) next k l c f = go (is_blocked session.agreed brought.name) refl
@@ -50,7 +50,7 @@ fit_labelled {asked = asked} {seen = seen} {holds = holds} {marks = marks} {note
     labelling told = made (Calls (call.SetXattr fd false brought.name brought.value 0)) told
 
     go : (bad : Bool) → is_blocked session.agreed brought.name ≡ bad →
-        Goes asked seen (if bad then undone (call.Unlink dir name) (answer.Refused eopnotsupp)
+        FitOn asked seen (if bad then undone (call.Unlink dir name) (answer.Refused eopnotsupp)
         else set_xattr fd false brought.name brought.value 0 (undone (call.Unlink dir name)) next) holds marks notes
     go true e = record {
       on = λ path s. fit_undone asked holds marks notes dir name l path eopnotsupp (c brought refl e path s);

@@ -46,7 +46,7 @@ use Rattle.pt_fit.specs.Fit.{Fit, MayAnswer}
 use Rattle.pt_fit.proofs.Creating.{covers_none, fit_as_asker}
 use Rattle.pt_fit.proofs.Holds.{down_over, nothing_bare}
 use Rattle.pt_fit.proofs.Joined.{after_any_step, fit_gives, fit_look_up}
-use Rattle.pt_fit.proofs.Parts.{Goes, Seen, Told, blocked_by, fit_begin, fit_checked, fit_file_of}
+use Rattle.pt_fit.proofs.Parts.{FitOn, Seen, Told, blocked_by, fit_begin, fit_checked, fit_file_of}
 use Rattle.pt_fit.proofs.Parts.{fit_resolve, still}
 use Rattle.pt_fit.proofs.Scopes.{Covers}
 use Rattle.pt_fit.proofs.Refused.{IsHeededCall, refused_by}
@@ -55,7 +55,7 @@ use Rattle.pt_fit.proofs.Refused.{IsHeededCall, refused_by}
 
 module _ {asked : Asking} {seen : List Seen} {marks : List ℕ} {notes : Notes} (holds bare : List Hold)
     (row : ℕ) (dir : Fd) (name : List ℕ) (next : RequestTree) (c : Covers holds (hold.Pin row (Some dir) ∷ bare))
-    (f : Goes asked seen next (hold.Pin row (Some dir) ∷ bare) marks notes) where
+    (f : FitOn asked seen next (hold.Pin row (Some dir) ∷ bare) marks notes) where
   knows_dir : KnowsAll (unscoped holds) (dir ∷ [])
   knows_dir = subst (λ (all : List Hold). KnowsAll all (dir ∷ [])) (sym c.unscopes)
       ((hold.Pin row (Some dir), _, here, refl), tt)
@@ -69,7 +69,7 @@ module _ {asked : Asking} {seen : List Seen} {marks : List ℕ} {notes : Notes} 
       (sym c.uncovers) (f.on _ (still s))
   fit_told making path told s heeded is m = refused_by asked (Calls making) told holds path (heeded, is) m (λ no. no)
 
-  fit_make : (what : Made) → Goes asked seen (make (making_call what dir name) next) holds marks notes
+  fit_make : (what : Made) → FitOn asked seen (make (making_call what dir name) next) holds marks notes
   fit_make (made.Directory mode) = record {
     on = λ path s. ((knows_dir, tt), λ told m. fit_told (call.MakeDir dir name mode) path told s refl tt m);
   }
@@ -144,10 +144,10 @@ module _ (asked : Asking) (marks : List ℕ) (row : ℕ) (dir : Fd) (name : List
 module _ (asked : Asking) (seen : List Seen) (marks : List ℕ) (notes : Notes) (session : BegunSession)
     (row number : ℕ) (dir : Fd) (name : List ℕ) (what : Made) (next : RequestTree)
     (f : (later : Notes) → later.era ≡ notes.era → later.brought ≡ None →
-    Goes asked seen next (pinned row dir) marks later) where
+    FitOn asked seen next (pinned row dir) marks later) where
   -- by its descriptor
   fit_set : (fd : Fd) (attribute bytes : List ℕ) (these : Notes) → these.era ≡ notes.era →
-      Goes asked seen (set_xattr fd true attribute bytes 0 (shut_by what dir name) (Shuts false next))
+      FitOn asked seen (set_xattr fd true attribute bytes 0 (shut_by what dir name) (Shuts false next))
       (hold.Fd fd ∷ pinned row dir) (inner row dir marks) these
   fit_set fd attribute bytes these same = record {
     on = λ path s. (
@@ -175,7 +175,7 @@ module _ (asked : Asking) (seen : List Seen) (marks : List ℕ) (notes : Notes) 
 
   -- its name is opened
   fit_opened : (attribute bytes : List ℕ) → notes.resolved ≡ Some (record { number = number; row = row }) →
-      Goes asked seen (open_at_or dir name by_path (shut_by what dir name) (λ fd.
+      FitOn asked seen (open_at_or dir name by_path (shut_by what dir name) (λ fd.
       set_xattr fd true attribute bytes 0 (shut_by what dir name) (Shuts false next))) (pinned row dir)
       (inner row dir marks) notes
   fit_opened attribute bytes r = record {
@@ -203,13 +203,13 @@ module _ (asked : Asking) (seen : List Seen) (marks : List ℕ) (notes : Notes) 
       notes.brought ≡ None →
       ((brought : SecContext) → label ≡ Some brought → is_blocked session.agreed brought.name ≡ true →
       (path : List Step) → Told seen path → SomeCauses asked.request path eopnotsupp) →
-      Goes asked seen (labelled_at session dir name (unmaking_call what dir name) label next) (pinned row dir) marks
+      FitOn asked seen (labelled_at session dir name (unmaking_call what dir name) label next) (pinned row dir) marks
       notes
   fit_labelled_at None r n c = f notes refl n
   fit_labelled_at (Some brought) r n c = go (is_blocked session.agreed brought.name) refl
     where
       go : (bad : Bool) → is_blocked session.agreed brought.name ≡ bad →
-          Goes asked seen (if bad then undone (unmaking_call what dir name) (answer.Refused eopnotsupp)
+          FitOn asked seen (if bad then undone (unmaking_call what dir name) (answer.Refused eopnotsupp)
           else Brackets (open_at_or dir name by_path (shut_by what dir name) (λ fd.
           set_xattr fd true brought.name brought.value 0 (shut_by what dir name) (Shuts false next))))
           (pinned row dir) marks notes
@@ -227,7 +227,7 @@ pub fit_named : (plan : Plan) (seat : HostSeat) (who : Context) (what : Request)
     OwnCause plan who what eperm) →
     ((agreed : Negotiated) → IsBlockedLabel agreed object.secctx → BlocksLabel agreed what) →
     ((entry : Entry) → MayAnswer (answer.Entry entry) what) →
-    Goes (asking plan who what) [] (make_named plan seat object) [] [] blank
+    FitOn (asking plan who what) [] (make_named plan seat object) [] [] blank
 fit_named plan seat who what object misnamed mistargeted forbids blocks answers =
     fit_begin _ refl (λ session.
     fit_checked (is_bad_name object.name) _ misnamed (

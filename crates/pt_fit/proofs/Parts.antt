@@ -94,7 +94,7 @@ blocked_by what (step ∷ path) agreed blocks (inl begun) =
 blocked_by what (step ∷ path) agreed blocks (inr later) = inr (blocked_by what path agreed blocks later)
 
 -- fit whatever the path to it was, if this was told on it
-pub record Goes
+pub record FitOn
     (asked : Asking)
     (seen : List Seen)
     (tree : RequestTree)
@@ -125,9 +125,9 @@ held_as asked tree these those marks notes path e f =
 pub fit_begin : {asked : Asking} {seen : List Seen} {holds : List Hold} {marks : List ℕ}
     {notes : Notes}
     (next : BegunSession → RequestTree) → notes.era ≡ None →
-    ((session : BegunSession) → Goes asked (Agreed session.agreed ∷ seen) (next session) holds marks
+    ((session : BegunSession) → FitOn asked (Agreed session.agreed ∷ seen) (next session) holds marks
     (record notes { era = Some session.era })) →
-    Goes asked seen (begin next) holds marks notes
+    FitOn asked seen (begin next) holds marks notes
 fit_begin {asked = asked} {holds = holds} next none f = record {
   on = λ path s. (
     (tt, none),
@@ -142,8 +142,8 @@ pub fit_clear : {asked : Asking} {seen : List Seen} {holds : List Hold} {marks :
     {notes : Notes} (next : ℕ → RequestTree) →
     notes.era ≡ None → notes.brought ≡ None →
     ((era : ℕ) (later : Notes) → Lasts (record notes { era = Some era }) later →
-    Goes asked seen (next era) holds marks later) →
-    Goes asked seen (clear next) holds marks notes
+    FitOn asked seen (next era) holds marks later) →
+    FitOn asked seen (clear next) holds marks notes
 fit_clear {asked = asked} {holds = holds} {notes = notes} next none n f = record {
   on = λ path s. (
     (tt, none),
@@ -160,8 +160,8 @@ abbrev pub looked_by : Fd → ObjIds → Notes → Notes
 looked_by fd ids notes = record notes { given = None; told = told_as fd (Some ids) ∷ notes.told }
 
 -- these ids were told of it last, and nothing that a closing brought is to be closed
-abbrev pub IsTold : Notes → Fd → ObjIds → Type 0
-IsTold notes fd ids = (told_of notes.told fd ≡ Some ids) × (notes.brought ≡ None)
+abbrev pub IsToldLast : Notes → Fd → ObjIds → Type 0
+IsToldLast notes fd ids = (told_of notes.told fd ≡ Some ids) × (notes.brought ≡ None)
 
 -- the step that resolved it so
 abbrev pub resolution : ℕ → Resolved → Step
@@ -181,7 +181,7 @@ pub fit_resolve_over : {asked : Asking} {seen : List Seen} {holds : List Hold} {
     (next : Resolved → RequestTree) → IsBare holds →
     ((row : Resolved) → GoesAfter (resolution number row) asked seen (next row)
     (over dropped (hold.Pin row.row (row_fd row.form) ∷ holds)) marks (noting number row.row notes)) →
-    Goes asked seen (resolve number next) (over dropped holds) marks notes
+    FitOn asked seen (resolve number next) (over dropped holds) marks notes
 fit_resolve_over {asked = asked} {holds = holds} dropped number next b f = record {
   on = λ path s. (
     (tt, tt),
@@ -201,14 +201,14 @@ pub fit_resolve : {asked : Asking} {seen : List Seen} {holds : List Hold} {marks
     (next : Resolved → RequestTree) → IsBare holds →
     ((row : Resolved) → GoesAfter (resolution number row) asked seen (next row)
     (hold.Pin row.row (row_fd row.form) ∷ holds) marks (noting number row.row notes)) →
-    Goes asked seen (resolve number next) holds marks notes
+    FitOn asked seen (resolve number next) holds marks notes
 fit_resolve number next b f = fit_resolve_over false number next b f
 
 pub fit_open_root : {asked : Asking} {seen : List Seen} {holds : List Hold} {marks : List ℕ}
     {notes : Notes} (dir : List ℕ)
     (flags : OpenFlags) (next : Fd → RequestTree) → IsBare holds →
-    ((fd : Fd) → Goes asked seen (next fd) (hold.Fd fd ∷ holds) marks (with_root fd (newly fd notes))) →
-    Goes asked seen (open_root dir flags next) holds marks notes
+    ((fd : Fd) → FitOn asked seen (next fd) (hold.Fd fd ∷ holds) marks (with_root fd (newly fd notes))) →
+    FitOn asked seen (open_root dir flags next) holds marks notes
 fit_open_root {asked = asked} {holds = holds} dir flags next b f = record {
   on = λ path s. (
     (tt, tt),
@@ -224,17 +224,17 @@ fit_open_root {asked = asked} {holds = holds} dir flags next b f = record {
 pub fit_file_of : {asked : Asking} {seen : List Seen} {holds : List Hold} {marks : List ℕ}
     {notes : Notes} (row : ℕ) (form : RowForm)
     (next : Fd → RequestTree) →
-    ((dir : Fd) → Goes asked seen (next dir) (hold.Pin row (Some dir) ∷ holds) marks notes) →
-    Goes asked seen (file_of form next) (hold.Pin row (row_fd form) ∷ holds) marks notes
+    ((dir : Fd) → FitOn asked seen (next dir) (hold.Pin row (Some dir) ∷ holds) marks notes) →
+    FitOn asked seen (file_of form next) (hold.Pin row (row_fd form) ∷ holds) marks notes
 fit_file_of row (File dir) next f = f dir
 
 pub fit_open_at : {asked : Asking} {seen : List Seen} {holds : List Hold} {marks : List ℕ}
     {notes : Notes} (dir : Fd) (name : List ℕ)
     (flags : OpenFlags) (row number : ℕ) (next : Fd → RequestTree) →
     notes.resolved ≡ Some (record { number = number; row = row }) →
-    ((fd : Fd) → Goes asked seen (next fd) (hold.Fd fd ∷ hold.Pin row (Some dir) ∷ holds) marks
+    ((fd : Fd) → FitOn asked seen (next fd) (hold.Fd fd ∷ hold.Pin row (Some dir) ∷ holds) marks
     (record (newly fd notes) { latest = found_by flags fd })) →
-    Goes asked seen (open_at dir name flags next) (hold.Pin row (Some dir) ∷ holds) marks notes
+    FitOn asked seen (open_at dir name flags next) (hold.Pin row (Some dir) ∷ holds) marks notes
 fit_open_at {asked = asked} {holds = holds} dir name flags row number next r f = record {
   on = λ path s. (
     (((hold.Pin row (Some dir), _, here, refl), tt), (record { number = number; row = row }, _, r, here)),
@@ -248,9 +248,9 @@ fit_open_at {asked = asked} {holds = holds} dir name flags row number next r f =
 pub fit_reopen : {asked : Asking} {seen : List Seen} {marks : List ℕ} {notes : Notes} (holds : List Hold)
     (dropped : Bool) (fd : Fd) (flags : OpenFlags)
     (row number : ℕ) (next : Fd → RequestTree) → notes.resolved ≡ Some (record { number = number; row = row }) →
-    ((new : Fd) → Goes asked seen (next new) (over dropped (hold.Fd new ∷ hold.Pin row (Some fd) ∷ holds)) marks
+    ((new : Fd) → FitOn asked seen (next new) (over dropped (hold.Fd new ∷ hold.Pin row (Some fd) ∷ holds)) marks
     (record (newly new notes) { reopened = Some new })) →
-    Goes asked seen (reopen fd flags next) (over dropped (hold.Pin row (Some fd) ∷ holds)) marks notes
+    FitOn asked seen (reopen fd flags next) (over dropped (hold.Pin row (Some fd) ∷ holds)) marks notes
 fit_reopen {asked = asked} {notes = notes} holds dropped fd flags row number next r f = record {
   on = λ path s. (
     subst (λ (all : List Hold). KnowsAll all (fd ∷ []) × PinsLatest (at_job all notes) fd)
@@ -269,9 +269,9 @@ fit_reopen {asked = asked} {notes = notes} holds dropped fd flags row number nex
 
 pub fit_stat : {asked : Asking} {seen : List Seen} {holds : List Hold} {marks : List ℕ}
     {notes : Notes} (fd : Fd) (next : Stat → RequestTree) →
-    ((told : Stat) → Goes asked (Ids told.ids ∷ seen) (next told) (hold.Fd fd ∷ holds) marks
+    ((told : Stat) → FitOn asked (Ids told.ids ∷ seen) (next told) (hold.Fd fd ∷ holds) marks
     (looked_by fd told.ids notes)) →
-    Goes asked seen (stat fd next) (hold.Fd fd ∷ holds) marks notes
+    FitOn asked seen (stat fd next) (hold.Fd fd ∷ holds) marks notes
 fit_stat {asked = asked} {holds = holds} fd next f = record {
   on = λ path s. (
     (((hold.Fd fd, _, here, refl), tt), tt),
@@ -286,11 +286,11 @@ fit_stat {asked = asked} {holds = holds} fd next f = record {
 pub fit_claim : {asked : Asking} {seen : List Seen} {holds : List Hold} {marks : List ℕ}
     {notes : Notes} (session : BegunSession)
     (fd : Fd) (ids : ObjIds) (next : ℕ → RequestTree) (absent : RequestTree) →
-    notes.era ≡ Some session.era → notes.latest ≡ Some fd → IsTold notes fd ids →
-    ((number : ℕ) → Goes asked seen (next number) (hold.Count session.era number ∷ hold.Fd fd ∷ holds)
+    notes.era ≡ Some session.era → notes.latest ≡ Some fd → IsToldLast notes fd ids →
+    ((number : ℕ) → FitOn asked seen (next number) (hold.Count session.era number ∷ hold.Fd fd ∷ holds)
     marks (with_given number ids notes)) →
-    Goes asked seen absent (hold.Fd fd ∷ holds) marks notes →
-    Goes asked seen (claim session None ids next absent) (hold.Fd fd ∷ holds) marks notes
+    FitOn asked seen absent (hold.Fd fd ∷ holds) marks notes →
+    FitOn asked seen (claim session None ids next absent) (hold.Fd fd ∷ holds) marks notes
 fit_claim {asked = asked} {holds = holds} session fd ids next absent e l t f g = record {
   on = λ path s. (
     (tt, (fd, e, l, (_, here, t.0, t.1))),
@@ -304,8 +304,8 @@ fit_claim {asked = asked} {holds = holds} session fd ids next absent e l t f g =
 
 pub fit_take_fd : {asked : Asking} {seen : List Seen} {holds : List Hold} {marks : List ℕ}
     {notes : Notes} (fd : Fd) (next : RequestTree) →
-    Goes asked seen next (hold.Fd fd ∷ hold.Slot ∷ holds) marks notes →
-    Goes asked seen (take_fd next) (hold.Fd fd ∷ holds) marks notes
+    FitOn asked seen next (hold.Fd fd ∷ hold.Slot ∷ holds) marks notes →
+    FitOn asked seen (take_fd next) (hold.Fd fd ∷ holds) marks notes
 fit_take_fd {asked = asked} {holds = holds} fd next f = record {
   on = λ path s. (
     (tt, tt),
@@ -318,8 +318,8 @@ fit_take_fd {asked = asked} {holds = holds} fd next f = record {
 
 pub fit_draw_node : {asked : Asking} {seen : List Seen} {holds : List Hold} {marks : List ℕ}
     {notes : Notes} (next : ℕ → RequestTree) →
-    ((number : ℕ) → Goes asked seen (next number) holds marks (record notes { drawn = Some number })) →
-    Goes asked seen (draw_node next) holds marks notes
+    ((number : ℕ) → FitOn asked seen (next number) holds marks (record notes { drawn = Some number })) →
+    FitOn asked seen (draw_node next) holds marks notes
 fit_draw_node {asked = asked} {holds = holds} next f = record {
   on = λ path s. (
     (tt, tt),
@@ -332,8 +332,8 @@ fit_draw_node {asked = asked} {holds = holds} next f = record {
 
 pub fit_draw_handle : {asked : Asking} {seen : List Seen} {holds : List Hold} {marks : List ℕ}
     {notes : Notes} (next : ℕ → RequestTree) →
-    ((handle : ℕ) → Goes asked seen (next handle) holds marks (record notes { handle = Some handle })) →
-    Goes asked seen (draw_handle next) holds marks notes
+    ((handle : ℕ) → FitOn asked seen (next handle) holds marks (record notes { handle = Some handle })) →
+    FitOn asked seen (draw_handle next) holds marks notes
 fit_draw_handle {asked = asked} {holds = holds} next f = record {
   on = λ path s. (
     (tt, tt),
@@ -348,13 +348,13 @@ fit_draw_handle {asked = asked} {holds = holds} next f = record {
 pub fit_insert : {asked : Asking} {seen : List Seen} {holds : List Hold} {marks : List ℕ}
     {notes : Notes} (session : BegunSession)
     (fresh : ℕ) (fd : Fd) (told : Stat) (next : ℕ → RequestTree) → IsBare holds → notes.era ≡ Some session.era →
-    notes.latest ≡ Some fd → notes.drawn ≡ Some fresh → IsTold notes fd told.ids →
-    ((number : ℕ) → Goes asked seen (next number) (hold.Count session.era number ∷ holds) marks
+    notes.latest ≡ Some fd → notes.drawn ≡ Some fresh → IsToldLast notes fd told.ids →
+    ((number : ℕ) → FitOn asked seen (next number) (hold.Count session.era number ∷ holds) marks
     (record (with_given number told.ids (unnoted fd notes)) { drawn = None })) →
-    ((number : ℕ) → Goes asked seen (next number)
+    ((number : ℕ) → FitOn asked seen (next number)
     (hold.Count session.era number ∷ hold.Fd fd ∷ hold.Slot ∷ holds) marks
     (with_given number told.ids notes)) →
-    Goes asked seen (insert session fresh (File fd) told next)
+    FitOn asked seen (insert session fresh (File fd) told next)
     (hold.Fd fd ∷ hold.Slot ∷ holds) marks notes
 fit_insert {asked = asked} {holds = holds} session fresh fd told next b e l d t f g = record {
   on = λ path s. (
@@ -375,8 +375,8 @@ fit_insert {asked = asked} {holds = holds} session fresh fd told next b e l d t 
 pub fit_insert_root : {asked : Asking} {seen : List Seen} {holds : List Hold} {marks : List ℕ}
     {notes : Notes} (session : BegunSession)
     (fd : Fd) (told : Stat) (agreed : Option Negotiated) (next : RequestTree) → notes.era ≡ Some session.era →
-    notes.root ≡ Some fd → IsTold notes fd told.ids → Goes asked seen next holds marks (unnoted fd notes) →
-    Goes asked seen (insert_root session (File fd) told agreed next)
+    notes.root ≡ Some fd → IsToldLast notes fd told.ids → FitOn asked seen next holds marks (unnoted fd notes) →
+    FitOn asked seen (insert_root session (File fd) told agreed next)
     (hold.Fd fd ∷ hold.Slot ∷ holds) marks notes
 fit_insert_root {asked = asked} {holds = holds} session fd told agreed next e r t f = record {
   on = λ path s. (
@@ -396,8 +396,8 @@ pub fit_insert_handle : {asked : Asking} {seen : List Seen} {holds : List Hold} 
     (session : BegunSession) (handle number row : ℕ) (fd : Fd) (next : RequestTree) →
     notes.era ≡ Some session.era → notes.handle ≡ Some handle →
     notes.resolved ≡ Some (record { number = number; row = row }) →
-    notes.reopened ≡ Some fd → Goes asked seen next holds marks (record (unnoted fd notes) { handle = None }) →
-    Goes asked seen (insert_handle session handle number fd next) (hold.Fd fd ∷ hold.Slot ∷ holds) marks notes
+    notes.reopened ≡ Some fd → FitOn asked seen next holds marks (record (unnoted fd notes) { handle = None }) →
+    FitOn asked seen (insert_handle session handle number fd next) (hold.Fd fd ∷ hold.Slot ∷ holds) marks notes
 fit_insert_handle {asked = asked} {holds = holds} session handle number row fd next e h r o f = record {
   on = λ path s. (
     (lies, (e, h, inl (row, r, o))),
@@ -412,8 +412,8 @@ fit_insert_handle {asked = asked} {holds = holds} session handle number row fd n
 pub fit_pin_handle : {asked : Asking} {seen : List Seen} {holds : List Hold} {marks : List ℕ}
     {notes : Notes} (handle number : ℕ)
     (next : Fd → RequestTree) → IsBare holds →
-    ((row : ℕ) (fd : Fd) → Goes asked seen (next fd) (hold.HandlePin row fd ∷ holds) marks notes) →
-    Goes asked seen (pin_handle handle number next) holds marks notes
+    ((row : ℕ) (fd : Fd) → FitOn asked seen (next fd) (hold.HandlePin row fd ∷ holds) marks notes) →
+    FitOn asked seen (pin_handle handle number next) holds marks notes
 fit_pin_handle {asked = asked} {holds = holds} handle number next b f = record {
   on = λ path s. (
     (tt, tt),
@@ -428,8 +428,8 @@ fit_pin_handle {asked = asked} {holds = holds} handle number next b f = record {
 pub fit_forget_all : {asked : Asking} {seen : List Seen} {holds : List Hold} {marks : List ℕ}
     {notes : Notes} (list : List (ℕ × ℕ))
     (next : RequestTree) → notes.brought ≡ None →
-    ((later : Notes) → Lasts notes later → Goes asked seen next holds marks later) →
-    Goes asked seen (forget_all list next) holds marks notes
+    ((later : Notes) → Lasts notes later → FitOn asked seen next holds marks later) →
+    FitOn asked seen (forget_all list next) holds marks notes
 fit_forget_all {asked = asked} {holds = holds} {notes = notes} list next n f = record {
   on = λ path s. (
     (tt, tt),
@@ -443,8 +443,8 @@ fit_forget_all {asked = asked} {holds = holds} {notes = notes} list next n f = r
 pub fit_release_handle : {asked : Asking} {seen : List Seen} {holds : List Hold} {marks : List ℕ}
     {notes : Notes} (handle number : ℕ)
     (next : RequestTree) → notes.brought ≡ None →
-    ((later : Notes) → Lasts notes later → Goes asked seen next holds marks later) →
-    Goes asked seen (release_handle handle number next) holds marks notes
+    ((later : Notes) → Lasts notes later → FitOn asked seen next holds marks later) →
+    FitOn asked seen (release_handle handle number next) holds marks notes
 fit_release_handle {asked = asked} {holds = holds} {notes = notes} handle number next n f = record {
   on = λ path s. (
     (tt, tt),
@@ -459,16 +459,16 @@ fit_release_handle {asked = asked} {holds = holds} {notes = notes} handle number
 pub fit_checked : {asked : Asking} {seen : List Seen} {holds : List Hold} {marks : List ℕ}
     {notes : Notes} (bad : Bool)
     (next : RequestTree) → (bad ≡ true → OwnCause asked.plan asked.who asked.request einval) →
-    Goes asked seen next holds marks notes →
-    Goes asked seen (if bad then Gives (answer.Refused einval) else next) holds marks notes
+    FitOn asked seen next holds marks notes →
+    FitOn asked seen (if bad then Gives (answer.Refused einval) else next) holds marks notes
 fit_checked true next c f = record { on = λ path s. (tt, inl (c refl), tt) }
 fit_checked false next c f = f
 
 -- the newest descriptor gets a slot, where a count lies on it
 pub fit_take_under : {asked : Asking} {seen : List Seen} {holds : List Hold} {marks : List ℕ}
     {notes : Notes} (era number : ℕ) (fd : Fd) (next : RequestTree) →
-    Goes asked seen next (hold.Count era number ∷ hold.Fd fd ∷ hold.Slot ∷ holds) marks notes →
-    Goes asked seen (take_fd next) (hold.Count era number ∷ hold.Fd fd ∷ holds) marks notes
+    FitOn asked seen next (hold.Count era number ∷ hold.Fd fd ∷ hold.Slot ∷ holds) marks notes →
+    FitOn asked seen (take_fd next) (hold.Count era number ∷ hold.Fd fd ∷ holds) marks notes
 fit_take_under {asked = asked} {holds = holds} era number fd next f = record {
   on = λ path s. (
     (tt, tt),
@@ -483,9 +483,9 @@ fit_take_under {asked = asked} {holds = holds} era number fd next f = record {
 pub fit_insert_given : {asked : Asking} {seen : List Seen} {holds : List Hold} {marks : List ℕ}
     {notes : Notes} (session : BegunSession) (handle era number : ℕ) (fd : Fd) (ids : ObjIds) (next : RequestTree) →
     notes.era ≡ Some session.era → notes.handle ≡ Some handle → notes.given ≡ Some (given_for number ids) →
-    IsTold notes fd ids →
-    Goes asked seen next (hold.Count era number ∷ holds) marks (record (unnoted fd notes) { handle = None }) →
-    Goes asked seen (insert_handle session handle number fd next)
+    IsToldLast notes fd ids →
+    FitOn asked seen next (hold.Count era number ∷ holds) marks (record (unnoted fd notes) { handle = None }) →
+    FitOn asked seen (insert_handle session handle number fd next)
     (hold.Count era number ∷ hold.Fd fd ∷ hold.Slot ∷ holds) marks notes
 fit_insert_given {asked = asked} {holds = holds} session handle era number fd ids next e h g t f = record {
   on = λ path s. (
@@ -504,13 +504,13 @@ fit_insert_given {asked = asked} {holds = holds} session handle era number fd id
 -- a bracket begins; where it ends, what was taken in it is given back, and the last hold may pass
 pub fit_brackets : {asked : Asking} {seen : List Seen} {holds : List Hold} {marks : List ℕ}
     {notes : Notes} (rest : RequestTree) →
-    Goes asked seen rest holds (length holds ∷ marks) notes → Goes asked seen (Brackets rest) holds marks notes
+    FitOn asked seen rest holds (length holds ∷ marks) notes → FitOn asked seen (Brackets rest) holds marks notes
 fit_brackets rest f = record { on = f.on }
 
 pub fit_shuts : {asked : Asking} {seen : List Seen} {marks : List ℕ} {notes : Notes} (rest : RequestTree)
     (front holds : List Hold) →
-    ((later : Notes) → Lasts notes later → Goes asked seen rest holds marks later) →
-    Goes asked seen (Shuts false rest) (front ++ holds) (length holds ∷ marks) notes
+    ((later : Notes) → Lasts notes later → FitOn asked seen rest holds marks later) →
+    FitOn asked seen (Shuts false rest) (front ++ holds) (length holds ∷ marks) notes
 fit_shuts {asked = asked} {marks = marks} rest front holds f = record {
   on = λ path s later l. held_as asked rest (down_to (length holds) (front ++ holds)) holds marks later path
       (down_over front holds) ((f later l).on path s);
@@ -518,8 +518,8 @@ fit_shuts {asked = asked} {marks = marks} rest front holds f = record {
 
 pub fit_shuts_passing : {asked : Asking} {seen : List Seen} {marks : List ℕ} {notes : Notes} (rest : RequestTree)
     (one : Hold) (front holds : List Hold) →
-    ((later : Notes) → Lasts notes later → Goes asked seen rest (one ∷ holds) marks later) →
-    Goes asked seen (Shuts true rest) (one ∷ (front ++ holds)) (length holds ∷ marks) notes
+    ((later : Notes) → Lasts notes later → FitOn asked seen rest (one ∷ holds) marks later) →
+    FitOn asked seen (Shuts true rest) (one ∷ (front ++ holds)) (length holds ∷ marks) notes
 fit_shuts_passing {asked = asked} {marks = marks} rest one front holds f = record {
   on = λ path s later l. held_as asked rest (one ∷ down_to (length holds) (front ++ holds)) (one ∷ holds) marks later
       path (ap (λ (z : List Hold). one ∷ z) (down_over front holds)) ((f later l).on path s);

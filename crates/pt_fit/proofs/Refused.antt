@@ -17,7 +17,7 @@ use Rattle.pt_frame.specs.Replies.{refusal, event_refusal}
 use Rattle.pt_frame.specs.declared.act.ActReply.{ActReply}
 use Rattle.pt_frame.specs.declared.act.ActReply.TheVariants.{Event, Host, NoCopy}
 use Rattle.pt_frame.specs.declared.hold.Hold.{Hold}
-use Rattle.pt_law.specs.Keeps.{MayChange}
+use Rattle.pt_law.specs.Keeps.{MayBeMade}
 use Rattle.pt_law.specs.Told.{MayBeTold}
 use Rattle.pt_law.specs.Naming.{made}
 use Rattle.pt_fit.specs.Cause.{Asking, SortCauses, is_passed_over}
@@ -37,7 +37,7 @@ IsHeededCall sort = Unit {0}
 
 abbrev pub IsHeeded : Request → Deed → List Hold → Type 0
 IsHeeded what (Calls call) holds = (is_passed_over what call ≡ false) × IsHeededCall (sort_of call)
-IsHeeded what (Changes asked) holds = MayChange asked holds
+IsHeeded what (Changes asked) holds = MayBeMade asked holds
 
 call_refused : (sort : Sort) (errno : Errno) → IsHeededCall sort → SortCauses sort (Host (host.Refused errno)) errno
 call_refused (OpensWith flags) errno h = refl
@@ -52,7 +52,7 @@ call_failed OfSeat errno h = refl
 call_failed Plain errno h = refl
 
 event_refused : (asked : Asking) (this : Change) (why : EventRefusal) (holds : List Hold) (path : List Step) →
-    MayChange this holds → IsOneOf why (refusals this) →
+    MayBeMade this holds → IsOneOf why (refusals this) →
     IsCausedLeaf asked (made (Changes this) (Event (event.Refused why)) ∷ path) (event_refusal why)
 event_refused asked (change.Resolve number) refused.NotLive holds path m o = inr (inl (inl refl))
 event_refused asked (change.Resolve number) refused.Last holds path m o = inr (inl (inl refl))

@@ -32,7 +32,7 @@ use Rattle.pt_attr.specs.declared.requests.making.Made.TheVariants as made_as
 use Rattle.pt_attr.specs.Requests.{access, getattr, link, readlink, rename, rmdir, statfs, unlink}
 use Rattle.pt_law.specs.Discipline.{Notes, blank}
 use Rattle.pt_law.specs.Naming.{made}
-use Rattle.pt_fit.specs.Cause.{Asking, IsOpening, asking}
+use Rattle.pt_fit.specs.Cause.{Asking, OpensFile, asking}
 use Rattle.pt_fit.specs.Fit.{IsFit}
 use Rattle.pt_fit.proofs.Calling.{fit_do_call, fit_look_at, fit_read_at, fit_read_link, fit_stat_fs}
 use Rattle.pt_fit.proofs.Contents.{fit_copyfilerange, fit_fallocate, fit_flush, fit_fsync, fit_lseek, fit_syncfs}
@@ -43,66 +43,66 @@ use Rattle.pt_fit.proofs.Setting.{fit_setattr}
 use Rattle.pt_fit.proofs.Objects.{fit_named}
 use Rattle.pt_fit.proofs.Joined.{after_any_step, fit_file_by, fit_files_by, fit_gives, fit_look_up, fit_open_num}
 use Rattle.pt_fit.proofs.Joined.{fit_root_open, fit_unserved}
-use Rattle.pt_fit.proofs.Parts.{Goes, GoesAfter, fit_begin, fit_checked, fit_clear, fit_forget_all, fit_pin_handle}
+use Rattle.pt_fit.proofs.Parts.{FitOn, GoesAfter, fit_begin, fit_checked, fit_clear, fit_forget_all, fit_pin_handle}
 use Rattle.pt_fit.proofs.Parts.{fit_release_handle, Seen}
 
-fit_root : (asked : Asking) (plan : Plan) → Goes asked [] (root plan) [] [] blank
+fit_root : (asked : Asking) (plan : Plan) → FitOn asked [] (root plan) [] [] blank
 fit_root asked plan = fit_begin _ refl (λ session.
     fit_root_open plan session None _ nothing_bare refl refl refl (λ told later.
     fit_gives answer.Done (λ path. (tt, tt, tt))))
 
 fit_lookup : (plan : Plan) (who : Context) (parent : ℕ) (name : List ℕ) →
-    Goes (asking plan who (request.Lookup parent name)) [] (lookup plan parent name) [] [] blank
+    FitOn (asking plan who (request.Lookup parent name)) [] (lookup plan parent name) [] [] blank
 fit_lookup plan who parent name = fit_begin _ refl (λ session.
     fit_checked (is_bad_name name) _ (λ bad. (bad, refl))
     (fit_look_up plan session parent name _ nothing_bare refl refl (λ looked later l.
     fit_gives (answer.Entry looked.entry) (λ path. (refl, tt, tt)))))
 
-fit_forget : (asked : Asking) (list : List (ℕ × ℕ)) → Goes asked [] (batch_forget list) [] [] blank
+fit_forget : (asked : Asking) (list : List (ℕ × ℕ)) → FitOn asked [] (batch_forget list) [] [] blank
 fit_forget asked list = fit_begin _ refl (λ session.
     fit_forget_all list _ refl (λ later l. fit_gives answer.NoReply (λ path. (tt, tt, tt))))
 
 -- a session begins anew; closings come between the clearing and the root
-fit_init : (asked : Asking) (plan : Plan) (capable : FsOptions) → Goes asked [] (init plan capable) [] [] blank
+fit_init : (asked : Asking) (plan : Plan) (capable : FsOptions) → FitOn asked [] (init plan capable) [] [] blank
 fit_init asked plan capable = fit_clear _ refl refl (λ era later l.
     fit_root_open plan (session_of era nothing_agreed) (Some (agreed_with plan.config capable)) _ nothing_bare
     l.0 l.1 l.4
     (λ told last. fit_gives (answer.Inited (init_options plan.config capable)) (λ path. (tt, tt, tt))))
 
-fit_destroy : (asked : Asking) → Goes asked [] destroy [] [] blank
+fit_destroy : (asked : Asking) → FitOn asked [] destroy [] [] blank
 fit_destroy asked = fit_clear _ refl refl (λ era later l. fit_gives answer.NoReply (λ path. (tt, tt, tt)))
 
 fit_open : (asked : Asking) (plan : Plan) (seat : HostSeat) (inode : ℕ) (kill : Bool) (flags : ℕ) →
-    IsOpening asked.request → Goes asked [] (open_file plan seat inode kill flags) [] [] blank
+    OpensFile asked.request → FitOn asked [] (open_file plan seat inode kill flags) [] [] blank
 fit_open asked plan seat inode kill flags o = fit_begin _ refl (λ session.
     fit_open_num plan seat session inode kill flags _ o nothing_bare refl (λ handle later.
     fit_gives (answer.Opened handle (open_options plan.config flags)) (λ path. (tt, tt, tt))))
 
-fit_release : (asked : Asking) (inode handle : ℕ) → Goes asked [] (release inode handle) [] [] blank
+fit_release : (asked : Asking) (inode handle : ℕ) → FitOn asked [] (release inode handle) [] [] blank
 fit_release asked inode handle = fit_begin _ refl (λ session.
     fit_release_handle handle inode _ refl (λ later l. fit_gives answer.Done (λ path. (tt, tt, tt))))
 
 fit_read : (plan : Plan) (who : Context) (inode handle size offset : ℕ) →
-    Goes (asking plan who (request.Read inode handle size offset)) [] (read inode handle size offset) [] [] blank
+    FitOn (asking plan who (request.Read inode handle size offset)) [] (read inode handle size offset) [] [] blank
 fit_read plan who inode handle size offset = fit_begin _ refl (λ session.
     fit_checked (is_bad_offset offset) _ (λ bad. (bad, refl))
     (fit_pin_handle handle inode _ nothing_bare (λ row fd.
     fit_read_at fd offset size row _ (λ bytes. fit_gives (answer.Read bytes) (λ path. (tt, tt, tt))))))
 
 fit_readlink : (plan : Plan) (who : Context) (inode : ℕ) →
-    Goes (asking plan who (request.Readlink inode)) [] (readlink inode) [] [] blank
+    FitOn (asking plan who (request.Readlink inode)) [] (readlink inode) [] [] blank
 fit_readlink plan who inode = fit_begin _ refl (λ session.
     fit_file_by inode _ nothing_bare (λ row fd.
     fit_read_link fd row _ (λ target. fit_gives (answer.Link target) (λ path. (tt, tt, tt)))))
 
 fit_statfs : (plan : Plan) (who : Context) (inode : ℕ) →
-    Goes (asking plan who (request.StatFs inode)) [] (statfs inode) [] [] blank
+    FitOn (asking plan who (request.StatFs inode)) [] (statfs inode) [] [] blank
 fit_statfs plan who inode = fit_begin _ refl (λ session.
     fit_file_by inode _ nothing_bare (λ row fd.
     fit_stat_fs fd row _ (λ told. fit_gives (answer.FsStat told) (λ path. (tt, tt, tt)))))
 
 fit_getattr : (plan : Plan) (who : Context) (inode : ℕ) →
-    Goes (asking plan who (request.GetAttr inode)) [] (getattr plan inode) [] [] blank
+    FitOn (asking plan who (request.GetAttr inode)) [] (getattr plan inode) [] [] blank
 fit_getattr plan who inode = fit_begin _ refl (λ session.
     fit_file_by inode _ nothing_bare (λ row fd.
     fit_look_at fd _ (((hold.Pin row (Some fd), _, here, refl), tt), tt) (λ told.
@@ -111,7 +111,7 @@ fit_getattr plan who inode = fit_begin _ refl (λ session.
 
 -- what the status does not grant is refused, of which it is the cause
 fit_access : (plan : Plan) (who : Context) (inode mask : ℕ) →
-    Goes (asking plan who (request.Access inode mask)) [] (access plan who inode mask) [] [] blank
+    FitOn (asking plan who (request.Access inode mask)) [] (access plan who inode mask) [] [] blank
 fit_access plan who inode mask = fit_begin _ refl (λ session.
     fit_file_by inode _ nothing_bare (λ row fd.
     fit_look_at fd _ (((hold.Pin row (Some fd), _, here, refl), tt), tt) (λ told.
@@ -126,7 +126,7 @@ fit_access plan who inode mask = fit_begin _ refl (λ session.
     decided told false e = record { on = λ path s. (tt, inr (inr ((told, inl refl, e), refl)), tt) }
 
 fit_unlink : (plan : Plan) (who : Context) (parent : ℕ) (name : List ℕ) →
-    Goes (asking plan who (request.Unlink parent name)) [] (unlink parent name) [] [] blank
+    FitOn (asking plan who (request.Unlink parent name)) [] (unlink parent name) [] [] blank
 fit_unlink plan who parent name = fit_begin _ refl (λ session.
     fit_checked (is_bad_name name) _ (λ bad. (bad, refl))
     (fit_file_by parent _ nothing_bare (λ row dir.
@@ -136,7 +136,7 @@ fit_unlink plan who parent name = fit_begin _ refl (λ session.
     (fit_gives answer.Done (λ path. (tt, tt, tt))))))
 
 fit_rmdir : (plan : Plan) (who : Context) (parent : ℕ) (name : List ℕ) →
-    Goes (asking plan who (request.Rmdir parent name)) [] (rmdir parent name) [] [] blank
+    FitOn (asking plan who (request.Rmdir parent name)) [] (rmdir parent name) [] [] blank
 fit_rmdir plan who parent name = fit_begin _ refl (λ session.
     fit_checked (is_bad_name name) _ (λ bad. (bad, refl))
     (fit_file_by parent _ nothing_bare (λ row dir.
@@ -147,7 +147,7 @@ fit_rmdir plan who parent name = fit_begin _ refl (λ session.
 
 fit_rename : (plan : Plan) (who : Context) (olddir : ℕ) (oldname : List ℕ) (newdir : ℕ) (newname : List ℕ)
     (flags : ℕ) →
-    Goes (asking plan who (request.Rename olddir oldname newdir newname flags)) []
+    FitOn (asking plan who (request.Rename olddir oldname newdir newname flags)) []
     (rename olddir oldname newdir newname flags) [] [] blank
 fit_rename plan who olddir oldname newdir newname flags = fit_begin _ refl (λ session.
     fit_checked (is_bad_name oldname) _ (λ bad. (inl bad, refl))
@@ -164,7 +164,7 @@ fit_rename plan who olddir oldname newdir newname flags = fit_begin _ refl (λ s
     (fit_gives answer.Done (λ path. (tt, tt, tt)))))))
 
 fit_link : (plan : Plan) (who : Context) (inode newparent : ℕ) (newname : List ℕ) →
-    Goes (asking plan who (request.Link inode newparent newname)) [] (link plan inode newparent newname) [] [] blank
+    FitOn (asking plan who (request.Link inode newparent newname)) [] (link plan inode newparent newname) [] [] blank
 fit_link plan who inode newparent newname = fit_begin _ refl (λ session.
     fit_checked (is_bad_name newname) _ (λ bad. (bad, refl))
     (fit_files_by inode newparent _ (λ one other from dir.
@@ -180,7 +180,7 @@ fit_link plan who inode newparent newname = fit_begin _ refl (λ session.
     fit_gives (answer.Entry looked.entry) (λ path. (refl, tt, tt)))))))
 
 fits : (plan : Plan) (seat : HostSeat) (who : Context) (what : Request) →
-    Goes (asking plan who what) [] (tree_of plan seat who what) [] [] blank
+    FitOn (asking plan who what) [] (tree_of plan seat who what) [] [] blank
 fits plan seat who (request.Init capable) = fit_init (asking plan who (request.Init capable)) plan capable
 fits plan seat who request.Destroy = fit_destroy (asking plan who request.Destroy)
 fits plan seat who request.Root = fit_root (asking plan who request.Root) plan

@@ -27,7 +27,7 @@ use Rattle.pt_attr.specs.Pattern.{Asked, Requests, Edits, grammar_for, tree_of}
 use Rattle.pt_attr.proofs.Walking.{OfScopes, each_request, of_any}
 use Rattle.pt_law.specs.Agreed.{Says, Begins, Decides}
 use Rattle.pt_law.proofs.Doing.{Does, OfReturns, All, all_framed, steps_so, cut_so}
-use Rattle.pt_fit.specs.Answered.{ComesTo}
+use Rattle.pt_fit.specs.Answered.{ComesToAnswer}
 use Rattle.pt_fit.specs.Decided.{decides}
 
 -- no step that gives back says anything
@@ -143,7 +143,7 @@ cut_begins plan seat asked so_far rest end c = tt
 
 -- whole or cut
 pub job_decides : (plan : Plan) (seat : HostSeat) (asked : Asked) (steps : List Step) (end : Finish) →
-    ComesTo plan seat asked steps end → Decides (decides plan asked) steps
+    ComesToAnswer plan seat asked steps end → Decides (decides plan asked) steps
 job_decides plan seat asked steps end (inl b) =
     let decided = decides plan asked in
     record {

@@ -26,14 +26,14 @@ use Rattle.pt_law.specs.Naming.{made}
 use Rattle.pt_fit.specs.Cause.{Asking, is_passed_over}
 use Rattle.pt_fit.specs.Fit.{Fit, IsCausedLeaf}
 use Rattle.pt_fit.proofs.Holds.{IsBare, over, uncovered_over}
-use Rattle.pt_fit.proofs.Parts.{Goes, Seen, Told, held_as, still}
+use Rattle.pt_fit.proofs.Parts.{FitOn, Seen, Told, held_as, still}
 use Rattle.pt_fit.proofs.Refused.{IsHeededCall, refused_by}
 
 -- a scope is open where its call was Ok
 pub fit_open_scope : {asked : Asking} {seen : List Seen} {holds : List Hold} {marks : List ℕ}
     {notes : Notes} (call : Call) (scope : Hold) (next : RequestTree) → is_passed_over asked.request call ≡ false →
-    IsHeededCall (sort_of call) → MayOpen (sort_of call) scope → Goes asked seen next (scope ∷ holds) marks notes →
-    Goes asked seen (open_scope call scope next) holds marks notes
+    IsHeededCall (sort_of call) → MayOpen (sort_of call) scope → FitOn asked seen next (scope ∷ holds) marks notes →
+    FitOn asked seen (open_scope call scope next) holds marks notes
 fit_open_scope {asked = asked} {holds = holds} call scope next r h may f = record {
   on = λ path s. (
     may,
@@ -46,15 +46,15 @@ fit_open_scope {asked = asked} {holds = holds} call scope next r h may f = recor
 
 -- The scope of the capability opens, where it is to be dropped, and ends behind its call.
 pub fit_without_fsetid : {asked : Asking} {seen : List Seen} {holds : List Hold} {marks : List ℕ}
-    {notes : Notes} (dropped : Bool) (next : RequestTree) → Goes asked seen next (over dropped holds) marks notes →
-    Goes asked seen (without_fsetid dropped next) holds marks notes
+    {notes : Notes} (dropped : Bool) (next : RequestTree) → FitOn asked seen next (over dropped holds) marks notes →
+    FitOn asked seen (without_fsetid dropped next) holds marks notes
 fit_without_fsetid true next f =
     fit_open_scope (call.DropCap fsetid) (hold.Dropped fsetid) next refl tt refl f
 fit_without_fsetid false next f = f
 
 pub fit_bares : {asked : Asking} {seen : List Seen} {holds : List Hold} {marks : List ℕ} {notes : Notes}
-    (dropped : Bool) (next : RequestTree) → IsBare holds → Goes asked seen next holds marks notes →
-    Goes asked seen (Bares next) (over dropped holds) marks notes
+    (dropped : Bool) (next : RequestTree) → IsBare holds → FitOn asked seen next holds marks notes →
+    FitOn asked seen (Bares next) (over dropped holds) marks notes
 fit_bares {asked = asked} {holds = holds} {marks = marks} {notes = notes} dropped next b f = record {
   on = λ path s. held_as asked next (uncovered (over dropped holds)) holds marks notes path
       (uncovered_over dropped holds b) (f.on path s);
@@ -62,8 +62,8 @@ fit_bares {asked = asked} {holds = holds} {marks = marks} {notes = notes} droppe
 
 -- a capability is raised, or done without
 pub fit_raise : {asked : Asking} {seen : List Seen} {holds : List Hold} {marks : List ℕ}
-    {notes : Notes} (caps : Caps) (next : RequestTree) → Goes asked seen next holds marks notes →
-    Goes asked seen (try_call (call.RaiseCap caps) next) holds marks notes
+    {notes : Notes} (caps : Caps) (next : RequestTree) → FitOn asked seen next holds marks notes →
+    FitOn asked seen (try_call (call.RaiseCap caps) next) holds marks notes
 fit_raise caps next f = record { on = λ path s. ((tt, tt), λ told m. f.on _ (still s)) }
 
 -- scopes lie on these, and nothing else
@@ -77,10 +77,10 @@ pub fit_make_at : {asked : Asking} {seen : List Seen} {marks : List ℕ} {notes 
     (holds bare : List Hold) (dir : Fd) (name : List ℕ) (flags : OpenFlags) (mode row number : ℕ)
     (next : Fd → RequestTree) (may_be : Bool) (old : RequestTree) →
     Covers holds (hold.Pin row (Some dir) ∷ bare) → notes.resolved ≡ Some (record { number = number; row = row }) →
-    ((fd : Fd) → Goes asked seen (next fd) (hold.Fd fd ∷ hold.Pin row (Some dir) ∷ bare) marks
+    ((fd : Fd) → FitOn asked seen (next fd) (hold.Fd fd ∷ hold.Pin row (Some dir) ∷ bare) marks
     (record (newly fd notes) { latest = found_by flags fd })) →
-    (may_be ≡ true → Goes asked seen old (hold.Pin row (Some dir) ∷ bare) marks notes) →
-    Goes asked seen (make_at dir name flags mode next may_be old) holds marks notes
+    (may_be ≡ true → FitOn asked seen old (hold.Pin row (Some dir) ∷ bare) marks notes) →
+    FitOn asked seen (make_at dir name flags mode next may_be old) holds marks notes
 fit_make_at {asked = asked} {seen = seen} {marks = marks} {notes = notes} holds bare dir name flags mode row number
     next may_be old c r f g = record {
       on = λ path s. (

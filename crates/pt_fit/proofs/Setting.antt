@@ -35,15 +35,15 @@ use Rattle.pt_fit.specs.Cause.{Asking, IsForbiddenOwner, asking}
 use Rattle.pt_fit.proofs.Calling.{IsStillCall, fit_do_call, fit_look_at}
 use Rattle.pt_fit.proofs.Holds.{IsBare, nothing_bare, unscoped_over}
 use Rattle.pt_fit.proofs.Joined.{after_any_step, fit_file_by, fit_gives, fit_open_row}
-use Rattle.pt_fit.proofs.Parts.{Goes, GoesAfter, Seen, fit_begin, fit_checked, fit_file_of, fit_pin_handle}
+use Rattle.pt_fit.proofs.Parts.{FitOn, GoesAfter, Seen, fit_begin, fit_checked, fit_file_of, fit_pin_handle}
 use Rattle.pt_fit.proofs.Parts.{fit_resolve, noting, resolution}
 use Rattle.pt_fit.proofs.Scopes.{fit_bares, fit_without_fsetid}
 use Rattle.pt_fit.proofs.Refused.{IsHeeded}
 
 fit_do_if : {asked : Asking} {seen : List Seen} {holds : List Hold} {marks : List ℕ} {notes : Notes} (is : Bool)
     (did : Call) (next : RequestTree) → IsStillCall did → MayMake (Calls did) holds notes →
-    IsHeeded asked.request (Calls did) holds → Goes asked seen next holds marks notes →
-    Goes asked seen (do_if is did next) holds marks notes
+    IsHeeded asked.request (Calls did) holds → FitOn asked seen next holds marks notes →
+    FitOn asked seen (do_if is did next) holds marks notes
 fit_do_if true did next same may heeds f = fit_do_call did next same may heeds f
 fit_do_if false did next same may heeds f = f
 
@@ -63,7 +63,7 @@ module _ (plan : Plan) (seat : HostSeat) (who : Context) (inode : ℕ) (handle :
 
   -- the attributes are told, whatever is held
   fit_tell : {seen : List Seen} {holds : List Hold} {marks : List ℕ} {notes : Notes} → IsBare holds →
-      Goes asks seen (tell_attr plan inode) holds marks notes
+      FitOn asks seen (tell_attr plan inode) holds marks notes
   fit_tell b =
       fit_file_by inode _ b (λ row fd.
       fit_look_at fd _ (((hold.Pin row (Some fd), _, here, refl), tt), tt) (λ told.
@@ -73,7 +73,7 @@ module _ (plan : Plan) (seat : HostSeat) (who : Context) (inode : ℕ) (handle :
   fit_owns : {seen : List Seen} {holds : List Hold} {marks : List ℕ} {notes : Notes} (file target : Fd)
       (next : RequestTree) → Sets holds file target → (uid gid : Option ℕ) →
       ((uid ≡ None) ⊎ (gid ≡ None) → IsForbiddenOwner plan valid attr) →
-      Goes asks seen next holds marks notes → Goes asks seen (own_as file uid gid next) holds marks notes
+      FitOn asks seen next holds marks notes → FitOn asks seen (own_as file uid gid next) holds marks notes
   fit_owns file target next s (Some uid) (Some gid) bars f =
       fit_do_call (call.ChOwn file uid gid) next (record { holds = λ told these. refl; notes = λ told these. refl })
       ((s.files, tt), tt) (refl, tt) f
@@ -92,12 +92,12 @@ module _ (plan : Plan) (seat : HostSeat) (who : Context) (inode : ℕ) (handle :
   forbidden (inr e) = inr (none_set (sets_gid valid) (to_host plan.gid_map attr.gid) e)
 
   fit_owner : {seen : List Seen} {holds : List Hold} {marks : List ℕ} {notes : Notes} (file target : Fd)
-      (next : RequestTree) → Sets holds file target → Goes asks seen next holds marks notes →
-      Goes asks seen (set_owner plan valid attr file next) holds marks notes
+      (next : RequestTree) → Sets holds file target → FitOn asks seen next holds marks notes →
+      FitOn asks seen (set_owner plan valid attr file next) holds marks notes
   fit_owner {seen = seen} {holds = holds} {marks = marks} {notes = notes} file target next s f =
       at (sets_uid valid || sets_gid valid)
     where
-      at : (is : Bool) → Goes asks seen
+      at : (is : Bool) → FitOn asks seen
           (if is then own_as file (id_set (sets_uid valid) (to_host plan.uid_map attr.uid))
           (id_set (sets_gid valid) (to_host plan.gid_map attr.gid)) next else next) holds marks notes
       at true = fit_owns file target next s _ _ forbidden f
@@ -114,14 +114,14 @@ module _ (plan : Plan) (seat : HostSeat) (who : Context) (inode : ℕ) (handle :
 
   -- a size is set in a scope, or in none
   fit_size : {seen : List Seen} {holds : List Hold} {marks : List ℕ} {notes : Notes} (file target : Fd)
-      (next : RequestTree) → Sets holds file target → Goes asks seen next holds marks notes →
-      Goes asks seen (set_size plan seat valid attr target next) holds marks notes
+      (next : RequestTree) → Sets holds file target → FitOn asks seen next holds marks notes →
+      FitOn asks seen (set_size plan seat valid attr target next) holds marks notes
   fit_size {seen = seen} {holds = holds} {marks = marks} {notes = notes} file target next s f = at (sets_size valid)
     where
       dropped : Bool
       dropped = drops_fsetid plan seat (kills_suidgid valid)
 
-      at : (is : Bool) → Goes asks seen
+      at : (is : Bool) → FitOn asks seen
           (if is then without_fsetid dropped (do_call (call.Truncate target attr.size) (Bares next)) else next)
           holds marks notes
       at true =
@@ -135,7 +135,7 @@ module _ (plan : Plan) (seat : HostSeat) (who : Context) (inode : ℕ) (handle :
 
   fit_sets : {seen : List Seen} {holds : List Hold} {marks : List ℕ} {notes : Notes} (file target : Fd)
       (through : Bool) → Sets holds file target →
-      Goes asks seen (sets_all file target through) holds marks notes
+      FitOn asks seen (sets_all file target through) holds marks notes
   fit_sets file target through s =
       fit_do_if (sets_mode valid) (call.ChMod target through attr.mode) _
       (record { holds = λ told these. refl; notes = λ told these. refl }) ((s.targets, tt), tt) (refl, tt)
@@ -149,7 +149,7 @@ module _ (plan : Plan) (seat : HostSeat) (who : Context) (inode : ℕ) (handle :
   -- by the file, which is held itself or by its row
   fit_opened : {seen : List Seen} {marks : List ℕ} {notes : Notes} (row : ℕ) (dir new : Fd) →
       (given : Option ℕ) → opens_anew given valid ≡ true →
-      Goes asks seen (target_of inode given new (sets_all new)) (hold.Fd new ∷ hold.Pin row (Some dir) ∷ [])
+      FitOn asks seen (target_of inode given new (sets_all new)) (hold.Fd new ∷ hold.Pin row (Some dir) ∷ [])
       marks notes
   fit_opened row dir new (Some number) e = absurd (cc)
   fit_opened row dir new None e =
@@ -160,7 +160,7 @@ module _ (plan : Plan) (seat : HostSeat) (who : Context) (inode : ℕ) (handle :
       })
 
   fit_filed : {seen : List Seen} {marks : List ℕ} {notes : Notes} (row : ℕ) (file : Fd) (given : Option ℕ) →
-      Goes asks seen (target_of inode given file (sets_all file)) (hold.Pin row (Some file) ∷ []) marks notes
+      FitOn asks seen (target_of inode given file (sets_all file)) (hold.Pin row (Some file) ∷ []) marks notes
   fit_filed row file (Some number) =
       fit_pin_handle number inode _ (λ one. refl) (λ other fd.
       fit_sets file fd false (record {
@@ -194,7 +194,7 @@ module _ (plan : Plan) (seat : HostSeat) (who : Context) (inode : ℕ) (handle :
       at false e =
           after_any_step (fit_file_of row.row row.form sets_file (λ file. fit_filed row.row file handle))
 
-  pub fit_setattr : Goes asks [] (setattr plan seat inode handle valid attr) [] [] blank
+  pub fit_setattr : FitOn asks [] (setattr plan seat inode handle valid attr) [] [] blank
   fit_setattr = fit_begin _ refl (λ session.
       fit_checked (is_missized valid attr) _ (λ bad. inl (bad, refl))
       (fit_resolve inode _ nothing_bare (λ row. fit_row (record blank { era = Some session.era }) row)))

@@ -12,8 +12,8 @@ use Rattle.pt_law.specs.World.{Turn, steps_of}
 
 -- by these steps a job that began with this seat comes to this end: it does all that was asked, or is cut after some
 -- of it
-abbrev pub ComesTo : Plan → HostSeat → Asked → List Step → Finish → Type 0
-ComesTo plan seat asked steps end =
+abbrev pub ComesToAnswer : Plan → HostSeat → Asked → List Step → Finish → Type 0
+ComesToAnswer plan seat asked steps end =
     Belongs (grammar_for plan seat asked) steps end
     ⊎ ((so_far : List Step) × (rest : List Step) × (steps ≡ so_far ++ rest)
     × CutAfter seat (grammar_for plan seat asked) so_far rest end)
@@ -29,4 +29,4 @@ pub record AreAnswered
     (turns : List Turn)
     : Type 0 where
   pub owners : Each (λ turn. turn.job < bound) turns
-  pub jobs : (job : ℕ) → job < bound → ComesTo plan (seats job) (asked job) (steps_of job turns) (ends job)
+  pub jobs : (job : ℕ) → job < bound → ComesToAnswer plan (seats job) (asked job) (steps_of job turns) (ends job)

@@ -54,13 +54,13 @@ asking plan who what = record { plan = plan; who = who; request = what }
 
 -- it opens a number, as `create` does where the name is there and the guest takes what is there, `setattr` for a size
 -- that no handle sets, and `syncfs` what stands for its file system
-abbrev pub IsOpening : Request → Type 0
-IsOpening (request.Open inode kill flags) = Unit {0}
-IsOpening (request.OpenDir inode flags) = Unit {0}
-IsOpening (request.Create parent name mode kill flags umask ext) = includes flags o_excl ≡ false
-IsOpening (request.SetAttr inode handle valid attr) = opens_anew handle valid ≡ true
-IsOpening (request.SyncFs inode) = Unit {0}
-IsOpening asked = ⊥
+abbrev pub OpensFile : Request → Type 0
+OpensFile (request.Open inode kill flags) = Unit {0}
+OpensFile (request.OpenDir inode flags) = Unit {0}
+OpensFile (request.Create parent name mode kill flags umask ext) = includes flags o_excl ≡ false
+OpensFile (request.SetAttr inode handle valid attr) = opens_anew handle valid ≡ true
+OpensFile (request.SyncFs inode) = Unit {0}
+OpensFile asked = ⊥
 
 -- the call was refused, or failed, with this error number
 abbrev pub TellsErrno : ActReply → Errno → Type 0
@@ -117,7 +117,7 @@ EventCauses asked change.Begin (Event (Began era agreed)) cause = BlocksLabel ag
 EventCauses asked (change.Resolve number) (Event (Refused NotLive)) cause = cause ≡ ebadf
 EventCauses asked (change.Resolve number) (Event (Refused Last)) cause = cause ≡ eoverflow
 EventCauses asked (change.Resolve number) (Event (Resolved row form ids mode)) cause =
-    IsOpening asked × (can_open mode ≡ false) × (cause ≡ ebadf)
+    OpensFile asked × (can_open mode ≡ false) × (cause ≡ ebadf)
 EventCauses asked (change.Claim era handle ids) (Event (Refused Overtaken)) cause = cause ≡ ebadf
 EventCauses asked (change.Claim era handle ids) (Event (Refused Last)) cause = cause ≡ eoverflow
 EventCauses asked change.TakeFd (Event (Refused NoSlot)) cause = cause ≡ enfile
@@ -181,15 +181,15 @@ TellsCause plan who (request.Access inode mask) steps cause = IsDenied plan who 
 TellsCause plan who asked steps cause = ⊥
 
 -- the maps forbid one of the ids of who asks: of its user, its group, or the group that the request tells
-abbrev pub IsForbidden : Plan → Context → Extensions → Type 0
-IsForbidden plan who ext =
+abbrev pub IsAskerForbidden : Plan → Context → Extensions → Type 0
+IsAskerForbidden plan who ext =
     (to_host plan.uid_map who.uid ≡ None) ⊎ (to_host plan.gid_map who.gid ≡ None)
     ⊎ (group_of plan ext.sup_gid ≡ None)
 
 -- What is to be made has no name, or who asks is forbidden.
 abbrev pub MakingCause : Plan → Context → List ℕ → Extensions → Errno → Type 0
 MakingCause plan who name ext cause =
-    ((is_bad_name name ≡ true) × (cause ≡ einval)) ⊎ (IsForbidden plan who ext × (cause ≡ eperm))
+    ((is_bad_name name ≡ true) × (cause ≡ einval)) ⊎ (IsAskerForbidden plan who ext × (cause ≡ eperm))
 
 -- the maps forbid an id that is to be set
 abbrev pub IsForbiddenOwner : Plan → SetattrValid → SetattrIn → Type 0

@@ -27,7 +27,7 @@ ghost use Rattle.pt_fit.specs.Cause.{asking, IsCausedBy};
 ghost use Rattle.pt_fit.specs.Fit.{IsFit};
 ghost use Rattle.pt_fit.specs.Decided.{decides};
 ghost use Rattle.pt_fit.specs.Handled.{KeepsHandle};
-ghost use Rattle.pt_fit.specs.Answered.{ComesTo};
+ghost use Rattle.pt_fit.specs.Answered.{ComesToAnswer};
 ghost use Rattle.pt_fit.specs.Entered.{name_asked};
 
 /// Every request's tree is fit.
@@ -42,7 +42,7 @@ pub fn each_request()
 /// entry is an answer to what asks for a name, and with a handle that of `create`.
 pub fn asked_ends()
     ensures ends { (plan : Plan) (seat : HostSeat) (asked : Asked) (steps : List Step) (end : Finish) →
-        AllMayBeTold steps → ComesTo plan seat asked steps end → ComesToEnd idle steps end }
+        AllMayBeTold steps → ComesToAnswer plan seat asked steps end → ComesToEnd idle steps end }
     ensures full { (plan : Plan) (seat : HostSeat) (asked : Asked) (so_far steps : List Step) (end : Finish) →
         AllMayBeTold so_far → (RanOut so_far → ⊥) →
         CutAfter seat (grammar_for plan seat asked) so_far steps end →
@@ -54,9 +54,9 @@ pub fn asked_ends()
         AllMayBeTold steps → Belongs (grammar_for plan seat asked) steps (finish.Answer last) →
         KeepsHandle steps last }
     ensures begins { (plan : Plan) (seat : HostSeat) (asked : Asked) (steps : List Step) (end : Finish) →
-        ComesTo plan seat asked steps end → BeginsFirst steps }
+        ComesToAnswer plan seat asked steps end → BeginsFirst steps }
     ensures decides { (plan : Plan) (seat : HostSeat) (asked : Asked) (steps : List Step) (end : Finish) →
-        ComesTo plan seat asked steps end → Decides (decides plan asked) steps }
+        ComesToAnswer plan seat asked steps end → Decides (decides plan asked) steps }
     ensures named { (plan : Plan) (seat : HostSeat) (asked : Asked) (steps : List Step) (entry : Entry) →
         AllMayBeTold steps → Belongs (grammar_for plan seat asked) steps (finish.Answer (answer.Entry entry)) →
         ((parent : ℕ) × (name : List ℕ) × (name_asked asked ≡ Some (parent, name))) }

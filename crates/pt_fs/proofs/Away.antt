@@ -8,9 +8,9 @@ use Rattle.pt_host.specs.declared.seat.HostSeat.{HostSeat}
 use Rattle.pt_frame.specs.Grammar.{End}
 use Rattle.pt_attr.specs.Machine.Job.{owes as job_owes, is_finished as is_job_over, lost_of as job_lost}
 use Rattle.pt_req.specs.declared.plan.Plan.{Plan}
-use Rattle.pt_fs.specs.Laid.{Kept, Laid, AllGo, GoElsewhere, Stays, Settles, found_state, state_at, states_in}
+use Rattle.pt_fs.specs.Laid.{Kept, Laid, AllGo, GoElsewhere, StaysAsIs, Settles, found_state, state_at, states_in}
 use Rattle.pt_fs.specs.Laid.{still}
-use Rattle.pt_fs.specs.Placed.{Place, Waits, Goes, Ended as Ends}
+use Rattle.pt_fs.specs.Placed.{JobPlace, Waits, Goes, Ended as Ends}
 use Rattle.pt_fs.specs.Running.{Goes as On}
 use Rattle.pt_fs.specs.declared.machine.Machine.{Machine}
 use Rattle.pt_fs.specs.declared.machine.Over.{Over}
@@ -18,7 +18,7 @@ use Rattle.pt_fs.proofs.Lists.{TakenOut, get-set_same, get-set_other, map_but}
 use Rattle.pt_fs.proofs.Laying.{apart, goes_one, still-set}
 
 -- The machine of this index is that of this place; `on` are the machines behind that.
-module _ {places : List Place} {going : List Machine} (laid : Laid places going) (place index : ℕ)
+module _ {places : List JobPlace} {going : List Machine} (laid : Laid places going) (place index : ℕ)
     (own : slice_get places place ≡ Some (Goes index)) where
   -- another place has another machine
   elsewhere : (j s : ℕ) → j ≢ place → slice_get places j ≡ Some (Goes s) → s ≢ index
@@ -32,7 +32,7 @@ module _ {places : List Place} {going : List Machine} (laid : Laid places going)
       (sym (laid.back s it at) ∙ ap (slice_get places) e ∙ own)))
 
   module _ (over : Over) {on : List Machine} (out : TakenOut going index on) where
-    abbrev pub first_set : List Place
+    abbrev pub first_set : List JobPlace
     first_set = slice_set places place (Ends over)
 
     -- Its machine was the last.
@@ -75,7 +75,7 @@ module _ {places : List Place} {going : List Machine} (laid : Laid places going)
           let is : p ≡ q = same_Some p q (sym at ∙ sym (get-set_other places place j (Ends over) other) ∙ now) in
           ap (state_at on) (sym is) ∙ same j p other at)
         where
-          same : (j : ℕ) (p : Place) → j ≢ place → slice_get places j ≡ Some p → state_at on p ≡ state_at going p
+          same : (j : ℕ) (p : JobPlace) → j ≢ place → slice_get places j ≡ Some p → state_at on p ≡ state_at going p
           same j (Waits job) other at = refl
           same j (Ends done) other at = refl
           same j (Goes s) other at =
@@ -96,7 +96,7 @@ module _ {places : List Place} {going : List Machine} (laid : Laid places going)
 
     -- It was not, and the last one is moved to where it was.
     module _ (moved : Machine) (inside : index < length on) (in_place : slice_get on index ≡ Some moved) where
-      abbrev pub both_set : List Place
+      abbrev pub both_set : List JobPlace
       both_set = slice_set first_set moved.place (Goes index)
 
       top : slice_get going (length on) ≡ Some moved
@@ -180,7 +180,7 @@ module _ {places : List Place} {going : List Machine} (laid : Laid places going)
                 ap (state_at on) (sym is) ∙ same j p other another at
           ])
         where
-          same : (j : ℕ) (p : Place) → j ≢ place → j ≢ moved.place → slice_get places j ≡ Some p →
+          same : (j : ℕ) (p : JobPlace) → j ≢ place → j ≢ moved.place → slice_get places j ≡ Some p →
               state_at on p ≡ state_at going p
           same j (Waits job) other another at = refl
           same j (Ends done) other another at = refl
@@ -220,11 +220,11 @@ module _ {places : List Place} {going : List Machine} (laid : Laid places going)
 
     pub settles_over : (over : Over) →
         ((plan : Plan) (from : HostSeat) → job_owes plan from taken.state ≡ End over.last) →
-        over.lost ≡ job_lost taken.state → (places' : List Place) (on : List Machine) →
+        over.lost ≡ job_lost taken.state → (places' : List JobPlace) (on : List Machine) →
         states_in places' on ≡ slice_set (states_in places going) place (state_at on (Ends over)) →
         Settles places going place index places' on
     settles_over over left lost places' on runs =
-        let stays : Stays (On taken.state) (state_at on (Ends over)) = record {
+        let stays : StaysAsIs (On taken.state) (state_at on (Ends over)) = record {
           left = λ plan from. sym (left plan from);
           finished = sym taken_over;
           lost = lost;
@@ -236,6 +236,6 @@ module _ {places : List Place} {going : List Machine} (laid : Laid places going)
           it = its.0;
           state = state_at on (Ends over);
           was = its.1;
-          stays = subst (λ (g : Machine). Stays (On g.state) (state_at on (Ends over))) is_its stays;
+          stays = subst (λ (g : Machine). StaysAsIs (On g.state) (state_at on (Ends over))) is_its stays;
           runs = runs;
         }

@@ -38,7 +38,7 @@ use Rattle.pt_fs.proofs.Ended.{belongs_by}
 use Rattle.pt_fs.proofs.InFull.{InFull, by_answer, by_replies}
 use Rattle.pt_fs.proofs.Laws.{host_runs, steps_same}
 use Rattle.pt_fs.proofs.Leading.{Ready, Course, found_steps, with_none, run_out, lost_led}
-use Rattle.pt_fs.proofs.Lockstep.{Found, Place, Moment, IsLed, one_led}
+use Rattle.pt_fs.proofs.Lockstep.{Found, Scene, Moment, IsLed, one_led}
 use Rattle.pt_fs.proofs.OneLoss.{loss_in, loss_shows, not_whole, one_loss}
 use Rattle.pt_fs.proofs.Owners.{Places}
 use Rattle.pt_fs.proofs.Traces.{steps_by-append}
@@ -117,7 +117,7 @@ begins_at plan schedule jobs host tables = record {
   turn = Places schedule;
 }
 
-abbrev stops_at : {H : Type 0} → List (Option HostSeat) → H → Tables → Place H
+abbrev stops_at : {H : Type 0} → List (Option HostSeat) → H → Tables → Scene H
 stops_at seats host tables = record { host = host; seats = seats; tables = tables }
 
 abbrev starts_in : List Job → ℕ → HostSeat
@@ -129,7 +129,7 @@ TellsEnds answers ends = (j : ℕ) (told : Answer) → slice_get answers j ≡ S
 
 -- the run is led from its first moment to where it stops, with these answers
 record IsCourse {H : Type 0} (does : HostRelation H) (plan : Plan) (schedule : List ℕ) (jobs : List Job) (host : H)
-    (tables : Tables) (trace : List TraceStep) (answers : List Answer) (to : Place H) : Type 0 where
+    (tables : Tables) (trace : List TraceStep) (answers : List Answer) (to : Scene H) : Type 0 where
   ends : ℕ → Finish
   led : IsLed does (starts_in jobs) (length jobs) ends to trace (begins_at plan schedule jobs host tables)
   tells : TellsEnds answers ends
@@ -330,7 +330,7 @@ turns_determined {H} does faults promises one plan schedule jobs host tables tra
           a.tells j told at ∙ ap answer_of (alike.ended j) ∙ sym (b.tells j other at'));
       losses = one_loss_told does faults plan jobs schedule host tables trace' answers answers' lost lost' ends
           ran'.ends;
-      hosts = ap (λ (p : Place H). p.host) alike.places;
-      sat = ran.steps.are_left ∙ ap (λ (p : Place H). seated p.seats) alike.places ∙ sym ran'.steps.are_left;
-      left = ap (λ (p : Place H). p.tables) alike.places;
+      hosts = ap (λ (p : Scene H). p.host) alike.places;
+      sat = ran.steps.are_left ∙ ap (λ (p : Scene H). seated p.seats) alike.places ∙ sym ran'.steps.are_left;
+      left = ap (λ (p : Scene H). p.tables) alike.places;
     }

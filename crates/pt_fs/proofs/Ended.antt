@@ -20,7 +20,7 @@ use Rattle.pt_frame.specs.declared.finish.Finish.TheVariants as finish
 use Rattle.pt_attr.specs.Pattern.{Asked, Requests, Edits, grammar_for, bound_for}
 use Rattle.pt_attr.proofs.Answering.{tends}
 use Rattle.pt_req.specs.declared.plan.Plan.{Plan}
-use Rattle.pt_fs.specs.Each.{IsStarted, EachStarted, EachAnswered, EndsAs, answer_of}
+use Rattle.pt_fs.specs.Each.{IsBegun, EachStarted, EachAnswered, EndsAs, answer_of}
 use Rattle.pt_fs.specs.GoesOn.{EachWent}
 use Rattle.pt_fs.specs.Jobs.{StartAll, job_seat, job_start, job_grammar, asked_of, IsAnsweredBy}
 use Rattle.pt_fs.specs.Laid.{waiting}
@@ -90,12 +90,12 @@ started_length plan (job ∷ jobs) [] h = absurd h
 
 pub started_at : (plan : Plan) (jobs : List Job) (running : List Running) → EachStarted plan jobs running →
     (j : ℕ) (job : Job) (run : Running) → slice_get jobs j ≡ Some job → slice_get running j ≡ Some run →
-    IsStarted plan job run
+    IsBegun plan job run
 started_at plan [] running h j job run at_job at_run = cc
 started_at plan (first ∷ jobs) (head ∷ running) h zero job run at_job at_run =
     subst (λ (x : Job).
-    IsStarted plan x run) (same_Some first job at_job)
-    (subst (λ (r : Running). IsStarted plan first r) (same_Some head run at_run) h.0)
+    IsBegun plan x run) (same_Some first job at_job)
+    (subst (λ (r : Running). IsBegun plan first r) (same_Some head run at_run) h.0)
 started_at plan (first ∷ jobs) (head ∷ running) h (suc j) job run at_job at_run =
     started_at plan jobs running h.1 j job run at_job at_run
 started_at plan (first ∷ jobs) [] h j job run at_job at_run = absurd h
@@ -140,7 +140,7 @@ EachRan plan jobs steps running =
     (j : ℕ) (job : Job) → slice_get jobs j ≡ Some job →
     (run : Running) × (slice_get running j ≡ Some run) × JobRan plan job (steps_by j steps) run
 
-job_ran : (plan : Plan) (job : Job) (run run' : Running) (steps : List Step) → IsStarted plan job run →
+job_ran : (plan : Plan) (job : Job) (run run' : Running) (steps : List Step) → IsBegun plan job run →
     Went plan run steps run' → JobRan plan job steps run'
 job_ran plan job run run' steps s w = record {
   start = w.start ∙ s.start;

@@ -234,7 +234,7 @@ cut_at bound trace so_far rest e d =
     subst (λ (turns : List Turn). AreDisciplined bound turns) (ap turns_of e ∙ turns-append so_far rest) d
 
 -- the laws that speak of no object, over any host
-pub record Keeps (plan : Plan) (limit : ℕ) (jobs : List Job) (tables : Tables) (trace : List TraceStep)
+pub record KeepsTables (plan : Plan) (limit : ℕ) (jobs : List Job) (tables : Tables) (trace : List TraceStep)
     (answers : List Answer)
     (tables' : Tables) : Type 0 where
   pub counts : AfterEach tables trace KeepsCounts
@@ -273,7 +273,7 @@ pub keeps : {H : Type 0} (does : HostRelation H) (faults : H → ℕ) → Promis
     (plan : Plan) (limit : ℕ) (jobs : List Job) (host : H) (tables : Tables) (trace : List TraceStep)
     (answers : List Answer) (host' : H) (tables' : Tables) →
     Ran does plan limit jobs host tables trace answers host' tables' →
-    Keeps plan limit jobs tables trace answers tables'
+    KeepsTables plan limit jobs tables trace answers tables'
 keeps does faults p plan limit jobs host tables trace answers host' tables' ran =
     let runs = host_runs does trace host ran.seats tables host' ran.seats' tables' ran.runs in
     let ended = ended_of does faults p plan limit jobs host tables trace answers host' tables' ran in

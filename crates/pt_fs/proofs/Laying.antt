@@ -12,19 +12,19 @@ use Rattle.pt_frame.specs.Grammar.{is_end}
 use Rattle.pt_attr.specs.Machine.Job.{owes as job_owes, is_finished as is_job_over}
 use Rattle.pt_req.specs.declared.plan.Plan.{Plan}
 use Rattle.pt_fs.specs.Jobs.{asked_of}
-use Rattle.pt_fs.specs.Laid.{Kept, Laid, AllGo, GoElsewhere, Stays, Wakes, Settles, found_state, state_at}
+use Rattle.pt_fs.specs.Laid.{Kept, Laid, AllGo, GoElsewhere, StaysAsIs, Wakes, Settles, found_state, state_at}
 use Rattle.pt_fs.specs.Laid.{states_in, waits, still}
 use Rattle.pt_fs.specs.Running.{State, Waits as Awaits, Goes as On, is_finished, owes}
 use Rattle.pt_fs.specs.declared.job.Job.{Job}
 use Rattle.pt_fs.specs.declared.machine.Machine.{Machine}
-use Rattle.pt_fs.specs.Placed.{Place, Waits, Goes, Ended as Ends}
+use Rattle.pt_fs.specs.Placed.{JobPlace, Waits, Goes, Ended as Ends}
 use Rattle.pt_fs.specs.declared.machine.Over.{Over}
 use Rattle.pt_fs.proofs.Lists.{get-set_same, get-set_other, get-past, get-before, get-within, set-set, set-same}
 use Rattle.pt_fs.proofs.Lists.{map_but}
 
 -- How many wait.
 
-pub still-set : (places : List Place) (i : ℕ) (p q : Place) → slice_get places i ≡ Some p →
+pub still-set : (places : List JobPlace) (i : ℕ) (p q : JobPlace) → slice_get places i ≡ Some p →
     still (slice_set places i q) + waits p ≡ still places + waits q
 still-set [] i p q e = absurd (cc)
 still-set (first ∷ places) zero p q e =
@@ -36,7 +36,7 @@ still-set (first ∷ places) (suc i) p q e = let more = still-set places i p q e
 pub goes_one : (a b : ℕ) → Goes a ≡ Goes b → a ≡ b
 goes_one a b e = cc
 
-module _ {places : List Place} {going : List Machine} (laid : Laid places going) where
+module _ {places : List JobPlace} {going : List Machine} (laid : Laid places going) where
   -- two places have not one machine
   pub apart : (i j index : ℕ) → slice_get places i ≡ Some (Goes index) → slice_get places j ≡ Some (Goes index) →
       j ≡ i
@@ -91,7 +91,7 @@ module _ {places : List Place} {going : List Machine} (laid : Laid places going)
         (sym at ∙ sym (get-set_other places place j (Goes (length going)) other) ∙ now) in
         ap (state_at (going ++ it ∷ [])) (sym is) ∙ kept j p at)
       where
-        kept : (j : ℕ) (p : Place) → slice_get places j ≡ Some p → state_at (going ++ it ∷ []) p ≡ state_at going p
+        kept : (j : ℕ) (p : JobPlace) → slice_get places j ≡ Some p → state_at (going ++ it ∷ []) p ≡ state_at going p
         kept j (Waits other) at = refl
         kept j (Ends over) at = refl
         kept j (Goes index) at =
@@ -134,7 +134,7 @@ module _ {places : List Place} {going : List Machine} (laid : Laid places going)
         (λ j p q other at now.
         ap (state_at (slice_set going index it')) (same_Some q p (sym now ∙ at)) ∙ same j p other at)
       where
-        same : (j : ℕ) (p : Place) → j ≢ place → slice_get places j ≡ Some p →
+        same : (j : ℕ) (p : JobPlace) → j ≢ place → slice_get places j ≡ Some p →
             state_at (slice_set going index it') p ≡ state_at going p
         same j (Waits job) other at = refl
         same j (Ends done) other at = refl
@@ -146,11 +146,11 @@ module _ {places : List Place} {going : List Machine} (laid : Laid places going)
 
 -- Where a job is.
 
-pub states_at : (places : List Place) (going : List Machine) (j : ℕ) (p : Place) → slice_get places j ≡ Some p →
+pub states_at : (places : List JobPlace) (going : List Machine) (j : ℕ) (p : JobPlace) → slice_get places j ≡ Some p →
     slice_get (states_in places going) j ≡ Some (state_at going p)
 states_at places going j p at = slice_get-map (state_at going) places j ∙ ap (option_map (state_at going)) at
 
-pub stays_same : (state : State) → Stays state state
+pub stays_same : (state : State) → StaysAsIs state state
 stays_same state = record {
   left = λ plan seat. refl;
   finished = refl;
@@ -161,7 +161,7 @@ stays_same state = record {
 }
 
 -- one that has its machine
-pub wakes_none : {places : List Place} {going : List Machine} → Laid places going → (j index : ℕ) →
+pub wakes_none : {places : List JobPlace} {going : List Machine} → Laid places going → (j index : ℕ) →
     slice_get places j ≡ Some (Goes index) → Wakes places going j places going index
 wakes_none {places} {going} laid j index own =
     let it = laid.there j index own in
@@ -178,9 +178,9 @@ wakes_none {places} {going} laid j index own =
     }
 
 -- one that waited
-pub wakes_one : {places : List Place} {going : List Machine} → Laid places going → (j : ℕ) (job : Job)
+pub wakes_one : {places : List JobPlace} {going : List Machine} → Laid places going → (j : ℕ) (job : Job)
     (it : Machine) →
-    slice_get places j ≡ Some (Waits job) → it.place ≡ j → Stays (Awaits (asked_of job)) (On it.state) →
+    slice_get places j ≡ Some (Waits job) → it.place ≡ j → StaysAsIs (Awaits (asked_of job)) (On it.state) →
     Wakes places going j (slice_set places j (Goes (length going))) (going ++ it ∷ []) (length going)
 wakes_one {places} {going} laid j job it waits_there own stays = record {
   state = Awaits (asked_of job);
@@ -192,11 +192,12 @@ wakes_one {places} {going} laid j job it waits_there own stays = record {
   runs = wakes_runs laid it waits_there own;
 }
 
-pub some_wait : (places : List Place) (j : ℕ) (job : Job) → slice_get places j ≡ Some (Waits job) → 0 < still places
+pub some_wait : (places : List JobPlace) (j : ℕ) (job : Job) → slice_get places j ≡ Some (Waits job) →
+    0 < still places
 some_wait places j job at = let sums = still-set places j (Waits job) (Goes 0) at in omega arith
 
 -- one that has ended
-pub has_ended : (places : List Place) (going : List Machine) (j : ℕ) (over : Over) →
+pub has_ended : (places : List JobPlace) (going : List Machine) (j : ℕ) (over : Over) →
     slice_get places j ≡ Some (Ends over) →
     ((state : State) → slice_get (states_in places going) j ≡ Some state → is_finished state ≡ false) → ⊥
 has_ended places going j over at not =
@@ -214,7 +215,7 @@ all_go_on going it goes this index one at = elim (cases_eq index (length going))
 ]
 
 -- one that goes on
-pub settles_none : {places : List Place} {going : List Machine} → Laid places going → (j index : ℕ) →
+pub settles_none : {places : List JobPlace} {going : List Machine} → Laid places going → (j index : ℕ) →
     slice_get places j ≡ Some (Goes index) → Settles places going j index places going
 settles_none {places} {going} laid j index own =
     let it = laid.there j index own in
@@ -242,17 +243,17 @@ pub record Through (states : List State) (j : ℕ) (seen went : Machine) (states
   pub state : State
   pub state' : State
   pub was : slice_get states j ≡ Some state
-  pub before : Stays state (On seen.state)
-  pub after : Stays (On went.state) state'
+  pub before : StaysAsIs state (On seen.state)
+  pub after : StaysAsIs (On went.state) state'
   pub runs : states' ≡ slice_set states j state'
 
 -- the machine that was read is that of the place
-pub seen_there : {places places1 : List Place} {going going1 : List Machine} {j index : ℕ} (seen : Machine)
+pub seen_there : {places places1 : List JobPlace} {going going1 : List Machine} {j index : ℕ} (seen : Machine)
     (wakes : Wakes places going j places1 going1 index) → seen ≡ get_or going1 index seen → seen ≡ wakes.it
 seen_there {going1 = going1} {index = index} seen wakes read =
     read ∙ get_or_from_slice_get going1 index wakes.it seen wakes.there
 
-module _ {places places1 : List Place} {going going1 : List Machine} {j index room : ℕ} (seen went : Machine)
+module _ {places places1 : List JobPlace} {going going1 : List Machine} {j index room : ℕ} (seen went : Machine)
     (wakes : Wakes places going j places1 going1 index) (kept : Kept places1 going1 room)
     (own : slice_get places1 j ≡ Some (Goes index)) (read : seen ≡ get_or going1 index seen)
     (same : went.place ≡ seen.place) where
@@ -266,7 +267,7 @@ module _ {places places1 : List Place} {going going1 : List Machine} {j index ro
   pub went_goes : GoElsewhere index (slice_set going1 index went)
   went_goes = on_goes kept.laid j index own wakes.it went wakes.there its_own kept.all_go
 
-  pub went_through : {places2 : List Place} {going2 : List Machine} →
+  pub went_through : {places2 : List JobPlace} {going2 : List Machine} →
       Settles places1 (slice_set going1 index went) j index places2 going2 →
       Through (states_in places going) j seen went (states_in places2 going2)
   went_through settles =
@@ -278,8 +279,8 @@ module _ {places places1 : List Place} {going going1 : List Machine} {j index ro
         state = wakes.state;
         state' = settles.state;
         was = wakes.was;
-        before = subst (λ (g : Machine). Stays wakes.state (On g.state)) (sym it) wakes.stays;
-        after = subst (λ (g : Machine). Stays (On g.state) settles.state) is settles.stays;
+        before = subst (λ (g : Machine). StaysAsIs wakes.state (On g.state)) (sym it) wakes.stays;
+        after = subst (λ (g : Machine). StaysAsIs (On g.state) settles.state) is settles.stays;
         runs = settles.runs
             ∙ ap (λ (l : List State). slice_set l j settles.state) (runs
             ∙ ap (λ (l : List State). slice_set l j (On went.state)) wakes.runs)
@@ -290,7 +291,7 @@ module _ {places places1 : List Place} {going going1 : List Machine} {j index ro
 
 -- a machine that was seen goes on where its job has not finished
 pub waked_goes : (state : State) (it seen : Machine) (plan : Plan) (start : HostSeat) → seen ≡ it →
-    Stays state (On it.state) → (is_finished state ≡ false) × (is_end (owes plan start state) ≡ false) →
+    StaysAsIs state (On it.state) → (is_finished state ≡ false) × (is_end (owes plan start state) ≡ false) →
     (is_job_over seen.state ≡ false) × (is_end (job_owes plan start seen.state) ≡ false)
 waked_goes state it seen plan start is stays goes =
     let same : (g : Machine) → g ≡ it → (is_job_over g.state ≡ false)
@@ -301,7 +302,7 @@ waked_goes state it seen plan start is stays goes =
     same seen is
 
 -- where no machine has finished, who has finished needs none
-pub ended_place : (going : List Machine) → AllGo going → (p : Place) → is_finished (state_at going p) ≡ true →
+pub ended_place : (going : List Machine) → AllGo going → (p : JobPlace) → is_finished (state_at going p) ≡ true →
     (over : Over) × (p ≡ Ends over)
 ended_place going goes (Waits job) ends = absurd (cc)
 ended_place going goes (Ends over) ends = (over, refl)

@@ -22,7 +22,7 @@ use Rattle.pt_fs.specs.declared.trace.TraceStep.{TraceStep}
 use Rattle.pt_fs.proofs.InFull.{InFull, Begins, next_deed, then_on, cut_off, has_deed, restores_by, begins, is_over}
 use Rattle.pt_fs.proofs.InFull.{begins_cut, ended_cut, is_cut_there, restores_none}
 use Rattle.pt_fs.proofs.Leads.{whole_step}
-use Rattle.pt_fs.proofs.Lockstep.{Found, Place, place_same, left_after, left_same, left_other, first_same}
+use Rattle.pt_fs.proofs.Lockstep.{Found, Scene, place_same, left_after, left_same, left_other, first_same}
 use Rattle.pt_fs.proofs.Lockstep.{first_other, Moment, wants, restores_next, next_of, pasts_after, cut_others}
 use Rattle.pt_fs.proofs.Lockstep.{is_first_loss, loses, moment_after, IsNext, IsLed}
 use Rattle.pt_fs.proofs.OneLoss.{past_stays}
@@ -177,7 +177,7 @@ loses_none now x part (inr calm) =
     ap (is_first_loss now.lost) (none_lost x part (now.pasts x.job) (calm x.job)) ∙ first_none now.lost
 
 calm_on : {H : Type 0} (starts : ℕ → HostSeat) (now : Moment H) (x : TraceStep) (part : List TraceStep) (turn : Turn)
-    (place : Place H) → IsCalm now (x ∷ part) → IsCalm (moment_after starts now x turn false place) part
+    (place : Scene H) → IsCalm now (x ∷ part) → IsCalm (moment_after starts now x turn false place) part
 calm_on starts now x part turn place (inl lost) = inl lost
 calm_on starts now x part turn place (inr calm) =
     inr (λ j. ap (λ (past : Past). past.lost) (pasts_on x part now.pasts j) ∙ calm j)
@@ -188,7 +188,7 @@ turned turn now =
     record { place = now.place; left = now.left; pasts = now.pasts; lost = now.lost; turn = turn }
 
 turned_led : {H : Type 0} (does : HostRelation H) (starts : ℕ → HostSeat) (jobs : ℕ) (ends : ℕ → Finish)
-    (to : Place H) (trace : List TraceStep) (now : Moment H) (turn : Turn) →
+    (to : Scene H) (trace : List TraceStep) (now : Moment H) (turn : Turn) →
     next_of jobs now ≡ next_of jobs (turned turn now) → IsLed does starts jobs ends to trace (turned turn now) →
     IsLed does starts jobs ends to trace now
 turned_led does starts jobs ends to [] now turn same l = (same ∙ l.0, l.1, l.2)
@@ -218,7 +218,7 @@ record ReadyFirst {H : Type 0} (starts : ℕ → HostSeat) (jobs : ℕ) (ends : 
   turn : Turn
   its_turn : next_of jobs now ≡ takes x.job turn
   wanted : Begins (now.left x.job) (step_of x)
-  ready : (place : Place H) →
+  ready : (place : Scene H) →
       Ready starts jobs ends lost more rest front later (moment_after starts now x turn false place)
 
 ready_first : {H : Type 0} (starts : ℕ → HostSeat) (jobs : ℕ) (ends : ℕ → Finish) (lost : Option ℕ) (more : ℕ → ℕ)
@@ -258,22 +258,22 @@ ready_first {H} starts jobs ends lost more rest x front later now has ready =
     }
 
 -- where a run stands after its first step
-abbrev place_at : {H : Type 0} → H → List (Option HostSeat) → Tables → Place H
+abbrev place_at : {H : Type 0} → H → List (Option HostSeat) → Tables → Scene H
 place_at host seats tables = record { host = host; seats = seats; tables = tables }
 
 -- these steps lead from here to there
-abbrev pub Runs : {H : Type 0} → HostRelation H → List TraceStep → Place H → Place H → Type 0
-Runs does trace from to = TraceRuns does trace from.host from.seats from.tables to.host to.seats to.tables
+abbrev pub LeadsFrom : {H : Type 0} → HostRelation H → List TraceStep → Scene H → Scene H → Type 0
+LeadsFrom does trace from to = TraceRuns does trace from.host from.seats from.tables to.host to.seats to.tables
 
 -- one job has lost its seat, and each does what is left of it
-record HasLost {H : Type 0} (does : HostRelation H) (ends : ℕ → Finish) (to : Place H) (job : ℕ) (past : Past)
+record HasLost {H : Type 0} (does : HostRelation H) (ends : ℕ → Finish) (to : Scene H) (job : ℕ) (past : Past)
     (later : List TraceStep) (now : Moment H) : Type 0 where
   lost : now.lost ≡ true
   turn : now.turn ≡ Restores job
   its : now.pasts job ≡ past
   left : (j : ℕ) → InFull (now.left j) (steps_by j later) (ends j)
   found : Each Found later
-  runs : Runs does later now.place to
+  runs : LeadsFrom does later now.place to
 
 -- a step of its to come restores its seat
 restores_first : {H : Type 0} (now : Moment H) (x : TraceStep) (past : Past) → Begins (now.left x.job) (step_of x) →
@@ -288,11 +288,11 @@ pub with_none : (part : List TraceStep) → with_left part (λ j. 0) ≡ count_o
 with_none part = same_function (with_left part (λ j. 0)) (count_of part) (λ j. omega arith)
 
 module _ {H : Type 0} (does : HostRelation H) (starts : ℕ → HostSeat) (jobs : ℕ) (ends : ℕ → Finish)
-    (to : Place H) where
+    (to : Scene H) where
   -- all jobs take all their steps, and no seat is lost by one
   pub run_out : (part : List TraceStep) (now : Moment H) →
       Ready starts jobs ends None (λ j. 0) [] part [] now → IsCalm now part → Each Found part →
-      Runs does part now.place to → IsLed does starts jobs ends to part now
+      LeadsFrom does part now.place to → IsLed does starts jobs ends to part now
   run_out [] now ready calm found runs = (
     none_next jobs (wants now.left) (with_left [] (λ j. 0))
         (λ j on. course_left None j (starts j) (now.left j) [] [] 0 (ends j) (ready.courses j)
@@ -304,7 +304,7 @@ module _ {H : Type 0} (does : HostRelation H) (starts : ℕ → HostSeat) (jobs 
   run_out (x ∷ part) now ready calm found runs =
       let first = ready_first starts jobs ends None (λ j. 0) [] x part [] now
       (λ j e. let no : None ≡ Some j = e in absurd (cc)) ready in
-      let place : Place H = place_at runs.0 runs.1 runs.2 in
+      let place : Scene H = place_at runs.0 runs.1 runs.2 in
       let next : IsNext does jobs now x first.turn false place = record {
         deed = first.wanted.0;
         its_turn = first.its_turn;
@@ -345,7 +345,7 @@ module _ {H : Type 0} (does : HostRelation H) (starts : ℕ → HostSeat) (jobs 
       let on : restores_next now.left now.pasts job ≡ true =
       ap (restores_next now.left now.pasts) (sym only.0)
       ∙ restores_first now x past first.0 had.found.0 its only.1 in
-      let place : Place H = place_at runs.0 runs.1 runs.2 in
+      let place : Scene H = place_at runs.0 runs.1 runs.2 in
       let next : IsNext does jobs now x (Restores job) false place = record {
         deed = first.0.0;
         its_turn = ap (next_turn (wants now.left) (restores_next now.left now.pasts) jobs) had.turn
@@ -384,11 +384,11 @@ module _ {H : Type 0} (does : HostRelation H) (starts : ℕ → HostSeat) (jobs 
     -- the lost step
     lost_first : (now : Moment H) → Ready starts jobs ends (Some job) more rest (step ∷ []) later now →
         now.lost ≡ false → past_from (now.pasts job) (steps_by job (step ∷ [])) ≡ past →
-        Each Found (step ∷ later) → Runs does (step ∷ later) now.place to →
+        Each Found (step ∷ later) → LeadsFrom does (step ∷ later) now.place to →
         IsLed does starts jobs ends to (step ∷ later) now
     lost_first now ready going its found runs =
         let first = ready_first starts jobs ends (Some job) more rest step [] later now (has_it []) ready in
-        let place : Place H = place_at runs.0 runs.1 runs.2 in
+        let place : Scene H = place_at runs.0 runs.1 runs.2 in
         let fault : (past_made (now.pasts step.job) (kept_deed_of step.act) step.reply).lost ≡ Some errno =
         ap (λ (k : ℕ). (past_made (now.pasts k) (kept_deed_of step.act) step.reply).lost) own
         ∙ ap (λ (steps : List Step). (past_from (now.pasts job) steps).lost) (sym (first_same step [] job own))
@@ -440,13 +440,13 @@ module _ {H : Type 0} (does : HostRelation H) (starts : ℕ → HostSeat) (jobs 
         Ready starts jobs ends (Some job) more rest (before ++ step ∷ []) later now → now.lost ≡ false →
         ((j : ℕ) → (past_from (now.pasts j) (steps_by j before)).lost ≡ None) →
         past_from (now.pasts job) (steps_by job (before ++ step ∷ [])) ≡ past →
-        Each Found ((before ++ step ∷ []) ++ later) → Runs does ((before ++ step ∷ []) ++ later) now.place to →
+        Each Found ((before ++ step ∷ []) ++ later) → LeadsFrom does ((before ++ step ∷ []) ++ later) now.place to →
         IsLed does starts jobs ends to ((before ++ step ∷ []) ++ later) now
     until_lost [] now ready going calm its found runs = lost_first now ready going its found runs
     until_lost (x ∷ before) now ready going calm its found runs =
         let first = ready_first starts jobs ends (Some job) more rest x (before ++ step ∷ []) later now
         (has_it (x ∷ before)) ready in
-        let place : Place H = place_at runs.0 runs.1 runs.2 in
+        let place : Scene H = place_at runs.0 runs.1 runs.2 in
         let next : IsNext does jobs now x first.turn false place = record {
           deed = first.wanted.0;
           its_turn = first.its_turn;
@@ -471,7 +471,7 @@ module _ {H : Type 0} (does : HostRelation H) (starts : ℕ → HostSeat) (jobs 
       ((j : ℕ) → (past_from (now.pasts j) (steps_by j before)).lost ≡ None) →
       past_from (now.pasts job) (steps_by job (before ++ step ∷ [])) ≡ past →
       Each Found ((before ++ step ∷ []) ++ (others ++ back)) →
-      Runs does ((before ++ step ∷ []) ++ (others ++ back)) now.place to →
+      LeadsFrom does ((before ++ step ∷ []) ++ (others ++ back)) now.place to →
       IsLed does starts jobs ends to ((before ++ step ∷ []) ++ (others ++ back)) now
   lost_led before step others back job more rest past errno now own lost told only over in_order ready going calm its
       found runs =

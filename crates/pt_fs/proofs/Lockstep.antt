@@ -53,21 +53,21 @@ same_step step other j a r =
     let it : TraceStep = record { job = other.job; act = other.act; reply = reply } in it) r
 
 -- where a run stands
-pub record Place (H : Type 0) : Type 0 where
+pub record Scene (H : Type 0) : Type 0 where
   pub host : H
   pub seats : List (Option HostSeat)
   pub tables : Tables
 
-pub place_same : {H : Type 0} (from to : Place H) → from.host ≡ to.host → from.seats ≡ to.seats →
+pub place_same : {H : Type 0} (from to : Scene H) → from.host ≡ to.host → from.seats ≡ to.seats →
     from.tables ≡ to.tables → from ≡ to
 place_same from to h s t = λ i. record { host = h i; seats = s i; tables = t i }
 
 -- the step leads from one place to another
-abbrev pub Makes : {H : Type 0} → HostRelation H → TraceStep → Place H → Place H → Type 0
+abbrev pub Makes : {H : Type 0} → HostRelation H → TraceStep → Scene H → Scene H → Type 0
 Makes does step from to = MadeAt does step from.host from.seats from.tables to.host to.seats to.tables
 
 -- two steps lead to one place
-record AreOneStep {H : Type 0} (x y : TraceStep) (to to' : Place H) : Type 0 where
+record AreOneStep {H : Type 0} (x y : TraceStep) (to to' : Scene H) : Type 0 where
   steps : x ≡ y
   places : to ≡ to'
   agree : Agree to.tables
@@ -114,7 +114,7 @@ led_from does one deed reply reply' host None tables host1 host2 (Some seat1) se
 
 -- two steps of one job by one deed
 one_step : {H : Type 0} (does : HostRelation H) → IsDeterminedHost does →
-    (deed : Deed) (x y : TraceStep) (from to to' : Place H) → x.job ≡ y.job → Found x → Found y → Agree from.tables →
+    (deed : Deed) (x y : TraceStep) (from to to' : Scene H) → x.job ≡ y.job → Found x → Found y → Agree from.tables →
     IsStepOf deed (kept_deed_of x.act) x.reply → IsStepOf deed (kept_deed_of y.act) y.reply → Makes does x from to →
     Makes does y from to' → AreOneStep x y to to'
 one_step {H} does one deed x y from to to' j w w' agree s s' m n =
@@ -161,7 +161,7 @@ first_other step trace j ne = rw (ne_eqb step.job j ne) refl
 -- All that determines the rest of a run: where it stands, what each job may still do and did to its seat so far,
 -- whether a seat was lost, and whose turn it is.
 pub record Moment (H : Type 0) : Type 0 where
-  pub place : Place H
+  pub place : Scene H
   pub left : ℕ → Grammar
   pub pasts : ℕ → Past
   pub lost : Bool
@@ -203,7 +203,7 @@ abbrev pub moment_after :
     (step : TraceStep) →
     (turn : Turn) →
     (loss : Bool) →
-    (place : Place H) →
+    (place : Scene H) →
     Moment H
 moment_after starts now step turn loss place = record {
   place = place;
@@ -215,7 +215,7 @@ moment_after starts now step turn loss place = record {
 
 -- the step is that of whose turn it is, by what that job does next
 pub record IsNext {H : Type 0} (does : HostRelation H) (jobs : ℕ) (now : Moment H) (step : TraceStep) (turn : Turn)
-    (loss : Bool) (place : Place H) : Type 0 where
+    (loss : Bool) (place : Scene H) : Type 0 where
   pub deed : Deed
   pub its_turn : next_of jobs now ≡ takes step.job turn
   pub is_wanted : next_deed (now.left step.job) ≡ Some deed
@@ -231,26 +231,26 @@ abbrev pub IsLed :
     (starts : ℕ → HostSeat) →
     (jobs : ℕ) →
     (ends : ℕ → Finish) →
-    (to : Place H) →
+    (to : Scene H) →
     (trace : List TraceStep) →
     (now : Moment H) →
     Type 0
 IsLed does starts jobs ends to [] now =
     (next_of jobs now ≡ None) × (to ≡ now.place) × ((j : ℕ) → InFull (now.left j) [] (ends j))
 IsLed {H} does starts jobs ends to (step ∷ trace) now =
-    (turn : Turn) × (loss : Bool) × (place : Place H) × IsNext does jobs now step turn loss place
+    (turn : Turn) × (loss : Bool) × (place : Scene H) × IsNext does jobs now step turn loss place
     × IsLed does starts jobs ends to trace (moment_after starts now step turn loss place)
 
 -- two runs are one: in their traces, in how each job ends, and in where they lead
 pub record AreAlike {H : Type 0} (trace trace' : List TraceStep) (ends ends' : ℕ → Finish)
-    (to to' : Place H) : Type 0 where
+    (to to' : Scene H) : Type 0 where
   pub traces : trace ≡ trace'
   pub ended : (j : ℕ) → ends j ≡ ends' j
   pub places : to ≡ to'
 
 -- from one moment one run is led
 pub one_led : {H : Type 0} (does : HostRelation H) → IsDeterminedHost does → (starts : ℕ → HostSeat) (jobs : ℕ)
-    (ends ends' : ℕ → Finish) (to to' : Place H) (trace trace' : List TraceStep) (now : Moment H) →
+    (ends ends' : ℕ → Finish) (to to' : Scene H) (trace trace' : List TraceStep) (now : Moment H) →
     Agree now.place.tables → IsLed does starts jobs ends to trace now → IsLed does starts jobs ends' to' trace' now →
     AreAlike trace trace' ends ends' to to'
 one_led does one starts jobs ends ends' to to' [] [] now agree a b = record {
@@ -288,7 +288,7 @@ one_led {H} does one starts jobs ends ends' to to' (x ∷ trace) (y ∷ trace') 
     subst (λ (l : Bool). IsLed does starts jobs ends' to' trace' (moment_after starts now x a.0 l b.2)) loss by_turn
     in
     let by_place : IsLed does starts jobs ends' to' trace' (moment_after starts now x a.0 a.1 a.2) =
-    subst (λ (p : Place H). IsLed does starts jobs ends' to' trace' (moment_after starts now x a.0 a.1 p))
+    subst (λ (p : Scene H). IsLed does starts jobs ends' to' trace' (moment_after starts now x a.0 a.1 p))
     (sym same.places) by_loss in
     let more = one_led does one starts jobs ends ends' to to' trace trace'
     (moment_after starts now x a.0 a.1 a.2) same.agree a.4 by_place in

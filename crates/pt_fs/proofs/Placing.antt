@@ -11,7 +11,7 @@ use Rattle.pt_iface.specs.declared.answer.Answer.TheVariants.{Cut}
 use Rattle.pt_frame.specs.declared.finish.Finish.{Finish}
 use Rattle.pt_frame.specs.declared.finish.Finish.TheVariants as finish
 use Rattle.pt_fs.specs.Each.{answer_of}
-use Rattle.pt_fs.specs.Placed.{Place, Placed, Waits, Goes, Ended, AllEnded, CutWhereLost, InParts}
+use Rattle.pt_fs.specs.Placed.{JobPlace, Placed, Waits, Goes, Ended, AllEnded, CutWhereLost, InParts}
 use Rattle.pt_fs.specs.Placed.{answer_at, last_of, lost_in, place_of, placed_in, places_in, stage_of}
 use Rattle.pt_fs.specs.declared.job.Job.{Job}
 use Rattle.pt_fs.specs.declared.machine.Over.{Over}
@@ -30,7 +30,7 @@ set_all (a ∷ jobs) (b ∷ stages) [] zero job at told = refl
 set_all (a ∷ jobs) (b ∷ stages) [] (suc j) job at told = refl
 set_all (a ∷ jobs) (b ∷ stages) (c ∷ answers) zero job at told = refl
 set_all (a ∷ jobs) (b ∷ stages) (c ∷ answers) (suc j) job at told =
-    ap (λ (l : List Place). place_of a b c ∷ l) (set_all jobs stages answers j job at told)
+    ap (λ (l : List JobPlace). place_of a b c ∷ l) (set_all jobs stages answers j job at told)
 
 -- a place has all its parts
 get_all : (jobs : List Job) (stages : List Stage) (answers : List Answer) (j : ℕ) (job : Job) (at : Stage)
@@ -56,7 +56,7 @@ length_all (a ∷ jobs) (b ∷ stages) (c ∷ answers) one two =
 pub all_wait : (jobs : List Job) →
     places_in jobs (replicate (length jobs) stage.Waits) (replicate (length jobs) Cut) ≡ map Waits jobs
 all_wait [] = refl
-all_wait (job ∷ jobs) = ap (λ (l : List Place). Waits job ∷ l) (all_wait jobs)
+all_wait (job ∷ jobs) = ap (λ (l : List JobPlace). Waits job ∷ l) (all_wait jobs)
 
 pub none_lost : (answers : List Answer) (count : ℕ) → CutWhereLost (replicate count stage.Waits) answers
 none_lost answers count j errno lost at = absurd (no count j at)
@@ -67,7 +67,7 @@ none_lost answers count j errno lost at = absurd (no count j at)
     no (suc count) (suc j) at = no count j at
 
 -- how far a job is
-stage_as : (job : Job) (at : Stage) (told : Answer) (it : Place) → place_of job at told ≡ it → at ≡ stage_of it
+stage_as : (job : Job) (at : Stage) (told : Answer) (it : JobPlace) → place_of job at told ≡ it → at ≡ stage_of it
 stage_as job at told it is = same job at told ∙ ap stage_of is
   where
     last : (lost : Option Errno) (told : Answer) → lost ≡ lost_in (last_of lost told)
@@ -168,7 +168,7 @@ module _ {starts : List HostSeat} {jobs : List Job} {stages : List Stage} {answe
   pub answers_in : AllEnded placed.at → answers ≡ map answer_at placed.at
   answers_in ended = answers_all jobs stages answers parts.each_stage parts.each_answer
       (subst AllEnded (sym at_view) ended) parts.cut
-      ∙ ap (λ (l : List Place). map answer_at l) at_view
+      ∙ ap (λ (l : List JobPlace). map answer_at l) at_view
 
   -- the place of this number
   module _ (j : ℕ) (inside : j < length placed.at) where
@@ -189,12 +189,12 @@ module _ {starts : List HostSeat} {jobs : List Job} {stages : List Stage} {answe
 
     -- it is what its parts say
     parts_there : (job : Job) (at : Stage) → slice_get jobs j ≡ Some job → slice_get stages j ≡ Some at →
-        (it : Place) → slice_get placed.at j ≡ Some it → place_of job at answer_there.0 ≡ it
+        (it : JobPlace) → slice_get placed.at j ≡ Some it → place_of job at answer_there.0 ≡ it
     parts_there job at job_at stage_at it there = same_Some (place_of job at answer_there.0) it
         (sym (get_all jobs stages answers j job at answer_there.0 job_at stage_at answer_there.1)
-        ∙ ap (λ (l : List Place). slice_get l j) at_view ∙ there)
+        ∙ ap (λ (l : List JobPlace). slice_get l j) at_view ∙ there)
 
-    pub stage_is : (seen : Stage) → seen ≡ get_or stages j seen → (it : Place) → slice_get placed.at j ≡ Some it →
+    pub stage_is : (seen : Stage) → seen ≡ get_or stages j seen → (it : JobPlace) → slice_get placed.at j ≡ Some it →
         seen ≡ stage_of it
     stage_is seen read it there =
         let job = got jobs j in_jobs in
@@ -221,7 +221,7 @@ module _ {starts : List HostSeat} {jobs : List Job} {stages : List Stage} {answe
         ap (λ (l : List Answer). places_in (slice_set jobs j job) (slice_set stages j (stage.Goes index)) l)
         (set-same answers j answer_there.0 answer_there.1)
         ∙ set_all jobs stages answers j job (stage.Goes index) answer_there.0
-        ∙ ap (λ (l : List Place). slice_set l j (Goes index)) at_view
+        ∙ ap (λ (l : List JobPlace). slice_set l j (Goes index)) at_view
 
     pub begun_parts : (job : Job) (index : ℕ) →
         InParts starts (slice_set jobs j job) (slice_set stages j (stage.Goes index)) answers
@@ -264,8 +264,8 @@ module _ {starts : List HostSeat} {jobs : List Job} {stages : List Stage} {answe
         ap (λ (l : List Job). places_in l (slice_set stages j (stage.Ended (lost_in over.last) over.lost))
         (slice_set answers j (answer_of over.last))) (set-same jobs j job.0 job.1)
         ∙ set_all jobs stages answers j job.0 (stage.Ended (lost_in over.last) over.lost) (answer_of over.last)
-        ∙ ap (λ (p : Place). slice_set (places_in jobs stages answers) j p) (over_kept job.0 over)
-        ∙ ap (λ (l : List Place). slice_set l j (Ended over)) at_view
+        ∙ ap (λ (p : JobPlace). slice_set (places_in jobs stages answers) j p) (over_kept job.0 over)
+        ∙ ap (λ (l : List JobPlace). slice_set l j (Ended over)) at_view
 
     pub over_parts : (over : Over) →
         InParts starts jobs (slice_set stages j (stage.Ended (lost_in over.last) over.lost))

@@ -7,7 +7,7 @@ use Rattle.pt_host.specs.declared.seat.HostSeat.{HostSeat}
 use Rattle.pt_fs.specs.Each.{EachAnswered, EndsAs}
 use Rattle.pt_fs.specs.Jobs.{job_seat, job_start}
 use Rattle.pt_fs.specs.Laid.{Lies, runs_in, runs_of, state_at, states_in, waiting}
-use Rattle.pt_fs.specs.Placed.{Place, Placed, Waits, Goes, Ended as Ends, AllEnded, answer_at}
+use Rattle.pt_fs.specs.Placed.{JobPlace, Placed, Waits, Goes, Ended as Ends, AllEnded, answer_at}
 use Rattle.pt_fs.specs.Running.{Running, State}
 use Rattle.pt_fs.specs.Went.{run_seat}
 use Rattle.pt_fs.specs.declared.job.Job.{Job}
@@ -90,7 +90,7 @@ runs_waiting (job ∷ jobs) going = ap (λ (l : List Running). waiting job ∷ l
 
 -- Where all have ended.
 
-pub each_told : (starts : List HostSeat) (seats : List (Option HostSeat)) (places : List Place)
+pub each_told : (starts : List HostSeat) (seats : List (Option HostSeat)) (places : List JobPlace)
     (going : List Machine) → length starts ≡ length places → length seats ≡ length places → AllEnded places →
     EachAnswered (runs_of starts seats (states_in places going)) (map answer_at places)
 each_told [] seats [] going one two ended = tt
@@ -103,7 +103,7 @@ each_told (a ∷ starts) (b ∷ seats) (p ∷ places) going one two ended = (
   each_told starts seats places going (omega (arith, one)) (omega (arith, two)) (λ j it at. ended (suc j) it at),
 )
   where
-    told : (p : Place) → (over : Over) × (p ≡ Ends over) → EndsAs (run_of a b (state_at going p)) (answer_at p)
+    told : (p : JobPlace) → (over : Over) × (p ≡ Ends over) → EndsAs (run_of a b (state_at going p)) (answer_at p)
     told (Waits job) is = let no = is.1 in absurd (cc)
     told (Goes index) is = let no = is.1 in absurd (cc)
     told (Ends over) is = (over.last, (λ plan. refl), refl)

@@ -32,12 +32,12 @@ use Rattle.pt_fs.proofs.Laws.{Stops, Comes, unmade_edit}
 use Rattle.pt_fs.proofs.SeatsAt.{seats_at, seats_answer, nones_at}
 
 -- a seat's capabilities are 32 bits
-abbrev Fits : HostSeat → Type 0
-Fits seat = seat.eff_caps.0 < 2 ^ 32
+abbrev IsOf32Bits : HostSeat → Type 0
+IsOf32Bits seat = seat.eff_caps.0 < 2 ^ 32
 
 -- however it came to its end
 stops_seated : (plan : Plan) (seat : HostSeat) (asked : Asked) (steps : List Step) → IsStartingSeat seat →
-    Fits seat → AllMayBeTold steps → AllSeatsAnswer seat steps → Stops plan seat asked steps →
+    IsOf32Bits seat → AllMayBeTold steps → AllSeatsAnswer seat steps → Stops plan seat asked steps →
     IsSeated (role_for plan seat asked) seat steps
 stops_seated plan seat asked steps s f t a (inl lost) =
     asked_seated plan seat asked steps (finish.Lost lost.0) s f t a lost.1
@@ -47,7 +47,7 @@ stops_seated plan seat asked steps s f t a (inr gone) =
     (subst (AllSeatsAnswer seat) gone.2 a) gone.4 gone.3)
 
 comes_seated : (plan : Plan) (it : Job) (steps : List Step) (told : Answer) → IsStartingSeat (job_start it) →
-    Fits (job_start it) → AllMayBeTold steps → AllSeatsAnswer (job_start it) steps → Comes plan it steps told →
+    IsOf32Bits (job_start it) → AllMayBeTold steps → AllSeatsAnswer (job_start it) steps → Comes plan it steps told →
     IsSeated (role_for plan (job_start it) (asked_of it)) (job_start it) steps
 comes_seated plan it steps told s f t a (inl b) =
     asked_seated plan (job_start it) (asked_of it) steps (finish.Answer told) s f t a b
@@ -81,7 +81,7 @@ module _ {H : Type 0} (does : HostRelation H) (faults : H → ℕ) (p : Promises
     (runs : TraceRuns does trace h0 s0 r0 h1 s1 r1) (j : ℕ) where
   -- a job with a seat
   seated_from : (it : Job) (told : Answer) → slice_get s0 j ≡ Some (Some (job_start it)) →
-      IsStartingSeat (job_start it) → Fits (job_start it) → AllMayBeTold (steps_by j trace) →
+      IsStartingSeat (job_start it) → IsOf32Bits (job_start it) → AllMayBeTold (steps_by j trace) →
       Comes plan it (steps_by j trace) told →
       IsSeated (role_for plan (job_start it) (asked_of it)) (job_start it) (steps_by j trace)
   seated_from it told is starts fits may comes =
@@ -89,7 +89,7 @@ module _ {H : Type 0} (does : HostRelation H) (faults : H → ℕ) (p : Promises
       (seats_answer does faults p trace h0 h1 s0 s1 r0 r1 runs j (job_start it) is) comes
 
   pub seated_job : (it : Job) (told : Answer) (seat : HostSeat) → slice_get s0 j ≡ Some (job_seat it) →
-      IsStartingSeat (job_start it) → Fits (job_start it) → AllMayBeTold (steps_by j trace) →
+      IsStartingSeat (job_start it) → IsOf32Bits (job_start it) → AllMayBeTold (steps_by j trace) →
       Comes plan it (steps_by j trace) told →
       job_seat it ≡ Some seat → IsSeated (role_for plan seat (asked_of it)) seat (steps_by j trace)
   seated_job (job.Request who own asked) told seat is starts fits may comes has =
@@ -102,7 +102,7 @@ module _ {H : Type 0} (does : HostRelation H) (faults : H → ℕ) (p : Promises
 
   -- the seat that it leaves, where it was not lost
   pub seat_kept : (it : Job) (told : Answer) → slice_get s0 j ≡ Some (job_seat it) → IsStartingSeat (job_start it) →
-      Fits (job_start it) → AllMayBeTold (steps_by j trace) → Comes plan it (steps_by j trace) told →
+      IsOf32Bits (job_start it) → AllMayBeTold (steps_by j trace) → Comes plan it (steps_by j trace) told →
       (past_of (steps_by j trace)).lost ≡ None → slice_get s1 j ≡ Some (job_seat it)
   seat_kept (job.Request who own asked) told is starts fits may comes none =
       seats_at does faults p trace h0 h1 s0 s1 r0 r1 runs j own is
@@ -115,7 +115,7 @@ module _ {H : Type 0} (does : HostRelation H) (faults : H → ℕ) (p : Promises
 
   unrefused_from : (it : Job) (end errno : Errno) (xs ys : List Step) (x : Step) →
       slice_get s0 j ≡ Some (Some (job_start it)) → IsStartingSeat (job_start it) →
-      Fits (job_start it) → AllMayBeTold (steps_by j trace) → steps_by j trace ≡ xs ++ x ∷ ys →
+      IsOf32Bits (job_start it) → AllMayBeTold (steps_by j trace) → steps_by j trace ≡ xs ++ x ∷ ys →
       Belongs (job_grammar plan it) (steps_by j trace) (finish.Lost end) → (past_of xs).lost ≡ None →
       IsRestoringStep (past_of xs).worn x.deed → x.reply ≡ Host (Refused errno) → ⊥
   unrefused_from it end errno xs ys x is starts fits may e b none restoring told =
@@ -126,7 +126,7 @@ module _ {H : Type 0} (does : HostRelation H) (faults : H → ℕ) (p : Promises
 
   -- the step at which a job lost its seat is none that was refused
   pub unrefused_job : (it : Job) (end errno : Errno) (xs ys : List Step) (x : Step) →
-      slice_get s0 j ≡ Some (job_seat it) → IsStartingSeat (job_start it) → Fits (job_start it) →
+      slice_get s0 j ≡ Some (job_seat it) → IsStartingSeat (job_start it) → IsOf32Bits (job_start it) →
       AllMayBeTold (steps_by j trace) →
       steps_by j trace ≡ xs ++ x ∷ ys → Belongs (job_grammar plan it) (steps_by j trace) (finish.Lost end) →
       (past_of xs).lost ≡ None → IsRestoringStep (past_of xs).worn x.deed → x.reply ≡ Host (Refused errno) → ⊥

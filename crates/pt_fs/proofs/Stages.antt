@@ -10,7 +10,7 @@ use Rattle.pt_attr.specs.Pattern.{Asked, Requests, Edits, grammar_for}
 use Rattle.pt_req.specs.declared.plan.Plan.{Plan}
 use Rattle.pt_fs.specs.Jobs.{asked_of}
 use Rattle.pt_fs.specs.Laid.{Lies, found_state, runs_in, state_at}
-use Rattle.pt_fs.specs.Placed.{Place, Placed, Waits, Goes, Ended as Ends, stage_of}
+use Rattle.pt_fs.specs.Placed.{JobPlace, Placed, Waits, Goes, Ended as Ends, stage_of}
 use Rattle.pt_fs.specs.Running.{Running, State, Waits as Awaits, Goes as On, owes}
 use Rattle.pt_fs.specs.declared.job.Job.{Job}
 use Rattle.pt_fs.specs.declared.machine.Machine.{Machine}
@@ -23,41 +23,41 @@ use Rattle.pt_fs.proofs.Runs.{parts, within_places}
 
 -- The place of a job whose stage this is.
 
-waits_as : (it : Place) → stage.Waits ≡ stage_of it → (job : Job) × (it ≡ Waits job)
+waits_as : (it : JobPlace) → stage.Waits ≡ stage_of it → (job : Job) × (it ≡ Waits job)
 waits_as (Waits job) is = (job, refl)
 waits_as (Goes index) is = absurd (cc)
 waits_as (Ends over) is = absurd (cc)
 
-goes_as : (it : Place) (index : ℕ) → stage.Goes index ≡ stage_of it → it ≡ Goes index
+goes_as : (it : JobPlace) (index : ℕ) → stage.Goes index ≡ stage_of it → it ≡ Goes index
 goes_as (Waits job) index is = absurd (cc)
 goes_as (Goes other) index is = let same : other ≡ index = cc in ap (λ (n : ℕ). Goes n) same
 goes_as (Ends over) index is = absurd (cc)
 
-ended_as : (it : Place) (by lost : Option Errno) → stage.Ended by lost ≡ stage_of it →
+ended_as : (it : JobPlace) (by lost : Option Errno) → stage.Ended by lost ≡ stage_of it →
     (over : Over) × (it ≡ Ends over)
 ended_as (Waits job) by lost is = absurd (cc)
 ended_as (Goes index) by lost is = absurd (cc)
 ended_as (Ends over) by lost is = (over, refl)
 
-module _ (places : List Place) (j : ℕ) (inside : j < length places) {at : Stage}
-    (told : (it : Place) → slice_get places j ≡ Some it → at ≡ stage_of it) where
+module _ (places : List JobPlace) (j : ℕ) (inside : j < length places) {at : Stage}
+    (told : (it : JobPlace) → slice_get places j ≡ Some it → at ≡ stage_of it) where
   pub waits_at : at ≡ stage.Waits → (job : Job) × (slice_get places j ≡ Some (Waits job))
   waits_at is =
       let it = got places j inside in
       let so = waits_as it.0 (sym is ∙ told it.0 it.1) in
-      (so.0, it.1 ∙ ap (λ (p : Place). Some p) so.1)
+      (so.0, it.1 ∙ ap (λ (p : JobPlace). Some p) so.1)
 
   pub goes_at : (index : ℕ) → at ≡ stage.Goes index → slice_get places j ≡ Some (Goes index)
   goes_at index is =
       let it = got places j inside in
-      it.1 ∙ ap (λ (p : Place). Some p) (goes_as it.0 index (sym is ∙ told it.0 it.1))
+      it.1 ∙ ap (λ (p : JobPlace). Some p) (goes_as it.0 index (sym is ∙ told it.0 it.1))
 
   pub ended_at : (by lost : Option Errno) → at ≡ stage.Ended by lost →
       (over : Over) × (slice_get places j ≡ Some (Ends over))
   ended_at by lost is =
       let it = got places j inside in
       let so = ended_as it.0 by lost (sym is ∙ told it.0 it.1) in
-      (so.0, it.1 ∙ ap (λ (p : Place). Some p) so.1)
+      (so.0, it.1 ∙ ap (λ (p : JobPlace). Some p) so.1)
 
 -- a job that waits has not finished
 pub waits_on : (plan : Plan) (seat : HostSeat) (asked : Asked) → is_end (grammar_for plan seat asked) ≡ false
@@ -83,7 +83,7 @@ waits_settled plan seat (Requests who asked) = tt
 waits_settled plan seat (Edits edit) = tt
 
 -- a job that waits or has ended restores nothing
-pub rests : (going : List Machine) (p : Place) (at : Stage) → at ≡ stage_of p →
+pub rests : (going : List Machine) (p : JobPlace) (at : Stage) → at ≡ stage_of p →
     ((at ≡ stage.Waits) ⊎ ((by : Option Errno) × (lost : Option Errno) × (at ≡ stage.Ended by lost))) → (plan : Plan)
     (seat : HostSeat) → (false ≡ restores (owes plan seat (state_at going p)))
     × IsSettled (owes plan seat (state_at going p))
@@ -100,12 +100,12 @@ rests going (Goes index) at is (inr ended) plan seat = let no = sym is ∙ ended
 module _ {places : Placed} {seats : List (Option HostSeat)} {going : List Machine} {room : ℕ}
     (lies : Lies places seats going room) {running : List Running} (view : runs_in places seats going ≡ running)
     (j : ℕ) (named : j < length running) {at : Stage}
-    (told : (it : Place) → slice_get places.at j ≡ Some it → at ≡ stage_of it) where
+    (told : (it : JobPlace) → slice_get places.at j ≡ Some it → at ≡ stage_of it) where
   inside : j < length places.at
   inside = within_places lies view j named
 
   -- it is what the place says
-  is_there : (p : Place) (run : Running) → slice_get places.at j ≡ Some p → slice_get running j ≡ Some run →
+  is_there : (p : JobPlace) (run : Running) → slice_get places.at j ≡ Some p → slice_get running j ≡ Some run →
       state_at going p ≡ run.state
   is_there p run at_j there = same_Some (state_at going p) run.state
       (sym (states_at places.at going j p at_j) ∙ (parts lies view j run there).state)

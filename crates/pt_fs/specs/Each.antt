@@ -13,7 +13,7 @@ use Rattle.pt_fs.specs.declared.job.Job.{Job}
 use Rattle.pt_fs.specs.Running.{Running}
 
 -- the job has its seat, if any, and from that seat, whose capabilities are 32 bits, owes all of what it asks
-pub record IsStarted (plan : Plan) (job : Job) (run : Running) : Type 0 where
+pub record IsBegun (plan : Plan) (job : Job) (run : Running) : Type 0 where
   pub seat : run.seat ≡ job_seat job
   pub start : run.start ≡ job_start job
   pub fits : run.start.eff_caps.0 < 2 ^ 32
@@ -24,7 +24,7 @@ pub record IsStarted (plan : Plan) (job : Job) (run : Running) : Type 0 where
 
 abbrev pub EachStarted : Plan → List Job → List Running → Type 0
 EachStarted plan [] [] = Unit {0}
-EachStarted plan (job ∷ jobs) (run ∷ running) = IsStarted plan job run × EachStarted plan jobs running
+EachStarted plan (job ∷ jobs) (run ∷ running) = IsBegun plan job run × EachStarted plan jobs running
 EachStarted plan [] (run ∷ running) = ⊥
 EachStarted plan (job ∷ jobs) [] = ⊥
 

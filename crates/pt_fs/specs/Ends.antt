@@ -153,7 +153,7 @@ pub record LosesSeat
   pub left_as : OfEachJob jobs answers (IsLeftAs plan lost errno front.left (before ++ step ∷ []) (others ++ back))
 
 -- the run ended so: whole, or with this job's seat lost by this error
-abbrev pub EndsSo :
+abbrev pub RunEndsSo :
     {H : Type 0} →
     (does : HostRelation H) →
     (faults : H → ℕ) →
@@ -166,8 +166,8 @@ abbrev pub EndsSo :
     (answers : List Answer) →
     (lost : Option (ℕ × Errno)) →
     Type 0
-EndsSo does faults plan jobs schedule host tables trace answers None = EndsWhole plan jobs schedule trace answers
-EndsSo does faults plan jobs schedule host tables trace answers (Some lost) =
+RunEndsSo does faults plan jobs schedule host tables trace answers None = EndsWhole plan jobs schedule trace answers
+RunEndsSo does faults plan jobs schedule host tables trace answers (Some lost) =
     LosesSeat does faults plan jobs schedule host tables trace answers lost.0 lost.1
 
 -- of what a run left, however it ended

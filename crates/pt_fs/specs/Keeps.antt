@@ -26,7 +26,7 @@ use Rattle.pt_law.specs.Laws.{ObjectOf, AreDistinct, HasObject, IsCounted, IsSta
 use Rattle.pt_law.specs.Laws.{IsOvertaken, TellsGiven, IsHonoured, NamesOpen, LeavesRows}
 use Rattle.pt_law.specs.Ledger.{given, inserted, handle_inserted, standing, slots_taken, slots_given}
 use Rattle.pt_law.specs.Origins.{WasRoot, WasNamed}
-use Rattle.pt_law.specs.Settled.{IsSettled}
+use Rattle.pt_law.specs.Settled.{HasSettled}
 use Rattle.pt_law.specs.Under.{IsSeated}
 use Rattle.pt_law.specs.Uses.{StaysLive}
 use Rattle.pt_law.specs.World.{Turn, World, TablesRun, no_past, Runs as WorldRuns}
@@ -136,7 +136,7 @@ OfEachJob jobs answers P =
 -- What a job was given it gave back: numbers, but for the one that its answer has, pins, descriptors, slots; it took
 -- the closings that it was told of; and a handle that it inserted its answer has.
 pub record GivesAllBack (trace : List TraceStep) (j : ℕ) (job : Job) (told : Answer) : Type 0 where
-  pub settled : IsSettled (steps_by j trace) (finish.Answer told)
+  pub settled : HasSettled (steps_by j trace) (finish.Answer told)
   pub slots : slots_taken (steps_by j trace) ≡ slots_given (steps_by j trace)
   pub handle : KeepsHandle (steps_by j trace) told
 

@@ -11,7 +11,7 @@ use Rattle.pt_fs.specs.Running.{Waits, Goes, Ended, State, Running, owes, steps_
 use Rattle.pt_fs.specs.Running.{is_finished, lost_of}
 use Rattle.pt_fs.specs.declared.job.Job.{Job}
 use Rattle.pt_fs.specs.declared.machine.Machine.{Machine}
-use Rattle.pt_fs.specs.Placed.{Place, Placed, Waits as Awaits, Goes as Runs, Ended as Ends}
+use Rattle.pt_fs.specs.Placed.{JobPlace, Placed, Waits as Awaits, Goes as Runs, Ended as Ends}
 
 -- a job before its first step
 abbrev pub waiting : Job → Running
@@ -25,13 +25,13 @@ abbrev pub found_state : Option Machine → State
 found_state None = nowhere
 found_state (Some it) = Goes it.state
 
-abbrev pub state_at : List Machine → Place → State
+abbrev pub state_at : List Machine → JobPlace → State
 state_at going (Awaits job) = Waits (asked_of job)
 state_at going (Runs index) = found_state (slice_get going index)
 state_at going (Ends over) = Ended over.last over.lost
 
 -- where the jobs are, in order
-abbrev pub states_in : List Place → List Machine → List State
+abbrev pub states_in : List JobPlace → List Machine → List State
 states_in places going = map (state_at going) places
 
 -- the jobs from the seats with which they began, their seats as their steps left them, and where they are
@@ -44,17 +44,17 @@ abbrev pub runs_in : Placed → List (Option HostSeat) → List Machine → List
 runs_in places seats going = runs_of places.starts seats (states_in places.at going)
 
 -- how many have made no step
-abbrev pub waits : Place → ℕ
+abbrev pub waits : JobPlace → ℕ
 waits (Awaits job) = 1
 waits (Runs index) = 0
 waits (Ends over) = 0
 
-abbrev pub still : List Place → ℕ
+abbrev pub still : List JobPlace → ℕ
 still [] = 0
 still (one ∷ places) = waits one + still places
 
 -- each place that names a machine names its own, and each machine is that which its place names
-pub record Laid (places : List Place) (going : List Machine) : Type 0 where
+pub record Laid (places : List JobPlace) (going : List Machine) : Type 0 where
   pub there : (j index : ℕ) → slice_get places j ≡ Some (Runs index) →
       (it : Machine) × (slice_get going index ≡ Some it) × (it.place ≡ j)
   pub back : (index : ℕ) (it : Machine) → slice_get going index ≡ Some it →
@@ -71,7 +71,7 @@ AllGo going = (index : ℕ) (it : Machine) → slice_get going index ≡ Some it
 
 -- The jobs lie well: each with its machine, none of which has finished, and so many fit that each that waits has room
 -- for its own.
-pub record Kept (places : List Place) (going : List Machine) (room : ℕ) : Type 0 where
+pub record Kept (places : List JobPlace) (going : List Machine) (room : ℕ) : Type 0 where
   pub laid : Laid places going
   pub all_go : AllGo going
   pub fit : still places + length going ≤ room
@@ -83,7 +83,7 @@ pub record Lies (places : Placed) (seats : List (Option HostSeat)) (going : List
   pub each_seat : length seats ≡ length places.at
 
 -- the job is where it was, whatever way that is kept
-pub record Stays (state state' : State) : Type 0 where
+pub record StaysAsIs (state state' : State) : Type 0 where
   pub left : (plan : Plan) (seat : HostSeat) → owes plan seat state' ≡ owes plan seat state
   pub finished : is_finished state' ≡ is_finished state
   pub lost : lost_of state' ≡ lost_of state
@@ -92,21 +92,26 @@ pub record Stays (state state' : State) : Type 0 where
   pub inserts : inserts_left state' ≤ inserts_left state
 
 -- the job of this place has this machine now, and the others are where they were
-pub record Wakes (places : List Place) (going : List Machine) (j : ℕ) (places' : List Place) (going' : List Machine)
+pub record Wakes
+    (places : List JobPlace)
+    (going : List Machine)
+    (j : ℕ)
+    (places' : List JobPlace)
+    (going' : List Machine)
     (index : ℕ) : Type 0 where
   pub state : State
   pub it : Machine
   pub was : slice_get (states_in places going) j ≡ Some state
   pub there : slice_get going' index ≡ Some it
   pub own : it.place ≡ j
-  pub stays : Stays state (Goes it.state)
+  pub stays : StaysAsIs state (Goes it.state)
   pub runs : states_in places' going' ≡ slice_set (states_in places going) j (Goes it.state)
 
 -- the job of this place needs no machine where it has finished, and the others are where they were
-pub record Settles (places : List Place) (going : List Machine) (j index : ℕ) (places' : List Place)
+pub record Settles (places : List JobPlace) (going : List Machine) (j index : ℕ) (places' : List JobPlace)
     (going' : List Machine) : Type 0 where
   pub it : Machine
   pub state : State
   pub was : slice_get going index ≡ Some it
-  pub stays : Stays (Goes it.state) state
+  pub stays : StaysAsIs (Goes it.state) state
   pub runs : states_in places' going' ≡ slice_set (states_in places going) j state

@@ -13,15 +13,15 @@ use Rattle.pt_fs.specs.declared.places.Stage.{Stage}
 use Rattle.pt_fs.specs.declared.places.Stage.TheVariants as stage
 
 -- it has made no step, its machine is this one, or it has ended
-pub data Place : Type 0 where
-  Waits : Job → Place
-  Goes : ℕ → Place
-  Ended : Over → Place
+pub data JobPlace : Type 0 where
+  Waits : Job → JobPlace
+  Goes : ℕ → JobPlace
+  Ended : Over → JobPlace
 
 -- the seats with which the jobs began, and where each is
 pub record Placed : Type 0 where
   pub starts : List HostSeat
-  pub at : List Place
+  pub at : List JobPlace
 
 -- the error by which a job ended that lost its seat
 abbrev pub lost_in : Finish → Option Errno
@@ -33,19 +33,19 @@ abbrev pub last_of : Option Errno → Answer → Finish
 last_of None told = finish.Answer told
 last_of (Some errno) told = finish.Lost errno
 
-abbrev pub stage_of : Place → Stage
+abbrev pub stage_of : JobPlace → Stage
 stage_of (Waits job) = stage.Waits
 stage_of (Goes index) = stage.Goes index
 stage_of (Ended over) = stage.Ended (lost_in over.last) over.lost
 
 -- a place from its parts
-abbrev pub place_of : Job → Stage → Answer → Place
+abbrev pub place_of : Job → Stage → Answer → JobPlace
 place_of job stage.Waits told = Waits job
 place_of job (stage.Goes index) told = Goes index
 place_of job (stage.Ended last lost) told = Ended (record { last = last_of last told; lost = lost })
 
 -- the places in order, as many as there are all parts of
-abbrev pub places_in : List Job → List Stage → List Answer → List Place
+abbrev pub places_in : List Job → List Stage → List Answer → List JobPlace
 places_in (job ∷ jobs) (stage ∷ stages) (told ∷ answers) = place_of job stage told ∷ places_in jobs stages answers
 places_in jobs stages answers = []
 
@@ -67,10 +67,10 @@ pub record InParts (starts : List HostSeat) (jobs : List Job) (stages : List Sta
   pub cut : CutWhereLost stages answers
 
 -- the answer of a job that has ended
-abbrev pub answer_at : Place → Answer
+abbrev pub answer_at : JobPlace → Answer
 answer_at (Waits job) = answer.Cut
 answer_at (Goes index) = answer.Cut
 answer_at (Ended over) = answer_of over.last
 
-abbrev pub AllEnded : List Place → Type 0
-AllEnded places = (j : ℕ) (it : Place) → slice_get places j ≡ Some it → (over : Over) × (it ≡ Ended over)
+abbrev pub AllEnded : List JobPlace → Type 0
+AllEnded places = (j : ℕ) (it : JobPlace) → slice_get places j ≡ Some it → (over : Over) × (it ≡ Ended over)

@@ -5,7 +5,7 @@ ghost use Rattle.pt_attr.specs.Machine.Job.{owes, is_finished, lost_of};
 ghost use Rattle.pt_req.specs.declared.plan.Plan.{Plan};
 ghost use Rattle.pt_attr.specs.Pattern.{Requests};
 ghost use Rattle.pt_fs.specs.Jobs.{asked_of, no_seat};
-ghost use Rattle.pt_fs.specs.Laid.{Stays};
+ghost use Rattle.pt_fs.specs.Laid.{StaysAsIs};
 ghost use Rattle.pt_fs.specs.Running.{Goes, Waits};
 
 use crate::job::Job;
@@ -51,7 +51,7 @@ pub fn no_seat() -> HostSeat
 /// The machine of a request that has made no step.
 fn begun_request(place: usize, who: Context, request: Request) -> Machine
     ensures place { result.place ≡ place }
-    ensures stays { Stays (Waits (Requests who request)) (Goes result.state) }
+    ensures stays { StaysAsIs (Waits (Requests who request)) (Goes result.state) }
 {
     let state = AnyJob::begin(who, request);
     Machine { place, state }
@@ -60,7 +60,7 @@ fn begun_request(place: usize, who: Context, request: Request) -> Machine
 /// The machine of a job that has made no step. The root is opened by the daemon itself.
 pub fn begun(place: usize, job: Job) -> Machine
     ensures place { result.place ≡ place }
-    ensures stays { Stays (Waits (asked_of job)) (Goes result.state) }
+    ensures stays { StaysAsIs (Waits (asked_of job)) (Goes result.state) }
 {
     match job {
         Job::Request(who, _, request) => begun_request(place, who, request),

@@ -5,7 +5,7 @@ ghost use Rattle.pt_host.specs.Words.{Each};
 ghost use Rattle.pt_host.specs.declared.seat.HostSeat.{HostSeat};
 ghost use Rattle.pt_iface.specs.declared.answer.Answer.{Answer};
 ghost use Rattle.pt_fs.specs.Jobs.{job_seat, job_start};
-ghost use Rattle.pt_fs.specs.Placed.{Ended, Goes, Place, Waits, AllEnded, answer_at, lost_in, stage_of};
+ghost use Rattle.pt_fs.specs.Placed.{Ended, Goes, JobPlace, Waits, AllEnded, answer_at, lost_in, stage_of};
 ghost use Rattle.pt_fs.specs.declared.job.Job.{Job};
 
 use crate::ends::answered;
@@ -147,7 +147,7 @@ impl Places {
     /// How far the job of this number is.
     pub fn stage(&self, place: usize) -> Stage
         requires named { place < length self.now.at }
-        ensures { (it : Place) → slice_get self.now.at place ≡ Some it → result ≡ stage_of it }
+        ensures { (it : JobPlace) → slice_get self.now.at place ≡ Some it → result ≡ stage_of it }
     {
         self.stages[place]
     }

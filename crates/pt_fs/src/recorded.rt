@@ -3,7 +3,7 @@
 ghost use Rattle.std.specs.Prelude.{◌≡◌, ◌<◌, ◌^◌, ℕ, length, map};
 ghost use Rattle.pt_session.specs.Tables.{empty_tables};
 ghost use Rattle.pt_fs.specs.Each.{EachAnswered};
-ghost use Rattle.pt_fs.specs.Ends.{EndsSo};
+ghost use Rattle.pt_fs.specs.Ends.{RunEndsSo};
 ghost use Rattle.pt_fs.specs.Jobs.{StartAll};
 ghost use Rattle.pt_fs.specs.Recorded.{OnEnd, OnNoRoom, OnUnwritten, Wrote};
 ghost use Rattle.pt_fs.specs.Run.{IsRun};
@@ -65,7 +65,7 @@ pub fn drive_into<H: Host, F: SteppedFs, R: Record>(
     ensures run { OnEnd result (λ left lost. Wrote R.wrote writer.old writer.new (λ trace.
         IsRun H.does (F.plan_of fs) jobs.items host.old (H.tree host.old) (F.tables fs)
         trace left.answers.items host.new (H.tree host.new) (seated left.seats.items) (F.tables left.fs)
-        × EndsSo H.does H.faults (F.plan_of fs) jobs.items schedule.now host.old (F.tables fs) trace
+        × RunEndsSo H.does H.faults (F.plan_of fs) jobs.items schedule.now host.old (F.tables fs) trace
         left.answers.items lost)) }
 
     // Each job has its seat's place, also an edit, which has none.

@@ -16,7 +16,7 @@ use Rattle.pt_frame.specs.declared.finish.Finish.TheVariants as finish
 use Rattle.pt_law.specs.Naming.{made}
 use Rattle.pt_law.specs.Origins.{opening_root}
 use Rattle.pt_law.specs.Ledger.{summed, fd_taken, fd_given}
-use Rattle.pt_law.specs.Settled.{IsSettled}
+use Rattle.pt_law.specs.Settled.{HasSettled}
 
 abbrev fd : Fd
 fd = record { 0 = 3 }
@@ -30,7 +30,7 @@ opening = opening_root (47 ∷ []) path fd
 abbrev closing : Step
 closing = made (Calls (call.Close fd)) (Host (host.Ok value.Unit))
 
-pub keeps_it : IsSettled (opening ∷ []) (finish.Answer answer.Done) → ⊥
+pub keeps_it : HasSettled (opening ∷ []) (finish.Answer answer.Done) → ⊥
 unfolding is
 keeps_it settled = let e = settled.fds 3 in absurd (omega (arith, e))
 

@@ -13,7 +13,7 @@ use Rattle.pt_law.specs.Discipline.{Shifts, Job, idle, MovesIf, Disciplined, Com
 use Rattle.pt_law.specs.Ledger.{weighed, summed, fd_taken, fd_given, fds_carried, pin_made, pin_ended}
 use Rattle.pt_law.proofs.Flows.{fd_held}
 use Rattle.pt_law.specs.Ledger.{handle_pin_made, handle_pin_ended, closing_ended}
-use Rattle.pt_law.specs.Settled.{IsSettled}
+use Rattle.pt_law.specs.Settled.{HasSettled}
 use Rattle.pt_law.proofs.Flows.{pin_held, handle_pin_held}
 use Rattle.pt_law.proofs.Holding.{handed}
 use Rattle.pt_law.proofs.Counting.{owed_flow}
@@ -71,7 +71,7 @@ entry_weighs w z era (finish.Answer (answer.Created entry handle options)) = let
     omega (arith, a)
 entry_weighs w z era _ = refl
 
-pub all_settled : (steps : List Step) (end : Finish) → ComesToEnd idle steps end → IsSettled steps end
+pub all_settled : (steps : List Step) (end : Finish) → ComesToEnd idle steps end → HasSettled steps end
 all_settled steps end e = record {
   numbers = λ number. settled number steps end e;
   pins = λ row.

@@ -27,8 +27,8 @@ abbrev pub owing_job : List Hold → ℕ → Notes → Job
 owing_job holds count notes = record { holds = holds; owed = count; notes = notes }
 
 -- the rest is sound after whatever steps of giving back and closings
-abbrev pub Goes : Grammar → List Hold → ℕ → Notes → Type 0
-Goes rest holds count notes =
+abbrev pub StaysSound : Grammar → List Hold → ℕ → Notes → Type 0
+StaysSound rest holds count notes =
     (later : Notes) → Lasts notes later → Sound rest (owing_job (unscoped holds) count later)
 
 pub lasts_on : (notes later last : Notes) → Lasts notes later → Lasts later last → Lasts notes last

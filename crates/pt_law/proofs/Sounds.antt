@@ -33,7 +33,7 @@ use Rattle.pt_frame.specs.declared.hold.Taken.{Taken}
 use Rattle.pt_frame.specs.declared.hold.Taken.TheVariants as taken
 use Rattle.pt_law.specs.Discipline.{Notes, Job, at_job, notes_after, ended, unless, taken_fd, entry_holds, MovesIf}
 use Rattle.pt_law.specs.Keeps.{After, Lasts, HoldsEntry, Keeps, unscoped, uncovered, down_to}
-use Rattle.pt_law.proofs.Sound.{Sound, Owes, Goes, owing_job, lasts_on}
+use Rattle.pt_law.proofs.Sound.{Sound, Owes, StaysSound, owing_job, lasts_on}
 use Rattle.pt_law.proofs.Unscoped.{opened_on, all_down}
 use Rattle.pt_law.proofs.Moving.{made_moves, giving_lasts, gives_step, may_step, may_bring_none, seat_step}
 use Rattle.pt_law.proofs.Moving.{is_scope_opened, told_of, same_number}
@@ -57,7 +57,7 @@ after_map zero P Q notes b f k = f notes b k
 after_map (suc count) P Q notes b f k = λ later l. f later l.4 (k later l)
 
 goes_on : (rest : Grammar) (holds : List Hold) (count : ℕ) (notes later : Notes) → Lasts notes later →
-    Goes rest holds count notes → Goes rest holds count later
+    StaysSound rest holds count notes → StaysSound rest holds count later
 goes_on rest holds count notes later l k = λ last m. k last (lasts_on notes later last l m)
 
 -- a slot that is given back brings no closing
@@ -68,7 +68,7 @@ gave_none NoCopy = refl
 
 -- what a closing brought
 sound_slot : (count : ℕ) (holds : List Hold) (rest : Grammar) (notes : Notes) → notes.brought ≡ None →
-    Goes rest holds count notes → Sound (give_slot true count holds rest)
+    StaysSound rest holds count notes → Sound (give_slot true count holds rest)
     (owing_job (hold.Slot ∷ unscoped holds) count notes)
 sound_slot count holds rest notes b k = (
   (refl, refl, b),
@@ -85,7 +85,7 @@ none_left : (fd : Fd) (brings : Option Fd) → brings ≡ Some fd → unless fd 
 none_left fd brings e = ap (unless fd) e ∙ ap (λ (b : Bool). if b then None else Some fd) (same_number fd.0)
 
 sound_taken : (brings : Taken) (count : ℕ) (holds : List Hold) (rest : Grammar) (notes : Notes) →
-    notes.brought ≡ taken_fd brings → Goes rest holds count notes →
+    notes.brought ≡ taken_fd brings → StaysSound rest holds count notes →
     Sound (give_taken brings count holds rest) (owing_job (brought brings ++ unscoped holds) count notes)
 sound_taken taken.Nothing count holds rest notes b k = k notes (refl, refl, refl, refl, b)
 sound_taken taken.Slot count holds rest notes b k = sound_slot count holds rest notes b k
@@ -129,7 +129,7 @@ sound_closings (suc count) holds next notes b k = (
 -- a hold is given back
 pub sound_give : (seat : HostSeat) (one : Hold) (holds left : List Hold) (next : Option Errno → Grammar)
     (notes : Notes) → notes.brought ≡ None → Takes one holds left →
-    ((fault : Option Errno) → Goes (next fault) left 0 notes) →
+    ((fault : Option Errno) → StaysSound (next fault) left 0 notes) →
     Sound (give seat one holds left next) (at_job (unscoped holds) notes)
 sound_give seat one holds left next notes b t k = (
   (refl, refl, b),
@@ -236,17 +236,17 @@ takes_under (Some other) one holds = there here
 -- a bracket ends
 pub sound_shut : (seat : HostSeat) (passing : Option Hold) (mark : ℕ) (holds : List Hold)
     (next : List Hold → Grammar) (notes : Notes) → notes.brought ≡ None →
-    Goes (next (under passing (down_to mark holds))) (under passing (down_to mark holds)) 0 notes →
+    StaysSound (next (under passing (down_to mark holds))) (under passing (down_to mark holds)) 0 notes →
     Sound (shut seat passing mark holds next) (at_job (unscoped (under passing holds)) notes)
 sound_shut seat passing mark [] next notes none k = k notes (refl, refl, refl, refl, none)
 sound_shut seat passing mark (one ∷ holds) next notes none k =
     go (nat_lt mark (length (one ∷ holds))) k (sound_shut seat passing mark holds next)
   where
     go : (b : Bool) →
-        Goes (next (under passing (if b then down_to mark holds else one ∷ holds)))
+        StaysSound (next (under passing (if b then down_to mark holds else one ∷ holds)))
         (under passing (if b then down_to mark holds else one ∷ holds)) 0 notes →
         ((later : Notes) → later.brought ≡ None →
-        Goes (next (under passing (down_to mark holds))) (under passing (down_to mark holds)) 0
+        StaysSound (next (under passing (down_to mark holds))) (under passing (down_to mark holds)) 0
         later →
         Sound (shut seat passing mark holds next) (at_job (unscoped (under passing holds)) later)) →
         Sound (if b then give seat one (under passing (one ∷ holds)) (under passing holds) (λ fault.

@@ -52,26 +52,26 @@ MayCall OfSeat names holds = KnowsAll (unscoped holds) names
 MayCall Plain names holds = KnowsAll (unscoped holds) names
 
 -- and this event; what gives a hold back, and the closings, are the frame's
-abbrev pub MayChange : Change → List Hold → Type 0
-MayChange change.Begin holds = Unit {0}
-MayChange (change.Resolve number) holds = Unit {0}
-MayChange (change.Claim era handle ids) holds = Unit {0}
-MayChange change.TakeFd holds = Unit {0}
-MayChange change.DrawNode holds = Unit {0}
-MayChange (change.Insert era number form ids mode) holds = LiesOnSlot (fd_of form) holds
-MayChange (change.InsertRoot era form ids mode agreed) holds = LiesOnSlot (fd_of form) holds
-MayChange (change.Forget list) holds = Unit {0}
-MayChange change.DrawHandle holds = Unit {0}
-MayChange (change.InsertHandle era handle number fd) holds = LiesOnSlot fd holds
-MayChange (change.PinHandle handle number) holds = Unit {0}
-MayChange (change.Release handle number) holds = Unit {0}
-MayChange change.Clear holds = Unit {0}
-MayChange _ holds = ⊥
+abbrev pub MayBeMade : Change → List Hold → Type 0
+MayBeMade change.Begin holds = Unit {0}
+MayBeMade (change.Resolve number) holds = Unit {0}
+MayBeMade (change.Claim era handle ids) holds = Unit {0}
+MayBeMade change.TakeFd holds = Unit {0}
+MayBeMade change.DrawNode holds = Unit {0}
+MayBeMade (change.Insert era number form ids mode) holds = LiesOnSlot (fd_of form) holds
+MayBeMade (change.InsertRoot era form ids mode agreed) holds = LiesOnSlot (fd_of form) holds
+MayBeMade (change.Forget list) holds = Unit {0}
+MayBeMade change.DrawHandle holds = Unit {0}
+MayBeMade (change.InsertHandle era handle number fd) holds = LiesOnSlot fd holds
+MayBeMade (change.PinHandle handle number) holds = Unit {0}
+MayBeMade (change.Release handle number) holds = Unit {0}
+MayBeMade change.Clear holds = Unit {0}
+MayBeMade _ holds = ⊥
 
 abbrev pub MayMake : Deed → List Hold → Notes → Type 0
 MayMake (Calls asked) holds notes =
     MayCall (sort_of asked) (fds_of asked) holds × Fits (at_job (unscoped holds) notes) (Calls asked)
-MayMake (Changes asked) holds notes = MayChange asked holds × Fits (at_job (unscoped holds) notes) (Changes asked)
+MayMake (Changes asked) holds notes = MayBeMade asked holds × Fits (at_job (unscoped holds) notes) (Changes asked)
 
 -- Giving back and closings leave it noted which era it is, whether a root was opened, what number was given and what
 -- was told; what else is noted may change. What closings brought is closed behind them.

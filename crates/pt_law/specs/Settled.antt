@@ -38,7 +38,7 @@ entry_count number (finish.Answer (answer.Created entry handle options)) = is en
 entry_count number end = 0
 
 -- all that a job was given it gave back, but for the number that its answer has
-pub record IsSettled (steps : List Step) (end : Finish) : Type 0 where
+pub record HasSettled (steps : List Step) (end : Finish) : Type 0 where
   -- a number that it was given it gave back, once each
   pub numbers : (number : ℕ) → all_given number steps ≡ all_returned number steps + entry_count number end
   -- it unpinned each row that it had pinned, of a number and of a handle

@@ -13,7 +13,7 @@ ghost use Rattle.pt_law.specs.Discipline.{idle, blank, ComesToEnd};
 ghost use Rattle.pt_law.specs.Told.{StepMayBeTold, AllMayBeTold};
 ghost use Rattle.pt_law.specs.Keeps.{Keeps};
 ghost use Rattle.pt_law.specs.Branch.{TakesNone, IsLost, GaveUp, IsOfBranch};
-ghost use Rattle.pt_law.specs.Settled.{IsSettled};
+ghost use Rattle.pt_law.specs.Settled.{HasSettled};
 
 use pt_host::Host;
 
@@ -34,7 +34,7 @@ pub fn any_course()
     ensures branch { (seat : HostSeat) (tree : RequestTree) (steps : List Step) (end : Finish) →
         Belongs (grammar_of_tree seat tree) steps end →
         IsLost end ⊎ (GaveUp tree steps end ⊎ IsOfBranch tree end steps) }
-    ensures settled { (steps : List Step) (end : Finish) → ComesToEnd idle steps end → IsSettled steps end }
+    ensures settled { (steps : List Step) (end : Finish) → ComesToEnd idle steps end → HasSettled steps end }
 {}
 
 /// What is made of any host and of the tables is told such replies as may come.

@@ -39,7 +39,7 @@ use Rattle.pt_script.specs.Begins.{planned_all, BeginsAs}
 use Rattle.pt_run.specs.Configured.{IsConfigured, configured}
 use Rattle.pt_run.specs.Determined.{IsFull, IsOnly, DeterminesReport}
 use Rattle.pt_run.specs.declared.report.LostJob.{LostJob}
-use Rattle.pt_run.specs.Run.{IsOpened, HasEnded, IsRunFrom, IsReportOf, AreLive}
+use Rattle.pt_run.specs.Run.{IsFsOpened, EndsWholeOrLost, IsRunFrom, IsReportOf, AreLive}
 use Rattle.pt_run.specs.Run.{report_of}
 use Rattle.pt_script.specs.Script.{Begun}
 use Rattle.pt_run.specs.TableLines.{AllAbove}
@@ -146,7 +146,8 @@ record AreOpenedAlike (fs other : FileSystem) (host host' : State) : Type 0 wher
   hosts : host ≡ host'
 
 opened_one : (settings : Settings) (before : State) (fs other : FileSystem) (after after' : State) →
-    IsOpened settings before fs after → IsOpened settings before other after' → AreOpenedAlike fs other after after'
+    IsFsOpened settings before fs after → IsFsOpened settings before other after' →
+    AreOpenedAlike fs other after after'
 opened_one settings before fs other after after' h k =
     let told = h.call.0 in
     let told' = k.call.0 in
@@ -192,7 +193,7 @@ loss_same (Some lost) (Some other) e =
 
 ends_or_loses : (plan : Plan) (jobs : List Job) (schedule : List ℕ) (host : State) (tables : Tables)
     (trace : List TraceStep) (answers : List Answer) (lost : Option LostJob) →
-    HasEnded plan jobs schedule host tables trace answers lost →
+    EndsWholeOrLost plan jobs schedule host tables trace answers lost →
     EndsOrLoses Does (λ (state : State). state.faults) plan jobs schedule host tables trace answers (loss_of lost)
 ends_or_loses plan jobs schedule host tables trace answers None ends = ends
 ends_or_loses plan jobs schedule host tables trace answers (Some lost) ends = ends

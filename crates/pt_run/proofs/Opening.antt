@@ -26,7 +26,7 @@ use Rattle.pt_iface.specs.declared.answer.Refusal.TheVariants as refusal
 use Rattle.pt_req.specs.declared.plan.Config.{Config}
 use Rattle.pt_fs.specs.FileSystem.{FileSystem, AreMapped, IsMadeBy, IsPlanned, IsUnmapped, opens_root, only_path}
 use Rattle.pt_run.specs.Configured.{IsConfigured}
-use Rattle.pt_run.specs.Run.{IsAsked, IsOpened, IsMapRefused, IsRefused, IsNotOpened, IsNoReport}
+use Rattle.pt_run.specs.Run.{IsRootAsked, IsFsOpened, IsMapRefused, IsRefused, IsNotOpened, IsNoReport}
 use Rattle.pt_script.specs.Jobs.{start_seat}
 use Rattle.pt_script.specs.Parse.{IsScriptOf}
 use Rattle.pt_run.proofs.Rooted.{begun_root}
@@ -55,7 +55,7 @@ Made config before seat made after seat_after =
 -- with the seat that the daemon begins with
 is_asked : (settings : Settings) (before : State) (was : HostSeat) (made : Result FileSystem Refusal) (after : State)
     (seat : HostSeat) → was ≡ start_seat settings → seat ≡ was → Asked before was made after seat →
-    IsAsked settings before made after
+    IsRootAsked settings before made after
 is_asked settings before was made after seat starts same asked =
     let from : Does before (start_seat settings) opens_root asked.0 after seat =
     subst (λ (s : HostSeat). Does before s opens_root asked.0 after seat) starts asked.1 in (
@@ -68,7 +68,7 @@ is_asked settings before was made after seat starts same asked =
 pub made_opened : (settings : Settings) (config : Config) (before : State) (was : HostSeat) (fs : FileSystem)
     (after : State) (seat : HostSeat) → IsConfigured settings config → was ≡ start_seat settings → seat ≡ was →
     IsPlanned config fs.plan → fs.tables ≡ empty_tables config.guest_fd_limit →
-    Made config before was (Ok fs) after seat → IsOpened settings before fs after
+    Made config before was (Ok fs) after seat → IsFsOpened settings before fs after
 made_opened settings config before was fs after seat h starts same planned tables (inl asked) = record {
   call = is_asked settings before was (Ok fs) after seat starts same asked.1;
   plan = subst (IsConfigured settings) (sym planned.config) h;
@@ -131,7 +131,7 @@ some_same x y e = cc
 
 -- it is well formed, since the host was sound as the file system was made
 pub opened_well : (settings : Settings) (before : State) (fs : FileSystem) (after : State) →
-    IsOpened settings before fs after → IsWellFormed (tree_of after)
+    IsFsOpened settings before fs after → IsWellFormed (tree_of after)
 opened_well settings before fs after opened =
     let call = opened.call in
     let seat = start_seat settings in

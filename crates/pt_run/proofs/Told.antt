@@ -12,7 +12,7 @@ use Rattle.pt_fs.specs.declared.trace.TraceStep.{TraceStep}
 use Rattle.pt_fs.proofs.OneLoss.{not_whole, one_loss}
 use Rattle.pt_run.specs.Determined.{IsFull}
 use Rattle.pt_run.specs.Report.{lost_lines}
-use Rattle.pt_run.specs.Run.{HasEnded, IsReportOf}
+use Rattle.pt_run.specs.Run.{EndsWholeOrLost, IsReportOf}
 use Rattle.pt_run.specs.declared.report.LostJob.{LostJob}
 use Rattle.pt_run.specs.Alike.{ReportsDetermineRuns, IsFullReport, IsToldBy, TellsRun}
 use Rattle.pt_run.proofs.LinesTell.{lines_tell, listings_same}
@@ -21,15 +21,15 @@ use Rattle.pt_run.proofs.Determined.{only}
 -- the trace tells whether a seat was lost
 lost_none : (plan : Plan) (jobs : List Job) (schedule : List ℕ) (host : State) (tables : Tables)
     (trace : List TraceStep) (answers : List Answer) (lost : Option LostJob) → LosesNone trace →
-    HasEnded plan jobs schedule host tables trace answers lost → lost ≡ None
+    EndsWholeOrLost plan jobs schedule host tables trace answers lost → lost ≡ None
 lost_none plan jobs schedule host tables trace answers None kept ends = refl
 lost_none plan jobs schedule host tables trace answers (Some lost) kept ends = absurd (not_whole ends kept)
 
 -- and whose
 lost_one : (plan plan' : Plan) (jobs jobs' : List Job) (schedule schedule' : List ℕ) (host host' : State)
     (tables tables' : Tables) (trace : List TraceStep) (answers answers' : List Answer) (lost lost' : Option LostJob) →
-    HasEnded plan jobs schedule host tables trace answers lost →
-    HasEnded plan' jobs' schedule' host' tables' trace answers' lost' → lost ≡ lost'
+    EndsWholeOrLost plan jobs schedule host tables trace answers lost →
+    EndsWholeOrLost plan' jobs' schedule' host' tables' trace answers' lost' → lost ≡ lost'
 lost_one plan plan' jobs jobs' schedule schedule' host host' tables tables' trace answers answers' None lost' ends
     more = sym (lost_none plan' jobs' schedule' host' tables' trace answers' lost' ends.loses_none more)
 lost_one plan plan' jobs jobs' schedule schedule' host host' tables tables' trace answers answers' (Some lost) None ends
@@ -44,7 +44,7 @@ alike bytes bytes' report ran again =
     let same = lines_tell ran.trace again.trace ran.answers again.answers ran.lives again.lives ran.handles
     again.handles ran.tables.slots again.tables.slots (listing_of ran.host) (listing_of again.host)
     (lost_lines ran.lost) (lost_lines again.lost) (sym ran.text ∙ again.text) in
-    let ends = subst (λ (trace : List TraceStep). HasEnded ran.run.fs.plan
+    let ends = subst (λ (trace : List TraceStep). EndsWholeOrLost ran.run.fs.plan
     ran.begun.jobs ran.begun.order ran.run.opened_host ran.run.fs.tables trace ran.answers
     ran.lost) same.traces ran.run.ends in
     let lost = lost_one ran.run.fs.plan again.run.fs.plan ran.begun.jobs

@@ -4,9 +4,9 @@ use Rattle.std.specs.Fmt.{signed_decimal}
 use Rattle.pt_run.specs.Output.{IsWritten}
 
 -- these bytes came from the front of the whole, and this is left
-abbrev pub IsTaken : Option (List ℕ) → List ℕ → Option (List ℕ) → Type 0
-IsTaken None bytes left = left ≡ None
-IsTaken (Some whole) bytes left = (rest : List ℕ) × (left ≡ Some rest) × (whole ≡ bytes ++ rest)
+abbrev pub IsTakenFrom : Option (List ℕ) → List ℕ → Option (List ℕ) → Type 0
+IsTakenFrom None bytes left = left ≡ None
+IsTakenFrom (Some whole) bytes left = (rest : List ℕ) × (left ≡ Some rest) × (whole ≡ bytes ++ rest)
 
 -- this text is written but for what is still in the buffer
 abbrev pub IsBuffered : Option (List ℕ) → List ℕ → List ℕ → Option (List ℕ) → Type 0

@@ -35,15 +35,15 @@ use Rattle.pt_run.specs.declared.status.Status.{Status}
 use Rattle.pt_run.specs.declared.status.Status.TheVariants as status
 
 -- one call was made, the opening of the host's root, and its answer makes the file system or is its refusal
-abbrev pub IsAsked : Settings → State → Result FileSystem Refusal → State → Type 0
-IsAsked settings before made after =
+abbrev pub IsRootAsked : Settings → State → Result FileSystem Refusal → State → Type 0
+IsRootAsked settings before made after =
     (reply : HostReply) × Does before (start_seat settings) opens_root reply after (start_seat settings)
     × IsMadeBy reply made
 
 -- The file system is made over this host with the default configuration but for what is set, by one call; its maps
 -- are the rules that are set, of which none is refused.
-pub record IsOpened (settings : Settings) (before : State) (fs : FileSystem) (after : State) : Type 0 where
-  pub call : IsAsked settings before (Ok fs) after
+pub record IsFsOpened (settings : Settings) (before : State) (fs : FileSystem) (after : State) : Type 0 where
+  pub call : IsRootAsked settings before (Ok fs) after
   pub plan : IsConfigured settings fs.plan.config
   pub uid_map : fs.plan.uid_map ≡ fs.plan.config.uid_map
   pub gid_map : fs.plan.gid_map ≡ fs.plan.config.gid_map
@@ -51,7 +51,7 @@ pub record IsOpened (settings : Settings) (before : State) (fs : FileSystem) (af
   pub tables : fs.tables ≡ empty_tables fs.plan.config.guest_fd_limit
 
 -- how the run ended: it lost no seat, or that of this job by this error
-abbrev pub HasEnded :
+abbrev pub EndsWholeOrLost :
     (plan : Plan) →
     (jobs : List Job) →
     (schedule : List ℕ) →
@@ -61,8 +61,8 @@ abbrev pub HasEnded :
     (answers : List Answer) →
     (lost : Option LostJob) →
     Type 0
-HasEnded plan jobs schedule host tables trace answers None = EndsWhole plan jobs schedule trace answers
-HasEnded plan jobs schedule host tables trace answers (Some lost) =
+EndsWholeOrLost plan jobs schedule host tables trace answers None = EndsWhole plan jobs schedule trace answers
+EndsWholeOrLost plan jobs schedule host tables trace answers (Some lost) =
     LosesSeat Does (λ (state : State). state.faults) plan jobs schedule host tables trace answers lost.job lost.errno
 
 -- Jobs run over this host: from the new file system, and from its tree, which is well formed, the run leads to these
@@ -80,12 +80,12 @@ pub record IsRunFrom
     : Type 0 where
   pub fs : FileSystem
   pub opened_host : State
-  pub opened : IsOpened settings start fs opened_host
+  pub opened : IsFsOpened settings start fs opened_host
   pub well_formed : IsWellFormed (tree_of opened_host)
   pub seats : List HostSeat
   pub run : IsRun Does fs.plan jobs opened_host (Some (tree_of opened_host)) fs.tables trace answers host
       (Some (tree_of host)) seats tables
-  pub ends : HasEnded fs.plan jobs schedule opened_host fs.tables trace answers lost
+  pub ends : EndsWholeOrLost fs.plan jobs schedule opened_host fs.tables trace answers lost
 
 -- these are the live numbers and handles of tables, each ascending
 abbrev pub AreLive : Tables → List (ℕ × ℕ) → List (ℕ × ℕ) → Type 0
@@ -136,7 +136,7 @@ pub record IsRefused (settings : Settings) (before : State) (errno : Errno) : Ty
   pub gids : AreAccepted settings.gid_map
   pub after : State
   pub fs : Result FileSystem Refusal
-  pub call : IsAsked settings before fs after
+  pub call : IsRootAsked settings before fs after
   pub refused : fs ≡ Err (refusal.Errno errno)
 
 -- a rule for ids that is set is refused, which is an invalid argument, and no call is made

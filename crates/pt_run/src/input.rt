@@ -1,7 +1,7 @@
 ghost use Rattle.std.specs.Prelude.{◌≡◌, ◌≢◌, ◌≤◌, ◌<◌, ◌+◌, List, ℕ, Option, IfOk, true, false, vec_len, OnErr};
 ghost use Rattle.std.specs.Prelude.{OnOk};
 ghost use Rattle.pt_host.specs.Promises.{HasRisen};
-ghost use Rattle.pt_run.specs.Passing.{IsTaken};
+ghost use Rattle.pt_run.specs.Passing.{IsTakenFrom};
 ghost use Rattle.pt_run.specs.Streams.{IsAtEnd, IsAll, IsLonger};
 
 use crate::streams::Source;
@@ -44,7 +44,7 @@ pub fn read_script<I: Source>(alloc: Global, input: &mut I) -> Result<Vec<u8>, I
 fn read_more<I: Source>(input: &mut I, bytes: &mut Vec<u8>) -> Result<bool, InputError>
     requires { vec_len bytes.old ≤ 16777216 }
     ensures taken { IfOk result (λ _. (whole : Option (List ℕ)) →
-        IsTaken whole bytes.old.items (I.left input.old) → IsTaken whole bytes.new.items (I.left input.new)) }
+        IsTakenFrom whole bytes.old.items (I.left input.old) → IsTakenFrom whole bytes.new.items (I.left input.new)) }
     ensures ended { result ≡ Ok false → IsAtEnd (I.left input.new) }
     ensures same { result ≡ Ok false → bytes.new.items ≡ bytes.old.items }
     ensures more { result ≡ Ok true → vec_len bytes.old < vec_len bytes.new }

@@ -9,7 +9,7 @@ ghost use Rattle.pt_run.specs.Run.{
   report_behind,
   status_for,
   AreLive,
-  IsOpened,
+  IsFsOpened,
   IsNotOpened,
   IsRunFrom,
   IsReportWith,
@@ -54,7 +54,7 @@ fn configured(settings: Settings, default: Config) -> Config
 
 // The file system over a host, with the default configuration but for what is set.
 fn open_fs(alloc: Global, settings: Settings, host: &mut TreeHost) -> Result<PassthroughFs, Status>
-    ensures ok { IfOk result (λ fs. IsOpened settings host.old fs host.new) }
+    ensures ok { IfOk result (λ fs. IsFsOpened settings host.old fs host.new) }
     ensures err { IfErr result (λ status. IsNotOpened settings host.old status) }
 {
     let mut seat = seat_of(settings.identity());

@@ -3,7 +3,7 @@ use Rattle.std.proofs.Common.{slice_get, slice_set, arith}
 use Rattle.std.proofs.lemmas.List.{length-set}
 use Rattle.std.proofs.lemmas.Option.{slice_get_within, slice_get_read}
 use Rattle.pt_fs.specs.Laid.{Settles, state_at, states_in}
-use Rattle.pt_fs.specs.Placed.{Place, Goes, Ended}
+use Rattle.pt_fs.specs.Placed.{JobPlace, Goes, Ended}
 use Rattle.pt_fs.proofs.Away.{last_kept, last_runs, moved_kept, moved_runs, moved_was, settles_over, taken_over}
 use Rattle.pt_fs.proofs.Lists.{TakenOut, taken_out}
 use Rattle.pt_fs.proofs.jobs.put_away.Goals.{After-end, After-index}
@@ -15,7 +15,7 @@ out c = taken_out c.args.going.now.items c.swap_remove-it.new.self.items c.args.
     c.swap_remove-it.new.self.ok.0 c.args.going.now.ok.0 c.swap_remove-it.ensures.len
     c.swap_remove-it.ensures.by_index
 
-settled : (c : After-end) (places : List Place) → states_in places c.swap_remove-it.new.self.items
+settled : (c : After-end) (places : List JobPlace) → states_in places c.swap_remove-it.new.self.items
     ≡ slice_set (states_in c.args.places.now.at c.args.going.now.items) c.args.place
     (state_at c.swap_remove-it.new.self.items (Ended c.ended.result)) →
     Settles c.args.places.now.at c.args.going.now.items c.args.place c.args.index places

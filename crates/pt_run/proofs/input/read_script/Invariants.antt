@@ -1,5 +1,5 @@
 use Rattle.std.proofs.Common.{◌≡◌, ◌≤◌, ◌-◌, vec_len}
-use Rattle.pt_run.specs.Passing.{IsTaken}
+use Rattle.pt_run.specs.Passing.{IsTakenFrom}
 use Rattle.pt_run.proofs.input.read_script.Given as goal
 
 abbrev pub invariant-loop-input : goal.invariant-loop-input
@@ -7,7 +7,7 @@ invariant-loop-input g l =
     let left = g.I.Source.left in
     let faults = g.I.Source.faults in
     record {
-      taken : IsTaken (left l.fn.input) l.bytes.items (left l.input);
+      taken : IsTakenFrom (left l.fn.input) l.bytes.items (left l.input);
       within : vec_len l.bytes ≤ 16777217;
       no_fault : faults l.input ≡ faults l.fn.input;
     }
