@@ -1,9 +1,8 @@
 -- The report of a run is that of the script.
 use Rattle.std.proofs.Common.{◌≡◌, ◌≤◌, ◌∙◌, ◌++◌, [], ◌∷◌, ℕ, List, Option, length, ap, sym, subst, append_assoc}
 use Rattle.std.proofs.Common.{append-nil}
+use Rattle.std.specs.Prelude.{IfOk, Result, Ok, Err}
 use Rattle.pt_rules.specs.State.{State}
-use Rattle.pt_session.specs.Tables.{Tables}
-use Rattle.pt_iface.specs.declared.answer.Answer.{Answer}
 use Rattle.pt_fs.specs.Recorded.{Writes}
 use Rattle.pt_fs.specs.declared.trace.TraceStep.{TraceStep}
 use Rattle.pt_script.specs.Parse.{IsScriptOf}
@@ -12,19 +11,20 @@ use Rattle.pt_script.specs.declared.settings.Settings.{Settings}
 use Rattle.pt_run.specs.Output.{IsWritten}
 use Rattle.pt_run.specs.Report.{step_line, step_lines}
 use Rattle.pt_run.specs.Streams.{IsAll}
-use Rattle.pt_run.specs.Run.{AreLive, IsReadWith, IsReportWith, IsRunFrom, report_of, status_for}
-use Rattle.pt_run.specs.declared.report.LostJob.{LostJob}
+use Rattle.pt_run.specs.Run.{IsReadWith, IsReportWith, IsRunFrom}
+use Rattle.pt_run.specs.Reported.{IsReported}
 use Rattle.pt_run.specs.declared.status.Status.{Status}
 
 pub report_made : (bytes text : List ℕ) (settings : Settings) (start : State) (jobs : List Job)
-    (schedule : List ℕ) (trace : List TraceStep) (answers : List Answer) (tables : Tables) (host : State)
-    (lost : Option LostJob) (ends : Status) → IsScriptOf bytes settings start jobs schedule →
-    IsRunFrom settings start jobs schedule trace answers tables host lost →
-    ((lives : List (ℕ × ℕ)) × (handles : List (ℕ × ℕ)) × AreLive tables lives handles
-    × (text ≡ report_of trace answers lives handles tables host lost)) → ends ≡ status_for lost →
-    IsReportWith bytes ends text
-report_made bytes text settings start jobs schedule trace answers tables host lost ends script run reported same =
-    let begun = script.0 in (
+    (schedule : List ℕ) (ends : Status) → IsScriptOf bytes settings start jobs schedule →
+    IsReported settings start jobs schedule ends text → IsReportWith bytes ends text
+report_made bytes text settings start jobs schedule ends script reported =
+    let begun = script.0 in
+    let lost = reported.lost in
+    let trace = reported.trace in
+    let answers = reported.answers in
+    let tables = reported.tables in
+    let host = reported.host in (
       record {
         begun = begun;
         script = script.1;
@@ -39,14 +39,21 @@ report_made bytes text settings start jobs schedule trace answers tables host lo
             script.2
             (subst (λ (l : List Job). IsRunFrom settings start l begun.order trace answers tables host lost)
             script.4
-            (subst (λ (o : List ℕ). IsRunFrom settings start jobs o trace answers tables host lost) script.5 run));
-        lives = reported.0;
-        handles = reported.1;
-        live = reported.2;
-        text = reported.3;
+            (subst (λ (o : List ℕ). IsRunFrom settings start jobs o trace answers tables host lost) script.5
+            reported.run));
+        lives = reported.lives;
+        handles = reported.handles;
+        live = reported.live;
+        text = reported.told;
       },
-      sym same,
+      sym reported.ended,
     )
+
+-- two facts of what was answered
+pub both_ok : {X E : Type 0} {P Q R : X → Type 0} (r : Result X E) → IfOk r P → IfOk r Q →
+    ((x : X) → P x → Q x → R x) → IfOk r R
+both_ok (Ok x) p q f = f x p q
+both_ok (Err error) p q f = tt
 
 -- and of the script that was read
 pub read_as : (left : Option (List ℕ)) (bytes : List ℕ) (result ends : Status) (old new : Option (List ℕ)) →

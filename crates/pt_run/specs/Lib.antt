@@ -8,5 +8,6 @@ pub mod Report
 pub mod Status
 pub mod Configured
 pub mod Run
+pub mod Reported
 pub mod Determined
 pub mod Alike

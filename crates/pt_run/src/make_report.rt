@@ -15,6 +15,8 @@ ghost use Rattle.pt_run.specs.Run.{
   IsReportWith,
   IsNoReport,
 };
+ghost use Rattle.pt_run.specs.Reported.{IsReported};
+ghost use Rattle.pt_run.specs.declared.status.Status.TheVariants as ended;
 
 use crate::report::{LostJob, StepLines, push_answers, push_lost};
 use crate::status::Status;
@@ -171,33 +173,54 @@ pub(crate) struct Report {
     pub ends: Status,
 }
 
-/// The report of the script that these bytes are, run over its tree.
-pub(crate) fn report_of_script(alloc: Global, bytes: &[u8]) -> Result<Report, Status>
-    requires { length bytes.now ≤ 16777216 }
-    ensures ok { IfOk result (λ report. IsReportWith bytes.now report.ends report.text.items) }
-    ensures err { IfErr result (λ status. IsNoReport bytes.now status) }
+// The report of jobs that were run and left this host.
+fn report_of_run(alloc: Global, ran: Ran, host: &TreeHost) -> Result<Report, Status>
+    ensures ok { IfOk result (λ report. (lives : List (ℕ × ℕ)) × (handles : List (ℕ × ℕ))
+        × AreLive ran.left.fs.tables lives handles × (report.text.items ≡ report_behind ran.lines.text.items
+        ran.left.answers.items lives handles ran.left.fs.tables host.now ran.lost)) }
+    ensures ends { IfOk result (λ report. report.ends ≡ status_for ran.lost) }
+    ensures err { IfErr result (λ status. status ≡ ended.NoMemory) }
 {
-    let script = match parse(alloc, bytes) {
-        Ok(script) => script,
-        Err(ParseError::BadScript(line)) => return Err(Status::BadScript(line)),
-        Err(ParseError::Memory) => return Err(Status::NoMemory),
-    };
+    let Ran { left, lines, lost } = ran;
+    let mut text = lines.text;
+    match push_rest(alloc, &mut text, &left, host, lost) {
+        Ok(()) => Ok(Report {
+            text,
+            ends: status_for(lost),
+        }),
+        Err(_) => Err(Status::NoMemory),
+    }
+}
+
+// The report of the script's jobs, run over its host.
+fn report_of_jobs(alloc: Global, script: Script) -> Result<Report, Status>
+    requires few { length script.jobs.items < 2 ^ 32 }
+    requires seats { StartAll script.jobs.items }
+    ensures ok { IfOk result (λ report. IsReported script.settings script.host script.jobs.items script.schedule
+        report.ends report.text.items) }
+    ensures err { IfErr result (λ status. IsNotOpened script.settings script.host status) }
+{
     let Script {
         settings,
         mut host,
         jobs,
         schedule,
     } = script;
-    let ran = match run_jobs(alloc, settings, &mut host, jobs, schedule.as_slice()) {
-        Ok(ran) => ran,
-        Err(status) => return Err(status),
-    };
-    let mut text = ran.lines.text;
-    match push_rest(alloc, &mut text, &ran.left, &host, ran.lost) {
-        Ok(()) => Ok(Report {
-            text,
-            ends: status_for(ran.lost),
-        }),
-        Err(_) => Err(Status::NoMemory),
+    match run_jobs(alloc, settings, &mut host, jobs, schedule.as_slice()) {
+        Ok(ran) => report_of_run(alloc, ran, &host),
+        Err(status) => Err(status),
+    }
+}
+
+/// The report of the script that these bytes are, run over its tree.
+pub(crate) fn report_of_script(alloc: Global, bytes: &[u8]) -> Result<Report, Status>
+    requires { length bytes.now ≤ 16777216 }
+    ensures ok { IfOk result (λ report. IsReportWith bytes.now report.ends report.text.items) }
+    ensures err { IfErr result (λ status. IsNoReport bytes.now status) }
+{
+    match parse(alloc, bytes) {
+        Ok(script) => report_of_jobs(alloc, script),
+        Err(ParseError::BadScript(line)) => Err(Status::BadScript(line)),
+        Err(ParseError::Memory) => Err(Status::NoMemory),
     }
 }

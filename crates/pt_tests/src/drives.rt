@@ -1,9 +1,9 @@
-ghost use Rattle.std.specs.Prelude.{◌≡◌, ℕ, IfOk};
+ghost use Rattle.std.specs.Prelude.{◌≡◌, ℕ, IfOk, IfSome, length};
 ghost use Rattle.pt_session.specs.Tables.{empty_tables};
 ghost use Rattle.pt_fs.specs.Jobs.{StartAll};
 
 use crate::one_directory::{a_host, a_seat};
-use pt_fs::{DriveError, Job, PassthroughFs, SteppedFs, TraceStep, drive};
+use pt_fs::{DriveError, Driven, Job, PassthroughFs, SteppedFs, TraceStep, drive};
 use pt_host::{Bytes, Edit, Errno, Fd};
 use pt_iface::{Answer, Context, Refusal, Request};
 use pt_req::Config;
@@ -128,6 +128,26 @@ fn belong_to(trace: &[TraceStep], owners: &[u32]) -> bool {
     of_trace.eq(owners.iter())
 }
 
+/// The four jobs, where there is memory for them.
+fn four_jobs(alloc: Global) -> Option<Vec<Job>>
+    ensures start { IfSome result (λ jobs. StartAll jobs.items) }
+    ensures four { IfSome result (λ jobs. length jobs.items ≡ 4) }
+{
+    let mut jobs = Vec::new(alloc);
+    if push_four(alloc, &mut jobs) && jobs.len() == 4 {
+        Some(jobs)
+    } else {
+        None
+    }
+}
+
+/// Whether a run left what it should, with steps of these jobs.
+fn is_as_wanted(driven: &Driven<PassthroughFs>, owners: &[u32]) -> bool {
+    are_as_wanted(driven.answers.as_slice())
+        && driven.seats.len() == 2
+        && belong_to(driven.trace.as_slice(), owners)
+}
+
 /// Whether a run of the four jobs by this schedule ends as it should, with steps of these jobs.
 fn ends_as_wanted(
     alloc: Global,
@@ -137,16 +157,9 @@ fn ends_as_wanted(
 ) -> Option<bool>
     requires { (limit : ℕ) × (fs.tables ≡ empty_tables limit) }
 {
-    let mut jobs = Vec::new(alloc);
-    if !push_four(alloc, &mut jobs) || jobs.len() != 4 {
-        return None;
-    }
+    let jobs = four_jobs(alloc)?;
     match drive(alloc, fs, &mut a_host(false), jobs, schedule) {
-        Ok(driven) => Some(
-            are_as_wanted(driven.answers.as_slice())
-                && driven.seats.len() == 2
-                && belong_to(driven.trace.as_slice(), owners),
-        ),
+        Ok(driven) => Some(is_as_wanted(&driven, owners)),
         Err(DriveError::Memory(_)) => None,
         Err(DriveError::CredentialsLost(..)) => Some(false),
     }

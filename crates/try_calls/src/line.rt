@@ -47,6 +47,62 @@ fn settle(case: &mut Case, out: &mut Vec<u8>) -> Result<(), AllocError> {
     Ok(())
 }
 
+// A seat of this name begins with an identity.
+fn take_seat(case: &mut Case, words: &mut Parts<'_>) -> Result<(), Trouble> {
+    let name = next_word(words)?;
+    let who = next_identity(words)?;
+    let seat = HostSeat::new(who.uid, who.gid, who.caps);
+    case.seats.begin(name, seat)?;
+    Ok(())
+}
+
+// The seat of this name is the current one again.
+fn take_as(case: &mut Case, words: &mut Parts<'_>) -> Result<(), Trouble> {
+    let name = next_word(words)?;
+    end(words)?;
+    case.seats.resume(name)
+}
+
+fn take_who(case: &mut Case, words: &mut Parts<'_>, out: &mut Vec<u8>) -> Result<(), Trouble> {
+    end(words)?;
+    push_seat(out, case.seats.current()?)?;
+    Ok(())
+}
+
+fn take_list(case: &mut Case, words: &mut Parts<'_>, out: &mut Vec<u8>) -> Result<(), Trouble> {
+    end(words)?;
+    push_text(out, case.listing()?.as_slice())?;
+    Ok(())
+}
+
+// An edit, as it was given.
+fn take_edit(
+    alloc: Global,
+    case: &mut Case,
+    given: &[u8],
+    words: &mut Parts<'_>,
+    out: &mut Vec<u8>,
+) -> Result<(), Trouble> {
+    let edit = next_edit(alloc, words)?;
+    let reply = case.edit(&edit)?;
+    push_answer(out, given, &reply)?;
+    Ok(())
+}
+
+// A call, as it was given and written out.
+fn take_call(
+    alloc: Global,
+    case: &mut Case,
+    given: &[u8],
+    line: &[u8],
+    out: &mut Vec<u8>,
+) -> Result<(), Trouble> {
+    let call: KeptHostOp = read_text(alloc, line)?;
+    let reply = case.call(&call)?;
+    push_answer(out, given, &reply)?;
+    Ok(())
+}
+
 // A line that is none of a tree, as it was given and written out.
 fn take_other(
     alloc: Global,
@@ -57,36 +113,14 @@ fn take_other(
 ) -> Result<(), Trouble> {
     let mut words = Parts::words(line);
     match next_word(&mut words)? {
-        b"fault" => case.plan(next_fault(&mut words)?)?,
-        b"seat" => {
-            let name = next_word(&mut words)?;
-            let who = next_identity(&mut words)?;
-            case.seats
-                .begin(name, HostSeat::new(who.uid, who.gid, who.caps))?;
-        }
-        b"as" => {
-            let name = next_word(&mut words)?;
-            end(&words)?;
-            case.seats.resume(name)?;
-        }
-        b"who" => {
-            end(&words)?;
-            push_seat(out, case.seats.current()?)?;
-        }
-        b"list" => {
-            end(&words)?;
-            push_text(out, case.listing()?.as_slice())?;
-        }
-        b"edit" => {
-            let edit = next_edit(alloc, &mut words)?;
-            push_answer(out, given, &case.edit(&edit)?)?;
-        }
-        _ => {
-            let call: KeptHostOp = read_text(alloc, line)?;
-            push_answer(out, given, &case.call(&call)?)?;
-        }
+        b"fault" => case.plan(next_fault(&mut words)?),
+        b"seat" => take_seat(case, &mut words),
+        b"as" => take_as(case, &mut words),
+        b"who" => take_who(case, &mut words, out),
+        b"list" => take_list(case, &mut words, out),
+        b"edit" => take_edit(alloc, case, given, &mut words, out),
+        _ => take_call(alloc, case, given, line, out),
     }
-    Ok(())
 }
 
 fn is_of_tree(word: &[u8]) -> bool {

@@ -104,22 +104,30 @@ fn bytes(alloc: Global, word: &str) -> Result<String, AllocError> {
     )
 }
 
+fn forgets(alloc: Global) -> Result<String, AllocError> {
+    let list = ForgetList::from_vec(vec![in alloc; (2, 1), (3, 4)]?);
+    format!(in alloc; "{:?}", list.as_slice())
+}
+
+fn edit(alloc: Global, words: &[&str]) -> Result<String, AllocError> {
+    match edit_of(alloc, words)? {
+        Some(edit) => format!(in alloc; "{:?}", edit.copy(alloc)?),
+        None => String::from_str(alloc, "no edit"),
+    }
+}
+
+fn reply(alloc: Global, words: &[&str]) -> Result<String, AllocError> {
+    let reply = reply_of(alloc, words)?;
+    format!(in alloc; "{:?}", reply.copy(alloc)?)
+}
+
 pub fn answer(alloc: Global, words: &[&str]) -> Result<String, AllocError> {
     match words {
         ["handle", length] => handle(alloc, length),
         ["bytes", word] => bytes(alloc, word),
-        ["forgets"] => {
-            let list = ForgetList::from_vec(vec![in alloc; (2, 1), (3, 4)]?);
-            format!(in alloc; "{:?}", list.as_slice())
-        }
-        ["edit", rest @ ..] => match edit_of(alloc, rest)? {
-            Some(edit) => format!(in alloc; "{:?}", edit.copy(alloc)?),
-            None => String::from_str(alloc, "no edit"),
-        },
-        ["reply", rest @ ..] => {
-            let reply = reply_of(alloc, rest)?;
-            format!(in alloc; "{:?}", reply.copy(alloc)?)
-        }
+        ["forgets"] => forgets(alloc),
+        ["edit", rest @ ..] => edit(alloc, rest),
+        ["reply", rest @ ..] => reply(alloc, rest),
         _ => String::from_str(alloc, "no call"),
     }
 }

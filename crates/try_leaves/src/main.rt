@@ -18,18 +18,21 @@ use std::io;
 
 /// What the line's call gives, or that there is no such call.
 fn answer(alloc: Global, seat: &mut HostSeat, words: &[&str]) -> Result<String, AllocError> {
-    match words {
-        ["text", rest @ ..] => texts::answer(alloc, rest),
-        ["flag", rest @ ..] => flags::answer(alloc, rest),
-        ["length", rest @ ..] => lengths::answer(alloc, rest),
-        ["copy", rest @ ..] => copies::answer(alloc, rest),
-        ["seat", rest @ ..] => seats::answer(alloc, seat, rest),
-        ["ids", rest @ ..] => ids::answer(alloc, rest),
-        ["names", rest @ ..] => names::answer(alloc, rest),
-        ["mode", rest @ ..] => modes::answer(alloc, rest),
-        ["creds", rest @ ..] => creds::creds(alloc, rest),
-        ["cap", rest @ ..] => creds::cap(alloc, rest),
-        ["mask", rest @ ..] => creds::mask(alloc, rest),
+    let Some((subject, rest)) = words.split_first() else {
+        return String::from_str(alloc, "no call");
+    };
+    match *subject {
+        "text" => texts::answer(alloc, rest),
+        "flag" => flags::answer(alloc, rest),
+        "length" => lengths::answer(alloc, rest),
+        "copy" => copies::answer(alloc, rest),
+        "seat" => seats::answer(alloc, seat, rest),
+        "ids" => ids::answer(alloc, rest),
+        "names" => names::answer(alloc, rest),
+        "mode" => modes::answer(alloc, rest),
+        "creds" => creds::creds(alloc, rest),
+        "cap" => creds::cap(alloc, rest),
+        "mask" => creds::mask(alloc, rest),
         _ => String::from_str(alloc, "no call"),
     }
 }

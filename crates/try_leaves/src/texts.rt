@@ -60,19 +60,34 @@ fn number_text(alloc: Global, word: &str) -> Result<Vec<u8>, AllocError> {
     Ok(out)
 }
 
+/// The bytes that the word stands for.
+fn read(alloc: Global, word: &str) -> Result<String, AllocError> {
+    match read_byte_word(alloc, word.as_bytes())? {
+        Some(bytes) => format!(in alloc; "{:?}", bytes.as_slice()),
+        None => String::from_str(alloc, "None"),
+    }
+}
+
+/// The word that stands for the bytes.
+fn written(alloc: Global, bytes: &[&str]) -> Result<String, AllocError> {
+    let mut out = Vec::new(alloc);
+    push_byte_word(&mut out, bytes_in(alloc, bytes)?.as_slice())?;
+    format!(in alloc; "{:?}", out.as_slice())
+}
+
+/// What asks for one word.
+fn of_one(alloc: Global, kind: &str, word: &str) -> Result<String, AllocError> {
+    match kind {
+        "number" => format!(in alloc; "{:?}", read_number(word.as_bytes())),
+        "read" => read(alloc, word),
+        "decimal" => format!(in alloc; "{:?}", number_text(alloc, word)?.as_slice()),
+        _ => String::from_str(alloc, "no call"),
+    }
+}
+
 pub fn answer(alloc: Global, words: &[&str]) -> Result<String, AllocError> {
     match words {
-        ["number", word] => format!(in alloc; "{:?}", read_number(word.as_bytes())),
-        ["read", word] => match read_byte_word(alloc, word.as_bytes())? {
-            Some(bytes) => format!(in alloc; "{:?}", bytes.as_slice()),
-            None => String::from_str(alloc, "None"),
-        },
-        ["write", bytes @ ..] => {
-            let mut out = Vec::new(alloc);
-            push_byte_word(&mut out, bytes_in(alloc, bytes)?.as_slice())?;
-            format!(in alloc; "{:?}", out.as_slice())
-        }
-        ["decimal", word] => format!(in alloc; "{:?}", number_text(alloc, word)?.as_slice()),
+        ["write", bytes @ ..] => written(alloc, bytes),
         ["words", rest @ ..] => {
             let text = joined(alloc, rest)?;
             parts_in(alloc, Parts::words(text.as_slice()), 100)
@@ -81,6 +96,7 @@ pub fn answer(alloc: Global, words: &[&str]) -> Result<String, AllocError> {
             let text = as_lines(alloc, rest)?;
             parts_in(alloc, Parts::lines(text.as_slice()), 100)
         }
+        [kind, word] => of_one(alloc, kind, word),
         _ => String::from_str(alloc, "no call"),
     }
 }

@@ -89,20 +89,30 @@ fn write_left_out(rt: &impl Print, name: &str, left_out: LeftOut) -> io::Result<
     )
 }
 
-fn main(rt: HostRuntime) -> io::Result<()> {
+fn write_counts(rt: &impl Print, alloc: Global) -> io::Result<()> {
     for beside in [&NUMBERED, &FORGOTTEN, &NEW] {
-        let count = count_orders(rt.alloc(), beside)?;
+        let count = count_orders(alloc, beside)?;
         println!(rt;
             "{}: {} orders, {} end otherwise",
             beside.name, count.orders, count.others
         )?;
     }
+    Ok(())
+}
+
+fn write_states(rt: &impl Print, alloc: Global) -> io::Result<()> {
     for whole in [
         &LOOKED_UP, &THERE, &TOO_MUCH, &MADE, &EXCLUSIVE, &RENAMED, &EXCHANGED, &REPLACED, &MOVED,
         &UNLINKED,
     ] {
-        let _walked = write_walked(&rt, rt.alloc(), whole)?;
+        let _walked = write_walked(rt, alloc, whole)?;
     }
+    Ok(())
+}
+
+fn main(rt: HostRuntime) -> io::Result<()> {
+    write_counts(&rt, rt.alloc())?;
+    write_states(&rt, rt.alloc())?;
     let walked = write_walked(&rt, rt.alloc(), &ONE_SLOT)?;
     write_left_out(&rt, "counts that are given back", walked.given_back)?;
     write_left_out(&rt, "counts that are forgotten", walked.forgotten)

@@ -1,0 +1,27 @@
+use Rattle.std.proofs.Common.{◌∙◌, List, ℕ, ap, subst}
+use Rattle.pt_run.specs.Run.{IsRunFrom, report_behind}
+use Rattle.pt_run.proofs.Reporting.{both_ok}
+use Rattle.pt_run.proofs.make_report.report_of_jobs.Goals as goal
+
+pub returns-in-Ok-clause-ok : goal.returns-in-Ok-clause-ok
+returns-in-Ok-clause-ok c =
+    let ran = c.in-Ok.ran in
+    let made = c.in-Ok.ensures.ok in
+    let script = c.args.script in
+    let host = c.run_jobs.new.host in
+    both_ok c.report_of_run.result c.report_of_run.ensures.ok c.report_of_run.ensures.ends (λ report rest ends. record {
+      trace = made.0;
+      answers = ran.left.answers.items;
+      tables = ran.left.fs.tables;
+      host = host;
+      lost = ran.lost;
+      run = subst (λ (schedule : List ℕ). IsRunFrom script.settings script.host script.jobs.items schedule made.0
+          ran.left.answers.items ran.left.fs.tables host ran.lost) c.as_slice.ensures made.2;
+      lives = rest.0;
+      handles = rest.1;
+      live = rest.2;
+      told = rest.3
+          ∙ ap (λ (l : List ℕ).
+          report_behind l ran.left.answers.items rest.0 rest.1 ran.left.fs.tables host ran.lost) made.1;
+      ended = ends;
+    })
