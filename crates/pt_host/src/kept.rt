@@ -1,5 +1,6 @@
 ghost use Rattle.std.specs.Prelude.{◌≡◌, IfOk, OnErr};
 ghost use Rattle.pt_host.specs.Call.{call_of, HoldsBytes};
+ghost use Rattle.pt_host.specs.Texts.{HoldsText, HoldsTexts, IsPlain};
 
 use crate::bytes::Bytes;
 use crate::groups::GroupList;
@@ -13,154 +14,213 @@ impl<'a> HostOp<'a> {
         ensures err { OnErr result (HoldsBytes (call_of self.now)) }
     {
         match self {
-            HostOp::OpenRoot { path, flags } => {
-                let path = Bytes::from_slice(alloc, path)?;
-                Ok(KeptHostOp::OpenRoot {
-                    path,
-                    flags: *flags,
-                })
+            HostOp::OpenRoot { path: text, .. }
+            | HostOp::OpenPath { path: text, .. }
+            | HostOp::OpenAt { name: text, .. }
+            | HostOp::MakeDir { name: text, .. }
+            | HostOp::MakeNode { name: text, .. }
+            | HostOp::MakeLink { name: text, .. }
+            | HostOp::Unlink { name: text, .. }
+            | HostOp::RemoveDir { name: text, .. }
+            | HostOp::WriteAt { bytes: text, .. }
+            | HostOp::GetXattr { name: text, .. }
+            | HostOp::RemoveXattr { name: text, .. } => {
+                let text = Bytes::from_slice(alloc, text)?;
+                Ok(self.with_text(text))
             }
-            HostOp::OpenPath { fd, path, flags } => {
-                let path = Bytes::from_slice(alloc, path)?;
-                Ok(KeptHostOp::OpenPath {
-                    fd: *fd,
-                    path,
-                    flags: *flags,
-                })
+            HostOp::SymLink {
+                name: text,
+                target: other,
+                ..
             }
+            | HostOp::Rename {
+                name: text,
+                name2: other,
+                ..
+            }
+            | HostOp::SetXattr {
+                name: text,
+                value: other,
+                ..
+            } => {
+                let text = Bytes::from_slice(alloc, text)?;
+                let other = Bytes::from_slice(alloc, other)?;
+                Ok(self.with_texts(text, other))
+            }
+            HostOp::SetGroups { list } => {
+                let list = GroupList::from_slice(alloc, list)?;
+                Ok(KeptHostOp::SetGroups { list })
+            }
+            HostOp::Edit(edit) => {
+                let edit = edit.copy(alloc)?;
+                Ok(KeptHostOp::Edit(edit))
+            }
+            _ => Ok(self.keep_plain()),
+        }
+    }
+
+    /// The same call, whose one text is this.
+    fn with_text(&self, text: Bytes) -> KeptHostOp
+        requires { HoldsText (call_of self.now) text }
+        ensures { result ≡ call_of self.now }
+    {
+        match self {
+            HostOp::OpenRoot { flags, .. } => KeptHostOp::OpenRoot {
+                path: text,
+                flags: *flags,
+            },
+            HostOp::OpenPath { fd, flags, .. } => KeptHostOp::OpenPath {
+                fd: *fd,
+                path: text,
+                flags: *flags,
+            },
             HostOp::OpenAt {
                 fd,
-                name,
                 flags,
                 mode,
-            } => {
-                let name = Bytes::from_slice(alloc, name)?;
-                Ok(KeptHostOp::OpenAt {
-                    fd: *fd,
-                    name,
-                    flags: *flags,
-                    mode: *mode,
-                })
-            }
-            HostOp::Reopen { fd, flags } => Ok(KeptHostOp::Reopen {
+                ..
+            } => KeptHostOp::OpenAt {
                 fd: *fd,
+                name: text,
                 flags: *flags,
-            }),
-            HostOp::OpenByHandle { fd, handle, flags } => Ok(KeptHostOp::OpenByHandle {
+                mode: *mode,
+            },
+            HostOp::MakeDir { fd, mode, .. } => KeptHostOp::MakeDir {
                 fd: *fd,
-                handle: handle.copy(),
-                flags: *flags,
-            }),
-            HostOp::Close { fd } => Ok(KeptHostOp::Close { fd: *fd }),
-            HostOp::Stat { fd } => Ok(KeptHostOp::Stat { fd: *fd }),
-            HostOp::HandleOf { fd } => Ok(KeptHostOp::HandleOf { fd: *fd }),
-            HostOp::StatFs { fd } => Ok(KeptHostOp::StatFs { fd: *fd }),
-            HostOp::ReadLink { fd } => Ok(KeptHostOp::ReadLink { fd: *fd }),
-            HostOp::FdPath { fd } => Ok(KeptHostOp::FdPath { fd: *fd }),
-            HostOp::MountInfo => Ok(KeptHostOp::MountInfo),
-            HostOp::MakeDir { fd, name, mode } => {
-                let name = Bytes::from_slice(alloc, name)?;
-                Ok(KeptHostOp::MakeDir {
-                    fd: *fd,
-                    name,
-                    mode: *mode,
-                })
-            }
-            HostOp::MakeNode {
-                fd,
-                name,
-                mode,
-                rdev,
-            } => {
-                let name = Bytes::from_slice(alloc, name)?;
-                Ok(KeptHostOp::MakeNode {
-                    fd: *fd,
-                    name,
-                    mode: *mode,
-                    rdev: *rdev,
-                })
-            }
-            HostOp::MakeLink { from, fd, name } => {
-                let name = Bytes::from_slice(alloc, name)?;
-                Ok(KeptHostOp::MakeLink {
-                    from: *from,
-                    fd: *fd,
-                    name,
-                })
-            }
-            HostOp::SymLink { fd, name, target } => {
-                let name = Bytes::from_slice(alloc, name)?;
-                let target = Bytes::from_slice(alloc, target)?;
-                Ok(KeptHostOp::SymLink {
-                    fd: *fd,
-                    name,
-                    target,
-                })
-            }
-            HostOp::Unlink { fd, name } => {
-                let name = Bytes::from_slice(alloc, name)?;
-                Ok(KeptHostOp::Unlink { fd: *fd, name })
-            }
-            HostOp::RemoveDir { fd, name } => {
-                let name = Bytes::from_slice(alloc, name)?;
-                Ok(KeptHostOp::RemoveDir { fd: *fd, name })
-            }
-            HostOp::Rename {
-                fd,
-                name,
-                fd2,
-                name2,
-                flags,
-            } => {
-                let name = Bytes::from_slice(alloc, name)?;
-                let name2 = Bytes::from_slice(alloc, name2)?;
-                Ok(KeptHostOp::Rename {
-                    fd: *fd,
-                    name,
-                    fd2: *fd2,
-                    name2,
-                    flags: *flags,
-                })
-            }
-            HostOp::ReadAt { fd, offset, size } => Ok(KeptHostOp::ReadAt {
+                name: text,
+                mode: *mode,
+            },
+            HostOp::MakeNode { fd, mode, rdev, .. } => KeptHostOp::MakeNode {
                 fd: *fd,
-                offset: *offset,
-                size: *size,
-            }),
+                name: text,
+                mode: *mode,
+                rdev: *rdev,
+            },
+            HostOp::MakeLink { from, fd, .. } => KeptHostOp::MakeLink {
+                from: *from,
+                fd: *fd,
+                name: text,
+            },
+            HostOp::Unlink { fd, .. } => KeptHostOp::Unlink {
+                fd: *fd,
+                name: text,
+            },
+            HostOp::RemoveDir { fd, .. } => KeptHostOp::RemoveDir {
+                fd: *fd,
+                name: text,
+            },
             HostOp::WriteAt {
                 fd,
                 offset,
-                bytes,
                 append,
-            } => {
-                let bytes = Bytes::from_slice(alloc, bytes)?;
-                Ok(KeptHostOp::WriteAt {
-                    fd: *fd,
-                    offset: *offset,
-                    bytes,
-                    append: *append,
-                })
-            }
-            HostOp::Truncate { fd, size } => Ok(KeptHostOp::Truncate {
+                ..
+            } => KeptHostOp::WriteAt {
+                fd: *fd,
+                offset: *offset,
+                bytes: text,
+                append: *append,
+            },
+            HostOp::GetXattr {
+                fd,
+                through,
+                size,
+                ..
+            } => KeptHostOp::GetXattr {
+                fd: *fd,
+                through: *through,
+                name: text,
+                size: *size,
+            },
+            HostOp::RemoveXattr { fd, through, .. } => KeptHostOp::RemoveXattr {
+                fd: *fd,
+                through: *through,
+                name: text,
+            },
+            _ => unreachable!(),
+        }
+    }
+
+    /// The same call, whose two texts are these.
+    fn with_texts(&self, text: Bytes, other: Bytes) -> KeptHostOp
+        requires { HoldsTexts (call_of self.now) text other }
+        ensures { result ≡ call_of self.now }
+    {
+        match self {
+            HostOp::SymLink { fd, .. } => KeptHostOp::SymLink {
+                fd: *fd,
+                name: text,
+                target: other,
+            },
+            HostOp::Rename { fd, fd2, flags, .. } => KeptHostOp::Rename {
+                fd: *fd,
+                name: text,
+                fd2: *fd2,
+                name2: other,
+                flags: *flags,
+            },
+            HostOp::SetXattr {
+                fd,
+                through,
+                flags,
+                ..
+            } => KeptHostOp::SetXattr {
+                fd: *fd,
+                through: *through,
+                name: text,
+                value: other,
+                flags: *flags,
+            },
+            _ => unreachable!(),
+        }
+    }
+
+    /// The same call, which has no bytes that lie elsewhere.
+    fn keep_plain(&self) -> KeptHostOp
+        requires { IsPlain (call_of self.now) }
+        ensures { result ≡ call_of self.now }
+    {
+        match self {
+            HostOp::Reopen { fd, flags } => KeptHostOp::Reopen {
+                fd: *fd,
+                flags: *flags,
+            },
+            HostOp::OpenByHandle { fd, handle, flags } => KeptHostOp::OpenByHandle {
+                fd: *fd,
+                handle: handle.copy(),
+                flags: *flags,
+            },
+            HostOp::Close { fd } => KeptHostOp::Close { fd: *fd },
+            HostOp::Stat { fd } => KeptHostOp::Stat { fd: *fd },
+            HostOp::HandleOf { fd } => KeptHostOp::HandleOf { fd: *fd },
+            HostOp::StatFs { fd } => KeptHostOp::StatFs { fd: *fd },
+            HostOp::ReadLink { fd } => KeptHostOp::ReadLink { fd: *fd },
+            HostOp::FdPath { fd } => KeptHostOp::FdPath { fd: *fd },
+            HostOp::MountInfo => KeptHostOp::MountInfo,
+            HostOp::ReadAt { fd, offset, size } => KeptHostOp::ReadAt {
+                fd: *fd,
+                offset: *offset,
+                size: *size,
+            },
+            HostOp::Truncate { fd, size } => KeptHostOp::Truncate {
                 fd: *fd,
                 size: *size,
-            }),
+            },
             HostOp::Allocate {
                 fd,
                 mode,
                 offset,
                 length,
-            } => Ok(KeptHostOp::Allocate {
+            } => KeptHostOp::Allocate {
                 fd: *fd,
                 mode: *mode,
                 offset: *offset,
                 length: *length,
-            }),
-            HostOp::Seek { fd, offset, whence } => Ok(KeptHostOp::Seek {
+            },
+            HostOp::Seek { fd, offset, whence } => KeptHostOp::Seek {
                 fd: *fd,
                 offset: *offset,
                 whence: *whence,
-            }),
+            },
             HostOp::CopyRange {
                 fd,
                 offset,
@@ -168,103 +228,57 @@ impl<'a> HostOp<'a> {
                 offset2,
                 length,
                 flags,
-            } => Ok(KeptHostOp::CopyRange {
+            } => KeptHostOp::CopyRange {
                 fd: *fd,
                 offset: *offset,
                 fd2: *fd2,
                 offset2: *offset2,
                 length: *length,
                 flags: *flags,
-            }),
-            HostOp::ListAt { fd, offset, size } => Ok(KeptHostOp::ListAt {
+            },
+            HostOp::ListAt { fd, offset, size } => KeptHostOp::ListAt {
                 fd: *fd,
                 offset: *offset,
                 size: *size,
-            }),
-            HostOp::Flush { fd } => Ok(KeptHostOp::Flush { fd: *fd }),
-            HostOp::Sync { fd, datasync } => Ok(KeptHostOp::Sync {
+            },
+            HostOp::Flush { fd } => KeptHostOp::Flush { fd: *fd },
+            HostOp::Sync { fd, datasync } => KeptHostOp::Sync {
                 fd: *fd,
                 datasync: *datasync,
-            }),
-            HostOp::SyncFs { fd } => Ok(KeptHostOp::SyncFs { fd: *fd }),
-            HostOp::ChMod { fd, through, mode } => Ok(KeptHostOp::ChMod {
+            },
+            HostOp::SyncFs { fd } => KeptHostOp::SyncFs { fd: *fd },
+            HostOp::ChMod { fd, through, mode } => KeptHostOp::ChMod {
                 fd: *fd,
                 through: *through,
                 mode: *mode,
-            }),
-            HostOp::ChOwn { fd, uid, gid } => Ok(KeptHostOp::ChOwn {
+            },
+            HostOp::ChOwn { fd, uid, gid } => KeptHostOp::ChOwn {
                 fd: *fd,
                 uid: *uid,
                 gid: *gid,
-            }),
+            },
             HostOp::SetTimes {
                 fd,
                 through,
                 atime,
                 mtime,
-            } => Ok(KeptHostOp::SetTimes {
+            } => KeptHostOp::SetTimes {
                 fd: *fd,
                 through: *through,
                 atime: *atime,
                 mtime: *mtime,
-            }),
-            HostOp::SetXattr {
-                fd,
-                through,
-                name,
-                value,
-                flags,
-            } => {
-                let name = Bytes::from_slice(alloc, name)?;
-                let value = Bytes::from_slice(alloc, value)?;
-                Ok(KeptHostOp::SetXattr {
-                    fd: *fd,
-                    through: *through,
-                    name,
-                    value,
-                    flags: *flags,
-                })
-            }
-            HostOp::GetXattr {
-                fd,
-                through,
-                name,
-                size,
-            } => {
-                let name = Bytes::from_slice(alloc, name)?;
-                Ok(KeptHostOp::GetXattr {
-                    fd: *fd,
-                    through: *through,
-                    name,
-                    size: *size,
-                })
-            }
-            HostOp::ListXattr { fd, through, size } => Ok(KeptHostOp::ListXattr {
+            },
+            HostOp::ListXattr { fd, through, size } => KeptHostOp::ListXattr {
                 fd: *fd,
                 through: *through,
                 size: *size,
-            }),
-            HostOp::RemoveXattr { fd, through, name } => {
-                let name = Bytes::from_slice(alloc, name)?;
-                Ok(KeptHostOp::RemoveXattr {
-                    fd: *fd,
-                    through: *through,
-                    name,
-                })
-            }
-            HostOp::SetGroups { list } => {
-                let list = GroupList::from_slice(alloc, list)?;
-                Ok(KeptHostOp::SetGroups { list })
-            }
-            HostOp::SetEgid { gid } => Ok(KeptHostOp::SetEgid { gid: *gid }),
-            HostOp::SetEuid { uid } => Ok(KeptHostOp::SetEuid { uid: *uid }),
-            HostOp::RaiseCap { caps } => Ok(KeptHostOp::RaiseCap { caps: *caps }),
-            HostOp::DropCap { caps } => Ok(KeptHostOp::DropCap { caps: *caps }),
-            HostOp::SetUmask { mask } => Ok(KeptHostOp::SetUmask { mask: *mask }),
-            HostOp::Edit(edit) => {
-                let edit = edit.copy(alloc)?;
-                Ok(KeptHostOp::Edit(edit))
-            }
+            },
+            HostOp::SetEgid { gid } => KeptHostOp::SetEgid { gid: *gid },
+            HostOp::SetEuid { uid } => KeptHostOp::SetEuid { uid: *uid },
+            HostOp::RaiseCap { caps } => KeptHostOp::RaiseCap { caps: *caps },
+            HostOp::DropCap { caps } => KeptHostOp::DropCap { caps: *caps },
+            HostOp::SetUmask { mask } => KeptHostOp::SetUmask { mask: *mask },
+            _ => unreachable!(),
         }
     }
 }
@@ -295,22 +309,6 @@ impl KeptHostOp {
                 flags: *flags,
                 mode: *mode,
             },
-            KeptHostOp::Reopen { fd, flags } => HostOp::Reopen {
-                fd: *fd,
-                flags: *flags,
-            },
-            KeptHostOp::OpenByHandle { fd, handle, flags } => HostOp::OpenByHandle {
-                fd: *fd,
-                handle,
-                flags: *flags,
-            },
-            KeptHostOp::Close { fd } => HostOp::Close { fd: *fd },
-            KeptHostOp::Stat { fd } => HostOp::Stat { fd: *fd },
-            KeptHostOp::HandleOf { fd } => HostOp::HandleOf { fd: *fd },
-            KeptHostOp::StatFs { fd } => HostOp::StatFs { fd: *fd },
-            KeptHostOp::ReadLink { fd } => HostOp::ReadLink { fd: *fd },
-            KeptHostOp::FdPath { fd } => HostOp::FdPath { fd: *fd },
-            KeptHostOp::MountInfo => HostOp::MountInfo,
             KeptHostOp::MakeDir { fd, name, mode } => HostOp::MakeDir {
                 fd: *fd,
                 name: name.as_slice(),
@@ -358,11 +356,6 @@ impl KeptHostOp {
                 name2: name2.as_slice(),
                 flags: *flags,
             },
-            KeptHostOp::ReadAt { fd, offset, size } => HostOp::ReadAt {
-                fd: *fd,
-                offset: *offset,
-                size: *size,
-            },
             KeptHostOp::WriteAt {
                 fd,
                 offset,
@@ -373,6 +366,70 @@ impl KeptHostOp {
                 offset: *offset,
                 bytes: bytes.as_slice(),
                 append: *append,
+            },
+            KeptHostOp::SetXattr {
+                fd,
+                through,
+                name,
+                value,
+                flags,
+            } => HostOp::SetXattr {
+                fd: *fd,
+                through: *through,
+                name: name.as_slice(),
+                value: value.as_slice(),
+                flags: *flags,
+            },
+            KeptHostOp::GetXattr {
+                fd,
+                through,
+                name,
+                size,
+            } => HostOp::GetXattr {
+                fd: *fd,
+                through: *through,
+                name: name.as_slice(),
+                size: *size,
+            },
+            KeptHostOp::RemoveXattr { fd, through, name } => HostOp::RemoveXattr {
+                fd: *fd,
+                through: *through,
+                name: name.as_slice(),
+            },
+            KeptHostOp::SetGroups { list } => HostOp::SetGroups {
+                list: list.as_slice(),
+            },
+            KeptHostOp::Edit(edit) => HostOp::Edit(edit),
+            _ => self.lend_plain(),
+        }
+    }
+
+    /// The same call, which has no bytes to lend.
+    fn lend_plain(&self) -> HostOp<'_>
+        requires { IsPlain self.now }
+        ensures { call_of result ≡ self.now }
+    {
+        match self {
+            KeptHostOp::Reopen { fd, flags } => HostOp::Reopen {
+                fd: *fd,
+                flags: *flags,
+            },
+            KeptHostOp::OpenByHandle { fd, handle, flags } => HostOp::OpenByHandle {
+                fd: *fd,
+                handle,
+                flags: *flags,
+            },
+            KeptHostOp::Close { fd } => HostOp::Close { fd: *fd },
+            KeptHostOp::Stat { fd } => HostOp::Stat { fd: *fd },
+            KeptHostOp::HandleOf { fd } => HostOp::HandleOf { fd: *fd },
+            KeptHostOp::StatFs { fd } => HostOp::StatFs { fd: *fd },
+            KeptHostOp::ReadLink { fd } => HostOp::ReadLink { fd: *fd },
+            KeptHostOp::FdPath { fd } => HostOp::FdPath { fd: *fd },
+            KeptHostOp::MountInfo => HostOp::MountInfo,
+            KeptHostOp::ReadAt { fd, offset, size } => HostOp::ReadAt {
+                fd: *fd,
+                offset: *offset,
+                size: *size,
             },
             KeptHostOp::Truncate { fd, size } => HostOp::Truncate {
                 fd: *fd,
@@ -441,49 +498,17 @@ impl KeptHostOp {
                 atime: *atime,
                 mtime: *mtime,
             },
-            KeptHostOp::SetXattr {
-                fd,
-                through,
-                name,
-                value,
-                flags,
-            } => HostOp::SetXattr {
-                fd: *fd,
-                through: *through,
-                name: name.as_slice(),
-                value: value.as_slice(),
-                flags: *flags,
-            },
-            KeptHostOp::GetXattr {
-                fd,
-                through,
-                name,
-                size,
-            } => HostOp::GetXattr {
-                fd: *fd,
-                through: *through,
-                name: name.as_slice(),
-                size: *size,
-            },
             KeptHostOp::ListXattr { fd, through, size } => HostOp::ListXattr {
                 fd: *fd,
                 through: *through,
                 size: *size,
-            },
-            KeptHostOp::RemoveXattr { fd, through, name } => HostOp::RemoveXattr {
-                fd: *fd,
-                through: *through,
-                name: name.as_slice(),
-            },
-            KeptHostOp::SetGroups { list } => HostOp::SetGroups {
-                list: list.as_slice(),
             },
             KeptHostOp::SetEgid { gid } => HostOp::SetEgid { gid: *gid },
             KeptHostOp::SetEuid { uid } => HostOp::SetEuid { uid: *uid },
             KeptHostOp::RaiseCap { caps } => HostOp::RaiseCap { caps: *caps },
             KeptHostOp::DropCap { caps } => HostOp::DropCap { caps: *caps },
             KeptHostOp::SetUmask { mask } => HostOp::SetUmask { mask: *mask },
-            KeptHostOp::Edit(edit) => HostOp::Edit(edit),
+            _ => unreachable!(),
         }
     }
 }
