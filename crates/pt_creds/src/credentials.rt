@@ -12,7 +12,7 @@ use pt_host::{Host, HostSeat};
 use std::marker::Model;
 
 /// Who asks: the ids under which a host's calls are to be made.
-#[derive(Debug, Drop)]
+#[derive(Drop)]
 pub struct UnixCredentials {
     uid: u32,
     gid: u32,
@@ -34,7 +34,7 @@ impl Model for UnixCredentials {
 }
 
 /// The calls that a `set` makes, in this order.
-#[derive(Clone, Copy, Debug, PartialEq, Eq)]
+#[derive(Clone, Copy)]
 pub struct CredSteps {
     /// The one group of `SetGroups`.
     pub groups: Option<u32>,

@@ -1,7 +1,7 @@
 use pt_host::Errno;
 
 /// Why an identity was not taken on, or not given back.
-#[derive(Clone, Copy, Debug, PartialEq, Eq)]
+#[derive(Clone, Copy, Debug)]
 pub enum CredError {
     /// A step was refused, and the seat is as before.
     Host(Errno),

@@ -13,7 +13,7 @@ pub enum Act<'a> {
 }
 
 /// An act that owns its bytes, or word that it could not be copied and was not made.
-#[derive(Debug, Drop)]
+#[derive(Drop)]
 pub enum KeptAct {
     Event(KeptEvent),
     Host(KeptHostOp),
@@ -21,7 +21,7 @@ pub enum KeptAct {
 }
 
 /// What a step was answered.
-#[derive(Debug, Drop)]
+#[derive(Drop)]
 pub enum ActReply {
     Event(EventReply),
     Host(HostReply),

@@ -10,7 +10,7 @@ use pt_host::{Edit, HostOp, HostReply};
 use pt_iface::Answer;
 
 /// An edit on its way.
-#[derive(Debug, Drop)]
+#[derive(Drop)]
 pub enum Editing {
     /// It is not made yet.
     Asks(Edit),

@@ -2,7 +2,7 @@ use pt_host::Errno;
 use pt_iface::Answer;
 
 /// How a job ends.
-#[derive(Debug, PartialEq, Eq, Drop)]
+#[derive(Drop)]
 pub enum Finish {
     Answer(Answer),
     /// Its seat could not be restored: this is what the first restoring call was answered.

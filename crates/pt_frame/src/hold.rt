@@ -10,7 +10,7 @@ use std::marker::Model;
 
 /// What a job has to give back. The last five are scopes: what was changed of the seat, which goes back to what it
 /// was as the job began.
-#[derive(Clone, Copy, Debug, PartialEq, Eq)]
+#[derive(Clone, Copy)]
 pub enum Hold {
     /// A pin on a row, and the descriptor by which its object is kept, where it is kept by one.
     Pin { row: u64, fd: Option<Fd> },
@@ -37,7 +37,7 @@ impl Default for Hold {
 }
 
 /// What a closing brought, to be given back at once.
-#[derive(Clone, Copy, Debug, PartialEq, Eq)]
+#[derive(Clone, Copy)]
 pub enum Taken {
     Nothing,
     Slot,
@@ -46,7 +46,7 @@ pub enum Taken {
 }
 
 /// What a job has to give back, the last one first.
-#[derive(Debug, Drop)]
+#[derive(Drop)]
 pub struct Holds {
     kept: ArrayVec<Hold, 17>,
 }

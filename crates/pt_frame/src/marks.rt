@@ -6,7 +6,7 @@ use arrayvec::ArrayVec;
 use std::marker::Model;
 
 /// How many holds there were where each open bracket began, the innermost first.
-#[derive(Debug, Drop)]
+#[derive(Drop)]
 pub struct Marks {
     kept: ArrayVec<u8, 17>,
 }

@@ -2,7 +2,7 @@ use pt_host::{Edit, HostSeat};
 use pt_iface::{Context, Request};
 
 /// One job of `drive`.
-#[derive(Debug, Drop)]
+#[derive(Drop)]
 pub enum Job {
     /// A guest's request, and the seat that it runs under.
     Request(Context, HostSeat, Request),

@@ -14,7 +14,7 @@ use pt_session::Session;
 use std::alloc::{AllocError, Global};
 
 /// A job that lost its seat, and what its restoring step was answered.
-#[derive(Debug, Drop)]
+#[derive(Drop)]
 pub struct Loss {
     pub job: u32,
     pub errno: Errno,

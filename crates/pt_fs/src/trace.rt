@@ -2,7 +2,7 @@ use pt_frame::{ActReply, KeptAct};
 use std::mem::size_of;
 
 /// One step of a run, and the job that took it.
-#[derive(Debug, Drop)]
+#[derive(Drop)]
 pub struct TraceStep {
     pub job: u32,
     pub act: KeptAct,

@@ -5,7 +5,7 @@ use std::alloc::{AllocError, Global};
 use std::marker::Model;
 
 /// A list of supplementary groups, 32 at most.
-#[derive(Debug, Drop)]
+#[derive(Drop)]
 pub struct Groups {
     kept: ArrayVec<u32, 32>,
 }
@@ -65,14 +65,14 @@ impl Groups {
 }
 
 /// Where a list of groups lies: in place, or in memory of its own.
-#[derive(Debug, Drop)]
+#[derive(Drop)]
 enum Place {
     Few(Groups),
     Many(Vec<u32>),
 }
 
 /// The groups that a call asks for, of any number. Only more than 32 take memory.
-#[derive(Debug, Drop)]
+#[derive(Drop)]
 pub struct GroupList {
     place: Place,
 }

@@ -69,7 +69,7 @@ pub type MountId = u64;
 pub type Inode = u64;
 
 /// What tells objects that live apart: inode number, device and mount.
-#[derive(Clone, Copy, Debug, PartialEq, Eq)]
+#[derive(Clone, Copy, Debug)]
 pub struct ObjIds {
     pub ino: u64,
     pub dev: u64,
@@ -77,14 +77,14 @@ pub struct ObjIds {
 }
 
 /// A time since the epoch, in seconds and nanoseconds.
-#[derive(Clone, Copy, Debug, PartialEq, Eq)]
+#[derive(Clone, Copy, Debug)]
 pub struct Time {
     pub sec: i64,
     pub nsec: u32,
 }
 
 /// What `utimensat(2)` does with one of the times.
-#[derive(Clone, Copy, Debug, PartialEq, Eq)]
+#[derive(Clone, Copy, Debug)]
 pub enum TimeSet {
     /// It stays.
     Omit,

@@ -240,7 +240,7 @@ pub enum HostOp<'a> {
 }
 
 /// A call of the host that owns its bytes.
-#[derive(Debug, Drop)]
+#[derive(Drop)]
 pub enum KeptHostOp {
     OpenRoot {
         path: Bytes,

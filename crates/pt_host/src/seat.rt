@@ -20,7 +20,7 @@ fn leaves_id(real: u32, id: u32) -> bool
 }
 
 /// The identity under which a host's calls are made, as `credentials(7)` and `capabilities(7)` have it of a thread.
-#[derive(Debug, Drop)]
+#[derive(Drop)]
 pub struct HostSeat {
     pub real_uid: u32,
     pub eff_uid: u32,

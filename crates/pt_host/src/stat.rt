@@ -1,7 +1,7 @@
 use crate::ids::{ObjIds, Time};
 
 /// The status of an object, as `statx(2)` tells it with its mount id.
-#[derive(Clone, Copy, Debug, PartialEq, Eq)]
+#[derive(Clone, Copy, Debug)]
 pub struct Stat {
     pub ids: ObjIds,
     pub mode: u32,
@@ -21,7 +21,7 @@ pub struct Stat {
 pub type StatExt = Stat;
 
 /// The status of a file system, as `statvfs(3)` tells it.
-#[derive(Clone, Copy, Debug, PartialEq, Eq)]
+#[derive(Clone, Copy, Debug)]
 pub struct FsStat {
     /// In units of `frsize`, like `bfree` and `bavail`.
     pub blocks: u64,

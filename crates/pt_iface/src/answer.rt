@@ -4,7 +4,7 @@ use crate::flags::{FsOptions, OpenOptions};
 use pt_host::{Bytes, Errno, FsStat};
 
 /// What a request is answered.
-#[derive(Debug, PartialEq, Eq, Drop)]
+#[derive(Drop)]
 pub enum Answer {
     /// The guest waits for none.
     NoReply,
@@ -47,7 +47,7 @@ pub enum Answer {
 }
 
 /// An extended attribute, or how long it is.
-#[derive(Debug, PartialEq, Eq, Drop)]
+#[derive(Drop)]
 pub enum GetxattrReply {
     Value(Bytes),
     /// In bytes, `struct fuse_getxattr_out`.
@@ -55,7 +55,7 @@ pub enum GetxattrReply {
 }
 
 /// The names of an object's extended attributes, or how long they are together.
-#[derive(Debug, PartialEq, Eq, Drop)]
+#[derive(Drop)]
 pub enum ListxattrReply {
     /// Each ends with a NUL.
     Names(Bytes),
@@ -64,7 +64,7 @@ pub enum ListxattrReply {
 }
 
 /// Why a method of the file system gave no answer.
-#[derive(Clone, Copy, Debug, PartialEq, Eq)]
+#[derive(Clone, Copy, Debug)]
 pub enum Refusal {
     Errno(Errno),
     Memory,

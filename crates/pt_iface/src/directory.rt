@@ -1,14 +1,10 @@
 ghost use Rattle.std.specs.Prelude.{◌≡◌};
-ghost use Rattle.std.specs.Cmp.Lexicographic.{pointwise, lists_equiv, lists_per};
-ghost use Rattle.pt_iface.specs.contracts.directory.DirEntryPartialEq.TheImpl as entry;
-ghost use Rattle.pt_iface.specs.contracts.directory.DirEntryPartialEq.TheImpl.Laws as partial;
-ghost use Rattle.pt_iface.specs.contracts.directory.DirEntryEq.TheImpl.Laws as whole;
 
 use pt_host::Bytes;
 use std::marker::Model;
 
 /// One entry of a directory, as `struct fuse_dirent` has it.
-#[derive(Debug, PartialEq, Eq, Drop)]
+#[derive(Drop)]
 pub struct DirEntry {
     pub ino: u64,
     /// Where the directory is read on after this entry.
@@ -19,7 +15,7 @@ pub struct DirEntry {
 }
 
 /// Entries of a directory, in the order in which they were read.
-#[derive(Debug, Drop)]
+#[derive(Drop)]
 pub struct DirEntries {
     items: Vec<DirEntry>,
 }
@@ -46,18 +42,4 @@ impl DirEntries {
     {
         self.items.as_slice()
     }
-}
-
-impl PartialEq for DirEntries {
-    ghost eq = { pointwise (entry.ghosts).eq };
-
-    ghost laws = { lists_per partial.laws-law };
-
-    fn eq(&self, other: &DirEntries) -> bool {
-        self.items == other.items
-    }
-}
-
-impl Eq for DirEntries {
-    ghost laws = { lists_equiv whole.laws-law };
 }

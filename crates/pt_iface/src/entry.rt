@@ -1,14 +1,14 @@
 use pt_host::Time;
 
 /// How long the guest may keep what it was told.
-#[derive(Clone, Copy, Debug, PartialEq, Eq)]
+#[derive(Clone, Copy)]
 pub struct Timeout {
     pub secs: u64,
     pub nanos: u32,
 }
 
 /// The attributes of an object, as `struct fuse_attr` has them.
-#[derive(Clone, Copy, Debug, PartialEq, Eq)]
+#[derive(Clone, Copy)]
 pub struct Attr {
     pub ino: u64,
     pub size: u64,
@@ -32,7 +32,7 @@ impl Attr {
 }
 
 /// A number that was given to the guest, with the object's attributes, as `struct fuse_entry_out` has it.
-#[derive(Clone, Copy, Debug, PartialEq, Eq)]
+#[derive(Clone, Copy)]
 pub struct Entry {
     pub inode: u64,
     pub generation: u64,

@@ -3,7 +3,7 @@ ghost use Rattle.std.specs.Prelude.{◌≡◌};
 use std::marker::Model;
 
 /// Numbers with the counts that are taken back of them, as `struct fuse_forget_one` has each.
-#[derive(Debug, Drop)]
+#[derive(Drop)]
 pub struct ForgetList {
     pairs: Vec<(u64, u64)>,
 }

@@ -3,21 +3,21 @@ use crate::forget::ForgetList;
 use pt_host::Bytes;
 
 /// Who asks, as the guest's kernel tells it.
-#[derive(Clone, Copy, Debug, PartialEq, Eq)]
+#[derive(Clone, Copy)]
 pub struct Context {
     pub uid: u32,
     pub gid: u32,
 }
 
 /// A security context for a new object: the extended attribute and its value, as `struct fuse_secctx` brings it.
-#[derive(Debug, PartialEq, Eq, Drop)]
+#[derive(Drop)]
 pub struct SecContext {
     pub name: Bytes,
     pub value: Bytes,
 }
 
 /// What a request that makes an object may bring beside, as `struct fuse_ext_header` announces it.
-#[derive(Debug, PartialEq, Eq, Drop)]
+#[derive(Drop)]
 pub struct Extensions {
     pub secctx: Option<SecContext>,
     /// A supplementary group of the guest's process, under which the object is made.
@@ -25,7 +25,7 @@ pub struct Extensions {
 }
 
 /// New attributes, as `struct fuse_setattr_in` has them.
-#[derive(Clone, Copy, Debug, PartialEq, Eq)]
+#[derive(Clone, Copy)]
 pub struct SetattrIn {
     pub mode: u32,
     pub uid: u32,
@@ -41,7 +41,7 @@ pub struct SetattrIn {
 /// What the guest asks: the messages of FUSE. Offsets, sizes and lengths are in bytes, modes are those of `inode(7)`,
 /// and the flags of what opens or writes those of `open(2)`. `kill` says that set-id bits are to be cleared as for a
 /// caller without CAP_FSETID.
-#[derive(Debug, Drop)]
+#[derive(Drop)]
 pub enum Request {
     /// Begins a session, `FUSE_INIT`.
     Init {

@@ -1,7 +1,7 @@
 use std::alloc::AllocError;
 
 /// Why a map is refused, an id or a name.
-#[derive(Clone, Copy, Debug, PartialEq, Eq)]
+#[derive(Clone, Copy, Debug)]
 pub enum MapError {
     /// The rule at this place, counted from 0, says something of an id of which an earlier rule says something in the
     /// same direction.

@@ -11,7 +11,7 @@ use std::collections::BTreeMap;
 use std::marker::Model;
 
 /// Rules by which ids are translated, each direction by itself. An id of which no rule says anything stays as it is.
-#[derive(Debug, Drop)]
+#[derive(Drop)]
 pub struct IdMap {
     rules: Vec<IdRule>,
     starts: BothStarts,
@@ -30,7 +30,7 @@ impl Model for IdMap {
 }
 
 /// The starts of the same rules in each direction.
-#[derive(Debug, Drop)]
+#[derive(Drop)]
 struct BothStarts {
     to_host: Starts,
     to_guest: Starts,

@@ -5,7 +5,7 @@ use std::alloc::{AllocError, Global};
 use std::marker::Model;
 
 /// Rules for ids in their order, as they are given: whether a map can be made of them is told by `IdMap::from_rules`.
-#[derive(Debug, Drop)]
+#[derive(Drop)]
 pub struct IdRules {
     rules: Vec<IdRule>,
 }

@@ -7,7 +7,7 @@ use crate::range::IdRange;
 
 /// A rule for ids, as the options `--translate-uid` and `--translate-gid` of virtiofsd give it. Its numbers are the
 /// first id of a range, what that id becomes, and how many ids the range has.
-#[derive(Clone, Copy, Debug, PartialEq, Eq)]
+#[derive(Clone, Copy)]
 pub enum IdRule {
     /// The guest's ids become ids of the host, one for one.
     Guest(u32, u32, u32),

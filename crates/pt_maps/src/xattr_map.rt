@@ -13,7 +13,7 @@ use std::alloc::{AllocError, Global};
 use std::marker::Model;
 
 /// Rules by which names of extended attributes are translated: the first that meets a name says what becomes of it.
-#[derive(Debug, Drop)]
+#[derive(Drop)]
 pub struct XattrMap {
     alloc: Global,
     rules: Vec<XattrRule>,
@@ -29,7 +29,7 @@ impl Model for XattrMap {
 }
 
 /// What becomes of a name that the client asks for.
-#[derive(Debug, Drop)]
+#[derive(Drop)]
 pub enum AppliedRule {
     /// The host is asked for this name.
     Pass(Bytes),

@@ -6,7 +6,7 @@ use pt_host::Bytes;
 use std::marker::Model;
 
 /// What becomes of a name that a rule meets.
-#[derive(Clone, Copy, Debug, PartialEq, Eq)]
+#[derive(Clone, Copy)]
 pub enum RuleKind {
     /// The client's name gets the prepend before it, and a listed one loses it.
     Prefix,
@@ -19,7 +19,7 @@ pub enum RuleKind {
 }
 
 /// Of whose names a rule speaks: those that the client asks for, those that the host lists, or both.
-#[derive(Clone, Copy, Debug, PartialEq, Eq)]
+#[derive(Clone, Copy)]
 pub enum RuleScope {
     Client,
     Server,
@@ -27,7 +27,7 @@ pub enum RuleScope {
 }
 
 /// A rule for names of extended attributes, as the option `--xattrmap` of virtiofsd gives it.
-#[derive(Debug, Drop)]
+#[derive(Drop)]
 pub enum XattrRule {
     /// Kind and scope, the beginning of a client's names that it meets, and that of listed names, which is put before
     /// a client's.

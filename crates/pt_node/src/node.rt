@@ -20,7 +20,7 @@ use pt_host::{Bytes, ObjIds, Stat, Time};
 pub const FILE_MAX: usize = 1_048_576;
 
 /// What a node stands for that holds nothing itself.
-#[derive(Clone, Copy, Debug, PartialEq, Eq)]
+#[derive(Clone, Copy)]
 pub enum SpecialKind {
     Pipe,
     CharDevice,

@@ -49,7 +49,7 @@ impl FromStr for CachePolicy {
 }
 
 /// Whether objects of the host are kept by file handles, by virtiofsd's names.
-#[derive(Clone, Copy, Debug, PartialEq, Eq)]
+#[derive(Clone, Copy, Debug)]
 pub enum InodeFileHandlesMode {
     /// By descriptors alone.
     Never,

@@ -7,7 +7,7 @@ use pt_maps::{IdMap, IdRules};
 use std::alloc::Global;
 
 /// How the guest may cache files and directories, by virtiofsd's names.
-#[derive(Clone, Copy, Debug, PartialEq, Eq)]
+#[derive(Clone, Copy, Debug)]
 pub enum CachePolicy {
     /// Nothing: files are read and written directly.
     Never,
@@ -21,7 +21,7 @@ pub enum CachePolicy {
 
 /// What the file system is set up with, by virtiofsd's names. A switch comes with the requests that take it into
 /// account.
-#[derive(Debug, Drop)]
+#[derive(Drop)]
 pub struct Config {
     /// How long the guest may keep a name that it looked up.
     pub entry_timeout: Timeout,
@@ -86,7 +86,7 @@ impl Config {
 }
 
 /// The checked configuration with its maps, which every job is given.
-#[derive(Debug, Drop)]
+#[derive(Drop)]
 pub struct Plan {
     pub config: Config,
     pub uid_map: IdMap,

@@ -13,7 +13,7 @@ pub const MAX_SCRIPT: usize = 16_777_216;
 const CHUNK: usize = 4096;
 
 /// Why no script was read.
-#[derive(Clone, Copy, Debug, PartialEq, Eq)]
+#[derive(Clone, Copy)]
 pub enum InputError {
     Fault,
     /// There are more than `MAX_SCRIPT` bytes.

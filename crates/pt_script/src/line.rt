@@ -16,7 +16,7 @@ use pt_words::{
 use std::alloc::Global;
 
 /// What a line asks that is a job.
-#[derive(Debug, Drop)]
+#[derive(Drop)]
 pub enum ScriptJob {
     /// A request, and who asks.
     Request(Context, Request),
@@ -25,14 +25,14 @@ pub enum ScriptJob {
 }
 
 /// A call of the host, by its number from 1, that is to fail with this error.
-#[derive(Clone, Copy, Debug, PartialEq, Eq)]
+#[derive(Clone, Copy)]
 pub struct PlannedFault {
     pub call: u64,
     pub errno: Errno,
 }
 
 /// A line of a script.
-#[derive(Debug, Drop)]
+#[derive(Drop)]
 pub enum Line {
     Set(Setting),
     Tree(TreeLine),

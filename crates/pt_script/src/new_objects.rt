@@ -7,7 +7,7 @@ use pt_words::{LineError, end, next_bytes, next_small};
 use std::alloc::Global;
 
 /// The fields of a new regular file: its path, its permissions, its owner and what it holds.
-#[derive(Debug, Drop)]
+#[derive(Drop)]
 pub struct NewFile {
     pub path: Bytes,
     pub mode: u32,
@@ -17,7 +17,7 @@ pub struct NewFile {
 }
 
 /// The fields of a new directory: its path, its permissions and its owner.
-#[derive(Debug, Drop)]
+#[derive(Drop)]
 pub struct NewDir {
     pub path: Bytes,
     pub mode: u32,

@@ -24,7 +24,7 @@ pub struct Script {
 }
 
 /// Why bytes were not read as a script.
-#[derive(Clone, Copy, Debug, PartialEq, Eq)]
+#[derive(Clone, Copy)]
 pub enum ParseError {
     /// The first line, from 1, up to which the lines begin no script.
     BadScript(u32),

@@ -17,7 +17,7 @@ pub struct Identity {
 }
 
 /// One setting of a script.
-#[derive(Debug, Drop)]
+#[derive(Drop)]
 pub enum Setting {
     /// How many descriptors the guest may hold.
     GuestFdLimit(u64),
@@ -40,7 +40,7 @@ pub enum Setting {
 }
 
 /// The settings of a script: rules of ids in their order, and each other one once at most.
-#[derive(Debug, Drop)]
+#[derive(Drop)]
 pub struct Settings {
     pub guest_fd_limit: Option<u64>,
     pub seat: Option<Identity>,

@@ -5,7 +5,7 @@ ghost use Rattle.pt_script.specs.Switches.{switch_named, no_switches, switched, 
 use pt_text::is_word;
 
 /// A switch of the configuration, by virtiofsd's name.
-#[derive(Clone, Copy, Debug, PartialEq, Eq)]
+#[derive(Clone, Copy)]
 pub enum Switch {
     Writeback,
     AnnounceSubmounts,
@@ -40,7 +40,7 @@ pub fn switch_named(key: &[u8]) -> Option<Switch>
 }
 
 /// The switches that a script sets, each once at most.
-#[derive(Clone, Copy, Debug, PartialEq, Eq)]
+#[derive(Clone, Copy)]
 pub struct Switches {
     pub writeback: Option<bool>,
     pub announce_submounts: Option<bool>,

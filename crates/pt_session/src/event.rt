@@ -8,7 +8,7 @@ use std::alloc::{AllocError, Global};
 use std::marker::Model;
 
 /// Numbers with the counts that are taken back of them.
-#[derive(Debug, Drop)]
+#[derive(Drop)]
 pub struct ForgetPairs {
     pairs: Vec<(u64, u64)>,
 }
@@ -109,7 +109,7 @@ pub enum Event<'a> {
 }
 
 /// An event that owns its list.
-#[derive(Debug, Drop)]
+#[derive(Drop)]
 pub enum KeptEvent {
     Begin,
     Resolve {

@@ -3,7 +3,7 @@ ghost use Rattle.std.specs.Prelude.{◌≡◌};
 use pt_host::Fd;
 
 /// How a number's object is kept.
-#[derive(Debug, PartialEq, Eq, Drop)]
+#[derive(Drop)]
 pub enum RowForm {
     /// By an open descriptor.
     File(Fd),
@@ -21,7 +21,7 @@ impl RowForm {
 }
 
 /// What the guest and the daemon agreed on at `FUSE_INIT`.
-#[derive(Clone, Copy, Debug, PartialEq, Eq)]
+#[derive(Clone, Copy)]
 pub struct Negotiated {
     pub writeback: bool,
     pub announce_submounts: bool,

@@ -4,7 +4,7 @@ use crate::form::{Negotiated, RowForm};
 use pt_host::{Fd, ObjIds};
 
 /// Why an event was refused. A refused event changes nothing.
-#[derive(Clone, Copy, Debug, PartialEq, Eq)]
+#[derive(Clone, Copy)]
 pub enum EventRefusal {
     /// No live row, no such pin, nothing to close, or no slot that is out.
     NotLive,
@@ -20,7 +20,7 @@ pub enum EventRefusal {
 }
 
 /// What an event is answered.
-#[derive(Debug, PartialEq, Eq, Drop)]
+#[derive(Drop)]
 pub enum EventReply {
     Began {
         era: u64,

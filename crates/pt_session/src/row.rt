@@ -6,7 +6,7 @@ use crate::pinned::Pinned;
 use pt_host::{Fd, ObjIds};
 
 /// A number's row. A live row has a count; one that is not live stays until its last pin is given back.
-#[derive(Debug, Drop)]
+#[derive(Drop)]
 pub struct Row {
     pub serial: u64,
     pub number: u64,
@@ -20,7 +20,7 @@ pub struct Row {
 
 /// A handle's row, with the number that it was opened for. It is not live once it was released, and stays until its
 /// last pin is given back.
-#[derive(Clone, Copy, Debug, PartialEq, Eq)]
+#[derive(Clone, Copy)]
 pub struct HandleRow {
     pub serial: u64,
     pub handle: u64,
@@ -31,7 +31,7 @@ pub struct HandleRow {
 }
 
 /// A descriptor that is to be closed, and whether a slot goes back with it.
-#[derive(Clone, Copy, Debug, PartialEq, Eq)]
+#[derive(Clone, Copy)]
 pub struct Closing {
     pub fd: Fd,
     pub slot: bool,

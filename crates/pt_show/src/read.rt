@@ -7,7 +7,7 @@ use pt_text::{Parts, push_text};
 use std::alloc::{AllocError, Global};
 
 /// Why a text was not read.
-#[derive(Clone, Copy, Debug, PartialEq, Eq)]
+#[derive(Clone, Copy, Debug)]
 pub enum ReadError {
     /// It is not the text of a value of this type.
     Bad,

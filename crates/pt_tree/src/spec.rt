@@ -6,7 +6,7 @@ use std::alloc::AllocError;
 use std::marker::Model;
 
 /// One line of the description of a tree.
-#[derive(Debug, Drop)]
+#[derive(Drop)]
 pub enum TreeLine {
     /// A mount with its id and device, and whether its objects have file handles. That of `/` stands first; another one
     /// makes the directory that its path names.
@@ -76,7 +76,7 @@ impl From<AllocError> for SpecError {
 }
 
 /// The description of a tree, a list of lines.
-#[derive(Debug, Drop)]
+#[derive(Drop)]
 pub struct TreeSpec {
     lines: Vec<TreeLine>,
 }

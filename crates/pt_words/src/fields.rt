@@ -19,7 +19,7 @@ use pt_text::{Parts, is_word, read_byte_word, read_number};
 use std::alloc::Global;
 
 /// Why a text is no line, or was not read as one.
-#[derive(Clone, Copy, Debug, PartialEq, Eq)]
+#[derive(Clone, Copy, Debug)]
 pub enum LineError {
     Bad,
     Memory,

@@ -11,7 +11,7 @@ use pt_host::HostSeat;
 use pt_iface::Answer;
 
 /// What follows a reply, perhaps after the end of scopes and of a bracket.
-#[derive(Debug, Drop)]
+#[derive(Drop)]
 pub enum Then {
     /// The body asks for its next act.
     Goes,
@@ -21,13 +21,13 @@ pub enum Then {
 }
 
 /// The end of a bracket, which the last hold of all may pass.
-#[derive(Clone, Copy, Debug, PartialEq, Eq)]
+#[derive(Clone, Copy)]
 pub struct Shut {
     pub passes: bool,
 }
 
 /// What ends and begins between two acts: the open scopes end, then the innermost bracket, and then one begins.
-#[derive(Clone, Copy, Debug, PartialEq, Eq)]
+#[derive(Clone, Copy)]
 pub struct Edges {
     pub bares: bool,
     pub shuts: Option<Shut>,
@@ -65,7 +65,7 @@ impl Edges {
 }
 
 /// What a body does after a reply.
-#[derive(Debug, Drop)]
+#[derive(Drop)]
 pub enum Next {
     At(Then),
     Over { edges: Edges, then: Then },

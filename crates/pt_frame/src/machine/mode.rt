@@ -27,7 +27,7 @@ use pt_iface::Answer;
 use std::mem;
 
 /// What follows the end of scopes and of a bracket.
-#[derive(Debug, Drop)]
+#[derive(Drop)]
 pub enum Tail {
     /// The body goes on.
     Goes,
@@ -37,7 +37,7 @@ pub enum Tail {
 }
 
 /// What the frame is at.
-#[derive(Debug, Drop)]
+#[derive(Drop)]
 pub enum Mode {
     Body,
     /// Scopes end, or a bracket does.
