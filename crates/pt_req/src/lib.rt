@@ -19,4 +19,4 @@ pub use parts::{
     take_step, want_drop, want_step,
 };
 pub use plan::{CachePolicy, Config, Plan};
-pub use requests::RequestBody;
+pub use requests::{RequestBody, take_named};

@@ -2,6 +2,7 @@ mod asked;
 mod asker;
 mod capability;
 mod entry;
+mod handling;
 mod label;
 mod look_up;
 mod looked;

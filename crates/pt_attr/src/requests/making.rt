@@ -1,7 +1,8 @@
-ghost use Rattle.std.specs.Prelude.{◌≡◌, ◌+◌, ◌≤◌, IfSome, IfNone};
+ghost use Rattle.std.specs.Prelude.{◌≡◌, ◌+◌, ◌<◌, ◌≤◌, IfSome, IfNone};
 ghost use Rattle.std.specs.List.{list_any};
 ghost use Rattle.pt_frame.specs.Deed.{Calls, deed_of};
 ghost use Rattle.pt_frame.specs.Machine.Next.{asked, with_memory, IsNext, counts_after, begun_in};
+ghost use Rattle.pt_frame.specs.Machine.Room.{brings};
 ghost use Rattle.pt_frame.specs.Tree.{Gives, Brackets};
 ghost use Rattle.pt_frame.specs.declared.act.ActReply.{ActReply};
 ghost use Rattle.pt_host.specs.Errno.{eperm};
@@ -23,7 +24,7 @@ use pt_host::{Bytes, Errno, Fd, HostOp, HostReply, HostSeat, HostValue, OpenFlag
 use pt_iface::{Answer, Context, Extensions, SecContext};
 use pt_req::{
     BegunSession, EntryLookup, EntryLookupAt, Plan, are_made, asker_of, is_bad_name, is_blocked,
-    label_name, label_value, refused_so, take_step, want_step,
+    label_name, label_value, refused_so, take_named, take_step, want_step,
 };
 use pt_session::{Event, EventReply, RowForm};
 
@@ -310,6 +311,37 @@ fn was_made(
     }
 }
 
+/// Goes on from a step of taking the identity on, or from the call that makes it where none is left.
+#[tactic(auto, using(pt_req::proofs::Scoping::steps_over, crate::proofs::Making::make_brings))]
+fn stepped(
+    at: &mut MakingAt,
+    session: BegunSession,
+    dir: Fd,
+    steps: CredSteps,
+    object: &ObjectAsked,
+    reply: ActReply,
+) -> Next
+    ensures next { (plan : Plan) (seat : HostSeat) →
+        IsNext (asked (steps_tree steps (making plan session object.now dir)) reply) reply result
+        (making_at_left at.new object.now plan seat) }
+    ensures fewer { (plan : Plan) → brings (steps_tree steps (making plan session object.now dir))
+        + counts_after result (making_at_acts at.new) < steps_acts steps + 16 }
+    ensures room { (plan : Plan) → brings (steps_tree steps (making plan session object.now dir)) + begun_in result
+        + counts_after result (making_at_room at.new) ≤ steps_room steps + 8 }
+{
+    if are_made(&steps) {
+        return was_made(at, session, dir, object, reply);
+    }
+    let mut steps = steps;
+    let then = take_step(&mut steps, &reply);
+    *at = MakingAt::Make {
+        session,
+        dir,
+        steps,
+    };
+    Next::At(then)
+}
+
 /// Goes on to take its name away behind the bracket in which its context was refused so.
 fn undo(at: &mut MakingAt, dir: Fd, errno: Option<Errno>) -> Next
     ensures next { (object : ObjectAsked) (plan : Plan) (seat : HostSeat) (told : ActReply) →
@@ -419,7 +451,6 @@ impl Body for Making {
         Wanted { act, opens: None }
     }
 
-    #[tactic(auto, using(pt_req::proofs::Scoping::steps_over))]
     fn take(&mut self, plan: &Plan, seat: &HostSeat, reply: ActReply) -> Next {
         match &mut self.at {
             MakingAt::Begin => begun(&mut self.at, &self.object, reply),
@@ -432,12 +463,10 @@ impl Body for Making {
                 dir,
                 steps,
             } => {
-                if !are_made(steps) {
-                    return Next::At(take_step(steps, &reply));
-                }
                 let session = *session;
                 let dir = *dir;
-                was_made(&mut self.at, session, dir, &self.object, reply)
+                let steps = *steps;
+                stepped(&mut self.at, session, dir, steps, &self.object, reply)
             }
             MakingAt::Open { session, dir } => {
                 let session = *session;
@@ -450,13 +479,7 @@ impl Body for Making {
                 labelled(&mut self.at, session, dir, &self.object, reply)
             }
             MakingAt::Undo { errno, .. } => Next::At(Then::Gives(refused_so(*errno))),
-            MakingAt::LookUp(part) => match part.take(plan, reply).handed() {
-                Ok(looked) => Next::Over {
-                    edges: Edges::PASS,
-                    then: Then::Gives(Answer::Entry(looked.entry)),
-                },
-                Err(next) => next,
-            },
+            MakingAt::LookUp(part) => take_named(part, plan, reply),
         }
     }
 

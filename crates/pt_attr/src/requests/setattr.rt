@@ -1,17 +1,20 @@
-ghost use Rattle.std.specs.Prelude.{◌≡◌, ◌≤◌};
+ghost use Rattle.std.specs.Prelude.{◌≡◌, ◌≤◌, ℕ};
 ghost use Rattle.pt_frame.specs.Machine.Next.{IsNext, asked, begun_in, counts_after};
+ghost use Rattle.pt_frame.specs.Tree.{RequestTree};
 ghost use Rattle.pt_frame.specs.declared.act.ActReply.{ActReply};
 ghost use Rattle.pt_host.specs.declared.ids.Fd.{Fd};
 ghost use Rattle.pt_host.specs.declared.seat.HostSeat.{HostSeat};
 ghost use Rattle.pt_maps.specs.Translated.{to_host};
 ghost use Rattle.pt_req.specs.Options.{without_nofollow};
+ghost use Rattle.pt_req.specs.Steps.{on_pinned, on_set};
 ghost use Rattle.pt_req.specs.declared.plan.Plan.{Plan};
 ghost use Rattle.pt_attr.specs.Setting.{atime_set, id_set, is_missized, mtime_set, opens_anew};
 ghost use Rattle.pt_attr.specs.Setting.{setting_flags, time_set};
-ghost use Rattle.pt_attr.specs.Machine.Setting.{filed_left, going_acts, going_left, going_room};
-ghost use Rattle.pt_attr.specs.Machine.Setting.{mode_left, owner_left, size_left, times_left};
+ghost use Rattle.pt_attr.specs.Machine.Setting.{answers_attr, filed_left, going_acts, going_left, going_room};
+ghost use Rattle.pt_attr.specs.Machine.Setting.{mode_left, owner_left, pinned_left, size_left, times_left};
 ghost use Rattle.pt_attr.specs.Machine.Setting.{set_acts, set_at_acts, set_at_left, set_at_room, set_left, set_room};
-ghost use Rattle.pt_attr.specs.declared.requests.setattr.SetAttrAt.TheVariants.{Begin, Resolve};
+ghost use Rattle.pt_attr.specs.declared.requests.setattr.SetAttrAt.TheVariants.{Again, Begin, Reopen, Resolve};
+ghost use Rattle.pt_attr.specs.declared.requests.setattr.SetAttrAt.TheVariants.{Size};
 
 use pt_frame::{Act, ActReply, Body, Edges, Next, Then, Wanted};
 use pt_host::{Errno, Fd, HostOp, HostReply, HostSeat, HostValue, OpenFlags, Time, TimeSet};
@@ -270,6 +273,115 @@ impl SetAttr {
         self.at = SetAttrAt::Reopen { path };
         Next::At(Then::Goes)
     }
+
+    /// Goes on there where the call is Ok.
+    fn goes_if_done(&mut self, at: Option<SetAttrAt>, reply: ActReply) -> Next
+        ensures next { (plan : Plan) (seat : HostSeat) →
+            IsNext (on_set (going_left at self.old.asked plan seat) reply) reply result
+            (set_left self.new plan seat) }
+        ensures acts { counts_after result (set_acts self.new) ≤ going_acts at }
+        ensures room { counts_after result (set_room self.new) ≤ going_room at }
+        ensures begins { begun_in result ≡ 0 }
+    {
+        match reply {
+            ActReply::Host(HostReply::Ok(_)) => self.goes_if_allowed(at),
+            _ => Next::At(Then::Refuses),
+        }
+    }
+
+    /// Goes on where the file was opened for its size.
+    fn reopened(&mut self, plan: &Plan, seat: &HostSeat, reply: ActReply) -> Next
+        ensures next { (path : Fd) →
+            IsNext (asked (set_at_left (Reopen path) self.old.asked plan.now seat.now) reply) reply result
+            (set_left self.new plan.now seat.now) }
+        ensures acts { counts_after result (set_acts self.new) ≤ 11 }
+        ensures room { counts_after result (set_room self.new) ≤ 3 }
+        ensures begins { begun_in result ≡ 0 }
+    {
+        match reply {
+            ActReply::Host(HostReply::Ok(HostValue::Fd(fd))) => {
+                let at = self.asked.at_file(plan, seat, fd);
+                self.goes_if_allowed(at)
+            }
+            _ => Next::At(Then::Refuses),
+        }
+    }
+
+    /// Goes on where its handle is pinned.
+    fn pinned(&mut self, plan: &Plan, seat: &HostSeat, file: Fd, reply: ActReply) -> Next
+        ensures next { IsNext (on_pinned (pinned_left self.old.asked plan.now seat.now file) reply) reply result
+            (set_left self.new plan.now seat.now) }
+        ensures acts { counts_after result (set_acts self.new) ≤ 9 }
+        ensures room { counts_after result (set_room self.new) ≤ 2 }
+        ensures begins { begun_in result ≡ 0 }
+    {
+        let ActReply::Event(EventReply::Pinned { fd, .. }) = reply else {
+            return Next::At(Then::Refuses);
+        };
+        let set = AttrFile {
+            file,
+            target: fd,
+            through: false,
+        };
+        let at = self.asked.at_mode(plan, seat, set);
+        self.goes_if_allowed(at)
+    }
+
+    /// Goes on from the call that sets the size, with which the scope of the capability ends.
+    fn truncated(&mut self, set: AttrFile, reply: ActReply) -> Next
+        ensures next { (plan : Plan) (seat : HostSeat) →
+            IsNext (asked (set_at_left (Size set) self.old.asked plan seat) reply) reply result
+            (set_left self.new plan seat) }
+        ensures acts { counts_after result (set_acts self.new) ≤ 4 }
+        ensures room { counts_after result (set_room self.new) ≤ 1 }
+        ensures begins { begun_in result ≡ 0 }
+    {
+        match reply {
+            ActReply::Host(HostReply::Ok(_)) => {
+                self.at = self.asked.at_times(set);
+                Next::Over {
+                    edges: Edges::BARE,
+                    then: Then::Goes,
+                }
+            }
+            _ => Next::At(Then::Refuses),
+        }
+    }
+
+    /// Goes on where the object is known again, to be looked at.
+    fn found_again(&mut self, reply: ActReply) -> Next
+        ensures next { (plan : Plan) (seat : HostSeat) →
+            IsNext (asked (set_at_left Again self.old.asked plan seat) reply) reply result
+            (set_left self.new plan seat) }
+        ensures acts { counts_after result (set_acts self.new) ≤ 1 }
+        ensures room { counts_after result (set_room self.new) ≤ 0 }
+        ensures begins { begun_in result ≡ 0 }
+    {
+        match reply {
+            ActReply::Event(EventReply::Resolved { form, .. }) => {
+                let RowForm::File(fd) = form;
+                self.at = SetAttrAt::Look { fd };
+                Next::At(Then::Goes)
+            }
+            _ => Next::At(Then::Refuses),
+        }
+    }
+}
+
+/// Goes on from the look at it, which is answered.
+fn looked_at(plan: &Plan, reply: ActReply) -> Next
+    ensures next { (fd : Fd) (left : RequestTree) →
+        IsNext (asked (answers_attr plan.now fd) reply) reply result left }
+    ensures counts { (count : ℕ) → counts_after result count ≡ 0 }
+    ensures begins { begun_in result ≡ 0 }
+{
+    match reply {
+        ActReply::Host(HostReply::Ok(HostValue::Stat(stat))) => {
+            let attr = attr_of(plan, &stat, 0);
+            Next::At(Then::Gives(Answer::Attr(attr, plan.config.attr_timeout)))
+        }
+        _ => Next::At(Then::Refuses),
+    }
 }
 
 impl Body for SetAttr {
@@ -327,55 +439,24 @@ impl Body for SetAttr {
     }
 
     fn take(&mut self, plan: &Plan, seat: &HostSeat, reply: ActReply) -> Next {
-        match (self.at, reply) {
-            (SetAttrAt::Begin, reply) => self.begun(reply),
-            (SetAttrAt::Resolve, reply) => self.resolved(plan, seat, reply),
-            (SetAttrAt::Reopen { .. }, ActReply::Host(HostReply::Ok(HostValue::Fd(fd)))) => {
-                let at = self.asked.at_file(plan, seat, fd);
-                self.goes_if_allowed(at)
-            }
-            (SetAttrAt::Pin { file, .. }, ActReply::Event(EventReply::Pinned { fd, .. })) => {
-                let set = AttrFile {
-                    file,
-                    target: fd,
-                    through: false,
-                };
-                let at = self.asked.at_mode(plan, seat, set);
-                self.goes_if_allowed(at)
-            }
-            (SetAttrAt::Mode { set }, ActReply::Host(HostReply::Ok(_))) => {
+        match self.at {
+            SetAttrAt::Begin => self.begun(reply),
+            SetAttrAt::Resolve => self.resolved(plan, seat, reply),
+            SetAttrAt::Reopen { .. } => self.reopened(plan, seat, reply),
+            SetAttrAt::Pin { file, .. } => self.pinned(plan, seat, file, reply),
+            SetAttrAt::Mode { set } => {
                 let at = self.asked.at_owner(plan, seat, set);
-                self.goes_if_allowed(at)
+                self.goes_if_done(at, reply)
             }
-            (SetAttrAt::Owner { set, .. }, ActReply::Host(HostReply::Ok(_))) => {
+            SetAttrAt::Owner { set, .. } => {
                 let at = self.asked.at_size(plan, seat, set);
-                self.goes_if_allowed(Some(at))
+                self.goes_if_done(Some(at), reply)
             }
-            (SetAttrAt::DropCap { set }, ActReply::Host(HostReply::Ok(_))) => {
-                self.at = SetAttrAt::Size { set };
-                Next::At(Then::Goes)
-            }
-            (SetAttrAt::Size { set }, ActReply::Host(HostReply::Ok(_))) => {
-                self.at = self.asked.at_times(set);
-                Next::Over {
-                    edges: Edges::BARE,
-                    then: Then::Goes,
-                }
-            }
-            (SetAttrAt::Times { .. }, ActReply::Host(HostReply::Ok(_))) => {
-                self.at = SetAttrAt::Again;
-                Next::At(Then::Goes)
-            }
-            (SetAttrAt::Again, ActReply::Event(EventReply::Resolved { form, .. })) => {
-                let RowForm::File(fd) = form;
-                self.at = SetAttrAt::Look { fd };
-                Next::At(Then::Goes)
-            }
-            (SetAttrAt::Look { .. }, ActReply::Host(HostReply::Ok(HostValue::Stat(stat)))) => {
-                let attr = attr_of(plan, &stat, 0);
-                Next::At(Then::Gives(Answer::Attr(attr, plan.config.attr_timeout)))
-            }
-            _ => Next::At(Then::Refuses),
+            SetAttrAt::DropCap { set } => self.goes_if_done(Some(SetAttrAt::Size { set }), reply),
+            SetAttrAt::Size { set } => self.truncated(set, reply),
+            SetAttrAt::Times { .. } => self.goes_if_done(Some(SetAttrAt::Again), reply),
+            SetAttrAt::Again => self.found_again(reply),
+            SetAttrAt::Look { .. } => looked_at(plan, reply),
         }
     }
 

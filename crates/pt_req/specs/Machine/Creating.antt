@@ -15,17 +15,19 @@ use Rattle.pt_iface.specs.declared.request.SecContext.{SecContext}
 use Rattle.pt_frame.specs.Tree.{RequestTree, Gives}
 use Rattle.pt_frame.specs.Machine.Next.{IsAsks}
 use Rattle.pt_req.specs.Options.{making_flags, create_options}
-use Rattle.pt_req.specs.Steps.{resolve, make_at, set_xattr, take_fd, insert_handle}
+use Rattle.pt_req.specs.Steps.{resolve, make_at, set_xattr}
 use Rattle.pt_req.specs.Asker.{taken_on}
 use Rattle.pt_req.specs.Parts.{file_of, look_up, open_num}
-use Rattle.pt_req.specs.Creating.{if_same, named_handle, handled, undone, labelled, new_file, old_file, takes_old}
-use Rattle.pt_req.specs.Creating.{make_file}
+use Rattle.pt_req.specs.Creating.{if_same, named_handle, undone, labelled, new_file, old_file, takes_old, make_file}
 use Rattle.pt_req.specs.Machine.Parts.{look_up_left, look_up_acts, look_up_room, look_up_asks}
+use Rattle.pt_req.specs.Machine.Parts.{handling_left, handling_acts, handling_room, handling_asks}
 use Rattle.pt_req.specs.Machine.Opening.{handle_open_left, handle_open_acts, handle_open_room, handle_open_asks}
 use Rattle.pt_req.specs.declared.begun.BegunSession.{BegunSession}
 use Rattle.pt_req.specs.declared.plan.Plan.{Plan}
 use Rattle.pt_req.specs.declared.parts.asked.FileAsked.{FileAsked}
 use Rattle.pt_req.specs.declared.parts.asked.NamedHandle.{NamedHandle}
+use Rattle.pt_req.specs.declared.parts.handling.HandleAt.{HandleAt}
+use Rattle.pt_req.specs.declared.parts.handling.HandleAt.TheVariants as handle_at
 use Rattle.pt_req.specs.declared.parts.looked.Looked.{Looked}
 use Rattle.pt_req.specs.declared.parts.new_file.NewFile.{NewFile}
 use Rattle.pt_req.specs.declared.parts.new_file.NewFileAt.{NewFileAt}
@@ -74,16 +76,14 @@ steps_asks steps next so = raise_asks steps.raise steps.groups steps.egid steps.
 abbrev pub answers_created : Plan → NamedHandle → RequestTree
 answers_created plan named = Gives (answer.Created named.entry named.handle (create_options plan.config))
 
-abbrev pub new_inserted : NewFile → Plan → Entry → ℕ → RequestTree
-new_inserted it plan entry handle =
-    insert_handle it.session handle entry.inode it.fd (answers_created plan (named_handle entry handle))
-
-abbrev pub new_handled : NewFile → Plan → Entry → RequestTree
-new_handled it plan entry = handled it.session it.fd entry (answers_created plan)
+-- it is on its way to its handle
+abbrev pub new_handled : HandleAt → NewFile → Plan → Entry → RequestTree
+new_handled how it plan entry =
+    handling_left how it.session entry.inode it.fd (λ handle. answers_created plan (named_handle entry handle))
 
 -- what was found where the name was looked up
 abbrev pub new_looked : NewFile → Plan → ObjIds → Looked → RequestTree
-new_looked it plan made looked = if_same made looked.ids (new_handled it plan looked.entry)
+new_looked it plan made looked = if_same made looked.ids (new_handled handle_at.Draw it plan looked.entry)
 
 -- the lookup of the name, where what was made has these ids
 abbrev pub new_named : NewFile → FileAsked → Plan → ObjIds → RequestTree
@@ -125,9 +125,7 @@ new_at_left at_new.Stat it asked plan = new_file plan it.session asked it.dir it
 new_at_left (at_new.Label made) it asked plan = new_set it asked plan made
 new_at_left (at_new.Undo errno) it asked plan = new_undone it asked errno
 new_at_left (at_new.LookUp made part) it asked plan = look_up_left part asked.name plan (new_looked it plan made)
-new_at_left (at_new.Draw entry) it asked plan = new_handled it plan entry
-new_at_left (at_new.Take entry handle) it asked plan = take_fd (new_inserted it plan entry handle)
-new_at_left (at_new.Insert entry handle) it asked plan = new_inserted it plan entry handle
+new_at_left (at_new.Handle entry how) it asked plan = new_handled how it plan entry
 
 abbrev pub new_left : NewFile → FileAsked → Plan → RequestTree
 new_left it asked plan = new_at_left it.at it asked plan
@@ -137,9 +135,7 @@ new_at_acts at_new.Stat = 18
 new_at_acts (at_new.Label made) = 17
 new_at_acts (at_new.Undo errno) = 1
 new_at_acts (at_new.LookUp made part) = look_up_acts part + 4
-new_at_acts (at_new.Draw entry) = 4
-new_at_acts (at_new.Take entry handle) = 3
-new_at_acts (at_new.Insert entry handle) = 1
+new_at_acts (at_new.Handle entry how) = handling_acts how
 
 abbrev pub new_acts : NewFile → ℕ
 new_acts it = new_at_acts it.at
@@ -150,9 +146,7 @@ new_at_room at_new.Stat = 7
 new_at_room (at_new.Label made) = 7
 new_at_room (at_new.Undo errno) = 0
 new_at_room (at_new.LookUp made part) = look_up_room part + 1
-new_at_room (at_new.Draw entry) = 1
-new_at_room (at_new.Take entry handle) = 1
-new_at_room (at_new.Insert entry handle) = 0
+new_at_room (at_new.Handle entry how) = handling_room how
 
 abbrev pub new_room : NewFile → ℕ
 new_room it = new_at_room it.at
@@ -162,9 +156,7 @@ new_at_inserts at_new.Stat = 2
 new_at_inserts (at_new.Label made) = 2
 new_at_inserts (at_new.Undo errno) = 0
 new_at_inserts (at_new.LookUp made part) = 2
-new_at_inserts (at_new.Draw entry) = 1
-new_at_inserts (at_new.Take entry handle) = 1
-new_at_inserts (at_new.Insert entry handle) = 1
+new_at_inserts (at_new.Handle entry how) = 1
 
 abbrev pub new_inserts : NewFile → ℕ
 new_inserts it = new_at_inserts it.at
@@ -175,9 +167,8 @@ new_at_asks at_new.Stat it asked plan = tt
 new_at_asks (at_new.Label made) it asked plan = tt
 new_at_asks (at_new.Undo errno) it asked plan = tt
 new_at_asks (at_new.LookUp made part) it asked plan = look_up_asks part asked.name plan (new_looked it plan made)
-new_at_asks (at_new.Draw entry) it asked plan = tt
-new_at_asks (at_new.Take entry handle) it asked plan = tt
-new_at_asks (at_new.Insert entry handle) it asked plan = tt
+new_at_asks (at_new.Handle entry how) it asked plan =
+    handling_asks how it.session entry.inode it.fd (λ handle. answers_created plan (named_handle entry handle))
 
 pub new_asks : (it : NewFile) (asked : FileAsked) (plan : Plan) → IsAsks (new_left it asked plan)
 new_asks it asked plan = new_at_asks it.at it asked plan

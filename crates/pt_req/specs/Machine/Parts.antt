@@ -1,4 +1,4 @@
--- Inner. What is left of a lookup, and of the opening of the shared directory.
+-- Inner. What is left of a lookup, of the way to a handle, and of the opening of the shared directory.
 use Rattle.std.specs.Prelude.{ℕ, Bool, true, false, List}
 use Rattle.pt_host.specs.declared.ids.Fd.{Fd}
 use Rattle.pt_host.specs.declared.ids.ObjIds.{ObjIds}
@@ -8,13 +8,16 @@ use Rattle.pt_session.specs.declared.form.RowForm.TheVariants.{File}
 use Rattle.pt_frame.specs.Tree.{RequestTree, Gives, Refuses, Bares, Shuts}
 use Rattle.pt_frame.specs.Machine.Next.{IsAsks}
 use Rattle.pt_frame.specs.declared.act.ActReply.{ActReply}
-use Rattle.pt_req.specs.Steps.{resolve, open_at, stat, take_fd, draw_node, insert, insert_root}
+use Rattle.pt_req.specs.Steps.{resolve, open_at, stat, take_fd, draw_node, draw_handle, insert, insert_handle}
+use Rattle.pt_req.specs.Steps.{insert_root}
 use Rattle.pt_req.specs.Parts.{by_path, file_of, numbered, looked_of, root_open}
 use Rattle.pt_req.specs.declared.begun.BegunSession.{BegunSession}
 use Rattle.pt_req.specs.declared.plan.Plan.{Plan}
 use Rattle.pt_req.specs.declared.parts.part.Part.{Part}
 use Rattle.pt_req.specs.declared.parts.part.Part.TheVariants as part
 use Rattle.pt_req.specs.declared.parts.looked.Looked.{Looked}
+use Rattle.pt_req.specs.declared.parts.handling.HandleAt.{HandleAt}
+use Rattle.pt_req.specs.declared.parts.handling.HandleAt.TheVariants as handle_at
 use Rattle.pt_req.specs.declared.parts.numbering.NumberAt.{NumberAt}
 use Rattle.pt_req.specs.declared.parts.numbering.NumberAt.TheVariants as number_at
 use Rattle.pt_req.specs.declared.parts.look_up.EntryLookup.{EntryLookup}
@@ -67,6 +70,32 @@ numbering_asks number_at.Claim form told session next = tt
 numbering_asks number_at.Take form told session next = tt
 numbering_asks number_at.Draw form told session next = tt
 numbering_asks (number_at.Insert fresh) form told session next = tt
+
+-- what was opened, on its way to a handle
+abbrev pub handling_left : HandleAt → BegunSession → ℕ → Fd → (ℕ → RequestTree) → RequestTree
+handling_left handle_at.Draw session number fd next =
+    draw_handle (λ handle. take_fd (insert_handle session handle number fd (next handle)))
+handling_left (handle_at.Take handle) session number fd next =
+    take_fd (insert_handle session handle number fd (next handle))
+handling_left (handle_at.Insert handle) session number fd next =
+    insert_handle session handle number fd (next handle)
+
+-- an act that brings a hold counts twice
+abbrev pub handling_acts : HandleAt → ℕ
+handling_acts handle_at.Draw = 4
+handling_acts (handle_at.Take handle) = 3
+handling_acts (handle_at.Insert handle) = 1
+
+abbrev pub handling_room : HandleAt → ℕ
+handling_room handle_at.Draw = 1
+handling_room (handle_at.Take handle) = 1
+handling_room (handle_at.Insert handle) = 0
+
+pub handling_asks : (at : HandleAt) (session : BegunSession) (number : ℕ) (fd : Fd) (next : ℕ → RequestTree) →
+    IsAsks (handling_left at session number fd next)
+handling_asks handle_at.Draw session number fd next = tt
+handling_asks (handle_at.Take handle) session number fd next = tt
+handling_asks (handle_at.Insert handle) session number fd next = tt
 
 -- the bracket of a lookup ends, and the count passes
 abbrev pub with_number : Plan → BegunSession → ObjIds → Stat → RowForm → (Looked → RequestTree) → ℕ → RequestTree

@@ -3,8 +3,12 @@ ghost use Rattle.pt_frame.specs.Machine.Next.{asked, deed_in, with_memory, AsksF
 ghost use Rattle.pt_frame.specs.Machine.Room.{brings};
 ghost use Rattle.pt_frame.specs.Replies.{inserted_by};
 ghost use Rattle.pt_frame.specs.Tree.{RequestTree, Shuts};
-ghost use Rattle.pt_req.specs.Machine.Parts.{look_up_left, look_up_acts, look_up_room, part_tree, part_counts};
+ghost use Rattle.pt_frame.specs.declared.act.ActReply.{ActReply};
+ghost use Rattle.pt_host.specs.declared.ids.Fd.{Fd};
+ghost use Rattle.pt_req.specs.Machine.Parts.{look_up_left, look_up_at_left, look_up_acts, look_up_room, with_number};
+ghost use Rattle.pt_req.specs.Machine.Parts.{part_tree, part_counts};
 ghost use Rattle.pt_req.specs.Parts.{looked_of};
+ghost use Rattle.pt_req.specs.declared.parts.look_up.EntryLookupAt.TheVariants as look_at;
 ghost use Rattle.pt_req.specs.declared.parts.looked.Looked.{Looked};
 ghost use Rattle.pt_req.specs.declared.plan.Plan.{Plan};
 
@@ -65,6 +69,29 @@ fn looked_of(
     }
 }
 
+/// Goes on on the way to the number, with which the entry is there.
+fn numbered(
+    plan: &Plan,
+    session: &BegunSession,
+    parent: ObjIds,
+    stat: &Stat,
+    form: &RowForm,
+    part: Part<u64>,
+) -> Part<Looked>
+    ensures left { (told : ActReply) (left : RequestTree) (next : Looked → RequestTree) →
+        part_tree part told left (with_number plan.now session.now parent stat.now form.now next)
+        ≡ part_tree result told left (λ looked. Shuts true (next looked)) }
+    ensures counts { (count : ℕ) → part_counts result count ≡ part_counts part count }
+{
+    match part {
+        Part::Goes => Part::Goes,
+        Part::Bares => Part::Bares,
+        Part::Refuses => Part::Refuses,
+        Part::Gives(answer) => Part::Gives(answer),
+        Part::Has(number) => Part::Has(looked_of(plan, session, parent, stat, form, number)),
+    }
+}
+
 impl EntryLookup {
     pub fn want<'a>(&'a self, name: &'a [u8]) -> Act<'a>
         ensures asks { (plan : Plan) (next : Looked → RequestTree) →
@@ -85,6 +112,68 @@ impl EntryLookup {
         }
     }
 
+    /// Goes on where the directory is known.
+    fn resolved(&mut self, reply: ActReply) -> Part<Looked>
+        ensures left { (parent : ℕ) (name : List ℕ) (plan : Plan) (next : Looked → RequestTree) →
+            with_memory (asked (look_up_at_left (look_at.Resolve parent) name plan self.old.session next) reply)
+            ≡ part_tree result reply (look_up_left self.new name plan next) (λ looked. Shuts true (next looked)) }
+        ensures acts { part_counts result (look_up_acts self.new) ≤ 10 }
+        ensures room { part_counts result (look_up_room self.new) ≤ 4 }
+        ensures inserts { part_counts result 1 ≤ 1 }
+    {
+        match reply {
+            ActReply::Event(EventReply::Resolved { form, ids, .. }) => {
+                let RowForm::File(dir) = form;
+                self.at = EntryLookupAt::Open { parent: ids, dir };
+                Part::Goes
+            }
+            _ => Part::Refuses,
+        }
+    }
+
+    /// Goes on where the name was opened.
+    fn opened(&mut self, parent: ObjIds, reply: ActReply) -> Part<Looked>
+        ensures left { (dir : Fd) (name : List ℕ) (plan : Plan) (next : Looked → RequestTree) →
+            with_memory (asked (look_up_at_left (look_at.Open parent dir) name plan self.old.session next) reply)
+            ≡ part_tree result reply (look_up_left self.new name plan next) (λ looked. Shuts true (next looked)) }
+        ensures acts { part_counts result (look_up_acts self.new) ≤ 8 }
+        ensures room { part_counts result (look_up_room self.new) ≤ 3 }
+        ensures inserts { part_counts result 1 ≤ 1 }
+    {
+        match reply {
+            ActReply::Host(HostReply::Ok(HostValue::Fd(fd))) => {
+                self.at = EntryLookupAt::Stat { parent, fd };
+                Part::Goes
+            }
+            _ => Part::Refuses,
+        }
+    }
+
+    /// Goes on from the look at what was opened.
+    fn seen(&mut self, parent: ObjIds, fd: Fd, reply: ActReply) -> Part<Looked>
+        ensures left { (name : List ℕ) (plan : Plan) (next : Looked → RequestTree) →
+            with_memory (asked (look_up_at_left (look_at.Stat parent fd) name plan self.old.session next) reply)
+            ≡ part_tree result reply (look_up_left self.new name plan next) (λ looked. Shuts true (next looked)) }
+        ensures acts { part_counts result (look_up_acts self.new) ≤ 7 }
+        ensures room { part_counts result (look_up_room self.new) ≤ 3 }
+        ensures inserts { part_counts result 1 ≤ 1 }
+    {
+        match reply {
+            ActReply::Host(HostReply::Ok(HostValue::Stat(stat))) => {
+                let form = RowForm::File(fd);
+                let at = NumberAt::Claim;
+                self.at = EntryLookupAt::Number {
+                    parent,
+                    form,
+                    stat,
+                    at,
+                };
+                Part::Goes
+            }
+            _ => Part::Refuses,
+        }
+    }
+
     /// Goes on from the reply of the act that was wanted.
     #[inline(always)]
     pub fn take(&mut self, plan: &Plan, reply: ActReply) -> Part<Looked>
@@ -101,51 +190,22 @@ impl EntryLookup {
             inserted_by (deed_in (look_up_left self.old name plan.now next)) reply + part_counts result 1 ≤ 1 }
     {
         match &mut self.at {
-            EntryLookupAt::Resolve { .. } => match reply {
-                ActReply::Event(EventReply::Resolved { form, ids, .. }) => {
-                    let RowForm::File(dir) = form;
-                    self.at = EntryLookupAt::Open { parent: ids, dir };
-                    Part::Goes
-                }
-                _ => Part::Refuses,
-            },
-            EntryLookupAt::Open { parent, .. } => match reply {
-                ActReply::Host(HostReply::Ok(HostValue::Fd(fd))) => {
-                    let parent = *parent;
-                    self.at = EntryLookupAt::Stat { parent, fd };
-                    Part::Goes
-                }
-                _ => Part::Refuses,
-            },
-            EntryLookupAt::Stat { parent, fd } => match reply {
-                ActReply::Host(HostReply::Ok(HostValue::Stat(stat))) => {
-                    let parent = *parent;
-                    let form = RowForm::File(*fd);
-                    let at = NumberAt::Claim;
-                    self.at = EntryLookupAt::Number {
-                        parent,
-                        form,
-                        stat,
-                        at,
-                    };
-                    Part::Goes
-                }
-                _ => Part::Refuses,
-            },
+            EntryLookupAt::Resolve { .. } => self.resolved(reply),
+            EntryLookupAt::Open { parent, .. } => {
+                let parent = *parent;
+                self.opened(parent, reply)
+            }
+            EntryLookupAt::Stat { parent, fd } => {
+                let parent = *parent;
+                let fd = *fd;
+                self.seen(parent, fd, reply)
+            }
             EntryLookupAt::Number {
                 parent,
                 form,
                 stat,
                 at,
-            } => match at.take(reply) {
-                Part::Goes => Part::Goes,
-                Part::Bares => Part::Bares,
-                Part::Refuses => Part::Refuses,
-                Part::Gives(answer) => Part::Gives(answer),
-                Part::Has(number) => {
-                    Part::Has(looked_of(plan, &self.session, *parent, stat, form, number))
-                }
-            },
+            } => numbered(plan, &self.session, *parent, stat, form, at.take(reply)),
         }
     }
 }

@@ -1,24 +1,30 @@
-ghost use Rattle.std.specs.Prelude.{◌≡◌, ◌+◌, ◌<◌, ◌≤◌, None};
-ghost use Rattle.pt_frame.specs.Machine.Next.{asked, deed_in, AsksFor, IsNext, counts_after, begun_in};
+ghost use Rattle.std.specs.Prelude.{◌≡◌, ◌+◌, ◌<◌, ◌≤◌, ℕ, None, true};
+ghost use Rattle.pt_frame.specs.Machine.Next.{asked, deed_in, with_memory, AsksFor, IsNext, counts_after, begun_in};
 ghost use Rattle.pt_frame.specs.Machine.Room.{brings};
 ghost use Rattle.pt_frame.specs.Replies.{inserted_by};
+ghost use Rattle.pt_frame.specs.Tree.{RequestTree, Shuts};
 ghost use Rattle.pt_frame.specs.declared.act.ActReply.{ActReply};
-ghost use Rattle.pt_req.specs.Creating.{are_same};
-ghost use Rattle.pt_req.specs.Machine.Creating.{new_left, new_acts, new_room, new_inserts};
-ghost use Rattle.pt_req.specs.Machine.Creating.{new_named, new_labelled, new_set, new_undone, refused_so};
+ghost use Rattle.pt_req.specs.Creating.{are_same, named_handle};
+ghost use Rattle.pt_req.specs.Machine.Creating.{answers_created, new_left, new_at_left, new_acts};
+ghost use Rattle.pt_req.specs.Machine.Creating.{new_room, new_inserts};
+ghost use Rattle.pt_req.specs.Machine.Creating.{new_named, new_labelled, new_looked, new_set, new_undone, refused_so};
+ghost use Rattle.pt_req.specs.Machine.Parts.{part_tree, part_counts};
 ghost use Rattle.pt_req.specs.declared.parts.asked.FileAsked.{FileAsked};
+ghost use Rattle.pt_req.specs.declared.parts.new_file.NewFileAt.TheVariants as at_new;
 ghost use Rattle.pt_req.specs.declared.plan.Plan.{Plan};
 
 use crate::begun::BegunSession;
 use crate::parts::asked::FileAsked;
+use crate::parts::handling::HandleAt;
 use crate::parts::label::{is_blocked, label_name, label_value};
 use crate::parts::look_up::{EntryLookup, EntryLookupAt};
+use crate::parts::looked::Looked;
 use crate::parts::options::create_options;
+use crate::parts::part::Part;
 use crate::plan::Plan;
 use pt_frame::{Act, ActReply, Edges, Next, Then};
 use pt_host::{Errno, Fd, HostOp, HostReply, HostValue, ObjIds};
 use pt_iface::{Answer, Entry};
-use pt_session::{Event, EventReply};
 
 /// Where a file stands that was made: the act that it wants next.
 #[derive(Drop)]
@@ -30,9 +36,8 @@ pub enum NewFileAt {
     Undo { errno: Option<Errno> },
     /// Its name is looked up; the file that was made has these ids.
     LookUp { made: ObjIds, part: EntryLookup },
-    Draw { entry: Entry },
-    Take { entry: Entry, handle: u64 },
-    Insert { entry: Entry, handle: u64 },
+    /// It gets its handle.
+    Handle { entry: Entry, at: HandleAt },
 }
 
 /// A file that was made in a directory, and its descriptor.
@@ -60,6 +65,23 @@ pub fn refused_so(errno: Option<Errno>) -> Answer
     }
 }
 
+/// Goes on on the way to its handle, with which it is answered.
+fn created(plan: &Plan, entry: Entry, part: Part<u64>) -> Next
+    ensures next { (tree left : RequestTree) (told : ActReply) →
+        with_memory tree ≡ part_tree part told left (λ handle. answers_created plan.now (named_handle entry handle)) →
+        IsNext tree told result left }
+    ensures counts { (count : ℕ) → counts_after result count ≡ part_counts part count }
+    ensures begins { begun_in result ≡ 0 }
+{
+    match part.handed() {
+        Ok(handle) => {
+            let options = create_options(&plan.config);
+            Next::At(Then::Gives(Answer::Created(entry, handle, options)))
+        }
+        Err(next) => next,
+    }
+}
+
 impl NewFile {
     pub fn want<'a>(&'a self, file: &'a FileAsked) -> Act<'a>
         ensures asks { (plan : Plan) → AsksFor (new_left self.now file.now plan) result None }
@@ -79,14 +101,7 @@ impl NewFile {
                 name: file.name.as_slice(),
             }),
             NewFileAt::LookUp { part, .. } => part.want(file.name.as_slice()),
-            NewFileAt::Draw { .. } => Act::Event(Event::DrawHandle),
-            NewFileAt::Take { .. } => Act::Event(Event::TakeFd),
-            NewFileAt::Insert { entry, handle } => Act::Event(Event::InsertHandle {
-                era: self.session.era,
-                handle: *handle,
-                number: entry.inode,
-                fd: self.fd,
-            }),
+            NewFileAt::Handle { entry, at } => at.want(&self.session, entry.inode, self.fd),
         }
     }
 
@@ -142,9 +157,24 @@ impl NewFile {
         Next::At(Then::Goes)
     }
 
+    /// Goes on from the look at it.
+    fn seen(&mut self, file: &FileAsked, reply: ActReply) -> Next
+        ensures next { (plan : Plan) →
+            IsNext (asked (new_at_left at_new.Stat self.old file.now plan) reply) reply result
+            (new_left self.new file.now plan) }
+        ensures acts { counts_after result (new_acts self.new) ≤ 17 }
+        ensures room { begun_in result + counts_after result (new_room self.new) ≤ 7 }
+        ensures inserts { counts_after result (new_inserts self.new) ≤ 2 }
+    {
+        match reply {
+            ActReply::Host(HostReply::Ok(HostValue::Stat(stat))) => self.looked_at(file, stat.ids),
+            _ => Next::At(Then::Refuses),
+        }
+    }
+
     /// Goes on from the call that sets its context; where that is refused its name goes again.
-    fn labelled(&mut self, file: &FileAsked, made: ObjIds, reply: &ActReply) -> Next
-        ensures next { (plan : Plan) → IsNext (asked (new_set self.old file.now plan made) reply.now) reply.now result
+    fn labelled(&mut self, file: &FileAsked, made: ObjIds, reply: ActReply) -> Next
+        ensures next { (plan : Plan) → IsNext (asked (new_set self.old file.now plan made) reply) reply result
             (new_left self.new file.now plan) }
         ensures acts { counts_after result (new_acts self.new) ≤ 16 }
         ensures room { begun_in result + counts_after result (new_room self.new) ≤ 7 }
@@ -152,10 +182,41 @@ impl NewFile {
     {
         match reply {
             ActReply::Host(HostReply::Ok(_)) => self.named(file, made),
-            ActReply::Host(HostReply::Refused(errno)) => self.undo(Some(*errno)),
-            ActReply::Host(HostReply::Fault(errno)) => self.undo(Some(*errno)),
+            ActReply::Host(HostReply::Refused(errno)) => self.undo(Some(errno)),
+            ActReply::Host(HostReply::Fault(errno)) => self.undo(Some(errno)),
             ActReply::Host(HostReply::NoMemory) | ActReply::NoCopy => self.undo(None),
             ActReply::Event(_) => Next::At(Then::Refuses),
+        }
+    }
+
+    /// Goes on with the lookup of its name, which has to lead to what was made.
+    fn found(&mut self, made: ObjIds, part: Part<Looked>) -> Next
+        ensures next { (file : FileAsked) (plan : Plan) (tree : RequestTree) (told : ActReply) →
+            with_memory tree ≡ part_tree part told (new_left self.old file plan)
+            (λ looked. Shuts true (new_looked self.old plan made looked)) →
+            IsNext tree told result (new_left self.new file plan) }
+        ensures acts { (count : ℕ) → new_acts self.old ≡ count + 4 →
+            counts_after result (new_acts self.new) ≤ part_counts part count + 4 }
+        ensures room { (count : ℕ) → new_room self.old ≡ count + 1 →
+            begun_in result + counts_after result (new_room self.new) ≤ part_counts part count + 1 }
+        ensures inserts { new_inserts self.old ≡ 2 →
+            counts_after result (new_inserts self.new) ≤ part_counts part 1 + 1 }
+    {
+        let looked = match part.handed() {
+            Ok(looked) => looked,
+            Err(next) => return next,
+        };
+        let then = if are_same(made, looked.ids) {
+            Then::Goes
+        } else {
+            Then::Gives(Answer::Refused(Errno::ESTALE))
+        };
+        let entry = looked.entry;
+        let at = HandleAt::Draw;
+        self.at = NewFileAt::Handle { entry, at };
+        Next::Over {
+            edges: Edges::PASS,
+            then,
         }
     }
 
@@ -171,58 +232,18 @@ impl NewFile {
             + counts_after result (new_inserts self.new) ≤ new_inserts self.old }
     {
         match &mut self.at {
-            NewFileAt::Stat => match reply {
-                ActReply::Host(HostReply::Ok(HostValue::Stat(stat))) => {
-                    self.looked_at(file, stat.ids)
-                }
-                _ => Next::At(Then::Refuses),
-            },
+            NewFileAt::Stat => self.seen(file, reply),
             NewFileAt::Label { made } => {
                 let made = *made;
-                self.labelled(file, made, &reply)
+                self.labelled(file, made, reply)
             }
             NewFileAt::Undo { errno } => Next::At(Then::Gives(refused_so(*errno))),
-            NewFileAt::LookUp { made, part } => match part.take(plan, reply).handed() {
-                Ok(looked) => {
-                    let then = if are_same(*made, looked.ids) {
-                        Then::Goes
-                    } else {
-                        Then::Gives(Answer::Refused(Errno::ESTALE))
-                    };
-                    let entry = looked.entry;
-                    self.at = NewFileAt::Draw { entry };
-                    Next::Over {
-                        edges: Edges::PASS,
-                        then,
-                    }
-                }
-                Err(next) => next,
-            },
-            NewFileAt::Draw { entry } => match reply {
-                ActReply::Event(EventReply::Drawn { number }) => {
-                    let entry = *entry;
-                    let handle = number;
-                    self.at = NewFileAt::Take { entry, handle };
-                    Next::At(Then::Goes)
-                }
-                _ => Next::At(Then::Refuses),
-            },
-            NewFileAt::Take { entry, handle } => match reply {
-                ActReply::Event(EventReply::Taken) => {
-                    let entry = *entry;
-                    let handle = *handle;
-                    self.at = NewFileAt::Insert { entry, handle };
-                    Next::At(Then::Goes)
-                }
-                _ => Next::At(Then::Refuses),
-            },
-            NewFileAt::Insert { entry, handle } => match reply {
-                ActReply::Event(EventReply::Inserted { .. }) => {
-                    let options = create_options(&plan.config);
-                    Next::At(Then::Gives(Answer::Created(*entry, *handle, options)))
-                }
-                _ => Next::At(Then::Refuses),
-            },
+            NewFileAt::LookUp { made, part } => {
+                let made = *made;
+                let part = part.take(plan, reply);
+                self.found(made, part)
+            }
+            NewFileAt::Handle { entry, at } => created(plan, *entry, at.take(reply)),
         }
     }
 }

@@ -3,14 +3,18 @@ ghost use Rattle.pt_frame.specs.Machine.Next.{asked, deed_in, with_memory, AsksF
 ghost use Rattle.pt_frame.specs.Machine.Room.{brings};
 ghost use Rattle.pt_frame.specs.Replies.{inserted_by};
 ghost use Rattle.pt_frame.specs.Tree.{RequestTree, Brackets, Shuts};
+ghost use Rattle.pt_host.specs.declared.ids.Fd.{Fd};
 ghost use Rattle.pt_req.specs.Entries.{can_open};
-ghost use Rattle.pt_req.specs.Machine.Opening.{handle_open_left, handle_open_acts, handle_open_room};
+ghost use Rattle.pt_req.specs.Machine.Opening.{handle_open_left, handle_open_at_left, handle_open_acts};
+ghost use Rattle.pt_req.specs.Machine.Opening.{handle_open_room};
 ghost use Rattle.pt_req.specs.Machine.Parts.{part_tree, part_counts};
 ghost use Rattle.pt_req.specs.Parts.{open_num};
+ghost use Rattle.pt_req.specs.declared.parts.open.HandleOpenAt.TheVariants.{DropCap, Resolve, Reopen};
 ghost use Rattle.pt_req.specs.declared.plan.Plan.{Plan};
 
 use crate::begun::BegunSession;
 use crate::parts::capability::{drops_fsetid, want_drop};
+use crate::parts::handling::HandleAt;
 use crate::parts::options::{cleaned, reopen_flags};
 use crate::parts::part::Part;
 use crate::plan::Plan;
@@ -31,9 +35,8 @@ pub enum HandleOpenAt {
     DropCap,
     Resolve,
     Reopen { path: Fd },
-    Draw { fd: Fd },
-    Take { fd: Fd, handle: u64 },
-    Insert { fd: Fd, handle: u64 },
+    /// What was opened gets its handle.
+    Handle { fd: Fd, at: HandleAt },
 }
 
 /// The opening of a number by a handle, with the guest's flags.
@@ -94,16 +97,66 @@ impl HandleOpen {
                 let flags = reopen_flags(&plan.config, self.session.agreed, flags);
                 Act::Host(HostOp::Reopen { fd: path, flags })
             }
-            HandleOpenAt::Draw { .. } => Act::Event(Event::DrawHandle),
-            HandleOpenAt::Take { .. } => Act::Event(Event::TakeFd),
-            HandleOpenAt::Insert { fd, handle } => Act::Event(Event::InsertHandle {
-                era: self.session.era,
-                handle,
-                number: self.inode,
-                fd,
-            }),
+            HandleOpenAt::Handle { fd, at } => at.want(&self.session, self.inode, fd),
         };
         Wanted { act, opens: None }
+    }
+
+    /// Goes on where the capability was dropped.
+    fn dropped(&mut self, reply: ActReply) -> Part<u64>
+        ensures left { (plan : Plan) (next : ℕ → RequestTree) →
+            with_memory (asked (handle_open_at_left DropCap self.old plan next) reply)
+            ≡ part_tree result reply (handle_open_left self.new plan next) (λ handle. Shuts false (next handle)) }
+        ensures acts { part_counts result (handle_open_acts self.new) ≤ 8 }
+        ensures room { part_counts result (handle_open_room self.new) ≤ 3 }
+        ensures inserts { part_counts result 1 ≤ 1 }
+    {
+        match reply {
+            ActReply::Host(HostReply::Ok(_)) => {
+                self.at = HandleOpenAt::Resolve;
+                Part::Goes
+            }
+            _ => Part::Refuses,
+        }
+    }
+
+    /// Goes on where the object is known: only what has contents is opened.
+    fn resolved(&mut self, reply: ActReply) -> Part<u64>
+        ensures left { (plan : Plan) (next : ℕ → RequestTree) →
+            with_memory (asked (handle_open_at_left Resolve self.old plan next) reply)
+            ≡ part_tree result reply (handle_open_left self.new plan next) (λ handle. Shuts false (next handle)) }
+        ensures acts { part_counts result (handle_open_acts self.new) ≤ 6 }
+        ensures room { part_counts result (handle_open_room self.new) ≤ 2 }
+        ensures inserts { part_counts result 1 ≤ 1 }
+    {
+        let ActReply::Event(EventReply::Resolved { form, mode, .. }) = reply else {
+            return Part::Refuses;
+        };
+        if !can_open(mode) {
+            return Part::Gives(Answer::Refused(Errno::EBADF));
+        }
+        let RowForm::File(path) = form;
+        self.at = HandleOpenAt::Reopen { path };
+        Part::Goes
+    }
+
+    /// Goes on where it was opened, with which the scopes end.
+    fn reopened(&mut self, reply: ActReply) -> Part<u64>
+        ensures left { (path : Fd) (plan : Plan) (next : ℕ → RequestTree) →
+            with_memory (asked (handle_open_at_left (Reopen path) self.old plan next) reply)
+            ≡ part_tree result reply (handle_open_left self.new plan next) (λ handle. Shuts false (next handle)) }
+        ensures acts { part_counts result (handle_open_acts self.new) ≤ 4 }
+        ensures room { part_counts result (handle_open_room self.new) ≤ 1 }
+        ensures inserts { part_counts result 1 ≤ 1 }
+    {
+        match reply {
+            ActReply::Host(HostReply::Ok(HostValue::Fd(fd))) => {
+                let at = HandleAt::Draw;
+                self.at = HandleOpenAt::Handle { fd, at };
+                Part::Bares
+            }
+            _ => Part::Refuses,
+        }
     }
 
     /// Goes on from the reply of the act that was wanted.
@@ -120,35 +173,11 @@ impl HandleOpen {
         ensures inserts { (plan : Plan) (next : ℕ → RequestTree) →
             inserted_by (deed_in (handle_open_left self.old plan next)) reply + part_counts result 1 ≤ 1 }
     {
-        match (self.at, reply) {
-            (HandleOpenAt::DropCap, ActReply::Host(HostReply::Ok(_))) => {
-                self.at = HandleOpenAt::Resolve;
-                Part::Goes
-            }
-            (HandleOpenAt::Resolve, ActReply::Event(EventReply::Resolved { form, mode, .. })) => {
-                if !can_open(mode) {
-                    return Part::Gives(Answer::Refused(Errno::EBADF));
-                }
-                let RowForm::File(path) = form;
-                self.at = HandleOpenAt::Reopen { path };
-                Part::Goes
-            }
-            (HandleOpenAt::Reopen { .. }, ActReply::Host(HostReply::Ok(HostValue::Fd(fd)))) => {
-                self.at = HandleOpenAt::Draw { fd };
-                Part::Bares
-            }
-            (HandleOpenAt::Draw { fd }, ActReply::Event(EventReply::Drawn { number })) => {
-                self.at = HandleOpenAt::Take { fd, handle: number };
-                Part::Goes
-            }
-            (HandleOpenAt::Take { fd, handle }, ActReply::Event(EventReply::Taken)) => {
-                self.at = HandleOpenAt::Insert { fd, handle };
-                Part::Goes
-            }
-            (HandleOpenAt::Insert { handle, .. }, ActReply::Event(EventReply::Inserted { .. })) => {
-                Part::Has(handle)
-            }
-            _ => Part::Refuses,
+        match &mut self.at {
+            HandleOpenAt::DropCap => self.dropped(reply),
+            HandleOpenAt::Resolve => self.resolved(reply),
+            HandleOpenAt::Reopen { .. } => self.reopened(reply),
+            HandleOpenAt::Handle { at, .. } => at.take(reply),
         }
     }
 }

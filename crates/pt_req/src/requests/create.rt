@@ -1,5 +1,6 @@
 ghost use Rattle.std.specs.Prelude.{◌≡◌, ◌+◌, ◌<◌, ◌≤◌, IfSome, IfNone};
 ghost use Rattle.pt_frame.specs.Machine.Next.{asked, with_memory, IsNext, counts_after, begun_in};
+ghost use Rattle.pt_frame.specs.Machine.Room.{brings};
 ghost use Rattle.pt_frame.specs.Tree.{Gives};
 ghost use Rattle.pt_host.specs.Errno.{eperm};
 ghost use Rattle.pt_host.specs.declared.ids.Fd.{Fd};
@@ -192,6 +193,40 @@ fn made(
     }
 }
 
+/// Goes on from a step of taking the identity on, or from the making call where none is left.
+#[tactic(auto, using(crate::proofs::Scoping::steps_over))]
+fn stepped(
+    at: &mut CreateAt,
+    session: BegunSession,
+    dir: Fd,
+    steps: CredSteps,
+    file: &FileAsked,
+    reply: ActReply,
+) -> Next
+    ensures next { (plan : Plan) (seat : HostSeat) →
+        IsNext (asked (steps_tree steps (making file.now plan seat session dir)) reply) reply result
+        (create_at_left at.new file.now plan seat) }
+    ensures fewer { (plan : Plan) (seat : HostSeat) →
+        brings (steps_tree steps (making file.now plan seat session dir))
+        + counts_after result (create_at_acts at.new) < steps_acts steps + 24 }
+    ensures room { (plan : Plan) (seat : HostSeat) →
+        brings (steps_tree steps (making file.now plan seat session dir)) + begun_in result
+        + counts_after result (create_at_room at.new) ≤ steps_room steps + 12 }
+    ensures inserts { counts_after result (create_at_inserts at.new) ≤ 2 }
+{
+    if are_made(&steps) {
+        return made(at, session, dir, file, reply);
+    }
+    let mut steps = steps;
+    let then = take_step(&mut steps, &reply);
+    *at = CreateAt::Make {
+        session,
+        dir,
+        steps,
+    };
+    Next::At(then)
+}
+
 impl Body for Create {
     ghost use Rattle.pt_req.specs.Machine.Bodies.{create_left, create_acts, create_room, create_inserts, create_asks};
 
@@ -226,7 +261,6 @@ impl Body for Create {
         Wanted { act, opens: None }
     }
 
-    #[tactic(auto, using(crate::proofs::Scoping::steps_over))]
     fn take(&mut self, plan: &Plan, seat: &HostSeat, reply: ActReply) -> Next {
         match &mut self.at {
             CreateAt::Begin => begun(&mut self.at, &self.file, reply),
@@ -239,12 +273,10 @@ impl Body for Create {
                 dir,
                 steps,
             } => {
-                if !are_made(steps) {
-                    return Next::At(take_step(steps, &reply));
-                }
                 let session = *session;
                 let dir = *dir;
-                made(&mut self.at, session, dir, &self.file, reply)
+                let steps = *steps;
+                stepped(&mut self.at, session, dir, steps, &self.file, reply)
             }
             CreateAt::New(part) => part.take(plan, &self.file, reply),
             CreateAt::Old(part) => part.take(plan, seat, &self.file, reply),

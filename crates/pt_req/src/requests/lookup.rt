@@ -1,6 +1,7 @@
 use crate::begun::BegunSession;
 use crate::parts::{EntryLookup, EntryLookupAt, is_bad_name};
 use crate::plan::Plan;
+use crate::requests::naming::take_named;
 use pt_frame::{Act, ActReply, Body, Edges, Next, Then, Wanted};
 use pt_host::{Bytes, Errno, HostSeat};
 use pt_iface::Answer;
@@ -59,13 +60,7 @@ impl Body for Lookup {
                 }
                 _ => Next::At(Then::Refuses),
             },
-            LookupAt::LookUp(part) => match part.take(plan, reply).handed() {
-                Ok(looked) => Next::Over {
-                    edges: Edges::PASS,
-                    then: Then::Gives(Answer::Entry(looked.entry)),
-                },
-                Err(next) => next,
-            },
+            LookupAt::LookUp(part) => take_named(part, plan, reply),
         }
     }
 

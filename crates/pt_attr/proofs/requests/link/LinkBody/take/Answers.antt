@@ -1,13 +1,16 @@
-use Rattle.std.proofs.Common.{◌≡◌, false, refl, rules}
-use Rattle.pt_session.specs.declared.reply.EventReply.TheVariants as event
-use Rattle.pt_frame.specs.declared.act.ActReply.TheVariants.{Event}
-use Rattle.pt_req.specs.Entries.{is_bad_name}
-use Rattle.pt_req.specs.Parts.{named}
-use Rattle.pt_req.specs.Steps.{on_began}
 use Rattle.pt_attr.proofs.requests.link.LinkBody.take.Goals as goal
 
-pub returns-in-Event-Began-clause-next : goal.returns-in-Event-Began-clause-next
-returns-in-Event-Began-clause-next c =
-    let good : is_bad_name c.args.self.now.newname ≡ false = search rules in
-    let told : c.args.reply ≡ Event (event.Began c.in-Event-Began.era c.in-Event-Began.negotiated) = search rules in
-    rw c.in-Begin.is (rw (told, on_began) (rw (good, named) refl))
+pub returns-in-Begin-clause-next : goal.returns-in-Begin-clause-next
+returns-in-Begin-clause-next c = rw c.in-Begin.is (c.begun.ensures.next c.args.plan.now c.args._seat.now)
+
+pub returns-in-ResolveFile-clause-next : goal.returns-in-ResolveFile-clause-next
+returns-in-ResolveFile-clause-next c =
+    rw c.in-ResolveFile.is (c.file_resolved.ensures.next c.args.plan.now c.args._seat.now)
+
+pub returns-in-ResolveDir-clause-next : goal.returns-in-ResolveDir-clause-next
+returns-in-ResolveDir-clause-next c =
+    rw c.in-ResolveDir.is (c.dir_resolved.ensures.next c.args.plan.now c.args._seat.now)
+
+pub returns-in-Make-clause-next : goal.returns-in-Make-clause-next
+returns-in-Make-clause-next c =
+    rw c.in-Make.is (c.linked.ensures.next c.in-Make.from c.in-Make.dir c.args.plan.now c.args._seat.now)
