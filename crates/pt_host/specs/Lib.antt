@@ -4,6 +4,7 @@ pub mod Flags
 pub mod Errno
 pub mod GroupPlace
 pub mod Call
+pub mod CallGroups
 pub mod Sorts
 pub mod Reply
 pub mod Seat
