@@ -5,6 +5,7 @@ pub mod Errno
 pub mod GroupPlace
 pub mod Call
 pub mod Texts
+pub mod CallGroups
 pub mod Sorts
 pub mod Reply
 pub mod Seat

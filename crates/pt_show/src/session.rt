@@ -1,9 +1,10 @@
 ghost use Rattle.std.specs.Prelude.{◌≡◌, ◌++◌, OnOk};
 ghost use Rattle.pt_session.specs.Change.{change_of};
+ghost use Rattle.pt_session.specs.declared.event.KeptEvent.TheVariants as event;
 ghost use Rattle.pt_show.specs.SessionTexts.{form_text, row_text, negotiated_text, pair_text, forgets_text};
 ghost use Rattle.pt_show.specs.SessionTexts.{event_text, refusal_text, event_reply_text};
 
-use crate::plain::{push_four, push_name, push_named};
+use crate::plain::{push_four, push_name, push_named, push_three, push_two};
 use crate::text::Text;
 use pt_host::ObjIds;
 use pt_session::{Event, EventRefusal, EventReply, ForgetPairs, KeptEvent, Negotiated, RowForm};
@@ -26,6 +27,37 @@ fn write_row(out: &mut Vec<u8>, form: &RowForm, ids: ObjIds, mode: u32) -> Resul
     form.write(out)?;
     ids.write(out)?;
     mode.write(out)
+}
+
+fn write_insertion(
+    out: &mut Vec<u8>,
+    era: u64,
+    number: u64,
+    form: &RowForm,
+    ids: ObjIds,
+    mode: u32,
+) -> Result<(), AllocError>
+    ensures { OnOk result
+        (out.new.items ≡ out.old.items ++ event_text (event.Insert era number form.now ids mode)) }
+{
+    push_two(out, b" Insert", &era, &number)?;
+    write_row(out, form, ids, mode)
+}
+
+fn write_root(
+    out: &mut Vec<u8>,
+    era: u64,
+    form: &RowForm,
+    ids: ObjIds,
+    mode: u32,
+    negotiated: &Option<Negotiated>,
+) -> Result<(), AllocError>
+    ensures { OnOk result
+        (out.new.items ≡ out.old.items ++ event_text (event.InsertRoot era form.now ids mode negotiated.now)) }
+{
+    push_named(out, b" InsertRoot", &era)?;
+    write_row(out, form, ids, mode)?;
+    negotiated.write(out)
 }
 
 impl Text for Negotiated {
@@ -64,11 +96,7 @@ impl Text for Event<'_> {
             Event::Begin => push_name(out, b" Begin"),
             Event::Resolve { number } => push_named(out, b" Resolve", number),
             Event::Unpin { row } => push_named(out, b" Unpin", row),
-            Event::Claim { era, handle, ids } => {
-                push_named(out, b" Claim", era)?;
-                handle.write(out)?;
-                ids.write(out)
-            }
+            Event::Claim { era, handle, ids } => push_three(out, b" Claim", era, handle, ids),
             Event::TakeFd => push_name(out, b" TakeFd"),
             Event::GiveFd => push_name(out, b" GiveFd"),
             Event::DrawNode => push_name(out, b" DrawNode"),
@@ -78,27 +106,16 @@ impl Text for Event<'_> {
                 form,
                 ids,
                 mode,
-            } => {
-                push_named(out, b" Insert", era)?;
-                number.write(out)?;
-                write_row(out, form, *ids, *mode)
-            }
+            } => write_insertion(out, *era, *number, form, *ids, *mode),
             Event::InsertRoot {
                 era,
                 form,
                 ids,
                 mode,
                 negotiated,
-            } => {
-                push_named(out, b" InsertRoot", era)?;
-                write_row(out, form, *ids, *mode)?;
-                negotiated.write(out)
-            }
+            } => write_root(out, *era, form, *ids, *mode, negotiated),
             Event::Forget { list } => push_named(out, b" Forget", list),
-            Event::GiveBack { era, number } => {
-                push_named(out, b" GiveBack", era)?;
-                number.write(out)
-            }
+            Event::GiveBack { era, number } => push_two(out, b" GiveBack", era, number),
             Event::DrawHandle => push_name(out, b" DrawHandle"),
             Event::InsertHandle {
                 era,
@@ -106,15 +123,9 @@ impl Text for Event<'_> {
                 number,
                 fd,
             } => push_four(out, b" InsertHandle", era, handle, number, fd),
-            Event::PinHandle { handle, number } => {
-                push_named(out, b" PinHandle", handle)?;
-                number.write(out)
-            }
+            Event::PinHandle { handle, number } => push_two(out, b" PinHandle", handle, number),
             Event::UnpinHandle { row } => push_named(out, b" UnpinHandle", row),
-            Event::Release { handle, number } => {
-                push_named(out, b" Release", handle)?;
-                number.write(out)
-            }
+            Event::Release { handle, number } => push_two(out, b" Release", handle, number),
             Event::Clear => push_name(out, b" Clear"),
             Event::TakeClosing => push_name(out, b" TakeClosing"),
         }
@@ -149,10 +160,7 @@ impl Text for EventReply {
 
     fn write(&self, out: &mut Vec<u8>) -> Result<(), AllocError> {
         match self {
-            EventReply::Began { era, negotiated } => {
-                push_named(out, b" Began", era)?;
-                negotiated.write(out)
-            }
+            EventReply::Began { era, negotiated } => push_two(out, b" Began", era, negotiated),
             EventReply::Resolved {
                 row,
                 form,
@@ -170,18 +178,9 @@ impl Text for EventReply {
             EventReply::Drawn { number } => push_named(out, b" Drawn", number),
             EventReply::Inserted { number } => push_named(out, b" Inserted", number),
             EventReply::Found { number } => push_named(out, b" Found", number),
-            EventReply::Closing { fd, slot } => {
-                push_named(out, b" Closing", fd)?;
-                slot.write(out)
-            }
-            EventReply::Pinned { row, fd } => {
-                push_named(out, b" Pinned", row)?;
-                fd.write(out)
-            }
-            EventReply::Cleared { era, closings } => {
-                push_named(out, b" Cleared", era)?;
-                closings.write(out)
-            }
+            EventReply::Closing { fd, slot } => push_two(out, b" Closing", fd, slot),
+            EventReply::Pinned { row, fd } => push_two(out, b" Pinned", row, fd),
+            EventReply::Cleared { era, closings } => push_two(out, b" Cleared", era, closings),
             EventReply::Refused(refusal) => push_named(out, b" Refused", refusal),
         }
     }
