@@ -189,10 +189,12 @@ class Reports(unittest.TestCase):
 
 
 def cases(file: Path) -> dict[str, str]:
-    """The cases of a program of scripts, each with its lines."""
+    """The cases of a program of scripts, each with its lines. The orders of jobs stand behind them."""
     found: dict[str, list[str]] = {}
     name = ""
     for line in re.findall(r"[^\n]*\n", file.read_bytes().decode("latin-1")):
+        if line == "=== orders\n":
+            break
         if line.startswith("== "):
             name = line.split()[1]
             found[name] = []

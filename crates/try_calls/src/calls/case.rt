@@ -1,4 +1,4 @@
-use crate::seats::Seats;
+use crate::calls::seats::Seats;
 use crate::trouble::Trouble;
 use pt_host::{Bytes, Edit, Host, HostReply, KeptHostOp};
 use pt_script::PlannedFault;

@@ -1,5 +1,5 @@
-use crate::case::Case;
-use crate::long::written_out;
+use crate::calls::case::Case;
+use crate::calls::long::written_out;
 use crate::trouble::Trouble;
 use pt_host::{HostReply, HostSeat, KeptHostOp};
 use pt_script::{next_edit, next_fault, next_identity, next_tree_line};
@@ -37,8 +37,8 @@ fn push_seat(out: &mut Vec<u8>, seat: &HostSeat) -> Result<(), AllocError> {
     push_text(out, b"\n")
 }
 
-// Makes the tree where that was not done, and tells which of its lines is none of a tree.
-fn settle(case: &mut Case, out: &mut Vec<u8>) -> Result<(), AllocError> {
+/// Makes the tree where that was not done, and tells which of its lines is none of a tree.
+pub fn settle(case: &mut Case, out: &mut Vec<u8>) -> Result<(), AllocError> {
     if let Some(place) = case.make_tree()? {
         push_text(out, b"no tree")?;
         place.write(out)?;
@@ -130,7 +130,13 @@ fn is_of_tree(word: &[u8]) -> bool {
     )
 }
 
-fn take(alloc: Global, case: &mut Case, given: &[u8], out: &mut Vec<u8>) -> Result<(), Trouble> {
+/// What a line does to the case, and what it tells, which is put behind `out`.
+pub fn take(
+    alloc: Global,
+    case: &mut Case,
+    given: &[u8],
+    out: &mut Vec<u8>,
+) -> Result<(), Trouble> {
     let line = written_out(alloc, given)?.ok_or(Trouble::Bad)?;
     let mut words = Parts::words(line.as_slice());
     let word = next_word(&mut words)?;
@@ -140,37 +146,4 @@ fn take(alloc: Global, case: &mut Case, given: &[u8], out: &mut Vec<u8>) -> Resu
     }
     settle(case, out)?;
     take_other(alloc, case, given, line.as_slice(), out)
-}
-
-/// What a line does to the case, and what it tells, which is put behind `out`.
-pub fn take_line(
-    alloc: Global,
-    case: &mut Case,
-    line: &[u8],
-    out: &mut Vec<u8>,
-) -> Result<(), AllocError> {
-    match line {
-        [] | [b'#', ..] => return Ok(()),
-        [b'=', b'=', b' ', ..] => {
-            settle(case, out)?;
-            *case = Case::new(alloc)?;
-            push_text(out, line)?;
-            return push_text(out, b"\n");
-        }
-        _ => {}
-    }
-    match take(alloc, case, line, out) {
-        Ok(()) => Ok(()),
-        Err(Trouble::Memory) => Err(AllocError),
-        Err(Trouble::Bad) => {
-            push_text(out, b"bad ")?;
-            push_text(out, line)?;
-            push_text(out, b"\n")
-        }
-    }
-}
-
-/// What is left to tell at the end.
-pub fn finish(case: &mut Case, out: &mut Vec<u8>) -> Result<(), AllocError> {
-    settle(case, out)
 }

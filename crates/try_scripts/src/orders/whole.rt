@@ -1,4 +1,4 @@
-use crate::beside::NUMBERED_HEAD;
+use crate::orders::beside::NUMBERED_HEAD;
 use std::alloc::{AllocError, Global};
 
 /// A job of a script, as it stands in an order and in front of its steps.

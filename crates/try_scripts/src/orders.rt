@@ -1,8 +1,3 @@
-//! Runs lookups, creates, renames and a forget beside each other in every order of their steps, and writes how many
-//! orders do not end as a plain count says. Three cases of lookups are run order by order, whole requests by the
-//! states that orders lead to.
-#![tactic(auto)]
-
 mod beside;
 mod names;
 mod plain;
@@ -89,8 +84,8 @@ fn write_left_out(rt: &impl Print, name: &str, left_out: LeftOut) -> io::Result<
     )
 }
 
-fn write_counts(rt: &impl Print, alloc: Global) -> io::Result<()> {
-    for beside in [&NUMBERED, &FORGOTTEN, &NEW] {
+fn write_counts(rt: &impl Print, alloc: Global, each: &[&Beside<'_>]) -> io::Result<()> {
+    for beside in each {
         let count = count_orders(alloc, beside)?;
         println!(rt;
             "{}: {} orders, {} end otherwise",
@@ -100,20 +95,33 @@ fn write_counts(rt: &impl Print, alloc: Global) -> io::Result<()> {
     Ok(())
 }
 
-fn write_states(rt: &impl Print, alloc: Global) -> io::Result<()> {
-    for whole in [
-        &LOOKED_UP, &THERE, &TOO_MUCH, &MADE, &EXCLUSIVE, &RENAMED, &EXCHANGED, &REPLACED, &MOVED,
-        &UNLINKED,
-    ] {
+fn write_states(rt: &impl Print, alloc: Global, each: &[&Whole<'_>]) -> io::Result<()> {
+    for whole in each {
         let _walked = write_walked(rt, alloc, whole)?;
     }
     Ok(())
 }
 
-fn main(rt: HostRuntime) -> io::Result<()> {
-    write_counts(&rt, rt.alloc())?;
-    write_states(&rt, rt.alloc())?;
-    let walked = write_walked(&rt, rt.alloc(), &ONE_SLOT)?;
-    write_left_out(&rt, "counts that are given back", walked.given_back)?;
-    write_left_out(&rt, "counts that are forgotten", walked.forgotten)
+// Lookups, and creates of one name.
+fn write_makings(rt: &impl Print, alloc: Global) -> io::Result<()> {
+    let each = [&LOOKED_UP, &THERE, &TOO_MUCH, &MADE, &EXCLUSIVE];
+    write_states(rt, alloc, &each)
+}
+
+// Names that are moved and taken away beside lookups.
+fn write_movings(rt: &impl Print, alloc: Global) -> io::Result<()> {
+    let each = [&RENAMED, &EXCHANGED, &REPLACED, &MOVED, &UNLINKED];
+    write_states(rt, alloc, &each)
+}
+
+/// Runs lookups, creates, renames and a forget beside each other in every order of their steps, and writes how many
+/// orders do not end as a plain count says. Three cases of lookups are run order by order, whole requests by the
+/// states that orders lead to.
+pub fn write_orders(rt: &impl Print, alloc: Global) -> io::Result<()> {
+    write_counts(rt, alloc, &[&NUMBERED, &FORGOTTEN, &NEW])?;
+    write_makings(rt, alloc)?;
+    write_movings(rt, alloc)?;
+    let walked = write_walked(rt, alloc, &ONE_SLOT)?;
+    write_left_out(rt, "counts that are given back", walked.given_back)?;
+    write_left_out(rt, "counts that are forgotten", walked.forgotten)
 }

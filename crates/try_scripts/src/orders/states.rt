@@ -1,6 +1,6 @@
-use crate::plain::{Given, LeftOut, agrees};
-use crate::run::report_of;
-use crate::whole::{Job, Whole};
+use crate::orders::plain::{Given, LeftOut, agrees};
+use crate::orders::run::report_of;
+use crate::orders::whole::{Job, Whole};
 use std::alloc::{AllocError, Global};
 use std::collections::HashMap;
 use std::collections::hash_map::Entry;

@@ -1,10 +1,9 @@
-use crate::case::Case;
-use crate::many::answer_each;
+use crate::events::case::Case;
+use crate::events::many::answer_each;
 use crate::trouble::Trouble;
 use pt_show::Text;
 use pt_text::{Parts, push_text};
 use pt_words::{end, next_number, next_word};
-use std::alloc::AllocError;
 
 // What stands behind the first word.
 fn behind_word(text: &[u8]) -> Result<&[u8], Trouble> {
@@ -36,7 +35,8 @@ fn take_each(
     Ok(())
 }
 
-fn take(case: &mut Case, line: &[u8], out: &mut Vec<u8>) -> Result<(), Trouble> {
+/// What a line does to the case, and what it tells, which is put behind `out`.
+pub fn take(case: &mut Case, line: &[u8], out: &mut Vec<u8>) -> Result<(), Trouble> {
     let mut words = Parts::words(line);
     match next_word(&mut words)? {
         b"session" => {
@@ -58,32 +58,4 @@ fn take(case: &mut Case, line: &[u8], out: &mut Vec<u8>) -> Result<(), Trouble> 
         }
     }
     Ok(())
-}
-
-/// What a line does to the case, and what it tells, which is put behind `out`.
-pub fn take_line(case: &mut Case, line: &[u8], out: &mut Vec<u8>) -> Result<(), AllocError> {
-    match line {
-        [] | [b'#', ..] => return Ok(()),
-        [b'=', b'=', b' ', ..] => {
-            finish(case, out)?;
-            *case = Case::none(case.alloc);
-            push_text(out, line)?;
-            return push_text(out, b"\n");
-        }
-        _ => {}
-    }
-    match take(case, line, out) {
-        Ok(()) => Ok(()),
-        Err(Trouble::Memory) => Err(AllocError),
-        Err(Trouble::Bad) => {
-            push_text(out, b"bad ")?;
-            push_text(out, line)?;
-            push_text(out, b"\n")
-        }
-    }
-}
-
-/// What is left to tell at the end of a case.
-pub fn finish(case: &mut Case, out: &mut Vec<u8>) -> Result<(), AllocError> {
-    case.push_tables(out)
 }

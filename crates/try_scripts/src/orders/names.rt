@@ -1,4 +1,4 @@
-use crate::whole::{FIRST, FOURTH, SECOND, THIRD, Whole};
+use crate::orders::whole::{FIRST, FOURTH, SECOND, THIRD, Whole};
 
 /// A name is moved beside lookups of it and of the name that it gets.
 pub const RENAMED: Whole<'_> = Whole {

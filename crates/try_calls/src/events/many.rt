@@ -1,4 +1,4 @@
-use crate::case::Case;
+use crate::events::case::Case;
 use crate::trouble::Trouble;
 use pt_session::EventReply;
 use pt_text::push_decimal;

@@ -1,0 +1,7 @@
+mod case;
+mod line;
+mod long;
+mod seats;
+
+pub use case::Case;
+pub use line::{settle, take};

@@ -1,0 +1,6 @@
+mod case;
+mod line;
+mod many;
+
+pub use case::Case;
+pub use line::take;
