@@ -1,15 +1,20 @@
-ghost use Rattle.std.specs.Prelude.{◌≡◌, ◌+◌, ◌<◌, ◌≤◌};
-ghost use Rattle.pt_frame.specs.Machine.Next.{asked, deed_in, AsksFor, IsNext, counts_after, begun_in};
+ghost use Rattle.std.specs.Prelude.{◌≡◌, ◌+◌, ◌<◌, ◌≤◌, ℕ, true, false};
+ghost use Rattle.pt_frame.specs.Machine.Next.{asked, deed_in, with_memory, AsksFor, IsNext, counts_after, begun_in};
 ghost use Rattle.pt_frame.specs.Machine.Room.{brings};
 ghost use Rattle.pt_frame.specs.Replies.{inserted_by};
+ghost use Rattle.pt_frame.specs.Tree.{RequestTree, Shuts};
+ghost use Rattle.pt_frame.specs.declared.act.ActReply.{ActReply};
 ghost use Rattle.pt_host.specs.declared.seat.HostSeat.{HostSeat};
-ghost use Rattle.pt_req.specs.Machine.Creating.{old_left, old_acts, old_room, old_inserts};
+ghost use Rattle.pt_req.specs.Machine.Creating.{old_left, old_acts, old_room, old_inserts, old_looked, old_opened};
+ghost use Rattle.pt_req.specs.Machine.Parts.{part_tree, part_counts};
 
 use crate::begun::BegunSession;
 use crate::parts::asked::FileAsked;
 use crate::parts::look_up::EntryLookup;
+use crate::parts::looked::Looked;
 use crate::parts::open::HandleOpen;
 use crate::parts::options::create_options;
+use crate::parts::part::Part;
 use crate::plan::Plan;
 use pt_frame::{ActReply, Edges, Next, Shut, Then, Wanted};
 use pt_host::HostSeat;
@@ -36,6 +41,26 @@ const PASS_ON: Edges = Edges {
     brackets: true,
 };
 
+/// Goes on with the opening, with which it is answered.
+fn opened(plan: &Plan, entry: Entry, part: Part<u64>) -> Next
+    ensures next { (tree left : RequestTree) (told : ActReply) →
+        with_memory tree ≡ part_tree part told left (λ handle. Shuts false (old_opened plan.now entry handle)) →
+        IsNext tree told result left }
+    ensures counts { (count : ℕ) → counts_after result count ≡ part_counts part count }
+    ensures begins { begun_in result ≡ 0 }
+{
+    match part.handed() {
+        Ok(handle) => {
+            let options = create_options(&plan.config);
+            Next::Over {
+                edges: Edges::END,
+                then: Then::Gives(Answer::Created(entry, handle, options)),
+            }
+        }
+        Err(meanwhile) => meanwhile,
+    }
+}
+
 impl OldFile {
     pub fn want<'a>(&'a self, plan: &Plan, file: &'a FileAsked) -> Wanted<'a>
         ensures asks { (seat : HostSeat) →
@@ -51,6 +76,33 @@ impl OldFile {
         }
     }
 
+    /// Goes on with the lookup of its name: what it leads to is opened.
+    fn found(&mut self, plan: &Plan, seat: &HostSeat, file: &FileAsked, part: Part<Looked>) -> Next
+        ensures next { (tree : RequestTree) (told : ActReply) →
+            with_memory tree ≡ part_tree part told (old_left self.old file.now plan.now seat.now)
+            (λ looked. Shuts true (old_looked self.old file.now plan.now seat.now looked)) →
+            IsNext tree told result (old_left self.new file.now plan.now seat.now) }
+        ensures acts { (count : ℕ) → old_acts self.old ≡ count + 10 →
+            counts_after result (old_acts self.new) ≤ part_counts part count + 10 }
+        ensures room { (count : ℕ) → old_room self.old ≡ count + 5 →
+            begun_in result + counts_after result (old_room self.new) ≤ part_counts part count + 5 }
+        ensures inserts { old_inserts self.old ≡ 2 →
+            counts_after result (old_inserts self.new) ≤ part_counts part 1 + 1 }
+    {
+        let looked = match part.handed() {
+            Ok(looked) => looked,
+            Err(next) => return next,
+        };
+        let entry = looked.entry;
+        let session = self.session;
+        let part = HandleOpen::of(plan, seat, session, entry.inode, file.kill, file.flags);
+        self.at = OldFileAt::Open { entry, part };
+        Next::Over {
+            edges: PASS_ON,
+            then: Then::Goes,
+        }
+    }
+
     /// Goes on from the reply of the act that was wanted.
     pub fn take(&mut self, plan: &Plan, seat: &HostSeat, file: &FileAsked, reply: ActReply) -> Next
         ensures next { IsNext (asked (old_left self.old file.now plan.now seat.now) reply) reply result
@@ -63,35 +115,11 @@ impl OldFile {
             + counts_after result (old_inserts self.new) ≤ old_inserts self.old }
     {
         match &mut self.at {
-            OldFileAt::LookUp(part) => match part.take(plan, reply).handed() {
-                Ok(looked) => {
-                    let entry = looked.entry;
-                    let part = HandleOpen::of(
-                        plan,
-                        seat,
-                        self.session,
-                        entry.inode,
-                        file.kill,
-                        file.flags,
-                    );
-                    self.at = OldFileAt::Open { entry, part };
-                    Next::Over {
-                        edges: PASS_ON,
-                        then: Then::Goes,
-                    }
-                }
-                Err(next) => next,
-            },
-            OldFileAt::Open { entry, part } => match part.take(reply).handed() {
-                Ok(handle) => {
-                    let options = create_options(&plan.config);
-                    Next::Over {
-                        edges: Edges::END,
-                        then: Then::Gives(Answer::Created(*entry, handle, options)),
-                    }
-                }
-                Err(meanwhile) => meanwhile,
-            },
+            OldFileAt::LookUp(part) => {
+                let part = part.take(plan, reply);
+                self.found(plan, seat, file, part)
+            }
+            OldFileAt::Open { entry, part } => opened(plan, *entry, part.take(reply)),
         }
     }
 }
