@@ -123,7 +123,7 @@ weighed-lost w nodes dir name f object loses there =
     let one = ap (weighed_where (w dir)) at_dir.2 in
     omega (arith, sums, changed, less, now, one)
 
-directory_there : (nodes : List Node) (dir : ℕ) → is_directory_at nodes dir ≡ true →
+pub directory_there : (nodes : List Node) (dir : ℕ) → is_directory_at nodes dir ≡ true →
     (node : Node) × (slice_get nodes dir ≡ Some node) × (is_directory node ≡ true)
 directory_there nodes dir into = by_node (slice_get nodes dir) refl into
   where

@@ -45,6 +45,10 @@ abbrev pub number_in : Option Node → ℕ
 number_in None = 0
 number_in (Some node) = node.ids.ino
 
+-- the object with this inode number
+abbrev pub numbered : ℕ → Node → Node
+numbered number node = record node { ids = record node.ids { ino = number } }
+
 -- the inode number of the object at this place
 abbrev pub number_at : List Node → ℕ → ℕ
 number_at nodes object = number_in (slice_get nodes object)

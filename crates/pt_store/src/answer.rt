@@ -62,92 +62,42 @@ impl Store {
         ensures kept { IsKeptBy self.new }
     {
         match *op {
-            HostOp::OpenRoot { path, flags } => self.open_root(seat, path, flags),
-            HostOp::OpenPath { fd, path, flags } => self.open_path(seat, fd, path, flags),
-            HostOp::OpenAt {
-                fd,
-                name,
-                flags,
-                mode,
-            } => self.open_name(seat, fd, name, flags, mode),
-            HostOp::Reopen { fd, flags } => self.reopen(seat, fd, flags),
-            HostOp::OpenByHandle { fd, handle, flags } => self.open_by_handle(
-                seat, fd, handle, flags,
-            ),
-            HostOp::Close { fd } => self.close(fd),
-            HostOp::Stat { fd } => self.stat(fd),
-            HostOp::HandleOf { fd } => self.handle_of(fd),
-            HostOp::StatFs { fd } => self.stat_fs(fd),
-            HostOp::ReadLink { fd } => self.read_link(fd),
-            HostOp::FdPath { fd } => self.fd_path(fd),
-            HostOp::MountInfo => self.mount_info(),
-            HostOp::MakeDir { fd, name, mode } => self.make_dir(seat, fd, name, mode),
-            HostOp::MakeNode {
-                fd,
-                name,
-                mode,
-                rdev,
-            } => self.make_node(seat, fd, name, mode, rdev),
-            HostOp::MakeLink { from, fd, name } => self.make_link(seat, from, fd, name),
-            HostOp::SymLink { fd, name, target } => self.make_symlink(seat, fd, name, target),
-            HostOp::Unlink { fd, name } => self.unlink_name(seat, fd, name),
-            HostOp::RemoveDir { fd, name } => self.remove_dir(seat, fd, name),
-            HostOp::Rename {
-                fd,
-                name,
-                fd2,
-                name2,
-                flags,
-            } => self.rename_names(seat, (fd, name), (fd2, name2), flags),
-            HostOp::ReadAt { fd, offset, size } => self.read(fd, offset, size),
-            HostOp::WriteAt {
-                fd,
-                offset,
-                bytes,
-                append,
-            } => self.write_bytes(seat, fd, offset, bytes, append),
-            HostOp::Truncate { fd, size } => self.truncate(seat, fd, size),
-            HostOp::Allocate {
-                fd,
-                mode,
-                offset,
-                length,
-            } => self.allocate(fd, mode, offset, length),
-            HostOp::Seek { fd, offset, whence } => self.seek(fd, offset, whence),
-            HostOp::CopyRange {
-                fd,
-                offset,
-                fd2,
-                offset2,
-                length,
-                flags,
-            } => self.copy_range(seat, (fd, offset), (fd2, offset2), length, flags),
-            HostOp::ListAt { fd, offset, size } => self.list_at(fd, offset, size),
-            HostOp::Flush { fd } => self.flush(fd),
-            HostOp::Sync { fd, .. } | HostOp::SyncFs { fd } => self.sync(fd),
-            HostOp::ChMod { fd, through, mode } => self.change_mode(seat, fd, through, mode),
-            HostOp::ChOwn { fd, uid, gid } => self.change_owner(seat, fd, uid, gid),
-            HostOp::SetTimes {
-                fd,
-                through,
-                atime,
-                mtime,
-            } => self.set_times(seat, fd, through, atime, mtime),
-            HostOp::SetXattr {
-                fd,
-                through,
-                name,
-                value,
-                flags,
-            } => self.set_xattr(fd, through, name, value, flags),
-            HostOp::GetXattr {
-                fd,
-                through,
-                name,
-                size,
-            } => self.get_xattr(fd, through, name, size),
-            HostOp::ListXattr { fd, through, size } => self.list_xattr(fd, through, size),
-            HostOp::RemoveXattr { fd, through, name } => self.remove_xattr(fd, through, name),
+            HostOp::OpenRoot { .. }
+            | HostOp::OpenPath { .. }
+            | HostOp::OpenAt { .. }
+            | HostOp::Reopen { .. }
+            | HostOp::OpenByHandle { .. }
+            | HostOp::Close { .. } => self.answer_opening(seat, op),
+            HostOp::Stat { .. }
+            | HostOp::HandleOf { .. }
+            | HostOp::StatFs { .. }
+            | HostOp::ReadLink { .. }
+            | HostOp::FdPath { .. }
+            | HostOp::MountInfo => self.answer_telling(seat, op),
+            HostOp::MakeDir { .. }
+            | HostOp::MakeNode { .. }
+            | HostOp::MakeLink { .. }
+            | HostOp::SymLink { .. }
+            | HostOp::Unlink { .. }
+            | HostOp::RemoveDir { .. }
+            | HostOp::Rename { .. } => self.answer_on_names(seat, op),
+            HostOp::ReadAt { .. }
+            | HostOp::WriteAt { .. }
+            | HostOp::Truncate { .. }
+            | HostOp::Allocate { .. }
+            | HostOp::Seek { .. }
+            | HostOp::CopyRange { .. }
+            | HostOp::ListAt { .. }
+            | HostOp::Flush { .. }
+            | HostOp::Sync { .. }
+            | HostOp::SyncFs { .. } => self.answer_on_contents(seat, op),
+            HostOp::ChMod { .. }
+            | HostOp::ChOwn { .. }
+            | HostOp::SetTimes { .. }
+            | HostOp::SetXattr { .. }
+            | HostOp::GetXattr { .. }
+            | HostOp::ListXattr { .. }
+            | HostOp::RemoveXattr { .. } => self.answer_on_attributes(seat, op),
             HostOp::SetGroups { .. }
             | HostOp::SetEgid { .. }
             | HostOp::SetEuid { .. }

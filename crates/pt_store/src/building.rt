@@ -1,8 +1,25 @@
-ghost use Rattle.std.specs.Prelude.{◌≡◌, ◌<◌, ◌/◌, [], Ok, IfOk, IsTrue, slice_get};
+ghost use Rattle.std.specs.Prelude.{
+  ◌≡◌,
+  ◌<◌,
+  ◌+◌,
+  ◌/◌,
+  [],
+  None,
+  Ok,
+  IfOk,
+  IsTrue,
+  OnOk,
+  length,
+  slice_get,
+  true,
+};
 ghost use Rattle.std.specs.List.{list_all};
-ghost use Rattle.pt_node.specs.Node.{names_in};
+ghost use Rattle.pt_node.specs.Entries.{is_directory_at};
+ghost use Rattle.pt_node.specs.Mounts.{has_device};
+ghost use Rattle.pt_node.specs.Node.{name_at, names_in};
+ghost use Rattle.pt_rules.specs.Edits.{with_made};
 ghost use Rattle.pt_rules.specs.NameCalls.{special_kind};
-ghost use Rattle.pt_store.specs.StoreState.{IsStarting, state_of};
+ghost use Rattle.pt_store.specs.StoreState.{IsStarting, numbered, state_of};
 ghost use Rattle.pt_rules.specs.Building.{
   add_file,
   add_symlink,
@@ -18,6 +35,7 @@ ghost use Rattle.pt_rules.specs.Building.{
   is_printed,
   mount_root,
   mounted,
+  next_number,
   start_with,
 };
 
@@ -88,6 +106,33 @@ fn is_linkable(nodes: &[Node], object: usize, dir: usize) -> bool
 }
 
 impl Store {
+    /// The object comes under this name, which is free in the directory, with the next number of its device.
+    fn start_node(&mut self, dir: usize, name: &[u8], mut node: Node) -> Result<(), AllocError>
+        requires starting { IsStarting self.old }
+        requires into { is_directory_at self.old.nodes.items dir ≡ true }
+        requires free { name_at self.old.nodes.items dir name.now ≡ None }
+        requires empty { names_in node.content ≡ [] }
+        requires small { node.permissions < 4096 }
+        requires serial { node.serial ≡ length self.old.nodes.items + 1 }
+        requires mounted { has_device node.ids.dev self.old.mounts ≡ true }
+        ensures made { OnOk result (state_of self.new ≡ with_made (state_of self.old) dir name.now
+            (numbered (next_number self.old.nodes.items node.ids.dev) node)) }
+        ensures starting { OnOk result (IsStarting self.new) }
+    {
+        let Some(directories) = self
+            .inodes
+            .directories_with(dir, node.content.is_directory())
+        else {
+            return Err(AllocError);
+        };
+        let name = name.to_vec(self.alloc)?;
+        let object = self.nodes.len();
+        node.ids.ino = self.inodes.add(self.alloc, node.ids.dev, object, 1)?;
+        add_node(&mut self.nodes, dir, name, node, NEVER)?;
+        self.inodes.directories[dir] = directories;
+        Ok(())
+    }
+
     /// A new object at the end of this path; false where the path may not stand there.
     fn add_object(
         &mut self,
@@ -109,20 +154,15 @@ impl Store {
         let Some((dir, name)) = place_of(&self.nodes, path) else {
             return Ok(false);
         };
-        let object = self.nodes.len();
         let Some(parent) = self.nodes.get(dir) else {
             return Ok(false);
         };
-        let Some(directories) = self.inodes.directories_with(dir, content.is_directory()) else {
-            return Err(AllocError);
-        };
-        let name = name.to_vec(self.alloc)?;
-        let number = self.inodes.add(self.alloc, parent.ids.dev, object, 1)?;
+        let serial = self.nodes.len() as u64 + 1;
         let node = new_object(
             self.alloc,
             NEVER,
-            number,
-            object as u64 + 1,
+            0,
+            serial,
             parent,
             permissions,
             uid,
@@ -130,8 +170,7 @@ impl Store {
             rdev,
             content,
         );
-        add_node(&mut self.nodes, dir, name, node, NEVER)?;
-        self.inodes.directories[dir] = directories;
+        self.start_node(dir, name, node)?;
         Ok(true)
     }
 
@@ -286,16 +325,10 @@ impl Store {
             dev,
             path: path.copy(self.alloc)?,
         };
-        let Some(directories) = self.inodes.directories_with(dir, true) else {
-            return Err(AllocError);
-        };
-        let object = self.nodes.len();
-        let name = name.to_vec(self.alloc)?;
-        let _ = self.inodes.add(self.alloc, dev, object, 1)?;
-        let root = mount_root(self.alloc, id, dev, object as u64 + 1, handles);
-        add_node(&mut self.nodes, dir, name, root, NEVER)?;
-        self.inodes.directories[dir] = directories;
         self.mounts.insert(id, mount)?;
+        let serial = self.nodes.len() as u64 + 1;
+        let root = mount_root(self.alloc, id, dev, serial, handles);
+        self.start_node(dir, name, root)?;
         Ok(true)
     }
 

@@ -4,6 +4,7 @@
 pub mod answer;
 pub mod attribute_calls;
 pub mod building;
+pub mod call_groups;
 pub mod content_calls;
 pub mod edits;
 pub mod fd_path;

@@ -1,5 +1,6 @@
-ghost use Rattle.std.specs.Prelude.{◌≡◌, ◌<◌, Some, None, Ok, OnErr, OnOk, true};
+ghost use Rattle.std.specs.Prelude.{◌≡◌, ◌<◌, Some, None, Ok, IfErr, IfOk, OnErr, OnOk, true};
 ghost use Rattle.pt_store.specs.StoreState.{IsKeptBy, numbers_of, state_of};
+ghost use Rattle.pt_rules.specs.Calls.{done, refused};
 ghost use Rattle.pt_rules.specs.Does.{AnswersAs};
 ghost use Rattle.pt_node.specs.Entries.{is_directory_at};
 ghost use Rattle.pt_rules.specs.Holds.{HasHold};
@@ -22,7 +23,7 @@ use pt_change::name_checks::{
 };
 use pt_change::node_edits::link;
 use pt_host::{Bytes, Errno, Fd, HostReply, HostSeat, HostValue};
-use pt_node::links::{is_directory_at, links_of};
+use pt_node::links::is_directory_at;
 use pt_node::names::Names;
 use pt_node::node::Content;
 use pt_node::path::led_on;
@@ -160,28 +161,50 @@ impl Store {
         Ok(())
     }
 
+    /// The object to be linked and the directory that is to have the name, or why it does not get it.
+    fn link_ends(
+        &self,
+        seat: &HostSeat,
+        from: Fd,
+        fd: Fd,
+        name: &[u8],
+    ) -> Result<(usize, usize), Errno>
+        requires { IsKeptBy self.now }
+        ensures ok { IfOk result (λ ends. make_link (state_of self.now) seat.now from fd name.now
+            ≡ done (with_linked (state_of self.now) ends.1 name.now ends.0)) }
+        ensures into { IfOk result (λ ends. is_directory_at self.now.nodes.items ends.1 ≡ true) }
+        ensures free { IfOk result (λ ends. name_at self.now.nodes.items ends.1 name.now ≡ None) }
+        ensures lives { IfOk result (λ ends. HasHold (state_of self.now) ends.0) }
+        ensures err { IfErr result (λ errno. make_link (state_of self.now) seat.now from fd name.now
+            ≡ refused (state_of self.now) errno) }
+    {
+        let Some((linked, node)) = open_on(&self.files, &self.nodes, from) else {
+            return Err(Errno::EBADF);
+        };
+        let Some((file, dir)) = open_on(&self.files, &self.nodes, fd) else {
+            return Err(Errno::EBADF);
+        };
+        if let Some(errno) = name_refusal(seat, dir, name) {
+            return Err(errno);
+        }
+        let links = self.links_of(linked.object, node);
+        match link_refusal(seat, links, node, dir, name) {
+            Some(errno) => Err(errno),
+            None => Ok((linked.object, file.object)),
+        }
+    }
+
     pub fn make_link(&mut self, seat: &HostSeat, from: Fd, fd: Fd, name: &[u8]) -> HostReply
         requires { IsKeptBy self.old }
         ensures answers { AnswersAs (make_link (state_of self.old) seat.now from fd name.now)
             (state_of self.old) result (state_of self.new) }
         ensures kept { IsKeptBy self.new }
     {
-        let Some((linked, node)) = open_on(&self.files, &self.nodes, from) else {
-            return HostReply::Refused(Errno::EBADF);
+        let (object, dir) = match self.link_ends(seat, from, fd, name) {
+            Ok(ends) => ends,
+            Err(errno) => return HostReply::Refused(errno),
         };
-        let Some((file, dir)) = open_on(&self.files, &self.nodes, fd) else {
-            return HostReply::Refused(Errno::EBADF);
-        };
-        if let Some(errno) = name_refusal(seat, dir, name) {
-            return HostReply::Refused(errno);
-        }
-        let names = self.inodes.names[linked.object];
-        let directories = self.inodes.directories[linked.object];
-        let links = links_of(node, names, directories);
-        if let Some(errno) = link_refusal(seat, links, node, dir, name) {
-            return HostReply::Refused(errno);
-        }
-        match self.link_name(file.object, name, linked.object) {
+        match self.link_name(dir, name, object) {
             Ok(()) => HostReply::Ok(HostValue::Unit),
             Err(_) => HostReply::NoMemory,
         }

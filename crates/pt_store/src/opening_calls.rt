@@ -1,4 +1,4 @@
-ghost use Rattle.std.specs.Prelude.{◌≡◌, ◌<◌, ℕ, Some, None, option_map, slice_get, true};
+ghost use Rattle.std.specs.Prelude.{◌≡◌, ◌==◌, ◌&&◌, ◌<◌, ℕ, Some, None, option_map, slice_get, true};
 ghost use Rattle.pt_node.specs.declared.node.Node.{Node};
 ghost use Rattle.pt_store.specs.StoreState.{IsKeptBy, numbers_of, state_of};
 ghost use Rattle.pt_rules.specs.Does.{AnswersAs};
@@ -32,9 +32,17 @@ use pt_host::{
 };
 use pt_node::entries::new_object;
 use pt_node::mounts::push_mounts;
-use pt_node::node::Content;
+use pt_node::node::{Content, Node};
 use pt_node::opening::apply_opening;
 use pt_node::path::walk_from;
+
+/// Whether the object is on the mount and has the handle.
+fn has_handle(node: &Node, mount: u64, handle: &CFileHandle) -> bool
+    ensures { result
+        ≡ ((node.now.ids.mnt_id == mount) && node.now.has_handle && same_handle (handle_of node.now) handle.now) }
+{
+    node.ids.mnt_id == mount && node.has_handle && same_handle(&handle_of(node), handle)
+}
 
 impl Store {
     pub fn open_path(&mut self, seat: &HostSeat, fd: Fd, path: &[u8], flags: OpenFlags) -> HostReply
@@ -174,12 +182,7 @@ impl Store {
     {
         match self.nodes.get(place) {
             None => false,
-            Some(node) => {
-                node.ids.mnt_id == mount
-                    && node.has_handle
-                    && same_handle(&handle_of(node), handle)
-                    && self.inodes.is_held(place)
-            }
+            Some(node) => has_handle(node, mount, handle) && self.inodes.is_held(place),
         }
     }
 
