@@ -54,6 +54,21 @@ fn map_of(alloc: Global, rules: &IdRules) -> Result<IdMap, Refusal>
     }
 }
 
+/// The configuration with a map of each of its lists of rules, that of uids first.
+fn mapped(alloc: Global, cfg: Config) -> Result<Plan, Refusal>
+    ensures plan { IfOk result (λ plan. IsPlanned cfg plan) }
+    ensures mapped { OnOk result (AreMapped cfg) }
+    ensures refused { IfErr result (λ why. IsUnmappedBy cfg.uid_map why ⊎ IsUnmappedBy cfg.gid_map why) }
+{
+    let uid_map = map_of(alloc, &cfg.uid_map)?;
+    let gid_map = map_of(alloc, &cfg.gid_map)?;
+    Ok(Plan {
+        config: cfg,
+        uid_map,
+        gid_map,
+    })
+}
+
 /// Opens the host's root by one call, as a descriptor that only stands for it.
 fn open_root<H: Host>(host: &mut H, seat: &mut HostSeat) -> Result<Fd, Refusal>
     ensures call { (reply : HostReply) × H.does host.old seat.old opens_root reply host.new seat.new
@@ -93,15 +108,10 @@ impl PassthroughFs {
         ensures opened { IfOk result (λ fs. OpensOne (H.tree host.old) fs.root (H.tree host.new)) }
         ensures nothing_opened { OnErr result (StaysTold (H.tree host.old) (H.tree host.new)) }
     {
-        let uid_map = map_of(alloc, &cfg.uid_map)?;
-        let gid_map = map_of(alloc, &cfg.gid_map)?;
+        let fd_limit = cfg.guest_fd_limit;
+        let plan = mapped(alloc, cfg)?;
         let root = open_root(host, seat)?;
-        let session = Session::new(alloc, cfg.guest_fd_limit);
-        let plan = Plan {
-            config: cfg,
-            uid_map,
-            gid_map,
-        };
+        let session = Session::new(alloc, fd_limit);
         Ok(PassthroughFs {
             plan,
             session,
