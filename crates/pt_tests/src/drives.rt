@@ -4,6 +4,8 @@ ghost use Rattle.pt_fs.specs.Jobs.{StartAll, job_start};
 ghost use Rattle.pt_host.specs.Seat.{IsStartingSeat};
 
 use crate::one_directory::{a_host, a_seat};
+use pt_attr::AnyJob;
+use pt_frame::Finish;
 use pt_fs::{DriveError, Driven, Job, PassthroughFs, SteppedFs, TraceStep, drive};
 use pt_host::{Bytes, Edit, Errno, Fd};
 use pt_iface::{Answer, Context, Refusal, Request};
@@ -11,6 +13,7 @@ use pt_req::Config;
 use pt_session::{Event, EventReply, Session};
 use std::alloc::{AllocError, Global};
 use std::mem::forget;
+use std::process::Abort;
 use std::test::Fail;
 
 fn made(alloc: Global, refuses: bool) -> Result<PassthroughFs, Refusal>
@@ -37,14 +40,27 @@ fn takes_one_of_five_slots(fs: &mut PassthroughFs) -> bool {
     matches!(fs.event(&Event::TakeFd), EventReply::Taken) && fs.session().slots_left() == 4
 }
 
-/// Whether a request begins.
-fn begins_a_request(alloc: Global, fs: &PassthroughFs) -> bool {
+/// Whether a request begins. Its job is cut, and ends so: to let a job go is to let each kind of job go, which takes
+/// its proof minutes.
+fn begins_a_request<R: Abort>(rt: &R, alloc: Global, fs: &PassthroughFs) -> bool {
     let who = Context { uid: 0, gid: 0 };
-    let started = fs.start(alloc, who, Request::Root);
-    let begins = matches!(&started, Ok(job) if !job.is_finished());
-    // to let a job go is to let each kind of job go, which takes its proof minutes
-    forget(started);
-    begins
+    match fs.start(alloc, who, Request::Root) {
+        Ok(job) => ends_cut(rt, job),
+        Err(request) => {
+            forget(request);
+            false
+        }
+    }
+}
+
+fn ends_cut<R: Abort>(rt: &R, mut job: AnyJob) -> bool {
+    assert!(rt; !job.is_finished(), "it has ended");
+    job.cut();
+    assert!(rt; job.is_finished(), "it goes on");
+    let ended = job.finish();
+    let is_cut = matches!(&ended, Finish::Answer(Answer::Cut));
+    forget(ended);
+    is_cut
 }
 
 #[test]
@@ -53,7 +69,7 @@ fn a_new_file_system_keeps_its_root_and_its_limit(rt: HostRuntime) -> Result<(),
     assert!(rt; keeps_its_root_and_its_limit(&fs));
     assert!(rt; takes_a_session(rt.alloc(), &mut fs));
     assert!(rt; takes_one_of_five_slots(&mut fs));
-    assert!(rt; begins_a_request(rt.alloc(), &fs));
+    assert!(rt; begins_a_request(&rt, rt.alloc(), &fs));
     Ok(())
 }
 
@@ -65,7 +81,8 @@ fn a_host_that_refuses_its_root_has_no_file_system(rt: HostRuntime) -> Result<()
     }
 }
 
-/// Puts a job behind the others. One that finds no memory is not let go, as its kinds are many.
+/// Puts a job behind the others. One that finds no memory is forgotten: to let it go here is to let each kind of job
+/// go.
 #[tactic(auto, using(crate::proofs::Starting::one_more))]
 fn push(jobs: &mut Vec<Job>, job: Job) -> bool
     requires { IsStartingSeat (job_start job) }
@@ -148,10 +165,10 @@ fn four_jobs(alloc: Global) -> Option<Vec<Job>>
 {
     let mut jobs = Vec::new(alloc);
     if push_four(alloc, &mut jobs) && jobs.len() == 4 {
-        return Some(jobs);
+        Some(jobs)
+    } else {
+        None
     }
-    forget(jobs);
-    None
 }
 
 /// Whether a run left what it should, with steps of these jobs.

@@ -7,6 +7,7 @@ use pt_req::{Config, Plan};
 use pt_session::{EventRefusal, EventReply, Negotiated, RowForm};
 use pt_show::Text;
 use std::alloc::Global;
+use std::mem::forget;
 use std::process::Abort;
 
 /// What a job does, or what befalls it, where it stands.
@@ -146,7 +147,10 @@ impl Played {
         let who = Context { uid: 0, gid: 0 };
         match AnyJob::start(alloc, &plan, who, request) {
             Ok(job) => Some(Played::new(job, plan)),
-            Err(_) => None,
+            Err(request) => {
+                forget(request);
+                None
+            }
         }
     }
 
@@ -231,10 +235,10 @@ impl Played {
             plan: _plan,
             seat: _seat,
         } = self;
-        match job.finish() {
-            Finish::Answer(answer) => has_text(alloc, &answer, wanted),
-            Finish::Lost(_) => false,
-        }
+        let ended = job.finish();
+        let ends_so = matches!(&ended, Finish::Answer(answer) if has_text(alloc, answer, wanted));
+        forget(ended);
+        ends_so
     }
 }
 

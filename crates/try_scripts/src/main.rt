@@ -2,8 +2,8 @@
 //!
 //! A line `== NAME` begins a case, and the lines up to the next one are its script. Words behind the name change the
 //! case: with `cut` the last line feed is no part of the script, with `ends` the report is shown from its first
-//! answer on. Out comes `== NAME` and then the report, where the run has one; where it is not done, a line follows with
-//! the process' status and what the program says.
+//! answer on. Out comes `== NAME` and then the report, where the run has one; where it is not done, a line follows
+//! with the process' status and what the program says.
 //!
 //! Behind the last case a line `=== orders` asks for what comes of jobs in every order of their steps.
 #![tactic(auto)]
