@@ -158,6 +158,7 @@ impl Store {
             return Ok(false);
         };
         let serial = self.nodes.len() as u64 + 1;
+        // Its number is given as it comes under its name.
         let node = new_object(
             self.alloc,
             NEVER,
