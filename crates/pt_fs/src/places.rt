@@ -1,6 +1,7 @@
 //! Where the jobs of a run are. Each part of a place lies among its like, so that none takes room for another's.
 
-ghost use Rattle.std.specs.Prelude.{◌≡◌, ◌<◌, ◌^◌, ℕ, length, map, slice_get, slice_set, IfOk, Some, Option};
+ghost use Rattle.std.specs.Prelude.{◌≡◌, ◌<◌, ◌^◌, ℕ, length, map, replicate, slice_get, slice_set, IfOk, Some};
+ghost use Rattle.std.specs.Prelude.{Option};
 ghost use Rattle.pt_host.specs.Words.{Each};
 ghost use Rattle.pt_host.specs.declared.seat.HostSeat.{HostSeat};
 ghost use Rattle.pt_iface.specs.declared.answer.Answer.{Answer};
@@ -90,6 +91,36 @@ fn seat_of(job: &Job) -> Option<HostSeat>
     }
 }
 
+/// The seats with which jobs begin, an edit's too.
+fn starts_of(alloc: Global, jobs: &[Job]) -> Result<Vec<HostSeat>, AllocError>
+    ensures starts { IfOk result (λ starts. starts.items ≡ map job_start jobs.now) }
+    ensures fits { IfOk result (λ starts.
+        Each (λ (job : Job). (job_start job).eff_caps.0 < 2 ^ 32) jobs.now) }
+{
+    let mut starts = with_room(alloc, jobs.len())?;
+    for job in jobs {
+        let start = start_of(job);
+        // That they are 32 bits is known of what is read alone.
+        let _fits = caps_in(&start);
+        push_within(&mut starts, start);
+    }
+    Ok(starts)
+}
+
+/// The stages of so many jobs that have made no step, and what stands for their answers.
+fn waiting(alloc: Global, count: usize) -> Result<(Vec<Stage>, Vec<Answer>), AllocError>
+    ensures stages { IfOk result (λ made. made.0.items ≡ replicate count Stage.Waits) }
+    ensures answers { IfOk result (λ made. made.1.items ≡ replicate count Answer.Cut) }
+{
+    let mut stages = with_room(alloc, count)?;
+    let mut answers = with_room(alloc, count)?;
+    for _place in 0..count {
+        push_within(&mut stages, Stage::Waits);
+        push_within(&mut answers, Answer::Cut);
+    }
+    Ok((stages, answers))
+}
+
 /// The seats of jobs that have made no step.
 pub fn seats_of(alloc: Global, jobs: &[Job]) -> Result<Vec<Option<HostSeat>>, AllocError>
     ensures { IfOk result (λ seats. seats.items ≡ map job_seat jobs.now) }
@@ -119,17 +150,8 @@ impl Places {
         ensures fits { IfOk result (λ places.
             Each (λ (job : Job). (job_start job).eff_caps.0 < 2 ^ 32) jobs.items) }
     {
-        let mut starts = with_room(alloc, jobs.len())?;
-        let mut stages = with_room(alloc, jobs.len())?;
-        let mut answers = with_room(alloc, jobs.len())?;
-        for job in &jobs {
-            let start = start_of(job);
-            // That they are 32 bits is known of what is read alone.
-            let _fits = caps_in(&start);
-            push_within(&mut starts, start);
-            push_within(&mut stages, Stage::Waits);
-            push_within(&mut answers, Answer::Cut);
-        }
+        let starts = starts_of(alloc, jobs.as_slice())?;
+        let (stages, answers) = waiting(alloc, jobs.len())?;
         Ok(Places {
             asked: jobs,
             starts,

@@ -1,5 +1,6 @@
 -- Each job of a script begins with a seat as it should.
-use Rattle.std.proofs.Common.{List, [], ◌∷◌, ◌++◌, refl}
+use Rattle.std.proofs.Common.{◌≡◌, List, [], ◌∷◌, ◌++◌, Result, Ok, Err, refl}
+use Rattle.std.specs.Prelude.{OnOk, OnErr}
 use Rattle.pt_host.specs.Seat.{IsStartingSeat}
 use Rattle.pt_host.specs.declared.seat.HostSeat.{HostSeat}
 use Rattle.pt_iface.specs.declared.request.Request.TheVariants.{Root}
@@ -43,3 +44,10 @@ pub one_more_starts : (jobs : List Job) (settings : Settings) (line : ScriptJob)
 one_more_starts [] settings line starts =
     (line_starts (start_seat settings) (seat_starts (identity_in settings)) line, tt)
 one_more_starts (job ∷ jobs) settings line starts = (starts.0, one_more_starts jobs settings line starts.1)
+
+-- whether one more was put behind them or not
+pub more_start : {E : Type 0} (result : Result (Unit {0}) E) (jobs jobs' : List Job) (settings : Settings)
+    (line : ScriptJob) → OnOk result (jobs' ≡ jobs ++ job_of (start_seat settings) line ∷ []) →
+    OnErr result (jobs' ≡ jobs) → StartAll jobs → StartAll jobs'
+more_start (Ok done) jobs jobs' settings line pushed same starts = rw pushed (one_more_starts jobs settings line starts)
+more_start (Err error) jobs jobs' settings line pushed same starts = rw same starts

@@ -1,5 +1,9 @@
-ghost use Rattle.std.specs.Prelude.{◌≡◌, IfOk, Some, None};
-ghost use Rattle.pt_script.specs.Line.{fault_in, job_in, line_of};
+ghost use Rattle.std.specs.Prelude.{◌≡◌, ◌∷◌, IfOk, Some, None};
+ghost use Rattle.std.specs.Option.{option_map};
+ghost use Rattle.pt_words.specs.Fields.{places_in, at_end};
+ghost use Rattle.pt_script.specs.Line.{fault_in, job_in, edit_job_in, line_in, line_of};
+ghost use Rattle.pt_script.specs.SettingLine.{setting_in};
+ghost use Rattle.pt_script.specs.TreeLine.{tree_line_in};
 
 use crate::edit::next_edit;
 use crate::setting_line::next_setting;
@@ -66,6 +70,78 @@ pub fn next_job(alloc: Global, words: &mut Parts<'_>) -> Result<ScriptJob, LineE
     Ok(ScriptJob::Request(Context { uid, gid }, request))
 }
 
+fn next_set_line(alloc: Global, words: &mut Parts<'_>) -> Result<Line, LineError>
+    ensures ok { IfOk result (λ line. option_map Line.Set (setting_in words.old) ≡ Some line) }
+    ensures bad { result ≡ Err LineError.Bad → option_map Line.Set (setting_in words.old) ≡ None }
+{
+    Ok(Line::Set(next_setting(alloc, words)?))
+}
+
+fn next_job_line(alloc: Global, words: &mut Parts<'_>) -> Result<Line, LineError>
+    ensures ok { IfOk result (λ line. option_map Line.Job (job_in words.old) ≡ Some line) }
+    ensures bad { result ≡ Err LineError.Bad → option_map Line.Job (job_in words.old) ≡ None }
+{
+    Ok(Line::Job(next_job(alloc, words)?))
+}
+
+fn next_edit_line(alloc: Global, words: &mut Parts<'_>) -> Result<Line, LineError>
+    ensures ok { IfOk result (λ line. option_map Line.Job (edit_job_in words.old) ≡ Some line) }
+    ensures bad { result ≡ Err LineError.Bad → option_map Line.Job (edit_job_in words.old) ≡ None }
+{
+    Ok(Line::Job(ScriptJob::Edit(next_edit(alloc, words)?)))
+}
+
+fn next_order_line(alloc: Global, words: &mut Parts<'_>) -> Result<Line, LineError>
+    ensures ok { IfOk result (λ line. option_map Line.Order (places_in words.old) ≡ Some line) }
+    ensures bad { result ≡ Err LineError.Bad → option_map Line.Order (places_in words.old) ≡ None }
+{
+    Ok(Line::Order(next_places(alloc, words)?))
+}
+
+fn next_fault_line(words: &mut Parts<'_>) -> Result<Line, LineError>
+    ensures ok { IfOk result (λ line. option_map Line.Fault (fault_in words.old) ≡ Some line) }
+    ensures bad { result ≡ Err LineError.Bad → option_map Line.Fault (fault_in words.old) ≡ None }
+{
+    Ok(Line::Fault(next_fault(words)?))
+}
+
+fn next_end_line(words: &Parts<'_>) -> Result<Line, LineError>
+    ensures ok { IfOk result (λ line. at_end words.now Line.End ≡ Some line) }
+    ensures bad { result ≡ Err LineError.Bad → at_end words.now Line.End ≡ None }
+{
+    end(words)?;
+    Ok(Line::End)
+}
+
+fn next_other_line(alloc: Global, word: &[u8], words: &mut Parts<'_>) -> Result<Line, LineError>
+    ensures ok { IfOk result (λ line. option_map Line.Tree (tree_line_in word.now words.old) ≡ Some line) }
+    ensures bad { result ≡ Err LineError.Bad → option_map Line.Tree (tree_line_in word.now words.old) ≡ None }
+{
+    Ok(Line::Tree(next_tree_line(alloc, word, words)?))
+}
+
+// The line that begins with this word.
+fn next_line_as(alloc: Global, word: &[u8], words: &mut Parts<'_>) -> Result<Line, LineError>
+    ensures ok { IfOk result (λ line. line_in (word.now ∷ words.old) ≡ Some line) }
+    ensures bad { result ≡ Err LineError.Bad → line_in (word.now ∷ words.old) ≡ None }
+{
+    if is_word(word, b"set") {
+        next_set_line(alloc, words)
+    } else if is_word(word, b"job") {
+        next_job_line(alloc, words)
+    } else if is_word(word, b"edit") {
+        next_edit_line(alloc, words)
+    } else if is_word(word, b"order") {
+        next_order_line(alloc, words)
+    } else if is_word(word, b"fault") {
+        next_fault_line(words)
+    } else if is_word(word, b"end") {
+        next_end_line(words)
+    } else {
+        next_other_line(alloc, word, words)
+    }
+}
+
 /// The line that a text is.
 pub fn read_line(alloc: Global, text: &[u8]) -> Result<Line, LineError>
     ensures ok { IfOk result (λ line. line_of text.now ≡ Some line) }
@@ -73,20 +149,5 @@ pub fn read_line(alloc: Global, text: &[u8]) -> Result<Line, LineError>
 {
     let mut words = Parts::words(text);
     let word = next_word(&mut words)?;
-    if is_word(word, b"set") {
-        Ok(Line::Set(next_setting(alloc, &mut words)?))
-    } else if is_word(word, b"job") {
-        Ok(Line::Job(next_job(alloc, &mut words)?))
-    } else if is_word(word, b"edit") {
-        Ok(Line::Job(ScriptJob::Edit(next_edit(alloc, &mut words)?)))
-    } else if is_word(word, b"order") {
-        Ok(Line::Order(next_places(alloc, &mut words)?))
-    } else if is_word(word, b"fault") {
-        Ok(Line::Fault(next_fault(&mut words)?))
-    } else if is_word(word, b"end") {
-        end(&words)?;
-        Ok(Line::End)
-    } else {
-        Ok(Line::Tree(next_tree_line(alloc, word, &mut words)?))
-    }
+    next_line_as(alloc, word, &mut words)
 }

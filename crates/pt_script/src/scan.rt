@@ -1,7 +1,8 @@
-ghost use Rattle.std.specs.Prelude.{◌≡◌, ◌≤◌, ◌+◌, not, nat_lt, IfOk, OnOk, OnErr, Some, None, true, false, length};
+ghost use Rattle.std.specs.Prelude.{◌≡◌, ◌≤◌, ◌+◌, ◌∷◌, ◌++◌, [], not, nat_lt, IfOk, OnOk, OnErr, Some, None, true};
+ghost use Rattle.std.specs.Prelude.{false, length};
 ghost use Rattle.pt_fs.specs.Jobs.{StartAll};
 ghost use Rattle.pt_script.specs.Script.{may_stand, added, nothing, max_places, is_before_jobs, last_fault, is_later};
-ghost use Rattle.pt_script.specs.Scan.{allowed, kept_lines, scan_of};
+ghost use Rattle.pt_script.specs.Scan.{allowed, with_allowed, kept_lines, scan_of};
 
 use crate::jobs::job_of;
 use crate::line::{Line, PlannedFault, read_line};
@@ -46,6 +47,16 @@ impl Model for Lines {
     } };
 
     ghost invariant = { λ lines. StartAll lines.jobs.items };
+}
+
+// Puts an item behind others, or lets it go.
+fn push_item<T: Drop>(items: &mut Vec<T>, item: T) -> Result<(), AllocError>
+    ensures ok { OnOk result (items.new.items ≡ items.old.items ++ item ∷ []) }
+    ensures err { OnErr result (items.new.items ≡ items.old.items) }
+    ensures few { length items.new.items ≤ length items.old.items + 1 }
+{
+    items.push(item)?;
+    Ok(())
 }
 
 impl Lines {
@@ -129,14 +140,16 @@ impl Lines {
         ensures few { kept_lines self.new ≤ kept_lines self.old + 1 }
     {
         match line {
-            Line::Set(setting) => self.settings.add(setting)?,
-            Line::Tree(line) => self.tree.push(line)?,
-            Line::Fault(fault) => self.faults.push(fault)?,
-            Line::Job(line) => self.jobs.push(job_of(self.settings.identity(), line))?,
-            Line::Order(places) => self.order.append(&places)?,
-            Line::End => self.ended = true,
+            Line::Set(setting) => self.settings.add(setting),
+            Line::Tree(line) => push_item(&mut self.tree, line),
+            Line::Fault(fault) => push_item(&mut self.faults, fault),
+            Line::Job(line) => push_item(&mut self.jobs, job_of(self.settings.identity(), line)),
+            Line::Order(places) => self.order.append(&places),
+            Line::End => {
+                self.ended = true;
+                Ok(())
+            }
         }
-        Ok(())
     }
 
     /// What is set, the lines of the tree, the faults, the jobs and the schedule, which takes no memory.
@@ -152,6 +165,21 @@ impl Lines {
         (self.settings, tree, self.faults, self.jobs, self.order)
     }
 
+    // Puts a line behind these, and tells whether it may stand there.
+    fn take(&mut self, line: Line) -> Result<bool, AllocError>
+        ensures taken { result ≡ Ok true → with_allowed self.old line ≡ Some self.new }
+        ensures bad { result ≡ Ok false → with_allowed self.old line ≡ None }
+        ensures unchanged { result ≡ Ok false → self.new ≡ self.old }
+        ensures err { OnErr result (self.new ≡ self.old) }
+        ensures few { kept_lines self.new ≤ kept_lines self.old + 1 }
+    {
+        if !self.may_take(&line) {
+            return Ok(false);
+        }
+        self.add(line)?;
+        Ok(true)
+    }
+
     // Puts the line that a text is behind these, and tells whether it is one and may stand there.
     fn take_text(&mut self, alloc: Global, text: &[u8]) -> Result<bool, AllocError>
         ensures taken { result ≡ Ok true → allowed self.old text.now ≡ Some self.new }
@@ -160,16 +188,11 @@ impl Lines {
         ensures err { OnErr result (self.new ≡ self.old) }
         ensures few { kept_lines self.new ≤ kept_lines self.old + 1 }
     {
-        let line = match read_line(alloc, text) {
-            Ok(line) => line,
-            Err(LineError::Bad) => return Ok(false),
-            Err(LineError::Memory) => return Err(AllocError),
-        };
-        if !self.may_take(&line) {
-            return Ok(false);
+        match read_line(alloc, text) {
+            Ok(line) => self.take(line),
+            Err(LineError::Bad) => Ok(false),
+            Err(LineError::Memory) => Err(AllocError),
         }
-        self.add(line)?;
-        Ok(true)
     }
 }
 

@@ -6,4 +6,5 @@ pub mod Handles
 pub mod Contents
 pub mod Making
 pub mod Attributes
+pub mod Parted
 pub mod Request

@@ -1,5 +1,6 @@
 ghost use Rattle.std.specs.Prelude.{◌≡◌, IfOk, Some, None};
 ghost use Rattle.pt_words.specs.Attributes.{readlink_in, statfs_in, getattr_in, access_in, attributes_in, setattr_in};
+ghost use Rattle.pt_words.specs.Parted.{owner_in, time_in};
 
 use crate::fields::{LineError, end, next_number, next_optional_number, next_small};
 use pt_iface::{Request, SetattrIn, SetattrValid};
@@ -46,6 +47,29 @@ pub fn next_access(words: &mut Parts<'_>) -> Result<Request, LineError>
     Ok(Request::Access { inode, mask })
 }
 
+// The mode and the owner of an object.
+fn next_owner(words: &mut Parts<'_>) -> Result<(u32, u32, u32), LineError>
+    ensures ok { IfOk result (λ told. owner_in words.old ≡ Some (record { value = told; rest = words.new })) }
+    ensures bad { result ≡ Err LineError.Bad → owner_in words.old ≡ None }
+    ensures no_memory { result ≡ Err LineError.Memory → ⊥ }
+{
+    let mode = next_small(words)?;
+    let uid = next_small(words)?;
+    let gid = next_small(words)?;
+    Ok((mode, uid, gid))
+}
+
+// Seconds and nanoseconds.
+fn next_time(words: &mut Parts<'_>) -> Result<(u64, u32), LineError>
+    ensures ok { IfOk result (λ told. time_in words.old ≡ Some (record { value = told; rest = words.new })) }
+    ensures bad { result ≡ Err LineError.Bad → time_in words.old ≡ None }
+    ensures no_memory { result ≡ Err LineError.Memory → ⊥ }
+{
+    let secs = next_number(words)?;
+    let nanos = next_small(words)?;
+    Ok((secs, nanos))
+}
+
 // The new attributes, of which not all need be valid.
 fn next_attributes(words: &mut Parts<'_>) -> Result<SetattrIn, LineError>
     ensures ok { IfOk result (λ attr. attributes_in words.old
@@ -53,14 +77,10 @@ fn next_attributes(words: &mut Parts<'_>) -> Result<SetattrIn, LineError>
     ensures bad { result ≡ Err LineError.Bad → attributes_in words.old ≡ None }
     ensures no_memory { result ≡ Err LineError.Memory → ⊥ }
 {
-    let mode = next_small(words)?;
-    let uid = next_small(words)?;
-    let gid = next_small(words)?;
+    let (mode, uid, gid) = next_owner(words)?;
     let size = next_number(words)?;
-    let atime = next_number(words)?;
-    let atimensec = next_small(words)?;
-    let mtime = next_number(words)?;
-    let mtimensec = next_small(words)?;
+    let (atime, atimensec) = next_time(words)?;
+    let (mtime, mtimensec) = next_time(words)?;
     Ok(SetattrIn {
         mode,
         uid,

@@ -1,5 +1,6 @@
 ghost use Rattle.std.specs.Prelude.{◌≡◌, IfOk, Some, None};
 ghost use Rattle.pt_words.specs.Making.{group_in, extensions_in, create_in, mkdir_in, mknod_in, symlink_in};
+ghost use Rattle.pt_words.specs.Parted.{brought_in};
 
 use crate::fields::{
     LineError, end, next_bytes, next_number, next_optional_small, next_small, next_switch,
@@ -36,6 +37,18 @@ fn next_extensions(words: &mut Parts<'_>) -> Result<Extensions, LineError>
     next_group(words)
 }
 
+// The mask of the process and what it brings beside, and no more.
+fn next_brought(words: &mut Parts<'_>) -> Result<(u32, Extensions), LineError>
+    ensures ok { IfOk result (λ told. brought_in words.old ≡ Some told) }
+    ensures bad { result ≡ Err LineError.Bad → brought_in words.old ≡ None }
+    ensures no_memory { result ≡ Err LineError.Memory → ⊥ }
+{
+    let umask = next_small(words)?;
+    let ext = next_extensions(words)?;
+    end(words)?;
+    Ok((umask, ext))
+}
+
 pub fn next_create(alloc: Global, words: &mut Parts<'_>) -> Result<Request, LineError>
     ensures ok { IfOk result (λ request. create_in words.old ≡ Some request) }
     ensures bad { result ≡ Err LineError.Bad → create_in words.old ≡ None }
@@ -45,9 +58,7 @@ pub fn next_create(alloc: Global, words: &mut Parts<'_>) -> Result<Request, Line
     let mode = next_small(words)?;
     let kill = next_switch(words)?;
     let flags = next_small(words)?;
-    let umask = next_small(words)?;
-    let ext = next_extensions(words)?;
-    end(words)?;
+    let (umask, ext) = next_brought(words)?;
     Ok(Request::Create {
         parent,
         name,
@@ -66,9 +77,7 @@ pub fn next_mkdir(alloc: Global, words: &mut Parts<'_>) -> Result<Request, LineE
     let parent = next_number(words)?;
     let name = next_bytes(alloc, words)?;
     let mode = next_small(words)?;
-    let umask = next_small(words)?;
-    let ext = next_extensions(words)?;
-    end(words)?;
+    let (umask, ext) = next_brought(words)?;
     Ok(Request::Mkdir {
         parent,
         name,
@@ -86,9 +95,7 @@ pub fn next_mknod(alloc: Global, words: &mut Parts<'_>) -> Result<Request, LineE
     let name = next_bytes(alloc, words)?;
     let mode = next_small(words)?;
     let rdev = next_small(words)?;
-    let umask = next_small(words)?;
-    let ext = next_extensions(words)?;
-    end(words)?;
+    let (umask, ext) = next_brought(words)?;
     Ok(Request::Mknod {
         parent,
         name,
