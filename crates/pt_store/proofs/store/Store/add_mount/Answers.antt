@@ -68,8 +68,8 @@ start_node-requires-clause-mounted c =
     with_mount id (record { parent = mnt; dev = dev; path = p }) state.mounts) c.in_ok-copy.ensures in
     ap (λ (n : Node). has_device n.ids.dev c.insert.new.self) c.mount_root-root.ensures
     ∙ ap (has_device dev) mounts
-    ∙ own_device state (counts_of c.args.self.now.inodes) (table_in c.args.self.now.inodes.tables.items) mnt id dev path
-    own.0
+    ∙ own_device state (counts_of c.args.self.now.inodes) (table_in c.args.self.now.inodes.tables.items)
+    mnt id dev path own.0
 
 pub returns-clause-added : goal.returns-clause-added
 returns-clause-added c =
@@ -105,10 +105,11 @@ returns-clause-added c =
     c.mount_root-root.ensures
     ∙ ap (λ (n : ℕ). with_made there dir name (numbered (next_number state.nodes dev) (root n))) serial
     ∙ ap (λ (n : ℕ). with_made there dir name (numbered n (root (length state.nodes + 1)))) number
-    ∙ ap (λ (ms : List (ℕ × Mount)). with_made (with_mounts state ms) dir name (root (length state.nodes + 1))) mounts in
+    ∙ ap (λ (ms : List (ℕ × Mount)). with_made (with_mounts state ms) dir
+    name (root (length state.nodes + 1))) mounts in
     let adds : ℕ × List ℕ → Option State = mount_in state id dev path handles in
     ap (λ (b : Bool). cond b (option_and_then adds (place_of state.nodes path)) None) is_new
     ∙ ap (option_and_then adds) place
-    ∙ ap (option_map (λ (at : Node). mounted (with_made state dir name (root (length state.nodes + 1))) at.ids.mnt_id id
-    dev path)) at_dir
+    ∙ ap (option_map (λ (at : Node). mounted (with_made state dir name (root (length state.nodes + 1)))
+    at.ids.mnt_id id dev path)) at_dir
     ∙ ap (λ (s : State). Some s) (sym is)
