@@ -1,5 +1,5 @@
 -- Inner. What a call holds that its copy needs memory for, as the parts of that copy have it.
-use Rattle.std.specs.Prelude.{List, ℕ, ◌×◌, ◌≡◌}
+use Rattle.std.specs.Prelude.{List, ℕ, ◌≡◌}
 use Rattle.pt_host.specs.Call.{Call}
 use Rattle.pt_host.specs.declared.op.KeptHostOp.TheVariants as call
 
