@@ -22,6 +22,7 @@ pub enum HandleAt {
 }
 
 impl HandleAt {
+    #[inline(always)]
     pub fn want<'a>(&self, session: &BegunSession, number: u64, fd: Fd) -> Act<'a>
         ensures asks { (next : ℕ → RequestTree) →
             AsksFor (handling_left self.now session.now number fd next) result None }
@@ -41,6 +42,7 @@ impl HandleAt {
     }
 
     /// Goes on from the reply of the act that was wanted.
+    #[inline(always)]
     pub fn take(&mut self, reply: ActReply) -> Part<u64>
         ensures left { (session : BegunSession) (number : ℕ) (fd : Fd) (next : ℕ → RequestTree) →
             with_memory (asked (handling_left self.old session number fd next) reply)

@@ -70,6 +70,7 @@ fn looked_of(
 }
 
 /// Goes on on the way to the number, with which the entry is there.
+#[inline(always)]
 fn numbered(
     plan: &Plan,
     session: &BegunSession,
@@ -113,6 +114,7 @@ impl EntryLookup {
     }
 
     /// Goes on where the directory is known.
+    #[inline(always)]
     fn resolved(&mut self, reply: ActReply) -> Part<Looked>
         ensures left { (parent : ℕ) (name : List ℕ) (plan : Plan) (next : Looked → RequestTree) →
             with_memory (asked (look_up_at_left (look_at.Resolve parent) name plan self.old.session next) reply)
@@ -132,6 +134,7 @@ impl EntryLookup {
     }
 
     /// Goes on where the name was opened.
+    #[inline(always)]
     fn opened(&mut self, parent: ObjIds, reply: ActReply) -> Part<Looked>
         ensures left { (dir : Fd) (name : List ℕ) (plan : Plan) (next : Looked → RequestTree) →
             with_memory (asked (look_up_at_left (look_at.Open parent dir) name plan self.old.session next) reply)
@@ -150,6 +153,7 @@ impl EntryLookup {
     }
 
     /// Goes on from the look at what was opened.
+    #[inline(always)]
     fn seen(&mut self, parent: ObjIds, fd: Fd, reply: ActReply) -> Part<Looked>
         ensures left { (name : List ℕ) (plan : Plan) (next : Looked → RequestTree) →
             with_memory (asked (look_up_at_left (look_at.Stat parent fd) name plan self.old.session next) reply)

@@ -103,6 +103,7 @@ impl HandleOpen {
     }
 
     /// Goes on where the capability was dropped.
+    #[inline(always)]
     fn dropped(&mut self, reply: ActReply) -> Part<u64>
         ensures left { (plan : Plan) (next : ℕ → RequestTree) →
             with_memory (asked (handle_open_at_left DropCap self.old plan next) reply)
@@ -121,6 +122,7 @@ impl HandleOpen {
     }
 
     /// Goes on where the object is known: only what has contents is opened.
+    #[inline(always)]
     fn resolved(&mut self, reply: ActReply) -> Part<u64>
         ensures left { (plan : Plan) (next : ℕ → RequestTree) →
             with_memory (asked (handle_open_at_left Resolve self.old plan next) reply)
@@ -141,6 +143,7 @@ impl HandleOpen {
     }
 
     /// Goes on where it was opened, with which the scopes end.
+    #[inline(always)]
     fn reopened(&mut self, reply: ActReply) -> Part<u64>
         ensures left { (path : Fd) (plan : Plan) (next : ℕ → RequestTree) →
             with_memory (asked (handle_open_at_left (Reopen path) self.old plan next) reply)

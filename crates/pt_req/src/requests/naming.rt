@@ -11,6 +11,7 @@ use pt_frame::{ActReply, Edges, Next, Then};
 use pt_iface::Answer;
 
 /// Goes on with the lookup of a name whose entry is the request's answer.
+#[inline(always)]
 pub fn take_named(part: &mut EntryLookup, plan: &Plan, reply: ActReply) -> Next
     ensures next { (name : List ℕ) →
         IsNext (asked (look_up_left part.old name plan.now answers_entry) reply) reply result
