@@ -14,7 +14,7 @@ use Rattle.pt_frame.specs.Held.{held}
 use Rattle.pt_frame.specs.Replies.{closings_in, refusal}
 use Rattle.pt_frame.specs.Tree.{RequestTree, Gives, Refuses, Asks, Opens, Bares, Brackets, Shuts, Allocates, framed}
 use Rattle.pt_frame.specs.Tree.{follows}
-use Rattle.pt_frame.specs.Tree.{may_give_up, grammar_of_tree}
+use Rattle.pt_frame.specs.Tree.{allocates, grammar_of_tree}
 use Rattle.pt_frame.specs.declared.act.ActReply.{ActReply}
 use Rattle.pt_frame.specs.declared.act.ActReply.TheVariants.{Event, NoCopy}
 use Rattle.pt_frame.specs.declared.finish.Finish.{Finish}
@@ -60,7 +60,7 @@ started seat tree (step ∷ []) end s b = tt
 started seat (Asks deed next) (step ∷ other ∷ steps) end s b = elim (s step.reply) [
   | inl begins ↦ begins_as deed step.deed step.reply b.0 begins
   | inr refuses ↦
-      let wants = may_give_up step.reply (next step.reply) in
+      let wants = allocates (next step.reply) in
       let one = subst (λ (n : ℕ). Belongs (follows seat wants n (held deed step.reply [])
       (framed seat (next step.reply) (held deed step.reply []) [])) (other ∷ steps) end) refuses.0 b.1 in
       let two = subst (λ (h : List Hold). Belongs (follows seat wants 0 h (framed seat (next step.reply) h []))
@@ -105,7 +105,7 @@ started_cut seat (Asks deed next) [] rest end s c = begun_first rest (cut_unbegu
 started_cut seat (Asks deed next) (step ∷ so_far) rest end s c = elim (s step.reply) [
   | inl begins ↦ begun_so step (so_far ++ rest) (begins_as deed step.deed step.reply c.0 begins)
   | inr refuses ↦
-      let wants = may_give_up step.reply (next step.reply) in
+      let wants = allocates (next step.reply) in
       let one = subst (λ (n : ℕ). CutAfter seat (follows seat wants n (held deed step.reply [])
       (framed seat (next step.reply) (held deed step.reply []) [])) so_far rest end) refuses.0 c.1 in
       let two = subst (λ (h : List Hold). CutAfter seat (follows seat wants 0 h (framed seat (next step.reply) h []))

@@ -34,7 +34,7 @@ use Rattle.pt_frame.specs.Held.{held, opened}
 use Rattle.pt_frame.specs.Replies.{closings_in}
 use Rattle.pt_frame.specs.Grammar.{Belongs}
 use Rattle.pt_frame.specs.Tree.{RequestTree, Gives, Refuses, Asks, Bares, Brackets, Shuts, framed}
-use Rattle.pt_frame.specs.Tree.{follows as framed_follows, grammar_of_tree, may_give_up}
+use Rattle.pt_frame.specs.Tree.{follows as framed_follows, grammar_of_tree, allocates}
 use Rattle.pt_frame.specs.declared.act.ActReply.{ActReply}
 use Rattle.pt_frame.specs.declared.act.ActReply.TheVariants.{Event, Host, NoCopy}
 use Rattle.pt_frame.specs.declared.finish.Finish.{Finish}
@@ -102,7 +102,7 @@ follows : (seat : HostSeat) (deed : Deed) (next : ActReply → RequestTree) (hol
     held deed step.reply holds ≡ holds → Belongs (framed seat (Asks deed next) holds marks) (step ∷ steps) end →
     IsGivenUp end ⊎ Belongs (framed seat (next step.reply) holds marks) steps end
 follows seat deed next holds marks step steps end c h b =
-    elim (follows_plain seat (may_give_up step.reply (next step.reply)) (closings_in deed step.reply)
+    elim (follows_plain seat (allocates (next step.reply)) (closings_in deed step.reply)
     (held deed step.reply holds) (framed seat (next step.reply) (held deed step.reply holds) marks) steps end c b.1) [
       | inl up ↦ inl up
       | inr on ↦ inr (subst (λ (z : List Hold). Belongs (framed seat (next step.reply) z marks) steps end) h on)
@@ -411,12 +411,12 @@ gone_answered_law limit job plan seat who what turns later was now number end r 
 
     -- behind the call that drops the capability
     dropped_on : (rest : RequestTree) (marks : List ℕ) (told : ActReply) (steps : List Step) →
-        Belongs (framed_follows seat (may_give_up told (on_set rest told)) 0
+        Belongs (framed_follows seat (allocates (on_set rest told)) 0
         (opened (hold.Dropped fsetid) told []) (framed seat (on_set rest told)
         (opened (hold.Dropped fsetid) told []) marks)) steps end → IsGivenUp end
         ⊎ Belongs (framed seat (on_set rest told) (opened (hold.Dropped fsetid) told []) marks) steps end
     dropped_on rest marks told steps b =
-        follows_plain seat (may_give_up told (on_set rest told)) 0 (opened (hold.Dropped fsetid) told [])
+        follows_plain seat (allocates (on_set rest told)) 0 (opened (hold.Dropped fsetid) told [])
         (framed seat (on_set rest told) (opened (hold.Dropped fsetid) told []) marks) steps end refl b
 
     scoped : (dropped : Bool) (one : List Step) (steps : List Step) (marks : List ℕ)
@@ -443,14 +443,14 @@ gone_answered_law limit job plan seat who what turns later was now number end r 
         ]
       where
         moved : {told other : ActReply} → told ≡ other →
-            Belongs (framed_follows seat (may_give_up told (on_set (resolve number next) told)) 0
+            Belongs (framed_follows seat (allocates (on_set (resolve number next) told)) 0
             (opened (hold.Dropped fsetid) told []) (framed seat (on_set (resolve number next) told)
             (opened (hold.Dropped fsetid) told []) marks)) steps end →
-            Belongs (framed_follows seat (may_give_up other (on_set (resolve number next) other)) 0
+            Belongs (framed_follows seat (allocates (on_set (resolve number next) other)) 0
             (opened (hold.Dropped fsetid) other []) (framed seat (on_set (resolve number next) other)
             (opened (hold.Dropped fsetid) other []) marks)) steps end
         moved is x = subst (λ (told : ActReply).
-            Belongs (framed_follows seat (may_give_up told (on_set (resolve number next) told)) 0
+            Belongs (framed_follows seat (allocates (on_set (resolve number next) told)) 0
             (opened (hold.Dropped fsetid) told []) (framed seat (on_set (resolve number next) told)
             (opened (hold.Dropped fsetid) told []) marks)) steps end) is x
 

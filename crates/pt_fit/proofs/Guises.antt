@@ -34,7 +34,7 @@ use Rattle.pt_law.specs.Wearing.{Unwinds, Seats}
 use Rattle.pt_law.proofs.Wearing.{deed_leaves}
 use Rattle.pt_host.specs.Sorts.{sort_of}
 use Rattle.pt_req.specs.Asker.{taken_on}
-use Rattle.pt_req.specs.Steps.{open_scope, on_set}
+use Rattle.pt_req.specs.Steps.{open_scope, on_set, on_tried}
 
 -- as whom a call is made under these credentials
 abbrev pub identity_under : Credentials → HostSeat → Identity
@@ -290,15 +290,15 @@ module _
         same = are_one later who (taken.is ∙ sym u) (taken.gid ∙ g) (taken.groups ∙ l) (taken.umask ∙ m)
 
         raised : (told : ActReply) → SeatAnswers later (Some (Calls (call.RaiseCap override_cap))) told →
-            Seats role seat tree (hold.EffectiveUid ∷ scopes)
+            Seats role seat (on_tried tree told) (hold.EffectiveUid ∷ scopes)
             (seat_by later (Some (Calls (call.RaiseCap override_cap))) told)
         raised (Host (host.Ok got)) a = k (hold.EffectiveUid ∷ scopes) (with_raised later override_cap)
             (refl, owed, subst (λ (z : HostSeat). Unwinds seat scopes z) (sym (taken.raised override_cap a.0)) un) same
         raised (Host (host.Refused errno)) a = k (hold.EffectiveUid ∷ scopes) later back same
         raised (Host (host.Fault errno)) a = k (hold.EffectiveUid ∷ scopes) later back same
         raised (Host host.NoMemory) a = k (hold.EffectiveUid ∷ scopes) later back same
-        raised (Event got) a = k (hold.EffectiveUid ∷ scopes) later back same
-        raised NoCopy a = k (hold.EffectiveUid ∷ scopes) later back same
+        raised (Event got) a = back
+        raised NoCopy a = back
 
         under : (keeps : Bool) →
             Seats role seat (taken_on (raise_calls (keeps && true)) tree) (hold.EffectiveUid ∷ scopes) later

@@ -45,14 +45,14 @@ use Rattle.pt_req.specs.Parts.{by_path}
 use Rattle.pt_req.specs.Requests.{batch_forget, create, file_asked, open_file, release, unserved}
 use Rattle.pt_req.specs.Steps.{Resolved, make_at}
 use Rattle.pt_req.specs.Steps.{set_xattr}
-use Rattle.pt_req.specs.Steps.{on_made, on_ok_or, on_pinned, on_set, pin_handle}
+use Rattle.pt_req.specs.Steps.{on_made, on_ok_or, on_pinned, on_set, on_tried, pin_handle}
 use Rattle.pt_req.specs.Steps.{session_of}
 use Rattle.pt_req.specs.declared.begun.BegunSession.{BegunSession}
 use Rattle.pt_req.specs.declared.parts.asked.FileAsked.{FileAsked}
 use Rattle.pt_req.specs.declared.parts.asked.NamedHandle.{NamedHandle}
 use Rattle.pt_req.specs.declared.plan.Plan.{Plan}
 use Rattle.pt_req.proofs.Replying.{if_bytes}
-use Rattle.pt_req.proofs.Replying.{if_made, if_ok_or, if_pinned, if_set}
+use Rattle.pt_req.proofs.Replying.{if_made, if_ok_or, if_pinned, if_set, if_tried}
 use Rattle.pt_attr.specs.Pattern.{Asked, Edits, Requests, grammar_for, tree_of}
 use Rattle.pt_attr.specs.Access.{is_granted}
 use Rattle.pt_attr.specs.Contents.{appends, fsync}
@@ -124,7 +124,8 @@ takes_on (call.SetGroups list ∷ calls) next so = sets_on (call.SetGroups list)
 takes_on (call.SetEgid gid ∷ calls) next so = sets_on (call.SetEgid gid) hold.EffectiveGid _ (takes_on calls next so)
 takes_on (call.SetEuid uid ∷ calls) next so = sets_on (call.SetEuid uid) hold.EffectiveUid _ (takes_on calls next so)
 takes_on (asked ∷ calls) next so =
-    asks (Calls asked) (λ told. taken_on calls next) (λ h told. refl) (λ told. takes_on calls next so)
+    asks (Calls asked) (on_tried (taken_on calls next)) (λ h told. refl)
+    (if_tried P (taken_on calls next) refuses (λ told. takes_on calls next so))
 
 makes : (seat : HostSeat) (asker : Option Credentials) (dir : Fd) (name : List ℕ) (flags : OpenFlags) (mode : ℕ)
     (next : Fd → RequestTree) (may_be : Bool) (there : RequestTree) → ((fd : Fd) → Yields (next fd)) → Yields there →
@@ -145,7 +146,8 @@ made_so plan entry handle = hands handle (answer.Created entry handle (create_op
 undoes : (undoing : Call) (last : Answer) → ((handle : ℕ) → handle_count handle last ≡ 0) →
     Yields (undone undoing last)
 undoes undoing last without =
-    asks (Calls undoing) (λ told. Gives last) (λ h told. refl) (λ told. gives last without)
+    asks (Calls undoing) (on_tried (Gives last)) (λ h told. refl)
+    (if_tried P (Gives last) refuses (λ told. gives last without))
 
 labels : (session : BegunSession) (fd : Fd) (undoing : Call) (label : Option SecContext) (next : RequestTree) →
     Yields next → Yields (labelled session fd undoing label next)

@@ -24,15 +24,30 @@ use Rattle.pt_fit.specs.Cause.{Asking, SomeCauses}
 use Rattle.pt_fit.specs.Fit.{Fit}
 use Rattle.pt_fit.proofs.Parts.{FitOn, Seen, Told, still}
 
--- A refusal, or that memory ran out, is answered behind the call that takes the name away, whatever that is told.
+-- A refusal, or that memory ran out, is answered behind the call that takes the name away, whatever the host says of
+-- it; where that call could not be copied memory ran out.
 module _ (asked : Asking) (holds : List Hold) (marks : List ℕ) (notes : Notes) (dir : Fd) (name : List ℕ)
     (k : KnowsAll (unscoped holds) (dir ∷ [])) (path : List Step) where
   fit_undone : (errno : Errno) → SomeCauses asked.request path errno →
       Fit asked (undone (call.Unlink dir name) (answer.Refused errno)) holds marks notes path
-  fit_undone errno s = ((k, tt), λ told m. (tt, inr (inl (inr s)), tt))
+  fit_undone errno s = (
+    (k, tt),
+    elim [
+      | Host told ↦ λ m. (tt, inr (inl (inr s)), tt)
+      | Event told ↦ λ m. absurd m
+      | NoCopy ↦ λ m. tt
+    ],
+  )
 
   fit_ran_out : Fit asked (undone (call.Unlink dir name) answer.NoMemory) holds marks notes path
-  fit_ran_out = ((k, tt), λ told m. (tt, tt, tt))
+  fit_ran_out = (
+    (k, tt),
+    elim [
+      | Host told ↦ λ m. (tt, tt, tt)
+      | Event told ↦ λ m. absurd m
+      | NoCopy ↦ λ m. tt
+    ],
+  )
 
 pub fit_labelled : {asked : Asking} {seen : List Seen} {holds : List Hold} {marks : List ℕ} {notes : Notes}
     (session : BegunSession) (fd dir : Fd) (name : List ℕ) (label : Option SecContext) (next : RequestTree) →

@@ -20,7 +20,7 @@ use Rattle.pt_frame.specs.Held.{held, is_scope, opened}
 use Rattle.pt_frame.specs.Replies.{closings_in, put_by, fault_in, refusal, event_refusal, passes_with}
 use Rattle.pt_frame.specs.Grammar.{Grammar, Belongs}
 use Rattle.pt_frame.specs.Tree.{RequestTree, Gives, Refuses, Asks, Opens, Bares, Brackets, Shuts, framed, follows}
-use Rattle.pt_frame.specs.Tree.{may_give_up}
+use Rattle.pt_frame.specs.Tree.{allocates}
 use Rattle.pt_frame.specs.declared.act.ActReply.{ActReply}
 use Rattle.pt_frame.specs.declared.act.ActReply.TheVariants.{Event, Host, NoCopy}
 use Rattle.pt_frame.specs.declared.finish.Finish.{Finish}
@@ -140,7 +140,7 @@ pub goes_on : (seat : HostSeat) (deed : Deed) (next : ActReply → RequestTree) 
     Leads seat (Asks deed next) steps last → GoesOn seat deed next steps last
 goes_on seat deed next [] last n none p l = absurd l.belongs
 goes_on seat deed next (step ∷ steps) last n none p l =
-    go step.deed step.reply l.belongs.0 (elim (follows_plain seat (may_give_up step.reply (next step.reply))
+    go step.deed step.reply l.belongs.0 (elim (follows_plain seat (allocates (next step.reply))
     (closings_in deed step.reply) (held deed step.reply l.holds)
     (framed seat (next step.reply) (held deed step.reply l.holds) l.marks) steps (finish.Answer last)
     (none step.reply) l.belongs.1) [
@@ -216,7 +216,7 @@ pub replied : (seat : HostSeat) (asked : Call) (next : ActReply → RequestTree)
     HasEntry last → Leads seat (Asks (Calls asked) next) steps last → Replied seat asked next steps last
 replied seat asked next [] last p l = absurd l.belongs
 replied seat asked next (step ∷ steps) last p l =
-    elim (follows_plain seat (may_give_up step.reply (next step.reply)) 0
+    elim (follows_plain seat (allocates (next step.reply)) 0
     (held (Calls asked) step.reply l.holds)
     (framed seat (next step.reply) (held (Calls asked) step.reply l.holds) l.marks) steps (finish.Answer last)
     refl l.belongs.1) [
@@ -250,7 +250,7 @@ module _ (seat : HostSeat) (last : Answer) (p : HasEntry last) (Q : List Step �
       Leads seat (Opens asked scope next) steps last → Q steps
   opens_on asked scope next [] still f l = absurd l.belongs
   opens_on asked scope next (step ∷ steps) still f l =
-      elim (follows_plain seat (may_give_up step.reply (next step.reply)) 0 (opened scope step.reply l.holds)
+      elim (follows_plain seat (allocates (next step.reply)) 0 (opened scope step.reply l.holds)
       (framed seat (next step.reply) (opened scope step.reply l.holds) l.marks) steps (finish.Answer last)
       refl l.belongs.1) [
         | inl up ↦ absurd (not_given_up last p up)

@@ -46,7 +46,7 @@ use Rattle.pt_req.specs.Options.{making_flags}
 use Rattle.pt_req.specs.Parts.{file_of, look_up, named, open_num}
 use Rattle.pt_req.specs.Requests.{file_asked}
 use Rattle.pt_req.specs.Steps.{Resolved, begin, is_there, make_at, on_began, on_made, on_ok_or, on_resolved, on_set}
-use Rattle.pt_req.specs.Steps.{on_stat, resolve, session_of, set_xattr}
+use Rattle.pt_req.specs.Steps.{on_stat, on_tried, resolve, session_of, set_xattr}
 use Rattle.pt_req.specs.declared.begun.BegunSession.{BegunSession}
 use Rattle.pt_req.specs.declared.parts.asked.FileAsked.{FileAsked}
 use Rattle.pt_req.specs.declared.parts.looked.Looked.{Looked}
@@ -99,6 +99,11 @@ module _ (seat : HostSeat) (last : Answer) (p : HasEntry last) where
   set_on next (Host (host.Ok answered)) rest l = l
   set_on next told rest l = absurd (refused_none seat told rest last p l)
 
+  pub tried_on : (next : RequestTree) (told : ActReply) (rest : List Step) →
+      Leads seat (on_tried next told) rest last → Leads seat next rest last
+  tried_on next (Host answered) rest l = l
+  tried_on next told rest l = absurd (refused_none seat told rest last p l)
+
   pub taken_comes : (calls : List Call) (next : RequestTree) (steps : List Step) →
       Each (λ (asked : Call). StillSort (sort_of asked)) calls → Leads seat (taken_on calls next) steps last →
       Comes seat last next steps
@@ -116,8 +121,8 @@ module _ (seat : HostSeat) (last : Answer) (p : HasEntry last) where
       (on_set (taken_on calls next)) steps tt
       (λ told rest m. taken_comes calls next rest s.1 (set_on (taken_on calls next) told rest m)) l
   taken_comes (asked ∷ calls) next steps s l =
-      calls_on seat last p (Comes seat last next) (comes_more next) asked (λ told. taken_on calls next) steps s.0
-      (λ told rest m. taken_comes calls next rest s.1 m) l
+      calls_on seat last p (Comes seat last next) (comes_more next) asked (on_tried (taken_on calls next)) steps s.0
+      (λ told rest m. taken_comes calls next rest s.1 (tried_on (taken_on calls next) told rest m)) l
 
 -- The context of what was made comes first.
 module _ (seat : HostSeat) (last : Answer) (p : HasEntry last) (session : BegunSession) (fd dir : Fd) (name : List ℕ)
@@ -129,9 +134,10 @@ module _ (seat : HostSeat) (last : Answer) (p : HasEntry last) (session : BegunS
   undone_comes : (given : Answer) → passes_with given ≡ false → (steps : List Step) →
       Leads seat (undone undoing given) steps last → Comes seat last next steps
   undone_comes given none steps l =
-      calls_on seat last p (Comes seat last next) (comes_more seat last p next) undoing (λ told. Gives given) steps tt
-      (λ told rest m.
-      let some : passes_with given ≡ true = ap passes_with (sym (given_none seat given last rest p m)) ∙ p in
+      calls_on seat last p (Comes seat last next) (comes_more seat last p next) undoing (on_tried (Gives given)) steps
+      tt (λ told rest m.
+      let l : Leads seat (Gives given) rest last = tried_on seat last p (Gives given) told rest m in
+      let some : passes_with given ≡ true = ap passes_with (sym (given_none seat given last rest p l)) ∙ p in
       absurd (cc)) l
 
   labelled_comes : (label : Option SecContext) (steps : List Step) →

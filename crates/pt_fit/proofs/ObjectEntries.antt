@@ -33,7 +33,7 @@ use Rattle.pt_req.specs.Creating.{undone}
 use Rattle.pt_req.specs.Entries.{is_bad_name}
 use Rattle.pt_req.specs.Parts.{by_path, file_of, look_up, named}
 use Rattle.pt_req.specs.Steps.{Resolved, begin, on_began, on_ok_or, on_resolved, on_set, resolve, session_of}
-use Rattle.pt_req.specs.Steps.{set_xattr}
+use Rattle.pt_req.specs.Steps.{on_tried, set_xattr}
 use Rattle.pt_req.specs.declared.begun.BegunSession.{BegunSession}
 use Rattle.pt_req.specs.declared.parts.looked.Looked.{Looked}
 use Rattle.pt_req.specs.declared.plan.Plan.{Plan}
@@ -45,7 +45,7 @@ use Rattle.pt_fit.specs.Opened.{IsLookedUp}
 use Rattle.pt_fit.proofs.Leading.{HasEntry, Leads, given_none, goes_on, in_bracket, none_told, refused_none, replied}
 use Rattle.pt_fit.proofs.Leading.{shut_none, shuts_on}
 use Rattle.pt_fit.proofs.Looking.{began, good_name, looks, resolved, then_step}
-use Rattle.pt_fit.proofs.Making.{bare_comes, set_on, taken_comes}
+use Rattle.pt_fit.proofs.Making.{bare_comes, set_on, taken_comes, tried_on}
 use Rattle.pt_fit.proofs.Still.{still_set}
 
 -- By some steps the job comes to this tree.
@@ -86,8 +86,9 @@ module _ (seat : HostSeat) (last : Answer) (p : HasEntry last) where
   undone_none : (undoing : Call) (given : Answer) → passes_with given ≡ false → (steps : List Step) →
       Leads seat (undone undoing given) steps last → ⊥
   undone_none undoing given none steps l =
-      let r = replied seat undoing (λ told. Gives given) steps last p l in
-      let some : passes_with given ≡ true = ap passes_with (sym (given_none seat given last r.rest p r.on)) ∙ p in
+      let r = replied seat undoing (on_tried (Gives given)) steps last p l in
+      let on : Leads seat (Gives given) r.rest last = tried_on seat last p (Gives given) r.told r.rest r.on in
+      let some : passes_with given ≡ true = ap passes_with (sym (given_none seat given last r.rest p on)) ∙ p in
       absurd (cc)
 
   shut_undone_none : (undoing : Call) (given : Answer) → passes_with given ≡ false → (steps : List Step) →

@@ -87,12 +87,30 @@ module _ (asked : Asking) (holds : List Hold) (marks : List ℕ) (dir : Fd) (nam
   fit_undone : (what : Made) (last : Answer) (notes : Notes) (path : List Step) →
       ((step : Step) → Fit asked (Gives last) holds marks notes (step ∷ path)) →
       Fit asked (undone (unmaking_call what dir name) last) holds marks notes path
-  fit_undone (made.Directory mode) last notes path f =
-      ((k, tt), λ told m. f (step_made (Calls (unmaking_call (made.Directory mode) dir name)) told))
-  fit_undone (made.Node mode rdev) last notes path f =
-      ((k, tt), λ told m. f (step_made (Calls (unmaking_call (made.Node mode rdev) dir name)) told))
-  fit_undone (made.Link target) last notes path f =
-      ((k, tt), λ told m. f (step_made (Calls (unmaking_call (made.Link target) dir name)) told))
+  fit_undone (made.Directory mode) last notes path f = (
+    (k, tt),
+    elim [
+      | Host told ↦ λ m. f (step_made (Calls (unmaking_call (made.Directory mode) dir name)) (Host told))
+      | Event told ↦ λ m. absurd m
+      | NoCopy ↦ λ m. tt
+    ],
+  )
+  fit_undone (made.Node mode rdev) last notes path f = (
+    (k, tt),
+    elim [
+      | Host told ↦ λ m. f (step_made (Calls (unmaking_call (made.Node mode rdev) dir name)) (Host told))
+      | Event told ↦ λ m. absurd m
+      | NoCopy ↦ λ m. tt
+    ],
+  )
+  fit_undone (made.Link target) last notes path f = (
+    (k, tt),
+    elim [
+      | Host told ↦ λ m. f (step_made (Calls (unmaking_call (made.Link target) dir name)) (Host told))
+      | Event told ↦ λ m. absurd m
+      | NoCopy ↦ λ m. tt
+    ],
+  )
 
   fit_refused : (what : Made) (errno : Errno) (notes : Notes) (path : List Step) →
       SomeCauses asked.request path errno →

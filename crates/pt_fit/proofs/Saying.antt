@@ -12,6 +12,7 @@ use Rattle.pt_iface.specs.declared.request.Request.{Request}
 use Rattle.pt_iface.specs.declared.request.Request.TheVariants as request
 use Rattle.pt_frame.specs.Deed.{Deed, Calls, Changes, Step}
 use Rattle.pt_frame.specs.Frame.{giving, CutAfter}
+use Rattle.pt_iface.specs.declared.answer.Answer.TheVariants as answer
 use Rattle.pt_frame.specs.Grammar.{Belongs}
 use Rattle.pt_frame.specs.Tree.{RequestTree, Gives, Refuses, Asks, Opens, Bares, Brackets, Shuts, Allocates}
 use Rattle.pt_frame.specs.declared.act.ActReply.{ActReply}
@@ -21,7 +22,7 @@ use Rattle.pt_frame.specs.declared.hold.Hold.{Hold}
 use Rattle.pt_frame.specs.declared.hold.Hold.TheVariants as hold
 use Rattle.pt_req.specs.Asker.{taken_on}
 use Rattle.pt_req.specs.declared.plan.Plan.{Plan}
-use Rattle.pt_req.proofs.Replying.{if_set}
+use Rattle.pt_req.proofs.Replying.{if_set, if_tried}
 use Rattle.pt_req.proofs.Walking.{InScope, OfDeed, Walk}
 use Rattle.pt_attr.specs.Pattern.{Asked, Requests, Edits, grammar_for, tree_of}
 use Rattle.pt_attr.proofs.Walking.{OfScopes, each_request, of_any}
@@ -85,7 +86,11 @@ module _ (decided : Option Negotiated) where
     if_set (λ told tree. Saying tree) (taken_on calls next)
         (λ told. tt) (λ told. as_asker calls next so),
   )
-  as_asker (asked ∷ calls) next so = (tt, λ told. as_asker calls next so)
+  as_asker (asked ∷ calls) next so = (
+    tt,
+    if_tried (λ told tree. Saying tree) (taken_on calls next)
+        (λ told. tt) (λ told. as_asker calls next so),
+  )
 
   saying : (seat : HostSeat) → Walk seat (λ creds. Unit {0}) SaysSo Saying (λ told tree. Saying tree)
   saying seat = record {
@@ -93,7 +98,10 @@ module _ (decided : Option Negotiated) where
     refuses = λ told. tt;
     had = λ told tree so. so;
     asks = λ deed next own none may so. (deed_says false deed may, so);
-    ran_out = λ told deed lacks own none may. (deed_says false deed may, λ later. tt);
+    ran_out = λ told deed lacks own none may. (
+      deed_says false deed may,
+      if_tried (λ later tree. Saying tree) (Gives answer.NoMemory) (λ later. tt) (λ later. tt),
+    );
     brackets = λ rest so. so;
     shuts = λ passes rest so. so;
     shuts_after = λ told passes rest so. so;

@@ -15,7 +15,7 @@ use Rattle.pt_frame.specs.Held.{laid}
 use Rattle.pt_frame.specs.Replies.{refusal}
 use Rattle.pt_frame.specs.Tree.{RequestTree, Refuses, Bares}
 use Rattle.pt_frame.specs.declared.act.ActReply.{ActReply}
-use Rattle.pt_frame.specs.declared.act.ActReply.TheVariants.{Host}
+use Rattle.pt_frame.specs.declared.act.ActReply.TheVariants.{Event, Host, NoCopy}
 use Rattle.pt_frame.specs.declared.hold.Hold.{Hold}
 use Rattle.pt_frame.specs.declared.hold.Hold.TheVariants as hold
 use Rattle.pt_req.specs.Capability.{fsetid, without_fsetid}
@@ -64,7 +64,16 @@ fit_bares {asked = asked} {holds = holds} {marks = marks} {notes = notes} droppe
 pub fit_raise : {asked : Asking} {seen : List Seen} {holds : List Hold} {marks : List ℕ}
     {notes : Notes} (caps : Caps) (next : RequestTree) → FitOn asked seen next holds marks notes →
     FitOn asked seen (try_call (call.RaiseCap caps) next) holds marks notes
-fit_raise caps next f = record { on = λ path s. ((tt, tt), λ told m. f.on _ (still s)) }
+fit_raise caps next f = record {
+  on = λ path s. (
+    (tt, tt),
+    elim [
+      | Host told ↦ λ m. f.on _ (still s)
+      | Event told ↦ λ m. absurd m
+      | NoCopy ↦ λ m. tt
+    ],
+  );
+}
 
 -- scopes lie on these, and nothing else
 pub record Covers (holds bare : List Hold) : Type 0 where

@@ -30,7 +30,9 @@ use Rattle.pt_frame.specs.declared.finish.Finish.{Finish}
 use Rattle.pt_frame.specs.declared.hold.Hold.TheVariants as hold
 use Rattle.pt_req.specs.Asker.{asker_from, group_of}
 use Rattle.pt_req.specs.Capability.{fsetid, without_fsetid}
+use Rattle.pt_req.specs.Steps.{on_tried}
 use Rattle.pt_req.specs.declared.plan.Plan.{Plan}
+use Rattle.pt_req.proofs.Replying.{if_tried}
 use Rattle.pt_req.proofs.Walking.{InScope, OfAsker, OfDeed, Scoped, Walk, is_making}
 use Rattle.pt_attr.specs.Pattern.{Asked, Requests, Edits, grammar_for, tree_of}
 use Rattle.pt_attr.proofs.Answering.{requests_tend}
@@ -191,7 +193,9 @@ no_scope role seat starts fits few = record {
   had = λ told tree so. so;
   asks = λ deed next own none may so. asked_plainly role seat few deed next own none may so;
   ran_out = λ told deed lacks own none may.
-      asked_plainly role seat few deed (λ later. Gives answer.NoMemory) own none may (λ later. (refl, λ e. refl));
+      asked_plainly role seat few deed (on_tried (Gives answer.NoMemory)) own none may
+      (if_tried (λ later tree. Seats role seat tree [] seat) (Gives answer.NoMemory) (λ later. refl)
+      (λ later. (refl, λ e. refl)));
   brackets = λ rest so. so;
   shuts = λ passes rest so. (refl, refl, so);
   shuts_after = λ told passes rest so. (refl, refl, so);

@@ -14,7 +14,7 @@ use Rattle.pt_frame.specs.Frame.{front, behind, under, mark_in, outer, answered_
 use Rattle.pt_frame.specs.Frame.{CutAfter}
 use Rattle.pt_frame.specs.Frame.{CutInFull}
 use Rattle.pt_frame.specs.Tree.{RequestTree, Gives, Refuses, Asks, Opens, Bares, Brackets, Shuts, Allocates, framed}
-use Rattle.pt_frame.specs.Tree.{may_give_up, follows}
+use Rattle.pt_frame.specs.Tree.{allocates, follows}
 use Rattle.pt_frame.specs.Determined.{EndsSo, IsAnsweredInFull, IsDetermined}
 use Rattle.pt_frame.specs.declared.finish.Finish.{Finish}
 use Rattle.pt_frame.specs.declared.finish.Finish.TheVariants as finish
@@ -219,11 +219,11 @@ pub det_framed : (seat : HostSeat) (tree : RequestTree) (holds : List Hold) (mar
 det_framed seat (Gives last) holds marks = det_answered seat (passes_with last) holds (finish.Answer last)
 det_framed seat (Refuses told) holds marks = det_leave seat holds (finish.Answer (refusal told))
 det_framed seat (Asks deed next) holds marks = λ reply.
-    det_follows seat (may_give_up reply (next reply)) (closings_in deed reply) (held deed reply holds)
+    det_follows seat (allocates (next reply)) (closings_in deed reply) (held deed reply holds)
     (framed seat (next reply) (held deed reply holds) marks)
     (det_framed seat (next reply) (held deed reply holds) marks)
 det_framed seat (Opens asked scope next) holds marks = λ reply.
-    det_follows seat (may_give_up reply (next reply)) 0 (opened scope reply holds)
+    det_follows seat (allocates (next reply)) 0 (opened scope reply holds)
     (framed seat (next reply) (opened scope reply holds) marks)
     (det_framed seat (next reply) (opened scope reply holds) marks)
 det_framed seat (Bares rest) holds marks =

@@ -17,7 +17,7 @@ use Rattle.pt_frame.specs.Frame.{mark_in}
 use Rattle.pt_frame.specs.Frame.{outer, cut, close_first}
 use Rattle.pt_frame.specs.Past.{or_first}
 use Rattle.pt_frame.specs.Tree.{RequestTree, Asks, Opens, Gives, Refuses, Bares, Brackets, Shuts, Allocates, framed}
-use Rattle.pt_frame.specs.Tree.{may_give_up, or_gives_up}
+use Rattle.pt_frame.specs.Tree.{allocates, or_gives_up}
 use Rattle.pt_frame.specs.Machine.Next.{IsAsks, AsksFor, IsNext, asked, deed_in, with_memory, then_tree}
 use Rattle.pt_frame.specs.Machine.Next.{bares_if, shuts_if, brackets_if}
 use Rattle.pt_frame.specs.Machine.Room.{act_brings, brings, deed_brings}
@@ -222,21 +222,21 @@ up_chosen false up rest chosen w e = absurd (cc)
 follows_so : (seat : HostSeat) (tree left : RequestTree) (told : ActReply) (what : Next) (count : ℕ)
     (holds : List Hold) (marks : List ℕ) (rest : Grammar) → IsNext tree told what left →
     rest ≡ next_left seat what (refusal told) left holds marks →
-    IsChosen (or_gives_up (may_give_up told tree)
+    IsChosen (or_gives_up (allocates tree)
     (closings count holds (leave seat holds (finish.Answer answer.NoMemory)))
     (closings count holds (framed seat tree holds marks))) (closings count holds rest)
 follows_so seat tree left told (next.At what) count holds marks rest is e =
-    rest_chosen (may_give_up told tree) _ _ _ (ap (closings count holds)
+    rest_chosen (allocates tree) _ _ _ (ap (closings count holds)
     (e ∙ ap (λ (f : List Hold → List ℕ → Grammar). f holds marks) (then_same seat what told left)
     ∙ ap (λ (t : RequestTree). framed seat t holds marks) (sym is) ∙ memory_same seat tree holds marks))
 follows_so seat tree left told (next.Over edges what) count holds marks rest is e =
-    rest_chosen (may_give_up told tree) _ _ _ (ap (closings count holds)
+    rest_chosen (allocates tree) _ _ _ (ap (closings count holds)
     (e ∙ ap (λ (f : List Hold → List ℕ → Grammar). edges_left seat edges f holds marks)
     (then_same seat what told left)
     ∙ edges_same seat edges.bares edges.shuts edges.brackets (then_tree what told left) holds marks
     ∙ ap (λ (t : RequestTree). framed seat t holds marks) (sym is) ∙ memory_same seat tree holds marks))
 follows_so seat tree left told next.NoMemory count holds marks rest is e =
-    up_chosen (may_give_up told tree) _ _ _ is (ap (closings count holds) e)
+    up_chosen (allocates tree) _ _ _ is (ap (closings count holds) e)
 
 -- a step of the body
 pub body_went : (seat : HostSeat) (tree left : RequestTree) (wanted : Act) (opens : Option Hold) (told : ActReply)

@@ -19,7 +19,7 @@ use Rattle.pt_frame.specs.Frame.{front, behind, under, mark_in, outer, answered_
 use Rattle.pt_frame.specs.Memory.{RanOut}
 use Rattle.pt_frame.specs.Sparing.{IsNoMemory, IsSparing}
 use Rattle.pt_frame.specs.Tree.{RequestTree, Gives, Refuses, Asks, Opens, Bares, Brackets, Shuts, Allocates, framed}
-use Rattle.pt_frame.specs.Tree.{allocates, may_give_up, follows}
+use Rattle.pt_frame.specs.Tree.{allocates, follows}
 use Rattle.pt_frame.specs.declared.act.ActReply.{ActReply}
 use Rattle.pt_frame.specs.declared.act.ActReply.TheVariants as told
 use Rattle.pt_frame.specs.declared.finish.Finish.{Finish}
@@ -153,17 +153,11 @@ refused_out (told.Host host.NoMemory) out = refl
 refused_out (told.Host reply) out = absurd out
 refused_out told.NoCopy out = refl
 
--- the job gives up only where a reply told it
-out_follows : (lacks lacked may : Bool) (seat : HostSeat) (count : ℕ) (holds : List Hold) (rest : Grammar) →
-    may ≡ false → OutOr ((lacks || lacked) ≡ true) rest →
-    OutOr ((lacks || lacked) ≡ true) (follows seat (lacks || may) count holds rest)
-out_follows true lacked may seat count holds rest none so =
-    out_may (closings count holds (leave seat holds (finish.Answer answer.NoMemory))) (closings count holds rest)
-    (out_closings count holds (leave seat holds (finish.Answer answer.NoMemory))
-    (out_leave seat holds (finish.Answer answer.NoMemory) (λ out. refl)))
-    (out_closings count holds rest so)
-out_follows false lacked true seat count holds rest none so = absurd (cc)
-out_follows false lacked false seat count holds rest none so = out_closings count holds rest so
+-- the job gives up only where its tree takes memory of its own
+out_follows : {C : Type 0} (may : Bool) (seat : HostSeat) (count : ℕ) (holds : List Hold) (rest : Grammar) →
+    may ≡ false → OutOr C rest → OutOr C (follows seat may count holds rest)
+out_follows true seat count holds rest none so = absurd (cc)
+out_follows false seat count holds rest none so = out_closings count holds rest so
 
 -- a reply that told it is that of a step
 out_asked : (lacked : Bool) (deed : Deed) (owed : Owed) (next : ActReply → Grammar) →
@@ -196,17 +190,17 @@ out_framed lacked seat (Refuses reply) holds marks so =
     out_leave seat holds (finish.Answer (refusal reply)) (λ out. so (refused_out reply out))
 out_framed lacked seat (Asks deed next) holds marks so =
     out_asked lacked deed (owing false taken.Nothing 0 holds) (λ reply.
-    follows seat (may_give_up reply (next reply)) (closings_in deed reply) (held deed reply holds)
+    follows seat (allocates (next reply)) (closings_in deed reply) (held deed reply holds)
     (framed seat (next reply) (held deed reply holds) marks)) (λ reply.
-    out_follows (lacks_memory reply) lacked (allocates (next reply)) seat (closings_in deed reply)
+    out_follows (allocates (next reply)) seat (closings_in deed reply)
     (held deed reply holds) (framed seat (next reply) (held deed reply holds) marks)
     (takes_none (lacks_memory reply || lacked) (next reply) (so reply))
     (out_framed (lacks_memory reply || lacked) seat (next reply) (held deed reply holds) marks (so reply)))
 out_framed lacked seat (Opens asked scope next) holds marks so =
     out_asked lacked (Calls asked) (owing false taken.Nothing 0 holds) (λ reply.
-    follows seat (may_give_up reply (next reply)) 0 (opened scope reply holds)
+    follows seat (allocates (next reply)) 0 (opened scope reply holds)
     (framed seat (next reply) (opened scope reply holds) marks)) (λ reply.
-    out_follows (lacks_memory reply) lacked (allocates (next reply)) seat 0
+    out_follows (allocates (next reply)) seat 0
     (opened scope reply holds) (framed seat (next reply) (opened scope reply holds) marks)
     (takes_none (lacks_memory reply || lacked) (next reply) (so reply))
     (out_framed (lacks_memory reply || lacked) seat (next reply) (opened scope reply holds) marks (so reply)))

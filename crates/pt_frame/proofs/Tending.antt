@@ -24,7 +24,7 @@ use Rattle.pt_frame.specs.Grammar.{Grammar, End, Do, May, owing, IsChosen, IsDo,
 use Rattle.pt_frame.specs.Frame.{giving, give_slot, give_taken, closings, leave, or_lost, bare, bare_one, shut}
 use Rattle.pt_frame.specs.Frame.{front, behind, under, mark_in, outer, answered_by, close_first, cut}
 use Rattle.pt_frame.specs.Tree.{RequestTree, Gives, Refuses, Asks, Opens, Bares, Brackets, Shuts, Allocates, framed}
-use Rattle.pt_frame.specs.Tree.{may_give_up, follows}
+use Rattle.pt_frame.specs.Tree.{allocates, follows}
 use Rattle.pt_frame.specs.Past.{is_restoring, ended, worn_called, worn_after, or_first}
 use Rattle.pt_frame.specs.Past.{lost_after, Past, past_at, past_after}
 use Rattle.pt_frame.specs.Tended.{IsUncut, IsFinish, is_of_seat, WearsTop, Wears, IsBack, IsRested}
@@ -340,10 +340,10 @@ tended_framed seat (Asks deed next) holds marks worn w t = (
   tt,
   w,
   tt,
-  λ told. subst (λ (p : Past). Tended seat false (follows seat (may_give_up told (next told)) (closings_in deed told)
+  λ told. subst (λ (p : Past). Tended seat false (follows seat (allocates (next told)) (closings_in deed told)
       (held deed told holds) (framed seat (next told) (held deed told holds) marks)) p)
       (past_unlost deed told worn None (asks_open deed worn t.0))
-      (follows_so seat (may_give_up told (next told)) (closings_in deed told) (held deed told holds)
+      (follows_so seat (allocates (next told)) (closings_in deed told) (held deed told holds)
       (framed seat (next told) (held deed told holds) marks) (worn_after worn deed told) (t.1 told).0
       (wears_asked seat deed told holds worn t.0 w)
       (tended_framed seat (next told) (held deed told holds) marks (worn_after worn deed told)
@@ -355,10 +355,10 @@ tended_framed seat (Opens asked scope next) holds marks worn w t = (
   tt,
   w,
   tt,
-  λ told. subst (λ (p : Past). Tended seat false (follows seat (may_give_up told (next told)) 0
+  λ told. subst (λ (p : Past). Tended seat false (follows seat (allocates (next told)) 0
       (opened scope told holds) (framed seat (next told) (opened scope told holds) marks)) p)
       (past_unlost (Calls asked) told worn None t.0.shut)
-      (follows_so seat (may_give_up told (next told)) 0 (opened scope told holds)
+      (follows_so seat (allocates (next told)) 0 (opened scope told holds)
       (framed seat (next told) (opened scope told holds) marks) (worn_after worn (Calls asked) told) tt
       (wears_opened seat asked scope told holds worn t.0 w)
       (tended_framed seat (next told) (opened scope told holds) marks (worn_after worn (Calls asked) told)

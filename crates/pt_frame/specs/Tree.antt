@@ -1,10 +1,10 @@
 -- Believed. What a request does, its frame aside, and what it does in its frame.
-use Rattle.std.specs.Prelude.{ℕ, Bool, true, false, ◌||◌, List, [], ◌∷◌, length}
+use Rattle.std.specs.Prelude.{ℕ, Bool, true, false, List, [], ◌∷◌, length}
 use Rattle.pt_host.specs.Call.{Call}
 use Rattle.pt_host.specs.declared.seat.HostSeat.{HostSeat}
 use Rattle.pt_iface.specs.declared.answer.Answer.{Answer}
 use Rattle.pt_iface.specs.declared.answer.Answer.TheVariants as answer
-use Rattle.pt_frame.specs.Deed.{Deed, Calls, lacks_memory}
+use Rattle.pt_frame.specs.Deed.{Deed, Calls}
 use Rattle.pt_frame.specs.Held.{held, opened}
 use Rattle.pt_frame.specs.Replies.{closings_in, refusal}
 use Rattle.pt_frame.specs.Grammar.{Grammar, Do, May, owing}
@@ -29,7 +29,7 @@ pub data RequestTree : Type 0 where
   Brackets : RequestTree → RequestTree
   -- the innermost bracket ends, and the last hold of all may pass its end
   Shuts : Bool → RequestTree → RequestTree
-  -- what was told takes memory to go on with
+  -- what was told takes memory to go on with, and only here may the job give up
   Allocates : RequestTree → RequestTree
 
 abbrev pub allocates : RequestTree → Bool
@@ -42,13 +42,10 @@ allocates (Bares rest) = false
 allocates (Brackets rest) = false
 allocates (Shuts passes rest) = false
 
--- a job may give up after a reply where memory ran out
+-- a job may give up where what follows takes memory, and nowhere else
 abbrev pub or_gives_up : Bool → Grammar → Grammar → Grammar
 or_gives_up true up rest = May up rest
 or_gives_up false up rest = rest
-
-abbrev pub may_give_up : ActReply → RequestTree → Bool
-may_give_up told next = lacks_memory told || allocates next
 
 -- A reply is followed by its closings, and then by the rest. Where the job gives up, all that it holds goes back.
 abbrev pub follows : HostSeat → Bool → ℕ → List Hold → Grammar → Grammar
@@ -61,10 +58,10 @@ abbrev pub framed : HostSeat → RequestTree → List Hold → List ℕ → Gram
 framed seat (Gives last) holds marks = answered seat last holds
 framed seat (Refuses told) holds marks = leave seat holds (finish.Answer (refusal told))
 framed seat (Asks deed next) holds marks = Do deed (owing false Nothing 0 holds) (λ told.
-    follows seat (may_give_up told (next told)) (closings_in deed told) (held deed told holds)
+    follows seat (allocates (next told)) (closings_in deed told) (held deed told holds)
     (framed seat (next told) (held deed told holds) marks))
 framed seat (Opens asked scope next) holds marks = Do (Calls asked) (owing false Nothing 0 holds) (λ told.
-    follows seat (may_give_up told (next told)) 0 (opened scope told holds)
+    follows seat (allocates (next told)) 0 (opened scope told holds)
     (framed seat (next told) (opened scope told holds) marks))
 framed seat (Bares rest) holds marks = bare seat holds (λ left. framed seat rest left marks)
 framed seat (Brackets rest) holds marks = framed seat rest holds (length holds ∷ marks)

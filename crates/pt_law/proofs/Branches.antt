@@ -18,7 +18,7 @@ use Rattle.pt_frame.specs.Frame.{behind}
 use Rattle.pt_frame.specs.Frame.{under, mark_in, outer, answered_by}
 use Rattle.pt_frame.specs.Tree.{RequestTree, Gives, Refuses, Asks, Opens, Bares, Brackets, Shuts, Allocates, framed}
 use Rattle.pt_frame.specs.Tree.{follows}
-use Rattle.pt_frame.specs.Tree.{may_give_up, allocates}
+use Rattle.pt_frame.specs.Tree.{allocates}
 use Rattle.pt_frame.specs.declared.act.ActReply.{ActReply}
 use Rattle.pt_frame.specs.declared.act.ActReply.TheVariants.{NoCopy}
 use Rattle.pt_frame.specs.declared.finish.Finish.{Finish}
@@ -298,15 +298,6 @@ allocates_now (Bares rest) e = absurd (cc)
 allocates_now (Brackets rest) e = absurd (cc)
 allocates_now (Shuts passes rest) e = absurd (cc)
 
-why_gave_up : (told : ActReply) (next : RequestTree) → may_give_up told next ≡ true →
-    LacksMemory told ⊎ (allocates next ≡ true)
-why_gave_up told next e = go (lacks_memory told) refl e
-  where
-    go : (b : Bool) → lacks_memory told ≡ b → (b || allocates next) ≡ true →
-        LacksMemory told ⊎ (allocates next ≡ true)
-    go true s f = inl s
-    go false s f = inr f
-
 -- what may follow a reply: the job gives up, or goes on
 end_follows : (seat : HostSeat) (wants : Bool) (count : ℕ) (holds : List Hold) (rest : Grammar) (steps : List Step)
     (end : Finish) → Belongs (follows seat wants count holds rest) steps end →
@@ -326,10 +317,9 @@ comes_after tree next step later steps end f g b (inl lost) = inl lost
 comes_after tree next step later steps end f g b (inr (inl up)) =
     inr (inl (record { answered = up.answered; why = why up.why }))
   where
-    why : RanOut later ⊎ ((path : List Step) × AreFirst path later × AllocatesAfter next path) →
-        RanOut (step ∷ steps) ⊎ ((path : List Step) × AreFirst path (step ∷ steps) × AllocatesAfter tree path)
-    why (inl l) = inl (inr (b.lacks l))
-    why (inr a) = inr (step ∷ a.0, first_next (b.first a.0 a.1), g a.0 a.2)
+    why : (path : List Step) × AreFirst path later × AllocatesAfter next path →
+        (path : List Step) × AreFirst path (step ∷ steps) × AllocatesAfter tree path
+    why a = (step ∷ a.0, first_next (b.first a.0 a.1), g a.0 a.2)
 comes_after tree next step later steps end f g b (inr (inr r)) =
     inr (inr (step ∷ r.0, r.1, keep (b.own r.0 r.2), r.3, f r.0 r.1 r.4))
 
@@ -342,24 +332,18 @@ comes_still tree next later steps end f g b (inl lost) = inl lost
 comes_still tree next later steps end f g b (inr (inl up)) =
     inr (inl (record { answered = up.answered; why = why up.why }))
   where
-    why : RanOut later ⊎ ((path : List Step) × AreFirst path later × AllocatesAfter next path) →
-        RanOut steps ⊎ ((path : List Step) × AreFirst path steps × AllocatesAfter tree path)
-    why (inl l) = inl (b.lacks l)
-    why (inr a) = inr (a.0, b.first a.0 a.1, g a.0 a.2)
+    why : (path : List Step) × AreFirst path later × AllocatesAfter next path →
+        (path : List Step) × AreFirst path steps × AllocatesAfter tree path
+    why a = (a.0, b.first a.0 a.1, g a.0 a.2)
 comes_still tree next later steps end f g b (inr (inr r)) =
     inr (inr (r.0, r.1, b.own r.0 r.2, r.3, f r.0 r.1 r.4))
 
 -- the job gave up after a step
 gives_up : (tree next : RequestTree) (step : Step) (steps : List Step) (end : Finish) →
     ((path : List Step) → AllocatesAfter next path → AllocatesAfter tree (step ∷ path)) →
-    may_give_up step.reply next ≡ true → Ended (finish.Answer answer.NoMemory) end → Comes tree (step ∷ steps) end
-gives_up tree next step steps end g m (inl e) = inr (inl (record { answered = e; why = why }))
-  where
-    why : RanOut (step ∷ steps) ⊎ ((path : List Step) × AreFirst path (step ∷ steps) × AllocatesAfter tree path)
-    why = elim (why_gave_up step.reply next m) [
-      | inl l ↦ inl (inl l)
-      | inr a ↦ inr (step ∷ [], first_next stop, g [] (allocates_now next a))
-    ]
+    allocates next ≡ true → Ended (finish.Answer answer.NoMemory) end → Comes tree (step ∷ steps) end
+gives_up tree next step steps end g m (inl e) =
+    inr (inl (record { answered = e; why = (step ∷ [], first_next stop, g [] (allocates_now next m)) }))
 gives_up tree next step steps end g m (inr lost) = inl lost
 
 pub branch : (seat : HostSeat) (tree : RequestTree) (holds : List Hold) (marks : List ℕ) (steps : List Step)
@@ -371,7 +355,7 @@ branch seat (Refuses told) holds marks steps end b =
     at_leaf (Refuses told) (refusal told) steps end refl l.0 l.1
 branch seat (Asks deed next) holds marks [] end b = absurd b
 branch seat (Asks deed next) holds marks (step ∷ steps) end b =
-    elim (end_follows seat (may_give_up step.reply (next step.reply)) (closings_in deed step.reply)
+    elim (end_follows seat (allocates (next step.reply)) (closings_in deed step.reply)
     (held deed step.reply holds) (framed seat (next step.reply) (held deed step.reply holds) marks) steps end b.1) [
       | inl up ↦ gives_up (Asks deed next) (next step.reply) step steps end (λ path a. (b.0, a)) up.0 up.1
       | inr k ↦ comes_after (Asks deed next) (next step.reply) step k.later steps end (λ path last a. (b.0, a))
@@ -380,7 +364,7 @@ branch seat (Asks deed next) holds marks (step ∷ steps) end b =
     ]
 branch seat (Opens asked scope next) holds marks [] end b = absurd b
 branch seat (Opens asked scope next) holds marks (step ∷ steps) end b =
-    elim (end_follows seat (may_give_up step.reply (next step.reply)) 0 (opened scope step.reply holds)
+    elim (end_follows seat (allocates (next step.reply)) 0 (opened scope step.reply holds)
     (framed seat (next step.reply) (opened scope step.reply holds) marks) steps end b.1) [
       | inl up ↦ gives_up (Opens asked scope next) (next step.reply) step steps end (λ path a. (b.0, a)) up.0 up.1
       | inr k ↦ comes_after (Opens asked scope next) (next step.reply) step k.later steps end

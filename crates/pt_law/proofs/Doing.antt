@@ -16,7 +16,7 @@ use Rattle.pt_frame.specs.Grammar.{Grammar, End, Do, May, Owed, Belongs}
 use Rattle.pt_frame.specs.Held.{held, is_scope, opened}
 use Rattle.pt_frame.specs.Replies.{closings_in, fault_if, passes_with, refusal, restored, taken_in}
 use Rattle.pt_frame.specs.Tree.{RequestTree, Gives, Refuses, Asks, Opens, Bares, Brackets, Shuts, Allocates, framed}
-use Rattle.pt_frame.specs.Tree.{follows, may_give_up}
+use Rattle.pt_frame.specs.Tree.{follows, allocates}
 use Rattle.pt_frame.specs.declared.act.ActReply.{ActReply}
 use Rattle.pt_frame.specs.declared.act.ActReply.TheVariants.{NoCopy}
 use Rattle.pt_frame.specs.declared.finish.Finish.{Finish}
@@ -134,13 +134,13 @@ module _ (P : Deed → Type 0) (back : OfReturns P) where
   all_framed seat (Refuses told) holds marks so = all_leave seat holds (finish.Answer (refusal told))
   all_framed seat (Asks deed next) holds marks so = (
     so.0,
-    λ told. all_follows seat (may_give_up told (next told)) (closings_in deed told) (held deed told holds)
+    λ told. all_follows seat (allocates (next told)) (closings_in deed told) (held deed told holds)
         (framed seat (next told) (held deed told holds) marks)
         (all_framed seat (next told) (held deed told holds) marks (so.1 told)),
   )
   all_framed seat (Opens asked scope next) holds marks so = (
     so.0,
-    λ told. all_follows seat (may_give_up told (next told)) 0 (opened scope told holds)
+    λ told. all_follows seat (allocates (next told)) 0 (opened scope told holds)
         (framed seat (next told) (opened scope told holds) marks)
         (all_framed seat (next told) (opened scope told holds) marks (so.1 told)),
   )

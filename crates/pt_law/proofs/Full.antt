@@ -15,7 +15,7 @@ use Rattle.pt_frame.specs.Frame.{behind, cut}
 use Rattle.pt_frame.specs.Frame.{under, mark_in, outer, answered_by, CutAfter, CutInFull}
 use Rattle.pt_frame.specs.Tree.{RequestTree, Gives, Refuses, Asks, Opens, Bares, Brackets, Shuts, Allocates, framed}
 use Rattle.pt_frame.specs.Tree.{follows}
-use Rattle.pt_frame.specs.Tree.{may_give_up, allocates, grammar_of_tree}
+use Rattle.pt_frame.specs.Tree.{allocates, grammar_of_tree}
 use Rattle.pt_frame.specs.declared.act.ActReply.{ActReply}
 use Rattle.pt_frame.specs.declared.finish.Finish.{Finish}
 use Rattle.pt_frame.specs.declared.finish.Finish.TheVariants as finish
@@ -114,14 +114,6 @@ none_allocates (Bares rest) s = refl
 none_allocates (Brackets rest) s = refl
 none_allocates (Shuts passes rest) s = refl
 
-goes_on : (told : ActReply) (next : RequestTree) → (LacksMemory told → ⊥) → TakesNone next →
-    may_give_up told next ≡ false
-goes_on told next n s = go (lacks_memory told) refl
-  where
-    go : (b : Bool) → lacks_memory told ≡ b → (b || allocates next) ≡ false
-    go true e = absurd (n e)
-    go false e = none_allocates next s
-
 follows_last : (seat : HostSeat) (wants : Bool) (count : ℕ) (holds : List Hold) (rest : Grammar) → wants ≡ false →
     Lasting rest → Lasting (follows seat wants count holds rest)
 follows_last seat wants count holds rest e g =
@@ -132,12 +124,12 @@ pub framed_lasts : (seat : HostSeat) (tree : RequestTree) (holds : List Hold) (m
 framed_lasts seat (Gives last) holds marks s = answered_lasts seat (passes_with last) holds (finish.Answer last)
 framed_lasts seat (Refuses told) holds marks s = leave_lasts seat holds (finish.Answer (refusal told))
 framed_lasts seat (Asks deed next) holds marks s = λ told t n.
-    follows_last seat (may_give_up told (next told)) (closings_in deed told) (held deed told holds)
-    (framed seat (next told) (held deed told holds) marks) (goes_on told (next told) n (s told t))
+    follows_last seat (allocates (next told)) (closings_in deed told) (held deed told holds)
+    (framed seat (next told) (held deed told holds) marks) (none_allocates (next told) (s told t))
     (framed_lasts seat (next told) (held deed told holds) marks (s told t))
 framed_lasts seat (Opens asked scope next) holds marks s = λ told t n.
-    follows_last seat (may_give_up told (next told)) 0 (opened scope told holds)
-    (framed seat (next told) (opened scope told holds) marks) (goes_on told (next told) n (s told t))
+    follows_last seat (allocates (next told)) 0 (opened scope told holds)
+    (framed seat (next told) (opened scope told holds) marks) (none_allocates (next told) (s told t))
     (framed_lasts seat (next told) (opened scope told holds) marks (s told t))
 framed_lasts seat (Bares rest) holds marks s =
     bare_lasts seat holds (λ left. framed seat rest left marks) (λ left. framed_lasts seat rest left marks s)

@@ -22,7 +22,7 @@ use Rattle.pt_frame.specs.Frame.{giving, give_slot, give_taken, closings, give, 
 use Rattle.pt_frame.specs.Frame.{behind, under, mark_in, outer, shut, answered, cut}
 use Rattle.pt_frame.specs.Tree.{RequestTree, Gives, Refuses, Asks, Opens, Bares, Brackets, Shuts, Allocates, framed}
 use Rattle.pt_frame.specs.Tree.{follows}
-use Rattle.pt_frame.specs.Tree.{may_give_up}
+use Rattle.pt_frame.specs.Tree.{allocates}
 use Rattle.pt_frame.specs.declared.act.ActReply.{ActReply}
 use Rattle.pt_frame.specs.declared.act.ActReply.TheVariants.{Event, Host, NoCopy}
 use Rattle.pt_frame.specs.declared.finish.Finish.{Finish}
@@ -328,7 +328,7 @@ sound_framed seat (Asks deed next) holds marks notes none f = (
       let still = may_bring_none deed step.reply holds notes f.0 none in (
         owing_job (unscoped after) count later,
         may_step deed step.deed step.reply holds notes i f.0,
-        sound_follows seat (may_give_up step.reply (next step.reply)) count after
+        sound_follows seat (allocates (next step.reply)) count after
             (framed seat (next step.reply) after marks) later still
             (after_map count _ _ later still (λ last e g. sound_framed seat (next step.reply) after marks last e g)
             (f.1 step.reply (told_of deed step.deed step.reply i t))),
@@ -342,7 +342,7 @@ sound_framed seat (Opens asked scope next) holds marks notes none f = (
         subst (λ (h : List Hold). MovesIf (at_job (unscoped holds) notes) step.deed step.reply (at_job h notes))
             (sym (opened_on scope step.reply holds (is_scope_opened (sort_of asked) scope f.0)))
             (seat_step asked scope step.deed step.reply (unscoped holds) notes i f.0),
-        sound_follows seat (may_give_up step.reply (next step.reply)) 0 after
+        sound_follows seat (allocates (next step.reply)) 0 after
             (framed seat (next step.reply) after marks) notes none
             (sound_framed seat (next step.reply) after marks notes none
             (f.1 step.reply (told_of (Calls asked) step.deed step.reply i t))),

@@ -20,7 +20,7 @@ use Rattle.pt_frame.specs.Past.{or_first, KeepsGroups}
 use Rattle.pt_frame.specs.Seats.{seat_by}
 use Rattle.pt_frame.specs.Tended.{is_seats_sort, is_of_seat}
 use Rattle.pt_frame.specs.Tree.{RequestTree, Gives, Refuses, Asks, Opens, Bares, Brackets, Shuts, Allocates, framed}
-use Rattle.pt_frame.specs.Tree.{may_give_up, follows}
+use Rattle.pt_frame.specs.Tree.{allocates, follows}
 use Rattle.pt_frame.specs.declared.act.ActReply.{ActReply}
 use Rattle.pt_frame.specs.declared.act.ActReply.TheVariants.{Event, Host, NoCopy}
 use Rattle.pt_frame.specs.declared.finish.Finish.{Finish}
@@ -433,9 +433,9 @@ seated_framed role seat (Asks deed next) scopes holds marks now kept c s = (
       let later = seat_by now (Some deed) told in
       let under = covers_held deed told scopes holds c in
       let on = s.2 told (told_of deed step.deed told i t) (step_answer now deed step.deed told i a) in
-      subst (λ (z : HostSeat). Seated role seat (follows seat (may_give_up told (next told)) (closings_in deed told)
+      subst (λ (z : HostSeat). Seated role seat (follows seat (allocates (next told)) (closings_in deed told)
       after (framed seat (next told) after marks)) None z) (sym (step_seat now deed step.deed told i))
-      (follows_seated role seat later (may_give_up told (next told)) (closings_in deed told) scopes after
+      (follows_seated role seat later (allocates (next told)) (closings_in deed told) scopes after
       (framed seat (next told) after marks) kept under (seats_unwind role seat (next told) scopes later on.1) on.0
       (seated_framed role seat (next told) scopes after marks later kept under on.1))),
 )
@@ -454,9 +454,9 @@ seated_framed role seat (Opens asked scope next) scopes holds marks now kept c s
       in
       let unwinds = seats_unwind role seat (next told) worn later on in
       let under = opened_covers scope told scopes holds later c unwinds in
-      subst (λ (z : HostSeat). Seated role seat (follows seat (may_give_up told (next told)) 0 after
+      subst (λ (z : HostSeat). Seated role seat (follows seat (allocates (next told)) 0 after
       (framed seat (next told) after marks)) None z) (sym (step_seat now (Calls asked) step.deed told i))
-      (follows_seated role seat later (may_give_up told (next told)) 0 worn after
+      (follows_seated role seat later (allocates (next told)) 0 worn after
       (framed seat (next told) after marks) kept under unwinds (inr refl)
       (seated_framed role seat (next told) worn after marks later kept under on))),
 )

@@ -7,7 +7,6 @@ use Rattle.pt_session.specs.declared.event.KeptEvent.TheVariants as change
 use Rattle.pt_iface.specs.declared.answer.Answer.{Answer}
 use Rattle.pt_iface.specs.declared.answer.Answer.TheVariants as answer
 use Rattle.pt_frame.specs.Deed.{Deed, Calls, Changes, Step, IsStepOf}
-use Rattle.pt_frame.specs.Memory.{RanOut}
 use Rattle.pt_frame.specs.Replies.{refusal}
 use Rattle.pt_frame.specs.Tree.{RequestTree, Gives, Refuses, Asks, Opens, Bares, Brackets, Shuts, Allocates}
 use Rattle.pt_frame.specs.declared.act.ActReply.{ActReply}
@@ -88,10 +87,10 @@ abbrev pub IsLost : Finish → Type 0
 IsLost (finish.Lost errno) = Unit {0}
 IsLost (finish.Answer last) = ⊥
 
--- the job gave up for memory that ran out: one of its steps lacked it, or the tree took some of its own
+-- the job gave up for memory that ran out, where its tree took some of its own
 pub record GaveUp (tree : RequestTree) (steps : List Step) (end : Finish) : Type 0 where
   pub answered : end ≡ finish.Answer answer.NoMemory
-  pub why : RanOut steps ⊎ ((path : List Step) × AreFirst path steps × AllocatesAfter tree path)
+  pub why : (path : List Step) × AreFirst path steps × AllocatesAfter tree path
 
 -- the answer is that of a branch, whose steps are these but for some that give back
 abbrev pub IsOfBranch : RequestTree → Finish → List Step → Type 0

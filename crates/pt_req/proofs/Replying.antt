@@ -7,6 +7,7 @@ use Rattle.pt_host.specs.declared.ids.Errno.{Errno}
 use Rattle.pt_host.specs.declared.ids.Fd.{Fd}
 use Rattle.pt_host.specs.declared.ids.ObjIds.{ObjIds}
 use Rattle.pt_host.specs.declared.stat.Stat.{Stat}
+use Rattle.pt_host.specs.declared.reply.HostReply.{HostReply}
 use Rattle.pt_host.specs.declared.reply.HostReply.TheVariants as host
 use Rattle.pt_host.specs.declared.reply.HostValue.{HostValue}
 use Rattle.pt_host.specs.declared.reply.HostValue.TheVariants as value
@@ -19,7 +20,7 @@ use Rattle.pt_frame.specs.Tree.{RequestTree, Refuses}
 use Rattle.pt_frame.specs.declared.act.ActReply.{ActReply}
 use Rattle.pt_frame.specs.declared.act.ActReply.TheVariants.{Event, Host, NoCopy}
 use Rattle.pt_req.specs.Steps.{session_of, Resolved, on_began, on_cleared, on_resolved, on_fd, on_stat, on_bytes}
-use Rattle.pt_req.specs.Steps.{on_set, on_made, on_ok_or}
+use Rattle.pt_req.specs.Steps.{on_set, on_tried, on_made, on_ok_or}
 use Rattle.pt_req.specs.Steps.{on_claim, on_taken, on_drawn, on_inserted, on_root, on_handle, on_pinned, on_done}
 use Rattle.pt_req.specs.declared.begun.BegunSession.{BegunSession}
 
@@ -56,6 +57,11 @@ pub if_set : (P : ActReply → RequestTree → Type 0) (next : RequestTree) → 
     ((told : HostValue) → P (Host (host.Ok told)) next) → (told : ActReply) → P told (on_set next told)
 if_set P next refused so (Host (host.Ok told)) = so told
 if_set P next refused so told = refused told
+
+pub if_tried : (P : ActReply → RequestTree → Type 0) (next : RequestTree) → OfRefusals P →
+    ((told : HostReply) → P (Host told) next) → (told : ActReply) → P told (on_tried next told)
+if_tried P next refused so (Host told) = so told
+if_tried P next refused so told = refused told
 
 if_or_refuses : (P : RequestTree → Type 0) (b : Bool) (there refused : RequestTree) → P there → P refused →
     P (if b then there else refused)

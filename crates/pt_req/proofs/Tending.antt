@@ -31,9 +31,9 @@ use Rattle.pt_frame.proofs.Wearing.{wears_same}
 use Rattle.pt_req.specs.Asker.{taken_on}
 use Rattle.pt_req.specs.Capability.{fsetid}
 use Rattle.pt_req.specs.Requests.{tree_of}
-use Rattle.pt_req.specs.Steps.{open_scope}
+use Rattle.pt_req.specs.Steps.{open_scope, on_tried}
 use Rattle.pt_req.specs.declared.plan.Plan.{Plan}
-use Rattle.pt_req.proofs.Replying.{if_set}
+use Rattle.pt_req.proofs.Replying.{if_set, if_tried}
 use Rattle.pt_req.proofs.Walking.{InScope, Walk, is_making, of_any, of_any_scopes, each_request}
 
 closes_bare : (count : ℕ) → ClosesBare Nothing count []
@@ -86,8 +86,14 @@ module _ (seat : HostSeat) (rest : RequestTree) (any : (worn : List Call) → Te
   on_euid worn shut low None false = any worn
   on_euid worn shut low (Some uid) true =
       scopes seat (call.SetEuid uid) hold.EffectiveUid (taken_on (raise_calls true) rest) worn
-      (record { own = refl; scoped = refl; shut = shut uid; back = refl })
-      ((tt, low override_cap, omega arith), λ told. (tt, any _))
+      (record { own = refl; scoped = refl; shut = shut uid; back = refl }) (
+        (tt, low override_cap, omega arith),
+        λ told. (
+          tt,
+          if_tried (λ told tree. Tends seat tree (worn_after (call.SetEuid uid ∷ worn)
+              (Calls (call.RaiseCap override_cap)) told)) rest (λ told. tt) (λ told. any _) told,
+        ),
+      )
   on_euid worn shut low (Some uid) false = scopes seat (call.SetEuid uid) hold.EffectiveUid rest worn
       (record { own = refl; scoped = refl; shut = shut uid; back = refl }) (any _)
 
@@ -162,7 +168,8 @@ bare seat = record {
   had = λ told tree so. so;
   asks = λ deed next own none may so. plainly seat deed next own so;
   ran_out = λ told deed lacks own none may.
-      plainly seat deed (λ later. Gives answer.NoMemory) own (λ later. (refl, tt));
+      plainly seat deed (on_tried (Gives answer.NoMemory)) own
+      (if_tried (λ later tree. Tends seat tree []) (Gives answer.NoMemory) (λ later. tt) (λ later. (refl, tt)));
   brackets = λ rest so. so;
   shuts = λ passes rest so. (refl, so);
   shuts_after = λ told passes rest so. (refl, so);
@@ -212,7 +219,9 @@ spared_scope asked scope rest so = if_set (λ told tree. IsSparing (lacks_memory
 
 module _ (rest : RequestTree) (so : IsSparing false rest) where
   spares_raise : (raise : Bool) → IsSparing false (taken_on (raise_calls raise) rest)
-  spares_raise true = λ told. spares_more false (lacks_memory told || false) (λ e. absurd (cc)) rest so
+  spares_raise true = if_tried (λ told tree. IsSparing (lacks_memory told || false) tree) rest
+      (λ told. λ lacks. lacks_so (lacks_memory told) lacks)
+      (λ told. spares_more false (lacks_memory (Host told) || false) (λ e. absurd (cc)) rest so)
   spares_raise false = so
 
   spares_euid : (euid : Option ℕ) (raise : Bool) →
@@ -266,7 +275,10 @@ in_full seat = record {
   refuses = λ told. λ lacks. lacks_so (lacks_memory told) lacks;
   had = λ told tree so. spares_more false (lacks_memory told || false) (λ e. absurd (cc)) tree so;
   asks = λ deed next own none may so. so;
-  ran_out = λ told deed lacks own none may. λ later. λ out. out_before (lacks_memory later) (lacks_memory told) lacks;
+  ran_out = λ told deed lacks own none may.
+      if_tried (λ later tree. IsSparing (lacks_memory later || (lacks_memory told || false)) tree)
+      (Gives answer.NoMemory) (λ later. λ out. out_before (lacks_memory later) (lacks_memory told) lacks)
+      (λ later. λ out. out_before (lacks_memory (Host later)) (lacks_memory told) lacks);
   brackets = λ rest so. so;
   shuts = λ passes rest so. so;
   shuts_after = λ told passes rest so. so;

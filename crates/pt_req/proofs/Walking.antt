@@ -42,7 +42,7 @@ use Rattle.pt_req.specs.Steps.{session_of, Resolved, on_began, on_cleared, on_re
 use Rattle.pt_req.specs.Steps.{on_claim, on_taken, on_drawn, on_inserted, on_root, on_handle, on_pinned, on_done}
 use Rattle.pt_req.specs.Steps.{begin, clear, resolve, open_root, open_at, reopen, stat, read_at, claim, take_fd}
 use Rattle.pt_req.specs.Steps.{draw_node, draw_handle, insert, insert_root, insert_handle, pin_handle, forget_all}
-use Rattle.pt_req.specs.Steps.{release_handle, make_at, on_made, on_ok_or}
+use Rattle.pt_req.specs.Steps.{release_handle, on_tried, make_at, on_made, on_ok_or}
 use Rattle.pt_req.specs.Attributes.{is_blocked}
 use Rattle.pt_req.specs.Capability.{fsetid, drops_fsetid, without_fsetid}
 use Rattle.pt_req.specs.Entries.{is_bad_name, is_bad_offset, can_open}
@@ -59,7 +59,7 @@ use Rattle.pt_req.specs.declared.parts.looked.Looked.{Looked}
 use Rattle.pt_req.specs.declared.plan.Plan.{Plan}
 use Rattle.pt_req.proofs.Flags.{creates as creates_file}
 use Rattle.pt_req.proofs.Replying.{if_began, if_cleared, if_resolved, if_fd, if_stat, if_bytes, if_claimed, if_taken}
-use Rattle.pt_req.proofs.Replying.{if_made, if_ok_or, if_drawn, if_inserted, if_root, if_handle, if_pinned, if_done}
+use Rattle.pt_req.proofs.Replying.{if_made, if_ok_or, if_tried, if_drawn, if_inserted, if_root, if_handle, if_pinned, if_done}
 
 -- an answer that is neither given up nor cut
 abbrev pub IsPlain : Answer → Type 0
@@ -120,7 +120,7 @@ pub record Walk
       OfDeed D false deed → ((told : ActReply) → R told (next told)) → Q (Asks deed next)
   -- memory ran out, and that is answered behind one more deed
   pub ran_out : (told : ActReply) (deed : Deed) → lacks_memory told ≡ true → is_of_seat deed ≡ false →
-      is_making deed ≡ false → OfDeed D false deed → R told (Asks deed (λ later. Gives answer.NoMemory))
+      is_making deed ≡ false → OfDeed D false deed → R told (Asks deed (on_tried (Gives answer.NoMemory)))
   pub brackets : (rest : RequestTree) → Q rest → Q (Brackets rest)
   pub shuts : (passes : Bool) (rest : RequestTree) → Q rest → Q (Shuts passes rest)
   -- a bracket ends behind a reply
@@ -458,12 +458,13 @@ module _
         takes _ (
         inserts_handle session handle entry.inode fd _ (so (named_handle entry handle))))
 
-    -- a refusal behind one more call, whose reply is passed over
+    -- a refusal behind one more call, which the host may refuse
     pub undoes : (undoing : Call) (errno : Errno) → is_of_seat (Calls undoing) ≡ false →
         is_making (Calls undoing) ≡ false → OfDeed D false (Calls undoing) →
         Q (undone undoing (answer.Refused errno))
-    undoes undoing errno own none may = w.asks (Calls undoing) (λ told. Gives (answer.Refused errno)) own none may
-        (λ told. w.had _ _ (refuses_so errno))
+    undoes undoing errno own none may =
+        w.asks (Calls undoing) (on_tried (Gives (answer.Refused errno))) own none may
+        (if_tried R (Gives (answer.Refused errno)) w.refuses (λ told. w.had _ _ (refuses_so errno)))
 
     pub labels : (session : BegunSession) (fd : Fd) (undoing : Call) (label : Option SecContext)
         (next : RequestTree) → is_of_seat (Calls undoing) ≡ false → is_making (Calls undoing) ≡ false →

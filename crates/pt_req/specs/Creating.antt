@@ -40,7 +40,7 @@ handled session fd entry next =
     take_fd (
     insert_handle session handle entry.inode fd (next (named_handle entry handle))))
 
--- what was made goes again by this call, whatever that is told, and so the request is answered
+-- what was made goes again by this call, whatever the host says of it, and so the request is answered
 abbrev pub undone : Call → Answer → RequestTree
 undone undoing last = try_call undoing (Gives last)
 

@@ -80,9 +80,13 @@ on_set next told = Refuses told
 abbrev pub open_scope : Call → Hold → RequestTree → RequestTree
 open_scope asked scope next = Opens asked scope (on_set next)
 
--- a call that may fail
+abbrev pub on_tried : RequestTree → ActReply → RequestTree
+on_tried next (Host told) = next
+on_tried next told = Refuses told
+
+-- a call that the host may refuse; one that could not be copied was not made, and ends the request
 abbrev pub try_call : Call → RequestTree → RequestTree
-try_call asked next = Asks (Calls asked) (λ told. next)
+try_call asked next = Asks (Calls asked) (on_tried next)
 
 -- it was answered that the name is there
 abbrev pub is_there : ActReply → Bool

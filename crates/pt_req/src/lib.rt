@@ -15,8 +15,8 @@ pub use laws::{requests_spare, requests_tend};
 pub use named::InodeFileHandlesMode;
 pub use parts::{
     EntryLookup, EntryLookupAt, Looked, Part, are_made, asker_of, attr_of, can_open, drops_fsetid,
-    is_bad_name, is_bad_offset, is_blocked, label_name, label_value, refused_so, reopen_flags,
-    take_step, want_drop, want_step,
+    is_bad_name, is_bad_offset, is_blocked, label_name, label_value, reopen_flags, take_step,
+    undone, want_drop, want_step,
 };
 pub use plan::{CachePolicy, Config, Plan};
 pub use requests::{RequestBody, take_named};

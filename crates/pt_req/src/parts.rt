@@ -24,7 +24,7 @@ pub use label::{is_blocked, label_name, label_value};
 pub use look_up::{EntryLookup, EntryLookupAt};
 pub use looked::Looked;
 pub use name::is_bad_name;
-pub use new_file::{NewFile, NewFileAt, refused_so};
+pub use new_file::{NewFile, NewFileAt, undone};
 pub use offset::is_bad_offset;
 pub use old_file::{OldFile, OldFileAt};
 pub use open::{HandleOpen, can_open};

@@ -24,7 +24,7 @@ use pt_host::{Bytes, Errno, Fd, HostOp, HostReply, HostSeat, HostValue, OpenFlag
 use pt_iface::{Answer, Context, Extensions, SecContext};
 use pt_req::{
     BegunSession, EntryLookup, EntryLookupAt, Plan, are_made, asker_of, is_bad_name, is_blocked,
-    label_name, label_value, refused_so, take_named, take_step, want_step,
+    label_name, label_value, take_named, take_step, undone, want_step,
 };
 use pt_session::{Event, EventReply, RowForm};
 
@@ -478,7 +478,7 @@ impl Body for Making {
                 let dir = *dir;
                 labelled(&mut self.at, session, dir, &self.object, reply)
             }
-            MakingAt::Undo { errno, .. } => Next::At(Then::Gives(refused_so(*errno))),
+            MakingAt::Undo { errno, .. } => undone(*errno, &reply),
             MakingAt::LookUp(part) => take_named(part, plan, reply),
         }
     }

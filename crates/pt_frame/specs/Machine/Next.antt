@@ -3,7 +3,7 @@ use Rattle.std.specs.Prelude.{◌≡◌, ℕ, Bool, true, false, Option, Some, N
 use Rattle.pt_session.specs.declared.event.KeptEvent.TheVariants as change
 use Rattle.pt_frame.specs.Deed.{Deed, Calls, Changes, deed_of}
 use Rattle.pt_frame.specs.Tree.{RequestTree, Gives, Refuses, Asks, Opens, Bares, Brackets, Shuts, Allocates}
-use Rattle.pt_frame.specs.Tree.{may_give_up}
+use Rattle.pt_frame.specs.Tree.{allocates}
 use Rattle.pt_frame.specs.declared.act.Act.{Act}
 use Rattle.pt_frame.specs.declared.act.ActReply.{ActReply}
 use Rattle.pt_frame.specs.declared.hold.Hold.{Hold}
@@ -62,11 +62,11 @@ brackets_if false rest = rest
 abbrev pub edged : Edges → RequestTree → RequestTree
 edged edges rest = bares_if edges.bares (shuts_if edges.shuts (brackets_if edges.brackets rest))
 
--- what is left is what the tree says; a body gives up only where memory ran out, or may have run out
+-- what is left is what the tree says; a body gives up only where that takes memory
 abbrev pub IsNext : RequestTree → ActReply → Next → RequestTree → Type 0
 IsNext tree told (next.At what) left = with_memory tree ≡ then_tree what told left
 IsNext tree told (next.Over edges what) left = with_memory tree ≡ edged edges (then_tree what told left)
-IsNext tree told next.NoMemory left = may_give_up told tree ≡ true
+IsNext tree told next.NoMemory left = allocates tree ≡ true
 
 -- what counts of a body after its step: nothing of one that is over
 abbrev pub then_counts : Then → ℕ → ℕ

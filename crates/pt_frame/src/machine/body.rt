@@ -69,7 +69,7 @@ impl Edges {
 pub enum Next {
     At(Then),
     Over { edges: Edges, then: Then },
-    /// Memory ran out, by the reply or as it was taken.
+    /// Memory ran out as the reply was taken, where the tree says that this takes some.
     NoMemory,
 }
 

@@ -4,7 +4,7 @@ ghost use Rattle.pt_frame.specs.Machine.Room.{brings};
 ghost use Rattle.pt_frame.specs.Tree.{RequestTree};
 ghost use Rattle.pt_req.specs.Asker.{group_of, asker_of};
 ghost use Rattle.pt_req.specs.Machine.Creating.{steps_tree, are_made, steps_acts, steps_room};
-ghost use Rattle.pt_req.specs.Steps.{on_set};
+ghost use Rattle.pt_req.specs.Steps.{on_set, on_tried};
 
 use crate::begun::BegunSession;
 use crate::plan::Plan;
@@ -98,6 +98,17 @@ fn opened(reply: &ActReply) -> Then
     }
 }
 
+/// What follows a call that the host may refuse.
+fn tried(reply: &ActReply) -> Then
+    ensures { (next : RequestTree) → with_memory next ≡ next →
+        with_memory (on_tried next reply.now) ≡ then_tree result reply.now next }
+{
+    match reply {
+        ActReply::Host(_) => Then::Goes,
+        _ => Then::Refuses,
+    }
+}
+
 /// Goes on from the reply to the next step. A capability that was not raised is done without.
 #[tactic(auto, using(crate::proofs::Scoping::plain_steps))]
 pub fn take_step(steps: &mut CredSteps, reply: &ActReply) -> Then
@@ -123,5 +134,5 @@ pub fn take_step(steps: &mut CredSteps, reply: &ActReply) -> Then
         return opened(reply);
     }
     steps.raise = false;
-    Then::Goes
+    tried(reply)
 }

@@ -4,7 +4,8 @@ ghost use Rattle.pt_frame.specs.Machine.Room.{brings};
 ghost use Rattle.pt_frame.specs.Replies.{inserted_by};
 ghost use Rattle.pt_frame.specs.Tree.{RequestTree, Shuts};
 ghost use Rattle.pt_frame.specs.declared.act.ActReply.{ActReply};
-ghost use Rattle.pt_req.specs.Creating.{are_same, named_handle};
+ghost use Rattle.pt_host.specs.Call.{Call};
+ghost use Rattle.pt_req.specs.Creating.{are_same, named_handle, undone};
 ghost use Rattle.pt_req.specs.Machine.Creating.{answers_created, new_left, new_at_left, new_acts};
 ghost use Rattle.pt_req.specs.Machine.Creating.{new_room, new_inserts};
 ghost use Rattle.pt_req.specs.Machine.Creating.{new_named, new_labelled, new_looked, new_set, new_undone, refused_so};
@@ -56,12 +57,25 @@ fn are_same(one: ObjIds, other: ObjIds) -> bool
 }
 
 /// How a refusal is answered, which has no error number where memory ran out.
-pub fn refused_so(errno: Option<Errno>) -> Answer
+fn refused_so(errno: Option<Errno>) -> Answer
     ensures { result ≡ refused_so errno }
 {
     match errno {
         Some(errno) => Answer::Refused(errno),
         None => Answer::NoMemory,
+    }
+}
+
+/// How a request is answered behind the call that undoes what it made: by its own refusal, whatever the host says.
+pub fn undone(errno: Option<Errno>, reply: &ActReply) -> Next
+    ensures next { (undoing : Call) (left : RequestTree) →
+        IsNext (asked (undone undoing (refused_so errno)) reply.now) reply.now result left }
+    ensures counts { (count : ℕ) → counts_after result count ≡ 0 }
+    ensures begins { begun_in result ≡ 0 }
+{
+    match reply {
+        ActReply::Host(_) => Next::At(Then::Gives(refused_so(errno))),
+        _ => Next::At(Then::Refuses),
     }
 }
 
@@ -237,7 +251,7 @@ impl NewFile {
                 let made = *made;
                 self.labelled(file, made, reply)
             }
-            NewFileAt::Undo { errno } => Next::At(Then::Gives(refused_so(*errno))),
+            NewFileAt::Undo { errno } => undone(*errno, &reply),
             NewFileAt::LookUp { made, part } => {
                 let made = *made;
                 let part = part.take(plan, reply);
