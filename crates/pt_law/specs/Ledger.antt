@@ -153,6 +153,20 @@ abbrev pub handle_pin_ended : ℕ → Deed → ActReply → ℕ
 handle_pin_ended serial (Changes (change.UnpinHandle row)) told = is row serial
 handle_pin_ended serial deed told = 0
 
+-- a count of a number in an era; the root's two are given to no job
+abbrev pub count_made : ℕ → ℕ → Deed → ActReply → ℕ
+count_made era number (Changes (change.Claim same handle ids)) (Event (event.Claimed given)) =
+    is same era * is given number
+count_made era number (Changes (change.Insert same drawn form ids mode)) (Event (event.Inserted given)) =
+    is same era * is given number
+count_made era number (Changes (change.Insert same drawn form ids mode)) (Event (event.Found given)) =
+    is same era * is given number
+count_made era number deed told = 0
+
+abbrev pub count_ended : ℕ → ℕ → Deed → ActReply → ℕ
+count_ended era number (Changes (change.GiveBack same given)) told = is same era * is given number
+count_ended era number deed told = 0
+
 -- a closing that it takes; those that it is told of are `closings_in`
 abbrev pub closing_ended : Deed → ActReply → ℕ
 closing_ended (Changes change.TakeClosing) told = 1
