@@ -1,5 +1,5 @@
 -- Believed. What a run keeps after every step and at its end, in whatever order its jobs took their steps.
-use Rattle.std.specs.Prelude.{◌≡◌, ◌≢◌, ◌≤◌, ◌⊎◌, ℕ, true, List, ◌∷◌, ◌++◌, Option, Some, None, map, slice_get}
+use Rattle.std.specs.Prelude.{◌≡◌, ◌≢◌, ◌≤◌, ◌⊎◌, ℕ, List, ◌∷◌, ◌++◌, Option, Some, None, map, slice_get}
 use Rattle.pt_host.specs.Tree.{Tree}
 use Rattle.pt_host.specs.declared.seat.HostSeat.{HostSeat}
 use Rattle.pt_session.specs.Tables.{Tables}
@@ -79,10 +79,11 @@ LeadsOn told tables trace told' tables' = WhereTold told tables (λ start.
     (end : World) × (told' ≡ Some end.tree) × (end.tables ≡ tables') × WorldRuns start (turns_of trace) end
     × ReachesWorlds start trace end)
 
--- two live numbers that differ have objects that differ, and a live row has an open descriptor of its number's object
+-- two live numbers that differ have objects that differ; and each row has an open descriptor of its object, which is
+-- its number's while it is live
 pub record KeepsObjects (now : World) : Type 0 where
   pub distinct : AreDistinct now
-  pub open_on : (row : Row) → IsRow now.tables row → row.live ≡ true → HasObject now row
+  pub open_on : (row : Row) → IsRow now.tables row → HasObject now row
 
 -- every number's count is what was given of it and not taken back
 abbrev pub KeepsCounts : List Turn → Tables → Type 0

@@ -276,12 +276,11 @@ shown : (bound : ℕ) (base had : ℕ → ℕ) (w : World) (js : ℕ → Job) (r
 shown bound base had w js row v h = each_taken (RowOpen w.tree w.past) h.1 v.right.shown
 
 pub object_law : (limit bound : ℕ) (turns more : List Turn) (start now : World) (row : Row) → Starts limit start →
-    AreDisciplined bound (turns ++ more) → Runs start turns now → IsRow now.tables row → row.live ≡ true →
-    HasObject now row
-object_law limit bound turns more start now row s a r h l =
+    AreDisciplined bound (turns ++ more) → Runs start turns now → IsRow now.tables row → HasObject now row
+object_law limit bound turns more start now row s a r h =
     let v = reach limit bound turns more start now s a r in
     let o = shown bound _ _ now v.0 row v.1 h in
-    (o.object, o.numbered l, o.shows.open_on)
+    record { object = o.object; its = o.placed; open_on = o.shows.open_on; of_number = o.numbered }
 
 pub distinct_law : (limit bound : ℕ) (turns more : List Turn) (start now : World) → Starts limit start →
     AreDisciplined bound (turns ++ more) → Runs start turns now → AreDistinct now
