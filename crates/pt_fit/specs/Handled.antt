@@ -16,9 +16,7 @@ handle_count handle (answer.Opened same options) = is same handle
 handle_count handle (answer.Created entry same options) = is same handle
 handle_count handle last = 0
 
--- What was inserted is what is answered, so nothing where the job is refused; unless it gave up for memory that ran
--- out, or was cut.
+-- What was inserted is what is answered, so nothing where the job is refused or memory ran out; unless it was cut.
 abbrev pub KeepsHandle : List Step → Answer → Type 0
-KeepsHandle steps answer.NoMemory = Unit {0}
 KeepsHandle steps answer.Cut = Unit {0}
 KeepsHandle steps last = (handle : ℕ) → handles_in handle steps ≡ handle_count handle last
