@@ -22,7 +22,8 @@ use Rattle.pt_iface.specs.declared.answer.Answer.{Answer}
 use Rattle.pt_iface.specs.declared.answer.Answer.TheVariants as answer
 use Rattle.pt_frame.specs.Deed.{Calls, Changes, Deed, IsStepOf, Step}
 use Rattle.pt_frame.specs.Replies.{event_refusal, refusal}
-use Rattle.pt_frame.specs.Tree.{allocates, Asks, Bares, Brackets, Gives, may_give_up, Opens, Refuses, RequestTree, Shuts}
+use Rattle.pt_frame.specs.Tree.{allocates, Asks, Bares, Brackets, Gives, may_give_up, Opens, Refuses, RequestTree}
+use Rattle.pt_frame.specs.Tree.{Shuts}
 use Rattle.pt_frame.specs.declared.act.ActReply.{ActReply}
 use Rattle.pt_frame.specs.declared.act.ActReply.TheVariants.{Event, Host, NoCopy}
 use Rattle.pt_frame.specs.declared.hold.Hold.{Hold}
@@ -45,7 +46,7 @@ use Rattle.pt_req.proofs.Replying.{if_resolved, if_root, if_set, if_stat, if_tak
 use Rattle.pt_attr.specs.Requests.{file_by, files_by}
 use Rattle.pt_attr.specs.Steps.{do_call}
 use Rattle.pt_law.specs.Branch.{Along, GivesUpAfter}
-use Rattle.pt_law.specs.Ledger.{handle_inserted_if}
+use Rattle.pt_law.specs.Ledger.{handle_inserted_as, weighed}
 use Rattle.pt_law.specs.Told.{AllMayBeTold, MayBeTold, StepMayBeTold}
 use Rattle.pt_fit.specs.Handled.{handle_count, handles_in}
 
@@ -87,15 +88,15 @@ refuses told = record { on = go; up = λ path g. absurd g }
 
 -- a step that inserts no handle, whatever it is told
 abbrev pub InsertsNone : Deed → Type 0
-InsertsNone deed = (handle : ℕ) (told : ActReply) → handle_inserted_if handle (Some deed) told ≡ 0
+InsertsNone deed = (handle : ℕ) (told : ActReply) → weighed (handle_inserted_as handle) (Some deed) told ≡ 0
 
 pub step_none : (deed : Deed) (did : Option Deed) (told : ActReply) (handle : ℕ) → InsertsNone deed →
-    IsStepOf deed did told → handle_inserted_if handle did told ≡ 0
+    IsStepOf deed did told → weighed (handle_inserted_as handle) did told ≡ 0
 step_none deed None told handle spares i = refl
 step_none deed (Some same) NoCopy handle spares i =
-    ap (λ (d : Deed). handle_inserted_if handle (Some d) NoCopy) i.0 ∙ spares handle NoCopy
+    ap (λ (d : Deed). weighed (handle_inserted_as handle) (Some d) NoCopy) i.0 ∙ spares handle NoCopy
 step_none deed (Some same) told handle spares i =
-    ap (λ (d : Deed). handle_inserted_if handle (Some d) told) i ∙ spares handle told
+    ap (λ (d : Deed). weighed (handle_inserted_as handle) (Some d) told) i ∙ spares handle told
 
 -- at once, or behind further steps
 gave_none : {may : Bool} (next : RequestTree) (path : List Step) →
@@ -181,7 +182,7 @@ inserts_handle session handle number fd next so = record { on = go; up = up }
     -- by a reply that may come
     replied : (told : ActReply) (path : List Step) (last : Answer) → MayBeTold asked told → AllMayBeTold path →
         Along (on_handle next told) path last → (h : ℕ) →
-        handle_inserted_if h (Some asked) told + handles_in h path ≡ handle_count h last
+        weighed (handle_inserted_as h) (Some asked) told + handles_in h path ≡ handle_count h last
     replied (Event (event.Inserted given)) path last may m a h =
         let inserting = change.InsertHandle session.era handle number fd in
         let e = (cases may.0 may.1 inserting (event.Inserted given) may.2).3 in
@@ -192,7 +193,7 @@ inserts_handle session handle number fd next so = record { on = go; up = up }
 
     at : (did : Option Deed) (told : ActReply) (path : List Step) (last : Answer) → IsStepOf asked did told →
         StepMayBeTold did told → AllMayBeTold path → Along (on_handle next told) path last → (h : ℕ) →
-        handle_inserted_if h did told + handles_in h path ≡ handle_count h last
+        weighed (handle_inserted_as h) did told + handles_in h path ≡ handle_count h last
     at None told path last i may m a h = absurd (uncopied told i)
       where
         uncopied : (told : ActReply) → IsStepOf asked None told → ⊥
@@ -200,15 +201,15 @@ inserts_handle session handle number fd next so = record { on = go; up = up }
         uncopied told i = i
     at (Some same) NoCopy path last i may m a h =
         let k = (refuses NoCopy).on path last m a h in
-        let z = ap (λ (d : Deed). handle_inserted_if h (Some d) NoCopy) i.0 in
+        let z = ap (λ (d : Deed). weighed (handle_inserted_as h) (Some d) NoCopy) i.0 in
         omega (arith, k, z)
     at (Some same) told path last i may m a h =
-        ap (λ (d : Deed). handle_inserted_if h (Some d) told + handles_in h path) i
+        ap (λ (d : Deed). weighed (handle_inserted_as h) (Some d) told + handles_in h path) i
         ∙ replied told path last (subst (λ (d : Deed). MayBeTold d told) i may) m a h
 
     replied_up : (told : ActReply) (path : List Step) →
         ((path ≡ []) × (may_give_up told (on_handle next told) ≡ true)) ⊎ GivesUpAfter (on_handle next told) path →
-        (h : ℕ) → handle_inserted_if h (Some asked) told + handles_in h path ≡ 0
+        (h : ℕ) → weighed (handle_inserted_as h) (Some asked) told + handles_in h path ≡ 0
     replied_up (Event (event.Inserted given)) path (inl now) h =
         let may : allocates next ≡ true = now.1 in let none = so.stands in absurd (cc)
     replied_up (Event (event.Inserted given)) path (inr later) h = absurd (so.up path later)
@@ -217,16 +218,17 @@ inserts_handle session handle number fd next so = record { on = go; up = up }
 
     at_up : (did : Option Deed) (told : ActReply) (path : List Step) → IsStepOf asked did told →
         ((path ≡ []) × (may_give_up told (on_handle next told) ≡ true)) ⊎ GivesUpAfter (on_handle next told) path →
-        (h : ℕ) → handle_inserted_if h did told + handles_in h path ≡ 0
+        (h : ℕ) → weighed (handle_inserted_as h) did told + handles_in h path ≡ 0
     at_up None told path i g h = absurd (uncopied told i)
       where
         uncopied : (told : ActReply) → IsStepOf asked None told → ⊥
         uncopied NoCopy i = i
         uncopied told i = i
     at_up (Some same) NoCopy path i g h =
-        ap (λ (d : Deed). handle_inserted_if h (Some d) NoCopy + handles_in h path) i.0 ∙ replied_up NoCopy path g h
+        ap (λ (d : Deed). weighed (handle_inserted_as h) (Some d) NoCopy + handles_in h path) i.0
+        ∙ replied_up NoCopy path g h
     at_up (Some same) told path i g h =
-        ap (λ (d : Deed). handle_inserted_if h (Some d) told + handles_in h path) i ∙ replied_up told path g h
+        ap (λ (d : Deed). weighed (handle_inserted_as h) (Some d) told + handles_in h path) i ∙ replied_up told path g h
 
     up : (path : List Step) → GivesUpAfter (insert_handle session handle number fd next) path → (h : ℕ) →
         handles_in h path ≡ 0

@@ -67,7 +67,7 @@ use Rattle.pt_attr.specs.declared.requests.making.ObjectAsked.{ObjectAsked}
 use Rattle.pt_attr.proofs.Makings.{if_fd_or}
 use Rattle.pt_attr.proofs.Replying.{if_count, if_fs_stat}
 use Rattle.pt_law.specs.Branch.{AreOwn, AreOwn.{keep, none, skip}, ReturnsHold}
-use Rattle.pt_law.specs.Ledger.{handle_inserted_if}
+use Rattle.pt_law.specs.Ledger.{handle_inserted_as, weighed}
 use Rattle.pt_law.specs.Told.{AllMayBeTold}
 use Rattle.pt_law.proofs.Branches.{branch}
 use Rattle.pt_fit.specs.Handled.{KeepsHandle, handle_count, handles_in}
@@ -383,7 +383,7 @@ each_keeps plan seat who asked = unserves
 -- Among all steps of a job.
 
 returns_none : (deed : Option Deed) (told : ActReply) (handle : ℕ) → ReturnsHold deed →
-    handle_inserted_if handle deed told ≡ 0
+    weighed (handle_inserted_as handle) deed told ≡ 0
 returns_none (Some (Changes (change.InsertHandle era drawn number fd))) told handle r = absurd r
 returns_none (Some (Changes asked)) told handle r = refl
 returns_none (Some (Calls asked)) told handle r = refl

@@ -1,5 +1,5 @@
--- A row that died while it is pinned keeps its object: none has a descriptor that is open on another. And what is opened
--- anew by a number that was resolved is what the number stood for then, also where it stands for another by now.
+-- A row that died while it is pinned keeps its object: none has a descriptor that is open on another. And what is
+-- opened anew by a number that was resolved is what the number stood for then, also where it stands for another by now.
 use Rattle.std.proofs.Common.{◌≡◌, ℕ, List, [], ◌∷◌, ◌++◌, true, false, Option, Some, refl, ap, subst, arith}
 use Rattle.pt_host.specs.Tree.{IsOpenOn}
 use Rattle.pt_host.specs.declared.ids.Fd.{Fd}

@@ -1,6 +1,6 @@
 -- What a job opens anew is open on what the number that it resolved last stood for then.
-use Rattle.std.proofs.Common.{◌≡◌, ◌⊎◌, ◌<◌, inl, inr, ℕ, List, [], ◌∷◌, ◌++◌, Bool, true, false, if◌then◌else◌, Some, None}
-use Rattle.std.proofs.Common.{Option, refl, sym, ap, subst, ◌∙◌, append_assoc}
+use Rattle.std.proofs.Common.{◌≡◌, ◌⊎◌, ◌<◌, inl, inr, ℕ, List, [], ◌∷◌, ◌++◌, Bool, true, false, if◌then◌else◌}
+use Rattle.std.proofs.Common.{Some, None, Option, refl, sym, ap, subst, ◌∙◌, append_assoc}
 use Rattle.pt_host.specs.Words.{Each}
 use Rattle.pt_host.specs.Call.{Call}
 use Rattle.pt_host.specs.declared.ids.Fd.{Fd}

@@ -40,7 +40,8 @@ one_given e n (Calls asked) told holds after s =
     omega (arith, k)
 one_given e n (Changes (change.Resolve number)) (Event (event.Resolved row form ids mode)) holds after s =
     let k = total_takes (count_of e n) s in omega (arith, k)
-one_given e n (Changes (change.Unpin row)) told holds after s = let k = total_takes (count_of e n) s.1 in omega (arith, k)
+one_given e n (Changes (change.Unpin row)) told holds after s = let k = total_takes (count_of e n) s.1 in
+    omega (arith, k)
 one_given e n (Changes (change.Claim era handle ids)) (Event (event.Claimed number)) holds after s =
     let k = total_takes (count_of e n) s in omega (arith, k)
 one_given e n (Changes change.TakeFd) (Event event.Taken) holds after s = let k = total_takes (count_of e n) s in
