@@ -134,8 +134,8 @@ abbrev pub OfEachJob : List Job → List Answer → (ℕ → Job → Answer → 
 OfEachJob jobs answers P =
     (j : ℕ) (job : Job) (told : Answer) → slice_get jobs j ≡ Some job → slice_get answers j ≡ Some told → P j job told
 
--- What a job was given it gave back: numbers, but for the one that its answer has, pins, descriptors, slots; it took
--- the closings that it was told of; and a handle that it inserted its answer has.
+-- What a job was given it gave back, after it was given: numbers, but for the one that its answer has, pins,
+-- descriptors, slots; it took the closings that it was told of; and a handle that it inserted its answer has.
 pub record GivesAllBack (trace : List TraceStep) (j : ℕ) (job : Job) (told : Answer) : Type 0 where
   pub settled : HasSettled (steps_by j trace) (finish.Answer told)
   pub slots : slots_taken (steps_by j trace) ≡ slots_given (steps_by j trace)

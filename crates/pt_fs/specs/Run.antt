@@ -51,7 +51,8 @@ pub record IsRun
   pub causes : OfEachJob jobs answers (IsCausedIn plan trace)
   -- A job is answered that memory ran out only where one of its steps was told so or could not be copied.
   pub memory : OfEachJob jobs answers (RanOutIn trace)
-  -- What a job was given it gave back, but for the number that its answer has; and giving back is never refused.
+  -- What a job was given it gave back, and nothing before it was given, but for the number that its answer has; and
+  -- giving back is never refused.
   pub gives_back : OfEachJob jobs answers (GivesAllBack trace)
   pub honoured : HonoursEach trace
   -- After every step the tables agree; and each front of the trace leads to some tables, from which the rest leads
