@@ -3,7 +3,6 @@ use Rattle.std.proofs.Common.{◌≡◌, ◌⊎◌, ◌<◌, inl, inr, ℕ, List
 use Rattle.std.proofs.Common.{Some, None, Option, refl, sym, ap, subst, ◌∙◌, append_assoc}
 use Rattle.pt_host.specs.Words.{Each}
 use Rattle.pt_host.specs.Call.{Call}
-use Rattle.pt_host.specs.declared.ids.Fd.{Fd}
 use Rattle.pt_host.specs.declared.ids.ObjIds.{ObjIds}
 use Rattle.pt_host.specs.declared.op.KeptHostOp.TheVariants as call
 use Rattle.pt_host.specs.declared.reply.HostReply.TheVariants as host
