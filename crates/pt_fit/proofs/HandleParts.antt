@@ -1,5 +1,5 @@
 -- The parts of requests keep it: a handle that is inserted is the one that is answered.
-use Rattle.std.proofs.Common.{◌≡◌, ◌+◌, ◌∷◌, ◌∙◌, [], if◌then◌else◌, ℕ, Bool, List, None, Option, Some}
+use Rattle.std.proofs.Common.{◌≡◌, ◌⊎◌, inl, inr, ◌+◌, ◌∷◌, ◌∙◌, [], if◌then◌else◌, ℕ, Bool, List, None, Option, Some}
 use Rattle.std.proofs.Common.{ap, arith, false, refl, subst, sym, true}
 use Rattle.pt_host.specs.Call.{Call}
 use Rattle.pt_host.specs.Errno.{eacces, ebadf}
@@ -22,7 +22,8 @@ use Rattle.pt_iface.specs.declared.answer.Answer.{Answer}
 use Rattle.pt_iface.specs.declared.answer.Answer.TheVariants as answer
 use Rattle.pt_frame.specs.Deed.{Calls, Changes, Deed, IsStepOf, Step}
 use Rattle.pt_frame.specs.Replies.{event_refusal, refusal}
-use Rattle.pt_frame.specs.Tree.{Asks, Bares, Brackets, Gives, Opens, Refuses, RequestTree, Shuts}
+use Rattle.pt_frame.specs.Tree.{allocates, Asks, Bares, Brackets, Gives, Opens, Refuses, RequestTree}
+use Rattle.pt_frame.specs.Tree.{Shuts}
 use Rattle.pt_frame.specs.declared.act.ActReply.{ActReply}
 use Rattle.pt_frame.specs.declared.act.ActReply.TheVariants.{Event, Host, NoCopy}
 use Rattle.pt_frame.specs.declared.hold.Hold.{Hold}
@@ -44,19 +45,21 @@ use Rattle.pt_req.proofs.Replying.{if_began, if_claimed, if_cleared, if_done, if
 use Rattle.pt_req.proofs.Replying.{if_resolved, if_root, if_set, if_stat, if_taken}
 use Rattle.pt_attr.specs.Requests.{file_by, files_by}
 use Rattle.pt_attr.specs.Steps.{do_call}
-use Rattle.pt_law.specs.Branch.{Along}
-use Rattle.pt_law.specs.Ledger.{handle_inserted_if}
+use Rattle.pt_law.specs.Branch.{Along, GivesUpAfter}
+use Rattle.pt_law.specs.Ledger.{handle_inserted_as, weighed}
 use Rattle.pt_law.specs.Told.{AllMayBeTold, MayBeTold, StepMayBeTold}
 use Rattle.pt_fit.specs.Handled.{handle_count, handles_in}
 
--- On each of its branches, by replies that may come, what was inserted is what is answered.
+-- On each of its branches, by replies that may come, what was inserted is what is answered; and where it may give up
+-- nothing was.
 pub record Yields (tree : RequestTree) : Type 0 where
   pub on : (path : List Step) (last : Answer) → AllMayBeTold path → Along tree path last → (handle : ℕ) →
       handles_in handle path ≡ handle_count handle last
+  pub up : (path : List Step) → GivesUpAfter tree path → (handle : ℕ) → handles_in handle path ≡ 0
 
 -- an answer without a handle
 pub gives : (last : Answer) → ((handle : ℕ) → handle_count handle last ≡ 0) → Yields (Gives last)
-gives last without = record { on = go }
+gives last without = record { on = go; up = λ path g. absurd g }
   where
     go : (path : List Step) (told : Answer) → AllMayBeTold path → Along (Gives last) path told → (handle : ℕ) →
         handles_in handle path ≡ handle_count handle told
@@ -76,7 +79,7 @@ refusal_none (Host (host.Ok value)) handle = refl
 refusal_none told handle = refl
 
 pub refuses : (told : ActReply) → Yields (Refuses told)
-refuses told = record { on = go }
+refuses told = record { on = go; up = λ path g. absurd g }
   where
     go : (path : List Step) (last : Answer) → AllMayBeTold path → Along (Refuses told) path last → (handle : ℕ) →
         handles_in handle path ≡ handle_count handle last
@@ -85,21 +88,35 @@ refuses told = record { on = go }
 
 -- a step that inserts no handle, whatever it is told
 abbrev pub InsertsNone : Deed → Type 0
-InsertsNone deed = (handle : ℕ) (told : ActReply) → handle_inserted_if handle (Some deed) told ≡ 0
+InsertsNone deed = (handle : ℕ) (told : ActReply) → weighed (handle_inserted_as handle) (Some deed) told ≡ 0
 
 pub step_none : (deed : Deed) (did : Option Deed) (told : ActReply) (handle : ℕ) → InsertsNone deed →
-    IsStepOf deed did told → handle_inserted_if handle did told ≡ 0
+    IsStepOf deed did told → weighed (handle_inserted_as handle) did told ≡ 0
 step_none deed None told handle spares i = refl
 step_none deed (Some same) NoCopy handle spares i =
-    ap (λ (d : Deed). handle_inserted_if handle (Some d) NoCopy) i.0 ∙ spares handle NoCopy
+    ap (λ (d : Deed). weighed (handle_inserted_as handle) (Some d) NoCopy) i.0 ∙ spares handle NoCopy
 step_none deed (Some same) told handle spares i =
-    ap (λ (d : Deed). handle_inserted_if handle (Some d) told) i ∙ spares handle told
+    ap (λ (d : Deed). weighed (handle_inserted_as handle) (Some d) told) i ∙ spares handle told
+
+-- at once, or behind further steps
+gave_none : {may : Bool} (next : RequestTree) (path : List Step) →
+    ((path : List Step) → GivesUpAfter next path → (handle : ℕ) → handles_in handle path ≡ 0) →
+    ((path ≡ []) × (may ≡ true)) ⊎ GivesUpAfter next path → (handle : ℕ) → handles_in handle path ≡ 0
+gave_none next path so (inl now) handle = ap (handles_in handle) now.0
+gave_none next path so (inr later) handle = so path later handle
 
 pub asks : (deed : Deed) (next : ActReply → RequestTree) → InsertsNone deed →
     ((told : ActReply) → Yields (next told)) →
     Yields (Asks deed next)
-asks deed next spares so = record { on = go }
+asks deed next spares so = record { on = go; up = up }
   where
+    up : (path : List Step) → GivesUpAfter (Asks deed next) path → (handle : ℕ) → handles_in handle path ≡ 0
+    up [] g handle = absurd g
+    up (step ∷ path) g handle =
+        let one = step_none deed step.deed step.reply handle spares g.0 in
+        let rest = gave_none (next step.reply) path (so step.reply).up g.1 handle in
+        omega (arith, one, rest)
+
     go : (path : List Step) (last : Answer) → AllMayBeTold path → Along (Asks deed next) path last → (handle : ℕ) →
         handles_in handle path ≡ handle_count handle last
     go [] last m a handle = absurd a
@@ -110,8 +127,15 @@ asks deed next spares so = record { on = go }
 
 pub opens : (asked : Call) (scope : Hold) (next : ActReply → RequestTree) → ((told : ActReply) → Yields (next told)) →
     Yields (Opens asked scope next)
-opens asked scope next so = record { on = go }
+opens asked scope next so = record { on = go; up = up }
   where
+    up : (path : List Step) → GivesUpAfter (Opens asked scope next) path → (handle : ℕ) → handles_in handle path ≡ 0
+    up [] g handle = absurd g
+    up (step ∷ path) g handle =
+        let one = step_none (Calls asked) step.deed step.reply handle (λ h told. refl) g.0 in
+        let rest = gave_none (next step.reply) path (so step.reply).up g.1 handle in
+        omega (arith, one, rest)
+
     go : (path : List Step) (last : Answer) → AllMayBeTold path → Along (Opens asked scope next) path last →
         (handle : ℕ) → handles_in handle path ≡ handle_count handle last
     go [] last m a handle = absurd a
@@ -121,21 +145,23 @@ opens asked scope next so = record { on = go }
         omega (arith, one, rest)
 
 pub bares : (rest : RequestTree) → Yields rest → Yields (Bares rest)
-bares rest so = record { on = so.on }
+bares rest so = record { on = so.on; up = so.up }
 
 pub brackets : (rest : RequestTree) → Yields rest → Yields (Brackets rest)
-brackets rest so = record { on = so.on }
+brackets rest so = record { on = so.on; up = so.up }
 
 pub shuts : (passes : Bool) (rest : RequestTree) → Yields rest → Yields (Shuts passes rest)
-shuts passes rest so = record { on = so.on }
+shuts passes rest so = record { on = so.on; up = so.up }
 
--- what follows its insertion is answered with the handle, at once
+-- what follows its insertion is answered with the handle, at once, and does not give up
 pub record Hands (handle : ℕ) (tree : RequestTree) : Type 0 where
+  pub stands : allocates tree ≡ false
+  pub up : (path : List Step) → GivesUpAfter tree path → ⊥
   pub on : (path : List Step) (last : Answer) → Along tree path last → (h : ℕ) →
       is handle h + handles_in h path ≡ handle_count h last
 
 pub hands : (handle : ℕ) (last : Answer) → ((h : ℕ) → is handle h ≡ handle_count h last) → Hands handle (Gives last)
-hands handle last same = record { on = go }
+hands handle last same = record { stands = refl; up = λ path g. g; on = go }
   where
     go : (path : List Step) (told : Answer) → Along (Gives last) path told → (h : ℕ) →
         is handle h + handles_in h path ≡ handle_count h told
@@ -144,11 +170,11 @@ hands handle last same = record { on = go }
 
 pub hands_shut : (handle : ℕ) (passes : Bool) (rest : RequestTree) → Hands handle rest →
     Hands handle (Shuts passes rest)
-hands_shut handle passes rest so = record { on = so.on }
+hands_shut handle passes rest so = record { stands = refl; up = so.up; on = so.on }
 
 pub inserts_handle : (session : BegunSession) (handle number : ℕ) (fd : Fd) (next : RequestTree) → Hands handle next →
     Yields (insert_handle session handle number fd next)
-inserts_handle session handle number fd next so = record { on = go }
+inserts_handle session handle number fd next so = record { on = go; up = up }
   where
     asked : Deed
     asked = Changes (change.InsertHandle session.era handle number fd)
@@ -156,7 +182,7 @@ inserts_handle session handle number fd next so = record { on = go }
     -- by a reply that may come
     replied : (told : ActReply) (path : List Step) (last : Answer) → MayBeTold asked told → AllMayBeTold path →
         Along (on_handle next told) path last → (h : ℕ) →
-        handle_inserted_if h (Some asked) told + handles_in h path ≡ handle_count h last
+        weighed (handle_inserted_as h) (Some asked) told + handles_in h path ≡ handle_count h last
     replied (Event (event.Inserted given)) path last may m a h =
         let inserting = change.InsertHandle session.era handle number fd in
         let e = (cases may.0 may.1 inserting (event.Inserted given) may.2).3 in
@@ -167,7 +193,7 @@ inserts_handle session handle number fd next so = record { on = go }
 
     at : (did : Option Deed) (told : ActReply) (path : List Step) (last : Answer) → IsStepOf asked did told →
         StepMayBeTold did told → AllMayBeTold path → Along (on_handle next told) path last → (h : ℕ) →
-        handle_inserted_if h did told + handles_in h path ≡ handle_count h last
+        weighed (handle_inserted_as h) did told + handles_in h path ≡ handle_count h last
     at None told path last i may m a h = absurd (uncopied told i)
       where
         uncopied : (told : ActReply) → IsStepOf asked None told → ⊥
@@ -175,11 +201,39 @@ inserts_handle session handle number fd next so = record { on = go }
         uncopied told i = i
     at (Some same) NoCopy path last i may m a h =
         let k = (refuses NoCopy).on path last m a h in
-        let z = ap (λ (d : Deed). handle_inserted_if h (Some d) NoCopy) i.0 in
+        let z = ap (λ (d : Deed). weighed (handle_inserted_as h) (Some d) NoCopy) i.0 in
         omega (arith, k, z)
     at (Some same) told path last i may m a h =
-        ap (λ (d : Deed). handle_inserted_if h (Some d) told + handles_in h path) i
+        ap (λ (d : Deed). weighed (handle_inserted_as h) (Some d) told + handles_in h path) i
         ∙ replied told path last (subst (λ (d : Deed). MayBeTold d told) i may) m a h
+
+    replied_up : (told : ActReply) (path : List Step) →
+        ((path ≡ []) × (allocates (on_handle next told) ≡ true)) ⊎ GivesUpAfter (on_handle next told) path →
+        (h : ℕ) → weighed (handle_inserted_as h) (Some asked) told + handles_in h path ≡ 0
+    replied_up (Event (event.Inserted given)) path (inl now) h =
+        let may : allocates next ≡ true = now.1 in let none = so.stands in absurd (cc)
+    replied_up (Event (event.Inserted given)) path (inr later) h = absurd (so.up path later)
+    replied_up told path (inl now) h = let none = ap (handles_in h) now.0 in omega (arith, none)
+    replied_up told path (inr later) h = absurd later
+
+    at_up : (did : Option Deed) (told : ActReply) (path : List Step) → IsStepOf asked did told →
+        ((path ≡ []) × (allocates (on_handle next told) ≡ true)) ⊎ GivesUpAfter (on_handle next told) path →
+        (h : ℕ) → weighed (handle_inserted_as h) did told + handles_in h path ≡ 0
+    at_up None told path i g h = absurd (uncopied told i)
+      where
+        uncopied : (told : ActReply) → IsStepOf asked None told → ⊥
+        uncopied NoCopy i = i
+        uncopied told i = i
+    at_up (Some same) NoCopy path i g h =
+        ap (λ (d : Deed). weighed (handle_inserted_as h) (Some d) NoCopy + handles_in h path) i.0
+        ∙ replied_up NoCopy path g h
+    at_up (Some same) told path i g h =
+        ap (λ (d : Deed). weighed (handle_inserted_as h) (Some d) told + handles_in h path) i ∙ replied_up told path g h
+
+    up : (path : List Step) → GivesUpAfter (insert_handle session handle number fd next) path → (h : ℕ) →
+        handles_in h path ≡ 0
+    up [] g h = absurd g
+    up (step ∷ path) g h = at_up step.deed step.reply path g.0 g.1 h
 
     go : (path : List Step) (last : Answer) → AllMayBeTold path →
         Along (insert_handle session handle number fd next) path last → (h : ℕ) →

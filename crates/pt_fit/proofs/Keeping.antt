@@ -1,6 +1,6 @@
 -- A handle that a request inserted is the one that it is answered with.
 use Rattle.std.proofs.Common.{◌≡◌, inl, inr, ◌∷◌, ◌∙◌, [], if◌then◌else◌, ℕ, Bool, List, None, Option, Some}
-use Rattle.std.proofs.Common.{ap, arith, false, refl, subst, sym, true}
+use Rattle.std.proofs.Common.{ap, arith, false, refl, true}
 use Rattle.std.specs.Int.{w64, cast_signed}
 use Rattle.std.specs.Prelude.{◌||◌}
 use Rattle.pt_host.specs.Call.{Call}
@@ -66,8 +66,8 @@ use Rattle.pt_attr.specs.declared.requests.making.Made.TheVariants as made
 use Rattle.pt_attr.specs.declared.requests.making.ObjectAsked.{ObjectAsked}
 use Rattle.pt_attr.proofs.Makings.{if_fd_or}
 use Rattle.pt_attr.proofs.Replying.{if_count, if_fs_stat}
-use Rattle.pt_law.specs.Branch.{AreOwn, AreOwn.{keep, none, skip}, IsGivenUp, ReturnsHold}
-use Rattle.pt_law.specs.Ledger.{handle_inserted_if}
+use Rattle.pt_law.specs.Branch.{AreOwn, AreOwn.{keep, none, skip}, ReturnsHold}
+use Rattle.pt_law.specs.Ledger.{handle_inserted_as, weighed}
 use Rattle.pt_law.specs.Told.{AllMayBeTold}
 use Rattle.pt_law.proofs.Branches.{branch}
 use Rattle.pt_fit.specs.Handled.{KeepsHandle, handle_count, handles_in}
@@ -385,7 +385,7 @@ each_keeps plan seat who asked = unserves
 -- Among all steps of a job.
 
 returns_none : (deed : Option Deed) (told : ActReply) (handle : ℕ) → ReturnsHold deed →
-    handle_inserted_if handle deed told ≡ 0
+    weighed (handle_inserted_as handle) deed told ≡ 0
 returns_none (Some (Changes (change.InsertHandle era drawn number fd))) told handle r = absurd r
 returns_none (Some (Changes asked)) told handle r = refl
 returns_none (Some (Calls asked)) told handle r = refl
@@ -406,22 +406,23 @@ own_told _ _ none m = tt
 own_told _ _ (keep {own = own} {all = all} o) m = (m.0, own_told own all o m.1)
 own_told path _ (skip {all = all} r o) m = own_told path all o m.1
 
--- an answer that is not given up is that of a branch
-kept_if : (steps : List Step) (last : Answer) →
-    ((IsGivenUp (finish.Answer last) → ⊥) → (handle : ℕ) → handles_in handle steps ≡ handle_count handle last) →
+kept : (steps : List Step) (last : Answer) → ((handle : ℕ) → handles_in handle steps ≡ handle_count handle last) →
     KeepsHandle steps last
-kept_if steps answer.NoMemory f = tt
-kept_if steps answer.Cut f = tt
-kept_if steps last f = f (λ up. up)
+kept steps answer.Cut f = tt
+kept steps last f = f
 
 request_keeps : (plan : Plan) (seat : HostSeat) (who : Context) (asked : Request) (steps : List Step)
     (last : Answer) → AllMayBeTold steps →
     Belongs (grammar_for plan seat (Requests who asked)) steps (finish.Answer last) → KeepsHandle steps last
 request_keeps plan seat who asked steps last m b =
-    kept_if steps last (λ stands handle. elim (branch seat (tree_of plan seat who asked) [] [] steps
+    kept steps last (λ handle. elim (branch seat (tree_of plan seat who asked) [] [] steps
     (finish.Answer last) b) [
       | inl lost ↦ absurd lost
-      | inr (inl up) ↦ absurd (stands (subst IsGivenUp (sym up.answered) tt))
+      | inr (inl gave) ↦
+          let same : answer.NoMemory ≡ last = (let e = gave.answered in cc) in
+          own_handles gave.path steps handle gave.own
+          ∙ (each_keeps plan seat who asked).up gave.path gave.up handle
+          ∙ ap (handle_count handle) same
       | inr (inr r) ↦
           let same : r.1 ≡ last = cc in
           own_handles r.0 steps handle r.2
@@ -439,7 +440,7 @@ edit_keeps : (edit : Edit) (steps : List Step) (last : Answer) →
     Belongs (edit_grammar edit) steps (finish.Answer last) → KeepsHandle steps last
 edit_keeps edit [] last b = absurd b
 edit_keeps edit (step ∷ []) last b =
-    kept_if (step ∷ []) last (λ stands handle.
+    kept (step ∷ []) last (λ handle.
     let one = step_none (Calls (call.Edit edit)) step.deed step.reply handle (λ h told. refl) b.0 in
     let same : last ≡ edit_answer step.reply = (let e = b.1 in cc) in
     let two = ap (handle_count handle) same in

@@ -35,3 +35,4 @@ pub mod ExampleJob
 pub mod ExampleRace
 pub mod ExampleOrigins
 pub mod ExampleEntered
+pub mod ExampleHandle

@@ -38,8 +38,8 @@ pub fn each_request()
 
 /// Whatever a job asks, a request or an edit: where its replies are such as may come, its steps keep the discipline
 /// to their end, whole or cut; where none lacked memory, it had not given up before it was cut; a refusal has its
-/// cause; a handle that it inserted is its answer's, unless it gave up or was cut; its first step begins it; and an
-/// entry is an answer to what asks for a name, and with a handle that of `create`.
+/// cause; a handle that it inserted is its answer's, unless it was cut; its first step begins it; and an entry is an
+/// answer to what asks for a name, and with a handle that of `create`.
 pub fn asked_ends()
     ensures ends { (plan : Plan) (seat : HostSeat) (asked : Asked) (steps : List Step) (end : Finish) →
         AllMayBeTold steps → ComesToAnswer plan seat asked steps end → ComesToEnd idle steps end }

@@ -58,6 +58,7 @@ is_run {does = does} {plan = plan} {jobs = jobs} {trace = trace} {answers = answ
       leads_on = told.leads_on;
       distinct = told.distinct;
       serves = told.serves;
+      reopens = told.reopens;
       entries = told.entries;
       created = told.created;
       two_lookups = told.two_lookups;

@@ -20,6 +20,7 @@ use Rattle.pt_attr.specs.Pattern.{Asked, Requests, grammar_of, grammar_for}
 use Rattle.pt_law.specs.Giving.{GivingPlaces, up_to}
 use Rattle.pt_law.specs.Discipline.{AreDisciplined}
 use Rattle.pt_law.specs.Laws.{AreKept, NamesOpen, ObjectOf, Starts}
+use Rattle.pt_law.specs.Reopened.{ReopensResolved}
 use Rattle.pt_law.specs.Told.{AllMayBeTold}
 use Rattle.pt_law.specs.Uses.{StaysLive}
 use Rattle.pt_law.specs.World.{Turn, World, no_past, Runs as WorldRuns, steps_of}
@@ -28,6 +29,7 @@ use Rattle.pt_law.proofs.Giving.{two_lookups_law}
 use Rattle.pt_law.proofs.Hosts.{Tells, hosts_told, hosts_world}
 use Rattle.pt_law.proofs.Laws.{ended_jobs, distinct_law, object_law, handles_law, kept_law, leaves_law}
 use Rattle.pt_law.proofs.Next.{named_law}
+use Rattle.pt_law.proofs.Reopened.{reopened_law}
 use Rattle.pt_law.proofs.Told.{Promises}
 use Rattle.pt_law.proofs.Tracing.{origins_law}
 use Rattle.pt_fit.specs.Created.{IsCreated}
@@ -45,7 +47,7 @@ use Rattle.pt_fs.specs.declared.job.Job.{Job}
 use Rattle.pt_fs.specs.declared.trace.TraceStep.{TraceStep}
 use Rattle.pt_fs.proofs.Laws.{Comes, Ran, host_runs, steps_same, ended_of, turns-append, cut_at}
 use Rattle.pt_fs.proofs.Uncalled.{AreUncalled, formed, uncalled_front, uncalled_at, no_rows, no_handles, keeps_none}
-use Rattle.pt_fs.proofs.Uncalled.{leaves_none, names_none, no_places, no_objects, unobjected}
+use Rattle.pt_fs.proofs.Uncalled.{leaves_none, names_none, no_places, no_objects, none_anew, unobjected}
 
 -- those that speak of objects, over a host that tells its tree
 pub record KeepsTold (plan : Plan) (jobs : List Job) (told : Option Tree) (tables : Tables) (trace : List TraceStep)
@@ -53,6 +55,7 @@ pub record KeepsTold (plan : Plan) (jobs : List Job) (told : Option Tree) (table
   pub leads_on : LeadsOn told tables trace told' tables'
   pub distinct : AfterEachTold told tables trace (λ start so_far now. KeepsObjects now)
   pub serves : AfterEachTold told tables trace (λ start so_far now. ServesEach now)
+  pub reopens : AfterEachTold told tables trace (λ start so_far now. ReopensResolved so_far now)
   pub descriptors : AfterEachTold told tables trace (λ start so_far now. AreKept start (length jobs) so_far now)
   pub named : NamesOpenOnes told tables trace
   pub leaves : LeavesOpen told tables trace
@@ -194,8 +197,8 @@ module _ (limit bound : ℕ) (start now : World) (trace so_far rest : List Trace
         (no_rows limit bound (turns_of so_far) (turns_of rest) start now begins (quiet u) r d_cut)
     | inr well ↦ record {
       distinct = distinct_law limit bound (turns_of so_far) (turns_of rest) start now (starts well) d_cut r;
-      open_on = λ row at live.
-          object_law limit bound (turns_of so_far) (turns_of rest) start now row (starts well) d_cut r at live;
+      open_on = λ row at.
+          object_law limit bound (turns_of so_far) (turns_of rest) start now row (starts well) d_cut r at;
     }
   ]
 
@@ -204,6 +207,12 @@ module _ (limit bound : ℕ) (start now : World) (trace so_far rest : List Trace
     | inl u ↦ absurd
         (no_handles limit bound (turns_of so_far) (turns_of rest) start now begins (quiet u) r d_cut row at)
     | inr well ↦ handles_law limit bound (turns_of so_far) (turns_of rest) start now row (starts well) d_cut r at
+  ]
+
+  pub all_reopened : ReopensResolved (turns_of so_far) now
+  all_reopened = elim known [
+    | inl u ↦ none_anew (turns_of so_far) now (quiet u)
+    | inr well ↦ reopened_law limit bound (turns_of so_far) (turns_of rest) start now (starts well) d_cut r
   ]
 
   pub all_kept : AreKept start bound (turns_of so_far) now
@@ -287,6 +296,9 @@ keeps_told does tree faults p tells plan limit jobs host tables trace answers ho
           disciplined r;
       serves = λ t is so_far rest now e r.
           each_served limit bound (begins_in t tables) now trace so_far rest ran.begins refl (known t is) e
+          disciplined r;
+      reopens = λ t is so_far rest now e r.
+          all_reopened limit bound (begins_in t tables) now trace so_far rest ran.begins refl (known t is) e
           disciplined r;
       descriptors = λ t is so_far rest now e r.
           all_kept limit bound (begins_in t tables) now trace so_far rest ran.begins refl (known t is) e

@@ -23,6 +23,7 @@ use Rattle.pt_law.specs.Laws.{AreKept, LeavesRows, NamesOpen, Starts}
 use Rattle.pt_law.specs.Ledger.{kept_fds, open_count, row_has, handle_has}
 use Rattle.pt_law.specs.Naming.{resolving, opening}
 use Rattle.pt_law.specs.World.{Turn, turn_by, World, Past, no_past, settled_if, IsLawful, Runs}
+use Rattle.pt_law.specs.Reopened.{reopening, ReopensResolved}
 use Rattle.pt_law.proofs.Laws.{object_law, handles_law, kept_law, leaves_law}
 use Rattle.pt_law.proofs.Lists.{each_front}
 use Rattle.pt_fs.specs.Keeps.{KeepsObjects}
@@ -161,11 +162,11 @@ module _ (limit bound : ℕ) (turns more : List Turn) (start now : World) (begin
   starts : Starts limit (in_no_tree start.tables no_past)
   starts = record { tables = begins; well_formed = no_tree_formed; past = refl }
 
-  pub no_rows : AreDisciplined bound (turns ++ more) → (row : Row) → IsRow now.tables row → row.live ≡ true → ⊥
-  no_rows d row at live =
+  pub no_rows : AreDisciplined bound (turns ++ more) → (row : Row) → IsRow now.tables row → ⊥
+  no_rows d row at =
       let has = object_law limit bound turns more (in_no_tree start.tables no_past) there.0 row starts d there.3
-      (subst (λ (t : Tables). IsRow t row) (sym there.1) at) live in
-      none_open there.0.tree _ has.0 there.2 has.2
+      (subst (λ (t : Tables). IsRow t row) (sym there.1) at) in
+      none_open there.0.tree _ has.object there.2 has.open_on
 
   pub no_handles : AreDisciplined bound (turns ++ more) → (row : HandleRow) → IsHandleRow now.tables row → ⊥
   no_handles d row at =
@@ -285,9 +286,14 @@ no_objects turns start now e u r number object is =
     let no = sym (b.numbers number) ∙ is in
     cc
 
--- and where no row is live, none has an object
-pub unobjected : (now : World) → ((row : Row) → IsRow now.tables row → row.live ≡ true → ⊥) → KeepsObjects now
+-- and where there is no row, none has an object
+pub unobjected : (now : World) → ((row : Row) → IsRow now.tables row → ⊥) → KeepsObjects now
 unobjected now none = record {
-  distinct = λ number other live also apart. absurd (none live.0 live.1 live.2.0);
-  open_on = λ row at live. absurd (none row at live);
+  distinct = λ number other live also apart. absurd (none live.0 live.1);
+  open_on = λ row at. absurd (none row at);
 }
+
+-- nothing was opened anew
+pub none_anew : (turns : List Turn) (now : World) → AreUncalled turns → ReopensResolved turns now
+none_anew turns now u before job fd new flags e =
+    absurd (uncalled_at before (reopening job fd flags new) [] (subst AreUncalled e u)).0

@@ -1,5 +1,5 @@
 -- Believed. What a run keeps after every step and at its end, in whatever order its jobs took their steps.
-use Rattle.std.specs.Prelude.{◌≡◌, ◌≢◌, ◌≤◌, ◌⊎◌, ℕ, true, List, ◌∷◌, ◌++◌, Option, Some, None, map, slice_get}
+use Rattle.std.specs.Prelude.{◌≡◌, ◌≢◌, ◌≤◌, ◌⊎◌, ℕ, List, ◌∷◌, ◌++◌, Option, Some, None, map, slice_get}
 use Rattle.pt_host.specs.Tree.{Tree}
 use Rattle.pt_host.specs.declared.seat.HostSeat.{HostSeat}
 use Rattle.pt_session.specs.Tables.{Tables}
@@ -79,10 +79,11 @@ LeadsOn told tables trace told' tables' = WhereTold told tables (λ start.
     (end : World) × (told' ≡ Some end.tree) × (end.tables ≡ tables') × WorldRuns start (turns_of trace) end
     × ReachesWorlds start trace end)
 
--- two live numbers that differ have objects that differ, and a live row has an open descriptor of its number's object
+-- two live numbers that differ have objects that differ; and each row has an open descriptor of its object, which is
+-- its number's while it is live
 pub record KeepsObjects (now : World) : Type 0 where
   pub distinct : AreDistinct now
-  pub open_on : (row : Row) → IsRow now.tables row → row.live ≡ true → HasObject now row
+  pub open_on : (row : Row) → IsRow now.tables row → HasObject now row
 
 -- every number's count is what was given of it and not taken back
 abbrev pub KeepsCounts : List Turn → Tables → Type 0
@@ -133,8 +134,8 @@ abbrev pub OfEachJob : List Job → List Answer → (ℕ → Job → Answer → 
 OfEachJob jobs answers P =
     (j : ℕ) (job : Job) (told : Answer) → slice_get jobs j ≡ Some job → slice_get answers j ≡ Some told → P j job told
 
--- What a job was given it gave back: numbers, but for the one that its answer has, pins, descriptors, slots; it took
--- the closings that it was told of; and a handle that it inserted its answer has.
+-- What a job was given it gave back, after it was given: numbers, but for the one that its answer has, pins,
+-- descriptors, slots; it took the closings that it was told of; and a handle that it inserted its answer has.
 pub record GivesAllBack (trace : List TraceStep) (j : ℕ) (job : Job) (told : Answer) : Type 0 where
   pub settled : HasSettled (steps_by j trace) (finish.Answer told)
   pub slots : slots_taken (steps_by j trace) ≡ slots_given (steps_by j trace)

@@ -7,6 +7,7 @@ use Rattle.pt_iface.specs.declared.answer.Answer.{Answer}
 use Rattle.pt_host.specs.Relation.{HostRelation}
 use Rattle.pt_req.specs.declared.plan.Plan.{Plan}
 use Rattle.pt_law.specs.Laws.{SlotsAddUp, IsAtRest, AreKept}
+use Rattle.pt_law.specs.Reopened.{ReopensResolved}
 use Rattle.pt_fs.specs.Keeps.{turns_of, AfterEach, AfterEachTold, ReachesEach, LeadsOn, KeepsObjects, KeepsCounts}
 use Rattle.pt_fs.specs.Keeps.{KeepsHandles, KeepsOptions, ServesEach, InsertsOnce, OvertakenAsTold, ShutsOut}
 use Rattle.pt_fs.specs.Keeps.{OfEachJob}
@@ -50,7 +51,8 @@ pub record IsRun
   pub causes : OfEachJob jobs answers (IsCausedIn plan trace)
   -- A job is answered that memory ran out only where one of its steps was told so or could not be copied.
   pub memory : OfEachJob jobs answers (RanOutIn trace)
-  -- What a job was given it gave back, but for the number that its answer has; and giving back is never refused.
+  -- What a job was given it gave back, and nothing before it was given, but for the number that its answer has; and
+  -- giving back is never refused.
   pub gives_back : OfEachJob jobs answers (GivesAllBack trace)
   pub honoured : HonoursEach trace
   -- After every step the tables agree; and each front of the trace leads to some tables, from which the rest leads
@@ -76,12 +78,14 @@ pub record IsRun
   pub slots : AfterEach tables trace (SlotsAddUp tables.limit (length jobs))
   pub at_rest : IsAtRest tables.limit (length jobs) (turns_of trace) tables'
   -- Where the host tells its tree: the steps lead that tree to the one told at the end, and after every step live
-  -- numbers that differ have objects that differ, and a live row has an open descriptor of its number's object.
+  -- numbers that differ have objects that differ, and each row, also one that died while it is pinned, has an open
+  -- descriptor of the object for which it was inserted, which is its number's while it is live.
   pub leads_on : LeadsOn told tables trace told' tables'
   pub distinct : AfterEachTold told tables trace (λ start so_far now. KeepsObjects now)
   -- After every step a handle's descriptor is open on the object that its number had when it was resolved for the
-  -- handle's opening.
+  -- handle's opening. So is what a job opens anew, at that step, on what the number stood for that it resolved last.
   pub serves : AfterEachTold told tables trace (λ start so_far now. ServesEach now)
+  pub reopens : AfterEachTold told tables trace (λ start so_far now. ReopensResolved so_far now)
   -- An entry names the object that its name had in the directory that its parent stood for; that of `create` is new,
   -- or was there, and the handle is open on it; two entries of one object have one number while it lives; and every
   -- numbered object is a root or was so named.

@@ -1,6 +1,6 @@
 -- Each answer is that of a branch of the tree, or the job gave up or lost its seat.
 use Rattle.std.proofs.Common.{◌≡◌, ◌⊎◌, inl, inr, ℕ, zero, suc, List, [], ◌∷◌, length, Bool, true, false, Option}
-use Rattle.std.proofs.Common.{◌||◌, ◌++◌, ap, append_assoc}
+use Rattle.std.proofs.Common.{◌++◌, ap, append_assoc}
 use Rattle.std.proofs.Common.{Some, None, refl, sym, subst, ◌∙◌, if◌then◌else◌, nat_lt}
 use Rattle.pt_host.specs.declared.ids.Errno.{Errno}
 use Rattle.pt_host.specs.declared.seat.HostSeat.{HostSeat}
@@ -8,9 +8,8 @@ use Rattle.pt_host.specs.declared.op.KeptHostOp.TheVariants as call
 use Rattle.pt_session.specs.declared.event.KeptEvent.TheVariants as change
 use Rattle.pt_iface.specs.declared.answer.Answer.{Answer}
 use Rattle.pt_iface.specs.declared.answer.Answer.TheVariants as answer
-use Rattle.pt_frame.specs.Deed.{Deed, Calls, Changes, Step, IsStepOf, lacks_memory, LacksMemory}
+use Rattle.pt_frame.specs.Deed.{Deed, Calls, Changes, Step, IsStepOf}
 use Rattle.pt_frame.specs.Held.{is_scope, held, opened}
-use Rattle.pt_frame.specs.Memory.{RanOut}
 use Rattle.pt_frame.specs.Replies.{closings_in, taken_in, restored, refusal, passes_with, is_cut, fault_if}
 use Rattle.pt_frame.specs.Grammar.{Grammar, End, Belongs}
 use Rattle.pt_frame.specs.Frame.{giving, closings, give_taken, give, leave, or_lost, bare_one, bare, shut, front}
@@ -27,9 +26,8 @@ use Rattle.pt_frame.specs.declared.hold.Hold.{Hold}
 use Rattle.pt_frame.specs.declared.hold.Hold.TheVariants as hold
 use Rattle.pt_frame.specs.declared.hold.Taken.{Taken}
 use Rattle.pt_frame.specs.declared.hold.Taken.TheVariants as taken
-use Rattle.pt_law.specs.Branch.{Along, AllocatesAfter, ReturnsHold, AreOwn, AreOwn.{none, keep, skip}}
-use Rattle.pt_law.specs.Branch.{IsLost}
-use Rattle.pt_law.specs.Branch.{AreFirst, AreFirst.{stop, next as first_next, pass}, GaveUp, IsOfBranch}
+use Rattle.pt_law.specs.Branch.{Along, GivesUpAfter, ReturnsHold, AreOwn, AreOwn.{none, keep, skip}}
+use Rattle.pt_law.specs.Branch.{IsLost, GaveUp, IsOfBranch}
 
 -- a step of a deed that gives back
 back_step : (deed : Deed) (made : Option Deed) (told : ActReply) → IsStepOf deed made told →
@@ -55,11 +53,9 @@ pub record Backs (later steps : List Step) : Type 0 where
   pub passed : List Step
   pub are : steps ≡ passed ++ later
   pub own : (path : List Step) → AreOwn path later → AreOwn path steps
-  pub first : (path : List Step) → AreFirst path later → AreFirst path steps
-  pub lacks : RanOut later → RanOut steps
 
 backs_none : (steps : List Step) → Backs steps steps
-backs_none steps = record { passed = []; are = refl; own = λ path s. s; first = λ path s. s; lacks = λ l. l }
+backs_none steps = record { passed = []; are = refl; own = λ path s. s }
 
 backs_one : (step : Step) (later steps : List Step) → ReturnsHold step.deed → Backs later steps →
     Backs later (step ∷ steps)
@@ -67,8 +63,6 @@ backs_one step later steps g b = record {
   passed = step ∷ b.passed;
   are = ap (λ (z : List Step). step ∷ z) b.are;
   own = λ path s. skip g (b.own path s);
-  first = λ path s. pass g (b.first path s);
-  lacks = λ l. inr (b.lacks l);
 }
 
 backs_on : (last later steps : List Step) → Backs last later → Backs later steps → Backs last steps
@@ -77,8 +71,6 @@ backs_on last later steps a b =
       passed = b.passed ++ a.passed;
       are = b.are ∙ ap (λ (z : List Step). b.passed ++ z) a.are ∙ sym (append_assoc b.passed a.passed last);
       own = λ path s. b.own path (a.own path s);
-      first = λ path s. b.first path (a.first path s);
-      lacks = λ l. b.lacks (a.lacks l);
     }
 
 -- the last of the steps belong to the rest, and those before them give back
@@ -287,64 +279,55 @@ at_answer seat false holds tree last steps end a b =
     let l = end_leave seat holds (finish.Answer last) steps end b in
     at_leaf tree last steps end a l.0 l.1
 
--- the tree allocates at once
-allocates_now : (tree : RequestTree) → allocates tree ≡ true → AllocatesAfter tree []
-allocates_now (Allocates rest) e = inl refl
-allocates_now (Gives last) e = absurd (cc)
-allocates_now (Refuses told) e = absurd (cc)
-allocates_now (Asks deed next) e = absurd (cc)
-allocates_now (Opens asked scope next) e = absurd (cc)
-allocates_now (Bares rest) e = absurd (cc)
-allocates_now (Brackets rest) e = absurd (cc)
-allocates_now (Shuts passes rest) e = absurd (cc)
-
 -- what may follow a reply: the job gives up, or goes on
 end_follows : (seat : HostSeat) (wants : Bool) (count : ℕ) (holds : List Hold) (rest : Grammar) (steps : List Step)
     (end : Finish) → Belongs (follows seat wants count holds rest) steps end →
-    ((wants ≡ true) × Ended (finish.Answer answer.NoMemory) end) ⊎ Reached rest steps end
+    ((wants ≡ true) × Ended (finish.Answer answer.NoMemory) end × AreOwn [] steps) ⊎ Reached rest steps end
 end_follows seat false count holds rest steps end b = inr (pass_closings count holds rest steps end b)
 end_follows seat true count holds rest steps end (inl b) =
     let k = pass_closings count holds (leave seat holds (finish.Answer answer.NoMemory)) steps end b in
-    inl (refl, (end_leave seat holds (finish.Answer answer.NoMemory) k.later end k.belongs).0)
+    let l = end_leave seat holds (finish.Answer answer.NoMemory) k.later end k.belongs in
+    inl (refl, l.0, k.backs.own [] l.1)
 end_follows seat true count holds rest steps end (inr b) = inr (pass_closings count holds rest steps end b)
 
 -- a step of the tree's own comes before
 comes_after : (tree next : RequestTree) (step : Step) (later steps : List Step) (end : Finish) →
     ((path : List Step) (last : Answer) → Along next path last → Along tree (step ∷ path) last) →
-    ((path : List Step) → AllocatesAfter next path → AllocatesAfter tree (step ∷ path)) → Backs later steps →
+    ((path : List Step) → GivesUpAfter next path → GivesUpAfter tree (step ∷ path)) → Backs later steps →
     Comes next later end → Comes tree (step ∷ steps) end
 comes_after tree next step later steps end f g b (inl lost) = inl lost
-comes_after tree next step later steps end f g b (inr (inl up)) =
-    inr (inl (record { answered = up.answered; why = why up.why }))
-  where
-    why : (path : List Step) × AreFirst path later × AllocatesAfter next path →
-        (path : List Step) × AreFirst path (step ∷ steps) × AllocatesAfter tree path
-    why a = (step ∷ a.0, first_next (b.first a.0 a.1), g a.0 a.2)
+comes_after tree next step later steps end f g b (inr (inl gave)) =
+    inr (inl (record {
+      answered = gave.answered;
+      path = step ∷ gave.path;
+      own = keep (b.own gave.path gave.own);
+      up = g gave.path gave.up;
+    }))
 comes_after tree next step later steps end f g b (inr (inr r)) =
     inr (inr (step ∷ r.0, r.1, keep (b.own r.0 r.2), r.3, f r.0 r.1 r.4))
 
 -- nothing of the tree's own comes before
 comes_still : (tree next : RequestTree) (later steps : List Step) (end : Finish) →
     ((path : List Step) (last : Answer) → Along next path last → Along tree path last) →
-    ((path : List Step) → AllocatesAfter next path → AllocatesAfter tree path) → Backs later steps →
+    ((path : List Step) → GivesUpAfter next path → GivesUpAfter tree path) → Backs later steps →
     Comes next later end → Comes tree steps end
 comes_still tree next later steps end f g b (inl lost) = inl lost
-comes_still tree next later steps end f g b (inr (inl up)) =
-    inr (inl (record { answered = up.answered; why = why up.why }))
-  where
-    why : (path : List Step) × AreFirst path later × AllocatesAfter next path →
-        (path : List Step) × AreFirst path steps × AllocatesAfter tree path
-    why a = (a.0, b.first a.0 a.1, g a.0 a.2)
+comes_still tree next later steps end f g b (inr (inl gave)) =
+    inr (inl (record {
+      answered = gave.answered;
+      path = gave.path;
+      own = b.own gave.path gave.own;
+      up = g gave.path gave.up;
+    }))
 comes_still tree next later steps end f g b (inr (inr r)) =
     inr (inr (r.0, r.1, b.own r.0 r.2, r.3, f r.0 r.1 r.4))
 
 -- the job gave up after a step
-gives_up : (tree next : RequestTree) (step : Step) (steps : List Step) (end : Finish) →
-    ((path : List Step) → AllocatesAfter next path → AllocatesAfter tree (step ∷ path)) →
-    allocates next ≡ true → Ended (finish.Answer answer.NoMemory) end → Comes tree (step ∷ steps) end
-gives_up tree next step steps end g m (inl e) =
-    inr (inl (record { answered = e; why = (step ∷ [], first_next stop, g [] (allocates_now next m)) }))
-gives_up tree next step steps end g m (inr lost) = inl lost
+gives_up : (tree : RequestTree) (step : Step) (steps : List Step) (end : Finish) → GivesUpAfter tree (step ∷ []) →
+    Ended (finish.Answer answer.NoMemory) end → AreOwn [] steps → Comes tree (step ∷ steps) end
+gives_up tree step steps end g (inl e) own =
+    inr (inl (record { answered = e; path = step ∷ []; own = keep own; up = g }))
+gives_up tree step steps end g (inr lost) own = inl lost
 
 pub branch : (seat : HostSeat) (tree : RequestTree) (holds : List Hold) (marks : List ℕ) (steps : List Step)
     (end : Finish) → Belongs (framed seat tree holds marks) steps end → Comes tree steps end
@@ -357,18 +340,18 @@ branch seat (Asks deed next) holds marks [] end b = absurd b
 branch seat (Asks deed next) holds marks (step ∷ steps) end b =
     elim (end_follows seat (allocates (next step.reply)) (closings_in deed step.reply)
     (held deed step.reply holds) (framed seat (next step.reply) (held deed step.reply holds) marks) steps end b.1) [
-      | inl up ↦ gives_up (Asks deed next) (next step.reply) step steps end (λ path a. (b.0, a)) up.0 up.1
+      | inl up ↦ gives_up (Asks deed next) step steps end (b.0, inl (refl, up.0)) up.1 up.2
       | inr k ↦ comes_after (Asks deed next) (next step.reply) step k.later steps end (λ path last a. (b.0, a))
-          (λ path a. (b.0, a)) k.backs
+          (λ path a. (b.0, inr a)) k.backs
           (branch seat (next step.reply) (held deed step.reply holds) marks k.later end k.belongs)
     ]
 branch seat (Opens asked scope next) holds marks [] end b = absurd b
 branch seat (Opens asked scope next) holds marks (step ∷ steps) end b =
     elim (end_follows seat (allocates (next step.reply)) 0 (opened scope step.reply holds)
     (framed seat (next step.reply) (opened scope step.reply holds) marks) steps end b.1) [
-      | inl up ↦ gives_up (Opens asked scope next) (next step.reply) step steps end (λ path a. (b.0, a)) up.0 up.1
+      | inl up ↦ gives_up (Opens asked scope next) step steps end (b.0, inl (refl, up.0)) up.1 up.2
       | inr k ↦ comes_after (Opens asked scope next) (next step.reply) step k.later steps end
-          (λ path last a. (b.0, a)) (λ path a. (b.0, a)) k.backs
+          (λ path last a. (b.0, a)) (λ path a. (b.0, inr a)) k.backs
           (branch seat (next step.reply) (opened scope step.reply holds) marks k.later end k.belongs)
     ]
 branch seat (Bares rest) holds marks steps end b =
@@ -388,5 +371,5 @@ branch seat (Shuts passes rest) holds marks steps end b =
           (branch seat rest k.0 (outer marks) k.1.later end k.1.belongs)
     ]
 branch seat (Allocates rest) holds marks steps end b =
-    comes_still (Allocates rest) rest steps steps end (λ path last a. a) (λ path a. inr a) (backs_none steps)
+    comes_still (Allocates rest) rest steps steps end (λ path last a. a) (λ path a. a) (backs_none steps)
     (branch seat rest holds marks steps end b)

@@ -17,7 +17,7 @@ use Rattle.pt_frame.specs.Deed.{Deed, Changes as Asks, Calls}
 use Rattle.pt_frame.specs.declared.act.ActReply.{ActReply}
 use Rattle.pt_frame.specs.declared.act.ActReply.TheVariants.{Event}
 use Rattle.pt_law.specs.World.{Turn, TablesGo, TablesRun}
-use Rattle.pt_law.specs.Ledger.{forgotten, given_by, given_if, given_after}
+use Rattle.pt_law.specs.Ledger.{forgotten, given_by, after_one, after_all}
 use Rattle.pt_law.proofs.Ignoring.{IgnoresHandles, handle_dies, unpins_handle}
 use Rattle.pt_law.proofs.Flows.{called, unmade}
 use Rattle.pt_law.proofs.Lists.{total_takes, total_replaces, is_same, is_apart, each_map}
@@ -240,7 +240,7 @@ pub counts_event : (n : ℕ) (t : Tables) (e : Change) (r : EventReply) (after :
 counts_event n t e r after a h = counts_by n t e r after a (cases t after e r h)
 
 pub counts_step : (n : ℕ) (t : Tables) (deed : Option Deed) (told : ActReply) (after : Tables) → Agree t →
-    TablesGo t deed told after → live_count n after ≡ given_if n (live_count n t) deed told
+    TablesGo t deed told after → live_count n after ≡ after_one (given_by n) (live_count n t) deed told
 counts_step n t None told after a g = ap (live_count n) (unmade t told after g)
 counts_step n t (Some (Calls asked)) told after a g = ap (live_count n) (called t asked told after g)
 counts_step n t (Some (Asks asked)) (Event r) after a g = counts_event n t asked r after a g
@@ -254,9 +254,9 @@ agree_step t (Some (Asks asked)) (Event r) after g a = agrees t asked r after g 
 agree_step t (Some (Asks asked)) told after g a = absurd g
 
 pub counts_run : (n : ℕ) (turns : List Turn) (t last : Tables) → Agree t → TablesRun t turns last →
-    live_count n last ≡ given_after n (live_count n t) turns
+    live_count n last ≡ after_all (given_by n) (live_count n t) turns
 counts_run n [] t last a r = ap (live_count n) r
 counts_run n (s ∷ ss) t last a r =
     let e = counts_step n t s.step.deed s.step.reply r.0 a r.1 in
     let k = counts_run n ss r.0 last (agree_step t s.step.deed s.step.reply r.0 r.1 a) r.2 in
-    k ∙ ap (λ g. given_after n g ss) e
+    k ∙ ap (λ g. after_all (given_by n) g ss) e

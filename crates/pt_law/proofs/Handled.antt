@@ -23,7 +23,7 @@ use Rattle.pt_law.specs.Discipline.{AreDisciplined}
 use Rattle.pt_law.specs.Giving.{GivesBy, GivingPlaces}
 use Rattle.pt_law.specs.Handling.{inserting_handle, ComesToNone, HandlePlace, HandlePath, OpensFor, IsOpened}
 use Rattle.pt_law.specs.Laws.{Starts, IsLive, ObjectOf}
-use Rattle.pt_law.specs.Ledger.{inserted, inserted_if}
+use Rattle.pt_law.specs.Ledger.{inserted, inserted_as, weighed}
 use Rattle.pt_law.specs.Naming.{resolving, opening}
 use Rattle.pt_law.specs.World.{World, Past, Turn, turn_by, Goes, IsLawful, Runs, TablesRun, settled_if, settled}
 use Rattle.pt_law.specs.World.{come_to, fd_of, steps_of}
@@ -168,7 +168,7 @@ not_again past given number other object z e =
     set_at_other past.numbers given other number (λ q. is_none given number z (sym q)) ∙ e
 
 settled_stands : (past : Past) (i : ℕ) (deed : Option Deed) (told : ActReply) (next : ℕ) (tree : Tree)
-    (j number object : ℕ) → inserted_if number deed told ≡ 0 → Stands past j number object →
+    (j number object : ℕ) → weighed (inserted_as number) deed told ≡ 0 → Stands past j number object →
     Stands (settled_if past i deed told next tree) j number object
 settled_stands past i (Some (Changes (change.Insert era drawn form ids mode))) (Event (event.Inserted given)) next
     tree j number object z h =

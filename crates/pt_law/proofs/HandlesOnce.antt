@@ -16,7 +16,7 @@ use Rattle.pt_frame.specs.declared.act.ActReply.{ActReply}
 use Rattle.pt_frame.specs.declared.act.ActReply.TheVariants.{Event, Host}
 use Rattle.pt_law.specs.Discipline.{Job, Notes, idle, newly, with_root, MovesBy, MovesIf}
 use Rattle.pt_law.specs.World.{Turn, TablesGo, TablesRun, steps_of}
-use Rattle.pt_law.specs.Ledger.{handle_inserted, handle_inserted_as, handle_inserted_if}
+use Rattle.pt_law.specs.Ledger.{handle_inserted, handle_inserted_as, weighed}
 use Rattle.pt_law.specs.Discipline.{AreDisciplined}
 use Rattle.pt_law.proofs.Lists.{is_apart, is_within, sum_to_set, sum_to_zero, each_front}
 use Rattle.pt_law.proofs.Interleaving.{Sorted, after_step, choose, steps_same}
@@ -117,7 +117,7 @@ keeps_handles : (bound : ℕ) (had : ℕ → ℕ) (t : Tables) (js : ℕ →
     Job) (j : ℕ) (deed : Option Deed) (told : ActReply) (t' : Tables) (after : Job) → j < bound →
     Handles bound had t js → TablesGo t deed told t' →
     MovesIf (js j) deed told after →
-    Handles bound (λ n. had n + handle_inserted_if n deed told) t' (set_at j after js)
+    Handles bound (λ n. had n + weighed (handle_inserted_as n) deed told) t' (set_at j after js)
 keeps_handles bound had t js j None told t' after lt v g m =
     let s = step_stays t None told t' g in
     singly_kept t.next_handle t'.next_handle _ _ s.handles (λ n.
@@ -148,7 +148,7 @@ handles_keep bound had (s ∷ ss) t last js ends r lt v d n =
     let mine = rw (steps_same s ss) at (d s.job lt.0) in
     let step = keeps_handles bound had t js s.job s.step.deed s.step.reply r.0 mine.0 lt.0 v r.1 mine.1 in
     let a = handles_keep bound (λ n. had n
-    + handle_inserted_if n s.step.deed s.step.reply) ss r.0 last (set_at s.job mine.0 js) ends r.2 lt.1 step
+    + weighed (handle_inserted_as n) s.step.deed s.step.reply) ss r.0 last (set_at s.job mine.0 js) ends r.2 lt.1 step
     (after_step bound js ends s ss mine.0 d mine.2) n in
     omega (arith, a)
 

@@ -7,7 +7,7 @@ use Rattle.pt_session.specs.Tables.{Tables}
 use Rattle.pt_frame.specs.Deed.{Step}
 use Rattle.pt_law.specs.Discipline.{Job, Disciplined}
 use Rattle.pt_law.specs.World.{Turn, World, IsLawful, Runs, TablesRun, steps_of}
-use Rattle.pt_law.specs.Ledger.{inserted, inserted_if}
+use Rattle.pt_law.specs.Ledger.{inserted, inserted_as, weighed}
 use Rattle.pt_law.proofs.Lists.{set_at_same, set_at_other}
 use Rattle.pt_law.proofs.Steps.{Tabled, Inv, HasFlows, recount, keeps, keeps_tabled, has_flows, turned}
 
@@ -74,7 +74,7 @@ tables_keep bound had [] t last js ends r lt v d =
 tables_keep bound had (s ∷ ss) t last js ends r lt v d =
     let mine = rw (steps_same s ss) at (d s.job lt.0) in
     let step = keeps_tabled bound had t js s.job s.step.deed s.step.reply r.0 mine.0 lt.0 v r.1 mine.1 in
-    let had' = (λ (n : ℕ). had n + inserted_if n s.step.deed s.step.reply) in
+    let had' = (λ (n : ℕ). had n + weighed (inserted_as n) s.step.deed s.step.reply) in
     let rest = tables_keep bound had' ss r.0 last (set_at s.job mine.0 js) ends r.2 lt.1 step
     (after_step bound js ends s ss mine.0 d mine.2) in (
       (has_flows bound had t js s.job s.step.deed s.step.reply r.0 mine.0 lt.0 v r.1 mine.1, rest.0),
@@ -98,7 +98,7 @@ runs_keep bound base had [] w last js ends r lt v d =
 runs_keep bound base had (s ∷ ss) w last js ends r lt v d =
     let mine = rw (steps_same s ss) at (d s.job lt.0) in
     let step = keeps bound base had w js s r.0 mine.0 lt.0 v r.1 mine.1 in
-    let had' = (λ (n : ℕ). had n + inserted_if n s.step.deed s.step.reply) in
+    let had' = (λ (n : ℕ). had n + weighed (inserted_as n) s.step.deed s.step.reply) in
     let rest = runs_keep bound base had' ss r.0 last (set_at s.job mine.0 js) ends r.2 lt.1 step
     (after_step bound js ends s ss mine.0 d mine.2) in (
       rest.0,

@@ -14,7 +14,7 @@ use Rattle.pt_frame.specs.declared.hold.Hold.{Hold}
 use Rattle.pt_frame.specs.declared.hold.Hold.TheVariants as hold
 use Rattle.pt_law.specs.Discipline.{Job, idle, at_job, JobMoves, Disciplined, entry_holds}
 use Rattle.pt_law.specs.World.{World, Turn, TablesGo, Runs, TablesRun, steps_of, no_past}
-use Rattle.pt_law.specs.Ledger.{closing_slot, slot_taken, slot_given_by, slots_taken, slots_given, carried}
+use Rattle.pt_law.specs.Ledger.{closing_slot, slot_taken, slot_given, slots_taken, slots_given, carried, weighed}
 use Rattle.pt_law.specs.Ledger.{closing_has, fds_carried, open_count, given, inserted}
 use Rattle.pt_law.proofs.Flows.{fd_held, all_hold}
 use Rattle.pt_law.specs.Laws.{Serves, Starts, AreDistinct, HasObject, IsCounted, SlotsAddUp}
@@ -172,12 +172,12 @@ flows_of j (s ∷ ss) h = go (eqb s.job j) (flows_of j ss h.1)
     go false r = r
 
 carries_step : (job after : Job) (step : Step) → HasFlows step.deed step.reply → JobMoves job step after →
-    total slot_held after.holds + slot_given_by step.deed step.reply ≡ total slot_held job.holds
+    total slot_held after.holds + weighed slot_given step.deed step.reply ≡ total slot_held job.holds
     + slot_taken step.reply
 carries_step job after step f m = go step.deed f m
   where
     go : (deed : Option Deed) → HasFlows deed step.reply → JobMoves job (record step { deed = deed }) after →
-        total slot_held after.holds + slot_given_by deed step.reply ≡ total slot_held job.holds
+        total slot_held after.holds + weighed slot_given deed step.reply ≡ total slot_held job.holds
         + slot_taken step.reply
     go None f m = let a = ap (λ (z : Job). total slot_held z.holds) m in omega (arith, a, f)
     go (Some deed) f m = let a = (handed job.holds deed step.reply after.holds m.0).slots in let b = f.0 in
@@ -276,12 +276,11 @@ shown : (bound : ℕ) (base had : ℕ → ℕ) (w : World) (js : ℕ → Job) (r
 shown bound base had w js row v h = each_taken (RowOpen w.tree w.past) h.1 v.right.shown
 
 pub object_law : (limit bound : ℕ) (turns more : List Turn) (start now : World) (row : Row) → Starts limit start →
-    AreDisciplined bound (turns ++ more) → Runs start turns now → IsRow now.tables row → row.live ≡ true →
-    HasObject now row
-object_law limit bound turns more start now row s a r h l =
+    AreDisciplined bound (turns ++ more) → Runs start turns now → IsRow now.tables row → HasObject now row
+object_law limit bound turns more start now row s a r h =
     let v = reach limit bound turns more start now s a r in
     let o = shown bound _ _ now v.0 row v.1 h in
-    (o.object, o.numbered l, o.shows.open_on)
+    record { object = o.object; its = o.placed; open_on = o.shows.open_on; of_number = o.numbered }
 
 pub distinct_law : (limit bound : ℕ) (turns more : List Turn) (start now : World) → Starts limit start →
     AreDisciplined bound (turns ++ more) → Runs start turns now → AreDistinct now

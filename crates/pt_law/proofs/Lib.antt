@@ -47,6 +47,7 @@ pub mod Naming
 pub mod Giving
 pub mod Tracing
 pub mod Carried
+pub mod Reopened
 pub mod Handled
 pub mod Made
 pub mod Placing
@@ -55,3 +56,4 @@ pub mod ExampleShutOut
 pub mod ExampleSettled
 pub mod ExampleBracket
 pub mod ExampleMade
+pub mod ExampleDied

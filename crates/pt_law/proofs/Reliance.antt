@@ -23,7 +23,7 @@ use Rattle.pt_frame.specs.Deed.{Deed, Calls, Changes}
 use Rattle.pt_frame.specs.declared.act.ActReply.{ActReply}
 use Rattle.pt_frame.specs.declared.act.ActReply.TheVariants.{Event, Host}
 use Rattle.pt_law.specs.World.{World, Past, Turn, IsLawful, Runs, TablesGo, TablesRun, settled_if}
-use Rattle.pt_law.specs.Ledger.{forgotten, given_by, inserted, inserted_if, inserted_as}
+use Rattle.pt_law.specs.Ledger.{forgotten, given_by, inserted, weighed, inserted_as}
 use Rattle.pt_law.specs.Laws.{Starts, IsLive, ObjectOf}
 use Rattle.pt_law.specs.Discipline.{AreDisciplined}
 use Rattle.pt_law.specs.Uses.{StaysLive, amount_asked}
@@ -163,7 +163,7 @@ comes_by : (n : ℕ) (t : Tables) (e : Change) (r : EventReply) (t' : Tables) �
 comes_by n t e r t' z h = comes_case n t e r t' z (cases t t' e r h)
 
 comes_step : (n : ℕ) (t : Tables) (deed : Option Deed) (told : ActReply) (t' : Tables) → Agree t →
-    NoRow t (HasNumber n) → live_count n t ≡ 0 → TablesGo t deed told t' → inserted_if n deed told ≡ 0 →
+    NoRow t (HasNumber n) → live_count n t ≡ 0 → TablesGo t deed told t' → weighed (inserted_as n) deed told ≡ 0 →
     live_count n t' ≡ 0
 comes_step n t None told t' a z c g i = let k = counts_step n t None told t' a g in omega (arith, k, c)
 comes_step n t (Some (Calls asked)) told t' a z c g i = ap (live_count n) (called t asked told t' g) ∙ c

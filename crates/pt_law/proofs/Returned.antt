@@ -1,5 +1,5 @@
 -- What a job took it gave back, by its end.
-use Rattle.std.proofs.Common.{◌≡◌, ℕ, ◌+◌, ◌≤◌, List, [], ◌∷◌, Option, Some, None, refl, ap, arith}
+use Rattle.std.proofs.Common.{◌≡◌, ℕ, ◌+◌, ◌≤◌, List, [], ◌∷◌, ◌++◌, Option, Some, None, refl, ap, subst, arith}
 use Rattle.pt_host.specs.Words.{total}
 use Rattle.pt_iface.specs.declared.answer.Answer.TheVariants as answer
 use Rattle.pt_frame.specs.Deed.{Deed, Step}
@@ -9,15 +9,16 @@ use Rattle.pt_frame.specs.declared.finish.Finish.{Finish}
 use Rattle.pt_frame.specs.declared.finish.Finish.TheVariants as finish
 use Rattle.pt_frame.specs.declared.hold.Hold.{Hold}
 use Rattle.pt_frame.specs.declared.hold.Hold.TheVariants as hold
-use Rattle.pt_law.specs.Discipline.{Shifts, Job, idle, MovesIf, Disciplined, ComesToEnd, entry_holds}
+use Rattle.pt_law.specs.Discipline.{Shifts, Job, idle, at_job, MovesIf, Disciplined, ComesToEnd, entry_holds}
 use Rattle.pt_law.specs.Ledger.{weighed, summed, fd_taken, fd_given, fds_carried, pin_made, pin_ended}
 use Rattle.pt_law.proofs.Flows.{fd_held}
 use Rattle.pt_law.specs.Ledger.{handle_pin_made, handle_pin_ended, closing_ended}
-use Rattle.pt_law.specs.Settled.{HasSettled}
+use Rattle.pt_law.specs.Ledger.{count_made, count_ended}
+use Rattle.pt_law.specs.Settled.{HasSettled, ReturnsGiven}
 use Rattle.pt_law.proofs.Flows.{pin_held, handle_pin_held}
 use Rattle.pt_law.proofs.Holding.{handed}
 use Rattle.pt_law.proofs.Counting.{owed_flow}
-use Rattle.pt_law.proofs.Settled.{settled}
+use Rattle.pt_law.proofs.Settled.{count_of, one_given, entry_counts}
 
 -- what is made and what is ended weigh what is held afterwards, less what was held before
 one_step : (w : Hold → ℕ) (made ended : Deed → ActReply → ℕ) →
@@ -71,17 +72,57 @@ entry_weighs w z era (finish.Answer (answer.Created entry handle options)) = let
     omega (arith, a)
 entry_weighs w z era _ = refl
 
+balanced_counts : (e n : ℕ) (job : Job) (steps : List Step) (last : Job) → Disciplined job steps last →
+    total (count_of e n) last.holds + summed (count_ended e n) steps
+    ≡ total (count_of e n) job.holds + summed (count_made e n) steps
+balanced_counts e n job steps last d = balanced (count_of e n) (count_made e n) (count_ended e n)
+    (λ deed told holds after s. one_given e n deed told holds after s) job steps last d
+
+balanced_pins : (row : ℕ) (job : Job) (steps : List Step) (last : Job) → Disciplined job steps last →
+    total (pin_held row) last.holds + summed (pin_ended row) steps
+    ≡ total (pin_held row) job.holds + summed (pin_made row) steps
+balanced_pins row job steps last d = balanced (pin_held row) (pin_made row) (pin_ended row)
+    (λ deed told holds after s. (handed holds deed told after s).pins row) job steps last d
+
+balanced_handle_pins : (row : ℕ) (job : Job) (steps : List Step) (last : Job) → Disciplined job steps last →
+    total (handle_pin_held row) last.holds + summed (handle_pin_ended row) steps
+    ≡ total (handle_pin_held row) job.holds + summed (handle_pin_made row) steps
+balanced_handle_pins row job steps last d =
+    balanced (handle_pin_held row) (handle_pin_made row) (handle_pin_ended row)
+    (λ deed told holds after s. (handed holds deed told after s).handle_pins row) job steps last d
+
+-- by the steps up to any place
+returns_given : (steps : List Step) (last : Job) → Disciplined idle steps last → ReturnsGiven steps
+returns_given steps last d = record {
+  counts = λ e n. let a = balanced_counts e n idle steps last d in omega (arith, a);
+  pins = λ row. let a = balanced_pins row idle steps last d in omega (arith, a);
+  handle_pins = λ row. let a = balanced_handle_pins row idle steps last d in omega (arith, a);
+  fds = λ fd. (fds_held fd steps last d).1;
+  closings = let a = owed_steps idle steps last d in omega (arith, a);
+}
+
+up_to : (front rest : List Step) (job last : Job) → Disciplined job (front ++ rest) last →
+    (mid : Job) × Disciplined job front mid
+up_to [] rest job last d = (job, refl)
+up_to (step ∷ front) rest job last d = let u = up_to front rest d.0 last d.2 in (u.0, (d.0, d.1, u.1))
+
 pub all_settled : (steps : List Step) (end : Finish) → ComesToEnd idle steps end → HasSettled steps end
 all_settled steps end e = record {
-  numbers = λ number. settled number steps end e;
+  in_order = λ front rest same.
+      let last = at_job (entry_holds e.0 end) e.1 in
+      let u = up_to front rest idle last (subst (λ (s : List Step). Disciplined idle s last) same e.2) in
+      returns_given front u.0 u.1;
+  era = e.0;
+  numbers = λ other number.
+      let a = balanced_counts other number idle steps _ e.2 in
+      let w = entry_counts e.0 other number end in
+      omega (arith, a, w);
   pins = λ row.
-      let a = balanced (pin_held row) (pin_made row) (pin_ended row)
-      (λ deed told holds after s. (handed holds deed told after s).pins row) idle steps _ e.2 in
+      let a = balanced_pins row idle steps _ e.2 in
       let z = entry_weighs (pin_held row) (λ era n. refl) e.0 end in
       omega (arith, a, z);
   handle_pins = λ row.
-      let a = balanced (handle_pin_held row) (handle_pin_made row) (handle_pin_ended row)
-      (λ deed told holds after s. (handed holds deed told after s).handle_pins row) idle steps _ e.2 in
+      let a = balanced_handle_pins row idle steps _ e.2 in
       let z = entry_weighs (handle_pin_held row) (λ era n. refl) e.0 end in
       omega (arith, a, z);
   fds = λ fd.

@@ -18,7 +18,7 @@ use Rattle.pt_frame.specs.Deed.{Deed, Calls, Changes as Asks}
 use Rattle.pt_frame.specs.declared.act.ActReply.{ActReply}
 use Rattle.pt_frame.specs.declared.act.ActReply.TheVariants.{Event}
 use Rattle.pt_law.specs.World.{Turn, TablesGo, TablesRun}
-use Rattle.pt_law.specs.Ledger.{standing, standing_by, standing_if, standing_after}
+use Rattle.pt_law.specs.Ledger.{standing, standing_by, after_one, after_all}
 use Rattle.pt_law.proofs.Ignoring.{IgnoresRows, forgets_one, forgets_all, unpins}
 use Rattle.pt_law.proofs.Flows.{called, unmade}
 use Rattle.pt_law.specs.Laws.{IsStanding}
@@ -147,17 +147,18 @@ stands_event : (n : ℕ) (t : Tables) (e : Change) (r : EventReply) (after : Tab
 stands_event n t e r after h = stands_by n t e r after (cases t after e r h)
 
 stands_step : (n : ℕ) (t : Tables) (deed : Option Deed) (told : ActReply) (after : Tables) →
-    TablesGo t deed told after → live_handles n after ≡ standing_if n (live_handles n t) deed told
+    TablesGo t deed told after → live_handles n after ≡ after_one (standing_by n) (live_handles n t) deed told
 stands_step n t None told after g = ap (live_handles n) (unmade t told after g)
 stands_step n t (Some (Calls asked)) told after g = ap (live_handles n) (called t asked told after g)
 stands_step n t (Some (Asks asked)) (Event r) after g = stands_event n t asked r after g
 stands_step n t (Some (Asks asked)) told after g = absurd g
 
 stands_run : (n : ℕ) (turns : List Turn) (t last : Tables) → TablesRun t turns last →
-    live_handles n last ≡ standing_after n (live_handles n t) turns
+    live_handles n last ≡ after_all (standing_by n) (live_handles n t) turns
 stands_run n [] t last r = ap (live_handles n) r
 stands_run n (s ∷ ss) t last r =
-    stands_run n ss r.0 last r.2 ∙ ap (λ g. standing_after n g ss) (stands_step n t s.step.deed s.step.reply r.0 r.1)
+    stands_run n ss r.0 last r.2
+    ∙ ap (λ g. after_all (standing_by n) g ss) (stands_step n t s.step.deed s.step.reply r.0 r.1)
 
 pub standing_law : (limit : ℕ) (turns : List Turn) (now : Tables) (handle : ℕ) →
     TablesRun (empty_tables limit) turns now → IsStanding now handle (standing handle turns)

@@ -34,7 +34,7 @@ use Rattle.pt_law.specs.Discipline.{Job, Notes, Resolution, ShiftsCalled, JobMov
 use Rattle.pt_law.specs.World.{World, Past, Turn, TablesGo, Goes, IsLawful, settled_if, settled_by}
 use Rattle.pt_law.specs.Ledger.{open_count, kept_fds, some_count, slot_taken, slot_given}
 use Rattle.pt_law.proofs.Flows.{all_hold, fd_held}
-use Rattle.pt_law.specs.Ledger.{inserted_if, inserted_as}
+use Rattle.pt_law.specs.Ledger.{inserted_as, weighed}
 use Rattle.pt_law.specs.Ledger.{fd_ended, fd_closed}
 use Rattle.pt_law.proofs.Flows.{slot_in, slot_out, IsHonest, unmade}
 use Rattle.pt_law.proofs.Lists.{total_takes, sum_to_set, set_at_same, set_at_other, at_each}
@@ -85,7 +85,8 @@ recount bound had had' t js e v = record {
 pub keeps_tabled : (bound : ℕ) (had : ℕ → ℕ) (t : Tables) (js : ℕ →
     Job) (j : ℕ) (deed : Option Deed) (told : ActReply) (t' : Tables) (after : Job) → j < bound →
     Tabled bound had t js → TablesGo t deed told t' →
-    MovesIf (js j) deed told after → Tabled bound (λ n. had n + inserted_if n deed told) t' (set_at j after js)
+    MovesIf (js j) deed told after →
+    Tabled bound (λ n. had n + weighed (inserted_as n) deed told) t' (set_at j after js)
 keeps_tabled bound had t js j None told t' after lt v g m =
     rw (unmade t told t' g, set_self js j after m) (recount bound had (λ n. had n + 0) t js (λ n. omega arith) v)
 keeps_tabled bound had t js j (Some deed) told t' after lt v g m = record {
@@ -308,7 +309,7 @@ keeps_by : (bound : ℕ) (base had : ℕ → ℕ) (w : World) (js : ℕ →
     j < bound → Inv bound base had w js →
     Made IsLawful deed told w.tree seat w.tables next.tree seat' next.tables →
     next.past ≡ settled_if w.past j deed told w.tables.next_row next.tree → MovesIf (js j) deed told after →
-    Inv bound base (λ n. had n + inserted_if n deed told) next (set_at j after js)
+    Inv bound base (λ n. had n + weighed (inserted_as n) deed told) next (set_at j after js)
 keeps_by bound base had w js j None NoCopy seat seat' next after lt v g p m =
     let same : next ≡ w = λ i. record { tree = g.0 i; tables = g.2 i; past = p i } in
     rw (same, set_self js j after m) (record {
@@ -343,7 +344,7 @@ keeps_by bound base had w js j _ _ seat seat' next after lt v g p m = absurd g
 pub keeps : (bound : ℕ) (base had : ℕ → ℕ) (w : World) (js : ℕ → Job) (turn : Turn) (next : World) (after : Job) →
     turn.job < bound → Inv bound base had w js → Goes w turn next →
     JobMoves (js turn.job) turn.step after →
-    Inv bound base (λ n. had n + inserted_if n turn.step.deed turn.step.reply) next (set_at turn.job after js)
+    Inv bound base (λ n. had n + weighed (inserted_as n) turn.step.deed turn.step.reply) next (set_at turn.job after js)
 keeps bound base had w js turn next after lt v g m =
     keeps_by bound base had w js turn.job turn.step.deed turn.step.reply g.seat g.seat_after next after lt v g.made
     g.past m

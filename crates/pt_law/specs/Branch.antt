@@ -1,6 +1,6 @@
 -- Believed. A branch of a tree: the steps of the request's own part, from the first to the answer. And how a job came
 -- to its end: by a branch, as memory ran out, or as its seat was lost.
-use Rattle.std.specs.Prelude.{◌≡◌, ◌⊎◌, List, [], ◌∷◌, Option, None, Some}
+use Rattle.std.specs.Prelude.{◌≡◌, ◌⊎◌, true, List, [], ◌∷◌, Option, None, Some}
 use Rattle.pt_host.specs.Sorts.{Sort, OpensWith, EndsFd, OfSeat, Plain, sort_of}
 use Rattle.pt_session.specs.Change.{Change}
 use Rattle.pt_session.specs.declared.event.KeptEvent.TheVariants as change
@@ -9,6 +9,7 @@ use Rattle.pt_iface.specs.declared.answer.Answer.TheVariants as answer
 use Rattle.pt_frame.specs.Deed.{Deed, Calls, Changes, Step, IsStepOf}
 use Rattle.pt_frame.specs.Replies.{refusal}
 use Rattle.pt_frame.specs.Tree.{RequestTree, Gives, Refuses, Asks, Opens, Bares, Brackets, Shuts, Allocates}
+use Rattle.pt_frame.specs.Tree.{allocates}
 use Rattle.pt_frame.specs.declared.act.ActReply.{ActReply}
 use Rattle.pt_frame.specs.declared.finish.Finish.{Finish}
 use Rattle.pt_frame.specs.declared.finish.Finish.TheVariants as finish
@@ -27,17 +28,19 @@ Along (Shuts passes rest) steps last = Along rest steps last
 Along (Allocates rest) steps last = Along rest steps last
 Along tree steps last = ⊥
 
--- after these steps the tree allocates
-abbrev pub AllocatesAfter : RequestTree → List Step → Type 0
-AllocatesAfter (Asks deed next) (step ∷ steps) =
-    IsStepOf deed step.deed step.reply × AllocatesAfter (next step.reply) steps
-AllocatesAfter (Opens asked scope next) (step ∷ steps) =
-    IsStepOf (Calls asked) step.deed step.reply × AllocatesAfter (next step.reply) steps
-AllocatesAfter (Bares rest) steps = AllocatesAfter rest steps
-AllocatesAfter (Brackets rest) steps = AllocatesAfter rest steps
-AllocatesAfter (Shuts passes rest) steps = AllocatesAfter rest steps
-AllocatesAfter (Allocates rest) steps = (steps ≡ []) ⊎ AllocatesAfter rest steps
-AllocatesAfter tree steps = ⊥
+-- behind the last of these steps the tree may give up
+abbrev pub GivesUpAfter : RequestTree → List Step → Type 0
+GivesUpAfter (Asks deed next) (step ∷ steps) =
+    IsStepOf deed step.deed step.reply
+    × (((steps ≡ []) × (allocates (next step.reply) ≡ true)) ⊎ GivesUpAfter (next step.reply) steps)
+GivesUpAfter (Opens asked scope next) (step ∷ steps) =
+    IsStepOf (Calls asked) step.deed step.reply
+    × (((steps ≡ []) × (allocates (next step.reply) ≡ true)) ⊎ GivesUpAfter (next step.reply) steps)
+GivesUpAfter (Bares rest) steps = GivesUpAfter rest steps
+GivesUpAfter (Brackets rest) steps = GivesUpAfter rest steps
+GivesUpAfter (Shuts passes rest) steps = GivesUpAfter rest steps
+GivesUpAfter (Allocates rest) steps = GivesUpAfter rest steps
+GivesUpAfter tree steps = ⊥
 
 -- by replies that may come no part of the tree takes memory of its own
 abbrev pub TakesNone : RequestTree → Type 0
@@ -76,21 +79,18 @@ pub data AreOwn : List Step → List Step → Type 0 where
   keep : {step : Step} {own all : List Step} → AreOwn own all → AreOwn (step ∷ own) (step ∷ all)
   skip : {step : Step} {own all : List Step} → ReturnsHold step.deed → AreOwn own all → AreOwn own (step ∷ all)
 
--- the first are of a request's own part, and come before some of the second
-pub data AreFirst : List Step → List Step → Type 0 where
-  stop : {all : List Step} → AreFirst [] all
-  next : {step : Step} {own all : List Step} → AreFirst own all → AreFirst (step ∷ own) (step ∷ all)
-  pass : {step : Step} {own all : List Step} → ReturnsHold step.deed → AreFirst own all → AreFirst own (step ∷ all)
-
 -- a lost seat
 abbrev pub IsLost : Finish → Type 0
 IsLost (finish.Lost errno) = Unit {0}
 IsLost (finish.Answer last) = ⊥
 
--- the job gave up for memory that ran out, where its tree took some of its own
+-- The job gave up for memory that ran out, behind a step of its own where the tree takes some. Its other steps are some
+-- that give back.
 pub record GaveUp (tree : RequestTree) (steps : List Step) (end : Finish) : Type 0 where
   pub answered : end ≡ finish.Answer answer.NoMemory
-  pub why : (path : List Step) × AreFirst path steps × AllocatesAfter tree path
+  pub path : List Step
+  pub own : AreOwn path steps
+  pub up : GivesUpAfter tree path
 
 -- the answer is that of a branch, whose steps are these but for some that give back
 abbrev pub IsOfBranch : RequestTree → Finish → List Step → Type 0

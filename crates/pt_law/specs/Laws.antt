@@ -40,9 +40,12 @@ abbrev pub AreDistinct : World → Type 0
 AreDistinct world = (number other : ℕ) → IsLive world.tables number → IsLive world.tables other → number ≢ other →
     (object : ℕ) × (another : ℕ) × ObjectOf world number object × ObjectOf world other another × (object ≢ another)
 
--- a live row has an open descriptor of its number's object
-abbrev pub HasObject : World → Row → Type 0
-HasObject world row = (object : ℕ) × ObjectOf world row.number object × IsOpenOn world.tree (fd_of row.form) object
+-- a row has an open descriptor of the object of its serial; of one that is live that is its number's object
+pub record HasObject (world : World) (row : Row) : Type 0 where
+  pub object : ℕ
+  pub its : world.past.objects row.serial ≡ Some object
+  pub open_on : IsOpenOn world.tree (fd_of row.form) object
+  pub of_number : row.live ≡ true → ObjectOf world row.number object
 
 -- a number is live exactly where something was given and not taken back, and so much is its count
 pub record IsCounted (tables : Tables) (number : ℕ) (amount : ℕ) : Type 0 where

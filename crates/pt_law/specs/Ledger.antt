@@ -22,6 +22,23 @@ abbrev pub one_if : Bool → ℕ
 one_if true = 1
 one_if false = 0
 
+abbrev pub weighed : (Deed → ActReply → ℕ) → Option Deed → ActReply → ℕ
+weighed weight None told = 0
+weighed weight (Some deed) told = weight deed told
+
+-- what a job's steps come to together
+abbrev pub summed : (Deed → ActReply → ℕ) → List Step → ℕ
+summed weight steps = total (λ step. weighed weight step.deed step.reply) steps
+
+-- how much there is after one step, by what that changes, and after all of a run
+abbrev pub after_one : (ℕ → Deed → ActReply → ℕ) → ℕ → Option Deed → ActReply → ℕ
+after_one change had None told = had
+after_one change had (Some deed) told = change had deed told
+
+abbrev pub after_all : (ℕ → Deed → ActReply → ℕ) → ℕ → List Turn → ℕ
+after_all change had [] = had
+after_all change had (turn ∷ turns) = after_all change (after_one change had turn.step.deed turn.step.reply) turns
+
 -- Slots. A row that keeps a descriptor has one, a handle's row has one, and so has an entry of the closing list that
 -- says so.
 
@@ -53,15 +70,11 @@ slot_given (Changes (change.InsertHandle era handle number fd)) (Event (event.In
 slot_given _ (Event event.Given) = 1
 slot_given _ _ = 0
 
-abbrev pub slot_given_by : Option Deed → ActReply → ℕ
-slot_given_by None told = 0
-slot_given_by (Some deed) told = slot_given deed told
-
 abbrev pub slots_taken : List Step → ℕ
 slots_taken steps = total (λ step. slot_taken step.reply) steps
 
 abbrev pub slots_given : List Step → ℕ
-slots_given steps = total (λ step. slot_given_by step.deed step.reply) steps
+slots_given steps = summed slot_given steps
 
 -- what a job carries, by its replies alone
 abbrev pub carried : List Step → ℕ
@@ -153,18 +166,24 @@ abbrev pub handle_pin_ended : ℕ → Deed → ActReply → ℕ
 handle_pin_ended serial (Changes (change.UnpinHandle row)) told = is row serial
 handle_pin_ended serial deed told = 0
 
+-- a count of a number in an era; the root's two are given to no job
+abbrev pub count_made : ℕ → ℕ → Deed → ActReply → ℕ
+count_made era number (Changes (change.Claim same handle ids)) (Event (event.Claimed given)) =
+    is same era * is given number
+count_made era number (Changes (change.Insert same drawn form ids mode)) (Event (event.Inserted given)) =
+    is same era * is given number
+count_made era number (Changes (change.Insert same drawn form ids mode)) (Event (event.Found given)) =
+    is same era * is given number
+count_made era number deed told = 0
+
+abbrev pub count_ended : ℕ → ℕ → Deed → ActReply → ℕ
+count_ended era number (Changes (change.GiveBack same given)) told = is same era * is given number
+count_ended era number deed told = 0
+
 -- a closing that it takes; those that it is told of are `closings_in`
 abbrev pub closing_ended : Deed → ActReply → ℕ
 closing_ended (Changes change.TakeClosing) told = 1
 closing_ended deed told = 0
-
-abbrev pub weighed : (Deed → ActReply → ℕ) → Option Deed → ActReply → ℕ
-weighed weight None told = 0
-weighed weight (Some deed) told = weight deed told
-
--- what a job's steps come to together
-abbrev pub summed : (Deed → ActReply → ℕ) → List Step → ℕ
-summed weight steps = total (λ step. weighed weight step.deed step.reply) steps
 
 -- a descriptor that a job has: opened or taken, and neither closed nor handed over
 abbrev pub fds_carried : ℕ → List Step → ℕ
@@ -190,17 +209,9 @@ given_by number had (Changes (change.GiveBack era given)) (Event (event.Done clo
 given_by number had (Changes change.Clear) (Event (event.Cleared era closings)) = 0
 given_by number had deed told = had
 
-abbrev pub given_if : ℕ → ℕ → Option Deed → ActReply → ℕ
-given_if number had None told = had
-given_if number had (Some deed) told = given_by number had deed told
-
-abbrev pub given_after : ℕ → ℕ → List Turn → ℕ
-given_after number had [] = had
-given_after number had (turn ∷ turns) = given_after number (given_if number had turn.step.deed turn.step.reply) turns
-
 -- what was given of a number and not taken back
 abbrev pub given : ℕ → List Turn → ℕ
-given number turns = given_after number 0 turns
+given number turns = after_all (given_by number) 0 turns
 
 -- Insertions.
 
@@ -210,13 +221,9 @@ inserted_as number (Changes (change.InsertRoot era form ids mode agreed)) (Event
 inserted_as number (Changes (change.Insert era drawn form ids mode)) (Event (event.Inserted given)) = is given number
 inserted_as number deed told = 0
 
-abbrev pub inserted_if : ℕ → Option Deed → ActReply → ℕ
-inserted_if number None told = 0
-inserted_if number (Some deed) told = inserted_as number deed told
-
 -- how often the number was inserted
 abbrev pub inserted : ℕ → List Turn → ℕ
-inserted number turns = total (λ turn. inserted_if number turn.step.deed turn.step.reply) turns
+inserted number turns = total (λ turn. weighed (inserted_as number) turn.step.deed turn.step.reply) turns
 
 -- Handles.
 
@@ -225,13 +232,9 @@ handle_inserted_as handle (Changes (change.InsertHandle era drawn number fd)) (E
     is given handle
 handle_inserted_as handle deed told = 0
 
-abbrev pub handle_inserted_if : ℕ → Option Deed → ActReply → ℕ
-handle_inserted_if handle None told = 0
-handle_inserted_if handle (Some deed) told = handle_inserted_as handle deed told
-
 -- how often the handle was inserted
 abbrev pub handle_inserted : ℕ → List Turn → ℕ
-handle_inserted handle turns = total (λ turn. handle_inserted_if handle turn.step.deed turn.step.reply) turns
+handle_inserted handle turns = total (λ turn. weighed (handle_inserted_as handle) turn.step.deed turn.step.reply) turns
 
 abbrev pub standing_by : ℕ → ℕ → Deed → ActReply → ℕ
 standing_by handle had (Changes (change.InsertHandle era drawn number fd)) (Event (event.Inserted given)) =
@@ -241,15 +244,6 @@ standing_by handle had (Changes (change.Release released number)) (Event (event.
 standing_by handle had (Changes change.Clear) (Event (event.Cleared era closings)) = 0
 standing_by handle had deed told = had
 
-abbrev pub standing_if : ℕ → ℕ → Option Deed → ActReply → ℕ
-standing_if handle had None told = had
-standing_if handle had (Some deed) told = standing_by handle had deed told
-
-abbrev pub standing_after : ℕ → ℕ → List Turn → ℕ
-standing_after handle had [] = had
-standing_after handle had (turn ∷ turns) =
-    standing_after handle (standing_if handle had turn.step.deed turn.step.reply) turns
-
 -- how often the handle was inserted and neither released nor cleared since
 abbrev pub standing : ℕ → List Turn → ℕ
-standing handle turns = standing_after handle 0 turns
+standing handle turns = after_all (standing_by handle) 0 turns

@@ -14,5 +14,6 @@ pub mod Keeps
 pub mod Branch
 pub mod Under
 pub mod Handling
+pub mod Reopened
 pub mod Making
 pub mod Wearing

@@ -1,7 +1,7 @@
 //! Whatever jobs run, in whatever order their steps come: what holds after every step, and at the end.
 //! The parts that speak of no object hold over any host; those that do, over one that tells its tree.
 
-ghost use Rattle.std.specs.Prelude.{◌⊎◌, ◌≡◌, ◌≢◌, ◌<◌, ◌≤◌, ℕ, List, ◌++◌, ◌∷◌, true, Option, Some};
+ghost use Rattle.std.specs.Prelude.{◌⊎◌, ◌≡◌, ◌≢◌, ◌<◌, ◌≤◌, ℕ, List, ◌++◌, ◌∷◌, Option, Some};
 ghost use Rattle.pt_host.specs.Words.{Each};
 ghost use Rattle.pt_host.specs.Tree.{IsOpenOn};
 ghost use Rattle.pt_host.specs.declared.flags.OpenFlags.{OpenFlags};
@@ -29,6 +29,7 @@ ghost use Rattle.pt_law.specs.Laws.{LeavesRows};
 ghost use Rattle.pt_law.specs.Agreed.{agreed_after, Decides};
 ghost use Rattle.pt_law.specs.Giving.{GivesBy, GivingPlaces, GivingPath, IsGiven};
 ghost use Rattle.pt_law.specs.Origins.{WasRoot, WasNamed};
+ghost use Rattle.pt_law.specs.Reopened.{ReopensResolved};
 
 use pt_host::Host;
 
@@ -88,10 +89,12 @@ pub fn every_told_run()
         Starts limit start → AreDisciplined bound (turns ++ more) → Runs start turns now → AreDistinct now }
     ensures objects { (limit bound : ℕ) (turns more : List Turn) (start now : World) (row : Row) →
         Starts limit start → AreDisciplined bound (turns ++ more) → Runs start turns now → IsRow now.tables row →
-        row.live ≡ true → HasObject now row }
+        HasObject now row }
     ensures handles { (limit bound : ℕ) (turns more : List Turn) (start now : World) (row : HandleRow) →
         Starts limit start → AreDisciplined bound (turns ++ more) → Runs start turns now →
         IsHandleRow now.tables row → Serves now row }
+    ensures reopened { (limit bound : ℕ) (turns more : List Turn) (start now : World) → Starts limit start →
+        AreDisciplined bound (turns ++ more) → Runs start turns now → ReopensResolved turns now }
     ensures origins { (limit bound : ℕ) (turns more : List Turn) (start now : World) (number object : ℕ) →
         Starts limit start → AreDisciplined bound (turns ++ more) → Runs start turns now →
         ObjectOf now number object → WasRoot start turns now object ⊎ WasNamed start turns now object }

@@ -6,6 +6,7 @@ use Rattle.pt_law.proofs.Hosts.{run_told}
 use Rattle.pt_law.proofs.Next.{named_law}
 use Rattle.pt_law.proofs.Giving.{branch_places, giving_law}
 use Rattle.pt_law.proofs.Tracing.{origins_law}
+use Rattle.pt_law.proofs.Reopened.{reopened_law}
 
 pub returns-clause-tables : goal.returns-clause-tables
 returns-clause-tables c = tables_run
@@ -41,6 +42,9 @@ returns-clause-cut c = runs_split
 
 pub returns-clause-handles : goal.returns-clause-handles
 returns-clause-handles c = handles_law
+
+pub returns-clause-reopened : goal.returns-clause-reopened
+returns-clause-reopened c = reopened_law
 
 pub returns-clause-origins : goal.returns-clause-origins
 returns-clause-origins c = origins_law

@@ -1,0 +1,42 @@
+-- A handle that a job inserted before it gave up is nobody's: memory that ran out is answered without one. And a tree
+-- that may give up behind its insertion is none of a request's.
+use Rattle.std.proofs.Common.{inl, ℕ, [], ◌∷◌, refl, arith}
+use Rattle.pt_host.specs.Words.{is}
+use Rattle.pt_host.specs.declared.ids.Fd.{Fd}
+use Rattle.pt_session.specs.declared.event.KeptEvent.TheVariants as change
+use Rattle.pt_session.specs.declared.reply.EventReply.TheVariants as event
+use Rattle.pt_iface.specs.declared.answer.Answer.TheVariants as answer
+use Rattle.pt_iface.specs.declared.flags.OpenOptions.{OpenOptions}
+use Rattle.pt_frame.specs.Deed.{Changes, Step}
+use Rattle.pt_frame.specs.Tree.{Allocates, Gives, RequestTree}
+use Rattle.pt_frame.specs.declared.act.ActReply.TheVariants.{Event}
+use Rattle.pt_req.specs.Steps.{insert_handle}
+use Rattle.pt_req.specs.declared.begun.BegunSession.{BegunSession}
+use Rattle.pt_law.specs.Branch.{GivesUpAfter}
+use Rattle.pt_law.specs.Naming.{made}
+use Rattle.pt_fit.specs.Handled.{KeepsHandle}
+use Rattle.pt_fit.proofs.HandleParts.{Yields}
+
+module _ (session : BegunSession) (number : ℕ) (fd : Fd) (options : OpenOptions) where
+  -- handle 5
+  abbrev inserting : Step
+  inserting = made (Changes (change.InsertHandle session.era 5 number fd)) (Event (event.Inserted 5))
+
+  pub gave_up : KeepsHandle (inserting ∷ []) answer.NoMemory → ⊥
+  unfolding is
+  gave_up keeps = let five = keeps 5 in absurd (omega (arith, five))
+
+  pub is_answered : KeepsHandle (inserting ∷ []) (answer.Opened 5 options)
+  is_answered handle = omega arith
+
+  -- what follows the insertion takes memory
+  abbrev late : RequestTree
+  late = insert_handle session 5 number fd (Allocates (Gives (answer.Opened 5 options)))
+
+  pub gives_up_late : GivesUpAfter late (inserting ∷ [])
+  gives_up_late = (refl, inl (refl, refl))
+
+  pub is_no_request : Yields late → ⊥
+  unfolding is
+  is_no_request yields =
+      let five = yields.up (inserting ∷ []) gives_up_late 5 in absurd (omega (arith, five))

@@ -1,0 +1,40 @@
+-- Believed. What a job opens anew by the descriptor of a number that it resolved.
+use Rattle.std.specs.Prelude.{◌≡◌, ℕ, List, [], ◌∷◌, ◌++◌, Some}
+use Rattle.pt_host.specs.Words.{Each}
+use Rattle.pt_host.specs.Tree.{IsOpenOn}
+use Rattle.pt_host.specs.declared.ids.Fd.{Fd}
+use Rattle.pt_host.specs.declared.ids.ObjIds.{ObjIds}
+use Rattle.pt_host.specs.declared.flags.OpenFlags.{OpenFlags}
+use Rattle.pt_host.specs.declared.op.KeptHostOp.TheVariants as call
+use Rattle.pt_host.specs.declared.reply.HostReply.TheVariants as host
+use Rattle.pt_host.specs.declared.reply.HostValue.TheVariants as value
+use Rattle.pt_session.specs.declared.form.RowForm.{RowForm}
+use Rattle.pt_frame.specs.Deed.{Calls, Step}
+use Rattle.pt_frame.specs.declared.act.ActReply.TheVariants.{Host}
+use Rattle.pt_law.specs.Handling.{ComesToNone}
+use Rattle.pt_law.specs.Naming.{made, resolving}
+use Rattle.pt_law.specs.World.{World, Turn, turn_by, steps_of}
+
+abbrev pub reopening : ℕ → Fd → OpenFlags → Fd → Turn
+reopening job fd flags new = turn_by job (made (Calls (call.Reopen fd flags)) (Host (host.Ok (value.Fd new))))
+
+-- By these steps the job came to a number last by resolving it; the descriptor is open on what the number stood for
+-- then.
+pub record OpensResolved (world : World) (job : ℕ) (steps : List Step) (fd : Fd) : Type 0 where
+  pub number : ℕ
+  pub row : ℕ
+  pub form : RowForm
+  pub ids : ObjIds
+  pub mode : ℕ
+  pub before : List Step
+  pub between : List Step
+  pub resolved : steps ≡ before ++ resolving number row form ids mode ∷ between
+  pub came_last : Each (λ step. ComesToNone step.deed step.reply) between
+  pub object : ℕ
+  pub stood_for : world.past.resolved job number ≡ Some object
+  pub open_on : IsOpenOn world.tree fd object
+
+-- what the last step of a run opened anew
+abbrev pub ReopensResolved : List Turn → World → Type 0
+ReopensResolved turns now = (before : List Turn) (job : ℕ) (fd new : Fd) (flags : OpenFlags) →
+    turns ≡ before ++ reopening job fd flags new ∷ [] → OpensResolved now job (steps_of job before) new
