@@ -34,4 +34,5 @@ pub mod Seating
 pub mod ExampleJob
 pub mod ExampleRace
 pub mod ExampleOrigins
+pub mod ExampleCauses
 pub mod ExampleEntered
