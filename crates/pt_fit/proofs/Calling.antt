@@ -37,7 +37,7 @@ fit_read_at {asked = asked} {holds = holds} fd offset size row next f = record {
     (((hold.HandlePin row fd, _, here, refl), tt), tt),
     elim [
       | Host (host.Ok (value.Bytes bytes)) ↦ λ m. (f bytes).on _ (still s)
-      | told ↦ λ m. refused_by asked (Calls (call.ReadAt fd offset size)) told holds path (refl, tt) m (λ no. no)
+      | told ↦ λ m. refused_by asked (Calls (call.ReadAt fd offset size)) told holds path (λ errno. refl) m (λ no. no)
     ],
   );
 }
@@ -52,7 +52,7 @@ fit_read_link {asked = asked} {holds = holds} fd row next f = record {
     elim [
       | Host (host.Ok (value.Bytes target)) ↦ λ m. (f target).on _ (still s)
       | told ↦ λ m. refused_by asked (Calls (call.ReadLink fd)) told (hold.Pin row (Some fd) ∷ holds) path
-          (refl, tt) m (λ no. no)
+          (λ errno. refl) m (λ no. no)
     ],
   );
 }
@@ -66,8 +66,8 @@ fit_stat_fs {asked = asked} {holds = holds} fd row next f = record {
     (((hold.Pin row (Some fd), _, here, refl), tt), tt),
     elim [
       | Host (host.Ok (value.FsStat told)) ↦ λ m. (f told).on _ (still s)
-      | told ↦ λ m. refused_by asked (Calls (call.StatFs fd)) told (hold.Pin row (Some fd) ∷ holds) path (refl, tt) m
-          (λ no. no)
+      | told ↦ λ m. refused_by asked (Calls (call.StatFs fd)) told (hold.Pin row (Some fd) ∷ holds) path
+          (λ errno. refl) m (λ no. no)
     ],
   );
 }
@@ -83,7 +83,7 @@ fit_look_at {asked = asked} {holds = holds} fd next may f = record {
     may,
     elim [
       | Host (host.Ok (value.Stat told)) ↦ λ m. (f told).on path s
-      | told ↦ λ m. refused_by asked (Calls (call.Stat fd)) told holds path (refl, tt) m (λ no. no)
+      | told ↦ λ m. refused_by asked (Calls (call.Stat fd)) told holds path (λ errno. refl) m (λ no. no)
     ],
   );
 }
@@ -95,7 +95,7 @@ pub record IsStillCall (did : Call) : Type 0 where
 
 pub fit_do_call : {asked : Asking} {seen : List Seen} {holds : List Hold} {marks : List ℕ}
     {notes : Notes} (did : Call) (next : RequestTree) → IsStillCall did → MayMake (Calls did) holds notes →
-    IsHeeded asked.request (Calls did) holds → FitOn asked seen next holds marks notes →
+    IsHeeded asked (Calls did) holds → FitOn asked seen next holds marks notes →
     FitOn asked seen (do_call did next) holds marks notes
 fit_do_call {asked = asked} {holds = holds} {marks = marks} {notes = notes} did next same may heeds f = record {
   on = λ path s. (
@@ -123,7 +123,7 @@ TellsCount did = (told : HostValue) → FitsCall did told → IsCount told
 
 pub fit_count_of : {asked : Asking} {seen : List Seen} {holds : List Hold} {marks : List ℕ}
     {notes : Notes} (did : Call) (next : ℕ → RequestTree) → TellsCount did → IsStillCall did →
-    MayMake (Calls did) holds notes → IsHeeded asked.request (Calls did) holds →
+    MayMake (Calls did) holds notes → IsHeeded asked (Calls did) holds →
     ((count : ℕ) → FitOn asked seen (next count) holds marks notes) →
     FitOn asked seen (count_of did next) holds marks notes
 fit_count_of {asked = asked} {holds = holds} {marks = marks} {notes = notes} did next only same may heeds f = record {

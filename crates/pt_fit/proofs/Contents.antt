@@ -43,7 +43,7 @@ fit_write plan seat who inode handle offset bytes delayed kill flags =
     fit_without_fsetid dropped _ (
     fit_count_of (call.WriteAt fd offset bytes (appends delayed flags)) _ (only fd)
     (record { holds = λ told these. refl; notes = λ told these. refl })
-    ((pinned dropped row fd, tt), tt) (refl, tt) (λ count.
+    ((pinned dropped row fd, tt), tt) (λ errno. refl) (λ count.
     fit_bares dropped _ (λ one. refl) (
     fit_gives (answer.Wrote count) (λ path. (tt, tt, tt))))))))
   where
@@ -60,7 +60,7 @@ fit_fallocate plan who inode handle mode offset length = fit_begin _ refl (λ se
     (fit_pin_handle handle inode _ nothing_bare (λ row fd.
     fit_do_call (call.Allocate fd mode offset length) _
     (record { holds = λ told these. refl; notes = λ told these. refl })
-    (((hold.HandlePin row fd, _, here, refl), tt), tt) (refl, tt)
+    (((hold.HandlePin row fd, _, here, refl), tt), tt) (λ errno. refl)
     (fit_gives answer.Done (λ path. (tt, tt, tt)))))))
 
 pub fit_lseek : (asked : Asking) (inode handle offset whence : ℕ) →
@@ -69,7 +69,7 @@ fit_lseek asked inode handle offset whence = fit_begin _ refl (λ session.
     fit_pin_handle handle inode _ nothing_bare (λ row fd.
     fit_count_of (call.Seek fd (cast_signed w64 offset) whence) _ (only fd)
     (record { holds = λ told these. refl; notes = λ told these. refl })
-    (((hold.HandlePin row fd, _, here, refl), tt), tt) (refl, tt) (λ place.
+    (((hold.HandlePin row fd, _, here, refl), tt), tt) (λ errno. refl) (λ place.
     fit_gives (answer.Offset place) (λ path. (tt, tt, tt)))))
   where
     only : (fd : Fd) → TellsCount (call.Seek fd (cast_signed w64 offset) whence)
@@ -94,7 +94,7 @@ fit_copyfilerange plan who inode handle offset inode2 handle2 offset2 length fla
         ((hold.HandlePin other to, _, here, refl), tt),
       ),
       tt,
-    ) (refl, tt) (λ count.
+    ) (λ errno. refl) (λ count.
     fit_gives (answer.Wrote count) (λ path. (tt, tt, tt)))))))))
   where
     only : (from to : Fd) → TellsCount (call.CopyRange from offset to offset2 length flags)
@@ -105,7 +105,7 @@ pub fit_flush : (asked : Asking) (inode handle : ℕ) → FitOn asked [] (flush 
 fit_flush asked inode handle = fit_begin _ refl (λ session.
     fit_pin_handle handle inode _ nothing_bare (λ row fd.
     fit_do_call (call.Flush fd) _ (record { holds = λ told these. refl; notes = λ told these. refl })
-    (((hold.HandlePin row fd, _, here, refl), tt), tt) (refl, tt)
+    (((hold.HandlePin row fd, _, here, refl), tt), tt) (λ errno. refl)
     (fit_gives answer.Done (λ path. (tt, tt, tt)))))
 
 pub fit_fsync : (asked : Asking) (inode handle : ℕ) (datasync : Bool) →
@@ -113,7 +113,7 @@ pub fit_fsync : (asked : Asking) (inode handle : ℕ) (datasync : Bool) →
 fit_fsync asked inode handle datasync = fit_begin _ refl (λ session.
     fit_pin_handle handle inode _ nothing_bare (λ row fd.
     fit_do_call (call.Sync fd datasync) _ (record { holds = λ told these. refl; notes = λ told these. refl })
-    (((hold.HandlePin row fd, _, here, refl), tt), tt) (refl, tt)
+    (((hold.HandlePin row fd, _, here, refl), tt), tt) (λ errno. refl)
     (fit_gives answer.Done (λ path. (tt, tt, tt)))))
 
 -- by a descriptor of the request's own
@@ -122,5 +122,5 @@ pub fit_syncfs : (plan : Plan) (who : Context) (inode : ℕ) →
 fit_syncfs plan who inode = fit_begin _ refl (λ session.
     fit_open_inode false plan session inode o_nofollow _ tt nothing_bare (λ row dir fd.
     fit_do_call (call.SyncFs fd) _ (record { holds = λ told these. refl; notes = λ told these. refl })
-    (((hold.Fd fd, _, here, refl), tt), tt) (refl, tt)
+    (((hold.Fd fd, _, here, refl), tt), tt) (λ errno. refl)
     (fit_gives answer.Done (λ path. (tt, tt, tt)))))

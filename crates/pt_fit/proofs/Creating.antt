@@ -6,6 +6,7 @@ use Rattle.std.proofs.lemmas.Bool.{eqb-true}
 use Rattle.pt_host.specs.Errno.{eperm, estale}
 use Rattle.pt_host.specs.Flags.{includes, o_excl}
 use Rattle.pt_host.specs.Words.{Takes.{here, there}}
+use Rattle.pt_host.specs.declared.ids.Errno.{Errno}
 use Rattle.pt_host.specs.declared.ids.Fd.{Fd}
 use Rattle.pt_host.specs.declared.ids.ObjIds.{ObjIds}
 use Rattle.pt_host.specs.declared.op.KeptHostOp.TheVariants as call
@@ -29,6 +30,7 @@ use Rattle.pt_req.specs.Attributes.{is_blocked}
 use Rattle.pt_req.specs.Creating.{are_same, if_same, make_file, new_file, old_file, takes_old}
 use Rattle.pt_req.specs.Entries.{is_bad_name}
 use Rattle.pt_req.specs.Options.{create_options, making_flags}
+use Rattle.pt_req.specs.Parts.{by_path}
 use Rattle.pt_req.specs.Requests.{file_asked}
 use Rattle.pt_req.specs.declared.begun.BegunSession.{BegunSession}
 use Rattle.pt_req.specs.declared.parts.asked.FileAsked.{FileAsked}
@@ -36,12 +38,12 @@ use Rattle.pt_req.specs.declared.parts.asked.NamedHandle.{NamedHandle}
 use Rattle.pt_req.specs.declared.plan.Plan.{Plan}
 use Rattle.pt_attr.specs.Pattern.{tree_of}
 use Rattle.pt_law.specs.Discipline.{Notes, blank}
-use Rattle.pt_fit.specs.Cause.{Asking, BlocksLabel, IsBlockedLabel, OwnCause, TellsCause, asking}
+use Rattle.pt_fit.specs.Cause.{Asking, BlocksLabel, IsBlockedLabel, IsStale, OwnCause, TellsCause, asking}
 use Rattle.pt_fit.proofs.Holds.{nothing_bare}
 use Rattle.pt_fit.proofs.Joined.{after_any_step, fit_gives, fit_look_up, fit_open_num}
 use Rattle.pt_fit.proofs.Labelling.{fit_labelled}
-use Rattle.pt_fit.proofs.Parts.{Agreed, FitOn, Seen, Told, blocked_by, fit_begin, fit_checked}
-use Rattle.pt_fit.proofs.Parts.{fit_draw_handle, fit_file_of}
+use Rattle.pt_fit.proofs.Parts.{Agreed, FitOn, Ids, IsSeen, Opened, Seen, Told, blocked_by, fit_begin, fit_checked}
+use Rattle.pt_fit.proofs.Parts.{fit_draw_handle, fit_file_of, opens_on}
 use Rattle.pt_fit.proofs.Parts.{fit_insert_given, fit_resolve, fit_stat}
 use Rattle.pt_fit.proofs.Parts.{fit_take_under}
 use Rattle.pt_fit.proofs.Scopes.{Covers, fit_make_at, fit_open_scope, fit_raise}
@@ -73,15 +75,15 @@ module _ {asked : Asking} {seen : List Seen} {bare : List Hold} {marks : List �
       FitOn asked seen (taken_on (euid_calls euid ++ raise_calls raise) rest) holds marks notes
   fit_euid None raise holds c = fit_raises raise holds c
   fit_euid (Some uid) raise holds c =
-      fit_open_scope (call.SetEuid uid) hold.EffectiveUid (taken_on (raise_calls raise) rest) refl tt refl
+      fit_open_scope (call.SetEuid uid) hold.EffectiveUid (taken_on (raise_calls raise) rest) (λ errno. refl) refl
       (fit_raises raise (hold.EffectiveUid ∷ holds) (covers_euid c))
 
   fit_egid : (egid euid : Option ℕ) (raise : Bool) (holds : List Hold) → Covers holds bare →
       FitOn asked seen (taken_on (egid_calls egid ++ euid_calls euid ++ raise_calls raise) rest) holds marks notes
   fit_egid None euid raise holds c = fit_euid euid raise holds c
   fit_egid (Some gid) euid raise holds c =
-      fit_open_scope (call.SetEgid gid) hold.EffectiveGid (taken_on (euid_calls euid ++ raise_calls raise) rest) refl
-      tt refl (fit_euid euid raise (hold.EffectiveGid ∷ holds) (covers_egid c))
+      fit_open_scope (call.SetEgid gid) hold.EffectiveGid (taken_on (euid_calls euid ++ raise_calls raise) rest)
+      (λ errno. refl) refl (fit_euid euid raise (hold.EffectiveGid ∷ holds) (covers_egid c))
 
   fit_steps : (groups egid euid : Option ℕ) (raise : Bool) (holds : List Hold) → Covers holds bare →
       FitOn asked seen
@@ -90,7 +92,7 @@ module _ {asked : Asking} {seen : List Seen} {bare : List Hold} {marks : List �
   fit_steps None egid euid raise holds c = fit_egid egid euid raise holds c
   fit_steps (Some group) egid euid raise holds c =
       fit_open_scope (call.SetGroups (group ∷ [])) hold.Groups
-      (taken_on (egid_calls egid ++ euid_calls euid ++ raise_calls raise) rest) refl tt refl
+      (taken_on (egid_calls egid ++ euid_calls euid ++ raise_calls raise) rest) (λ errno. refl) refl
       (fit_egid egid euid raise (hold.Groups ∷ holds) (covers_groups c))
 
   -- by whoever asks, where no id is forbidden
@@ -161,19 +163,43 @@ module _ (plan : Plan) (who : Context) (parent : ℕ) (name : List ℕ) (mode : 
   blocks agreed brought is bad =
       subst (λ (label : Option SecContext). IsBlockedLabel agreed label) (sym is) bad
 
+  -- what was made under the name is not what was found there
+  stale : (ids others : ObjIds) (fd found : Fd) (path : List Step) →
+      IsSeen path (Opened name (making_flags flags) mode fd) → IsSeen path (Ids fd ids) →
+      IsSeen path (Opened name by_path 0 found) → IsSeen path (Ids found others) → are_same ids others ≡ false →
+      IsStale name mode flags path
+  stale ids others fd found path making made finding leads differ = (
+    ids,
+    others,
+    opens_on path name (making_flags flags) mode fd ids making made,
+    opens_on path name by_path 0 found others finding leads,
+    differ,
+  )
+
+  -- the making call is heeded but where the name is there and the guest takes what is there
+  taken : (passed making : Bool) (errno : Errno) → passed ≡ false →
+      (if passed && making then None else Some errno) ≡ Some errno
+  taken true making errno e = absurd (cc)
+  taken false making errno e = refl
+
   -- what was made gets its context, is what its name leads to, and gets a handle by its number
   fit_new : {marks : List ℕ} {notes : Notes} (session : BegunSession) (row : ℕ) (dir fd : Fd) →
       notes.era ≡ Some session.era → notes.brought ≡ None →
-      FitOn asks (Agreed session.agreed ∷ []) (new_file plan session file dir fd answers)
+      FitOn asks (Opened name (making_flags flags) mode fd ∷ Agreed session.agreed ∷ [])
+      (new_file plan session file dir fd answers)
       (hold.Fd fd ∷ hold.Pin row (Some dir) ∷ []) marks notes
   fit_new session row dir fd e n =
       fit_stat fd _ (λ made.
       fit_labelled session fd dir name ext.secctx _
       ((hold.Fd fd, _, here, refl), tt) ((hold.Pin row (Some dir), _, there here, refl), tt)
-      (λ brought is bad path s. blocked_by what path session.agreed (blocks session.agreed brought is bad) s.each.1.0)
-      (fit_look_up plan session parent name _ (λ one. refl) e n (λ looked later l.
+      (λ brought is bad path s.
+      blocked_by asks path session.agreed (blocks session.agreed brought is bad) s.each.1.1.0)
+      (fit_look_up plan session parent name _ (λ one. refl) e n (λ looked found later l.
       fit_if_same made.ids looked.ids _
-      (λ differ path s. ((made.ids, looked.ids, s.each.1.0, s.each.0, differ), refl)) (λ same.
+      (λ differ path s. (
+        stale made.ids looked.ids fd found path s.each.1.1.1.0 s.each.1.1.0 s.each.1.0 s.each.0 differ,
+        refl,
+      )) (λ same.
       fit_draw_handle _ (λ handle.
       fit_take_under session.era looked.entry.inode fd _
       (fit_insert_given session handle session.era looked.entry.inode fd looked.ids _ (l.era ∙ e) refl l.given
@@ -186,7 +212,7 @@ module _ (plan : Plan) (who : Context) (parent : ℕ) (name : List ℕ) (mode : 
       FitOn asks (Agreed session.agreed ∷ []) (old_file plan seat session file answers)
       (hold.Pin row (Some dir) ∷ []) marks notes
   fit_old seat session row dir e n takes =
-      fit_look_up plan session parent name _ (λ one. refl) e n (λ looked later l.
+      fit_look_up plan session parent name _ (λ one. refl) e n (λ looked found later l.
       fit_open_num plan seat session looked.entry.inode kill flags _ (not_set (includes flags o_excl) takes)
       (λ one. refl) (l.era ∙ e) (λ handle last.
       fit_gives (answer.Created looked.entry handle (create_options plan.config)) (λ path. (refl, tt, tt))))
@@ -199,6 +225,7 @@ module _ (plan : Plan) (who : Context) (parent : ℕ) (name : List ℕ) (mode : 
   fit_making seat session row dir e n r =
       fit_as_asker _
       (λ holds c. fit_make_at holds [] dir name (making_flags flags) mode row parent _ _ _ c r
+      (λ errno no. taken _ _ errno no)
       (λ fd. fit_new session row dir fd e n) (fit_old seat session row dir e n))
       seat (asker_of plan session who ext.sup_gid) _ (covers_none row dir)
       (λ none. inr (forbidden_from _ _ _ _ none, refl))

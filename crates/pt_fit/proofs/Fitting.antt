@@ -1,15 +1,12 @@
 -- What is fit keeps the discipline, and on each branch a refusal has its cause and an answer is such as may be given.
-use Rattle.std.proofs.Common.{◌≡◌, inl, inr, ℕ, zero, suc, List, [], ◌∷◌, Option, None, Some, refl, sym, subst}
-use Rattle.std.proofs.Common.{length}
+use Rattle.std.proofs.Common.{◌≡◌, ◌∙◌, ap, inl, inr, ℕ, zero, suc, List, [], ◌∷◌, Option, None, Some, refl, sym}
+use Rattle.std.proofs.Common.{length, subst}
 use Rattle.pt_host.specs.Call.{Call}
-use Rattle.pt_host.specs.Sorts.{Sort, OpensWith, EndsFd, OfSeat, Plain, sort_of}
 use Rattle.pt_host.specs.declared.ids.Errno.{Errno}
 use Rattle.pt_host.specs.declared.ids.ObjIds.{ObjIds}
-use Rattle.pt_host.specs.declared.stat.Stat.{Stat}
-use Rattle.pt_host.specs.declared.op.KeptHostOp.TheVariants as call
+use Rattle.pt_host.specs.declared.flags.OpenFlags.{OpenFlags}
 use Rattle.pt_host.specs.declared.reply.HostReply.TheVariants as host
-use Rattle.pt_session.specs.Change.{Change}
-use Rattle.pt_session.specs.declared.event.KeptEvent.TheVariants as change
+use Rattle.pt_host.specs.declared.reply.HostValue.{HostValue}
 use Rattle.pt_session.specs.declared.reply.EventReply.TheVariants as event
 use Rattle.pt_session.specs.declared.reply.EventRefusal.{EventRefusal}
 use Rattle.pt_session.specs.declared.reply.EventRefusal.TheVariants as refused
@@ -33,8 +30,7 @@ use Rattle.pt_law.specs.Keeps.{uncovered, down_to, After, Keeps}
 use Rattle.pt_law.specs.Branch.{Along, AreOwn, AreOwn.{none, keep, skip}}
 use Rattle.pt_law.specs.Naming.{made}
 use Rattle.pt_law.proofs.Moving.{may_bring_none, told_of}
-use Rattle.pt_fit.specs.Cause.{Asking, SortCauses, StepCauses, EventCauses, SomeCauses, SomeTells, SomeTellsIds}
-use Rattle.pt_fit.specs.Cause.{TellsCause, TellsStat}
+use Rattle.pt_fit.specs.Cause.{Asking, OpensOn, Shows, SomeShows, TellsCause, WasTold}
 use Rattle.pt_fit.specs.Fit.{Fit, IsCausedLeaf, MayAnswer}
 
 after_map : (count : ℕ) (P Q : Notes → Type 0) (notes : Notes) → ((later : Notes) → P later → Q later) →
@@ -69,90 +65,78 @@ fit_keeps asked (Shuts passes rest) holds marks notes path f =
     (outer marks) later path (f later l)
 fit_keeps asked (Allocates rest) holds marks notes path f = fit_keeps asked rest holds marks notes path f
 
--- what the one causes or tells, the other causes or tells too
+-- what the one shows or tells, the other shows or tells too
 pub record Within (asked : Asking) (some all : List Step) : Type 0 where
-  pub causes : (errno : Errno) → SomeCauses asked.request some errno → SomeCauses asked.request all errno
-  pub tells : (stat : Stat) → SomeTells some stat → SomeTells all stat
+  pub shows : (errno : Errno) → SomeShows asked some errno → SomeShows asked all errno
+  pub tells : (made : Call) (told : HostValue) → WasTold made told some → WasTold made told all
 
 pub nothing_within : (asked : Asking) (all : List Step) → Within asked [] all
-nothing_within asked all = record { causes = λ errno no. absurd no; tells = λ stat no. absurd no }
+nothing_within asked all = record { shows = λ errno no. absurd no; tells = λ made told no. absurd no }
 
-none_called : (sort : Sort) (errno : Errno) → SortCauses sort NoCopy errno → ⊥
-none_called (OpensWith flags) errno s = s
-none_called (EndsFd fd) errno s = s
-none_called OfSeat errno s = s
-none_called Plain errno s = s
+uncopied : (asked : Asking) (deed : Deed) (errno : Errno) → Shows asked (Some deed) NoCopy errno → ⊥
+uncopied asked (Calls call) errno s = s
+uncopied asked (Changes made) errno s = s
 
-none_changed : (what : Request) (made : Change) (errno : Errno) → EventCauses what made NoCopy errno → ⊥
-none_changed what change.Begin errno s = s
-none_changed what made errno s = s
+-- what the deed shows, the step shows
+shows_of : (asked : Asking) (deed : Deed) (done : Option Deed) (told : ActReply) (errno : Errno) →
+    IsStepOf deed done told → Shows asked (Some deed) told errno → Shows asked done told errno
+shows_of asked deed (Some same) NoCopy errno i s = absurd (uncopied asked deed errno s)
+shows_of asked deed (Some same) told errno i s = subst (λ (d : Deed). Shows asked (Some d) told errno) (sym i) s
+shows_of asked deed None NoCopy errno i s = absurd (uncopied asked deed errno s)
+shows_of asked deed None told errno i s = absurd i
 
-uncopied : (what : Request) (deed : Deed) (errno : Errno) → StepCauses what (Some deed) NoCopy errno → ⊥
-uncopied what (Calls call) errno s = none_called (sort_of call) errno s.1
-uncopied what (Changes made) errno s = none_changed what made errno s
-
--- what the deed causes, the step causes
-causes_of : (what : Request) (deed : Deed) (done : Option Deed) (told : ActReply) (errno : Errno) →
-    IsStepOf deed done told → StepCauses what (Some deed) told errno → StepCauses what done told errno
-causes_of what deed (Some same) NoCopy errno i s = absurd (uncopied what deed errno s)
-causes_of what deed (Some same) told errno i s =
-    subst (λ (d : Deed). StepCauses what (Some d) told errno) (sym i) s
-causes_of what deed None NoCopy errno i s = absurd (uncopied what deed errno s)
-causes_of what deed None told errno i s = absurd i
-
-none_told : (asked : Call) (stat : Stat) → TellsStat (Some (Calls asked)) NoCopy stat → ⊥
-none_told (call.Stat fd) stat t = t
-none_told asked stat t = t
-
--- and what the deed tells, the step tells
-tells_of : (deed : Deed) (done : Option Deed) (told : ActReply) (stat : Stat) → IsStepOf deed done told →
-    TellsStat (Some deed) told stat → TellsStat done told stat
-tells_of (Calls asked) (Some same) NoCopy stat i t = absurd (none_told asked stat t)
-tells_of (Changes asked) (Some same) NoCopy stat i t = absurd t
-tells_of deed (Some same) told stat i t = subst (λ (d : Deed). TellsStat (Some d) told stat) (sym i) t
-tells_of (Calls asked) None NoCopy stat i t = absurd (none_told asked stat t)
-tells_of (Changes asked) None NoCopy stat i t = absurd t
-tells_of deed None told stat i t = absurd i
+-- and what the deed was told, the step was told
+tells_of : (deed : Deed) (done : Option Deed) (reply : ActReply) (call : Call) (told : HostValue) →
+    IsStepOf deed done reply → (Some deed ≡ Some (Calls call)) × (reply ≡ Host (host.Ok told)) →
+    (done ≡ Some (Calls call)) × (reply ≡ Host (host.Ok told))
+tells_of deed (Some same) NoCopy call told i t = absurd (cc (t.1))
+tells_of deed (Some same) reply call told i t = (ap (λ (d : Deed). Some d) i ∙ t.0, t.1)
+tells_of deed None NoCopy call told i t = absurd (cc (t.1))
+tells_of deed None reply call told i t = absurd i
 
 -- a step further
 further : (asked : Asking) (deed : Deed) (step : Step) (path own all : List Step) →
     IsStepOf deed step.deed step.reply → Within asked path all → Within asked (step ∷ own) all →
     Within asked (made deed step.reply ∷ path) all
-further asked deed step path own all i w v = record { causes = caused; tells = told }
+further asked deed step path own all i w v = record { shows = shown; tells = told }
   where
-    caused : (errno : Errno) → SomeCauses asked.request (made deed step.reply ∷ path) errno →
-        SomeCauses asked.request all errno
-    caused errno (inl s) = v.causes errno (inl (causes_of asked.request deed step.deed step.reply errno i s))
-    caused errno (inr s) = w.causes errno s
+    shown : (errno : Errno) → SomeShows asked (made deed step.reply ∷ path) errno → SomeShows asked all errno
+    shown errno (inl s) = v.shows errno (inl (shows_of asked deed step.deed step.reply errno i s))
+    shown errno (inr s) = w.shows errno s
 
-    told : (stat : Stat) → SomeTells (made deed step.reply ∷ path) stat → SomeTells all stat
-    told stat (inl t) = v.tells stat (inl (tells_of deed step.deed step.reply stat i t))
-    told stat (inr t) = w.tells stat t
+    told : (call : Call) (value : HostValue) → WasTold call value (made deed step.reply ∷ path) →
+        WasTold call value all
+    told call value (inl t) = v.tells call value (inl (tells_of deed step.deed step.reply call value i t))
+    told call value (inr t) = w.tells call value t
 
 -- without its first step
 rest_within : (asked : Asking) (step : Step) (own all : List Step) → Within asked (step ∷ own) all →
     Within asked own all
 rest_within asked step own all v =
-    record { causes = λ errno s. v.causes errno (inr s); tells = λ stat t. v.tells stat (inr t) }
+    record { shows = λ errno s. v.shows errno (inr s); tells = λ call told t. v.tells call told (inr t) }
 
-ids_within : (path all : List Step) (ids : ObjIds) →
-    ((stat : Stat) → SomeTells path stat → SomeTells all stat) → SomeTellsIds path ids → SomeTellsIds all ids
-ids_within path all ids w t = (t.0, w t.0 t.1, t.2)
+opens_within : (asked : Asking) (path all : List Step) (name : List ℕ) (flags : OpenFlags) (mode : ℕ)
+    (ids : ObjIds) → Within asked path all → OpensOn name flags mode ids path → OpensOn name flags mode ids all
+opens_within asked path all name flags mode ids w (dir, fd, stat, opened, looked, are) =
+    (dir, fd, stat, w.tells _ _ opened, w.tells _ _ looked, are)
 
-told_within : (plan : Plan) (who : Context) (what : Request) (path all : List Step) (errno : Errno) →
-    ((stat : Stat) → SomeTells path stat → SomeTells all stat) → TellsCause plan who what path errno →
+told_within : (asked : Asking) (plan : Plan) (who : Context) (what : Request) (path all : List Step)
+    (errno : Errno) → Within asked path all → TellsCause plan who what path errno →
     TellsCause plan who what all errno
-told_within plan who (request.Create parent name mode kill flags umask ext) path all errno w (two, e) =
-    ((two.0, two.1, ids_within path all two.0 w two.2, ids_within path all two.1 w two.3, two.4), e)
-told_within plan who (request.Access inode mask) path all errno w (one, e) = ((one.0, w one.0 one.1, one.2), e)
-told_within plan who what path all errno w c = absurd c
+told_within asked plan who (request.Create parent name mode kill flags umask ext) path all errno w
+    ((made, found, making, finding, differ), e) =
+    let opens = opens_within asked path all in
+    ((made, found, opens _ _ _ _ w making, opens _ _ _ _ w finding, differ), e)
+told_within asked plan who (request.Access inode mask) path all errno w ((fd, stat, looked, denied), e) =
+    ((fd, stat, w.tells _ _ looked, denied), e)
+told_within asked plan who what path all errno w c = absurd c
 
 caused_within : (asked : Asking) (last : Answer) (path all : List Step) → Within asked path all →
     IsCausedLeaf asked path last → IsCausedLeaf asked all last
 caused_within asked (answer.Refused errno) path all w (inl own) = inl own
-caused_within asked (answer.Refused errno) path all w (inr (inl made)) = inr (inl (w.causes errno made))
+caused_within asked (answer.Refused errno) path all w (inr (inl made)) = inr (inl (w.shows errno made))
 caused_within asked (answer.Refused errno) path all w (inr (inr two)) =
-    inr (inr (told_within asked.plan asked.who asked.request path all errno w.tells two))
+    inr (inr (told_within asked asked.plan asked.who asked.request path all errno w two))
 caused_within asked last path all w c = tt
 
 -- what a refusal answers is no entry
@@ -207,24 +191,25 @@ fit_along asked (Shuts passes rest) holds marks notes path own all last n f t w 
 fit_along asked (Allocates rest) holds marks notes path own all last n f t w v a =
     fit_along asked rest holds marks notes path own all last n f t w v a
 
-causes_among : (what : Request) (own all : List Step) (errno : Errno) → AreOwn own all → SomeCauses what own errno →
-    SomeCauses what all errno
-causes_among what _ _ errno none s = s
-causes_among what _ _ errno (keep o) (inl s) = inl s
-causes_among what _ _ errno (keep {own = own} {all = all} o) (inr s) = inr (causes_among what own all errno o s)
-causes_among what own _ errno (skip {all = all} g o) s = inr (causes_among what own all errno o s)
+shows_among : (asked : Asking) (own all : List Step) (errno : Errno) → AreOwn own all → SomeShows asked own errno →
+    SomeShows asked all errno
+shows_among asked _ _ errno none s = s
+shows_among asked _ _ errno (keep o) (inl s) = inl s
+shows_among asked _ _ errno (keep {own = own} {all = all} o) (inr s) = inr (shows_among asked own all errno o s)
+shows_among asked own _ errno (skip {all = all} g o) s = inr (shows_among asked own all errno o s)
 
-tells_among : (own all : List Step) (stat : Stat) → AreOwn own all → SomeTells own stat → SomeTells all stat
-tells_among _ _ stat none t = t
-tells_among _ _ stat (keep o) (inl t) = inl t
-tells_among _ _ stat (keep {own = own} {all = all} o) (inr t) = inr (tells_among own all stat o t)
-tells_among own _ stat (skip {all = all} g o) t = inr (tells_among own all stat o t)
+tells_among : (own all : List Step) (call : Call) (told : HostValue) → AreOwn own all → WasTold call told own →
+    WasTold call told all
+tells_among _ _ call told none t = t
+tells_among _ _ call told (keep o) (inl t) = inl t
+tells_among _ _ call told (keep {own = own} {all = all} o) (inr t) = inr (tells_among own all call told o t)
+tells_among own _ call told (skip {all = all} g o) t = inr (tells_among own all call told o t)
 
 -- the steps of a branch are among all
 pub own_within : (asked : Asking) (own all : List Step) → AreOwn own all → Within asked own all
 own_within asked own all o = record {
-  causes = λ errno s. causes_among asked.request own all errno o s;
-  tells = λ stat t. tells_among own all stat o t;
+  shows = λ errno s. shows_among asked own all errno o s;
+  tells = λ call told t. tells_among own all call told o t;
 }
 
 pub own_told : (own all : List Step) → AreOwn own all → AllMayBeTold all → AllMayBeTold own

@@ -36,7 +36,8 @@ use Rattle.pt_fit.proofs.Parts.{FitOn, GoesAfter, fit_begin, fit_brackets, fit_c
 use Rattle.pt_fit.proofs.Parts.{fit_file_of, fit_insert, fit_insert_handle, fit_insert_root, fit_open_at}
 use Rattle.pt_fit.proofs.Parts.{fit_open_root, fit_reopen, fit_resolve, fit_resolve_over, fit_shuts}
 use Rattle.pt_fit.proofs.Parts.{fit_shuts_passing, fit_stat, fit_take_fd, noting, resolution}
-use Rattle.pt_fit.proofs.Parts.{still, Ids, IsToldLast, Seen}
+use Rattle.pt_fit.proofs.Parts.{still, Ids, IsToldLast, Opened, Seen}
+use Rattle.pt_fit.proofs.Refused.{path_heeded}
 use Rattle.pt_fit.proofs.Scopes.{fit_bares, fit_without_fsetid}
 use Rattle.pt_fit.proofs.Telling.{told_here, told_past}
 
@@ -120,23 +121,25 @@ told_lasts : (notes later : Notes) (fd : Fd) (ids : ObjIds) → Lasts notes late
 told_lasts notes later fd ids l is = (ap (λ (told : List Told). told_of told fd) l.3 ∙ is.0, l.4)
 
 -- A lookup gives an entry, whose count is the last hold.
-abbrev pub Looks : Asking → List Seen → BegunSession → (Looked → RequestTree) → List Hold → List ℕ → Notes → Type 0
-Looks asked seen session next holds marks notes =
-    (looked : Looked) (later : Notes) → WasGiven notes looked.entry.inode looked.ids later →
-    FitOn asked (Ids looked.ids ∷ seen) (next looked) (hold.Count session.era looked.entry.inode ∷ holds) marks later
+abbrev pub Looks : Asking → List Seen → BegunSession → List ℕ → (Looked → RequestTree) → List Hold → List ℕ → Notes →
+    Type 0
+Looks asked seen session name next holds marks notes =
+    (looked : Looked) (found : Fd) (later : Notes) → WasGiven notes looked.entry.inode looked.ids later →
+    FitOn asked (Ids found looked.ids ∷ Opened name by_path 0 found ∷ seen) (next looked)
+    (hold.Count session.era looked.entry.inode ∷ holds) marks later
 
 pub fit_look_up : {asked : Asking} {seen : List Seen} {holds : List Hold} {marks : List ℕ} {notes : Notes}
     (plan : Plan) (session : BegunSession) (parent : ℕ) (name : List ℕ) (next : Looked → RequestTree) → IsBare holds →
-    notes.era ≡ Some session.era → notes.brought ≡ None → Looks asked seen session next holds marks notes →
+    notes.era ≡ Some session.era → notes.brought ≡ None → Looks asked seen session name next holds marks notes →
     FitOn asked seen (look_up plan session parent name next) holds marks notes
 fit_look_up {asked = asked} {holds = holds} {notes = notes} plan session parent name next b e n f =
     fit_brackets _ (fit_resolve parent _ b (λ row. after_any_step (fit_file_of row.row row.form _ (λ dir.
-    fit_open_at dir name by_path row.row parent _ refl (λ fd.
+    fit_open_at dir name by_path row.row parent _ refl (path_heeded asked dir name) (λ fd.
     fit_stat fd _ (λ told.
     fit_numbered session fd told _ row.row dir e refl (told_here fd told.ids (newly fd notes).told, n)
     (λ number front later l.
     fit_shuts_passing _ (hold.Count session.era number) front holds (λ last m.
-    f (looked_of plan session row.ids told (File fd) number) last (record {
+    f (looked_of plan session row.ids told (File fd) number) fd last (record {
       era = m.0 ∙ l.era;
       given = m.2 ∙ l.given;
       told = λ other is.
@@ -157,7 +160,7 @@ root_lasts false fd notes = (refl, refl)
 pub fit_root_open : {asked : Asking} {seen : List Seen} {holds : List Hold} {marks : List ℕ} {notes : Notes}
     (plan : Plan) (session : BegunSession) (agreed : Option Negotiated) (next : RequestTree) → IsBare holds →
     notes.era ≡ Some session.era → notes.rooted ≡ false → notes.brought ≡ None →
-    ((told : Stat) (later : Notes) → FitOn asked (Ids told.ids ∷ seen) next holds marks later) →
+    ((fd : Fd) (told : Stat) (later : Notes) → FitOn asked (Ids fd told.ids ∷ seen) next holds marks later) →
     FitOn asked seen (root_open plan session agreed next) holds marks notes
 fit_root_open {notes = notes} plan session agreed next b e r n f =
     fit_open_root _ _ _ b (λ fd.
@@ -165,7 +168,7 @@ fit_root_open {notes = notes} plan session agreed next b e r n f =
     let lasts = root_lasts notes.rooted fd (newly fd notes) in
     fit_take_fd fd _
     (fit_insert_root session fd told agreed next (lasts.0 ∙ e) (first_root fd (newly fd notes) r)
-    (told_here fd told.ids _, lasts.1 ∙ n) (f told _))))
+    (told_here fd told.ids _, lasts.1 ∙ n) (f fd told _))))
 
 -- what is no regular file and no directory is not opened
 fit_open_form : {asked : Asking} {seen : List Seen} {marks : List ℕ} {notes : Notes} (holds : List Hold)

@@ -20,7 +20,7 @@ use Rattle.pt_req.specs.declared.begun.BegunSession.{BegunSession}
 use Rattle.pt_law.specs.Discipline.{KnowsAll, Notes}
 use Rattle.pt_law.specs.Keeps.{unscoped}
 use Rattle.pt_law.specs.Naming.{made}
-use Rattle.pt_fit.specs.Cause.{Asking, SomeCauses}
+use Rattle.pt_fit.specs.Cause.{Asking, SomeShows}
 use Rattle.pt_fit.specs.Fit.{Fit}
 use Rattle.pt_fit.proofs.Parts.{FitOn, Seen, Told, still}
 
@@ -28,7 +28,7 @@ use Rattle.pt_fit.proofs.Parts.{FitOn, Seen, Told, still}
 -- it; where that call could not be copied memory ran out.
 module _ (asked : Asking) (holds : List Hold) (marks : List ℕ) (notes : Notes) (dir : Fd) (name : List ℕ)
     (k : KnowsAll (unscoped holds) (dir ∷ [])) (path : List Step) where
-  fit_undone : (errno : Errno) → SomeCauses asked.request path errno →
+  fit_undone : (errno : Errno) → SomeShows asked path errno →
       Fit asked (undone (call.Unlink dir name) (answer.Refused errno)) holds marks notes path
   fit_undone errno s = (
     (k, tt),
@@ -53,7 +53,7 @@ pub fit_labelled : {asked : Asking} {seen : List Seen} {holds : List Hold} {mark
     (session : BegunSession) (fd dir : Fd) (name : List ℕ) (label : Option SecContext) (next : RequestTree) →
     KnowsAll (unscoped holds) (fd ∷ []) → KnowsAll (unscoped holds) (dir ∷ []) →
     ((brought : SecContext) → label ≡ Some brought → is_blocked session.agreed brought.name ≡ true →
-    (path : List Step) → Told seen path → SomeCauses asked.request path eopnotsupp) →
+    (path : List Step) → Told seen path → SomeShows asked path eopnotsupp) →
     FitOn asked seen next holds marks notes →
     FitOn asked seen (labelled session fd (call.Unlink dir name) label next) holds marks notes
 fit_labelled session fd dir name None next k l c f = f
@@ -77,10 +77,10 @@ fit_labelled {asked = asked} {seen = seen} {holds = holds} {marks = marks} {note
           | Host (host.Ok told) ↦ λ m. f.on _ (still s)
           | Host (host.Refused errno) ↦ λ m.
               fit_undone asked holds marks notes dir name l (labelling (Host (host.Refused errno)) ∷ path) errno
-              (inl (refl, refl))
+              (inl refl)
           | Host (host.Fault errno) ↦ λ m.
               fit_undone asked holds marks notes dir name l (labelling (Host (host.Fault errno)) ∷ path) errno
-              (inl (refl, refl))
+              (inl refl)
           | Host host.NoMemory ↦
               λ m. fit_ran_out asked holds marks notes dir name l (labelling (Host host.NoMemory) ∷ path)
           | Event told ↦ λ m. absurd m

@@ -34,5 +34,6 @@ pub mod Seating
 pub mod ExampleJob
 pub mod ExampleRace
 pub mod ExampleOrigins
+pub mod ExampleCauses
 pub mod ExampleEntered
 pub mod ExampleHandle

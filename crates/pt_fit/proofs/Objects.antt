@@ -3,7 +3,6 @@ use Rattle.std.proofs.Common.{◌≡◌, ◌++◌, ◌∷◌, ◌∙◌, [], if�
 use Rattle.std.proofs.Common.{Option, Some, length, refl, subst, sym}
 use Rattle.pt_host.specs.Call.{Call}
 use Rattle.pt_host.specs.Errno.{einval, eopnotsupp, eperm}
-use Rattle.pt_host.specs.Sorts.{sort_of}
 use Rattle.pt_host.specs.Words.{Takes.{here}}
 use Rattle.pt_host.specs.declared.ids.Errno.{Errno}
 use Rattle.pt_host.specs.declared.ids.Fd.{Fd}
@@ -41,7 +40,7 @@ use Rattle.pt_law.specs.Discipline.{KnowsAll, Notes, blank}
 use Rattle.pt_law.specs.Keeps.{Lasts, unscoped}
 use Rattle.pt_law.specs.Naming.{made as step_made}
 use Rattle.pt_law.specs.Told.{MayBeTold}
-use Rattle.pt_fit.specs.Cause.{Asking, BlocksLabel, IsBlockedLabel, OwnCause, SomeCauses, asking, is_passed_over}
+use Rattle.pt_fit.specs.Cause.{Asking, BlocksLabel, IsBlockedLabel, OwnCause, SomeShows, asking, caused}
 use Rattle.pt_fit.specs.Fit.{Fit, MayAnswer}
 use Rattle.pt_fit.proofs.Creating.{covers_none, fit_as_asker}
 use Rattle.pt_fit.proofs.Holds.{down_over, nothing_bare}
@@ -49,7 +48,7 @@ use Rattle.pt_fit.proofs.Joined.{after_any_step, fit_gives, fit_look_up}
 use Rattle.pt_fit.proofs.Parts.{FitOn, Seen, Told, blocked_by, fit_begin, fit_checked, fit_file_of}
 use Rattle.pt_fit.proofs.Parts.{fit_resolve, still}
 use Rattle.pt_fit.proofs.Scopes.{Covers}
-use Rattle.pt_fit.proofs.Refused.{IsHeededCall, refused_by}
+use Rattle.pt_fit.proofs.Refused.{path_heeded, refused_by}
 
 -- The object is made, and the scopes end.
 
@@ -62,22 +61,31 @@ module _ {asked : Asking} {seen : List Seen} {marks : List ℕ} {notes : Notes} 
 
   -- what follows the call
   fit_told : (making : Call) (path : List Step) (told : ActReply) → Told seen path →
-      is_passed_over asked.request making ≡ false → IsHeededCall (sort_of making) → MayBeTold (Calls making) told →
+      ((errno : Errno) → caused asked making errno ≡ Some errno) → MayBeTold (Calls making) told →
       Fit asked (Bares (on_set next told)) holds marks notes (step_made (Calls making) told ∷ path)
-  fit_told making path (Host (host.Ok got)) s heeded is m =
+  fit_told making path (Host (host.Ok got)) s heeded m =
       subst (λ (z : List Hold). Fit asked next z marks notes (step_made (Calls making) (Host (host.Ok got)) ∷ path))
       (sym c.uncovers) (f.on _ (still s))
-  fit_told making path told s heeded is m = refused_by asked (Calls making) told holds path (heeded, is) m (λ no. no)
+  fit_told making path told s heeded m = refused_by asked (Calls making) told holds path heeded m (λ no. no)
 
   fit_make : (what : Made) → FitOn asked seen (make (making_call what dir name) next) holds marks notes
   fit_make (made.Directory mode) = record {
-    on = λ path s. ((knows_dir, tt), λ told m. fit_told (call.MakeDir dir name mode) path told s refl tt m);
+    on = λ path s. (
+      (knows_dir, tt),
+      λ told m. fit_told (call.MakeDir dir name mode) path told s (λ errno. refl) m,
+    );
   }
   fit_make (made.Node mode rdev) = record {
-    on = λ path s. ((knows_dir, tt), λ told m. fit_told (call.MakeNode dir name mode rdev) path told s refl tt m);
+    on = λ path s. (
+      (knows_dir, tt),
+      λ told m. fit_told (call.MakeNode dir name mode rdev) path told s (λ errno. refl) m,
+    );
   }
   fit_make (made.Link target) = record {
-    on = λ path s. ((knows_dir, tt), λ told m. fit_told (call.SymLink dir name target) path told s refl tt m);
+    on = λ path s. (
+      (knows_dir, tt),
+      λ told m. fit_told (call.SymLink dir name target) path told s (λ errno. refl) m,
+    );
   }
 
 -- Its name goes again, and so the request is answered.
@@ -113,7 +121,7 @@ module _ (asked : Asking) (holds : List Hold) (marks : List ℕ) (dir : Fd) (nam
   )
 
   fit_refused : (what : Made) (errno : Errno) (notes : Notes) (path : List Step) →
-      SomeCauses asked.request path errno →
+      SomeShows asked path errno →
       Fit asked (undone (unmaking_call what dir name) (answer.Refused errno)) holds marks notes path
   fit_refused what errno notes path s =
       fit_undone what (answer.Refused errno) notes path (λ step. (tt, inr (inl (inr s)), tt))
@@ -146,7 +154,7 @@ inner row dir marks = length (pinned row dir) ∷ marks
 
 module _ (asked : Asking) (marks : List ℕ) (row : ℕ) (dir : Fd) (name : List ℕ) (what : Made) where
   refused_so : (front : List Hold) (errno : Errno) (these : Notes) (path : List Step) →
-      SomeCauses asked.request path errno →
+      SomeShows asked path errno →
       Fit asked (shut_by what dir name (answer.Refused errno)) (front ++ pinned row dir) (inner row dir marks) these
       path
   refused_so front errno these path s =
@@ -174,9 +182,9 @@ module _ (asked : Asking) (seen : List Seen) (marks : List ℕ) (notes : Notes) 
         | Host (host.Ok told) ↦ λ m. shut_so asked next own (pinned row dir) marks these
             (labelling (Host (host.Ok told)) ∷ path) (λ later l. (f later (l.0 ∙ same) l.4).on _ (still s))
         | Host (host.Refused errno) ↦ λ m. refused_so asked marks row dir name what own errno these
-            (labelling (Host (host.Refused errno)) ∷ path) (inl (refl, refl))
+            (labelling (Host (host.Refused errno)) ∷ path) (inl refl)
         | Host (host.Fault errno) ↦ λ m. refused_so asked marks row dir name what own errno these
-            (labelling (Host (host.Fault errno)) ∷ path) (inl (refl, refl))
+            (labelling (Host (host.Fault errno)) ∷ path) (inl refl)
         | Host host.NoMemory ↦
             λ m. out_so asked marks row dir name what own these (labelling (Host host.NoMemory) ∷ path)
         | Event told ↦ λ m. absurd m
@@ -202,14 +210,14 @@ module _ (asked : Asking) (seen : List Seen) (marks : List ℕ) (notes : Notes) 
       elim [
         | Host (host.Ok (value.Fd fd)) ↦ λ m. (fit_set fd attribute bytes _ refl).on _ (still s)
         | Host (host.Refused errno) ↦ λ m. refused_so asked marks row dir name what [] errno notes
-            (opening (Host (host.Refused errno)) ∷ path) (inl (refl, refl))
+            (opening (Host (host.Refused errno)) ∷ path) (inl (path_heeded asked dir name errno))
         | Host (host.Fault errno) ↦ λ m. refused_so asked marks row dir name what [] errno notes
-            (opening (Host (host.Fault errno)) ∷ path) (inl (refl, refl))
+            (opening (Host (host.Fault errno)) ∷ path) (inl (path_heeded asked dir name errno))
         | Host host.NoMemory ↦
             λ m. out_so asked marks row dir name what [] notes (opening (Host host.NoMemory) ∷ path)
         | NoCopy ↦ λ m. out_so asked marks row dir name what [] notes (opening NoCopy ∷ path)
         | told ↦ λ m. refused_by asked (Calls (call.OpenAt dir name by_path 0)) told (pinned row dir) path
-            (refl, tt) m (λ no. no)
+            (path_heeded asked dir name) m (λ no. no)
       ],
     );
   }
@@ -220,7 +228,7 @@ module _ (asked : Asking) (seen : List Seen) (marks : List ℕ) (notes : Notes) 
   fit_labelled_at : (label : Option SecContext) → notes.resolved ≡ Some (record { number = number; row = row }) →
       notes.brought ≡ None →
       ((brought : SecContext) → label ≡ Some brought → is_blocked session.agreed brought.name ≡ true →
-      (path : List Step) → Told seen path → SomeCauses asked.request path eopnotsupp) →
+      (path : List Step) → Told seen path → SomeShows asked path eopnotsupp) →
       FitOn asked seen (labelled_at session dir name (unmaking_call what dir name) label next) (pinned row dir) marks
       notes
   fit_labelled_at None r n c = f notes refl n
@@ -254,10 +262,11 @@ fit_named plan seat who what object misnamed mistargeted forbids blocks answers 
     fit_as_asker _
     (λ holds c. fit_make holds [] row.row dir object.name _ c
     (fit_labelled_at _ _ _ _ session row.row object.parent dir object.name object.made _
-    (λ later same none. fit_look_up plan session object.parent object.name _ (λ one. refl) same none (λ looked last l.
+    (λ later same none.
+    fit_look_up plan session object.parent object.name _ (λ one. refl) same none (λ looked found last l.
     fit_gives (answer.Entry looked.entry) (λ path. (refl, tt, answers looked.entry))))
     object.secctx refl refl
-    (λ brought is bad path s. blocked_by what path session.agreed
+    (λ brought is bad path s. blocked_by (asking plan who what) path session.agreed
     (blocks session.agreed (subst (λ (label : Option SecContext). IsBlockedLabel session.agreed label) (sym is) bad))
     s.each.0))
     object.made)

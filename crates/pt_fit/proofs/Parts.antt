@@ -4,6 +4,7 @@ use Rattle.std.proofs.Common.{◌⊎◌, sym}
 use Rattle.std.proofs.Common.{◌∙◌, subst, if◌then◌else◌, length}
 use Rattle.pt_host.specs.Words.{Each, Takes.{here, there}}
 use Rattle.pt_host.specs.Errno.{einval, eopnotsupp}
+use Rattle.pt_host.specs.declared.ids.Errno.{Errno}
 use Rattle.pt_host.specs.declared.ids.Fd.{Fd}
 use Rattle.pt_host.specs.declared.ids.ObjIds.{ObjIds}
 use Rattle.pt_host.specs.declared.stat.Stat.{Stat}
@@ -17,7 +18,6 @@ use Rattle.pt_session.specs.declared.form.Negotiated.{Negotiated}
 use Rattle.pt_session.specs.declared.event.KeptEvent.TheVariants as change
 use Rattle.pt_session.specs.declared.reply.EventReply.TheVariants as event
 use Rattle.pt_iface.specs.declared.answer.Answer.TheVariants as answer
-use Rattle.pt_iface.specs.declared.request.Request.{Request}
 use Rattle.pt_frame.specs.Deed.{Deed, Calls, Changes, Step}
 use Rattle.pt_frame.specs.Held.{row_fd, laid}
 use Rattle.pt_frame.specs.Tree.{RequestTree, Gives, Brackets, Shuts}
@@ -35,14 +35,15 @@ use Rattle.pt_law.specs.Discipline.{at_job, newly, told_as, told_of}
 use Rattle.pt_law.specs.Keeps.{Lasts, LiesOnSlot.{here as lies, there as under}, down_to}
 use Rattle.pt_law.specs.Naming.{made}
 use Rattle.pt_law.proofs.Sounds.{after_any}
-use Rattle.pt_fit.specs.Cause.{Asking, BlocksLabel, OwnCause, SomeCauses, SomeTellsIds, StepCauses}
+use Rattle.pt_fit.specs.Cause.{Asking, BlocksLabel, OpensOn, OwnCause, Shows, SomeShows, WasTold, caused}
 use Rattle.pt_fit.specs.Fit.{Fit}
 use Rattle.pt_fit.proofs.Holds.{IsBare, handed_top, down_over, over, laid_over, unscoped_over}
 use Rattle.pt_fit.proofs.Refused.{refused_by}
 
--- what was told: ids of an object, or what was agreed on with the guest
+-- what was told: a name was opened so, a descriptor is open on what has these ids, or this was agreed on
 pub data Seen : Type 0 where
-  Ids : ObjIds → Seen
+  Opened : List ℕ → OpenFlags → ℕ → Fd → Seen
+  Ids : Fd → ObjIds → Seen
   Agreed : Negotiated → Seen
 
 -- a step by which a job began told that this was agreed on
@@ -52,29 +53,46 @@ SomeBegins (step ∷ path) agreed =
     ((step.deed ≡ Some (Changes change.Begin)) × ((era : ℕ) × (step.reply ≡ Event (event.Began era agreed))))
     ⊎ SomeBegins path agreed
 
-abbrev pub WasTold : List Step → Seen → Type 0
-WasTold path (Ids ids) = SomeTellsIds path ids
-WasTold path (Agreed agreed) = SomeBegins path agreed
+abbrev pub IsSeen : List Step → Seen → Type 0
+IsSeen path (Opened name flags mode fd) =
+    (dir : Fd) × WasTold (call.OpenAt dir name flags mode) (value.Fd fd) path
+IsSeen path (Ids fd ids) = (stat : Stat) × WasTold (call.Stat fd) (value.Stat stat) path × (stat.ids ≡ ids)
+IsSeen path (Agreed agreed) = SomeBegins path agreed
+
+-- what was opened so is open on that
+pub opens_on : (path : List Step) (name : List ℕ) (flags : OpenFlags) (mode : ℕ) (fd : Fd) (ids : ObjIds) →
+    IsSeen path (Opened name flags mode fd) → IsSeen path (Ids fd ids) → OpensOn name flags mode ids path
+opens_on path name flags mode fd ids (dir, opened) (stat, looked, are) = (dir, fd, stat, opened, looked, are)
 
 -- on this path that was told
 pub record Told (seen : List Seen) (path : List Step) : Type 0 where
-  pub each : Each (WasTold path) seen
+  pub each : Each (IsSeen path) seen
 
-told_still : (step : Step) (path : List Step) (seen : List Seen) → Each (WasTold path) seen →
-    Each (WasTold (step ∷ path)) seen
+told_still : (step : Step) (path : List Step) (seen : List Seen) → Each (IsSeen path) seen →
+    Each (IsSeen (step ∷ path)) seen
 told_still step path [] t = tt
-told_still step path (Ids ids ∷ seen) t = ((t.0.0, inr t.0.1, t.0.2), told_still step path seen t.1)
+told_still step path (Opened name flags mode fd ∷ seen) t = ((t.0.0, inr t.0.1), told_still step path seen t.1)
+told_still step path (Ids fd ids ∷ seen) t = ((t.0.0, inr t.0.1, t.0.2), told_still step path seen t.1)
 told_still step path (Agreed agreed ∷ seen) t = (inr t.0, told_still step path seen t.1)
 
 pub still : {step : Step} {seen : List Seen} {path : List Step} → Told seen path → Told seen (step ∷ path)
 still {step = step} {seen = seen} {path = path} t = record { each = told_still step path seen t.each }
 
+-- a name was opened
+pub opened_so : {seen : List Seen} {path : List Step} (dir : Fd) (name : List ℕ) (flags : OpenFlags) (mode : ℕ)
+    (fd : Fd) → Told seen path →
+    Told (Opened name flags mode fd ∷ seen)
+    (made (Calls (call.OpenAt dir name flags mode)) (Host (host.Ok (value.Fd fd))) ∷ path)
+opened_so {seen = seen} {path = path} dir name flags mode fd t =
+    let step = made (Calls (call.OpenAt dir name flags mode)) (Host (host.Ok (value.Fd fd))) in
+    record { each = ((dir, inl (refl, refl)), told_still step path seen t.each) }
+
 -- a descriptor was looked at
 looked_at : {seen : List Seen} {path : List Step} (fd : Fd) (told : Stat) → Told seen path →
-    Told (Ids told.ids ∷ seen) (made (Calls (call.Stat fd)) (Host (host.Ok (value.Stat told))) ∷ path)
+    Told (Ids fd told.ids ∷ seen) (made (Calls (call.Stat fd)) (Host (host.Ok (value.Stat told))) ∷ path)
 looked_at {seen = seen} {path = path} fd told t =
     let step = made (Calls (call.Stat fd)) (Host (host.Ok (value.Stat told))) in
-    record { each = ((told, inl refl, refl), told_still step path seen t.each) }
+    record { each = ((told, inl (refl, refl), refl), told_still step path seen t.each) }
 
 -- it began
 began_with : {seen : List Seen} {path : List Step} (era : ℕ) (agreed : Negotiated) → Told seen path →
@@ -84,14 +102,14 @@ began_with {seen = seen} {path = path} era agreed t =
     record { each = (inl (refl, (era, refl)), told_still step path seen t.each) }
 
 -- what was agreed on so is the cause that a context is refused
-pub blocked_by : (what : Request) (path : List Step) (agreed : Negotiated) → BlocksLabel agreed what →
-    SomeBegins path agreed → SomeCauses what path eopnotsupp
-blocked_by what [] agreed blocks s = absurd s
-blocked_by what (step ∷ path) agreed blocks (inl begun) =
-    inl (subst (λ (deed : Option Deed). StepCauses what deed step.reply eopnotsupp) (sym begun.0)
-    (subst (λ (told : ActReply). StepCauses what (Some (Changes change.Begin)) told eopnotsupp) (sym begun.1.1)
+pub blocked_by : (asked : Asking) (path : List Step) (agreed : Negotiated) → BlocksLabel agreed asked.request →
+    SomeBegins path agreed → SomeShows asked path eopnotsupp
+blocked_by asked [] agreed blocks s = absurd s
+blocked_by asked (step ∷ path) agreed blocks (inl begun) =
+    inl (subst (λ (deed : Option Deed). Shows asked deed step.reply eopnotsupp) (sym begun.0)
+    (subst (λ (told : ActReply). Shows asked (Some (Changes change.Begin)) told eopnotsupp) (sym begun.1.1)
     (blocks, refl)))
-blocked_by what (step ∷ path) agreed blocks (inr later) = inr (blocked_by what path agreed blocks later)
+blocked_by asked (step ∷ path) agreed blocks (inr later) = inr (blocked_by asked path agreed blocks later)
 
 -- fit whatever the path to it was, if this was told on it
 pub record FitOn
@@ -215,7 +233,7 @@ fit_open_root {asked = asked} {holds = holds} dir flags next b f = record {
     elim [
       | Host (host.Ok (value.Fd fd)) ↦
           λ m. held_as asked (next fd) _ _ _ _ _ (b (hold.Fd fd)) ((f fd).on _ (still s))
-      | told ↦ λ m. refused_by asked (Calls (call.OpenRoot dir flags)) told holds path (refl, tt) m (λ no. no)
+      | told ↦ λ m. refused_by asked (Calls (call.OpenRoot dir flags)) told holds path (λ errno. refl) m (λ no. no)
     ],
   );
 }
@@ -232,15 +250,17 @@ pub fit_open_at : {asked : Asking} {seen : List Seen} {holds : List Hold} {marks
     {notes : Notes} (dir : Fd) (name : List ℕ)
     (flags : OpenFlags) (row number : ℕ) (next : Fd → RequestTree) →
     notes.resolved ≡ Some (record { number = number; row = row }) →
-    ((fd : Fd) → FitOn asked seen (next fd) (hold.Fd fd ∷ hold.Pin row (Some dir) ∷ holds) marks
+    ((errno : Errno) → caused asked (call.OpenAt dir name flags 0) errno ≡ Some errno) →
+    ((fd : Fd) → FitOn asked (Opened name flags 0 fd ∷ seen) (next fd)
+    (hold.Fd fd ∷ hold.Pin row (Some dir) ∷ holds) marks
     (record (newly fd notes) { latest = found_by flags fd })) →
     FitOn asked seen (open_at dir name flags next) (hold.Pin row (Some dir) ∷ holds) marks notes
-fit_open_at {asked = asked} {holds = holds} dir name flags row number next r f = record {
+fit_open_at {asked = asked} {holds = holds} dir name flags row number next r h f = record {
   on = λ path s. (
     (((hold.Pin row (Some dir), _, here, refl), tt), (record { number = number; row = row }, _, r, here)),
     elim [
-      | Host (host.Ok (value.Fd fd)) ↦ λ m. (f fd).on _ (still s)
-      | told ↦ λ m. refused_by asked (Calls (call.OpenAt dir name flags 0)) told holds path (refl, tt) m (λ no. no)
+      | Host (host.Ok (value.Fd fd)) ↦ λ m. (f fd).on _ (opened_so dir name flags 0 fd s)
+      | told ↦ λ m. refused_by asked (Calls (call.OpenAt dir name flags 0)) told holds path h m (λ no. no)
     ],
   );
 }
@@ -262,14 +282,14 @@ fit_reopen {asked = asked} {notes = notes} holds dropped fd flags row number nex
           (laid_over dropped (hold.Fd new) (hold.Pin row (Some fd) ∷ holds))
           ((f new).on _ (still s))
       | told ↦ λ m. refused_by asked (Calls (call.Reopen fd flags)) told
-          (over dropped (hold.Pin row (Some fd) ∷ holds)) path (refl, tt) m (λ no. no)
+          (over dropped (hold.Pin row (Some fd) ∷ holds)) path (λ errno. refl) m (λ no. no)
     ],
   );
 }
 
 pub fit_stat : {asked : Asking} {seen : List Seen} {holds : List Hold} {marks : List ℕ}
     {notes : Notes} (fd : Fd) (next : Stat → RequestTree) →
-    ((told : Stat) → FitOn asked (Ids told.ids ∷ seen) (next told) (hold.Fd fd ∷ holds) marks
+    ((told : Stat) → FitOn asked (Ids fd told.ids ∷ seen) (next told) (hold.Fd fd ∷ holds) marks
     (looked_by fd told.ids notes)) →
     FitOn asked seen (stat fd next) (hold.Fd fd ∷ holds) marks notes
 fit_stat {asked = asked} {holds = holds} fd next f = record {
@@ -278,7 +298,7 @@ fit_stat {asked = asked} {holds = holds} fd next f = record {
     elim [
       | Host (host.Ok (value.Stat told)) ↦
           λ m. (f told).on _ (looked_at fd told s)
-      | told ↦ λ m. refused_by asked (Calls (call.Stat fd)) told holds path (refl, tt) m (λ no. no)
+      | told ↦ λ m. refused_by asked (Calls (call.Stat fd)) told holds path (λ errno. refl) m (λ no. no)
     ],
   );
 }

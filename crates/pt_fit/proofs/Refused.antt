@@ -1,8 +1,9 @@
 -- A reply that was not awaited refuses the request, and is the cause of that.
-use Rattle.std.proofs.Common.{◌≡◌, inl, inr, List, ◌∷◌, false, refl}
+use Rattle.std.proofs.Common.{◌≡◌, ◌&&◌, if◌then◌else◌, inl, inr, ℕ, Bool, true, false, List, ◌∷◌, None, Some, refl}
 use Rattle.pt_host.specs.Promises.{FitsCall}
-use Rattle.pt_host.specs.Sorts.{Sort, OpensWith, EndsFd, OfSeat, Plain, sort_of}
 use Rattle.pt_host.specs.declared.ids.Errno.{Errno}
+use Rattle.pt_host.specs.declared.ids.Fd.{Fd}
+use Rattle.pt_host.specs.declared.op.KeptHostOp.TheVariants as call
 use Rattle.pt_host.specs.declared.reply.HostReply.TheVariants as host
 use Rattle.pt_session.specs.Answers.{IsReplyFor, IsOneOf, refusals}
 use Rattle.pt_session.specs.Change.{Change}
@@ -12,15 +13,17 @@ use Rattle.pt_session.specs.declared.reply.EventRefusal.{EventRefusal}
 use Rattle.pt_session.specs.declared.reply.EventRefusal.TheVariants as refused
 use Rattle.pt_session.proofs.Replies.{answered}
 use Rattle.pt_iface.specs.declared.request.Request.{Request}
+use Rattle.pt_iface.specs.declared.request.Request.TheVariants as request
 use Rattle.pt_frame.specs.Deed.{Deed, Calls, Changes, Step}
 use Rattle.pt_frame.specs.Replies.{refusal, event_refusal}
 use Rattle.pt_frame.specs.declared.act.ActReply.{ActReply}
 use Rattle.pt_frame.specs.declared.act.ActReply.TheVariants.{Event, Host, NoCopy}
 use Rattle.pt_frame.specs.declared.hold.Hold.{Hold}
+use Rattle.pt_req.specs.Parts.{by_path}
 use Rattle.pt_law.specs.Keeps.{MayBeMade}
 use Rattle.pt_law.specs.Told.{MayBeTold}
 use Rattle.pt_law.specs.Naming.{made}
-use Rattle.pt_fit.specs.Cause.{Asking, SortCauses, is_passed_over}
+use Rattle.pt_fit.specs.Cause.{Asking, asking, caused}
 use Rattle.pt_fit.specs.Fit.{IsCausedLeaf}
 
 -- such a reply is awaited
@@ -30,26 +33,10 @@ IsAwaited (Changes asked) (Event (event.Refused why)) = ⊥
 IsAwaited (Changes asked) (Event told) = IsReplyFor asked told
 IsAwaited deed told = ⊥
 
--- its refusal is the request's: it does not end a descriptor, nor does it give a hold back, nor is it done without
-abbrev pub IsHeededCall : Sort → Type 0
-IsHeededCall (EndsFd fd) = ⊥
-IsHeededCall sort = Unit {0}
-
-abbrev pub IsHeeded : Request → Deed → List Hold → Type 0
-IsHeeded what (Calls call) holds = (is_passed_over what call ≡ false) × IsHeededCall (sort_of call)
-IsHeeded what (Changes asked) holds = MayBeMade asked holds
-
-call_refused : (sort : Sort) (errno : Errno) → IsHeededCall sort → SortCauses sort (Host (host.Refused errno)) errno
-call_refused (OpensWith flags) errno h = refl
-call_refused (EndsFd fd) errno h = absurd h
-call_refused OfSeat errno h = refl
-call_refused Plain errno h = refl
-
-call_failed : (sort : Sort) (errno : Errno) → IsHeededCall sort → SortCauses sort (Host (host.Fault errno)) errno
-call_failed (OpensWith flags) errno h = refl
-call_failed (EndsFd fd) errno h = absurd h
-call_failed OfSeat errno h = refl
-call_failed Plain errno h = refl
+-- its refusal is the request's: it is not passed over, nor does it give a hold back
+abbrev pub IsHeeded : Asking → Deed → List Hold → Type 0
+IsHeeded asked (Calls call) holds = (errno : Errno) → caused asked call errno ≡ Some errno
+IsHeeded asked (Changes made) holds = MayBeMade made holds
 
 event_refused : (asked : Asking) (this : Change) (why : EventRefusal) (holds : List Hold) (path : List Step) →
     MayBeMade this holds → IsOneOf why (refusals this) →
@@ -86,13 +73,11 @@ event_refused asked change.TakeClosing why holds path m o = absurd m
 event_refused asked this why holds path m o = absurd o
 
 pub refused_by : (asked : Asking) (deed : Deed) (told : ActReply) (holds : List Hold) (path : List Step) →
-    IsHeeded asked.request deed holds → MayBeTold deed told → (IsAwaited deed told → ⊥) →
+    IsHeeded asked deed holds → MayBeTold deed told → (IsAwaited deed told → ⊥) →
     IsCausedLeaf asked (made deed told ∷ path) (refusal told)
 refused_by asked (Calls call) (Host (host.Ok value)) holds path h m n = absurd (n m)
-refused_by asked (Calls call) (Host (host.Refused errno)) holds path h m n =
-    inr (inl (inl (h.0, call_refused (sort_of call) errno h.1)))
-refused_by asked (Calls call) (Host (host.Fault errno)) holds path h m n =
-    inr (inl (inl (h.0, call_failed (sort_of call) errno h.1)))
+refused_by asked (Calls call) (Host (host.Refused errno)) holds path h m n = inr (inl (inl (h errno)))
+refused_by asked (Calls call) (Host (host.Fault errno)) holds path h m n = inr (inl (inl (h errno)))
 refused_by asked (Calls call) (Host host.NoMemory) holds path h m n = tt
 refused_by asked (Calls call) (Event told) holds path h m n = absurd m
 refused_by asked (Calls call) NoCopy holds path h m n = tt
@@ -101,3 +86,17 @@ refused_by asked (Changes this) (Event (event.Refused why)) holds path h m n =
 refused_by asked (Changes this) (Event told) holds path h m n = absurd (n (answered m.0 m.1 this told m.2))
 refused_by asked (Changes this) (Host told) holds path h m n = absurd m
 refused_by asked (Changes this) NoCopy holds path h m n = tt
+
+not_made : (there : Bool) (errno : Errno) → (if there && false then None else Some errno) ≡ Some errno
+not_made true errno = refl
+not_made false errno = refl
+
+-- what opens a name by its path makes nothing
+pub path_heeded : (asked : Asking) (dir : Fd) (name : List ℕ) (errno : Errno) →
+    caused asked (call.OpenAt dir name by_path 0) errno ≡ Some errno
+path_heeded asked dir name errno = at asked.request
+  where
+    at : (what : Request) →
+        caused (asking asked.plan asked.who what) (call.OpenAt dir name by_path 0) errno ≡ Some errno
+    at (request.Create parent same mode kill flags umask ext) = not_made _ errno
+    at what = refl

@@ -48,14 +48,14 @@ use Rattle.pt_fit.proofs.Parts.{fit_release_handle, Seen}
 
 fit_root : (asked : Asking) (plan : Plan) → FitOn asked [] (root plan) [] [] blank
 fit_root asked plan = fit_begin _ refl (λ session.
-    fit_root_open plan session None _ nothing_bare refl refl refl (λ told later.
+    fit_root_open plan session None _ nothing_bare refl refl refl (λ fd told later.
     fit_gives answer.Done (λ path. (tt, tt, tt))))
 
 fit_lookup : (plan : Plan) (who : Context) (parent : ℕ) (name : List ℕ) →
     FitOn (asking plan who (request.Lookup parent name)) [] (lookup plan parent name) [] [] blank
 fit_lookup plan who parent name = fit_begin _ refl (λ session.
     fit_checked (is_bad_name name) _ (λ bad. (bad, refl))
-    (fit_look_up plan session parent name _ nothing_bare refl refl (λ looked later l.
+    (fit_look_up plan session parent name _ nothing_bare refl refl (λ looked found later l.
     fit_gives (answer.Entry looked.entry) (λ path. (refl, tt, tt)))))
 
 fit_forget : (asked : Asking) (list : List (ℕ × ℕ)) → FitOn asked [] (batch_forget list) [] [] blank
@@ -67,7 +67,7 @@ fit_init : (asked : Asking) (plan : Plan) (capable : FsOptions) → FitOn asked 
 fit_init asked plan capable = fit_clear _ refl refl (λ era later l.
     fit_root_open plan (session_of era nothing_agreed) (Some (agreed_with plan.config capable)) _ nothing_bare
     l.0 l.1 l.4
-    (λ told last. fit_gives (answer.Inited (init_options plan.config capable)) (λ path. (tt, tt, tt))))
+    (λ fd told last. fit_gives (answer.Inited (init_options plan.config capable)) (λ path. (tt, tt, tt))))
 
 fit_destroy : (asked : Asking) → FitOn asked [] destroy [] [] blank
 fit_destroy asked = fit_clear _ refl refl (λ era later l. fit_gives answer.NoReply (λ path. (tt, tt, tt)))
@@ -123,7 +123,8 @@ fit_access plan who inode mask = fit_begin _ refl (λ session.
         (asking plan who (request.Access inode mask)) seen
         (Gives (if granted then answer.Done else answer.Refused eacces)) holds marks notes
     decided told true e = record { on = λ path s. (tt, tt, tt) }
-    decided told false e = record { on = λ path s. (tt, inr (inr ((told, inl refl, e), refl)), tt) }
+    decided {fd = fd} told false e =
+        record { on = λ path s. (tt, inr (inr ((fd, told, inl (refl, refl), e), refl)), tt) }
 
 fit_unlink : (plan : Plan) (who : Context) (parent : ℕ) (name : List ℕ) →
     FitOn (asking plan who (request.Unlink parent name)) [] (unlink parent name) [] [] blank
@@ -132,7 +133,7 @@ fit_unlink plan who parent name = fit_begin _ refl (λ session.
     (fit_file_by parent _ nothing_bare (λ row dir.
     fit_do_call (call.Unlink dir name) _
     (record { holds = λ told these. refl; notes = λ told these. refl })
-    (((hold.Pin row (Some dir), _, here, refl), tt), tt) (refl, tt)
+    (((hold.Pin row (Some dir), _, here, refl), tt), tt) (λ errno. refl)
     (fit_gives answer.Done (λ path. (tt, tt, tt))))))
 
 fit_rmdir : (plan : Plan) (who : Context) (parent : ℕ) (name : List ℕ) →
@@ -142,7 +143,7 @@ fit_rmdir plan who parent name = fit_begin _ refl (λ session.
     (fit_file_by parent _ nothing_bare (λ row dir.
     fit_do_call (call.RemoveDir dir name) _
     (record { holds = λ told these. refl; notes = λ told these. refl })
-    (((hold.Pin row (Some dir), _, here, refl), tt), tt) (refl, tt)
+    (((hold.Pin row (Some dir), _, here, refl), tt), tt) (λ errno. refl)
     (fit_gives answer.Done (λ path. (tt, tt, tt))))))
 
 fit_rename : (plan : Plan) (who : Context) (olddir : ℕ) (oldname : List ℕ) (newdir : ℕ) (newname : List ℕ)
@@ -160,7 +161,7 @@ fit_rename plan who olddir oldname newdir newname flags = fit_begin _ refl (λ s
         ((hold.Pin other (Some to), _, here, refl), tt),
       ),
       tt,
-    ) (refl, tt)
+    ) (λ errno. refl)
     (fit_gives answer.Done (λ path. (tt, tt, tt)))))))
 
 fit_link : (plan : Plan) (who : Context) (inode newparent : ℕ) (newname : List ℕ) →
@@ -175,8 +176,8 @@ fit_link plan who inode newparent newname = fit_begin _ refl (λ session.
         ((hold.Pin other (Some dir), _, here, refl), tt),
       ),
       tt,
-    ) (refl, tt)
-    (fit_look_up plan session newparent newname _ (λ top. refl) refl refl (λ looked later l.
+    ) (λ errno. refl)
+    (fit_look_up plan session newparent newname _ (λ top. refl) refl refl (λ looked found later l.
     fit_gives (answer.Entry looked.entry) (λ path. (refl, tt, tt)))))))
 
 fits : (plan : Plan) (seat : HostSeat) (who : Context) (what : Request) →

@@ -1,8 +1,9 @@
 -- A scope that a call of the seat opens, what is asked within it, and its end: each is fit.
 use Rattle.std.proofs.Common.{◌≡◌, ℕ, List, [], ◌∷◌, Bool, true, false, ◌&&◌, if◌then◌else◌, Some}
-use Rattle.std.proofs.Common.{refl, subst, sym}
+use Rattle.std.proofs.Common.{inl, inr, refl, subst, sym}
 use Rattle.pt_host.specs.Words.{Takes.{here}}
 use Rattle.pt_host.specs.Call.{Call}
+use Rattle.pt_host.specs.declared.ids.Errno.{Errno}
 use Rattle.pt_host.specs.declared.ids.Fd.{Fd}
 use Rattle.pt_host.specs.Sorts.{sort_of}
 use Rattle.pt_host.specs.declared.flags.Caps.{Caps}
@@ -23,23 +24,24 @@ use Rattle.pt_req.specs.Steps.{open_scope, try_call, is_there, make_at}
 use Rattle.pt_law.specs.Discipline.{Notes, found_by, newly, KnowsAll, PinsLatest, at_job}
 use Rattle.pt_law.specs.Keeps.{MayOpen, uncovered, unscoped}
 use Rattle.pt_law.specs.Naming.{made}
-use Rattle.pt_fit.specs.Cause.{Asking, is_passed_over}
+use Rattle.pt_fit.specs.Cause.{Asking, caused}
 use Rattle.pt_fit.specs.Fit.{Fit, IsCausedLeaf}
 use Rattle.pt_fit.proofs.Holds.{IsBare, over, uncovered_over}
-use Rattle.pt_fit.proofs.Parts.{FitOn, Seen, Told, held_as, still}
-use Rattle.pt_fit.proofs.Refused.{IsHeededCall, refused_by}
+use Rattle.pt_fit.proofs.Parts.{FitOn, Opened, Seen, Told, held_as, opened_so, still}
+use Rattle.pt_fit.proofs.Refused.{refused_by}
 
 -- a scope is open where its call was Ok
 pub fit_open_scope : {asked : Asking} {seen : List Seen} {holds : List Hold} {marks : List ℕ}
-    {notes : Notes} (call : Call) (scope : Hold) (next : RequestTree) → is_passed_over asked.request call ≡ false →
-    IsHeededCall (sort_of call) → MayOpen (sort_of call) scope → FitOn asked seen next (scope ∷ holds) marks notes →
+    {notes : Notes} (call : Call) (scope : Hold) (next : RequestTree) →
+    ((errno : Errno) → caused asked call errno ≡ Some errno) → MayOpen (sort_of call) scope →
+    FitOn asked seen next (scope ∷ holds) marks notes →
     FitOn asked seen (open_scope call scope next) holds marks notes
-fit_open_scope {asked = asked} {holds = holds} call scope next r h may f = record {
+fit_open_scope {asked = asked} {holds = holds} call scope next h may f = record {
   on = λ path s. (
     may,
     elim [
       | Host (host.Ok answered) ↦ λ m. f.on _ (still s)
-      | told ↦ λ m. refused_by asked (Calls call) told holds path (r, h) m (λ no. no)
+      | told ↦ λ m. refused_by asked (Calls call) told holds path h m (λ no. no)
     ],
   );
 }
@@ -49,7 +51,7 @@ pub fit_without_fsetid : {asked : Asking} {seen : List Seen} {holds : List Hold}
     {notes : Notes} (dropped : Bool) (next : RequestTree) → FitOn asked seen next (over dropped holds) marks notes →
     FitOn asked seen (without_fsetid dropped next) holds marks notes
 fit_without_fsetid true next f =
-    fit_open_scope (call.DropCap fsetid) (hold.Dropped fsetid) next refl tt refl f
+    fit_open_scope (call.DropCap fsetid) (hold.Dropped fsetid) next (λ errno. refl) refl f
 fit_without_fsetid false next f = f
 
 pub fit_bares : {asked : Asking} {seen : List Seen} {holds : List Hold} {marks : List ℕ} {notes : Notes}
@@ -86,25 +88,29 @@ pub fit_make_at : {asked : Asking} {seen : List Seen} {marks : List ℕ} {notes 
     (holds bare : List Hold) (dir : Fd) (name : List ℕ) (flags : OpenFlags) (mode row number : ℕ)
     (next : Fd → RequestTree) (may_be : Bool) (old : RequestTree) →
     Covers holds (hold.Pin row (Some dir) ∷ bare) → notes.resolved ≡ Some (record { number = number; row = row }) →
-    ((fd : Fd) → FitOn asked seen (next fd) (hold.Fd fd ∷ hold.Pin row (Some dir) ∷ bare) marks
-    (record (newly fd notes) { latest = found_by flags fd })) →
+    ((errno : Errno) → (is_there (Host (host.Refused errno)) && may_be) ≡ false →
+    caused asked (call.OpenAt dir name flags mode) errno ≡ Some errno) →
+    ((fd : Fd) → FitOn asked (Opened name flags mode fd ∷ seen) (next fd)
+    (hold.Fd fd ∷ hold.Pin row (Some dir) ∷ bare) marks (record (newly fd notes) { latest = found_by flags fd })) →
     (may_be ≡ true → FitOn asked seen old (hold.Pin row (Some dir) ∷ bare) marks notes) →
     FitOn asked seen (make_at dir name flags mode next may_be old) holds marks notes
 fit_make_at {asked = asked} {seen = seen} {marks = marks} {notes = notes} holds bare dir name flags mode row number
-    next may_be old c r f g = record {
+    next may_be old c r h f g = record {
       on = λ path s. (
         subst (λ (all : List Hold). KnowsAll all (dir ∷ []) × PinsLatest (at_job all notes) dir) (sym c.unscopes)
             (((hold.Pin row (Some dir), _, here, refl), tt), (record { number = number; row = row }, _, r, here)),
         elim [
-          | Host (host.Ok (value.Fd fd)) ↦ λ m. held_as asked (next fd) _ _ _ _ _ (c.lays fd) ((f fd).on _ (still s))
+          | Host (host.Ok (value.Fd fd)) ↦ λ m. held_as asked (next fd) _ _ _ _ _ (c.lays fd)
+              ((f fd).on _ (opened_so dir name flags mode fd s))
           | Host (host.Refused errno) ↦
               λ m. or_old (Host (host.Refused errno)) (is_there (Host (host.Refused errno))) may_be refl path s
-              (refused_by asked asks (Host (host.Refused errno)) holds path (refl, tt) m (λ no. no))
+              (λ no. inr (inl (inl (h errno no))))
           | Host (host.Fault errno) ↦
               λ m. or_old (Host (host.Fault errno)) (is_there (Host (host.Fault errno))) may_be refl path s
-              (refused_by asked asks (Host (host.Fault errno)) holds path (refl, tt) m (λ no. no))
-          | told ↦
-              λ m. refused_by asked (Calls (call.OpenAt dir name flags mode)) told holds path (refl, tt) m (λ no. no)
+              (λ no. inr (inl (inl (h errno no))))
+          | Host host.NoMemory ↦ λ m. tt
+          | NoCopy ↦ λ m. tt
+          | told ↦ λ m. absurd m
         ],
       );
     }
@@ -113,10 +119,10 @@ fit_make_at {asked = asked} {seen = seen} {marks = marks} {notes = notes} holds 
     asks = Calls (call.OpenAt dir name flags mode)
 
     or_old : (told : ActReply) (there may : Bool) → may_be ≡ may → (path : List Step) → Told seen path →
-        IsCausedLeaf asked (made asks told ∷ path) (refusal told) →
+        ((there && may) ≡ false → IsCausedLeaf asked (made asks told ∷ path) (refusal told)) →
         Fit asked (if there && may then old else Refuses told) (uncovered holds) marks notes (made asks told ∷ path)
     or_old told true true may path s caused =
         held_as asked old (uncovered holds) (hold.Pin row (Some dir) ∷ bare) marks notes (made asks told ∷ path)
         c.uncovers ((g may).on (made asks told ∷ path) (still s))
-    or_old told true false may path s caused = caused
-    or_old told false other may path s caused = caused
+    or_old told true false may path s caused = caused refl
+    or_old told false other may path s caused = caused refl

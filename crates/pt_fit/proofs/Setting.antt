@@ -42,7 +42,7 @@ use Rattle.pt_fit.proofs.Refused.{IsHeeded}
 
 fit_do_if : {asked : Asking} {seen : List Seen} {holds : List Hold} {marks : List ℕ} {notes : Notes} (is : Bool)
     (did : Call) (next : RequestTree) → IsStillCall did → MayMake (Calls did) holds notes →
-    IsHeeded asked.request (Calls did) holds → FitOn asked seen next holds marks notes →
+    IsHeeded asked (Calls did) holds → FitOn asked seen next holds marks notes →
     FitOn asked seen (do_if is did next) holds marks notes
 fit_do_if true did next same may heeds f = fit_do_call did next same may heeds f
 fit_do_if false did next same may heeds f = f
@@ -76,7 +76,7 @@ module _ (plan : Plan) (seat : HostSeat) (who : Context) (inode : ℕ) (handle :
       FitOn asks seen next holds marks notes → FitOn asks seen (own_as file uid gid next) holds marks notes
   fit_owns file target next s (Some uid) (Some gid) bars f =
       fit_do_call (call.ChOwn file uid gid) next (record { holds = λ told these. refl; notes = λ told these. refl })
-      ((s.files, tt), tt) (refl, tt) f
+      ((s.files, tt), tt) (λ errno. refl) f
   fit_owns file target next s (Some uid) None bars f =
       record { on = λ path told. (tt, inl (inr (bars (inr refl), refl)), tt) }
   fit_owns file target next s None gid bars f =
@@ -129,7 +129,7 @@ module _ (plan : Plan) (seat : HostSeat) (who : Context) (inode : ℕ) (handle :
           fit_do_call (call.Truncate target attr.size) _
           (record { holds = λ told these. refl; notes = λ told these. refl })
           ((subst (λ (all : List Hold). Knows all target) (sym (unscoped_over dropped holds)) s.targets, tt), tt)
-          (refl, tt)
+          (λ errno. refl)
           (fit_bares dropped next s.bare f))
       at false = f
 
@@ -138,12 +138,12 @@ module _ (plan : Plan) (seat : HostSeat) (who : Context) (inode : ℕ) (handle :
       FitOn asks seen (sets_all file target through) holds marks notes
   fit_sets file target through s =
       fit_do_if (sets_mode valid) (call.ChMod target through attr.mode) _
-      (record { holds = λ told these. refl; notes = λ told these. refl }) ((s.targets, tt), tt) (refl, tt)
+      (record { holds = λ told these. refl; notes = λ told these. refl }) ((s.targets, tt), tt) (λ errno. refl)
       (fit_owner file target _ s
       (fit_size file target _ s
       (fit_do_if (sets_atime valid || sets_mtime valid)
       (call.SetTimes target through (atime_set valid attr) (mtime_set valid attr)) _
-      (record { holds = λ told these. refl; notes = λ told these. refl }) ((s.targets, tt), tt) (refl, tt)
+      (record { holds = λ told these. refl; notes = λ told these. refl }) ((s.targets, tt), tt) (λ errno. refl)
       (fit_tell s.bare))))
 
   -- by the file, which is held itself or by its row

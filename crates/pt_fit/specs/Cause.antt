@@ -1,23 +1,28 @@
 -- Believed. The cause of an answer that refuses or that memory ran out: the request itself, or its steps; of an edit
 -- its one step.
-use Rattle.std.specs.Prelude.{◌≡◌, ◌⊎◌, ◌↔◌, ℕ, Bool, true, false, List, [], ◌∷◌, Option, None, Some}
+use Rattle.std.specs.Prelude.{◌≡◌, ◌⊎◌, ◌↔◌, ℕ, true, false, ◌&&◌, not, if◌then◌else◌, List, [], ◌∷◌}
+use Rattle.std.specs.Prelude.{Option, None, Some}
 use Rattle.std.specs.List.{list_any}
 use Rattle.pt_host.specs.Call.{Call}
 use Rattle.pt_host.specs.Errno.{errno_of, eperm, eacces, ebadf, eio, einval, enfile, eoverflow, eopnotsupp, estale}
-use Rattle.pt_host.specs.Flags.{includes, o_excl}
+use Rattle.pt_host.specs.Flags.{includes, o_creat, o_excl}
 use Rattle.pt_host.specs.Sorts.{Sort, OpensWith, EndsFd, OfSeat, Plain, sort_of}
 use Rattle.pt_host.specs.declared.edit.Edit.{Edit}
+use Rattle.pt_host.specs.declared.flags.OpenFlags.{OpenFlags}
 use Rattle.pt_host.specs.declared.ids.Errno.{Errno}
+use Rattle.pt_host.specs.declared.ids.Fd.{Fd}
 use Rattle.pt_host.specs.declared.ids.ObjIds.{ObjIds}
 use Rattle.pt_host.specs.declared.stat.Stat.{Stat}
 use Rattle.pt_host.specs.declared.op.KeptHostOp.TheVariants as call
 use Rattle.pt_host.specs.declared.reply.HostReply.TheVariants as host
+use Rattle.pt_host.specs.declared.reply.HostValue.{HostValue}
 use Rattle.pt_host.specs.declared.reply.HostValue.TheVariants as value
 use Rattle.pt_maps.specs.Translated.{to_host}
 use Rattle.pt_session.specs.Change.{Change}
 use Rattle.pt_session.specs.declared.event.KeptEvent.TheVariants as change
 use Rattle.pt_session.specs.declared.form.Negotiated.{Negotiated}
 use Rattle.pt_session.specs.declared.reply.EventReply.TheVariants.{Began, Refused, Resolved}
+use Rattle.pt_session.specs.declared.reply.EventRefusal.{EventRefusal}
 use Rattle.pt_session.specs.declared.reply.EventRefusal.TheVariants.{NotLive, Overtaken, NoSlot, Last, Live}
 use Rattle.pt_iface.specs.declared.answer.Answer.{Answer}
 use Rattle.pt_iface.specs.declared.answer.Answer.TheVariants as answer
@@ -36,6 +41,9 @@ use Rattle.pt_req.specs.Asker.{group_of}
 use Rattle.pt_req.specs.Attributes.{is_blocked}
 use Rattle.pt_req.specs.Creating.{are_same}
 use Rattle.pt_req.specs.Entries.{attr_of, is_bad_name, is_bad_offset, can_open}
+use Rattle.pt_req.specs.Options.{making_flags}
+use Rattle.pt_req.specs.Parts.{by_path}
+use Rattle.pt_req.specs.Steps.{is_there}
 use Rattle.pt_req.specs.declared.plan.Plan.{Plan}
 use Rattle.pt_attr.specs.Access.{is_granted}
 use Rattle.pt_attr.specs.Making.{is_nul}
@@ -62,41 +70,53 @@ OpensFile (request.SetAttr inode handle valid attr) = opens_anew handle valid �
 OpensFile (request.SyncFs inode) = Unit {0}
 OpensFile asked = ⊥
 
--- the call was refused, or failed, with this error number
-abbrev pub TellsErrno : ActReply → Errno → Type 0
-TellsErrno (Host (host.Refused errno)) cause = cause ≡ errno
-TellsErrno (Host (host.Fault errno)) cause = cause ≡ errno
-TellsErrno told cause = ⊥
+-- what ends a descriptor is passed over, and the error number of any other call is the request's
+abbrev pub by_sort : Sort → Errno → Option Errno
+by_sort (OpensWith flags) told = Some told
+by_sort (EndsFd fd) told = None
+by_sort OfSeat told = Some told
+by_sort Plain told = Some told
 
--- the requests that take a name away again: that of what they made, where its context was refused
-abbrev pub takes_back : Request → Bool
-takes_back (request.Create parent name mode kill flags umask ext) = true
-takes_back (request.Mknod parent name mode rdev umask ext) = true
-takes_back (request.Symlink target parent name ext) = true
-takes_back asked = false
+-- The refusal of the request that a call shows which was refused, or failed, with this error number; none where that
+-- is passed over. A capability that is not raised is done without. What was made and gets no context goes again, or
+-- stays. A file that is there is opened in place of a new one, where the guest takes it.
+abbrev pub caused : Asking → Call → Errno → Option Errno
+caused asked made told = heeded made asked.request
+  where
+    heeded : Call → Request → Option Errno
+    heeded (call.RaiseCap caps) what = None
+    heeded (call.Unlink dir its_name) (request.Create parent name mode kill flags umask ext) = None
+    heeded (call.Unlink dir its_name) (request.Mknod parent name mode rdev umask ext) = None
+    heeded (call.Unlink dir its_name) (request.Symlink target parent name ext) = None
+    heeded (call.RemoveDir dir its_name) (request.Mkdir parent name mode umask ext) = None
+    heeded (call.OpenAt dir its_name how its_mode) (request.Create parent name mode kill flags umask ext) =
+        if is_there (Host (host.Refused told)) && not (includes flags o_excl) && includes how.0 o_creat then None
+        else Some told
+    heeded made what = by_sort (sort_of made) told
 
--- and that of a directory
-abbrev pub takes_dir_back : Request → Bool
-takes_dir_back (request.Mkdir parent name mode umask ext) = true
-takes_dir_back asked = false
-
--- What a call is told may be passed over: a capability that is not raised is done without, and a name that does not
--- go again stays.
-abbrev pub is_passed_over : Request → Call → Bool
-is_passed_over asked (call.RaiseCap caps) = true
-is_passed_over asked (call.Unlink dir name) = takes_back asked
-is_passed_over asked (call.RemoveDir dir name) = takes_dir_back asked
-is_passed_over asked made = false
-
--- A call causes it by what it was answered; what ends a descriptor causes none, since its reply is passed over.
-abbrev pub SortCauses : Sort → ActReply → Errno → Type 0
-SortCauses (OpensWith flags) told cause = TellsErrno told cause
-SortCauses (EndsFd fd) told cause = ⊥
-SortCauses OfSeat told cause = TellsErrno told cause
-SortCauses Plain told cause = TellsErrno told cause
-
-abbrev pub CallCauses : Request → Call → ActReply → Errno → Type 0
-CallCauses asked made told cause = (is_passed_over asked made ≡ false) × SortCauses (sort_of made) told cause
+-- the one that an event shows by its refusal; none where it gives a hold back or takes a closing
+abbrev pub refused_as : Change → EventRefusal → Option Errno
+refused_as (change.Resolve number) NotLive = Some ebadf
+refused_as (change.Resolve number) Last = Some eoverflow
+refused_as (change.Claim era handle ids) Overtaken = Some ebadf
+refused_as (change.Claim era handle ids) Last = Some eoverflow
+refused_as change.TakeFd NoSlot = Some enfile
+refused_as change.DrawNode Last = Some eoverflow
+refused_as (change.Insert era number form ids mode) Overtaken = Some ebadf
+refused_as (change.Insert era number form ids mode) Last = Some eoverflow
+refused_as (change.Insert era number form ids mode) Live = Some eio
+refused_as (change.InsertRoot era form ids mode agreed) Overtaken = Some ebadf
+refused_as (change.InsertRoot era form ids mode agreed) Last = Some eoverflow
+refused_as (change.InsertRoot era form ids mode agreed) Live = Some eio
+refused_as change.DrawHandle Last = Some eoverflow
+refused_as (change.InsertHandle era handle number fd) Overtaken = Some ebadf
+refused_as (change.InsertHandle era handle number fd) Last = Some eoverflow
+refused_as (change.InsertHandle era handle number fd) Live = Some eio
+refused_as (change.PinHandle handle number) NotLive = Some ebadf
+refused_as (change.PinHandle handle number) Last = Some eoverflow
+refused_as (change.Release handle number) NotLive = Some ebadf
+refused_as change.Clear Last = Some eoverflow
+refused_as made why = None
 
 -- by what was agreed on, the name of the context is blocked that the request brings
 abbrev pub IsBlockedLabel : Negotiated → Option SecContext → Type 0
@@ -110,73 +130,51 @@ BlocksLabel agreed (request.Mknod parent name mode rdev umask ext) = IsBlockedLa
 BlocksLabel agreed (request.Symlink target parent name ext) = IsBlockedLabel agreed ext.secctx
 BlocksLabel agreed asked = ⊥
 
--- An event causes it by its refusal; what gives a hold back causes none. A number that stands for neither a regular
--- file nor a directory is not opened, and a session may begin with what blocks the request's context.
-abbrev pub EventCauses : Request → Change → ActReply → Errno → Type 0
-EventCauses asked change.Begin (Event (Began era agreed)) cause = BlocksLabel agreed asked × (cause ≡ eopnotsupp)
-EventCauses asked (change.Resolve number) (Event (Refused NotLive)) cause = cause ≡ ebadf
-EventCauses asked (change.Resolve number) (Event (Refused Last)) cause = cause ≡ eoverflow
-EventCauses asked (change.Resolve number) (Event (Resolved row form ids mode)) cause =
-    OpensFile asked × (can_open mode ≡ false) × (cause ≡ ebadf)
-EventCauses asked (change.Claim era handle ids) (Event (Refused Overtaken)) cause = cause ≡ ebadf
-EventCauses asked (change.Claim era handle ids) (Event (Refused Last)) cause = cause ≡ eoverflow
-EventCauses asked change.TakeFd (Event (Refused NoSlot)) cause = cause ≡ enfile
-EventCauses asked change.DrawNode (Event (Refused Last)) cause = cause ≡ eoverflow
-EventCauses asked (change.Insert era number form ids mode) (Event (Refused Overtaken)) cause = cause ≡ ebadf
-EventCauses asked (change.Insert era number form ids mode) (Event (Refused Last)) cause = cause ≡ eoverflow
-EventCauses asked (change.Insert era number form ids mode) (Event (Refused Live)) cause = cause ≡ eio
-EventCauses asked (change.InsertRoot era form ids mode agreed) (Event (Refused Overtaken)) cause = cause ≡ ebadf
-EventCauses asked (change.InsertRoot era form ids mode agreed) (Event (Refused Last)) cause = cause ≡ eoverflow
-EventCauses asked (change.InsertRoot era form ids mode agreed) (Event (Refused Live)) cause = cause ≡ eio
-EventCauses asked change.DrawHandle (Event (Refused Last)) cause = cause ≡ eoverflow
-EventCauses asked (change.InsertHandle era handle number fd) (Event (Refused Overtaken)) cause = cause ≡ ebadf
-EventCauses asked (change.InsertHandle era handle number fd) (Event (Refused Last)) cause = cause ≡ eoverflow
-EventCauses asked (change.InsertHandle era handle number fd) (Event (Refused Live)) cause = cause ≡ eio
-EventCauses asked (change.PinHandle handle number) (Event (Refused NotLive)) cause = cause ≡ ebadf
-EventCauses asked (change.PinHandle handle number) (Event (Refused Last)) cause = cause ≡ eoverflow
-EventCauses asked (change.Release handle number) (Event (Refused NotLive)) cause = cause ≡ ebadf
-EventCauses asked change.Clear (Event (Refused Last)) cause = cause ≡ eoverflow
-EventCauses asked made told cause = ⊥
+-- A step shows it: a call by its error number, an event by its refusal. A session may begin with what blocks the
+-- request's context, and a number that stands for neither a regular file nor a directory is not opened.
+abbrev pub Shows : Asking → Option Deed → ActReply → Errno → Type 0
+Shows asked (Some (Calls made)) (Host (host.Refused errno)) cause = caused asked made errno ≡ Some cause
+Shows asked (Some (Calls made)) (Host (host.Fault errno)) cause = caused asked made errno ≡ Some cause
+Shows asked (Some (Changes made)) (Event (Refused why)) cause = refused_as made why ≡ Some cause
+Shows asked (Some (Changes change.Begin)) (Event (Began era agreed)) cause =
+    BlocksLabel agreed asked.request × (cause ≡ eopnotsupp)
+Shows asked (Some (Changes (change.Resolve number))) (Event (Resolved row form ids mode)) cause =
+    OpensFile asked.request × (can_open mode ≡ false) × (cause ≡ ebadf)
+Shows asked made told cause = ⊥
 
-abbrev pub StepCauses : Request → Option Deed → ActReply → Errno → Type 0
-StepCauses asked (Some (Calls made)) told cause = CallCauses asked made told cause
-StepCauses asked (Some (Changes made)) told cause = EventCauses asked made told cause
-StepCauses asked None told cause = ⊥
+-- one of the steps shows it
+abbrev pub SomeShows : Asking → List Step → Errno → Type 0
+SomeShows asked [] cause = ⊥
+SomeShows asked (step ∷ steps) cause = Shows asked step.deed step.reply cause ⊎ SomeShows asked steps cause
 
--- one of the steps causes it
-abbrev pub SomeCauses : Request → List Step → Errno → Type 0
-SomeCauses asked [] cause = ⊥
-SomeCauses asked (step ∷ steps) cause = StepCauses asked step.deed step.reply cause ⊎ SomeCauses asked steps cause
+-- one of the steps made this call, and was told this
+abbrev pub WasTold : Call → HostValue → List Step → Type 0
+WasTold made told [] = ⊥
+WasTold made told (step ∷ steps) =
+    ((step.deed ≡ Some (Calls made)) × (step.reply ≡ Host (host.Ok told))) ⊎ WasTold made told steps
 
--- a descriptor was looked at, and this was told of what it is open on
-abbrev pub TellsStat : Option Deed → ActReply → Stat → Type 0
-TellsStat (Some (Calls (call.Stat fd))) (Host (host.Ok (value.Stat told))) stat = told ≡ stat
-TellsStat deed told stat = ⊥
+-- The name was opened so in a directory, and the descriptor, which was looked at, is open on what has these ids.
+abbrev pub OpensOn : List ℕ → OpenFlags → ℕ → ObjIds → List Step → Type 0
+OpensOn name flags mode ids steps =
+    (dir : Fd) × (fd : Fd) × (stat : Stat) × WasTold (call.OpenAt dir name flags mode) (value.Fd fd) steps
+    × WasTold (call.Stat fd) (value.Stat stat) steps × (stat.ids ≡ ids)
 
--- one of the steps told this
-abbrev pub SomeTells : List Step → Stat → Type 0
-SomeTells [] stat = ⊥
-SomeTells (step ∷ steps) stat = TellsStat step.deed step.reply stat ⊎ SomeTells steps stat
-
--- and these ids
-abbrev pub SomeTellsIds : List Step → ObjIds → Type 0
-SomeTellsIds steps ids = (stat : Stat) × SomeTells steps stat × (stat.ids ≡ ids)
-
--- Two of the steps told ids of two objects: of what was made, and of what its name led to then, which is stale.
-abbrev pub IsStale : List Step → Type 0
-IsStale steps =
-    (made : ObjIds) × (found : ObjIds) × SomeTellsIds steps made × SomeTellsIds steps found
-    × (are_same made found ≡ false)
+-- What was made under the name is another object than the one that its lookup then found.
+abbrev pub IsStale : List ℕ → ℕ → ℕ → List Step → Type 0
+IsStale name mode flags steps =
+    (made : ObjIds) × (found : ObjIds) × OpensOn name (making_flags flags) mode made steps
+    × OpensOn name by_path 0 found steps × (are_same made found ≡ false)
 
 -- One of the steps told of an object that is not granted to who asks, by the guest's ids.
 abbrev pub IsDenied : Plan → Context → ℕ → List Step → Type 0
 IsDenied plan who mask steps =
-    (stat : Stat) × SomeTells steps stat × (is_granted who mask (attr_of plan stat 0) ≡ false)
+    (fd : Fd) × (stat : Stat) × WasTold (call.Stat fd) (value.Stat stat) steps
+    × (is_granted who mask (attr_of plan stat 0) ≡ false)
 
 -- what the steps were told of objects causes it
 abbrev pub TellsCause : Plan → Context → Request → List Step → Errno → Type 0
 TellsCause plan who (request.Create parent name mode kill flags umask ext) steps cause =
-    IsStale steps × (cause ≡ estale)
+    IsStale name mode flags steps × (cause ≡ estale)
 TellsCause plan who (request.Access inode mask) steps cause = IsDenied plan who mask steps × (cause ≡ eacces)
 TellsCause plan who asked steps cause = ⊥
 
@@ -227,7 +225,7 @@ OwnCause plan who asked cause = (IsServed asked → ⊥) × (cause ≡ errno_of 
 
 abbrev pub HasCause : Asking → List Step → Errno → Type 0
 HasCause asked steps cause =
-    OwnCause asked.plan asked.who asked.request cause ⊎ SomeCauses asked.request steps cause
+    OwnCause asked.plan asked.who asked.request cause ⊎ SomeShows asked steps cause
     ⊎ TellsCause asked.plan asked.who asked.request steps cause
 
 -- an answer that refuses, or that memory ran out, has its cause

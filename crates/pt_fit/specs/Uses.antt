@@ -8,6 +8,7 @@ use Rattle.pt_iface.specs.declared.answer.Answer.TheVariants as answer
 use Rattle.pt_iface.specs.declared.request.Request.{Request}
 use Rattle.pt_iface.specs.declared.request.Request.TheVariants as request
 use Rattle.pt_frame.specs.Deed.{Deed, Calls, Step}
+use Rattle.pt_frame.specs.Replies.{fault_in}
 use Rattle.pt_frame.specs.declared.act.ActReply.{ActReply}
 use Rattle.pt_frame.specs.declared.finish.Finish.{Finish}
 use Rattle.pt_frame.specs.declared.finish.Finish.TheVariants as finish
@@ -16,7 +17,6 @@ use Rattle.pt_req.specs.Entries.{is_bad_name}
 use Rattle.pt_req.specs.declared.plan.Plan.{Plan}
 use Rattle.pt_attr.specs.Setting.{is_missized}
 use Rattle.pt_attr.specs.Making.{is_nul}
-use Rattle.pt_fit.specs.Cause.{TellsErrno}
 
 -- The request is on the number: it resolves it before all else, a bad name or size and a capability that it drops
 -- aside. One by a handle is not, and serves on.
@@ -45,7 +45,7 @@ IsOn number asked = ⊥
 
 -- the call that drops a capability was refused, or failed, with this error number
 abbrev pub FailsToDrop : Option Deed → ActReply → Errno → Type 0
-FailsToDrop (Some (Calls (call.DropCap caps))) told errno = TellsErrno told errno
+FailsToDrop (Some (Calls (call.DropCap caps))) told errno = fault_in told ≡ Some errno
 FailsToDrop deed told errno = ⊥
 
 abbrev pub SomeFailsToDrop : List Step → Errno → Type 0
