@@ -1,0 +1,5 @@
+pub mod Places
+pub mod SlashLemmas
+pub mod Padded
+pub mod Records
+pub mod Listings
