@@ -1,6 +1,6 @@
 -- Each answer is that of a branch of the tree, or the job gave up or lost its seat.
 use Rattle.std.proofs.Common.{◌≡◌, ◌⊎◌, inl, inr, ℕ, zero, suc, List, [], ◌∷◌, length, Bool, true, false, Option}
-use Rattle.std.proofs.Common.{◌||◌, ◌++◌, ap, append_assoc}
+use Rattle.std.proofs.Common.{◌++◌, ap, append_assoc}
 use Rattle.std.proofs.Common.{Some, None, refl, sym, subst, ◌∙◌, if◌then◌else◌, nat_lt}
 use Rattle.pt_host.specs.declared.ids.Errno.{Errno}
 use Rattle.pt_host.specs.declared.seat.HostSeat.{HostSeat}
@@ -8,7 +8,7 @@ use Rattle.pt_host.specs.declared.op.KeptHostOp.TheVariants as call
 use Rattle.pt_session.specs.declared.event.KeptEvent.TheVariants as change
 use Rattle.pt_iface.specs.declared.answer.Answer.{Answer}
 use Rattle.pt_iface.specs.declared.answer.Answer.TheVariants as answer
-use Rattle.pt_frame.specs.Deed.{Deed, Calls, Changes, Step, IsStepOf, lacks_memory, LacksMemory}
+use Rattle.pt_frame.specs.Deed.{Deed, Calls, Changes, Step, IsStepOf}
 use Rattle.pt_frame.specs.Held.{is_scope, held, opened}
 use Rattle.pt_frame.specs.Memory.{RanOut}
 use Rattle.pt_frame.specs.Replies.{closings_in, taken_in, restored, refusal, passes_with, is_cut, fault_if}
