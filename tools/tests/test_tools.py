@@ -237,6 +237,28 @@ class Definitions(unittest.TestCase):
         self.assertTrue((ROOT / "docs/DEFINITIONS.md").read_text().endswith(shown.rstrip("\n") + "\n"))
 
 
+class Trust(unittest.TestCase):
+    def test_what_is_believed_rests_on_what_is_believed(self) -> None:
+        sorts = {}
+        for file in sorted(ROOT.glob("crates/*/specs/**/*.antt")):
+            first = file.read_text().split("\n", 1)[0]
+            sort = re.match(r"-- (Believed|Inner|Proof)\.", first)
+            sorts[file] = sort[1] if sort else None
+        self.assertIn("Believed", sorts.values())
+        for file, sort in sorts.items():
+            with self.subTest(file=str(file.relative_to(ROOT))):
+                self.assertIsNotNone(sort)
+                if sort != "Believed":
+                    continue
+                for used in re.findall(r"^(?:pub )?use Rattle\.(pt_\w+\.\w+[\w.]*)", file.read_text(), re.M):
+                    crate, folder, *path = used.rstrip(".").split(".")
+                    self.assertEqual(folder, "specs", used)
+                    # (what the code declares has no file here)
+                    while path and (other := ROOT.joinpath("crates", crate, "specs", *path).with_suffix(".antt")):
+                        self.assertEqual(sorts.get(other, "Believed"), "Believed", used)
+                        path.pop()
+
+
 class Programs(unittest.TestCase):
     def run_tool(self, *words: str | Path) -> subprocess.CompletedProcess[str]:
         return subprocess.run([TOOLS / words[0], *words[1:]], capture_output=True, text=True, check=False)

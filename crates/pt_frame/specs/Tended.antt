@@ -14,6 +14,7 @@ use Rattle.pt_frame.specs.Replies.{closings_in, passes_with, is_cut}
 use Rattle.pt_frame.specs.Grammar.{Grammar, End, Do, May}
 use Rattle.pt_frame.specs.Frame.{giving}
 use Rattle.pt_frame.specs.Tree.{RequestTree, Gives, Refuses, Asks, Opens, Bares, Brackets, Shuts, Allocates}
+pub use Rattle.pt_frame.specs.Seats.{is_seats_sort}
 use Rattle.pt_frame.specs.Past.{ends_scope, is_open, ended, is_restoring, worn_after, Past, past_after}
 use Rattle.pt_frame.specs.declared.act.ActReply.{ActReply}
 use Rattle.pt_frame.specs.declared.finish.Finish.{Finish}
@@ -32,12 +33,6 @@ IsFinish false (finish.Answer told) None = IsUncut told
 IsFinish false (finish.Lost errno) (Some first) = errno ≡ first
 IsFinish true (finish.Answer told) lost = told ≡ answer.Cut
 IsFinish _ _ _ = ⊥
-
-abbrev pub is_seats_sort : Sort → Bool
-is_seats_sort (OpensWith flags) = false
-is_seats_sort (EndsFd fd) = false
-is_seats_sort OfSeat = true
-is_seats_sort Plain = false
 
 abbrev pub is_of_seat : Deed → Bool
 is_of_seat (Calls asked) = is_seats_sort (sort_of asked)

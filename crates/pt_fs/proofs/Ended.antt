@@ -24,7 +24,8 @@ use Rattle.pt_fs.specs.Each.{IsBegun, EachStarted, EachAnswered, EndsAs, answer_
 use Rattle.pt_fs.specs.GoesOn.{EachWent}
 use Rattle.pt_fs.specs.Jobs.{StartAll, job_seat, job_start, job_grammar, asked_of, IsAnsweredBy}
 use Rattle.pt_fs.specs.Laid.{waiting}
-use Rattle.pt_fs.specs.Order.{rest_of, owner, count_of, with_left, MayBeLeft, Owns}
+use Rattle.pt_fs.specs.Order.{rest_of, owner, count_of, with_left}
+use Rattle.pt_fs.specs.Owning.{MayBeLeft, Owns}
 use Rattle.pt_fs.specs.Running.{Running, owes, steps_bound, lost_of}
 use Rattle.pt_fs.specs.Took.{IsFinishedAt, NoneLost}
 use Rattle.pt_fs.specs.Trace.{AnswersEach, IsBounded, steps_by, closings_told}

@@ -14,7 +14,8 @@ use Rattle.pt_frame.specs.Grammar.{is_end}
 use Rattle.pt_fs.specs.Running.{owes, is_finished, lost_of}
 use Rattle.pt_req.specs.declared.plan.Plan.{Plan}
 use Rattle.pt_fs.specs.GoesOn.{GoesOn, EachWent}
-use Rattle.pt_fs.specs.Order.{order, rest_of, Owns}
+use Rattle.pt_fs.specs.Order.{order, rest_of}
+use Rattle.pt_fs.specs.Owning.{Owns}
 use Rattle.pt_fs.specs.Took.{Took, TookOrStays, IsFinishedAt, IsUnfinished, NoneLost, steps_left_at}
 use Rattle.pt_fs.specs.Trace.{MadeAt, step_of, steps_by}
 use Rattle.pt_fs.specs.Went.{Went, StepsLead, run_seat}

@@ -18,7 +18,8 @@ use Rattle.pt_frame.specs.declared.act.ActReply.TheVariants.{Event, Host, NoCopy
 use Rattle.pt_fs.specs.Running.{is_finished}
 use Rattle.pt_law.proofs.Told.{Promises}
 use Rattle.pt_fs.specs.Loses.{IsCutFrom}
-use Rattle.pt_fs.specs.Order.{order, owner, with_left, MayBeLeft}
+use Rattle.pt_fs.specs.Order.{order, owner, with_left}
+use Rattle.pt_fs.specs.Owning.{MayBeLeft}
 use Rattle.pt_fs.specs.Went.{run_seat}
 use Rattle.pt_fs.specs.Running.{Running}
 use Rattle.pt_fs.specs.declared.trace.TraceStep.{TraceStep}

@@ -6,7 +6,8 @@ use Rattle.std.proofs.lemmas.Option.{same_Some, slice_get_within, slice_get_case
 use Rattle.pt_fs.specs.Running.{is_finished}
 use Rattle.pt_fs.specs.declared.trace.TraceStep.{TraceStep}
 use Rattle.pt_fs.specs.Running.{Running}
-use Rattle.pt_fs.specs.Order.{lowered, rest_of, order, owner, count_of, with_left, MayBeLeft, Owns}
+use Rattle.pt_fs.specs.Order.{lowered, rest_of, order, owner, count_of, with_left}
+use Rattle.pt_fs.specs.Owning.{MayBeLeft, Owns}
 use Rattle.pt_fs.specs.Took.{IsFinishedAt}
 use Rattle.pt_fs.proofs.Lists.{get-set_other}
 

@@ -26,7 +26,8 @@ use Rattle.pt_fs.specs.Ends.{LosesNone, EndsWhole}
 use Rattle.pt_fs.specs.GoesOn.{GoesOn}
 use Rattle.pt_fs.specs.Jobs.{StartAll, job_seat, job_grammar}
 use Rattle.pt_fs.specs.Keeps.{turns_of, OfEachJob, SeatedEach}
-use Rattle.pt_fs.specs.Order.{order, rest_of, count_of, with_left, MayBeLeft, Owns, IsInOrder}
+use Rattle.pt_fs.specs.Order.{order, rest_of, count_of, with_left, IsInOrder}
+use Rattle.pt_fs.specs.Owning.{MayBeLeft, Owns}
 use Rattle.pt_fs.specs.Took.{IsFinishedAt, NoneLost}
 use Rattle.pt_fs.specs.Trace.{TraceRuns, RunsJobs, SeatsBack, seated, AnswersEach, IsBounded, step_of, steps_by}
 use Rattle.pt_fs.specs.Went.{run_seat}

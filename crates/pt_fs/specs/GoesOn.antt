@@ -3,7 +3,7 @@ use Rattle.std.specs.Prelude.{◌≡◌, ◌≤◌, ◌+◌, ℕ, List, ◌++◌
 use Rattle.pt_session.specs.Tables.{Tables}
 use Rattle.pt_host.specs.Relation.{HostRelation}
 use Rattle.pt_req.specs.declared.plan.Plan.{Plan}
-use Rattle.pt_fs.specs.Order.{Owns}
+use Rattle.pt_fs.specs.Owning.{Owns}
 use Rattle.pt_fs.specs.Went.{Went, run_seat}
 use Rattle.pt_fs.specs.Trace.{TraceRuns, steps_by}
 use Rattle.pt_fs.specs.Work.{work}

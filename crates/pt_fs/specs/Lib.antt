@@ -4,6 +4,7 @@ pub mod Jobs
 pub mod Trace
 pub mod Running
 pub mod Order
+pub mod Owning
 pub mod Advances
 pub mod Stepped
 pub mod Each

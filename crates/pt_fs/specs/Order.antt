@@ -1,9 +1,7 @@
 -- Believed. Whom the steps of a trace belong to.
-use Rattle.std.specs.Prelude.{◌≡◌, ℕ, zero, suc, ◌+◌, ◌-◌, ◌<◌, ◌≤◌, ◌==◌, nat_lt, true, false, List, [], ◌∷◌, ◌++◌}
-use Rattle.std.specs.Prelude.{Some, length, map, replicate, slice_get, if◌then◌else◌}
-use Rattle.pt_fs.specs.Running.{is_finished}
+use Rattle.std.specs.Prelude.{◌≡◌, ℕ, zero, suc, ◌+◌, ◌-◌, ◌<◌, ◌==◌, nat_lt, List, [], ◌∷◌, ◌++◌, map, replicate}
+use Rattle.std.specs.Prelude.{if◌then◌else◌}
 use Rattle.pt_fs.specs.declared.trace.TraceStep.{TraceStep}
-use Rattle.pt_fs.specs.Running.{Running}
 
 -- one step of a job fewer
 abbrev pub lowered : (ℕ → ℕ) → ℕ → ℕ → ℕ
@@ -38,15 +36,3 @@ pub record IsInOrder (schedule : List ℕ) (jobs : ℕ) (trace : List TraceStep)
 -- the steps of a list, and more
 abbrev pub with_left : List TraceStep → (ℕ → ℕ) → ℕ → ℕ
 with_left steps left job = count_of steps job + left job
-
--- so many steps may be left of the jobs: none of one that has finished, some of one that has not
-pub record MayBeLeft (left : ℕ → ℕ) (running : List Running) : Type 0 where
-  pub ended : (j : ℕ) (run : Running) → slice_get running j ≡ Some run → is_finished run.state ≡ true → left j ≡ 0
-  pub going : (j : ℕ) (run : Running) → slice_get running j ≡ Some run → is_finished run.state ≡ false → 0 < left j
-  pub beyond : (j : ℕ) → length running ≤ j → left j ≡ 0
-
--- what was to be owned before the steps is their owners, and then what is to be owned after them
-abbrev pub Owns : ((ℕ → ℕ) → List ℕ) → List Running → List TraceStep → ((ℕ → ℕ) → List ℕ) → List Running → Type 0
-Owns before running steps after running' =
-    (left : ℕ → ℕ) → MayBeLeft left running' → MayBeLeft (with_left steps left) running
-    × (before (with_left steps left) ≡ map owner steps ++ after left)

@@ -32,27 +32,22 @@ fn bound_of(request: &Request) -> usize
     ensures small { result ≤ 96 }
 {
     match request {
-        Request::Init { .. }
-        | Request::Root
-        | Request::Lookup { .. }
-        | Request::Open { .. }
-        | Request::OpenDir { .. }
-        | Request::Mkdir { .. }
-        | Request::Mknod { .. }
-        | Request::Symlink { .. }
-        | Request::Link { .. }
-        | Request::Unlink { .. }
-        | Request::Rmdir { .. }
-        | Request::Rename { .. }
-        | Request::Readlink { .. }
-        | Request::StatFs { .. }
-        | Request::GetAttr { .. }
-        | Request::SetAttr { .. }
-        | Request::Access { .. }
-        | Request::SyncFs { .. }
-        | Request::Other { .. } => 48,
         Request::Create { .. } => 96,
-        _ => 8,
+        Request::Destroy
+        | Request::Forget { .. }
+        | Request::BatchForget { .. }
+        | Request::Release { .. }
+        | Request::ReleaseDir { .. }
+        | Request::Read { .. }
+        | Request::Write { .. }
+        | Request::ReadDir { .. }
+        | Request::Flush { .. }
+        | Request::Fsync { .. }
+        | Request::FsyncDir { .. }
+        | Request::Fallocate { .. }
+        | Request::Lseek { .. }
+        | Request::CopyFileRange { .. } => 8,
+        _ => 48,
     }
 }
 

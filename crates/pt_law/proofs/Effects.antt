@@ -10,7 +10,7 @@ use Rattle.pt_session.specs.Rows.{ChangesRow, number_rows, EndsRow, Dies, handle
 use Rattle.pt_session.specs.Rows.{AllDie.{none as no_live, next as next_dies}}
 use Rattle.pt_session.specs.Happens.{Happens, ForgetsOne, ForgetsAll, Clears}
 use Rattle.pt_session.proofs.Cases.{GivesPin, GivenAgain, Case, cases}
-use Rattle.pt_session.specs.Store.{IsLaterHandle}
+use Rattle.pt_session.specs.Effect.{IsLaterHandle}
 use Rattle.pt_session.specs.Effect.{Effect}
 use Rattle.pt_session.specs.Effect.{Effect.{nothing as unchanged, counted, changed as row_changed}}
 use Rattle.pt_session.specs.Effect.{Effect.{ended as row_ended, added, drawn, handle_changed, handle_ended}}

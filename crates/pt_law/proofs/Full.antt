@@ -1,11 +1,10 @@
 -- A job that takes no memory of its own, and none of whose steps lacked any, had not given up before it was cut.
 use Rattle.std.proofs.Common.{◌≡◌, inl, inr, ℕ, zero, suc, List, [], ◌∷◌, length, Bool, true, false, Option}
-use Rattle.std.proofs.Common.{◌||◌}
 use Rattle.std.proofs.Common.{Some, None, refl, sym, subst, if◌then◌else◌, nat_lt}
 use Rattle.pt_host.specs.declared.ids.Errno.{Errno}
 use Rattle.pt_host.specs.declared.seat.HostSeat.{HostSeat}
 use Rattle.pt_iface.specs.declared.answer.Answer.TheVariants.{Cut}
-use Rattle.pt_frame.specs.Deed.{Step, lacks_memory, LacksMemory}
+use Rattle.pt_frame.specs.Deed.{Step, LacksMemory}
 use Rattle.pt_frame.specs.Held.{is_scope, held, opened}
 use Rattle.pt_frame.specs.Memory.{RanOut}
 use Rattle.pt_frame.specs.Replies.{closings_in, taken_in, restored, refusal, passes_with, fault_if}

@@ -10,7 +10,7 @@ use Rattle.pt_session.specs.Change.{Change}
 use Rattle.pt_session.specs.Tables.{Tables, HasNumber, IsSoundRow, IsSoundHandle, Agree}
 use Rattle.pt_session.specs.declared.row.Row.{Row}
 use Rattle.pt_session.specs.declared.row.HandleRow.{HandleRow}
-use Rattle.pt_session.specs.Store.{IsLaterHandle}
+use Rattle.pt_session.specs.Effect.{IsLaterHandle}
 use Rattle.pt_session.specs.Effect.{IsFree}
 use Rattle.pt_session.specs.Happens.{new_row, with_row, agreed}
 use Rattle.pt_session.proofs.Cases.{Case}

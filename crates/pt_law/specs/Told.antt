@@ -1,4 +1,4 @@
--- Inner. What a step may be answered.
+-- Believed. What a step may be answered.
 use Rattle.std.specs.Prelude.{◌⊎◌, List, Option, Some, None}
 use Rattle.pt_host.specs.Words.{Each}
 use Rattle.pt_host.specs.Promises.{FitsCall, MayLackMemory}

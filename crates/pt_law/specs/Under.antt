@@ -12,8 +12,7 @@ use Rattle.pt_host.specs.declared.reply.HostReply.TheVariants as host
 use Rattle.pt_host.specs.declared.seat.HostSeat.{HostSeat}
 use Rattle.pt_frame.specs.Deed.{Deed, Calls, Changes, Step}
 use Rattle.pt_frame.specs.Past.{Past, no_past, past_made, past_of, is_restoring}
-use Rattle.pt_frame.specs.Seats.{seat_at, seat_by}
-use Rattle.pt_frame.specs.Tended.{is_seats_sort}
+use Rattle.pt_frame.specs.Seats.{is_seats_sort, seat_at, seat_by}
 use Rattle.pt_frame.specs.declared.act.ActReply.{ActReply}
 use Rattle.pt_frame.specs.declared.act.ActReply.TheVariants.{Event, Host, NoCopy}
 

@@ -66,10 +66,6 @@ passed_on config flags = with_bits (if config.allow_direct_io then flags else wi
 abbrev pub inode_flags : Config → Negotiated → ℕ → ℕ
 inode_flags config agreed flags = passed_on config (written_back agreed flags)
 
--- what a handle is
-abbrev pub host_flags : Config → Negotiated → ℕ → ℕ
-host_flags config agreed flags = inode_flags config agreed (cleaned config flags)
-
 -- a descriptor's link in `/proc` is to be followed
 abbrev pub without_nofollow : ℕ → OpenFlags
 without_nofollow flags = record { 0 = without_bits flags o_nofollow }

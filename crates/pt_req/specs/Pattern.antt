@@ -21,27 +21,22 @@ Pattern plan seat who asked steps answer = Belongs (grammar_of plan seat who ask
 
 -- a bound on a request's steps; each closing takes at most three more
 abbrev pub bound_of : Request → ℕ
-bound_of (request.Init capable) = 48
-bound_of request.Root = 48
-bound_of (request.Lookup parent name) = 48
-bound_of (request.Open inode kill flags) = 48
-bound_of (request.OpenDir inode flags) = 48
 bound_of (request.Create parent name mode kill flags umask ext) = 96
-bound_of (request.Mkdir parent name mode umask ext) = 48
-bound_of (request.Mknod parent name mode rdev umask ext) = 48
-bound_of (request.Symlink target parent name ext) = 48
-bound_of (request.Link inode newparent newname) = 48
-bound_of (request.Unlink parent name) = 48
-bound_of (request.Rmdir parent name) = 48
-bound_of (request.Rename olddir oldname newdir newname flags) = 48
-bound_of (request.Readlink inode) = 48
-bound_of (request.StatFs inode) = 48
-bound_of (request.GetAttr inode) = 48
-bound_of (request.SetAttr inode handle valid attr) = 48
-bound_of (request.Access inode mask) = 48
-bound_of (request.SyncFs inode) = 48
-bound_of (request.Other opcode) = 48
-bound_of _ = 8
+bound_of request.Destroy = 8
+bound_of (request.Forget inode count) = 8
+bound_of (request.BatchForget list) = 8
+bound_of (request.Release inode handle) = 8
+bound_of (request.ReleaseDir inode handle) = 8
+bound_of (request.Read inode handle size offset) = 8
+bound_of (request.Write inode handle offset bytes delayed kill flags) = 8
+bound_of (request.ReadDir inode handle size offset) = 8
+bound_of (request.Flush inode handle) = 8
+bound_of (request.Fsync inode handle datasync) = 8
+bound_of (request.FsyncDir inode handle datasync) = 8
+bound_of (request.Fallocate inode handle mode offset length) = 8
+bound_of (request.Lseek inode handle offset whence) = 8
+bound_of (request.CopyFileRange inode handle offset inode2 handle2 offset2 length flags) = 8
+bound_of asked = 48
 
 -- so many rows a request inserts at most
 abbrev pub most_inserted : ℕ

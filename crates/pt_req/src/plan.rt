@@ -1,5 +1,5 @@
 ghost use Rattle.std.specs.Prelude.{◌≡◌, IfOk, OnErr, ◌∷◌, []};
-ghost use Rattle.pt_req.specs.Plan.{IsDefault};
+ghost use Rattle.pt_req.specs.Plan.{default_config};
 
 use pt_host::Bytes;
 use pt_iface::{Refusal, Timeout};
@@ -58,7 +58,7 @@ impl Config {
     /// with attributes of whole directories, neither direct I/O nor `O_NOATIME` on the host, and ids as they are; every
     /// other switch is off. Its one refusal is that memory ran out.
     pub fn new(alloc: Global) -> Result<Config, Refusal>
-        ensures ok { IfOk result IsDefault }
+        ensures ok { IfOk result (λ config. config ≡ default_config) }
         ensures err { OnErr result (result ≡ Err Refusal.Memory) }
     {
         let root_dir = match Bytes::from_slice(alloc, b"/") {

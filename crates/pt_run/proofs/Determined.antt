@@ -24,7 +24,6 @@ use Rattle.pt_iface.specs.declared.answer.Answer.{Answer}
 use Rattle.pt_law.specs.World.{TablesRun}
 use Rattle.pt_law.proofs.Hosts.{hosts_tables}
 use Rattle.pt_law.proofs.Laws.{agree_law}
-use Rattle.pt_req.specs.Plan.{IsDefault}
 use Rattle.pt_req.specs.declared.plan.Config.{Config}
 use Rattle.pt_req.specs.declared.plan.Plan.{Plan}
 use Rattle.pt_fs.specs.Determined.{FoundMemory, EndsOrLoses, RanInOrder, AreOneRun}
@@ -36,7 +35,7 @@ use Rattle.pt_fs.proofs.Determined.{turns_determined}
 use Rattle.pt_fs.proofs.Laws.{host_runs}
 use Rattle.pt_script.specs.Jobs.{start_seat}
 use Rattle.pt_script.specs.Begins.{planned_all, BeginsAs}
-use Rattle.pt_run.specs.Configured.{IsConfigured, configured}
+use Rattle.pt_run.specs.Configured.{IsConfigured}
 use Rattle.pt_run.specs.Determined.{IsFull, IsOnly, DeterminesReport}
 use Rattle.pt_run.specs.declared.report.LostJob.{LostJob}
 use Rattle.pt_run.specs.Run.{IsFsOpened, EndsWholeOrLost, IsRunFrom, IsReportOf, AreLive}
@@ -109,27 +108,9 @@ start_one : (lines : List TreeLine) (faults : List PlannedFault) (start other : 
 start_one lines faults start other h k = let e : h.0 ≡ k.0 = let f = h.1 in let g = k.1 in cc in
     h.2 ∙ ap (planned_all faults) e ∙ sym k.2
 
-default_one : (config other : Config) → IsDefault config → IsDefault other → config ≡ other
-default_one config other d e = λ i. record {
-  entry_timeout = (d.entry_timeout ∙ sym e.entry_timeout) i;
-  attr_timeout = (d.attr_timeout ∙ sym e.attr_timeout) i;
-  root_dir = (d.root_dir ∙ sym e.root_dir) i;
-  guest_fd_limit = (d.guest_fd_limit ∙ sym e.guest_fd_limit) i;
-  cache_policy = (d.cache_policy ∙ sym e.cache_policy) i;
-  writeback = (d.writeback ∙ sym e.writeback) i;
-  announce_submounts = (d.announce_submounts ∙ sym e.announce_submounts) i;
-  readdirplus = (d.readdirplus ∙ sym e.readdirplus) i;
-  allow_direct_io = (d.allow_direct_io ∙ sym e.allow_direct_io) i;
-  killpriv_v2 = (d.killpriv_v2 ∙ sym e.killpriv_v2) i;
-  clean_noatime = (d.clean_noatime ∙ sym e.clean_noatime) i;
-  allow_mmap = (d.allow_mmap ∙ sym e.allow_mmap) i;
-  uid_map = (d.uid_map ∙ sym e.uid_map) i;
-  gid_map = (d.gid_map ∙ sym e.gid_map) i;
-}
-
 configured_one : (settings : Settings) (config other : Config) → IsConfigured settings config →
     IsConfigured settings other → config ≡ other
-configured_one settings config other h k = h.2 ∙ ap (configured settings) (default_one h.0 k.0 h.1 k.1) ∙ sym k.2
+configured_one settings config other h k = h ∙ sym k
 
 made_memory : (told : HostReply) (fs : FileSystem) → IsMadeBy told (Ok fs) → told ≢ reply.NoMemory
 made_memory (reply.Ok (value.Fd fd)) fs made e = cc

@@ -37,10 +37,10 @@ use Rattle.pt_run.specs.declared.status.Status.TheVariants as status
 
 -- the rules of the configuration are those that are set
 uids_set : (settings : Settings) (config : Config) → IsConfigured settings config → config.uid_map ≡ settings.uid_map
-uids_set settings config h = ap (λ (c : Config). c.uid_map) h.2
+uids_set settings config h = ap (λ (c : Config). c.uid_map) h
 
 gids_set : (settings : Settings) (config : Config) → IsConfigured settings config → config.gid_map ≡ settings.gid_map
-gids_set settings config h = ap (λ (c : Config). c.gid_map) h.2
+gids_set settings config h = ap (λ (c : Config). c.gid_map) h
 
 -- what the call that makes a file system was answered
 abbrev Asked : State → HostSeat → Result FileSystem Refusal → State → HostSeat → Type 0

@@ -1,7 +1,7 @@
 -- Believed. The configuration that a script runs with.
 use Rattle.std.specs.Prelude.{◌≡◌, unwrap_or}
 use Rattle.pt_req.specs.declared.plan.Config.{Config}
-use Rattle.pt_req.specs.Plan.{IsDefault}
+use Rattle.pt_req.specs.Plan.{default_config}
 use Rattle.pt_script.specs.declared.settings.Settings.{Settings}
 
 -- what is set, in place of the defaults; by default there are no rules for ids
@@ -25,4 +25,4 @@ configured settings default = record {
 
 -- the default configuration but for what is set
 abbrev pub IsConfigured : Settings → Config → Type 0
-IsConfigured settings config = (default : Config) × IsDefault default × (config ≡ configured settings default)
+IsConfigured settings config = config ≡ configured settings default_config

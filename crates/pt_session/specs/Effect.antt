@@ -5,7 +5,6 @@ use Rattle.pt_host.specs.declared.ids.ObjIds.{ObjIds}
 use Rattle.pt_session.specs.declared.form.Negotiated.{Negotiated}
 use Rattle.pt_session.specs.Tables.{Row, HandleRow, Closing, Tables, closing_of, closing_of_handle, HasNumber}
 use Rattle.pt_session.specs.Tables.{HasIds, HasHandle, IsSoundRow, IsSoundHandle}
-use Rattle.pt_session.specs.Store.{IsLater, IsLaterHandle}
 use Rattle.pt_session.specs.Rows.{NoRow, NoHandle}
 use Rattle.pt_session.specs.Happens.{with_row, with_handle}
 
@@ -27,6 +26,23 @@ pub record IsNewHandle (tables : Tables) (row : HandleRow) : Type 0 where
   pub live : row.live ≡ true
   pub pins : row.pins ≡ 0
   pub free : NoHandle tables (HasHandle row.handle)
+
+-- the same row as time goes on: what it stands for stays, and it may die
+pub record IsLater (was now : Row) : Type 0 where
+  pub serial : now.serial ≡ was.serial
+  pub number : now.number ≡ was.number
+  pub ids : now.ids ≡ was.ids
+  pub form : now.form ≡ was.form
+  pub mode : now.mode ≡ was.mode
+  pub live : now.live ≡ true → was.live ≡ true
+
+-- the same handle's row as time goes on
+pub record IsLaterHandle (was now : HandleRow) : Type 0 where
+  pub serial : now.serial ≡ was.serial
+  pub handle : now.handle ≡ was.handle
+  pub number : now.number ≡ was.number
+  pub fd : now.fd ≡ was.fd
+  pub live : now.live ≡ true → was.live ≡ true
 
 -- one step: nothing, another count of slots, numbers or handles, a row of a number or a handle that changes, ends or
 -- is added, a closing that is taken, or a new era

@@ -1,5 +1,5 @@
 -- Inner. The rows and the closing list, as they are kept together.
-use Rattle.std.specs.Prelude.{◌≡◌, ◌<◌, ◌≤◌, ℕ, true, false, List, Option, Some, None}
+use Rattle.std.specs.Prelude.{◌≡◌, ◌<◌, ◌≤◌, ℕ, false, List, Option, Some, None}
 use Rattle.pt_host.specs.Words.{Each}
 use Rattle.pt_session.specs.Tables.{Row, HandleRow, Closing}
 use Rattle.pt_session.specs.Rows.{Kind, IsAmong, NoneOf}
@@ -10,23 +10,6 @@ pub record Stored : Type 0 where
   pub rows : List Row
   pub handles : List HandleRow
   pub closing : List Closing
-
--- the same row as time goes on: what it stands for stays, and it may die
-pub record IsLater (was now : Row) : Type 0 where
-  pub serial : now.serial ≡ was.serial
-  pub number : now.number ≡ was.number
-  pub ids : now.ids ≡ was.ids
-  pub form : now.form ≡ was.form
-  pub mode : now.mode ≡ was.mode
-  pub live : now.live ≡ true → was.live ≡ true
-
--- the same handle's row as time goes on
-pub record IsLaterHandle (was now : HandleRow) : Type 0 where
-  pub serial : now.serial ≡ was.serial
-  pub handle : now.handle ≡ was.handle
-  pub number : now.number ≡ was.number
-  pub fd : now.fd ≡ was.fd
-  pub live : now.live ≡ true → was.live ≡ true
 
 -- a row changes in what it is not found by
 pub record IsSame {R : Type 0} (kind : Kind R) (was now : R) : Type 0 where

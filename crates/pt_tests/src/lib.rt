@@ -15,4 +15,6 @@ mod parsed;
 #[cfg(test)]
 mod plays;
 #[cfg(test)]
+mod reads;
+#[cfg(test)]
 mod streams;

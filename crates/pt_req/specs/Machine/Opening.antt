@@ -4,7 +4,7 @@ use Rattle.pt_host.specs.declared.ids.Fd.{Fd}
 use Rattle.pt_frame.specs.Tree.{RequestTree, Bares, Shuts}
 use Rattle.pt_frame.specs.Machine.Next.{IsAsks}
 use Rattle.pt_req.specs.Capability.{without_fsetid}
-use Rattle.pt_req.specs.Options.{cleaned, host_flags, without_nofollow}
+use Rattle.pt_req.specs.Options.{cleaned, inode_flags, without_nofollow}
 use Rattle.pt_req.specs.Steps.{reopen}
 use Rattle.pt_req.specs.Parts.{open_inode}
 use Rattle.pt_req.specs.Machine.Parts.{handling_left, handling_acts, handling_room, handling_asks}
@@ -31,7 +31,7 @@ abbrev pub handle_open_at_left : HandleOpenAt → HandleOpen → Plan → (ℕ �
 handle_open_at_left at.DropCap it plan next = without_fsetid true (handle_resolved it plan next)
 handle_open_at_left at.Resolve it plan next = handle_resolved it plan next
 handle_open_at_left (at.Reopen path) it plan next =
-    reopen path (without_nofollow (host_flags plan.config it.session.agreed it.flags)) (handle_bared it next)
+    reopen path (without_nofollow (inode_flags plan.config it.session.agreed (cleaned plan.config it.flags))) (handle_bared it next)
 handle_open_at_left (at.Handle fd how) it plan next = handle_drawn how it next fd
 
 abbrev pub handle_open_left : HandleOpen → Plan → (ℕ → RequestTree) → RequestTree
